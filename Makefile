@@ -1,0 +1,39 @@
+# sedck: two commands do everything on a machine that has the Rattle toolchain: `make demo` and `make test`.
+
+RT ?= rt
+PREFIX ?= /usr/local
+EXAMPLE = next-line-loop
+
+.PHONY: all build demo test bench install clean
+
+all: build
+
+# `rt run` proves and builds the crates below the program where they have changed, then the program, and runs it once.
+build:
+	@echo "Proving and building sedck (a first build proves everything and takes some minutes) ..."
+	cd crates/sedck && $(RT) run -- check ../../examples/$(EXAMPLE).sed ../../examples/$(EXAMPLE).cert > /dev/null
+	@mkdir -p build
+	@cp crates/sedck/out/sedck build/sedck.new && mv build/sedck.new build/sedck
+	@echo "The program is build/sedck."
+
+demo: build
+	@echo "Checking examples/$(EXAMPLE).sed with its certificate:"
+	build/sedck check examples/$(EXAMPLE).sed examples/$(EXAMPLE).cert
+
+test:
+	@echo "Running the gate: every proof from nothing, the must-fail edits, the tests and the program (some minutes) ..."
+	$(RT) ci
+
+bench: build
+	@echo "Measuring build/sedck (bench/run.py prints the table of docs/BENCH.md) ..."
+	python3 bench/run.py build/sedck
+
+install: build
+	@echo "Installing sedck and its manual page under $(PREFIX) ..."
+	install -d $(DESTDIR)$(PREFIX)/bin $(DESTDIR)$(PREFIX)/share/man/man1
+	install -m 755 build/sedck $(DESTDIR)$(PREFIX)/bin/sedck
+	install -m 644 docs/sedck.1 $(DESTDIR)$(PREFIX)/share/man/man1/sedck.1
+
+clean:
+	@echo "Removing what was built and what checks kept ..."
+	rm -rf build out crates/*/out

@@ -1,0 +1,14 @@
+pub mod Bytes
+pub mod Text
+pub mod Tree
+pub mod TreeCode
+pub mod View
+pub mod Match
+pub mod WellFormed
+pub mod Brackets
+pub mod Shape
+pub mod Faults
+pub mod Lengths
+pub mod Laws
+pub mod Bounds
+pub mod FaultWords
