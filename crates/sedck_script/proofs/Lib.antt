@@ -1,0 +1,17 @@
+pub mod Cuts
+pub mod FirstOne
+pub mod ResolvesOne
+pub mod FirstReading
+pub mod FirstState
+pub mod FirstCommands
+pub mod FirstWhole
+pub mod FirstIsWhole
+pub mod FirstInvariant
+pub mod FirstFaults
+pub mod Rows
+pub mod PartsOne
+pub mod WholeOne
+pub mod ItemsOne
+pub mod Spelled
+pub mod SortedNames
+pub mod ShortestLemmas

@@ -1,0 +1,103 @@
+-- Least lengths of some expressions, and of more of them.
+use Rattle.std.proofs.Common.{◌≡◌, ◌⊎◌, ℕ, zero, suc, ◌+◌, ◌<◌, ◌≤◌, min, List, [], ◌∷◌, ◌++◌, map, length, get_or, take, Contains, refl, sym, ap, ◌∙◌, subst, inl, inr, arith, append-nil, flat_map}
+use Rattle.std.proofs.lemmas.Bool.{cases_lt}
+use Rattle.std.proofs.lemmas.List.{map_more}
+use Rattle.std.proofs.lemmas.List.Concat.{flat_map-append}
+use Rattle.std.proofs.lemmas.List.Elements.{Contains-append_left, Contains-append_right, Contains-append_cases}
+use Rattle.sedck_bre.specs.Tree.{Tree}
+use Rattle.sedck_bre.specs.Lengths.{IsLeastSize, HasLength, cap}
+use Rattle.sedck_script.specs.Program.{Pattern, Command, address_patterns, verb_patterns, patterns, pattern_expressions, expressions}
+use Rattle.sedck_script.specs.View.{verb_of, command_of}
+use Rattle.sedck_script.specs.Shortest.{SomeHasLength}
+use Rattle.sedck_script.specs.declared.script.Command.{Command as Coded}
+use Rattle.sedck_script.specs.declared.script.Verb.{Verb}
+use Rattle.sedck_script.specs.declared.script.Substitution.{Substitution}
+use Rattle.sedck_script.specs.declared.script.Verb.TheVariants.{Substitute}
+
+-- the expressions of some patterns
+abbrev pub trees_of : List Pattern → List Tree
+trees_of given = flat_map pattern_expressions given
+
+-- the same expressions, and the same number
+pub least_of_same : (xs ys : List Tree) (m n : ℕ) → xs ≡ ys → m ≡ n → IsLeastSize (SomeHasLength ys) n → IsLeastSize (SomeHasLength xs) m
+least_of_same xs ys m n trees number least =
+    subst (λ k. IsLeastSize (SomeHasLength xs) k) (sym number) (subst (λ zs. IsLeastSize (SomeHasLength zs) n) (sym trees) least)
+
+-- where nothing has a size, the cap is the least
+pub none_is_cap : IsLeastSize (SomeHasLength []) cap
+none_is_cap = record {
+  floor = λ m (tree, inside, _). absurd (omega (arith, inside.1));
+  met = λ below. absurd (omega (arith, below));
+  capped = omega arith;
+}
+
+-- the least of one expression
+pub one_is_least : (tree : Tree) (n : ℕ) → IsLeastSize (HasLength tree) n → IsLeastSize (SomeHasLength (tree ∷ [])) n
+one_is_least tree n least = record {
+  floor = λ m h. least.floor m (only m h);
+  met = λ below. (tree, (0, omega arith, refl), least.met below);
+  capped = least.capped;
+}
+  where
+    only : (m : ℕ) → SomeHasLength (tree ∷ []) m → HasLength tree m
+    only m (other, (k, below, is), has) =
+        elim k as (λ i. i < 1 → get_or (tree ∷ []) i other ≡ other → HasLength tree m) [
+          | zero ↦ λ b same. subst (λ (t : Tree). HasLength t m) (sym same) has
+          | suc i ↦ λ b same. absurd (omega (arith, b))
+        ] below is
+
+-- the least of two lists of expressions
+pub both_are_least : (xs ys : List Tree) (m n : ℕ) → IsLeastSize (SomeHasLength xs) m → IsLeastSize (SomeHasLength ys) n → IsLeastSize (SomeHasLength (xs ++ ys)) (min m n)
+both_are_least xs ys m n one two = record {
+  floor = λ k (tree, inside, has). at_least k tree has (Contains-append_cases xs ys tree inside);
+  met = λ below. some below (cases_lt m n);
+  capped = omega (arith, one.capped);
+}
+  where
+    at_least : (k : ℕ) (tree : Tree) → HasLength tree k → Contains xs tree ⊎ Contains ys tree → min m n ≤ k
+    at_least k tree has (inl inside) = omega (arith, one.floor k (tree, inside, has))
+    at_least k tree has (inr inside) = omega (arith, two.floor k (tree, inside, has))
+
+    some : min m n < cap → (m < n) ⊎ (n ≤ m) → SomeHasLength (xs ++ ys) (min m n)
+    some below (inl less) =
+        let is : m ≡ min m n = omega arith in
+        let h = one.met (omega arith) in
+        (h.0, Contains-append_left xs ys h.0 h.1, subst (λ k. HasLength h.0 k) is h.2)
+    some below (inr more) =
+        let is : n ≡ min m n = omega arith in
+        let h = two.met (omega arith) in
+        (h.0, Contains-append_right xs ys h.0 h.1, subst (λ k. HasLength h.0 k) is h.2)
+
+-- the expressions of some patterns, and of more
+pub trees_of-append : (ps qs : List Pattern) → trees_of (ps ++ qs) ≡ trees_of ps ++ trees_of qs
+trees_of-append ps qs = flat_map-append pattern_expressions ps qs
+
+-- a verb that doesn't substitute has no expression
+pub no_patterns : (v : Verb) → ((s : Substitution) → v ≡ Substitute s → ⊥) → verb_patterns (verb_of v) ≡ []
+no_patterns (Substitute s) not = absurd (not s refl)
+no_patterns _ not = refl
+
+-- ---- One command more
+
+patterns-push : (cs : List Command) (c : Command) → patterns (cs ++ c ∷ []) ≡ patterns cs ++ (address_patterns c.address ++ verb_patterns c.verb)
+patterns-push cs c = flat_map-append (λ d. address_patterns d.address ++ verb_patterns d.verb) cs (c ∷ []) ∙ ap (λ ps. patterns cs ++ ps) (append-nil (address_patterns c.address ++ verb_patterns c.verb))
+
+expressions-push : (cs : List Command) (c : Command) → expressions (cs ++ c ∷ []) ≡ expressions cs ++ (trees_of (address_patterns c.address) ++ trees_of (verb_patterns c.verb))
+expressions-push cs c =
+    ap trees_of (patterns-push cs c) ∙ trees_of-append (patterns cs) (address_patterns c.address ++ verb_patterns c.verb)
+    ∙ ap (λ trees. expressions cs ++ trees) (trees_of-append (address_patterns c.address) (verb_patterns c.verb))
+
+pub command_more : (commands : List Coded) (at : ℕ) (c : Coded) (shortest a v : ℕ) → at < length commands → c ≡ get_or commands at c
+    → IsLeastSize (SomeHasLength (expressions (map command_of (take at commands)))) shortest
+    → IsLeastSize (SomeHasLength (trees_of (address_patterns (command_of c).address))) a
+    → IsLeastSize (SomeHasLength (trees_of (verb_patterns (command_of c).verb))) v
+    → IsLeastSize (SomeHasLength (expressions (map command_of (take (at + 1) commands)))) (min (min shortest a) v)
+command_more commands at c shortest a v below is before address verb =
+    let more : map command_of (take (at + 1) commands) ≡ map command_of (take at commands) ++ command_of c ∷ [] =
+    map_more command_of commands at c below ∙ ap (λ d. map command_of (take at commands) ++ command_of d ∷ []) (sym is) in
+    let all : expressions (map command_of (take (at + 1) commands)) ≡ expressions (map command_of (take at commands)) ++ (trees_of (address_patterns (command_of c).address) ++ trees_of (verb_patterns (command_of c).verb)) =
+    ap expressions more ∙ expressions-push (map command_of (take at commands)) (command_of c) in
+    let same : min (min shortest a) v ≡ min shortest (min a v) = omega arith in
+    let of_command = both_are_least (trees_of (address_patterns (command_of c).address)) (trees_of (verb_patterns (command_of c).verb)) a v address verb in
+    let of_all = both_are_least (expressions (map command_of (take at commands))) (trees_of (address_patterns (command_of c).address) ++ trees_of (verb_patterns (command_of c).verb)) shortest (min a v) before of_command in
+    least_of_same _ _ _ _ all same of_all

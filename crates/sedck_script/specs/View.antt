@@ -1,0 +1,96 @@
+-- What a user sees of the code's types: no pointers and no capacities.
+use Rattle.std.specs.Prelude.{◌≡◌, Bool, List, map}
+use Rattle.std.specs.Option.{option_copied}
+use Rattle.sedck_bre.specs.Lengths.{IsLeastSize}
+use Rattle.sedck_script.specs.Program as clean
+use Rattle.sedck_script.specs.Program.{expressions}
+use Rattle.sedck_script.specs.Names.{reads, writes}
+use Rattle.sedck_script.specs.Invariant.{IsScript}
+use Rattle.sedck_script.specs.Shortest.{SomeHasLength}
+use Rattle.sedck_script.specs.declared.script.Pattern.{Pattern}
+use Rattle.sedck_script.specs.declared.script.Pattern.TheVariants as pattern
+use Rattle.sedck_script.specs.declared.script.Place.{Place}
+use Rattle.sedck_script.specs.declared.script.Place.TheVariants as place
+use Rattle.sedck_script.specs.declared.script.Address.{Address}
+use Rattle.sedck_script.specs.declared.script.Address.TheVariants as address
+use Rattle.sedck_script.specs.declared.script.Part.{Part}
+use Rattle.sedck_script.specs.declared.script.Part.TheVariants as part
+use Rattle.sedck_script.specs.declared.script.Substitution.{Substitution}
+use Rattle.sedck_script.specs.declared.script.Verb.{Verb}
+use Rattle.sedck_script.specs.declared.script.Verb.TheVariants as verb
+use Rattle.sedck_script.specs.declared.script.Command.{Command}
+use Rattle.sedck_script.specs.declared.script.Script.TheInside.{Inside}
+
+abbrev pub pattern_of : Pattern → clean.Pattern
+pattern_of pattern.Previous = clean.Previous
+pattern_of (pattern.Expr e) = clean.Expression e
+
+abbrev pub place_of : Place → clean.Place
+place_of (place.Line n) = clean.Line n
+place_of place.Last = clean.Last
+place_of (place.Context p) = clean.Context (pattern_of p)
+
+abbrev pub address_of : Address → clean.Address
+address_of address.None = clean.NoAddress
+address_of (address.One p) = clean.One (place_of p)
+address_of (address.Two p q) = clean.Two (place_of p) (place_of q)
+
+abbrev pub part_of : Part → clean.Part
+part_of (part.Text t) = clean.Text t.now
+part_of part.Newline = clean.Newline
+part_of part.Tab = clean.Tab
+part_of part.Whole = clean.Whole
+part_of (part.Group k) = clean.Group k
+
+abbrev pub substitution_of : Substitution → clean.Substitution
+substitution_of s = record {
+  pattern = pattern_of s.pattern;
+  parts = map part_of s.parts.items;
+  global = s.global;
+  print = s.print;
+  nth = s.nth;
+  file = option_copied s.file;
+}
+
+abbrev pub verb_of : Verb → clean.Verb
+verb_of (verb.Label t) = clean.Label t.now
+verb_of (verb.Branch n) = clean.Branch n
+verb_of (verb.Test n) = clean.Test n
+verb_of (verb.Block n) = clean.Block n
+verb_of (verb.Append t) = clean.Append t.now
+verb_of (verb.Change t) = clean.Change t.now
+verb_of (verb.Insert t) = clean.Insert t.now
+verb_of (verb.Read t) = clean.Read t.now
+verb_of (verb.Write t) = clean.Write t.now
+verb_of (verb.Substitute s) = clean.Substitute (substitution_of s)
+verb_of (verb.Transliterate f t) = clean.Transliterate f.items t.items
+verb_of verb.Delete = clean.Delete
+verb_of verb.DeleteFirstLine = clean.DeleteFirstLine
+verb_of verb.Get = clean.Get
+verb_of verb.GetAppend = clean.GetAppend
+verb_of verb.Hold = clean.Hold
+verb_of verb.HoldAppend = clean.HoldAppend
+verb_of verb.List = clean.List'
+verb_of verb.Next = clean.Next
+verb_of verb.NextAppend = clean.NextAppend
+verb_of verb.Print = clean.Print
+verb_of verb.PrintFirstLine = clean.PrintFirstLine
+verb_of verb.Quit = clean.Quit
+verb_of verb.Exchange = clean.Exchange
+verb_of verb.LineNumber = clean.LineNumber
+
+abbrev pub command_of : Command → clean.Command
+command_of c = record { address = address_of c.address; negated = c.negated; verb = verb_of c.verb }
+
+abbrev pub program_from : List Command → Bool → clean.Program
+program_from commands quiet = record { commands = map command_of commands; quiet = quiet }
+
+abbrev pub program_of : Inside → clean.Program
+program_of s = program_from s.commands.items s.quiet
+
+-- What holds of a script's fields: its program is one that the parser gives, the names are the program's, and the least length is that of its expressions.
+pub record IsWhole (s : Inside) : Type 0 where
+  pub script : IsScript (program_of s)
+  pub read : map (λ name. name.now) s.reads.items ≡ reads (program_of s)
+  pub written : map (λ name. name.now) s.writes.items ≡ writes (program_of s)
+  pub least : IsLeastSize (SomeHasLength (expressions (program_of s).commands)) s.shortest

@@ -1,0 +1,180 @@
+//! A script, borrowed from its text.
+
+ghost use Rattle.std.specs.Prelude.{◌≡◌, map};
+ghost use Rattle.sedck_script.specs.Program.{Program};
+
+use crate::shortest::shortest_of;
+use sedck_bre::Expr;
+use std::marker::Model;
+
+#[derive(Drop)]
+pub enum Pattern {
+    Previous,
+    Expr(Expr),
+}
+
+#[derive(Drop)]
+pub enum Place {
+    Line(u32),
+    Last,
+    Context(Pattern),
+}
+
+#[derive(Drop)]
+pub enum Address {
+    None,
+    One(Place),
+    Two(Place, Place),
+}
+
+#[derive(Clone, Copy, Debug)]
+pub enum Part<'a> {
+    Text(&'a [u8]),
+    Newline,
+    Tab,
+    Whole,
+    Group(u8),
+}
+
+#[derive(Drop)]
+pub struct Substitution<'a> {
+    pub pattern: Pattern,
+    pub parts: Vec<Part<'a>>,
+    pub global: bool,
+    pub print: bool,
+    pub nth: Option<u32>,
+    pub file: Option<&'a [u8]>,
+}
+
+#[derive(Drop)]
+pub enum Verb<'a> {
+    Label(&'a [u8]),
+    Branch(usize),
+    Test(usize),
+    Block(usize),
+    Append(&'a [u8]),
+    Change(&'a [u8]),
+    Insert(&'a [u8]),
+    Read(&'a [u8]),
+    Write(&'a [u8]),
+    Substitute(Substitution<'a>),
+    Transliterate(Vec<u8>, Vec<u8>),
+    Delete,
+    DeleteFirstLine,
+    Get,
+    GetAppend,
+    Hold,
+    HoldAppend,
+    List,
+    Next,
+    NextAppend,
+    Print,
+    PrintFirstLine,
+    Quit,
+    Exchange,
+    LineNumber,
+}
+
+#[derive(Drop)]
+pub struct Command<'a> {
+    pub address: Address,
+    pub negated: bool,
+    pub verb: Verb<'a>,
+}
+
+/// A script: its commands and its names.
+#[derive(Drop)]
+pub struct Script<'a> {
+    commands: Vec<Command<'a>>,
+    reads: Vec<&'a [u8]>,
+    writes: Vec<&'a [u8]>,
+    quiet: bool,
+    shortest: u32,
+}
+
+impl<'a> Model for Script<'a> {
+    ghost use Rattle.std.specs.Prelude.{map};
+    ghost use Rattle.sedck_script.specs.Program.{Program};
+
+    ghost Value = { Program };
+
+    ghost use Rattle.std.specs.Coded.{codes};
+    ghost use Rattle.sedck_bre.specs.TreeCode.{coded_tree};
+
+    ghost coded = { Prim.hlevel (codes, coded_tree) };
+
+    ghost use Rattle.sedck_script.specs.View.{program_of, IsWhole};
+
+    ghost view = { program_of };
+
+    ghost invariant = { IsWhole };
+}
+
+impl<'a> Script<'a> {
+    ghost use Rattle.std.specs.Prelude.{◌≡◌, map};
+    ghost use Rattle.sedck_script.specs.Names.{reads as reads_of, writes as writes_of};
+    ghost use Rattle.sedck_script.specs.Invariant.{IsScript};
+    ghost use Rattle.sedck_script.specs.View.{command_of, program_from};
+    ghost use Rattle.sedck_bre.specs.Lengths.{IsLeastSize};
+    ghost use Rattle.sedck_script.specs.Program.{expressions};
+    ghost use Rattle.sedck_script.specs.Shortest.{SomeHasLength};
+
+    /// A script of these commands.
+    pub(crate) fn new(
+        commands: Vec<Command<'a>>,
+        reads: Vec<&'a [u8]>,
+        writes: Vec<&'a [u8]>,
+        quiet: bool,
+    ) -> Self
+        requires script { IsScript (program_from commands.items quiet) }
+        requires read { map (λ name. name.now) reads.items ≡ reads_of (program_from commands.items quiet) }
+        requires written { map (λ name. name.now) writes.items ≡ writes_of (program_from commands.items quiet) }
+        ensures { result ≡ program_from commands.entry.items quiet }
+    {
+        let shortest = shortest_of(&commands);
+        Script {
+            commands,
+            reads,
+            writes,
+            quiet,
+            shortest,
+        }
+    }
+
+    /// Whether the first line says that nothing is printed by itself.
+    pub fn quiet(&self) -> bool
+        ensures { result ≡ self.now.quiet }
+    {
+        self.quiet
+    }
+
+    /// The commands, in order.
+    pub fn commands(&self) -> &[Command<'a>]
+        ensures commands { map command_of result.now ≡ self.now.commands }
+        ensures script { IsScript self.now }
+    {
+        &self.commands
+    }
+
+    /// The names of `r` commands, each once, rising by bytes.
+    pub fn reads(&self) -> &[&'a [u8]]
+        ensures { map (λ name. name.now) result.now ≡ reads_of self.now }
+    {
+        &self.reads
+    }
+
+    /// The names of `w` commands and flags, each once, rising by bytes.
+    pub fn writes(&self) -> &[&'a [u8]]
+        ensures { map (λ name. name.now) result.now ≡ writes_of self.now }
+    {
+        &self.writes
+    }
+
+    /// The least length of a text of any of the script's expressions, those of addresses too. It is
+    /// 16,777,215 where that is above it, and where the script has no expression.
+    pub fn shortest(&self) -> u32
+        ensures { IsLeastSize (SomeHasLength (expressions self.now.commands)) result }
+    {
+        self.shortest
+    }
+}
