@@ -1,0 +1,91 @@
+-- The edges that are found for a node are those that leave it.
+use Rattle.std.proofs.Common.{◌≡◌, ℕ, zero, suc, ◌<◌, ◌≤◌, true, false, IsTrue, List, [], ◌∷◌, map, length, get_or, drop, refl, sym, ap, ◌∙◌, subst, inl, inr, arith}
+use Rattle.std.specs.Prelude.{Option, Some, None, MatchOption, option_map, slice_get}
+use Rattle.std.proofs.lemmas.Option.{get_or_from_slice_get, slice_get-map, slice_get_read, slice_get_past}
+use Rattle.std.proofs.lemmas.List.{length-map}
+use Rattle.std.proofs.lemmas.List.Elements.{All-contains}
+use Rattle.sedck_script.specs.Invariant.{IsTargetWithin, IsReplacement, IsScript}
+use Rattle.sedck_script.specs.Program.{Verb, Branch, Test, Block, Command, Program}
+use Rattle.sedck_script.specs.View.{command_of}
+use Rattle.sedck_script.specs.declared.script.Command.{Command as Coded}
+use Rattle.sedck_flow.specs.Run.{is_conditional}
+use Rattle.sedck_flow.specs.Flow.{start, VerbEdge, node_past, CommandEdge, Flow, FlowFrom, ListsEdges}
+use Rattle.sedck_flow.specs.Found.{with_edge, ListsTargets}
+use Rattle.sedck_flow.specs.declared.graph.Node.{Node}
+use Rattle.sedck_flow.specs.declared.graph.Edge.{Edge}
+use Rattle.sedck_flow.specs.declared.graph.Kind.{Kind}
+use Rattle.sedck_flow.specs.declared.graph.Kind.TheVariants.{Consume, Keep}
+use Rattle.sedck_flow.proofs.FoundLemmas.{lists_more, lists_same}
+use Rattle.sedck_flow.proofs.VerbLemmas.{Only, edge}
+use Rattle.sedck_flow.proofs.Inside.{slice_get-some, target_at}
+
+-- ---- What is still to come
+
+pub drop_next : {A : Type 0} (xs : List A) (i : ℕ) (x : A) → slice_get xs i ≡ Some x → drop i xs ≡ x ∷ drop (suc i) xs
+drop_next [] i x e = absurd (let none : None ≡ Some x = e in cc)
+drop_next (y ∷ xs) zero x e = let is : y ≡ x = cc in ap (λ z. z ∷ xs) is
+drop_next (y ∷ xs) (suc i) x e = drop_next xs i x e
+
+-- ---- A command
+
+pub conditional : (p : Program) (c : Command) (n : Node) (edges : List Edge) → IsTrue (is_conditional c) → ListsTargets edges n (VerbEdge p c.address c.verb n)
+    → ListsTargets (with_edge (edge n Keep (node_past c.verb n)) edges) n (CommandEdge p c n)
+conditional p c n edges may lists =
+    lists_same _ n _ (CommandEdge p c n) (λ k t. (elim [ inl h ↦ inl (may, h.0, h.1) | inr h ↦ inr h ], elim [ inl h ↦ inl (h.1, h.2) | inr h ↦ inr h ]))
+    (lists_more edges n (VerbEdge p c.address c.verb n) Keep (node_past c.verb n) lists)
+
+pub unconditional : (p : Program) (c : Command) (n : Node) (edges : List Edge) → is_conditional c ≡ false → ListsTargets edges n (VerbEdge p c.address c.verb n) → ListsTargets edges n (CommandEdge p c n)
+unconditional p c n edges may_not lists =
+    lists_same _ n _ (CommandEdge p c n) (λ k t. (λ h. inr h, elim [ inl h ↦ absurd (never h.0) | inr h ↦ h ])) lists
+  where
+    never : IsTrue (is_conditional c) → ⊥
+    never may = let both : true ≡ false = sym may ∙ may_not in cc
+
+-- ---- A node
+
+abbrev EdgeAt : Program → Node → Option Command → Kind → Node → Type 0
+EdgeAt p n o kind to = MatchOption o ((n.at ≡ length p.commands) × (kind ≡ Consume) × (to ≡ start)) (λ c. CommandEdge p c n kind to)
+
+at_node : (p : Program) (n : Node) (o : Option Command) (edges : List Edge) → slice_get p.commands n.at ≡ o → ListsTargets edges n (EdgeAt p n o) → ListsEdges edges (FlowFrom p n)
+at_node p n o edges is lists = record {
+  in_order = lists.in_order;
+  same = λ e. (λ h. let k = (lists.same e).0 h in (forth e k, k.0), λ h. (lists.same e).1 (h.1, back e h));
+}
+  where
+    forth : (e : Edge) → (e.from ≡ n) × EdgeAt p n o e.kind e.to → Flow p e
+    forth e (from, h) = subst (λ (m : Node). EdgeAt p m (slice_get p.commands m.at) e.kind e.to) (sym from) (subst (λ x. EdgeAt p n x e.kind e.to) (sym is) h)
+
+    back : (e : Edge) → Flow p e × (e.from ≡ n) → EdgeAt p n o e.kind e.to
+    back e (h, from) = subst (λ x. EdgeAt p n x e.kind e.to) is (subst (λ (m : Node). EdgeAt p m (slice_get p.commands m.at) e.kind e.to) from h)
+
+pub at_command : (p : Program) (n : Node) (c : Command) (edges : List Edge) → slice_get p.commands n.at ≡ Some c → ListsTargets edges n (CommandEdge p c n) → ListsEdges edges (FlowFrom p n)
+at_command p n c edges is lists = at_node p n (Some c) edges is lists
+
+pub at_end : (p : Program) (n : Node) (edges : List Edge) → slice_get p.commands n.at ≡ None → n.at ≡ length p.commands → ListsTargets edges n (Only Consume start) → ListsEdges edges (FlowFrom p n)
+at_end p n edges is place lists = at_node p n None edges is (lists_same edges n (Only Consume start) (EdgeAt p n None) (λ k t. (λ h. (place, h.0, h.1), λ h. (h.1, h.2))) lists)
+
+-- ---- What a script's invariant says of one command
+
+target_below : (m n : ℕ) (v : Verb) → m ≤ n → IsTargetWithin m v → IsTargetWithin n v
+target_below m n (Branch target) le h = omega arith
+target_below m n (Test target) le h = omega arith
+target_below m n (Block target) le h = omega arith
+target_below m n _ le h = tt
+
+pub has_target : (p : Program) → IsScript p → (at : ℕ) (c : Command) → slice_get p.commands at ≡ Some c → IsTargetWithin 4095 c.verb
+has_target p script at c e = target_below (length p.commands) 4095 c.verb script.count (target_at p script.targets at c e)
+
+pub has_replacement : (p : Program) → IsScript p → (at : ℕ) (c : Command) → slice_get p.commands at ≡ Some c → IsReplacement c.verb
+has_replacement p script at c e =
+    All-contains (λ (d : Command). IsReplacement d.verb) p.commands c script.replacements (at, slice_get-some p.commands at c e, get_or_from_slice_get p.commands at c c e)
+
+-- ---- Where the code reads the commands
+
+pub read_command : (p : Program) (cs : List Coded) (i at : ℕ) (c : Coded) → map command_of cs ≡ p.commands → i ≡ at → i < length cs → c ≡ get_or cs i c → slice_get p.commands at ≡ Some (command_of c)
+read_command p cs i at c all place below is =
+    ap (λ xs. slice_get xs at) (sym all) ∙ ap (slice_get (map command_of cs)) (sym place)
+    ∙ slice_get-map command_of cs i ∙ ap (option_map command_of) (slice_get_read cs (length cs) i c refl below is)
+
+pub read_none : (p : Program) (cs : List Coded) (i at : ℕ) → map command_of cs ≡ p.commands → i ≡ at → length cs ≤ i → slice_get p.commands at ≡ None
+read_none p cs i at all place past =
+    slice_get_past p.commands at (omega (arith, ap length all, length-map cs command_of))

@@ -1,0 +1,119 @@
+-- The worked examples hold.
+use Rattle.std.proofs.Common.{◌≡◌, ℕ, ◌≤◌, Bool, true, false, List, [], ◌∷◌, length, Contains, refl, sym, ap, ◌∙◌, subst, inl, inr, arith, length-append}
+use Rattle.std.specs.Prelude.{codes}
+use Rattle.std.specs.Fmt.{digits}
+use Rattle.sedck_bre.specs.Tree.{Tree}
+use Rattle.sedck_bre.specs.Match.{no_groups, Match, Language}
+use Rattle.sedck_script.proofs.SortedNames.{Contains-cons_cases}
+use Rattle.sedck_flow.specs.Flow.{Shortens, NeverLengthens}
+use Rattle.sedck_flow.specs.Run.{Machine, At}
+use Rattle.sedck_flow.specs.declared.graph.Node.{Node}
+use Rattle.sedck_flow.specs.declared.graph.Kind.TheVariants.{Shorten}
+use Rattle.sedck_flow.specs.Substitutes.{Found}
+use Rattle.sedck_flow.specs.Words.{edge_words}
+use Rattle.sedck_flow.specs.Examples.{ExamplesHold, one_x, any_xs, replacing, delete_matches, a_then_b, one_c, replacing_previous, replace_previous, edge}
+
+-- an empty match, and what stands behind it
+abbrev empty_before : List ℕ → Found
+empty_before behind = record { whole = []; groups = no_groups; behind = behind }
+
+edge_text : edge_words (edge 1 false 2 true Shorten) ≡ codes "1 0 2 1 shorten"
+unfolding digits
+edge_text = refl
+
+false-true : false ≡ true → ⊥
+false-true e = cc
+
+at_node : ℕ → Bool → Node
+at_node at flag = record { at = at; flag = flag }
+
+-- a match of `x` has one byte
+length-one_x : (text : List ℕ) (groups : _) → Match one_x no_groups text groups → length text ≡ 1
+length-one_x text groups (u, v, d, cut, (first, _), (rest, _)) = omega (arith, ap length cut, length-append u v, ap length first, ap length rest)
+
+x_shortens : Shortens (delete_matches one_x) (replacing one_x [] false)
+x_shortens = (refl, λ text (tree, is, (groups, m)). omega (arith, length-one_x text groups (subst (λ t. Match t no_groups text groups) is m)))
+
+-- `x*` matches the empty text
+matches_empty : Match any_xs no_groups [] no_groups
+matches_empty = ([], [], no_groups, refl, (0, omega arith, (refl, refl)), (refl, refl))
+
+xs_not_shorten : ¬ Shortens (delete_matches any_xs) (replacing any_xs [] false)
+xs_not_shorten h = let short = h.1 [] (any_xs, refl, (no_groups, matches_empty)) in omega (arith, short)
+
+xs_never_lengthen : NeverLengthens (delete_matches any_xs) (replacing any_xs [] false)
+xs_never_lengthen = (refl, λ text h. omega arith)
+
+-- the texts of `ab` have two bytes, and those of `c` one
+length-one_c : (text : List ℕ) (groups : _) → Match one_c no_groups text groups → length text ≡ 1
+length-one_c text groups (u, v, d, cut, (first, _), (rest, _)) = omega (arith, ap length cut, length-append u v, ap length first, ap length rest)
+
+length-a_then_b : (text : List ℕ) (groups : _) → Match a_then_b no_groups text groups → length text ≡ 2
+length-a_then_b text groups (u, v, d, cut, (first, _), (w, x, e, more, (second, _), (rest, _))) =
+    omega (arith, ap length cut, length-append u v, ap length first, ap length more, length-append w x, ap length second, ap length rest)
+
+previous_text : (tree : Tree) (text : List ℕ) → Contains (a_then_b ∷ one_c ∷ []) tree → Language tree text → 1 ≤ length text
+previous_text tree text inside (groups, m) =
+    elim (Contains-cons_cases a_then_b (one_c ∷ []) tree inside) [
+      | inl is ↦ omega (arith, length-a_then_b text groups (subst (λ (t : Tree). Match t no_groups text groups) (sym is) m))
+      | inr more ↦ elim (Contains-cons_cases one_c [] tree more) [
+        | inl is ↦ omega (arith, length-one_c text groups (subst (λ (t : Tree). Match t no_groups text groups) (sym is) m))
+        | inr none ↦ absurd (omega (arith, none.1))
+      ]
+    ]
+
+previous_never_lengthens : NeverLengthens replace_previous replacing_previous
+previous_never_lengthens = (refl, λ text (tree, inside, language). previous_text tree text inside language)
+
+previous_not_shorten : ¬ Shortens replace_previous replacing_previous
+previous_not_shorten h =
+    let matches : Match one_c no_groups (99 ∷ []) no_groups = (99 ∷ [], [], no_groups, refl, (refl, refl), (refl, refl)) in
+    let longer = h.1 (99 ∷ []) (one_c, (1, omega arith, refl), (no_groups, matches)) in
+    omega (arith, longer)
+
+flags_differ : (a b : ℕ) (f g : Bool) → f ≡ true → g ≡ false → at_node a f ≡ at_node b g → ⊥
+unfolding at_node
+flags_differ a b f g t u e = false-true (sym u ∙ sym (ap (λ (n : Node). n.flag) e) ∙ t)
+
+at_inj : {m n : Machine} → At m ≡ At n → m ≡ n
+at_inj e = cc
+
+unread_differ : {m n : Machine} → At m ≡ At n → length m.unread ≡ length n.unread
+unread_differ e = ap (λ (x : Machine). length x.unread) (at_inj e)
+
+pub examples_hold : ExamplesHold
+unfolding at_node
+examples_hold = record {
+  edge_text = edge_text;
+  shortens = inr (inr (x_shortens, refl));
+  not_keeps = elim [ inl h ↦ false-true h.0 | inr (inl (_, e)) ↦ flags_differ 2 2 true false refl refl e | inr (inr (h, _)) ↦ h.0 x_shortens ];
+  keeps = inr (inr ((xs_not_shorten, xs_never_lengthen), refl));
+  not_shortens = elim [ inl h ↦ false-true h.0 | inr (inl (e, _)) ↦ cc | inr (inr (h, _)) ↦ xs_not_shorten h ];
+  test_taken = inr (refl, refl);
+  test_passed = inr (refl, refl);
+  test_resets = elim [ inl h ↦ false-true h.0 | inr (_, e) ↦ flags_differ 0 0 true false refl refl e ];
+  drops_kept = inr (inr (refl, true, inl refl, refl));
+  drops_reset = inr (inr (refl, false, inr refl, refl));
+  drops_all = inr (inl (refl, refl));
+  passed_by = inl (refl, refl, refl);
+  not_passed_by = elim [ inl (_, _, e) ↦ flags_differ 1 1 true false refl refl (sym e) | inr (inl (e, _)) ↦ cc | inr (inr (e, _, _, _)) ↦ cc ];
+  begins_again = (refl, refl, refl);
+  previous_keeps = inr (inr ((previous_not_shorten, previous_never_lengthens), refl));
+  previous_not_shortens = elim [ inl (_, e, _) ↦ cc | inr (inl (e, _)) ↦ cc | inr (inr (h, _)) ↦ previous_not_shorten h ];
+  last_line = inr ((refl, refl), refl, refl);
+  not_applied = elim [ inl (may, _) ↦ may refl | inr (_, _, e) ↦ cc ];
+  other_line = elim [ inl (_, (_, (flag, _, e))) ↦ omega (arith, unread_differ e) | inr ((_, e), _, _) ↦ cc ];
+  empty_script = ((refl, refl), ((refl, refl, refl), tt));
+  substitutes = record {
+    tree = any_xs;
+    is_expression = refl;
+    front = [];
+    matches = empty_before (codes "a") ∷ empty_before (codes "b") ∷ empty_before [] ∷ [];
+    some_match = omega arith;
+    one_match = λ e. absurd (false-true (sym e));
+    are_matches = (matches_empty, (matches_empty, (matches_empty, tt)));
+    are_apart = (omega arith, (omega arith, tt));
+    is_old = refl;
+    is_new = refl;
+  };
+}

@@ -1,0 +1,14 @@
+pub mod Lengths
+pub mod KindOf
+pub mod Follows
+pub mod Inside
+pub mod GoesOn
+pub mod Grown
+pub mod NotStart
+pub mod LineBytes
+pub mod Named
+pub mod FoundLemmas
+pub mod SuccessLemmas
+pub mod VerbLemmas
+pub mod EdgesLemmas
+pub mod ExampleProofs

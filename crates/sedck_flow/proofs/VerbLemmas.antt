@@ -1,0 +1,142 @@
+-- The edges that are found for a verb are those that it has.
+use Rattle.std.proofs.Common.{◌≡◌, ◌⊎◌, ◌↔◌, ℕ, suc, Bool, true, false, List, [], refl, sym, ap, ◌∙◌, subst, inl, inr, arith}
+use Rattle.std.specs.Prelude.{if◌then◌else◌}
+use Rattle.sedck_script.specs.Program.{Address, Two, Verb, Change, DeleteFirstLine, Next, Substitution, Substitute, Test, Program}
+use Rattle.sedck_script.specs.View.{verb_of}
+use Rattle.sedck_script.specs.declared.script.Substitution.{Substitution as CodedSubstitution}
+use Rattle.sedck_script.specs.declared.script.Verb.{Verb as Coded}
+use Rattle.sedck_script.specs.declared.script.Verb.TheVariants as coded
+use Rattle.std.specs.Borrow.{Bor}
+use Rattle.sedck_flow.specs.Run.{KeptOrReset}
+use Rattle.sedck_flow.specs.Flow.{HasKind, start, next, VerbEdge}
+use Rattle.sedck_flow.specs.Found.{with_edge, ListsTargets}
+use Rattle.sedck_flow.specs.declared.graph.Node.{Node}
+use Rattle.sedck_flow.specs.declared.graph.Edge.{Edge}
+use Rattle.sedck_flow.specs.declared.graph.Kind.{Kind}
+use Rattle.sedck_flow.specs.declared.graph.Kind.TheVariants.{Consume, Shorten, Keep, Grow}
+use Rattle.sedck_flow.proofs.FoundLemmas.{lists_none, lists_more, lists_same}
+
+-- the targets of one edge
+abbrev pub Only : Kind → Node → Kind → Node → Type 0
+Only kind to k n = (k ≡ kind) × (n ≡ to)
+
+abbrev pub edge : Node → Kind → Node → Edge
+edge from kind to = record { from = from; to = to; kind = kind }
+
+pub same_list : (xs ys : List Edge) (n : Node) (P : Kind → Node → Type 0) → xs ≡ ys → ListsTargets ys n P → ListsTargets xs n P
+same_list xs ys n P is lists = subst (λ zs. ListsTargets zs n P) (sym is) lists
+
+pub one_edge : (n : Node) (kind : Kind) (to : Node) → ListsTargets (with_edge (edge n kind to) []) n (Only kind to)
+one_edge n kind to =
+    lists_same _ n (λ k t. ((k ≡ kind) × (t ≡ to)) ⊎ ⊥) (Only kind to) (λ k t. (elim [ inl h ↦ h | inr h ↦ absurd h ], λ h. inl h)) (lists_more [] n (λ k t. ⊥) kind to (lists_none n))
+
+-- `c` at a range
+pub changes_range : (p : Program) (n : Node) (first : List Edge) (text : List ℕ) (place end : _) → ListsTargets first n (Only Consume start)
+    → ListsTargets (with_edge (edge n Keep (next n)) first) n (VerbEdge p (Two place end) (Change text) n)
+changes_range p n first text place end lists =
+    lists_same _ n _ (VerbEdge p (Two place end) (Change text) n) (λ k t. (elim [ inl h ↦ inr h | inr h ↦ inl h ], elim [ inl h ↦ inr h | inr h ↦ inl h ]))
+    (lists_more first n (Only Consume start) Keep (next n) lists)
+
+-- `D`
+drop_targets : (n : Node) (k : Kind) (t : Node) → (Only Shorten (record { at = 0; flag = n.flag }) k t ⊎ (Only Shorten start k t ⊎ Only Consume start k t))
+    ↔ (((k ≡ Consume) × (t ≡ start)) ⊎ ((k ≡ Shorten) × (flag : Bool) × KeptOrReset n.flag flag × (t ≡ record { at = 0; flag = flag })))
+drop_targets n k t = (forth, back)
+  where
+    forth : (Only Shorten (record { at = 0; flag = n.flag }) k t ⊎ (Only Shorten start k t ⊎ Only Consume start k t)) → (((k ≡ Consume) × (t ≡ start)) ⊎ ((k ≡ Shorten) × (flag : Bool) × KeptOrReset n.flag flag × (t ≡ record { at = 0; flag = flag })))
+    forth (inl (kind, to)) = inr (kind, n.flag, inl refl, to)
+    forth (inr (inl (kind, to))) = inr (kind, false, inr refl, to)
+    forth (inr (inr h)) = inl h
+
+    back : (((k ≡ Consume) × (t ≡ start)) ⊎ ((k ≡ Shorten) × (flag : Bool) × KeptOrReset n.flag flag × (t ≡ record { at = 0; flag = flag }))) → (Only Shorten (record { at = 0; flag = n.flag }) k t ⊎ (Only Shorten start k t ⊎ Only Consume start k t))
+    back (inl h) = inr (inr h)
+    back (inr (kind, flag, inl kept, to)) = inl (kind, to ∙ ap (λ f. record { at = 0; flag = f }) kept)
+    back (inr (kind, flag, inr reset, to)) = inr (inl (kind, to ∙ ap (λ f. record { at = 0; flag = f }) reset))
+
+pub drops : (p : Program) (a : Address) (n : Node) (first : List Edge) → ListsTargets first n (Only Consume start)
+    → ListsTargets (with_edge (edge n Shorten (record { at = 0; flag = n.flag })) (with_edge (edge n Shorten start) first)) n (VerbEdge p a DeleteFirstLine n)
+drops p a n first lists =
+    lists_same _ n _ (VerbEdge p a DeleteFirstLine n) (drop_targets n)
+    (lists_more _ n _ Shorten (record { at = 0; flag = n.flag }) (lists_more first n (Only Consume start) Shorten start lists))
+
+-- `n` and `N`
+read_targets : (n : Node) (k : Kind) (t : Node) → (Only Consume (record { at = suc n.at; flag = false }) k t ⊎ Only Consume (next n) k t)
+    ↔ ((k ≡ Consume) × (flag : Bool) × KeptOrReset n.flag flag × (t ≡ record { at = suc n.at; flag = flag }))
+read_targets n k t = (forth, back)
+  where
+    forth : (Only Consume (record { at = suc n.at; flag = false }) k t ⊎ Only Consume (next n) k t) → ((k ≡ Consume) × (flag : Bool) × KeptOrReset n.flag flag × (t ≡ record { at = suc n.at; flag = flag }))
+    forth (inl (kind, to)) = (kind, false, inr refl, to)
+    forth (inr (kind, to)) = (kind, n.flag, inl refl, to)
+
+    back : ((k ≡ Consume) × (flag : Bool) × KeptOrReset n.flag flag × (t ≡ record { at = suc n.at; flag = flag })) → (Only Consume (record { at = suc n.at; flag = false }) k t ⊎ Only Consume (next n) k t)
+    back (kind, flag, inl kept, to) = inr (kind, to ∙ ap (λ f. record { at = suc n.at; flag = f }) kept)
+    back (kind, flag, inr reset, to) = inl (kind, to ∙ ap (λ f. record { at = suc n.at; flag = f }) reset)
+
+pub reads : (p : Program) (a : Address) (n : Node) (first : List Edge) → ListsTargets first n (Only Consume (next n))
+    → ListsTargets (with_edge (edge n Consume (record { at = suc n.at; flag = false })) first) n (VerbEdge p a Next n)
+reads p a n first lists =
+    lists_same _ n _ (VerbEdge p a Next n) (read_targets n) (lists_more first n (Only Consume (next n)) Consume (record { at = suc n.at; flag = false }) lists)
+
+-- `s`
+never_both : (p : Program) (s : Substitution) → HasKind p s Shorten → HasKind p s Grow → ⊥
+never_both p s short grow = grow (short.0, λ text h. omega (arith, short.1 text h))
+
+one_kind : (p : Program) (s : Substitution) (k l : Kind) → HasKind p s k → HasKind p s l → k ≡ l
+one_kind p s Consume l h j = absurd h
+one_kind p s Shorten Consume h j = absurd j
+one_kind p s Shorten Shorten h j = refl
+one_kind p s Shorten Keep h j = absurd (j.0 h)
+one_kind p s Shorten Grow h j = absurd (never_both p s h j)
+one_kind p s Keep Consume h j = absurd j
+one_kind p s Keep Shorten h j = absurd (h.0 j)
+one_kind p s Keep Keep h j = refl
+one_kind p s Keep Grow h j = absurd (j h.1)
+one_kind p s Grow Consume h j = absurd j
+one_kind p s Grow Shorten h j = absurd (never_both p s j h)
+one_kind p s Grow Keep h j = absurd (h j.1)
+one_kind p s Grow Grow h j = refl
+
+pub substitutes : (p : Program) (a : Address) (s : Substitution) (kind : Kind) (n : Node) (first : List Edge) → HasKind p s kind → ListsTargets first n (Only Keep (next n))
+    → ListsTargets (with_edge (edge n kind (record { at = suc n.at; flag = true })) first) n (VerbEdge p a (Substitute s) n)
+substitutes p a s kind n first has lists =
+    lists_same _ n _ (VerbEdge p a (Substitute s) n) (λ k t. (forth k t, back k t)) (lists_more first n (Only Keep (next n)) kind made lists)
+  where
+    made : Node
+    made = record { at = suc n.at; flag = true }
+
+    forth : (k : Kind) (t : Node) → Only kind made k t ⊎ Only Keep (next n) k t → VerbEdge p a (Substitute s) n k t
+    forth k t (inl (is, to)) = inr (subst (λ l. HasKind p s l) (sym is) has, to)
+    forth k t (inr h) = inl h
+
+    back : (k : Kind) (t : Node) → VerbEdge p a (Substitute s) n k t → Only kind made k t ⊎ Only Keep (next n) k t
+    back k t (inl h) = inr h
+    back k t (inr (h, to)) = inl (one_kind p s k kind h has, to)
+
+-- `t`
+pub tests : (p : Program) (a : Address) (target : ℕ) (n : Node) (edges : List Edge) (flag : Bool) → n.flag ≡ flag
+    → ListsTargets edges n (Only Keep (if flag then record { at = target; flag = false } else next n)) → ListsTargets edges n (VerbEdge p a (Test target) n)
+tests p a target n edges flag is lists =
+    subst (λ (f : Bool). ListsTargets edges n (Only Keep (if f then record { at = target; flag = false } else next n))) (sym is) lists
+
+-- ---- By the verb as the code has it
+
+pub of_verb : (p : Program) (a : Address) (v w : Verb) (n : Node) (edges : List Edge) → v ≡ w → ListsTargets edges n (VerbEdge p a w n) → ListsTargets edges n (VerbEdge p a v n)
+of_verb p a v w n edges is lists = subst (λ (x : Verb). ListsTargets edges n (VerbEdge p a x n)) (sym is) lists
+
+-- a verb that is none of these goes on to the next command
+pub other_verb : (p : Program) (a : Address) (v : Coded) (n : Node) (edges : List Edge)
+    → ((target : ℕ) → v ≡ coded.Branch target → ⊥) → ((target : ℕ) → v ≡ coded.Test target → ⊥) → ((text : Bor (List ℕ)) → v ≡ coded.Change text → ⊥) → ((s : CodedSubstitution) → v ≡ coded.Substitute s → ⊥)
+    → (v ≡ coded.Delete → ⊥) → (v ≡ coded.DeleteFirstLine → ⊥) → (v ≡ coded.Get → ⊥) → (v ≡ coded.GetAppend → ⊥) → (v ≡ coded.Next → ⊥) → (v ≡ coded.NextAppend → ⊥) → (v ≡ coded.Quit → ⊥) → (v ≡ coded.Exchange → ⊥)
+    → ListsTargets edges n (Only Keep (next n)) → ListsTargets edges n (VerbEdge p a (verb_of v) n)
+other_verb p a (coded.Branch target) n edges branch test change substitute delete drop get append read read_more quit exchange lists = absurd (branch target refl)
+other_verb p a (coded.Test target) n edges branch test change substitute delete drop get append read read_more quit exchange lists = absurd (test target refl)
+other_verb p a (coded.Change text) n edges branch test change substitute delete drop get append read read_more quit exchange lists = absurd (change text refl)
+other_verb p a (coded.Substitute s) n edges branch test change substitute delete drop get append read read_more quit exchange lists = absurd (substitute s refl)
+other_verb p a coded.Delete n edges branch test change substitute delete drop get append read read_more quit exchange lists = absurd (delete refl)
+other_verb p a coded.DeleteFirstLine n edges branch test change substitute delete drop get append read read_more quit exchange lists = absurd (drop refl)
+other_verb p a coded.Get n edges branch test change substitute delete drop get append read read_more quit exchange lists = absurd (get refl)
+other_verb p a coded.GetAppend n edges branch test change substitute delete drop get append read read_more quit exchange lists = absurd (append refl)
+other_verb p a coded.Next n edges branch test change substitute delete drop get append read read_more quit exchange lists = absurd (read refl)
+other_verb p a coded.NextAppend n edges branch test change substitute delete drop get append read read_more quit exchange lists = absurd (read_more refl)
+other_verb p a coded.Quit n edges branch test change substitute delete drop get append read read_more quit exchange lists = absurd (quit refl)
+other_verb p a coded.Exchange n edges branch test change substitute delete drop get append read read_more quit exchange lists = absurd (exchange refl)
+other_verb p a _ n edges branch test change substitute delete drop get append read read_more quit exchange lists = lists

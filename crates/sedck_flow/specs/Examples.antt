@@ -1,0 +1,98 @@
+-- Worked examples of edges, steps, runs and substitutions.
+use Rattle.std.specs.Prelude.{◌≡◌, ℕ, Bool, true, false, List, [], ◌∷◌, None, codes}
+use Rattle.sedck_bre.specs.Tree.{Tree, Byte, Seq, Repeat, Then, Nil}
+use Rattle.sedck_script.specs.Program.{Previous, Expression, Last, Context, NoAddress, One, Part, Text, Substitution, Verb, Label, NextAppend, Delete, DeleteFirstLine, Substitute, Test, Command, Program}
+use Rattle.sedck_flow.specs.declared.graph.Edge.{Edge}
+use Rattle.sedck_flow.specs.declared.graph.Kind.{Kind}
+use Rattle.sedck_flow.specs.declared.graph.Kind.TheVariants.{Consume, Shorten, Keep}
+use Rattle.sedck_flow.specs.Flow.{Flow}
+use Rattle.sedck_flow.specs.Substitutes.{Substitutes}
+use Rattle.sedck_flow.specs.Run.{Machine, At, Done, Silent, Step, Run}
+use Rattle.sedck_flow.specs.Words.{edge_words}
+
+-- a command with no address
+abbrev pub plain_command : Verb → Command
+plain_command verb = record { address = NoAddress; negated = false; verb = verb }
+
+abbrev pub script_of : List Command → Program
+script_of commands = record { commands = commands; quiet = false }
+
+-- the expressions `x` and `x*`
+abbrev pub one_x : Tree
+one_x = Seq (Then (Byte 120) Nil)
+
+abbrev pub any_xs : Tree
+any_xs = Seq (Then (Repeat (Byte 120) 0 None) Nil)
+
+-- `s/TREE/PARTS/`, with the flag `g` or without
+abbrev pub replacing : Tree → List Part → Bool → Substitution
+replacing tree parts global = record { pattern = Expression tree; parts = parts; global = global; print = false; nth = None; file = None }
+
+-- `:a`, `s/TREE//`, `t a`
+abbrev pub delete_matches : Tree → Program
+delete_matches tree = script_of (plain_command (Label (codes "a")) ∷ plain_command (Substitute (replacing tree [] false)) ∷ plain_command (Test 0) ∷ [])
+
+-- `/x/D`
+abbrev pub drop_lines_with_x : Program
+drop_lines_with_x = script_of (record { address = One (Context (Expression one_x)); negated = false; verb = DeleteFirstLine } ∷ [])
+
+-- `$!N`
+abbrev pub append_unless_last : Program
+append_unless_last = script_of (record { address = One Last; negated = true; verb = NextAppend } ∷ [])
+
+-- the expressions `ab` and `c`
+abbrev pub a_then_b : Tree
+a_then_b = Seq (Then (Byte 97) (Then (Byte 98) Nil))
+
+abbrev pub one_c : Tree
+one_c = Seq (Then (Byte 99) Nil)
+
+-- `s//z/`
+abbrev pub replacing_previous : Substitution
+replacing_previous = record { pattern = Previous; parts = Text (codes "z") ∷ []; global = false; print = false; nth = None; file = None }
+
+-- `/ab/s//z/` and `/c/d`: the empty expression may be `ab` or `c`
+abbrev pub replace_previous : Program
+replace_previous =
+    script_of
+    (record { address = One (Context (Expression a_then_b)); negated = false; verb = Substitute replacing_previous }
+    ∷ record { address = One (Context (Expression one_c)); negated = false; verb = Delete } ∷ [])
+
+abbrev pub edge : ℕ → Bool → ℕ → Bool → Kind → Edge
+edge at flag at' flag' kind = record { from = record { at = at; flag = flag }; to = record { at = at'; flag = flag' }; kind = kind }
+
+-- at the first command with the pattern space `a` and these lines left
+abbrev pub machine : List (List ℕ) → Machine
+machine unread = record { at = 0; flag = false; unread = unread; pattern = codes "a"; hold = [] }
+
+pub record ExamplesHold : Type 0 where
+  -- an edge in words
+  pub edge_text : edge_words (edge 1 false 2 true Shorten) ≡ codes "1 0 2 1 shorten"
+  -- deleting an x shortens, deleting some x or none doesn't
+  pub shortens : Flow (delete_matches one_x) (edge 1 false 2 true Shorten)
+  pub not_keeps : ¬ Flow (delete_matches one_x) (edge 1 false 2 true Keep)
+  pub keeps : Flow (delete_matches any_xs) (edge 1 false 2 true Keep)
+  pub not_shortens : ¬ Flow (delete_matches any_xs) (edge 1 false 2 true Shorten)
+  -- `t` resets the flag where it is set, and goes on where it isn't
+  pub test_taken : Flow (delete_matches one_x) (edge 2 true 0 false Keep)
+  pub test_passed : Flow (delete_matches one_x) (edge 2 false 3 false Keep)
+  pub test_resets : ¬ Flow (delete_matches one_x) (edge 2 true 0 true Keep)
+  -- `D` with the flag kept or reset, and passed by with the flag alone
+  pub drops_kept : Flow drop_lines_with_x (edge 0 true 0 true Shorten)
+  pub drops_reset : Flow drop_lines_with_x (edge 0 true 0 false Shorten)
+  pub drops_all : Flow drop_lines_with_x (edge 0 true 0 false Consume)
+  pub passed_by : Flow drop_lines_with_x (edge 0 true 1 true Keep)
+  pub not_passed_by : ¬ Flow drop_lines_with_x (edge 0 true 1 false Keep)
+  -- behind the last command a line is read and the flag is reset
+  pub begins_again : Flow drop_lines_with_x (edge 1 true 0 false Consume)
+  -- `z` is as long as `c`, so an empty expression that may be `c` keeps the length and doesn't shorten it
+  pub previous_keeps : Flow replace_previous (edge 0 false 1 true Keep)
+  pub previous_not_shortens : ¬ Flow replace_previous (edge 0 false 1 true Shorten)
+  -- on the last line `$!N` is passed by, and on another it isn't
+  pub last_line : Step append_unless_last (At (machine [])) Silent (At (record (machine []) { at = 1 }))
+  pub not_applied : ¬ Step append_unless_last (At (machine [])) Silent Done
+  pub other_line : ¬ Step append_unless_last (At (machine (codes "b" ∷ []))) Silent (At (record (machine (codes "b" ∷ [])) { at = 1 }))
+  -- the empty script on one line: the step that begins the run, and the one that ends it
+  pub empty_script : Run (script_of []) (codes "b" ∷ []) ((Silent, At (record { at = 0; flag = false; unread = []; pattern = codes "b"; hold = [] })) ∷ (Silent, Done) ∷ [])
+  -- each match of x* in `ab` is replaced, the empty ones too, and none is directly behind another
+  pub substitutes : Substitutes (script_of []) (replacing any_xs (Text (codes "-") ∷ []) true) (codes "ab") (codes "-a-b-")

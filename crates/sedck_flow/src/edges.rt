@@ -1,0 +1,115 @@
+//! The edges that leave one node, one after another.
+
+ghost use Rattle.std.specs.Prelude.{◌≡◌, ◌<◌, ◌≤◌, length};
+ghost use Rattle.sedck_script.specs.Invariant.{IsTargetWithin, IsReplacement};
+ghost use Rattle.sedck_script.specs.View.{command_of, verb_of};
+ghost use Rattle.sedck_flow.specs.Run.{is_conditional as is_conditional_command};
+ghost use Rattle.sedck_flow.specs.Flow.{node_past as node_past_verb, CommandEdge, ListsEdges, FlowFrom};
+ghost use Rattle.sedck_flow.specs.Found.{ListsTargets};
+
+use crate::found::Found;
+use crate::graph::{Edge, Kind, Node};
+use crate::verbs::{next, single, verb_edges};
+use sedck_script::{Address, Command, Script, Verb};
+use std::marker::Model;
+
+/// The edges that leave one node, over the borrowed script. It takes no memory.
+#[derive(Drop)]
+pub struct Edges<'s, 'a> {
+    script: &'s Script<'a>,
+    found: Found,
+    next: usize,
+}
+
+impl<'s, 'a> Model for Edges<'s, 'a> {
+    ghost use Rattle.std.specs.Prelude.{List, drop, length, ◌≤◌};
+    ghost use Rattle.sedck_flow.specs.declared.graph.Edge.{Edge};
+
+    /// The edges that are still to come.
+    ghost Value = { List Edge };
+
+    ghost view = { λ a. drop a.next a.found };
+
+    ghost invariant = { λ a. a.next ≤ length a.found };
+}
+
+impl<'s, 'a> Iterator for Edges<'s, 'a> {
+    type Item = Edge;
+
+    ghost use Rattle.std.specs.Iterator.{YieldsFirst, item_count};
+
+    ghost next_gives = { YieldsFirst (λ edges. edges) };
+
+    ghost remaining = { item_count (λ edges. edges) };
+
+    fn next(&mut self) -> Option<Edge> {
+        if self.next == self.found.len() {
+            return None;
+        }
+        let edge = self.found.get(self.next);
+        self.next += 1;
+        Some(edge)
+    }
+}
+
+/// The edges that leave the node, by the node that they lead to and then by their kind. The time is
+/// constant but for a substitution, whose parts are gone over once.
+pub fn edges_of<'s, 'a>(script: &'s Script<'a>, node: Node) -> Edges<'s, 'a>
+    requires inside { node.at ≤ length script.now.commands }
+    ensures edges { ListsEdges result (FlowFrom script.now node) }
+    ensures few { length result ≤ 4 }
+{
+    let found = match script.commands().get(usize::from(node.at)) {
+        Some(command) => command_edges(script, command, node),
+        None => single(node, Kind::Consume, Node::START),
+    };
+    Edges {
+        script,
+        found,
+        next: 0,
+    }
+}
+
+/// The edges from a command's node: those of its verb, and one by which it may be passed.
+fn command_edges(script: &Script, command: &Command, from: Node) -> Found
+    requires place { from.at < 4095 }
+    requires target { IsTargetWithin 4095 (verb_of command.now.verb) }
+    requires replacement { IsReplacement (verb_of command.now.verb) }
+    ensures edges { ListsTargets result from (CommandEdge script.now (command_of command.now) from) }
+    ensures few { length result ≤ 4 }
+{
+    let applied = verb_edges(script, command, from);
+    if is_conditional(command) {
+        return applied.with(from, Kind::Keep, node_past(&command.verb, from));
+    }
+    applied
+}
+
+/// Whether the command may be passed by, since it has an address or `!`.
+fn is_conditional(command: &Command) -> bool
+    ensures { result ≡ is_conditional_command (command_of command.now) }
+{
+    if command.negated {
+        return true;
+    }
+    match &command.address {
+        Address::None => false,
+        Address::One(_) => true,
+        Address::Two(_, _) => true,
+    }
+}
+
+/// The node behind a command that isn't applied.
+fn node_past(verb: &Verb, from: Node) -> Node
+    requires place { from.at < 4095 }
+    requires target { IsTargetWithin 4095 (verb_of verb.now) }
+    ensures { result ≡ node_past_verb (verb_of verb.now) from }
+{
+    match verb {
+        Verb::Block(behind) => Node {
+            at: *behind as u16,
+            flag: from.flag,
+        },
+        _ => next(from),
+    }
+}

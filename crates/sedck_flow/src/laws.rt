@@ -1,0 +1,29 @@
+//! What is proved of runs and the flow graph alone. The functions do nothing: their contracts are the laws.
+
+ghost use Rattle.sedck_flow.specs.Laws.{StepsFollowEdges, EdgesStayInside, RunsGoOn, FilesAreNamed};
+ghost use Rattle.sedck_flow.specs.Examples.{ExamplesHold};
+
+/// Each step from one command to another follows an edge of the flow graph, and the edge's kind tells the truth.
+pub fn steps_follow_edges()
+    ensures { StepsFollowEdges }
+{}
+
+/// An edge leads from a command, or from the script's end, to another.
+pub fn edges_stay_inside()
+    ensures { EdgesStayInside }
+{}
+
+/// A run that hasn't come to its end can take a further step: nothing is cut short by the definitions.
+pub fn runs_go_on()
+    ensures { RunsGoOn }
+{}
+
+/// A run reads and writes only files that the script names for it.
+pub fn files_are_named()
+    ensures { FilesAreNamed }
+{}
+
+/// The worked examples of edges, steps, runs and substitutions hold.
+pub fn worked_examples()
+    ensures { ExamplesHold }
+{}

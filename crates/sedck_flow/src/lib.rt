@@ -1,0 +1,18 @@
+//! The runs of a script, and its flow graph.
+//!
+//! What a run is stands in `specs/Run.antt`, what the graph is in `specs/Flow.antt`, and what is proved of both
+//! in `laws`. `edges_of` lists the edges that leave a node. Nothing here takes memory.
+#![tactic(auto)]
+
+mod edges;
+mod found;
+pub mod graph;
+pub mod laws;
+mod success;
+#[cfg(test)]
+mod tests;
+mod verbs;
+mod words;
+
+pub use edges::{Edges, edges_of};
+pub use graph::{Edge, Kind, Node};

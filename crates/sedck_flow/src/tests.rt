@@ -1,0 +1,59 @@
+use super::*;
+use sedck_script::parse_first;
+use std::alloc::Global;
+use std::test::*;
+
+/// The script's edges from each node in order, a line each.
+fn graph(alloc: Global, text: &[u8]) -> Result<String, Fail> {
+    let script = parse_first(alloc, text).ok().ok_or("refused")?;
+    let end = script.commands().len();
+    if end > 9 {
+        return Err("too long".into());
+    }
+    let mut lines = String::new(alloc);
+    for at in 0..=end {
+        for flag in [false, true] {
+            let node = Node {
+                at: at as u16,
+                flag,
+            };
+            for edge in edges_of(&script, node) {
+                writeln!(lines, "{edge}")?;
+            }
+        }
+    }
+    Ok(lines)
+}
+
+#[test]
+fn edges_of_each_node(rt: HostRuntime) -> Result<(), Fail> {
+    let rows: [(&[u8], &str); 6] = [
+        (b"", "0 0 0 0 consume\n0 1 0 0 consume\n"),
+        (
+            b":a\nn\nb a",
+            "0 0 1 0 keep\n0 1 1 1 keep\n1 0 2 0 consume\n1 1 2 0 consume\n1 1 2 1 consume\n\
+             2 0 0 0 keep\n2 1 0 1 keep\n3 0 0 0 consume\n3 1 0 0 consume\n",
+        ),
+        (
+            b":a\nb a",
+            "0 0 1 0 keep\n0 1 1 1 keep\n1 0 0 0 keep\n1 1 0 1 keep\n2 0 0 0 consume\n2 1 0 0 consume\n",
+        ),
+        (
+            b"d",
+            "0 0 0 0 consume\n0 1 0 0 consume\n1 0 0 0 consume\n1 1 0 0 consume\n",
+        ),
+        (
+            b"p",
+            "0 0 1 0 keep\n0 1 1 1 keep\n1 0 0 0 consume\n1 1 0 0 consume\n",
+        ),
+        (
+            b"b",
+            "0 0 1 0 keep\n0 1 1 1 keep\n1 0 0 0 consume\n1 1 0 0 consume\n",
+        ),
+    ];
+    for (text, lines) in rows {
+        let found = graph(rt.alloc(), text)?;
+        assert_eq!(rt; found.as_str(), lines);
+    }
+    Ok(())
+}
