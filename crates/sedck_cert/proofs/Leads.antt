@@ -1,0 +1,112 @@
+-- How one line is read or refused, and lines after lines.
+use Rattle.std.proofs.Common.{◌≡◌, ℕ, ◌+◌, List, [], ◌∷◌, ◌++◌, Contains, ◌≤◌, decimal, Option, Some, None, MatchOption, IfErr, Result, Ok, Err, append_assoc, append-nil, refl, sym, ◌∙◌, ap, subst, arith}
+use Rattle.std.proofs.Common.{length-append}
+use Rattle.std.specs.Option.{ok_or}
+use Rattle.std.specs.Result.{IsErrAnd}
+use Rattle.sedck_cert.specs.Text.{line}
+use Rattle.sedck_cert.specs.Faults.{Due, IsDue, AreDue, IsWrong, IsRefused, fault_at, joined_lines}
+use Rattle.sedck_cert.specs.Cuts.{IsCut}
+use Rattle.sedck_cert.specs.Reading.{IsNext, Leads, Stops}
+use Rattle.sedck_cert.specs.declared.reading.lines.Lines.{Lines}
+use Rattle.sedck_cert.specs.declared.reading.CertFault.{CertFault}
+use Rattle.sedck_cert.proofs.Cuts.{cut_one, has_byte}
+
+pub line-behind : (text rest : List ℕ) → line text ++ rest ≡ text ++ 10 ∷ rest
+line-behind text rest = append_assoc text (10 ∷ []) rest
+
+pub joined_lines-append : (xs ys : List (List ℕ)) → joined_lines (xs ++ ys) ≡ joined_lines xs ++ joined_lines ys
+joined_lines-append [] ys = refl
+joined_lines-append (x ∷ xs) ys = ap (λ t. line x ++ t) (joined_lines-append xs ys) ∙ sym (append_assoc (line x) (joined_lines xs) (joined_lines ys))
+
+pub are_due-append : (xs ys : List (List ℕ)) (a b c : Due) → AreDue a xs b → AreDue b ys c → AreDue a (xs ++ ys) c
+are_due-append [] ys a b c h k = subst (λ d. AreDue d ys c) h k
+are_due-append (x ∷ xs) ys a b c h k = (h.0, h.1, h.2, are_due-append xs ys h.1 b c h.3 k)
+
+-- one line
+pub leads_one : (due next : Due) (text : List ℕ) {old new : Lines} → IsNext old text new → IsDue due text next → Leads due old (text ∷ []) new next
+leads_one due next text {old} {new} line' is = record {
+  is_text = line'.cut.is_text ∙ sym (line-behind text new.rest.now) ∙ ap (λ t. t ++ new.rest.now) (sym (append-nil (line text)));
+  number = line'.number;
+  are_due = (line'.cut.none, next, is, refl);
+}
+
+-- no cut of the text gives what is due
+pub wrong_cuts : (due : Due) (rest : List ℕ) → ((text more : List ℕ) (next : Due) → IsCut 10 rest text more → ¬ IsDue due text next) → IsWrong due rest
+wrong_cuts due rest none = λ text more next is one. none text more next (record { none = one; is_text = is ∙ line-behind text more })
+
+pub wrong_word : (due : Due) (rest word : List ℕ) → ((text : List ℕ) (next : Due) → IsDue due text next → text ≡ word) → ((more : List ℕ) → IsCut 10 rest word more → ⊥) → IsWrong due rest
+wrong_word due rest word told none = wrong_cuts due rest (λ text more next cut is. none more (subst (λ t. IsCut 10 rest t more) (told text next is) cut))
+
+-- the number behind the word in a line
+abbrev pub NoCount : List ℕ → List ℕ → Type 0
+NoCount rest word = (n : ℕ) → n ≤ 4095 → (more : List ℕ) → IsCut 10 rest (word ++ decimal n) more → ⊥
+
+pub wrong_count : (due : Due) (rest word : List ℕ) → ((text : List ℕ) (next : Due) → IsDue due text next → (n : ℕ) × (n ≤ 4095) × (text ≡ word ++ decimal n)) → NoCount rest word → IsWrong due rest
+wrong_count due rest word told none = wrong_cuts due rest (λ text more next cut is.
+    let h = told text next is in
+    none h.0 h.1 more (subst (λ t. IsCut 10 rest t more) h.2 cut))
+
+-- what is refused where there is no answer
+pub refused_or : {X : Type 0} (P : CertFault → Type 0) (r : Option X) (fault : CertFault) → (r ≡ None → P fault) → IfErr (ok_or r fault) P
+refused_or P None fault h = h refl
+refused_or P (Some x) fault h = tt
+
+pub none_of : {X : Type 0} (P : Type 0) (Q : X → Type 0) (r : Option X) → MatchOption r P Q → r ≡ None → P
+none_of P Q None h is = h
+none_of P Q (Some x) h is = absurd (cc is)
+
+pub no_cut : (rest text more : List ℕ) → (Contains rest 10 → ⊥) → IsCut 10 rest text more → ⊥
+no_cut rest text more none cut = none (has_byte 10 rest text more cut.is_text)
+
+-- no line is left
+pub wrong_none : (due : Due) (rest : List ℕ) → (Contains rest 10 → ⊥) → IsWrong due rest
+wrong_none due rest none = λ text more next is one due'. none (has_byte 10 rest text more (is ∙ line-behind text more))
+
+-- the next line isn't what is due
+pub wrong_line : (due : Due) (rest text more : List ℕ) → IsCut 10 rest text more → ((next : Due) → ¬ IsDue due text next) → IsWrong due rest
+wrong_line due rest text more cut none = λ other behind next is one due'.
+    let both = cut_one 10 rest text more other behind cut (record { none = one; is_text = is ∙ line-behind other behind }) in
+    none next (subst (λ t. IsDue due t next) (sym both.0) due')
+
+pub stops_here : (due : Due) (old : Lines) (fault : CertFault) → IsRefused due old.rest.now → fault ≡ fault_at due old.number → Stops due old fault
+stops_here due old fault refused is = record {
+  before = [];
+  rest = old.rest.now;
+  wrong = due;
+  is_text = refl;
+  are_due = refl;
+  is_refused = refused;
+  is_fault = is ∙ ap (fault_at due) (omega arith);
+}
+
+-- lines after lines
+pub leads_on : (a b c : Due) (xs ys : List (List ℕ)) {x y z : Lines} → Leads a x xs y b → Leads b y ys z c → Leads a x (xs ++ ys) z c
+leads_on a b c xs ys {x} {y} {z} h k = record {
+  is_text = h.is_text ∙ ap (λ t. joined_lines xs ++ t) k.is_text ∙ sym (append_assoc (joined_lines xs) (joined_lines ys) z.rest.now) ∙ ap (λ t. t ++ z.rest.now) (sym (joined_lines-append xs ys));
+  number = omega (arith, h.number, k.number, length-append xs ys);
+  are_due = are_due-append xs ys a b c h.are_due k.are_due;
+}
+
+-- what stops behind lines that are due
+pub leads_stops : (a b : Due) (xs : List (List ℕ)) (fault : CertFault) {x y : Lines} → Leads a x xs y b → Stops b y fault → Stops a x fault
+leads_stops a b xs fault {x} {y} h k = record {
+  before = xs ++ k.before;
+  rest = k.rest;
+  wrong = k.wrong;
+  is_text = h.is_text ∙ ap (λ t. joined_lines xs ++ t) k.is_text ∙ sym (append_assoc (joined_lines xs) (joined_lines k.before) k.rest) ∙ ap (λ t. t ++ k.rest) (sym (joined_lines-append xs k.before));
+  are_due = are_due-append xs k.before a b k.wrong h.are_due k.are_due;
+  is_refused = k.is_refused;
+  is_fault = k.is_fault ∙ ap (fault_at k.wrong) (omega (arith, h.number, length-append xs k.before));
+}
+
+-- what is read from the next line, by what is read from a text
+pub next_by_line : {V : Type 0} (Good : V → Type 0) (text : V → List ℕ) (line' : List ℕ) (r : Option V) (old new : Lines) → IsCut 10 old.rest.now line' new.rest.now → new.number ≡ old.number + 1
+    → MatchOption r ((v : V) → Good v → line' ≡ text v → ⊥) (λ v. Good v × (line' ≡ text v))
+    → MatchOption r ((v : V) → Good v → (more : List ℕ) → IsCut 10 old.rest.now (text v) more → ⊥) (λ v. Good v × IsNext old (text v) new)
+next_by_line Good text line' None old new cut number h = λ v good more other. h v good (cut_one 10 _ line' _ (text v) more cut other).0
+next_by_line Good text line' (Some v) old new cut number h = (h.0, record { cut = subst (λ t. IsCut 10 old.rest.now t new.rest.now) h.1 cut; number = number })
+
+-- what a `?` hands on
+pub if_err_from : {A E : Type 0} (P : E → Type 0) (r : Result A E) (e : E) → IsErrAnd r (λ y. y ≡ e) → P e → IfErr r P
+if_err_from P (Ok x) e h p = tt
+if_err_from P (Err y) e h p = subst P (sym h) p

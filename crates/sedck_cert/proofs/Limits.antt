@@ -1,0 +1,60 @@
+-- Names are within their limits where each may stand behind those before it.
+use Rattle.std.proofs.Common.{◌≡◌, ℕ, suc, ◌+◌, ◌<◌, ◌≤◌, List, [], ◌∷◌, length, get_or, drop, Vec, add-one, sym, ap, arith}
+use Rattle.std.proofs.Math.Seq.{drop-cons}
+use Rattle.std.specs.declared.alloc.Global.{Global}
+use Rattle.std.specs.List.{AllByRecursion}
+use Rattle.std.proofs.lemmas.List.{length-map}
+use Rattle.std.proofs.lemmas.List.Elements.{All-from_recursion, recursion_from_All}
+use Rattle.std.proofs.lemmas.List.Kept.{AllPairs-cons}
+use Rattle.std.proofs.lemmas.List.Sums.{sum_by-cons}
+use Rattle.sedck_script.specs.Names.{IsName, IsBefore, AreRising, AreNames, names_size}
+use Rattle.sedck_cert.specs.View.{names_of}
+use Rattle.sedck_cert.specs.Reading.{AreNext}
+use Rattle.sedck_cert.proofs.Texts.{IsBeforeAll, behind_all, rising_parts, first_rises}
+
+record AreRight (before names : List (List ℕ)) (size : ℕ) : Type 0 where
+  pub each : AllByRecursion IsName names
+  pub behind : IsBeforeAll before names
+  pub rising : AreRising names
+  pub within : size + names_size names ≤ 1048576
+
+size-cons : (name : List ℕ) (names : List (List ℕ)) (size : ℕ) → size + length name + 1 + names_size names ≡ size + names_size (name ∷ names)
+size-cons name names size = omega (arith, sum_by-cons (λ (n : List ℕ). length n + 1) name names)
+
+next_right : (names before : List (List ℕ)) (size : ℕ) → AreNext before names size → AreRight before names size
+next_right [] before size h = record {
+  each = tt;
+  behind = elim before as (λ b. IsBeforeAll b []) [ [] ↦ tt | b ∷ more ↦ tt ];
+  rising = λ i j d low high. absurd (omega arith);
+  within = omega arith;
+}
+next_right (name ∷ names) before size h =
+    let more = next_right names (name ∷ []) (size + length name + 1) h.3 in
+    record {
+      each = (h.0, more.each);
+      behind = behind_all before name names h.1 more.behind;
+      rising = AllPairs-cons IsBefore name names (All-from_recursion (IsBefore name) names more.behind) more.rising;
+      within = omega (arith, size-cons name names size, more.within);
+    }
+
+right_next : (names before : List (List ℕ)) (size : ℕ) → AreRight before names size → AreNext before names size
+right_next [] before size h = omega (arith, h.within)
+right_next (name ∷ names) before size h =
+    let parts = rising_parts name names h.rising in (
+      h.each.0,
+      first_rises before name names h.behind,
+      omega (arith, size-cons name names size, h.within),
+      right_next names (name ∷ []) (size + length name + 1) (record { each = h.each.1; behind = parts.0; rising = parts.1; within = omega (arith, size-cons name names size, h.within) }),
+    )
+
+pub names_next : (names : List (List ℕ)) (size : ℕ) → AreNames names → size + names_size names ≤ 1048576 → AreNext [] names size
+names_next names size h small = right_next names [] size (record { each = recursion_from_All IsName names h.each; behind = tt; rising = h.rising; within = small })
+
+pub next_names : (names : List (Vec ℕ Global)) (size : ℕ) → length names ≤ 4095 → AreNext [] (names_of names) size → AreNames (names_of names)
+next_names names size few h =
+    let right = next_right (names_of names) [] size h in
+    let e = length-map names (λ (n : Vec ℕ Global). n.items) in
+    record { each = All-from_recursion IsName (names_of names) right.each; rising = right.rising; count = omega arith }
+
+pub left_cons : (names : List (Vec ℕ Global)) (i : ℕ) (name : Vec ℕ Global) → i < length names → name ≡ get_or names i name → names_of (drop i names) ≡ name.items ∷ names_of (drop (i + 1) names)
+left_cons names i name within is = rw (add-one, drop-cons names i name within) (ap (λ (n : Vec ℕ Global). n.items ∷ names_of (drop (suc i) names)) (sym is))

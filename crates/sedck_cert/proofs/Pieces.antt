@@ -1,0 +1,92 @@
+-- The pieces of a certificate's text, in the order in which they are written.
+use Rattle.std.proofs.Common.{◌≡◌, ℕ, suc, ◌+◌, ◌<◌, ◌≤◌, ◌/◌, ◌%◌, List, [], ◌∷◌, ◌++◌, length, get_or, take, drop, decimal, codes, Option, Some, Vec, append_assoc, append-nil, refl, sym, ◌∙◌, ap, arith}
+use Rattle.std.proofs.Math.Seq.{drop-cons}
+use Rattle.std.specs.declared.alloc.Global.{Global}
+use Rattle.std.proofs.lemmas.List.{take-append-drop, take_more, map-append, length-take-le, length-map}
+use Rattle.sedck_script.specs.Names.{AreNames}
+use Rattle.sedck_cert.specs.Certificate.{Certificate, IsCertificate}
+use Rattle.sedck_cert.specs.View.{names_of}
+use Rattle.sedck_cert.specs.Text.{line, ranks_text, node_text, node_lines, name_lines, files_text, certificate_text}
+use Rattle.sedck_cert.proofs.Limits.{left_cons}
+
+pub some_pieces : (first second : ℕ) → line (ranks_text (Some (first, second))) ≡ (decimal first ++ 32 ∷ []) ++ (decimal second ++ 10 ∷ [])
+some_pieces first second = append_assoc (decimal first ++ 32 ∷ []) (decimal second) (10 ∷ [])
+
+five : (a s b r e : List ℕ) → a ++ s ++ b ++ s ++ r ++ e ≡ (a ++ s) ++ ((b ++ s) ++ (r ++ e))
+five a s b r e = simp append_assoc
+
+pub node_pieces : (node : ℕ) (ranks : Option (ℕ × ℕ)) → line (node_text node ranks) ≡ (decimal (node / 2) ++ 32 ∷ []) ++ ((decimal (node % 2) ++ 32 ∷ []) ++ line (ranks_text ranks))
+node_pieces node ranks = five (decimal (node / 2)) (32 ∷ []) (decimal (node % 2)) (ranks_text ranks) (10 ∷ [])
+
+node_lines-append : (node : ℕ) (xs ys : List (Option (ℕ × ℕ))) → node_lines node (xs ++ ys) ≡ node_lines node xs ++ node_lines (node + length xs) ys
+node_lines-append node [] ys = ap (λ n. node_lines n ys) (omega arith)
+node_lines-append node (x ∷ xs) ys =
+    ap (λ t. line (node_text node x) ++ t) (node_lines-append (suc node) xs ys ∙ ap (λ n. node_lines (suc node) xs ++ node_lines n ys) (omega arith))
+    ∙ sym (append_assoc (line (node_text node x)) (node_lines (suc node) xs) (node_lines (node + length (x ∷ xs)) ys))
+
+pub node_lines-more : (ranks : List (Option (ℕ × ℕ))) (i : ℕ) (d : Option (ℕ × ℕ)) → i < length ranks → node_lines 0 (take (i + 1) ranks) ≡ node_lines 0 (take i ranks) ++ line (node_text i (get_or ranks i d))
+node_lines-more ranks i d within =
+    let long : length (take i ranks) ≡ i = length-take-le i ranks (omega arith) in
+    ap (node_lines 0) (take_more ranks i d within) ∙ node_lines-append 0 (take i ranks) (get_or ranks i d ∷ [])
+    ∙ ap (λ t. node_lines 0 (take i ranks) ++ t) (append-nil (line (node_text (0 + length (take i ranks)) (get_or ranks i d))) ∙ ap (λ n. line (node_text n (get_or ranks i d))) (omega arith))
+
+pub node_lines-at : (ranks : List (Option (ℕ × ℕ))) (i : ℕ) (d : Option (ℕ × ℕ)) → i < length ranks → node_lines 0 ranks ≡ node_lines 0 (take i ranks) ++ (line (node_text i (get_or ranks i d)) ++ node_lines (suc i) (drop (suc i) ranks))
+node_lines-at ranks i d within =
+    let long : length (take i ranks) ≡ i = length-take-le i ranks (omega arith) in
+    ap (node_lines 0) (sym (take-append-drop i ranks)) ∙ node_lines-append 0 (take i ranks) (drop i ranks)
+    ∙ ap (λ n. node_lines 0 (take i ranks) ++ node_lines n (drop i ranks)) (omega arith)
+    ∙ ap (λ t. node_lines 0 (take i ranks) ++ node_lines i t) (drop-cons ranks i d within)
+
+name_lines-append : (xs ys : List (List ℕ)) → name_lines (xs ++ ys) ≡ name_lines xs ++ name_lines ys
+name_lines-append [] ys = refl
+name_lines-append (x ∷ xs) ys = ap (λ t. line x ++ t) (name_lines-append xs ys) ∙ sym (append_assoc (line x) (name_lines xs) (name_lines ys))
+
+names_of-append : (xs ys : List (Vec ℕ Global)) → names_of (xs ++ ys) ≡ names_of xs ++ names_of ys
+names_of-append xs ys = map-append (λ n. n.items) xs ys
+
+pub name_lines-at : (names : List (Vec ℕ Global)) (i : ℕ) (name : Vec ℕ Global) → i < length names → name ≡ get_or names i name → name_lines (names_of names) ≡ name_lines (names_of (take i names)) ++ (line name.items ++ name_lines (names_of (drop (i + 1) names)))
+name_lines-at names i name within is =
+    ap (λ t. name_lines (names_of t)) (sym (take-append-drop i names)) ∙ ap name_lines (names_of-append (take i names) (drop i names))
+    ∙ name_lines-append (names_of (take i names)) (names_of (drop i names))
+    ∙ ap (λ t. name_lines (names_of (take i names)) ++ name_lines t) (left_cons names i name within is)
+
+pub name_lines-more : (names : List (Vec ℕ Global)) (i : ℕ) (name : Vec ℕ Global) → i < length names → name ≡ get_or names i name → name_lines (names_of (take (i + 1) names)) ≡ name_lines (names_of (take i names)) ++ line name.items
+name_lines-more names i name within is =
+    ap (λ t. name_lines (names_of t)) (take_more names i name within) ∙ ap name_lines (names_of-append (take i names) (get_or names i name ∷ []))
+    ∙ name_lines-append (names_of (take i names)) (names_of (get_or names i name ∷ []))
+    ∙ ap (λ (n : Vec ℕ Global). name_lines (names_of (take i names)) ++ name_lines (n.items ∷ [])) (sym is)
+    ∙ ap (λ t. name_lines (names_of (take i names)) ++ t) (append-nil (line name.items))
+
+pub list_pieces : (word names : List ℕ) (n m : ℕ) → n ≡ m → line (word ++ decimal m) ++ names ≡ word ++ ((decimal n ++ 10 ∷ []) ++ names)
+list_pieces word names n m same =
+    append_assoc (word ++ decimal m) (10 ∷ []) names ∙ append_assoc word (decimal m) (10 ∷ names)
+    ∙ ap (λ t. word ++ t) (sym (append_assoc (decimal m) (10 ∷ []) names) ∙ ap (λ k. (decimal k ++ 10 ∷ []) ++ names) (sym same))
+
+pub length-names_of : (names : List (Vec ℕ Global)) → length names ≡ length (names_of names)
+length-names_of names = sym (length-map names (λ n. n.items))
+
+pub head_pieces : (n : ℕ) → line (codes "sedck 1") ++ line (codes "commands " ++ decimal n) ≡ codes "sedck 1\ncommands " ++ (decimal n ++ 10 ∷ [])
+head_pieces n = refl
+
+pub files_pieces : (reads writes : List (List ℕ)) → files_text reads writes ≡ (line (codes "read " ++ decimal (length reads)) ++ name_lines reads) ++ (line (codes "write " ++ decimal (length writes)) ++ name_lines writes)
+files_pieces reads writes = append_assoc (line (codes "read " ++ decimal (length reads)) ++ name_lines reads) (line (codes "write " ++ decimal (length writes))) (name_lines writes)
+
+abbrev pub head_text : ℕ → List ℕ
+head_text n = line (codes "sedck 1") ++ line (codes "commands " ++ decimal n)
+
+four : (h n f e : List ℕ) → h ++ n ++ f ++ e ≡ h ++ (n ++ (f ++ e))
+four h n f e = simp append_assoc
+
+pub certificate_pieces : (c : Certificate) → certificate_text c ≡ head_text c.commands ++ (node_lines 0 c.ranks ++ (files_text c.reads c.writes ++ line (codes "end")))
+unfolding certificate_text
+certificate_pieces c = four (head_text c.commands) (node_lines 0 c.ranks) (files_text c.reads c.writes) (line (codes "end"))
+
+pub few_ranks : (c : Certificate) (ranks : List (Option (ℕ × ℕ))) → IsCertificate c → ranks ≡ c.ranks → length ranks ≤ 8192
+few_ranks c ranks h is = omega (arith, h.nodes, h.commands, ap length is)
+
+pub few_names : (names : List (Vec ℕ Global)) (list : List (List ℕ)) → AreNames list → names_of names ≡ list → length names ≤ 4095
+few_names names list h is = omega (arith, h.count, ap length is, length-names_of names)
+
+-- the pieces as they are at hand
+pub pieces_at : (c : Certificate) (n : ℕ) (ranks : List (Option (ℕ × ℕ))) (reads writes : List (List ℕ)) → n ≡ c.commands → ranks ≡ c.ranks → reads ≡ c.reads → writes ≡ c.writes → certificate_text c ≡ head_text n ++ (node_lines 0 ranks ++ (files_text reads writes ++ line (codes "end")))
+pieces_at c n ranks reads writes a b d e = certificate_pieces c ∙ (λ i. head_text (sym a i) ++ (node_lines 0 (sym b i) ++ (files_text (sym d i) (sym e i) ++ line (codes "end"))))

@@ -1,0 +1,92 @@
+-- What is taken, piece after piece.
+use Rattle.std.proofs.Common.{◌≡◌, ℕ, ◌+◌, ◌<◌, ◌≤◌, ◌/◌, ◌%◌, ◌^◌, List, [], ◌∷◌, ◌++◌, decimal, Option, Some, None, Result, Ok, Err, OnOk, OnErr, append_assoc, append-nil, sym, ◌∙◌, ap, subst, arith}
+use Rattle.std.specs.Io.KnownBytes.{Appends, Keeps}
+use Rattle.std.proofs.lemmas.Fmt.{decimal_digit, decimal_step}
+use Rattle.sedck_cert.specs.Streams.{AppendsFront}
+
+pub on_err : {A E : Type 0} (r : Result A E) (P : Type 0) → P → OnErr r P
+on_err (Ok x) P h = tt
+on_err (Err e) P h = h
+
+pub on_err_then : {A E : Type 0} (r : Result A E) (P Q : Type 0) → OnErr r P → (P → Q) → OnErr r Q
+on_err_then (Ok x) P Q h f = tt
+on_err_then (Err e) P Q h f = f h
+
+pub on_ok_then : {A E : Type 0} (r : Result A E) (P Q : Type 0) → OnOk r P → (P → Q) → OnOk r Q
+on_ok_then (Ok x) P Q h f = f h
+on_ok_then (Err e) P Q h f = tt
+
+pub appends_none : (a : Option (List ℕ)) → Appends a a []
+appends_none None = tt
+appends_none (Some xs) = sym (append-nil xs)
+
+pub appends_join : (a b c : Option (List ℕ)) (xs ys : List ℕ) → Appends a b xs → Appends b c ys → Appends a c (xs ++ ys)
+appends_join None b c xs ys h k = tt
+appends_join (Some as') None c xs ys h k = absurd h
+appends_join (Some as') (Some bs) None xs ys h k = absurd k
+appends_join (Some as') (Some bs) (Some cs) xs ys h k = k ∙ ap (λ t. t ++ ys) h ∙ append_assoc as' xs ys
+
+pub appends_keeps : (a b c : Option (List ℕ)) (xs : List ℕ) → Appends a b xs → Keeps b c → Appends a c xs
+appends_keeps None b c xs h k = tt
+appends_keeps (Some as') None c xs h k = absurd h
+appends_keeps (Some as') (Some bs) None xs h k = absurd k
+appends_keeps (Some as') (Some bs) (Some cs) xs h k = k ∙ h
+
+-- a front of a longer text
+pub begins_longer : (a b : Option (List ℕ)) (text rest : List ℕ) → AppendsFront a b text → AppendsFront a b (text ++ rest)
+begins_longer a b text rest h = (h.0, (h.1.0 ++ rest, ap (λ t. t ++ rest) h.1.1 ∙ append_assoc h.0 h.1.0 rest), h.2)
+
+-- a front behind what was taken
+pub begins_later : (a b c : Option (List ℕ)) (front text : List ℕ) → Appends a b front → AppendsFront b c text → AppendsFront a c (front ++ text)
+begins_later a b c front text h k = (front ++ k.0, (k.1.0, ap (λ t. front ++ t) k.1.1 ∙ sym (append_assoc front k.0 k.1.0)), appends_join a b c front k.0 h k.2)
+
+-- the decimal of a number with more digits than one
+pub decimal-more : (n : ℕ) → 10 ≤ n → n < 2 ^ 64 → decimal n ≡ decimal (n / 10) ++ (48 + n % 10) ∷ []
+decimal-more n more small = decimal_step n more small
+
+-- a number of one digit, or of more
+pub written_digit : {E : Type 0} (r : Result (Unit {0}) E) (a b : Option (List ℕ)) (n : ℕ) → n < 10 → OnOk r (Appends a b ((48 + n) ∷ [])) → OnOk r (Appends a b (decimal n))
+written_digit r a b n small h = subst (λ t. OnOk r (Appends a b t)) (sym (decimal_digit n small)) h
+
+pub begun_digit : {E : Type 0} (r : Result (Unit {0}) E) (a b : Option (List ℕ)) (n : ℕ) → n < 10 → OnErr r (AppendsFront a b ((48 + n) ∷ [])) → OnErr r (AppendsFront a b (decimal n))
+begun_digit r a b n small h = subst (λ t. OnErr r (AppendsFront a b t)) (sym (decimal_digit n small)) h
+
+pub written_more : {E : Type 0} (r : Result (Unit {0}) E) (a b c : Option (List ℕ)) (n : ℕ) → 10 ≤ n → n < 2 ^ 16 → Appends a b (decimal (n / 10)) → OnOk r (Appends b c ((48 + n % 10) ∷ [])) → OnOk r (Appends a c (decimal n))
+written_more r a b c n more small h k = on_ok_then r (Appends b c ((48 + n % 10) ∷ [])) (Appends a c (decimal n)) k (λ last. subst (Appends a c) (sym (decimal-more n more (omega arith))) (appends_join a b c (decimal (n / 10)) ((48 + n % 10) ∷ []) h last))
+
+pub begun_more : {E : Type 0} (r : Result (Unit {0}) E) (a b c : Option (List ℕ)) (n : ℕ) → 10 ≤ n → n < 2 ^ 16 → Appends a b (decimal (n / 10)) → OnErr r (AppendsFront b c ((48 + n % 10) ∷ [])) → OnErr r (AppendsFront a c (decimal n))
+begun_more r a b c n more small h k = on_err_then r (AppendsFront b c ((48 + n % 10) ∷ [])) (AppendsFront a c (decimal n)) k (λ last. subst (AppendsFront a c) (sym (decimal-more n more (omega arith))) (begins_later a b c (decimal (n / 10)) ((48 + n % 10) ∷ []) h last))
+
+pub begins_digits : (a b : Option (List ℕ)) (n : ℕ) → 10 ≤ n → n < 2 ^ 16 → AppendsFront a b (decimal (n / 10)) → AppendsFront a b (decimal n)
+begins_digits a b n more small h = subst (AppendsFront a b) (sym (decimal-more n more (omega arith))) (begins_longer a b (decimal (n / 10)) ((48 + n % 10) ∷ []) h)
+
+-- the middle piece of a text
+pub begins_at : (a b c : Option (List ℕ)) (front piece rest text : List ℕ) → text ≡ front ++ (piece ++ rest) → Appends a b front → AppendsFront b c piece → AppendsFront a c text
+begins_at a b c front piece rest text is h k = subst (AppendsFront a c) (sym is) (begins_later a b c front (piece ++ rest) h (begins_longer b c piece rest k))
+
+pub begins_first : (a b : Option (List ℕ)) (piece rest text : List ℕ) → text ≡ piece ++ rest → AppendsFront a b piece → AppendsFront a b text
+begins_first a b piece rest text is h = subst (AppendsFront a b) (sym is) (begins_longer a b piece rest h)
+
+-- the last piece
+pub written_last : {E : Type 0} (r : Result (Unit {0}) E) (a b c : Option (List ℕ)) (front piece text : List ℕ) → text ≡ front ++ piece → Appends a b front → OnOk r (Appends b c piece) → OnOk r (Appends a c text)
+written_last r a b c front piece text is h k = on_ok_then r (Appends b c piece) (Appends a c text) k (λ last. subst (Appends a c) (sym is) (appends_join a b c front piece h last))
+
+pub begun_last : {E : Type 0} (r : Result (Unit {0}) E) (a b c : Option (List ℕ)) (front piece text : List ℕ) → text ≡ front ++ piece → Appends a b front → OnErr r (AppendsFront b c piece) → OnErr r (AppendsFront a c text)
+begun_last r a b c front piece text is h k = on_err_then r (AppendsFront b c piece) (AppendsFront a c text) k (λ last. subst (AppendsFront a c) (sym is) (begins_later a b c front piece h last))
+
+-- the last of three pieces
+pub written_third : {E : Type 0} (r : Result (Unit {0}) E) (a b c d : Option (List ℕ)) (p q s text : List ℕ) → text ≡ p ++ (q ++ s) → Appends a b p → Appends b c q → OnOk r (Appends c d s) → OnOk r (Appends a d text)
+written_third r a b c d p q s text is h k l = written_last r a c d (p ++ q) s text (is ∙ sym (append_assoc p q s)) (appends_join a b c p q h k) l
+
+pub begun_third : {E : Type 0} (r : Result (Unit {0}) E) (a b c d : Option (List ℕ)) (p q s text : List ℕ) → text ≡ p ++ (q ++ s) → Appends a b p → Appends b c q → OnErr r (AppendsFront c d s) → OnErr r (AppendsFront a d text)
+begun_third r a b c d p q s text is h k l = begun_last r a c d (p ++ q) s text (is ∙ sym (append_assoc p q s)) (appends_join a b c p q h k) l
+
+-- the third of four pieces, and the last
+pub begins_third : (a b c d : Option (List ℕ)) (p q s rest text : List ℕ) → text ≡ p ++ (q ++ (s ++ rest)) → Appends a b p → Appends b c q → AppendsFront c d s → AppendsFront a d text
+begins_third a b c d p q s rest text is h k l = begins_at a c d (p ++ q) s rest text (is ∙ sym (append_assoc p q (s ++ rest))) (appends_join a b c p q h k) l
+
+pub written_fourth : {E : Type 0} (r : Result (Unit {0}) E) (a b c d e : Option (List ℕ)) (p q s u text : List ℕ) → text ≡ p ++ (q ++ (s ++ u)) → Appends a b p → Appends b c q → Appends c d s → OnOk r (Appends d e u) → OnOk r (Appends a e text)
+written_fourth r a b c d e p q s u text is h k l m = written_third r a c d e (p ++ q) s u text (is ∙ sym (append_assoc p q (s ++ u))) (appends_join a b c p q h k) l m
+
+pub begun_fourth : {E : Type 0} (r : Result (Unit {0}) E) (a b c d e : Option (List ℕ)) (p q s u text : List ℕ) → text ≡ p ++ (q ++ (s ++ u)) → Appends a b p → Appends b c q → Appends c d s → OnErr r (AppendsFront d e u) → OnErr r (AppendsFront a e text)
+begun_fourth r a b c d e p q s u text is h k l m = begun_third r a c d e (p ++ q) s u text (is ∙ sym (append_assoc p q (s ++ u))) (appends_join a b c p q h k) l m

@@ -1,0 +1,12 @@
+use Rattle.std.proofs.Common.{◌≡◌, ◌↔◌, ◌+◌, ◌≤◌, [], drop}
+use Rattle.sedck_script.specs.Names.{names_size}
+use Rattle.sedck_cert.specs.View.{names_of}
+use Rattle.sedck_cert.specs.Reading.{AreNext, one_before}
+use Rattle.sedck_cert.proofs.certificate.size_with.Given as goal
+
+-- all are names where those that are left are, behind the one before
+abbrev pub invariant-loop-name : goal.invariant-loop-name
+invariant-loop-name l =
+    (AreNext [] (names_of l.names) l.fn.size ↔ AreNext (one_before l.before) (names_of (drop l.name-index l.names)) l.size)
+    × (l.size + names_size (names_of (drop l.name-index l.names)) ≡ l.fn.size + names_size (names_of l.names))
+    × (l.size ≤ 1048576)

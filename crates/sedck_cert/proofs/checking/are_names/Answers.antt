@@ -1,0 +1,42 @@
+use Rattle.std.proofs.Common.{◌≡◌, ℕ, ◌<◌, List, [], length, refl, sym, ap, ◌∙◌, below_more, arith, get_or}
+use Rattle.std.specs.Prelude.{map, Vec}
+use Rattle.std.specs.Borrow.{Bor}
+use Rattle.std.specs.declared.alloc.Global.{Global}
+use Rattle.std.proofs.lemmas.List.{get_or-map, length-map, ext_get_or}
+use Rattle.sedck_cert.specs.View.{names_of}
+use Rattle.sedck_cert.proofs.checking.are_names.Goals as goal
+
+name_at : (names : List (Bor (List ℕ))) (k : ℕ) (d : Bor (List ℕ)) → k < length names → get_or (map (λ name. name.now) names) k [] ≡ (get_or names k d).now
+name_at names k d below = get_or-map (λ (name : Bor (List ℕ)). name.now) names k d [] below
+
+listed_at : (listed : List (Vec ℕ Global)) (k : ℕ) (d : Vec ℕ Global) → k < length listed → get_or (names_of listed) k [] ≡ (get_or listed k d).items
+listed_at listed k d below = get_or-map (λ (name : Vec ℕ Global). name.items) listed k d [] below
+
+no_name : Bor (List ℕ)
+no_name = record { ref_ptr = (0, 0); now = [] }
+
+-- the listed name and the script's name at this place
+both_at : (names : List (Bor (List ℕ))) (listed : List (Vec ℕ Global)) (k : ℕ) (v : Vec ℕ Global) (d : Bor (List ℕ)) (w : List ℕ) → k < length names → k < length listed → v ≡ get_or listed k v → w ≡ v.items
+    → (get_or (names_of listed) k [] ≡ w) × (get_or (map (λ name. name.now) names) k [] ≡ (get_or names k d).now)
+both_at names listed k v d w below within is value = (listed_at listed k v within ∙ ap (λ (x : Vec ℕ Global). x.items) (sym is) ∙ sym value, name_at names k d below)
+
+pub returns-then-not-is_name : goal.returns-then-not-is_name
+returns-then-not-is_name c =
+    let below : c.loop-index.index < length c.args.names.now = omega arith in
+    let within : c.loop-index.index < length c.args.listed.now = omega arith in
+    let both = both_at c.args.names.now c.args.listed.now c.loop-index.index c.index-listed-index.result _ c.as_slice.result.now below within c.index-listed-index.is c.as_slice.ensures.value in
+    (λ e. cc, λ same. c.if-not-is_name.ensures.1 (sym both.0 ∙ ap (λ l. get_or l c.loop-index.index []) same ∙ both.1))
+
+pub loop-index-preserved : goal.loop-index-preserved
+loop-index-preserved c =
+    let below : c.loop-index.index < length c.args.names.now = omega arith in
+    let within : c.loop-index.index < length c.args.listed.now = omega arith in
+    let both = both_at c.args.names.now c.args.listed.now c.loop-index.index c.index-listed-index.result _ c.as_slice.result.now below within c.index-listed-index.is c.as_slice.ensures.value in
+    below_more _ _ c.loop-index.invariant (both.0 ∙ c.is_name.ensures.0 c.if-not-is_name.false ∙ sym both.1)
+
+pub returns : goal.returns
+returns c = (
+  λ _. ext_get_or [] _ _ (length-map c.args.listed.now _ ∙ sym c.if-names-listed.false ∙ sym (length-map c.args.names.now _))
+      (λ k below. let h : k < c.loop-index.index = omega (arith, below, length-map c.args.listed.now (λ name. name.items)) in c.loop-index.invariant k h),
+  λ _. refl,
+)

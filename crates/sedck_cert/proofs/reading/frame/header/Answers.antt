@@ -1,0 +1,7 @@
+use Rattle.std.proofs.Common.{refl}
+use Rattle.sedck_cert.specs.Faults.{Header}
+use Rattle.sedck_cert.proofs.Leads.{wrong_word, stops_here}
+use Rattle.sedck_cert.proofs.reading.frame.header.Goals as goal
+
+pub returns-else-next_is-clause-refused : goal.returns-else-next_is-clause-refused
+returns-else-next_is-clause-refused c = stops_here Header _ _ (wrong_word Header _ _ (λ text next due. due.0) c.if-next_is.ensures.other) refl

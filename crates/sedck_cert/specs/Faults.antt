@@ -1,0 +1,113 @@
+-- Which fault a text that is no certificate's gets: that of the first line that isn't what is due there, after the lines before it.
+use Rattle.std.specs.Prelude.{◌≡◌, ℕ, zero, suc, ◌+◌, ◌*◌, ◌<◌, ◌≤◌, List, [], ◌∷◌, ◌++◌, length, Option, Some, None, ◌==◌, count_by, decimal, codes}
+use Rattle.sedck_bre.specs.Bytes.{newline}
+use Rattle.sedck_script.specs.Names.{IsName, IsBefore}
+use Rattle.sedck_cert.specs.Certificate.{AreWithin}
+use Rattle.sedck_cert.specs.Text.{line, node_text, IsOneLine}
+use Rattle.sedck_cert.specs.declared.reading.names.Files.{Files}
+use Rattle.sedck_cert.specs.declared.reading.names.Files.TheVariants.{Reads, Writes}
+use Rattle.sedck_cert.specs.declared.reading.CertFault.{CertFault}
+use Rattle.sedck_cert.specs.declared.reading.CertFault.TheVariants.{BadHeader, BadCount, BadNode, BadNames, BadEnd, OutOfMemory}
+
+-- what is due next
+pub data Due : Type 0 where
+  Header : Due
+  Count : Due
+  -- the line of this node, and so many nodes behind it
+  Node : ℕ → ℕ → Due
+  -- the count of a list, where the names so far have this many bytes with their newlines
+  Names : Files → ℕ → Due
+  -- so many names of the list, of which the last one before them is given, and the bytes so far
+  Name : Files → ℕ → List (List ℕ) → ℕ → Due
+  Last : Due
+  Nothing : Due
+
+-- a rising name after the one before, if there is one
+abbrev pub Rises : List (List ℕ) → List ℕ → Type 0
+Rises [] name = Unit {0}
+Rises (before ∷ more) name = IsBefore before name
+
+-- behind a list comes the other one, or the end
+abbrev pub after_list : Files → ℕ → Due
+after_list Reads size = Names Writes size
+after_list Writes size = Last
+
+abbrev pub after_count : Files → ℕ → ℕ → Due
+after_count files zero size = after_list files size
+after_count files (suc left) size = Name files (suc left) [] size
+
+abbrev pub after_name : Files → ℕ → List ℕ → ℕ → Due
+after_name files zero name size = after_list files size
+after_name files (suc left) name size = Name files (suc left) (name ∷ []) size
+
+abbrev pub after_node : ℕ → ℕ → Due
+after_node node zero = Names Reads 0
+after_node node (suc left) = Node (suc node) left
+
+abbrev pub list_word : Files → List ℕ
+list_word Reads = codes "read "
+list_word Writes = codes "write "
+
+-- the line, without its newline, is what is due, and what is due next
+abbrev pub IsDue : Due → List ℕ → Due → Type 0
+IsDue Header text next = (text ≡ codes "sedck 1") × (next ≡ Count)
+IsDue Count text next = (n : ℕ) × (n ≤ 4095) × (text ≡ codes "commands " ++ decimal n) × (next ≡ Node 0 (2 * n + 1))
+IsDue (Node node left) text next =
+    (ranks : Option (ℕ × ℕ)) × AreWithin ranks × (text ≡ node_text node ranks) × (next ≡ after_node node left)
+IsDue (Names files size) text next = (n : ℕ) × (n ≤ 4095) × (text ≡ list_word files ++ decimal n) × (next ≡ after_count files n size)
+IsDue (Name files zero before size) text next = ⊥
+IsDue (Name files (suc left) before size) text next =
+    IsName text × Rises before text × (size + length text + 1 ≤ 1048576) × (next ≡ after_name files left text (size + length text + 1))
+IsDue Last text next = (text ≡ codes "end") × (next ≡ Nothing)
+IsDue Nothing text next = ⊥
+
+-- these lines are what is due, one after another
+abbrev pub AreDue : Due → List (List ℕ) → Due → Type 0
+AreDue due [] next = next ≡ due
+AreDue due (text ∷ more) next = IsOneLine text × (mid : Due) × IsDue due text mid × AreDue mid more next
+
+-- the rest of the text doesn't begin with a line that is due
+abbrev pub IsWrong : Due → List ℕ → Type 0
+IsWrong due rest = (text more : List ℕ) (next : Due) → rest ≡ line text ++ more → IsOneLine text → ¬ IsDue due text next
+
+-- the fault at a line
+abbrev pub fault_at : Due → ℕ → CertFault
+fault_at Header n = BadHeader n
+fault_at Count n = BadCount n
+fault_at (Node node left) n = BadNode n
+fault_at (Names files size) n = BadNames n
+fault_at (Name files left before size) n = BadNames n
+fault_at Last n = BadEnd n
+fault_at Nothing n = BadEnd n
+
+abbrev pub joined_lines : List (List ℕ) → List ℕ
+joined_lines [] = []
+joined_lines (text ∷ more) = line text ++ joined_lines more
+
+-- where nothing is due, the text ends
+abbrev pub IsRefused : Due → List ℕ → Type 0
+IsRefused Nothing rest = 0 < length rest
+IsRefused due rest = IsWrong due rest
+
+-- the line of a fault, if it has one
+abbrev pub line_of : CertFault → Option ℕ
+line_of (BadHeader n) = Some n
+line_of (BadCount n) = Some n
+line_of (BadNode n) = Some n
+line_of (BadNames n) = Some n
+line_of (BadEnd n) = Some n
+line_of OutOfMemory = None
+
+-- the line is one of the text, or the one behind its last newline
+abbrev pub IsLineOf : List ℕ → ℕ → Type 0
+IsLineOf text n = (1 ≤ n) × (n ≤ count_by (λ b. b == newline) text + 1)
+
+-- the fault of a text that is no certificate's
+pub record IsFaultOf (text : List ℕ) (fault : CertFault) : Type 0 where
+  pub before : List (List ℕ)
+  pub rest : List ℕ
+  pub due : Due
+  pub is_text : text ≡ joined_lines before ++ rest
+  pub are_due : AreDue Header before due
+  pub is_refused : IsRefused due rest
+  pub is_fault : fault ≡ fault_at due (suc (length before))

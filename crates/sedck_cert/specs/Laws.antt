@@ -1,0 +1,28 @@
+-- What is proved of certificates and runs alone.
+use Rattle.std.specs.Prelude.{ℕ, ◌+◌, ◌*◌, ◌≤◌, List, length}
+use Rattle.sedck_script.specs.Invariant.{AreWellFormed}
+use Rattle.sedck_script.specs.Program.{Program}
+use Rattle.sedck_script.specs.Names.{reads, writes}
+use Rattle.sedck_flow.specs.Run.{State, Event, Run, NamesForReading, NamesForWriting}
+use Rattle.sedck_cert.specs.Certificate.{Certificate}
+use Rattle.sedck_cert.specs.Ranked.{IsRanked, IsSteady, ListsNames}
+use Rattle.sedck_cert.specs.StepLimit.{greatest_first, greatest_second, step_limit}
+use Rattle.sedck_flow.specs.Spaces.{bytes_of}
+
+-- the sorted names of a script are a list of just the names that its commands name
+abbrev pub NamesAreListed : Type 0
+NamesAreListed = (p : Program) → ListsNames (reads p) (NamesForReading p) × ListsNames (writes p) (NamesForWriting p)
+
+-- no run of a ranked script has more steps than its limit
+abbrev pub RanksBoundRuns : Type 0
+RanksBoundRuns = (p : Program) → AreWellFormed p → (c : Certificate) → IsRanked p c
+    → (lines : List (List ℕ)) (steps : List (Event × State)) → Run p lines steps → length steps ≤ step_limit p c lines
+
+-- the steps that a steady script takes at most, by the bytes and the number of the lines
+abbrev pub steady_limit : Certificate → List (List ℕ) → ℕ
+steady_limit c lines = (greatest_second c.ranks + 1) * (bytes_of lines + (greatest_first c.ranks + 2) * length lines + 1)
+
+-- no run of a steady script has more steps
+abbrev pub SteadyRunsAreCounted : Type 0
+SteadyRunsAreCounted = (p : Program) → AreWellFormed p → (c : Certificate) → IsSteady p c
+    → (lines : List (List ℕ)) (steps : List (Event × State)) → Run p lines steps → length steps ≤ steady_limit c lines

@@ -1,0 +1,133 @@
+//! A certificate, as the program holds it.
+
+ghost use Rattle.std.specs.Prelude.{◌≡◌, ◌↔◌, ◌+◌, ◌≤◌, All, IsSome, IfSome, MatchOption};
+ghost use Rattle.sedck_script.specs.Names.{AreNames, names_size};
+ghost use Rattle.sedck_cert.specs.Certificate.{IsCertificate, AreWithin};
+ghost use Rattle.sedck_cert.specs.View.{names_of, certificate_of};
+
+use crate::reading::{NAMES_LIMIT, is_next_name};
+use std::marker::Model;
+
+/// A certificate for a script.
+#[derive(Drop)]
+pub struct Cert {
+    commands: u16,
+    ranks: Vec<Option<(u16, u16)>>,
+    reads: Vec<Vec<u8>>,
+    writes: Vec<Vec<u8>>,
+}
+
+impl Model for Cert {
+    ghost use Rattle.sedck_cert.specs.Certificate.{Certificate};
+
+    ghost Value = { Certificate };
+
+    ghost use Rattle.sedck_cert.specs.View.{shown, IsGood};
+
+    ghost view = { shown };
+
+    ghost invariant = { IsGood };
+}
+
+impl Cert {
+    /// The certificate of these parts, where their counts and names are within the limits. It takes no memory.
+    pub fn new(
+        commands: u16,
+        ranks: Vec<Option<(u16, u16)>>,
+        reads: Vec<Vec<u8>>,
+        writes: Vec<Vec<u8>>,
+    ) -> Option<Cert>
+        ensures within { IsSome result ↔ IsCertificate (certificate_of commands ranks reads writes) }
+        ensures same { IfSome result (λ cert. cert ≡ certificate_of commands ranks reads writes) }
+    {
+        if commands > 4095 || ranks.len() != 2 * (commands as usize + 1) {
+            return None;
+        }
+        know_limits(&ranks);
+        let size = size_with(&reads, 0)?;
+        size_with(&writes, size)?;
+        Some(Cert::of_parts(commands, ranks, reads, writes))
+    }
+
+    /// The certificate of these parts.
+    pub(crate) fn of_parts(
+        commands: u16,
+        ranks: Vec<Option<(u16, u16)>>,
+        reads: Vec<Vec<u8>>,
+        writes: Vec<Vec<u8>>,
+    ) -> Cert
+        requires { IsCertificate (certificate_of commands ranks reads writes) }
+        ensures { result ≡ certificate_of commands ranks reads writes }
+    {
+        Cert {
+            commands,
+            ranks,
+            reads,
+            writes,
+        }
+    }
+
+    /// The number of commands of the script.
+    pub fn commands(&self) -> u16
+        ensures { result ≡ self.now.commands }
+    {
+        self.commands
+    }
+
+    /// The ranks of each node, by place and then flag.
+    pub fn ranks(&self) -> &[Option<(u16, u16)>]
+        ensures ranks { result.now ≡ self.now.ranks }
+        ensures certificate { IsCertificate self.now }
+    {
+        &self.ranks
+    }
+
+    /// The names of the files that the script reads.
+    pub fn reads(&self) -> &[Vec<u8>]
+        ensures { names_of result.now ≡ self.now.reads }
+    {
+        &self.reads
+    }
+
+    /// The names of the files that the script writes.
+    pub fn writes(&self) -> &[Vec<u8>]
+        ensures { names_of result.now ≡ self.now.writes }
+    {
+        &self.writes
+    }
+}
+
+/// The bytes with those of these names, where they are names and within the limits.
+fn size_with(names: &[Vec<u8>], mut size: usize) -> Option<usize>
+    requires { size ≤ NAMES_LIMIT }
+    ensures { MatchOption result (AreNames (names_of names.now) → size + names_size (names_of names.now) ≤ NAMES_LIMIT → ⊥) (λ end. AreNames (names_of names.now) × (end ≡ size + names_size (names_of names.now)) × (end ≤ NAMES_LIMIT)) }
+{
+    if names.len() > 4095 {
+        return None;
+    }
+    let mut before = None;
+    for name in names {
+        if !is_next_name(before, name, size) {
+            return None;
+        }
+        size += name.len() + 1;
+        before = Some(name.as_slice());
+    }
+    Some(size)
+}
+
+/// All ranks are within the limit: their type sees to that, and this says it.
+fn know_limits(ranks: &[Option<(u16, u16)>])
+    ensures { All AreWithin ranks.now }
+{
+    for pair in ranks {
+        if let Some((first, second)) = *pair {
+            know_limit(first);
+            know_limit(second);
+        }
+    }
+}
+
+fn know_limit(_rank: u16)
+    ensures { _rank ≤ 65535 }
+{}

@@ -1,0 +1,18 @@
+//! What is proved of certificates and runs alone. The functions do nothing: their contracts are the laws.
+
+ghost use Rattle.sedck_cert.specs.Laws.{NamesAreListed, RanksBoundRuns, SteadyRunsAreCounted};
+
+/// The sorted names of a script are a list of just the names that its commands name.
+pub fn names_are_listed()
+    ensures { NamesAreListed }
+{}
+
+/// No run of a ranked script has more steps than a number that the script, the ranks and the input give.
+pub fn ranks_bound_runs()
+    ensures { RanksBoundRuns }
+{}
+
+/// No run of a steady script has more steps than its limit, which grows with the input's bytes and lines alone.
+pub fn steady_runs_are_counted()
+    ensures { SteadyRunsAreCounted }
+{}

@@ -1,0 +1,141 @@
+//! From a text to its certificate.
+
+ghost use Rattle.std.specs.Prelude.{◌≡◌, ◌⊎◌, IfOk, IfErr, IfSome, Some};
+ghost use Rattle.sedck_cert.specs.Certificate.{Certificate};
+ghost use Rattle.sedck_cert.specs.Text.{IsTextOf};
+ghost use Rattle.sedck_cert.specs.Faults.{IsFaultOf, IsLineOf, line_of};
+ghost use Rattle.sedck_cert.specs.FaultText.{number_of, name_of, fault_text};
+ghost use Rattle.sedck_cert.specs.declared.reading.CertFault.TheVariants.{OutOfMemory};
+
+mod frame;
+mod lines;
+mod names;
+mod nodes;
+mod numbers;
+#[cfg(test)]
+mod tests;
+
+use self::frame::{command_count, ending, header};
+use self::lines::Lines;
+use self::names::{Files, names};
+pub use self::names::{NAMES_LIMIT, is_next_name};
+use self::nodes::nodes;
+use crate::certificate::Cert;
+use std::alloc::{AllocError, AllocFailed, Global};
+use std::fmt;
+
+/// Why a text is no certificate's, and at which line, counted from 1.
+#[derive(Clone, Copy, Debug, PartialEq, Eq, Drop)]
+pub enum CertFault {
+    /// The first line isn't `sedck 1`.
+    BadHeader { line: usize },
+    /// The second line isn't the number of commands, at most 4095, in its one spelling.
+    BadCount { line: usize },
+    /// The line isn't the next node's in its one spelling, with ranks of at most 65535.
+    BadNode { line: usize },
+    /// The line isn't the count of a list, at most 4095, or the next name, rising and within the limit on bytes.
+    BadNames { line: usize },
+    /// The line isn't `end`, or something stands behind it: then the line is the one after.
+    BadEnd { line: usize },
+    /// A growth was refused.
+    OutOfMemory,
+}
+
+impl CertFault {
+    /// The number that is printed, and kept for ever: users and scripts compare it.
+    pub fn number(self) -> u8
+        ensures { result ≡ number_of self }
+    {
+        match self {
+            CertFault::BadHeader { .. } => 1,
+            CertFault::BadCount { .. } => 2,
+            CertFault::BadNode { .. } => 3,
+            CertFault::BadNames { .. } => 4,
+            CertFault::BadEnd { .. } => 5,
+            CertFault::OutOfMemory => 6,
+        }
+    }
+
+    /// The name that is printed beside the number.
+    pub fn name(self) -> &'static str
+        ensures { result.now ≡ name_of self }
+    {
+        match self {
+            CertFault::BadHeader { .. } => "bad-header",
+            CertFault::BadCount { .. } => "bad-count",
+            CertFault::BadNode { .. } => "bad-node",
+            CertFault::BadNames { .. } => "bad-names",
+            CertFault::BadEnd { .. } => "bad-end",
+            CertFault::OutOfMemory => "out-of-memory",
+        }
+    }
+
+    /// The line, counted from 1. Want of memory has none.
+    pub fn line(self) -> Option<usize>
+        ensures { result ≡ line_of self }
+    {
+        match self {
+            CertFault::BadHeader { line }
+            | CertFault::BadCount { line }
+            | CertFault::BadNode { line }
+            | CertFault::BadNames { line }
+            | CertFault::BadEnd { line } => Some(line),
+            CertFault::OutOfMemory => None,
+        }
+    }
+}
+
+impl fmt::Display for CertFault {
+    ghost output = { λ fault. Some (fault_text fault) };
+
+    fn fmt<W: fmt::Write>(&self, f: &mut fmt::Formatter<W>) -> fmt::Result {
+        write!(f, "fault {} {}", self.number(), self.name())?;
+        match self.line() {
+            None => Ok(()),
+            Some(line) => write!(f, " at line {line}"),
+        }
+    }
+}
+
+impl From<AllocError> for CertFault {
+    ghost from_gives = { λ _ e. e ≡ OutOfMemory };
+
+    fn from(_e: AllocError) -> CertFault {
+        CertFault::OutOfMemory
+    }
+}
+
+impl<T: Drop> From<AllocFailed<T>> for CertFault {
+    ghost from_gives = { λ _ e. e ≡ OutOfMemory };
+
+    fn from(_e: AllocFailed<T>) -> CertFault {
+        CertFault::OutOfMemory
+    }
+}
+
+/// Reads a certificate.
+pub fn read_cert(alloc: Global, text: &[u8]) -> Result<Cert, CertFault>
+    // What is read is the certificate whose text stands there, and no other has that text.
+    ensures read { IfOk result (IsTextOf text.now) }
+    ensures only { IfOk result (λ cert. (other : Certificate) → IsTextOf text.now other → other ≡ cert) }
+    // Unless memory runs out, a text is refused only where it is no certificate's, by the fault of its first wrong line.
+    ensures refused { IfErr result (λ fault. fault ≡ CertFault.OutOfMemory
+        ⊎ (((other : Certificate) → ¬ IsTextOf text.now other) × IsFaultOf text.now fault)) }
+    ensures placed { IfErr result (λ fault. IfSome (line_of fault) (IsLineOf text.now)) }
+{
+    read_lines(alloc, text)
+}
+
+fn read_lines(alloc: Global, text: &[u8]) -> Result<Cert, CertFault>
+    ensures read { IfOk result (IsTextOf text.now) }
+    ensures refused { IfErr result (λ fault. (fault ≡ CertFault.OutOfMemory) ⊎ IsFaultOf text.now fault) }
+{
+    let mut lines = Lines::new(text);
+    header(&mut lines)?;
+    let commands = command_count(&mut lines)?;
+    let ranks = nodes(alloc, &mut lines, commands)?;
+    let (reads, size) = names(alloc, &mut lines, Files::Reads, 0)?;
+    let (writes, _) = names(alloc, &mut lines, Files::Writes, size)?;
+    ending(&mut lines)?;
+    Ok(Cert::of_parts(commands, ranks, reads, writes))
+}

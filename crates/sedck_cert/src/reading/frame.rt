@@ -1,0 +1,68 @@
+//! The lines in front of the nodes, and the last one.
+
+ghost use Rattle.std.specs.Prelude.{◌≡◌, ◌++◌, ◌≤◌, ◌+◌, ◌*◌, ℕ, List, [], ◌∷◌, MatchOption, IfOk, IfErr, OnOk, decimal, codes};
+ghost use Rattle.std.specs.Bool.{OnTrue, OnFalse};
+ghost use Rattle.sedck_bre.specs.Bytes.{newline};
+ghost use Rattle.sedck_cert.specs.Cuts.{IsCut};
+ghost use Rattle.sedck_cert.specs.Faults.{Header, Count, Node, Last, Nothing};
+ghost use Rattle.sedck_cert.specs.Reading.{IsNext, Leads, Stops};
+
+use super::CertFault;
+use super::lines::Lines;
+use super::numbers::count;
+
+/// The line `sedck 1`.
+pub fn header(lines: &mut Lines) -> Result<(), CertFault>
+    ensures read { OnOk result (Leads Header lines.old (codes "sedck 1" ∷ []) lines.new Count) }
+    ensures refused { IfErr result (Stops Header lines.old) }
+{
+    let line = lines.number;
+    if next_is(lines, b"sedck 1") {
+        Ok(())
+    } else {
+        Err(CertFault::BadHeader { line })
+    }
+}
+
+/// The number of commands.
+pub fn command_count(lines: &mut Lines) -> Result<u16, CertFault>
+    ensures read { IfOk result (λ n. (n ≤ 4095) × Leads Count lines.old ((codes "commands " ++ decimal n) ∷ []) lines.new (Node 0 (2 * n + 1))) }
+    ensures refused { IfErr result (Stops Count lines.old) }
+{
+    let line = lines.number;
+    next_count(lines, b"commands ").ok_or(CertFault::BadCount { line })
+}
+
+/// The line `end`, with nothing behind it.
+pub fn ending(lines: &mut Lines) -> Result<(), CertFault>
+    ensures read { OnOk result (Leads Last lines.old (codes "end" ∷ []) lines.new Nothing) }
+    ensures last { OnOk result (lines.new.rest.now ≡ []) }
+    ensures refused { IfErr result (Stops Last lines.old) }
+{
+    let line = lines.number;
+    if !next_is(lines, b"end") {
+        return Err(CertFault::BadEnd { line });
+    }
+    if !lines.rest.is_empty() {
+        return Err(CertFault::BadEnd { line: lines.number });
+    }
+    Ok(())
+}
+
+/// Whether the next line is this text.
+fn next_is(lines: &mut Lines, text: &[u8]) -> bool
+    ensures same { OnTrue result (IsNext lines.old text.now lines.new) }
+    ensures other { OnFalse result ((more : List ℕ) → IsCut newline lines.old.rest.now text.now more → ⊥) }
+{
+    match lines.next() {
+        Some(line) => line == text,
+        None => false,
+    }
+}
+
+/// The number behind the word in the next line.
+pub fn next_count(lines: &mut Lines, word: &[u8]) -> Option<u16>
+    ensures { MatchOption result ((n : ℕ) → n ≤ 4095 → (more : List ℕ) → IsCut newline lines.old.rest.now (word.now ++ decimal n) more → ⊥) (λ n. (n ≤ 4095) × IsNext lines.old (word.now ++ decimal n) lines.new) }
+{
+    count(lines.next()?, word)
+}

@@ -1,0 +1,120 @@
+//! The lists of names.
+
+ghost use Rattle.std.specs.Prelude.{◌≡◌, ◌⊎◌, ◌↔◌, ◌+◌, ◌≤◌, ◌++◌, decimal, ℕ, suc, List, [], ◌∷◌, length, Contains, Option, IfOk, IfErr, IsTrue};
+ghost use Rattle.sedck_script.specs.Names.{IsName};
+ghost use Rattle.sedck_cert.specs.View.{names_of};
+ghost use Rattle.sedck_cert.specs.Faults.{Names, Name, Rises, list_word, after_list, after_name};
+ghost use Rattle.sedck_cert.specs.Reading.{Leads, Stops, list_texts, names_due, one_before};
+
+use super::CertFault;
+use super::frame::next_count;
+use super::lines::Lines;
+use std::alloc::Global;
+
+/// The most bytes that the names of both lists take, with a newline each.
+pub const NAMES_LIMIT: usize = 1_048_576;
+
+/// Which of the two lists of files.
+#[derive(Clone, Copy)]
+pub enum Files {
+    Reads,
+    Writes,
+}
+
+impl Files {
+    /// What stands before the count of the list.
+    fn word(self) -> &'static [u8]
+        ensures { result.now ≡ list_word self }
+    {
+        match self {
+            Files::Reads => b"read ",
+            Files::Writes => b"write ",
+        }
+    }
+}
+
+/// The names of the list, and the bytes of all names so far.
+pub fn names(
+    alloc: Global,
+    lines: &mut Lines,
+    files: Files,
+    mut size: usize,
+) -> Result<(Vec<Vec<u8>>, usize), CertFault>
+    requires { size ≤ NAMES_LIMIT }
+    ensures read { IfOk result (λ r. Leads (Names files size) lines.old (list_texts files (names_of r.0.items)) lines.new (after_list files r.1)) }
+    ensures within { IfOk result (λ r. r.1 ≤ NAMES_LIMIT) }
+    ensures count { IfOk result (λ r. length r.0.items ≤ 4095) }
+    ensures refused { IfErr result (λ fault. (fault ≡ CertFault.OutOfMemory) ⊎ Stops (Names files size) lines.old fault) }
+{
+    let count = usize::from(list_count(lines, files)?);
+    let mut names = Vec::with_capacity(alloc, count)?;
+    let mut before = None;
+    while names.len() < count {
+        let name = name_line(lines, before, size)?;
+        size += name.len() + 1;
+        names.push(Vec::from_slice(alloc, name)?)?;
+        before = Some(name);
+    }
+    Ok((names, size))
+}
+
+/// How many names the list has.
+fn list_count(lines: &mut Lines, files: Files) -> Result<u16, CertFault>
+    ensures limit { IfOk result (λ n. n ≤ 4095) }
+    ensures read { IfOk result (λ n. (size : ℕ) → Leads (Names files size) lines.old ((list_word files ++ decimal n) ∷ []) lines.new (names_due files n [] size)) }
+    ensures refused { IfErr result (λ fault. (size : ℕ) → Stops (Names files size) lines.old fault) }
+{
+    let line = lines.number;
+    next_count(lines, files.word()).ok_or(CertFault::BadNames { line })
+}
+
+/// The name in the next line, where names of so many bytes came before it.
+fn name_line<'a>(
+    lines: &mut Lines<'a>,
+    before: Option<&[u8]>,
+    size: usize,
+) -> Result<&'a [u8], CertFault>
+    requires { size ≤ NAMES_LIMIT }
+    ensures within { IfOk result (λ name. size + length name.now + 1 ≤ NAMES_LIMIT) }
+    ensures read { IfOk result (λ name. (files : Files) (left : ℕ) → Leads (Name files (suc left) (one_before before.entry) size) lines.old (name.now ∷ []) lines.new (after_name files left name.now (size + length name.now + 1))) }
+    ensures refused { IfErr result (λ fault. (files : Files) (left : ℕ) → Stops (Name files (suc left) (one_before before.entry) size) lines.old fault) }
+{
+    let fault = CertFault::BadNames { line: lines.number };
+    let Some(name) = lines.next() else {
+        return Err(fault);
+    };
+    if is_next_name(before, name, size) {
+        Ok(name)
+    } else {
+        Err(fault)
+    }
+}
+
+/// Whether the name may stand behind the one before, where names of so many bytes came before it.
+pub fn is_next_name(before: Option<&[u8]>, name: &[u8], size: usize) -> bool
+    requires { size ≤ NAMES_LIMIT }
+    ensures { IsTrue result ↔ (IsName name.now × Rises (one_before before.entry) name.now × (size + length name.now + 1 ≤ NAMES_LIMIT)) }
+{
+    is_name(name) && rises(before, name) && name.len() < NAMES_LIMIT - size
+}
+
+fn is_name(name: &[u8]) -> bool
+    ensures { IsTrue result ↔ IsName name.now }
+{
+    !name.is_empty() && !has(name, b'\n') && !has(name, 0)
+}
+
+fn has(text: &[u8], byte: u8) -> bool
+    ensures { IsTrue result ↔ Contains text.now byte }
+{
+    text.contains(&byte)
+}
+
+fn rises(before: Option<&[u8]>, name: &[u8]) -> bool
+    ensures { IsTrue result ↔ Rises (one_before before.entry) name.now }
+{
+    match before {
+        None => true,
+        Some(before) => before.cmp(name).is_lt(),
+    }
+}

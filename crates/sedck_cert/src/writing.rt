@@ -1,0 +1,137 @@
+//! From a certificate to its text.
+
+ghost use Rattle.std.specs.Prelude.{◌≡◌, ◌++◌, ◌≤◌, ◌∷◌, [], ◌/◌, ◌%◌, length, OnOk, OnErr, decimal, codes, ℕ, List};
+ghost use Rattle.std.specs.Io.KnownBytes.{Appends};
+ghost use Rattle.sedck_cert.specs.Streams.{TellsFailure, IsFrontOf, AppendsFront};
+ghost use Rattle.sedck_cert.specs.Text.{line, ranks_text, node_text, node_lines, name_lines, files_text, certificate_text};
+ghost use Rattle.sedck_cert.specs.View.{names_of};
+
+use crate::certificate::Cert;
+use crate::streams::{Failed, Sink, write_all};
+
+/// Writes the certificate's text. It takes no memory.
+pub fn write_cert<W: Sink>(cert: &Cert, out: &mut W) -> Result<(), Failed>
+    ensures written { OnOk result (Appends (W.taken out.old) (W.taken out.new) (certificate_text cert.now)) }
+
+    // After an error a front of the text was taken.
+    ensures begun { OnErr result ((front : List ℕ) × IsFrontOf front (certificate_text cert.now) × Appends (W.taken out.old) (W.taken out.new) front) }
+    ensures failure { TellsFailure result (W.has_failed out.old) (W.has_failed out.new) }
+{
+    write_head(out, cert.commands())?;
+    write_nodes(out, cert.ranks())?;
+    write_files(out, cert.reads(), cert.writes())?;
+    write_line(out, b"end")
+}
+
+/// Writes the decimal of the number.
+fn write_number<W: Sink>(out: &mut W, number: u16) -> Result<(), Failed>
+    ensures written { OnOk result (Appends (W.taken out.old) (W.taken out.new) (decimal number)) }
+    ensures begun { OnErr result (AppendsFront (W.taken out.old) (W.taken out.new) (decimal number)) }
+    ensures failure { TellsFailure result (W.has_failed out.old) (W.has_failed out.new) }
+{
+    if number < 10 {
+        return write_all(out, &[b'0' + number as u8]);
+    }
+    write_number(out, number / 10)?;
+    write_all(out, &[b'0' + (number % 10) as u8])
+}
+
+/// Writes the decimal of the number, and a byte behind it.
+fn write_field<W: Sink>(out: &mut W, number: u16, end: u8) -> Result<(), Failed>
+    ensures written { OnOk result (Appends (W.taken out.old) (W.taken out.new) (decimal number ++ end ∷ [])) }
+    ensures begun { OnErr result (AppendsFront (W.taken out.old) (W.taken out.new) (decimal number ++ end ∷ [])) }
+    ensures failure { TellsFailure result (W.has_failed out.old) (W.has_failed out.new) }
+{
+    write_number(out, number)?;
+    write_all(out, &[end])
+}
+
+/// Writes the text as a line.
+fn write_line<W: Sink>(out: &mut W, text: &[u8]) -> Result<(), Failed>
+    ensures written { OnOk result (Appends (W.taken out.old) (W.taken out.new) (line text.now)) }
+    ensures begun { OnErr result (AppendsFront (W.taken out.old) (W.taken out.new) (line text.now)) }
+    ensures failure { TellsFailure result (W.has_failed out.old) (W.has_failed out.new) }
+{
+    write_all(out, text)?;
+    write_all(out, b"\n")
+}
+
+/// Writes what ends a node's line.
+fn write_ranks<W: Sink>(out: &mut W, ranks: Option<(u16, u16)>) -> Result<(), Failed>
+    ensures written { OnOk result (Appends (W.taken out.old) (W.taken out.new) (line (ranks_text ranks))) }
+    ensures begun { OnErr result (AppendsFront (W.taken out.old) (W.taken out.new) (line (ranks_text ranks))) }
+    ensures failure { TellsFailure result (W.has_failed out.old) (W.has_failed out.new) }
+{
+    let Some((first, second)) = ranks else {
+        return write_line(out, b"-");
+    };
+    write_field(out, first, b' ')?;
+    write_field(out, second, b'\n')
+}
+
+fn write_node<W: Sink>(out: &mut W, node: u16, ranks: Option<(u16, u16)>) -> Result<(), Failed>
+    ensures written { OnOk result (Appends (W.taken out.old) (W.taken out.new) (line (node_text node ranks))) }
+    ensures begun { OnErr result (AppendsFront (W.taken out.old) (W.taken out.new) (line (node_text node ranks))) }
+    ensures failure { TellsFailure result (W.has_failed out.old) (W.has_failed out.new) }
+{
+    write_field(out, node / 2, b' ')?;
+    write_field(out, node % 2, b' ')?;
+    write_ranks(out, ranks)
+}
+
+fn write_nodes<W: Sink>(out: &mut W, ranks: &[Option<(u16, u16)>]) -> Result<(), Failed>
+    requires { length ranks.now ≤ 8192 }
+    ensures written { OnOk result (Appends (W.taken out.old) (W.taken out.new) (node_lines 0 ranks.now)) }
+    ensures begun { OnErr result (AppendsFront (W.taken out.old) (W.taken out.new) (node_lines 0 ranks.now)) }
+    ensures failure { TellsFailure result (W.has_failed out.old) (W.has_failed out.new) }
+{
+    for (node, pair) in ranks.iter().enumerate() {
+        write_node(out, node as u16, *pair)?;
+    }
+    Ok(())
+}
+
+/// Writes what stands before the nodes.
+fn write_head<W: Sink>(out: &mut W, commands: u16) -> Result<(), Failed>
+    ensures written { OnOk result (Appends (W.taken out.old) (W.taken out.new) (line (codes "sedck 1") ++ line (codes "commands " ++ decimal commands))) }
+    ensures begun { OnErr result (AppendsFront (W.taken out.old) (W.taken out.new) (line (codes "sedck 1") ++ line (codes "commands " ++ decimal commands))) }
+    ensures failure { TellsFailure result (W.has_failed out.old) (W.has_failed out.new) }
+{
+    write_all(out, b"sedck 1\ncommands ")?;
+    write_field(out, commands, b'\n')
+}
+
+/// Writes both lists.
+fn write_files<W: Sink>(out: &mut W, reads: &[Vec<u8>], writes: &[Vec<u8>]) -> Result<(), Failed>
+    requires few { length reads.now ≤ 4095 }
+    requires fewer { length writes.now ≤ 4095 }
+    ensures written { OnOk result (Appends (W.taken out.old) (W.taken out.new) (files_text (names_of reads.now) (names_of writes.now))) }
+    ensures begun { OnErr result (AppendsFront (W.taken out.old) (W.taken out.new) (files_text (names_of reads.now) (names_of writes.now))) }
+    ensures failure { TellsFailure result (W.has_failed out.old) (W.has_failed out.new) }
+{
+    write_names(out, b"read ", reads)?;
+    write_names(out, b"write ", writes)
+}
+
+/// Writes the lines of a list.
+fn write_names<W: Sink>(out: &mut W, word: &[u8], names: &[Vec<u8>]) -> Result<(), Failed>
+    requires { length names.now ≤ 4095 }
+    ensures written { OnOk result (Appends (W.taken out.old) (W.taken out.new) (line (word.now ++ decimal (length (names_of names.now))) ++ name_lines (names_of names.now))) }
+    ensures begun { OnErr result (AppendsFront (W.taken out.old) (W.taken out.new) (line (word.now ++ decimal (length (names_of names.now))) ++ name_lines (names_of names.now))) }
+    ensures failure { TellsFailure result (W.has_failed out.old) (W.has_failed out.new) }
+{
+    write_all(out, word)?;
+    write_field(out, names.len() as u16, b'\n')?;
+    write_lines(out, names)
+}
+
+fn write_lines<W: Sink>(out: &mut W, names: &[Vec<u8>]) -> Result<(), Failed>
+    ensures written { OnOk result (Appends (W.taken out.old) (W.taken out.new) (name_lines (names_of names.now))) }
+    ensures begun { OnErr result (AppendsFront (W.taken out.old) (W.taken out.new) (name_lines (names_of names.now))) }
+    ensures failure { TellsFailure result (W.has_failed out.old) (W.has_failed out.new) }
+{
+    for name in names {
+        write_line(out, name)?;
+    }
+    Ok(())
+}
