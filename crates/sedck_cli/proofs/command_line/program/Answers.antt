@@ -1,0 +1,27 @@
+use Rattle.std.proofs.Common.{◌≡◌, ◌<◌, Ok, Err, arith}
+use Rattle.sedck_cli.specs.declared.answer.Outcome.TheVariants.{Yes, No}
+use Rattle.sedck_cli.specs.declared.command_line.Refusal.TheVariants.{Usage}
+use Rattle.sedck_cli.specs.Statuses.{status_of}
+use Rattle.sedck_cli.proofs.Ending.{refusal_status, broken_off}
+use Rattle.sedck_cli.proofs.command_line.program.Goals as goal
+
+pub returns-in-Ok-Yes-clause-yes : goal.returns-in-Ok-Yes-clause-yes
+returns-in-Ok-Yes-clause-yes g c is = (rw c.in-Ok-Yes.field-0-is at c.in-Ok-Yes.ensures).leaves
+
+pub returns-in-Ok-Yes-clause-option : goal.returns-in-Ok-Yes-clause-option
+returns-in-Ok-Yes-clause-option g c has = let no = c.in-Ok-Yes.ensures.option has in cc
+
+pub returns-in-Ok-No-clause-no : goal.returns-in-Ok-No-clause-no
+returns-in-Ok-No-clause-no g c is = (rw c.in-Ok-No.field-0-is at c.in-Ok-No.ensures).leaves
+
+pub returns-in-Ok-No-clause-option : goal.returns-in-Ok-No-clause-option
+returns-in-Ok-No-clause-option g c has = let no = c.in-Ok-No.ensures.option has in cc
+
+pub returns-in-Err-clause-yes : goal.returns-in-Err-clause-yes
+returns-in-Err-clause-yes g c is = let above = refusal_status c.in-Err.refusal in absurd (omega (arith, c.tell.ensures))
+
+pub returns-in-Err-clause-no : goal.returns-in-Err-clause-no
+returns-in-Err-clause-no g c is = let above = refusal_status c.in-Err.refusal in absurd (omega (arith, c.tell.ensures))
+
+pub returns-in-Err-clause-failed : goal.returns-in-Err-clause-failed
+returns-in-Err-clause-failed g c is = broken_off _ _ c.in-Err.refusal c.in-Err.ensures.leaves

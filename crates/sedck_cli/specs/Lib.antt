@@ -1,0 +1,9 @@
+pub use Rattle.sedck_script.specs.Program
+pub use Rattle.sedck_flow.specs.Flow
+pub use Rattle.sedck_flow.specs.Words
+pub use Rattle.sedck_cert.specs.Certificate
+pub use Rattle.sedck_cert.specs.Headline
+pub mod Reports
+pub mod Engines
+pub mod Faults
+pub mod Statuses

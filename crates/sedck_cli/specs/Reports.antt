@@ -1,0 +1,39 @@
+-- The reports, as bytes.
+use Rattle.std.specs.Prelude.{◌≡◌, ℕ, List, ◌++◌, codes}
+use Rattle.sedck_script.specs.Program.{Program}
+use Rattle.sedck_flow.specs.Words.{edge_words}
+use Rattle.sedck_cert.specs.Certificate.{Certificate}
+use Rattle.sedck_cert.specs.Text.{line, files_text}
+use Rattle.sedck_cert.specs.Ranked.{Accepts}
+use Rattle.sedck_cert.specs.Rejections.{IsRejection}
+use Rattle.sedck_cert.specs.declared.checking.Rejection.{Rejection}
+use Rattle.sedck_cert.specs.declared.checking.Rejection.TheVariants.{WrongCount, StartUnranked, LeavesRanked, NotLowered, ReadsDiffer, WritesDiffer}
+use Rattle.sedck_cert.specs.declared.checking.Verdict.{Verdict}
+use Rattle.sedck_cert.specs.declared.checking.Verdict.TheVariants.{Accepted, Rejected}
+use Rattle.sedck_cli.specs.declared.answer.Input.{Input}
+use Rattle.sedck_cli.specs.declared.answer.Input.TheVariants.{Script, Certificate as TheCertificate}
+
+-- ---- check
+
+abbrev pub rejection_words : Rejection → List ℕ
+rejection_words WrongCount = codes "rejected 1 wrong-count"
+rejection_words StartUnranked = codes "rejected 2 start-unranked"
+rejection_words (LeavesRanked e) = codes "rejected 3 leaves-ranked " ++ edge_words e
+rejection_words (NotLowered e) = codes "rejected 4 not-lowered " ++ edge_words e
+rejection_words ReadsDiffer = codes "rejected 5 reads-differ"
+rejection_words WritesDiffer = codes "rejected 6 writes-differ"
+
+abbrev pub IsVerdict : Program → Certificate → Verdict → Type 0
+IsVerdict p c Accepted = Accepts p c
+IsVerdict p c (Rejected why) = IsRejection p c why
+
+-- the report on a certificate, with the verdict
+abbrev pub IsCheckReport : Program → Certificate → Verdict → List ℕ → Type 0
+IsCheckReport p c Accepted report = report ≡ line (codes "accepted") ++ files_text c.reads c.writes
+IsCheckReport p c (Rejected why) report = report ≡ line (rejection_words why)
+
+-- ---- which input
+
+abbrev pub input_text : Input → List ℕ
+input_text Script = codes "script"
+input_text TheCertificate = codes "certificate"

@@ -1,0 +1,74 @@
+//! What an engine answers.
+
+ghost use Rattle.std.specs.Prelude.{◌≡◌, Some};
+ghost use Rattle.sedck_cli.specs.declared.answer.RunFault.TheVariants.{OutOfMemory};
+ghost use Rattle.sedck_cli.specs.Faults.{run_fault};
+
+use sedck_cert::{CertFault, Fault};
+use sedck_script::ScriptFault;
+use std::alloc::AllocError;
+use std::fmt;
+use thiserror::Error;
+
+/// What a report says in one word: no for a loop or a rejection alone.
+#[derive(Clone, Copy, Debug, PartialEq, Eq)]
+pub enum Outcome {
+    Yes,
+    No,
+}
+
+/// Which input can't be read.
+#[derive(Clone, Copy, Debug, PartialEq, Eq)]
+pub enum Input {
+    Script,
+    Certificate,
+}
+
+impl fmt::Display for Input {
+    ghost use Rattle.sedck_cli.specs.Reports.{input_text};
+
+    ghost output = { λ input. Some (input_text input) };
+
+    fn fmt<W: fmt::Write>(&self, f: &mut fmt::Formatter<W>) -> fmt::Result {
+        f.write_str(match self {
+            Input::Script => "script",
+            Input::Certificate => "certificate",
+        })
+    }
+}
+
+/// Why there is no report. `OutOfMemory` stands in place of each fault below that is want of memory.
+#[derive(Clone, Copy, Debug, Drop, Error)]
+pub enum RunFault {
+    #[error("script {0}")]
+    Script(ScriptFault),
+    #[error("certificate {0}")]
+    Certificate(CertFault),
+    #[error("cannot read {0}")]
+    Read(Input),
+    #[error("cannot write")]
+    Write,
+    #[error("out of memory")]
+    OutOfMemory,
+}
+
+impl From<AllocError> for RunFault {
+    ghost from_gives = { λ _ e. e ≡ OutOfMemory };
+
+    fn from(_error: AllocError) -> RunFault {
+        RunFault::OutOfMemory
+    }
+}
+
+impl From<Fault> for RunFault {
+    ghost from_gives = { λ fault e. e ≡ run_fault fault };
+
+    fn from(fault: Fault) -> RunFault {
+        match fault {
+            Fault::Script(ScriptFault::OutOfMemory) => RunFault::OutOfMemory,
+            Fault::Certificate(CertFault::OutOfMemory) => RunFault::OutOfMemory,
+            Fault::Script(fault) => RunFault::Script(fault),
+            Fault::Certificate(fault) => RunFault::Certificate(fault),
+        }
+    }
+}

@@ -1,0 +1,204 @@
+//! The program `sedck` for the words of its command line.
+
+ghost use Rattle.std.specs.Prelude.{◌≡◌, ◌⊎◌, ◌<◌, ◌≤◌, true, Ok, Err, IfErr};
+ghost use Rattle.std.specs.Io.KnownBytes.{Keeps};
+ghost use Rattle.sedck_cli.specs.Statuses.{status_of, Reports, BreaksOff, Leaves, IsOfWords, begins_with_hyphen, has_option};
+ghost use Rattle.sedck_cli.specs.declared.command_line.Refusal.TheVariants.{Run};
+ghost use Rattle.sedck_cli.specs.declared.answer.RunFault.TheVariants as fault;
+
+use crate::answer::{Input, Outcome, RunFault};
+use crate::engines::run_check;
+use clap::error::ErrorKind;
+use clap::{Arg, Command};
+use sedck_cert::streams::{FromRead, Sink, write_all};
+use std::alloc::{AllocError, Global};
+use std::fmt::Write;
+use std::fs::Files;
+use std::{fmt, fs};
+use thiserror::Error;
+
+/// Why the program answers neither yes nor no.
+#[derive(Clone, Copy, Debug, Drop, Error)]
+pub enum Refusal {
+    #[error("usage: sedck rank SCRIPT, check SCRIPT CERT, files SCRIPT, graph SCRIPT")]
+    Usage,
+    #[error("{0}")]
+    Run(RunFault),
+}
+
+impl From<AllocError> for Refusal {
+    ghost from_gives = { λ _ refusal. refusal ≡ Run fault.OutOfMemory };
+
+    fn from(_error: AllocError) -> Refusal {
+        Refusal::Run(RunFault::OutOfMemory)
+    }
+}
+
+impl From<clap::Error> for Refusal {
+    ghost from_gives = { λ _ refusal. IsOfWords refusal };
+
+    fn from(error: clap::Error) -> Refusal {
+        match error.kind() {
+            ErrorKind::OutOfMemory => Refusal::Run(RunFault::OutOfMemory),
+            _ => Refusal::Usage,
+        }
+    }
+}
+
+impl Refusal {
+    /// The exit status.
+    pub fn status(self) -> u8
+        ensures { result ≡ status_of self }
+    {
+        match self {
+            Refusal::Run(RunFault::Script(_) | RunFault::Certificate(_)) => 2,
+            Refusal::Usage => 3,
+            Refusal::Run(RunFault::Read(_) | RunFault::Write | RunFault::OutOfMemory) => 4,
+        }
+    }
+
+    /// Tells the refusal in one line, and answers the exit status, which is the same where the line can't be written.
+    /// It takes no memory.
+    pub fn tell<E: Sink>(self, err: &mut E) -> u8
+        ensures { result ≡ status_of self }
+    {
+        let mut line = Line(err);
+        let _ = writeln!(line, "sedck: {self}");
+        self.status()
+    }
+}
+
+/// A sink that takes text.
+#[derive(Drop)]
+struct Line<'a, E>(&'a mut E);
+
+impl<E: Sink> Write for Line<'_, E> {
+    fn write_str(&mut self, text: &str) -> fmt::Result {
+        write_all(self.0, text.as_bytes()).map_err(|_| fmt::Error)
+    }
+}
+
+/// What the words ask for.
+enum Request<'a> {
+    Check {
+        script: &'a str,
+        certificate: &'a str,
+    },
+}
+
+/// The whole program for the words after its name, and its exit status: 0 for yes, 1 for no, 2 where the script or the
+/// certificate is refused, 3 for words of no form, 4 where a stream fails or memory runs out.
+///
+/// What it makes of its words, and what it tells of a refusal, is shown by tests.
+pub fn program<R: Files + AllocGlobal, W: Sink, E: Sink>(
+    rt: &R,
+    words: &[String],
+    out: &mut W,
+    err: &mut E,
+) -> u8
+    ensures within { result ≤ 4 }
+    ensures option { has_option words.now ≡ true → result ≡ 3 }
+    ensures yes { result ≡ 0 → Reports (W.taken out.old) (W.taken out.new) Outcome.Yes }
+    ensures no { result ≡ 1 → Reports (W.taken out.old) (W.taken out.new) Outcome.No }
+    // A refusal writes nothing, but where writing fails.
+    ensures refused { 1 < result → result < 4 → Keeps (W.taken out.old) (W.taken out.new) }
+    ensures failed { result ≡ 4 → Keeps (W.taken out.old) (W.taken out.new) ⊎ BreaksOff (W.taken out.old) (W.taken out.new) }
+{
+    match answer(rt, words, out) {
+        Ok(Outcome::Yes) => 0,
+        Ok(Outcome::No) => 1,
+        Err(refusal) => refusal.tell(err),
+    }
+}
+
+/// What the words ask for is done.
+fn answer<R: Files + AllocGlobal, W: Sink>(
+    rt: &R,
+    words: &[String],
+    out: &mut W,
+) -> Result<Outcome, Refusal>
+    ensures leaves { Leaves (W.taken out.old) (W.taken out.new) result }
+    ensures option { has_option words.now ≡ true → result ≡ Err Refusal.Usage }
+{
+    match read_words(rt.alloc(), words)? {
+        Request::Check {
+            script,
+            certificate,
+        } => check(rt, script, certificate, out),
+    }
+}
+
+/// Both files are opened before either is read.
+fn check<R: Files + AllocGlobal, W: Sink>(
+    rt: &R,
+    script: &str,
+    certificate: &str,
+    out: &mut W,
+) -> Result<Outcome, Refusal>
+    ensures { Leaves (W.taken out.old) (W.taken out.new) result }
+{
+    let mut script = open(rt, script, Input::Script)?;
+    let mut certificate = open(rt, certificate, Input::Certificate)?;
+    match run_check(rt.alloc(), &mut script, &mut certificate, out) {
+        Ok(outcome) => Ok(outcome),
+        Err(fault) => Err(Refusal::Run(fault)),
+    }
+}
+
+fn open<R: Files>(rt: &R, path: &str, input: Input) -> Result<FromRead<R::File>, Refusal>
+    ensures { IfErr result (λ refusal. refusal ≡ Refusal.Run (RunFault.Read input)) }
+{
+    match fs::open(rt, path) {
+        Ok(file) => Ok(FromRead::new(file)),
+        Err(_) => Err(Refusal::Run(RunFault::Read(input))),
+    }
+}
+
+/// Reads the words. There are no options, so any word that begins with a hyphen is refused.
+fn read_words<'a>(alloc: Global, words: &'a [String]) -> Result<Request<'a>, Refusal>
+    ensures refused { IfErr result IsOfWords }
+    ensures option { has_option words.now ≡ true → result ≡ Err Refusal.Usage }
+{
+    if holds_option(words) {
+        return Err(Refusal::Usage);
+    }
+    let matches = command(alloc)?.try_get_matches_from(words)?;
+    let Some(("check", files)) = matches.subcommand() else {
+        return Err(Refusal::Usage);
+    };
+    match (files.get_str("script"), files.get_str("certificate")) {
+        (Some(script), Some(certificate)) => Ok(Request::Check {
+            script,
+            certificate,
+        }),
+        _ => Err(Refusal::Usage),
+    }
+}
+
+/// Whether a word begins with a hyphen.
+fn holds_option(words: &[String]) -> bool
+    ensures { result ≡ has_option words.now }
+{
+    words.iter().any(|word| is_option(word))
+}
+
+/// Whether the word begins with a hyphen.
+fn is_option(word: &str) -> bool
+    ensures { result ≡ begins_with_hyphen word.now }
+{
+    matches!(word.as_bytes(), [b'-', ..])
+}
+
+/// The forms that the words may have.
+fn command<'a>(alloc: Global) -> Result<Command<'a>, AllocError> {
+    let check = Command::new(alloc, "check")
+        .disable_help_flag(true)
+        .arg(Arg::new(alloc, "script").required(true))?
+        .arg(Arg::new(alloc, "certificate").required(true))?;
+    Command::new(alloc, "sedck")
+        .no_binary_name(true)
+        .disable_help_flag(true)
+        .disable_help_subcommand(true)
+        .subcommand_required(true)
+        .subcommand(check)
+}

@@ -1,0 +1,49 @@
+//! The engines: each reads from sources, and writes one report to a sink.
+
+ghost use Rattle.std.specs.Prelude.{◌≡◌};
+ghost use Rattle.sedck_cli.specs.Engines.{verdict_outcome, ChecksTo, EngineAnswers, OfKnown, CertificateAnswers};
+
+use crate::answer::{Input, Outcome, RunFault};
+use crate::input::read_whole;
+use crate::report::check_report;
+use sedck_cert::streams::{Sink, Source, write_all};
+use sedck_cert::{Verdict, verify};
+use std::alloc::Global;
+
+/// How many bytes of a script are read: one more than it may have.
+const SCRIPT_READ: usize = 1_048_577;
+
+/// How many bytes of a certificate are read: more than one may have.
+const CERTIFICATE_READ: usize = 1_310_721;
+
+/// Judges the certificate for the script, and writes the verdict.
+pub fn run_check<R: Source, C: Source, W: Sink>(
+    alloc: Global,
+    script: &mut R,
+    cert: &mut C,
+    out: &mut W,
+) -> Result<Outcome, RunFault>
+    ensures report { EngineAnswers
+        (record { script = R.left script.old; script_failed = R.has_failed script.new; out_before = W.taken out.old; out_after = W.taken out.new; out_failed = W.has_failed out.new })
+        (OfKnown (R.left script.old) (λ text. OfKnown (C.left cert.old) (ChecksTo text))) result }
+    ensures certificate { CertificateAnswers (R.left script.old) (C.left cert.old) (C.has_failed cert.new) result }
+{
+    let text = read_whole(alloc, script, SCRIPT_READ, Input::Script)?;
+    let certificate = read_whole(alloc, cert, CERTIFICATE_READ, Input::Certificate)?;
+    let verdict = verify(alloc, &text, &certificate)?;
+    let report = check_report(alloc, verdict, &certificate)?;
+    let Ok(()) = write_all(out, &report) else {
+        return Err(RunFault::Write);
+    };
+    Ok(outcome_of(verdict))
+}
+
+/// The verdict in one word.
+fn outcome_of(verdict: Verdict) -> Outcome
+    ensures { result ≡ verdict_outcome verdict }
+{
+    match verdict {
+        Verdict::Accepted => Outcome::Yes,
+        Verdict::Rejected(_) => Outcome::No,
+    }
+}

@@ -1,0 +1,14 @@
+//! The engines of the program `sedck`, and their reports.
+#![tactic(auto)]
+
+mod answer;
+mod command_line;
+mod engines;
+mod input;
+mod report;
+#[cfg(test)]
+mod tests;
+
+pub use answer::{Input, Outcome, RunFault};
+pub use command_line::{Refusal, program};
+pub use engines::run_check;

@@ -1,0 +1,83 @@
+//! The reports, as bytes.
+
+ghost use Rattle.std.specs.Prelude.{◌≡◌, ◌++◌, IfOk, IfErr, OnOk, length, decimal, codes, string_bytes};
+ghost use Rattle.sedck_script.specs.Program.{Program};
+ghost use Rattle.sedck_cert.specs.Certificate.{Certificate};
+ghost use Rattle.sedck_cert.specs.Text.{IsTextOf, line, name_lines, files_text};
+ghost use Rattle.sedck_cert.specs.View.{names_of};
+ghost use Rattle.sedck_cli.specs.Reports.{IsCheckReport, rejection_words};
+ghost use Rattle.sedck_cli.specs.Faults.{IsCertificateRefusal};
+
+use crate::answer::RunFault;
+use sedck_cert::{Fault, Rejection, Verdict, read_cert};
+use std::alloc::{AllocError, Global};
+
+/// The report on a certificate, whose names are read from its text once more.
+pub(crate) fn check_report(
+    alloc: Global,
+    verdict: Verdict,
+    certificate: &[u8],
+) -> Result<Vec<u8>, RunFault>
+    ensures report { IfOk result (λ report. (p : Program) (c : Certificate) → IsTextOf certificate.now c → IsCheckReport p c verdict report.items) }
+    ensures refused { IfErr result (IsCertificateRefusal certificate.now) }
+{
+    let mut report = Vec::new(alloc);
+    match verdict {
+        Verdict::Accepted => {
+            let cert = match read_cert(alloc, certificate) {
+                Ok(cert) => cert,
+                Err(fault) => return Err(RunFault::from(Fault::Certificate(fault))),
+            };
+            add_line(&mut report, b"accepted")?;
+            add_names(alloc, &mut report, "read", cert.reads())?;
+            add_names(alloc, &mut report, "write", cert.writes())?;
+        }
+        Verdict::Rejected(why) => {
+            let words = rejection_text(alloc, why)?;
+            add_line(&mut report, words.as_bytes())?;
+        }
+    }
+    Ok(report)
+}
+
+/// What a rejection says, without its newline.
+fn rejection_text(alloc: Global, why: Rejection) -> Result<String, AllocError>
+    ensures { IfOk result (λ text. string_bytes text ≡ rejection_words why) }
+{
+    match why {
+        Rejection::WrongCount => format!(in alloc; "rejected 1 wrong-count"),
+        Rejection::StartUnranked => format!(in alloc; "rejected 2 start-unranked"),
+        Rejection::LeavesRanked(edge) => format!(in alloc; "rejected 3 leaves-ranked {edge}"),
+        Rejection::NotLowered(edge) => format!(in alloc; "rejected 4 not-lowered {edge}"),
+        Rejection::ReadsDiffer => format!(in alloc; "rejected 5 reads-differ"),
+        Rejection::WritesDiffer => format!(in alloc; "rejected 6 writes-differ"),
+    }
+}
+
+/// Adds how many names there are, and each on a line.
+fn add_names(
+    alloc: Global,
+    report: &mut Vec<u8>,
+    word: &str,
+    names: &[Vec<u8>],
+) -> Result<(), AllocError>
+    ensures { OnOk result (report.new.items
+        ≡ report.old.items ++ (line (word.now ++ codes " " ++ decimal (length names.now)) ++ name_lines (names_of names.now))) }
+{
+    let count = names.len();
+    let head = format!(in alloc; "{word} {count}")?;
+    add_line(report, head.as_bytes())?;
+    for name in names {
+        add_line(report, name)?;
+    }
+    Ok(())
+}
+
+/// Adds the text as a line.
+fn add_line(report: &mut Vec<u8>, text: &[u8]) -> Result<(), AllocError>
+    ensures { OnOk result (report.new.items ≡ report.old.items ++ line text.now) }
+{
+    report.extend_from_slice(text)?;
+    report.push(b'\n')?;
+    Ok(())
+}

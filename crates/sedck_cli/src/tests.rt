@@ -1,0 +1,17 @@
+//! What no clause says: printed lines, statuses, streams that fail, and that calls succeed at all.
+
+mod engines;
+mod fakes;
+mod programs;
+
+/// A loop that reads a line in each turn.
+const LOOP: &str = ":a\nn\nb a";
+
+/// Its certificate.
+const LOOP_CERTIFICATE: &str =
+    "sedck 1\ncommands 3\n0 0 2 2\n0 1 -\n1 0 1 1\n1 1 -\n2 0 3 3\n2 1 -\n3 0 -\n3 1 -\nread 0\nwrite 0\nend\n";
+
+/// The certificate of the empty script.
+const EMPTY_CERTIFICATE: &str = "sedck 1\ncommands 0\n0 0 1 1\n0 1 -\nread 0\nwrite 0\nend\n";
+
+const ACCEPTED: &str = "accepted\nread 0\nwrite 0\n";
