@@ -1,0 +1,91 @@
+#!/usr/bin/env python3
+"""Measures `sedck check` on large inputs: wall time and peak memory, the best and the middle of several runs.
+
+    python3 bench/run.py build/sedck [RUNS]
+
+Each input is made here, in a folder of its own. A run is timed from its start to its end; its output goes to
+/dev/null, and its status is compared. The peak of its resident memory is what GNU time tells, where it is there.
+"""
+
+import os
+import statistics
+import subprocess
+import sys
+import tempfile
+import time
+
+COMMANDS = 4095
+SCRIPT_LIMIT = 1048576
+NAMES_LIMIT = 1048576
+
+
+def certificate(commands, ranks, reads=(), writes=()):
+    """A certificate's text; ranks is a function from a node to its ranks or None."""
+    out = [b"sedck 1\n", b"commands %d\n" % commands]
+    for at in range(commands + 1):
+        for flag in (0, 1):
+            pair = ranks(at, flag)
+            out.append(b"%d %d -\n" % (at, flag) if pair is None else b"%d %d %d %d\n" % (at, flag, *pair))
+    for word, names in ((b"read", reads), (b"write", writes)):
+        out.append(b"%s %d\n" % (word, len(names)))
+        out.extend(name + b"\n" for name in names)
+    out.append(b"end\n")
+    return b"".join(out)
+
+
+def names(count, size):
+    """`count` names that rise, of `size` bytes with their newlines in all."""
+    each, rest = divmod(size, count)
+    return [b"%05d" % i + b"n" * (each - 6 + (i < rest)) for i in range(count)]
+
+
+def inputs():
+    falling = certificate(COMMANDS, lambda at, flag: (0, COMMANDS - at) if flag == 0 else None)
+    yield "4,095 commands, all ranked", b"p\n" * COMMANDS, falling, 0
+    long_label = b"l" * 250
+    branches = b":" + long_label + b"\nn\n" + (b"b " + long_label + b"\n") * (COMMANDS - 2)
+    ranks = certificate(COMMANDS, lambda at, flag: None if flag else ((0, 1) if at == 0 else (0, 0) if at == 1 else (0, 2)))
+    yield "4,095 commands, a megabyte of branches", branches, ranks, 0
+    yield "a megabyte of newlines", b"\n" * SCRIPT_LIMIT, certificate(0, lambda at, flag: (1, 1) if flag == 0 else None), 0
+    full = certificate(COMMANDS, lambda at, flag: (65535, 65535), names(COMMANDS, NAMES_LIMIT))
+    yield "the longest certificate", b"p\n" * COMMANDS, full, 1
+    many = certificate(COMMANDS, lambda at, flag: (65535, 65535), names(COMMANDS, 6 * COMMANDS), names(COMMANDS, NAMES_LIMIT - 6 * COMMANDS))
+    yield "two lists of 4,095 names", b"p\n" * COMMANDS, many, 1
+
+
+def measure(program, folder, status):
+    begin = time.perf_counter()
+    done = subprocess.run([program, "check", "script", "cert"], cwd=folder, stdout=subprocess.DEVNULL)
+    seconds = time.perf_counter() - begin
+    if done.returncode != status:
+        raise SystemExit("status %d in place of %d" % (done.returncode, status))
+    return seconds * 1000
+
+
+def peak(program, folder):
+    """The peak in MiB, told by GNU time: a child of this process would count the memory of Python."""
+    if not os.path.exists("/usr/bin/time"):
+        return "-"
+    done = subprocess.run(["/usr/bin/time", "-f", "%M", program, "check", "script", "cert"], cwd=folder,
+                          stdout=subprocess.DEVNULL, stderr=subprocess.PIPE)
+    return "%.1f" % (int(done.stderr.split()[-1]) / 1024)
+
+
+def main():
+    program = os.path.abspath(sys.argv[1])
+    runs = int(sys.argv[2]) if len(sys.argv) > 2 else 15
+    print("| input | script bytes | certificate bytes | best ms | median ms | peak MiB |")
+    print("|---|---|---|---|---|---|")
+    for name, script, cert, status in inputs():
+        with tempfile.TemporaryDirectory(prefix="bench") as folder:
+            for file, data in (("script", script), ("cert", cert)):
+                with open(os.path.join(folder, file), "wb") as handle:
+                    handle.write(data)
+            times = [measure(program, folder, status) for _ in range(runs)]
+            memory = peak(program, folder)
+        print("| %s | %s | %s | %.1f | %.1f | %s |" % (
+            name, format(len(script), ","), format(len(cert), ","), min(times), statistics.median(times), memory))
+
+
+if __name__ == "__main__":
+    main()
