@@ -1,6 +1,6 @@
 -- The names of a script, sorted, are a list of just the names that its commands name.
 use Rattle.std.proofs.Common.{◌≡◌, ◌↔◌, ℕ, zero, suc, List, [], ◌∷◌, Contains, refl, sym, subst, inl, inr, arith}
-use Rattle.std.specs.Prelude.{Some, None, slice_get, flat_map}
+use Rattle.std.specs.Prelude.{Some, slice_get, flat_map}
 use Rattle.std.proofs.lemmas.List.Elements.{Contains-append_left, Contains-append_right, Contains-append_cases}
 use Rattle.sedck_script.specs.Program.{Verb, Command, Program}
 use Rattle.sedck_script.specs.Names.{read_names, write_names, reads, writes}
@@ -8,9 +8,7 @@ use Rattle.sedck_script.proofs.SortedNames.{sorted_names-rise, sorted_names-same
 use Rattle.sedck_flow.specs.Run.{NamesForReading, NamesForWriting}
 use Rattle.sedck_cert.specs.Ranked.{ListsNames}
 use Rattle.sedck_cert.proofs.SameNames.{rising-same}
-
-none-some : {A : Type 0} {x : A} → None ≡ Some x → ⊥
-none-some e = cc
+use Rattle.std.proofs.lemmas.Option.{none-some}
 
 module _ (names_of : Verb → List (List ℕ)) where
   -- some command names it
@@ -26,7 +24,7 @@ module _ (names_of : Verb → List (List ℕ)) where
       ]
 
   listed : (cs : List Command) (name : List ℕ) (at : ℕ) (c : Command) → slice_get cs at ≡ Some c → Contains (names_of c.verb) name → Contains (flat_map (λ (d : Command). names_of d.verb) cs) name
-  listed [] name at c e h = absurd (none-some e)
+  listed [] name at c e h = absurd (none-some _ e)
   listed (d ∷ cs) name zero c e h =
       let is : d ≡ c = cc in
       Contains-append_left (names_of d.verb) (flat_map (λ (x : Command). names_of x.verb) cs) name (subst (λ (x : Command). Contains (names_of x.verb) name) (sym is) h)

@@ -1,4 +1,7 @@
 -- What an accepted certificate promises of the script's runs, and which answer `verify` gives.
+--
+-- Bytes spell a script here where the first part's grammar spells it: that is what is read today. What it spells, the
+-- grammar of the whole language spells as the same program (sedck_script, the law `first_part_is_whole`).
 use Rattle.std.specs.Prelude.{◌≡◌, ◌↔◌, ℕ, ◌≤◌, List, length, Contains, Result, Ok, Err}
 use Rattle.sedck_script.specs.Program.{Program}
 use Rattle.sedck_script.specs.First.{FirstSpells as Spells}

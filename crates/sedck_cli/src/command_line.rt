@@ -1,7 +1,7 @@
 //! The program `sedck` for the words of its command line.
 
 ghost use Rattle.std.specs.Prelude.{◌≡◌, ◌⊎◌, ◌<◌, ◌≤◌, true, Ok, Err, IfErr};
-ghost use Rattle.std.specs.Io.KnownBytes.{Keeps};
+ghost use Rattle.std.specs.Io.KnownBytes.{Keeps, Appends};
 ghost use Rattle.sedck_cli.specs.Statuses.{status_of, Reports, BreaksOff, Leaves, IsOfWords, begins_with_hyphen, has_option};
 ghost use Rattle.sedck_cli.specs.declared.command_line.Refusal.TheVariants.{Run};
 ghost use Rattle.sedck_cli.specs.declared.answer.RunFault.TheVariants as fault;
@@ -73,8 +73,13 @@ impl Refusal {
 struct Line<'a, E>(&'a mut E);
 
 impl<E: Sink> Write for Line<'_, E> {
+    ghost write_str_gives = { λ before text after. Appends (E.taken before.0.now) (E.taken after.0.now) text };
+
     fn write_str(&mut self, text: &str) -> fmt::Result {
-        write_all(self.0, text.as_bytes()).map_err(|_| fmt::Error)
+        match write_all(self.0, text.as_bytes()) {
+            Ok(()) => Ok(()),
+            Err(_) => Err(fmt::Error),
+        }
     }
 }
 

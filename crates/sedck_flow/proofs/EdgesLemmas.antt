@@ -1,7 +1,7 @@
 -- The edges that are found for a node are those that leave it.
 use Rattle.std.proofs.Common.{◌≡◌, ℕ, zero, suc, ◌<◌, ◌≤◌, true, false, IsTrue, List, [], ◌∷◌, map, length, get_or, drop, refl, sym, ap, ◌∙◌, subst, inl, inr, arith}
 use Rattle.std.specs.Prelude.{Option, Some, None, MatchOption, option_map, slice_get}
-use Rattle.std.proofs.lemmas.Option.{get_or_from_slice_get, slice_get-map, slice_get_read, slice_get_past}
+use Rattle.std.proofs.lemmas.Option.{get_or_from_slice_get, slice_get-map, slice_get_read, slice_get_past, slice_get_within}
 use Rattle.std.proofs.lemmas.List.{length-map}
 use Rattle.std.proofs.lemmas.List.Elements.{All-contains}
 use Rattle.sedck_script.specs.Invariant.{IsTargetWithin, IsReplacement, IsScript}
@@ -17,7 +17,7 @@ use Rattle.sedck_flow.specs.declared.graph.Kind.{Kind}
 use Rattle.sedck_flow.specs.declared.graph.Kind.TheVariants.{Consume, Keep}
 use Rattle.sedck_flow.proofs.FoundLemmas.{lists_more, lists_same}
 use Rattle.sedck_flow.proofs.VerbLemmas.{Only, edge}
-use Rattle.sedck_flow.proofs.Inside.{slice_get-some, target_at}
+use Rattle.sedck_flow.proofs.Inside.{target_at}
 
 -- ---- What is still to come
 
@@ -77,7 +77,7 @@ has_target p script at c e = target_below (length p.commands) 4095 c.verb script
 
 pub has_replacement : (p : Program) → IsScript p → (at : ℕ) (c : Command) → slice_get p.commands at ≡ Some c → IsReplacement c.verb
 has_replacement p script at c e =
-    All-contains (λ (d : Command). IsReplacement d.verb) p.commands c script.replacements (at, slice_get-some p.commands at c e, get_or_from_slice_get p.commands at c c e)
+    All-contains (λ (d : Command). IsReplacement d.verb) p.commands c script.replacements (at, slice_get_within p.commands at c e, get_or_from_slice_get p.commands at c c e)
 
 -- ---- Where the code reads the commands
 

@@ -12,6 +12,7 @@ use Rattle.sedck_flow.specs.declared.graph.Kind.TheVariants.{Shorten}
 use Rattle.sedck_flow.specs.Substitutes.{Found}
 use Rattle.sedck_flow.specs.Words.{edge_words}
 use Rattle.sedck_flow.specs.Examples.{ExamplesHold, one_x, any_xs, replacing, delete_matches, a_then_b, one_c, replacing_previous, replace_previous, edge}
+use Rattle.sedck_flow.proofs.States.{at_inj}
 
 -- an empty match, and what stands behind it
 abbrev empty_before : List ℕ → Found
@@ -74,9 +75,6 @@ previous_not_shorten h =
 flags_differ : (a b : ℕ) (f g : Bool) → f ≡ true → g ≡ false → at_node a f ≡ at_node b g → ⊥
 unfolding at_node
 flags_differ a b f g t u e = false-true (sym u ∙ sym (ap (λ (n : Node). n.flag) e) ∙ t)
-
-at_inj : {m n : Machine} → At m ≡ At n → m ≡ n
-at_inj e = cc
 
 unread_differ : {m n : Machine} → At m ≡ At n → length m.unread ≡ length n.unread
 unread_differ e = ap (λ (x : Machine). length x.unread) (at_inj e)

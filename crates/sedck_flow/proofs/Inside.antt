@@ -2,7 +2,7 @@
 use Rattle.std.proofs.Common.{◌≡◌, ℕ, zero, suc, ◌<◌, ◌≤◌, Bool, true, false, List, [], ◌∷◌, length, refl, sym, ap, inl, inr, arith}
 use Rattle.std.specs.Prelude.{Option, Some, None, MatchOption, slice_get, if◌then◌else◌}
 use Rattle.std.proofs.lemmas.List.Elements.{All-contains}
-use Rattle.std.proofs.lemmas.Option.{get_or_from_slice_get}
+use Rattle.std.proofs.lemmas.Option.{get_or_from_slice_get, slice_get_within}
 use Rattle.sedck_script.specs.Invariant.{IsTargetWithin, AreTargetsWithin}
 use Rattle.sedck_script.specs.Program.{Address, NoAddress, One, Two, Verb, Block, Branch, Change, Delete, DeleteFirstLine, Next, NextAppend, Quit, Substitute, Test, Command, Program}
 use Rattle.sedck_flow.specs.Flow.{start, next, VerbEdge, node_past, CommandEdge, Flow}
@@ -10,19 +10,12 @@ use Rattle.sedck_flow.specs.declared.graph.Node.{Node}
 use Rattle.sedck_flow.specs.declared.graph.Edge.{Edge}
 use Rattle.sedck_flow.specs.declared.graph.Kind.{Kind}
 use Rattle.sedck_flow.specs.declared.graph.Kind.TheVariants.{Consume}
+use Rattle.std.proofs.lemmas.Option.{none-some}
 
-none-some : {A : Type 0} {x : A} → None ≡ Some x → ⊥
-none-some e = cc
-
--- where there is a command, the place is below the length; where there is none, it isn't
-pub slice_get-some : {A : Type 0} (xs : List A) (i : ℕ) (x : A) → slice_get xs i ≡ Some x → i < length xs
-slice_get-some [] i x e = absurd (none-some e)
-slice_get-some (y ∷ xs) zero x e = omega arith
-slice_get-some (y ∷ xs) (suc i) x e = omega (arith, slice_get-some xs i x e)
-
+-- where there is no command, the place isn't below the length
 pub slice_get-none : {A : Type 0} (xs : List A) (i : ℕ) → slice_get xs i ≡ None → length xs ≤ i
 slice_get-none [] i e = omega arith
-slice_get-none (y ∷ xs) zero e = absurd (none-some (sym e))
+slice_get-none (y ∷ xs) zero e = absurd (none-some _ (sym e))
 slice_get-none (y ∷ xs) (suc i) e = omega (arith, slice_get-none xs i e)
 
 module _ (p : Program) (n : ℕ) where
@@ -59,13 +52,13 @@ edge_inside : (p : Program) (from : Node) (kind : Kind) (to : Node) (o : Option 
     → MatchOption o ((from.at ≡ length p.commands) × (kind ≡ Consume) × (to ≡ start)) (λ c. CommandEdge p c from kind to) → (from.at ≤ length p.commands) × (to.at ≤ length p.commands)
 edge_inside p from kind to None e inside (place, _, is) = (omega arith, omega (arith, ap (λ (x : Node). x.at) is))
 edge_inside p from kind to (Some c) e inside h =
-    let below : from.at < length p.commands = slice_get-some p.commands from.at c e in
+    let below : from.at < length p.commands = slice_get_within p.commands from.at c e in
     (omega arith, command_inside p c (length p.commands) (inside c refl) from kind to below h)
 
 -- the target of the command at a place
 pub target_at : (p : Program) → AreTargetsWithin p → (at : ℕ) (c : Command) → slice_get p.commands at ≡ Some c → IsTargetWithin (length p.commands) c.verb
 target_at p targets at c e =
-    All-contains (λ (d : Command). IsTargetWithin (length p.commands) d.verb) p.commands c targets (at, slice_get-some p.commands at c e, get_or_from_slice_get p.commands at c c e)
+    All-contains (λ (d : Command). IsTargetWithin (length p.commands) d.verb) p.commands c targets (at, slice_get_within p.commands at c e, get_or_from_slice_get p.commands at c c e)
 
 pub inside : (p : Program) → AreTargetsWithin p → (e : Edge) → Flow p e → (e.from.at ≤ length p.commands) × (e.to.at ≤ length p.commands)
 inside p targets e h = edge_inside p e.from e.kind e.to (slice_get p.commands e.from.at) refl (target_at p targets e.from.at) h

@@ -1,3 +1,4 @@
+pub mod States
 pub mod Lengths
 pub mod KindOf
 pub mod Follows

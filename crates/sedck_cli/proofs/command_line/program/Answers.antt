@@ -1,7 +1,4 @@
-use Rattle.std.proofs.Common.{◌≡◌, ◌<◌, Ok, Err, arith}
-use Rattle.sedck_cli.specs.declared.answer.Outcome.TheVariants.{Yes, No}
-use Rattle.sedck_cli.specs.declared.command_line.Refusal.TheVariants.{Usage}
-use Rattle.sedck_cli.specs.Statuses.{status_of}
+use Rattle.std.proofs.Common.{arith}
 use Rattle.sedck_cli.proofs.Ending.{refusal_status, broken_off}
 use Rattle.sedck_cli.proofs.command_line.program.Goals as goal
 
