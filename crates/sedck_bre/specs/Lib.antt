@@ -11,4 +11,11 @@ pub mod Faults
 pub mod Lengths
 pub mod Laws
 pub mod Bounds
+pub mod Reading
+pub mod Gives
+pub mod Sets
+pub mod BracketReading
+pub mod IntervalReading
+pub mod BracketCode
+pub mod FullReading
 pub mod FaultWords

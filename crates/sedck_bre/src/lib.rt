@@ -1,14 +1,31 @@
 //! Basic regular expressions of POSIX (XBD 9.3) as trees, and the least length of what they match.
 //!
-//! `Bre` is what was written; what it means, `Match` and `Language`, stands in `specs/Match.antt`, and how a text
-//! spells a tree in `specs/Shape.antt`. `Expr` is a well formed tree that knows its number of groups and its least
-//! length.
+//! - `parse` reads a text, in time linear in it: the expression that it spells, or the first fault that is met.
+//! - `Expr` is a well formed tree that knows its number of groups and its least length.
+//! - `Bre` is what was written, as a tree; `ByteSet` is the set of a bracket list.
+//! - `ReFault` is why a text is no expression, with a number, a name and a place.
+//!
+//! How a text spells a tree stands in `specs/Shape.antt`, and no text spells two. What a tree means, `Match` and
+//! `Language`, stands in `specs/Match.antt`: no text is matched here.
 #![tactic(auto)]
 
+mod bracket;
+mod element;
 mod fault;
+mod interval;
+mod item;
 pub mod laws;
 mod least;
+mod parser;
+mod reader;
+mod sets;
+mod symbol;
+mod text;
 mod tree;
 
 pub use fault::ReFault;
+pub use parser::parse;
 pub use tree::{Bre, ByteSet, Expr};
+
+#[cfg(test)]
+mod tests;

@@ -1,0 +1,50 @@
+-- The reading of a whole text, from that of its list of items.
+use Rattle.std.proofs.Common.{◌≡◌, ℕ, false, List, [], ◌∷◌, length, Some, None, refl, sym, ap, ◌∙◌, arith, replicate}
+use Rattle.std.proofs.lemmas.List.{get_or-replicate}
+use Rattle.sedck_bre.specs.Tree.{Tree, Trees, Seq}
+use Rattle.sedck_bre.specs.Shape.{Whole, First, Shape}
+use Rattle.sedck_bre.specs.Reading.{◌>>=◌, items_of, whole, read}
+use Rattle.sedck_bre.specs.FullReading.{full}
+use Rattle.sedck_bre.specs.Gives.{ClosedIs}
+use Rattle.sedck_bre.proofs.Sound.{read_sound}
+use Rattle.sedck_bre.proofs.Again.{read_again}
+use Rattle.sedck_bre.proofs.Loop.{full_takes, full_reads}
+
+pub read-items : (text : List ℕ) → read full text ≡ (items_of full Whole First 0 0 [] text >>= whole)
+unfolding read items_of
+read-items text = refl
+
+pub read-none : (text : List ℕ) → items_of full Whole First 0 0 [] text ≡ None → read full text ≡ None
+read-none text e = read-items text ∙ ap (λ o. o >>= whole) e
+
+pub read-over : (text : List ℕ) (ts : Trees) → items_of full Whole First 0 0 [] text ≡ Some (ts, []) → read full text ≡ Some (Seq ts)
+read-over text ts e = read-items text ∙ ap (λ o. o >>= whole) e
+
+whole-rest : (ts : Trees) (rest : List ℕ) → (length rest ≡ 0 → ⊥) → whole (ts, rest) ≡ None
+whole-rest ts [] h = absurd (h refl)
+whole-rest ts (x ∷ rest) h = refl
+
+pub read-rest : (text : List ℕ) (ts : Trees) (rest : List ℕ) → (length rest ≡ 0 → ⊥) → items_of full Whole First 0 0 [] text ≡ Some (ts, rest) → read full text ≡ None
+read-rest text ts rest h e = read-items text ∙ (ap (λ o. o >>= whole) e ∙ whole-rest ts rest h)
+
+pub none_left : (rest : List ℕ) → length rest ≡ 0 → rest ≡ []
+none_left [] h = refl
+none_left (x ∷ rest) h = absurd (omega arith)
+
+pub shape_of : (text : List ℕ) (t : Tree) → read full text ≡ Some t → Shape text t
+shape_of text t e = rw e at (read_sound full full_takes text)
+
+pub only_of : (text : List ℕ) (t : Tree) → read full text ≡ Some t → (u : Tree) → Shape text u → u ≡ t
+only_of text t e u h = same (sym (read_again full full_reads text u h) ∙ e)
+  where
+    same : Some u ≡ Some t → u ≡ t
+    same s = cc
+
+pub none_of : (text : List ℕ) → read full text ≡ None → (u : Tree) → Shape text u → ⊥
+none_of text e u h = same (sym (read_again full full_reads text u h) ∙ e)
+  where
+    same : Some u ≡ None → ⊥
+    same s = cc
+
+pub none_closed : ClosedIs (replicate 256 false) []
+none_closed k l = get_or-replicate 256 k false false l

@@ -1,0 +1,64 @@
+-- How the code's values stand to what is read of a bracket list. Only private contracts and proofs cite it.
+use Rattle.std.specs.Prelude.{◌≡◌, ℕ, ◌+◌, not, Bool, true, List, ◌++◌, codes, length, drop, nat_eq, if◌then◌else◌, Option, Some, None, Result, Ok, Err}
+use Rattle.std.specs.List.{list_any, starts_with}
+use Rattle.sedck_bre.specs.Brackets as brackets
+use Rattle.sedck_bre.specs.Brackets.{class_name, in_element}
+use Rattle.sedck_bre.specs.Reading.{◌>>=◌}
+use Rattle.sedck_bre.specs.BracketReading.{elements_at, set_of}
+use Rattle.sedck_bre.specs.Sets.{HasJust}
+use Rattle.sedck_bre.specs.declared.element.Class.{Class}
+use Rattle.sedck_bre.specs.declared.element.Class.TheVariants.{Upper, Lower, Alpha, Digit, Alnum, Xdigit, Space, Blank, Punct, Graph, Print, Cntrl}
+use Rattle.sedck_bre.specs.declared.element.Element.{Element}
+use Rattle.sedck_bre.specs.declared.element.Element.TheVariants.{One, Range, Members}
+
+abbrev pub class_of : Class → brackets.Class
+class_of Upper = brackets.upper
+class_of Lower = brackets.lower
+class_of Alpha = brackets.alpha
+class_of Digit = brackets.digit
+class_of Alnum = brackets.alnum
+class_of Xdigit = brackets.xdigit
+class_of Space = brackets.space
+class_of Blank = brackets.blank
+class_of Punct = brackets.punct
+class_of Graph = brackets.graph
+class_of Print = brackets.print
+class_of Cntrl = brackets.cntrl
+
+abbrev pub element_of : Element → brackets.Element
+element_of (One c) = brackets.One c
+element_of (Range a z) = brackets.Range a z
+element_of (Members class) = brackets.Members (class_of class)
+
+-- what a class's name and the `:]` behind it are
+abbrev pub closed_name : brackets.Class → List ℕ
+closed_name class = class_name class ++ codes ":]"
+
+-- what follows the closed name, if it stands at the front
+abbrev pub behind_name : brackets.Class → List ℕ → Option (List ℕ)
+behind_name class text = if starts_with nat_eq text (closed_name class) then Some (drop (length (closed_name class)) text) else None
+
+-- what a function returned, seen by view, is what is read
+abbrev pub Reads : {X Y E : Type 0} → (X → Y) → Result X E → Option Y → Type 0
+Reads view (Ok x) read = read ≡ Some (view x)
+Reads view (Err flaw) read = read ≡ None
+
+-- a byte of one of the elements
+abbrev pub is_of : List brackets.Element → ℕ → Bool
+is_of es b = list_any (in_element b) es
+
+-- the elements up to the closing bracket, and what follows it
+unfoldable pub elements_of : Bool → List ℕ → Option (List brackets.Element × List ℕ)
+elements_of first text = elements_at (length text + 1) first text
+
+-- elements are read, and the set has just their bytes
+abbrev pub HasElements : List ℕ → List ℕ → Option (List brackets.Element × List ℕ) → Type 0
+HasElements words rest read = (es : List brackets.Element) × (read ≡ Some (es, rest)) × HasJust words (is_of es)
+
+-- a test turned round, if the flag says so
+abbrev pub signed : Bool → (ℕ → Bool) → ℕ → Bool
+signed complement test b = if complement then not (test b) else test b
+
+-- the set of the elements, or its complement, up to the closing bracket, and what follows it
+abbrev pub set_at : Bool → List ℕ → Option (List ℕ × List ℕ)
+set_at complement text = elements_of true text >>= set_of complement

@@ -1,0 +1,19 @@
+-- How a whole expression is read, and where a part of its text lies. Only private contracts and proofs cite it.
+use Rattle.std.specs.Prelude.{◌≡◌, ℕ, ◌++◌, List, Option}
+use Rattle.sedck_bre.specs.Tree.{Tree}
+use Rattle.sedck_bre.specs.Reading.{◌>>=◌, Readers, set_before}
+use Rattle.sedck_bre.specs.BracketReading.{bracket_at}
+use Rattle.sedck_bre.specs.IntervalReading.{interval_at}
+
+-- the readers of bracket lists and of intervals
+abbrev pub full : Readers
+full = record { bracket = bracket_at; interval = interval_at }
+
+-- a bracket list as an item
+abbrev pub set_at : List ℕ → Option (Tree × List ℕ)
+set_at text = bracket_at text >>= set_before
+
+-- the text stands at the end of the whole
+pub record IsTail (whole text : List ℕ) : Type 0 where
+  pub front : List ℕ
+  pub made : whole ≡ front ++ text

@@ -1,0 +1,25 @@
+-- How the parser's values stand to those of a reading. Only private contracts and proofs cite it.
+use Rattle.std.specs.Prelude.{◌≡◌, ℕ, ◌<◌, Bool, false, if◌then◌else◌, List, Option, Some, None, Result, Ok, Err, slice_index_or}
+use Rattle.sedck_bre.specs.Tree.{is_in}
+use Rattle.sedck_bre.specs.Shape as shape
+use Rattle.sedck_bre.specs.Faults.{IsOfText}
+use Rattle.sedck_bre.specs.declared.fault.ReFault.{ReFault}
+use Rattle.sedck_bre.specs.declared.item.Place.{Place}
+use Rattle.sedck_bre.specs.declared.item.Place.TheVariants.{First, Anchored, Later}
+
+-- what a function returned, seen by view, is what is read, unless memory ran out
+abbrev pub Gives : {X Y : Type 0} → (X → Y) → Result X ReFault → Option Y → Type 0
+Gives view (Ok x) read = read ≡ Some (view x)
+Gives view (Err fault) read = IsOfText fault → read ≡ None
+
+abbrev pub place_of : Place → shape.Place
+place_of First = shape.First
+place_of Anchored = shape.Anchored
+place_of Later = shape.Later
+
+abbrev pub level_of : Bool → shape.Level
+level_of inside = if inside then shape.Inside else shape.Whole
+
+-- the flags are those of the closed groups
+abbrev pub ClosedIs : List Bool → List ℕ → Type 0
+ClosedIs flags closed = (k : ℕ) → k < 256 → slice_index_or flags k false ≡ is_in k closed

@@ -1,0 +1,43 @@
+-- A way to read an interval. Only private contracts and proofs cite it.
+use Rattle.std.specs.Prelude.{ℕ, nat_le, not, ◌&&◌, if◌then◌else◌, List, [], ◌∷◌, drop, Option, Some, None}
+use Rattle.std.specs.Str.Parse.{digits_value}
+use Rattle.sedck_bre.specs.Text.{begins}
+use Rattle.sedck_bre.specs.Brackets.{is_from}
+use Rattle.sedck_bre.specs.Shape.{is_empty}
+use Rattle.sedck_bre.specs.Reading.{◌>>=◌, begins_pair}
+
+abbrev pub digit_before : ℕ → List ℕ × List ℕ → List ℕ × List ℕ
+digit_before c (digits, rest) = (c ∷ digits, rest)
+
+-- the digits at the front, and what follows them
+abbrev pub digits_at : List ℕ → List ℕ × List ℕ
+digits_at [] = ([], [])
+digits_at (c ∷ text) = if is_from 48 57 c then digit_before c (digits_at text) else ([], c ∷ text)
+
+abbrev pub number_of : List ℕ × List ℕ → Option (ℕ × List ℕ)
+number_of (digits, rest) = if not (is_empty digits) && nat_le (digits_value 10 digits) 255 then Some (digits_value 10 digits, rest) else None
+
+abbrev pub number_at : List ℕ → Option (ℕ × List ℕ)
+number_at text = number_of (digits_at text)
+
+-- what stands behind the comma
+abbrev pub most_of : ℕ → ℕ × List ℕ → Option (ℕ × Option ℕ × List ℕ)
+most_of least (most, rest) = if begins_pair 125 rest && nat_le least most then Some (least, Some most, drop 2 rest) else None
+
+abbrev pub most_at : ℕ → List ℕ → Option (ℕ × Option ℕ × List ℕ)
+most_at least text = number_at text >>= most_of least
+
+abbrev pub upper_at : ℕ → List ℕ → Option (ℕ × Option ℕ × List ℕ)
+upper_at least text = if begins_pair 125 text then Some (least, None, drop 2 text) else most_at least text
+
+abbrev pub bounds_of : ℕ × List ℕ → Option (ℕ × Option ℕ × List ℕ)
+bounds_of (least, rest) =
+    if begins_pair 125 rest then Some (least, Some least, drop 2 rest)
+    else if begins "," rest then upper_at least (drop 1 rest)
+    else None
+
+abbrev pub bounds_at : List ℕ → Option (ℕ × Option ℕ × List ℕ)
+bounds_at text = number_at text >>= bounds_of
+
+unfoldable pub interval_at : List ℕ → Option (ℕ × Option ℕ × List ℕ)
+interval_at text = if begins_pair 123 text then bounds_at (drop 2 text) else None
