@@ -19,4 +19,14 @@ pub mod Laws
 pub mod View
 pub mod Faults
 pub mod Reading
+pub mod VerbReading
+pub mod LabelReading
+pub mod PieceReading
+pub mod FlagReading
+pub mod ReplacementReading
+pub mod AddressReading
+pub mod ItemReading
+pub mod Progress
+pub mod ExpressionReading
 pub mod FaultWords
+pub mod NameReading

@@ -1,14 +1,20 @@
 //! From a text to the script that it spells.
 
-ghost use Rattle.std.specs.Prelude.{◌≡◌, ◌≢◌, ℕ, ◌<◌, ◌≤◌, List, Err, length, IfOk, IfErr, OnOk, OnErr};
+ghost use Rattle.std.specs.Prelude.{◌≡◌, ◌≢◌, ℕ, ◌<◌, ◌≤◌, List, Err, length, map, IfOk, IfErr, OnOk, OnErr};
 ghost use Rattle.sedck_script.specs.Program.{Program};
-ghost use Rattle.sedck_script.specs.Spelling.{IsScriptText};
+ghost use Rattle.sedck_script.specs.Spelling.{IsScriptText, AreCommands, Spells};
+ghost use Rattle.sedck_script.specs.Items.{Item, Items};
+ghost use Rattle.sedck_script.specs.View.{command_of};
 ghost use Rattle.sedck_script.specs.First.{FirstSpells};
-ghost use Rattle.sedck_script.specs.Faults.{IsPlaced, IsFirstZero, first_verb_bytes};
+ghost use Rattle.sedck_script.specs.Faults.{IsPlaced, IsFirstZero, first_verb_bytes, verb_bytes};
 
+use crate::expressions::{has_expression, is_quiet};
 use crate::fault::ScriptFault;
 use crate::first::{check_targets, first_items, resolve};
-use crate::script::Script;
+use crate::items::{Progress, items};
+use crate::name_lists::{Access, sorted_names};
+use crate::resolving::{check_targets as check_label_targets, resolve as resolve_items};
+use crate::script::{Command, Script};
 use memchr::memchr;
 use std::alloc::Global;
 
@@ -30,6 +36,48 @@ fn check_text(text: &[u8]) -> Result<(), ScriptFault>
         return Err(ScriptFault::NulByte { place });
     }
     Ok(())
+}
+
+/// The commands that the text spells.
+fn commands<'a>(alloc: Global, text: &'a [u8]) -> Result<Vec<Command<'a>>, ScriptFault>
+    ensures read { IfOk result (λ commands. (items : List Item) × Items text.now items × AreCommands items (map command_of commands.items)) }
+    ensures refused { IfErr result (λ fault. fault ≢ ScriptFault.OutOfMemory → (other : Program) → Spells text.now other → ⊥) }
+    ensures placed { IfErr result (λ fault. IsPlaced verb_bytes text.now fault) }
+{
+    let Progress {
+        items,
+        count,
+        labels,
+        blocks: _,
+        empty,
+    } = items(alloc, text)?;
+    check_label_targets(&items, &labels)?;
+    let commands = resolve_items(alloc, items, count, &labels)?;
+    if let Some(place) = empty {
+        if !has_expression(&commands) {
+            return Err(ScriptFault::NoPreviousExpression { place });
+        }
+    }
+    Ok(commands)
+}
+
+/// The script that the text spells.
+///
+/// A text spells one script at most (POSIX.1-2024 XCU sed). It is read in time linear in it, but for the sorting of at
+/// most 4,095 names. Fault 1 is told first, then 2, then what is met from left to right, then 17, 15 and 21.
+pub fn parse<'a>(alloc: Global, text: &'a [u8]) -> Result<Script<'a>, ScriptFault>
+    ensures spelled { IfOk result (λ script. Spells text.now script) }
+    ensures only { IfOk result (λ script. (other : Program) → Spells text.now other → other ≡ script) }
+    ensures refused { IfErr result (λ fault. fault ≢ ScriptFault.OutOfMemory → (other : Program) → Spells text.now other → ⊥) }
+    ensures placed { IfErr result (λ fault. IsPlaced verb_bytes text.now fault) }
+    ensures too_long { TEXT_LIMIT < length text.now → result ≡ Err (ScriptFault.TooLong TEXT_LIMIT) }
+    ensures zero { (place : ℕ) → length text.now ≤ TEXT_LIMIT → IsFirstZero text.now place → result ≡ Err (ScriptFault.NulByte place) }
+{
+    check_text(text)?;
+    let commands = commands(alloc, text)?;
+    let reads = sorted_names(alloc, &commands, Access::Read)?;
+    let writes = sorted_names(alloc, &commands, Access::Write)?;
+    Ok(Script::new(commands, reads, writes, is_quiet(text)))
 }
 
 /// The script that the text spells in the first part of the language.

@@ -1,6 +1,8 @@
 use super::*;
 use std::test::*;
 
+mod verbs;
+
 /// The place of a fault of the first part, and its number.
 fn fault_of(fault: &ScriptFault) -> (u8, usize) {
     match fault {

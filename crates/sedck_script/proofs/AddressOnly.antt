@@ -1,0 +1,131 @@
+-- The addresses of a command are the only ones.
+use Rattle.std.proofs.Common.{◌≡◌, ℕ, true, List, [], ◌∷◌, Option, Some, None, refl, ap, sym, ◌∙◌, subst}
+use Rattle.std.proofs.lemmas.Bool.{both_ways, not-true}
+use Rattle.sedck_script.specs.Cuts.{is_blank, Longest}
+use Rattle.sedck_script.specs.Program.{Place, Address, NoAddress, One, Two}
+use Rattle.sedck_script.specs.Parts.{PlaceText, AddressText}
+use Rattle.sedck_script.specs.Parts as p
+use Rattle.sedck_script.specs.Items.{WrittenVerb, VerbText}
+use Rattle.sedck_script.specs.AddressReading.{begins_place, is_mark, BeginsPlace, BeginsNoPlace, IsOnlyAddress, IsNoCommand}
+use Rattle.sedck_script.proofs.Cuts.{longest_one}
+use Rattle.sedck_script.proofs.ItemsOne.{place_first, place_other, place_no_mark, no_verb_here, no_place_here, no_comma_here, longest_along, place_along, tails, place_one}
+use Rattle.sedck_script.specs.Reading.{EndsIn}
+use Rattle.sedck_script.proofs.FirstState.{tail_cut, tail_tail}
+use Rattle.sedck_script.proofs.FirstReading.{tail_behind}
+use Rattle.sedck_script.proofs.Tails.{tail_cons, number_tail, expression_tail}
+use Rattle.std.specs.Prelude.{IfSome, IfNone}
+use Rattle.std.specs.Borrow.{Bor}
+use Rattle.sedck_script.specs.View.{place_of}
+use Rattle.sedck_script.specs.declared.script.Place.{Place as CodePlace}
+use Rattle.sedck_script.proofs.Outcomes.{if_some_at, if_none_at}
+use Rattle.sedck_script.proofs.Determined.{expressions_determined}
+
+one_place : {text r s : List ℕ} {q u : Place} → PlaceText text q r → PlaceText text u s → (q ≡ u) × (r ≡ s)
+one_place x y = place_one expressions_determined x y
+
+begins_no : {b : ℕ} {more text : List ℕ} → text ≡ b ∷ more → begins_place b ≡ true → BeginsNoPlace text → ⊥
+begins_no {b} e h n = both_ways (begins_place b) (not-true (begins_place b) (subst (λ t. BeginsNoPlace t) e n)) h
+
+pub no_place : {text r : List ℕ} {q : Place} → BeginsNoPlace text → PlaceText text q r → ⊥
+no_place n x = let f = place_first x in begins_no f.2 f.3 n
+
+none_by : {text s : List ℕ} {b : Address} → BeginsNoPlace text → AddressText text b s → (b ≡ NoAddress) × (s ≡ text)
+none_by n p.none = (refl, refl)
+none_by n (p.one x) = absurd (no_place n x)
+none_by n (p.two x c h d y) = absurd (no_place n x)
+
+-- where no address begins, there is none
+pub only_none : {text : List ℕ} → BeginsNoPlace text → IsOnlyAddress text NoAddress text
+only_none n other behind marks begins left verb a l v = none_by n a
+
+-- behind the blanks stands no comma
+abbrev pub IsNoComma : List ℕ → Type 0
+IsNoComma after = (b : ℕ) (more : List ℕ) → after ≡ b ∷ more → b ≡ 44 → ⊥
+
+one_by : {text r s blanks after marks begins left : List ℕ} {q : Place} {b : Address} {v : WrittenVerb} → PlaceText text q r → Longest is_blank r blanks after → IsNoComma after
+    → AddressText text b s → Longest is_mark s marks begins → VerbText begins v left → (b ≡ One q) × (s ≡ r)
+one_by x l n p.none m v = absurd (no_place_here x m v)
+one_by x l n (p.one y) m v = let one = one_place y x in (ap One one.0, one.1)
+one_by x l n (p.two {more = more} {b = b} y c h d z) m v = absurd (n b more (longest_one l (longest_along (one_place y x).1 c)).1 h)
+
+-- one address, behind which no comma stands
+pub only_one : {text r blanks after : List ℕ} {q : Place} → PlaceText text q r → Longest is_blank r blanks after → IsNoComma after → IsOnlyAddress text (One q) r
+only_one x l n other behind marks begins left verb a m v = one_by x l n a m v
+
+pair_of : {q u x y : Place} {r s : List ℕ} → q ≡ u → (x ≡ y) × (r ≡ s) → (Two q x ≡ Two u y) × (r ≡ s)
+pair_of e h = (cc (e, h.0), h.1)
+
+two_by : {text r s blanks more front second rest marks begins left : List ℕ} {c : ℕ} {q u : Place} {b : Address} {v : WrittenVerb} → PlaceText text q r → Longest is_blank r blanks (c ∷ more) → c ≡ 44
+    → Longest is_blank more front second → PlaceText second u rest
+    → AddressText text b s → Longest is_mark s marks begins → VerbText begins v left → (b ≡ Two q u) × (s ≡ rest)
+two_by x l h d z p.none m v = absurd (no_place_here x m v)
+two_by x l h d z (p.one y) m v = absurd (no_comma_here (longest_along (one_place x y).1 l) h m v)
+two_by x l h d z (p.two y i j k o) m v =
+    let first = one_place y x in
+    let blanks = longest_one (longest_along first.1 i) l in
+    let second = longest_one (longest_along (tails blanks.1) k) d in
+    pair_of first.0 (one_place (place_along second.1 o) z)
+
+-- two addresses
+pub only_two : {text r blanks after more front second rest : List ℕ} {c : ℕ} {q u : Place} → PlaceText text q r → Longest is_blank r blanks after → after ≡ c ∷ more → c ≡ 44
+    → Longest is_blank more front second → PlaceText second u rest → IsOnlyAddress text (Two q u) rest
+only_two {r = r} {blanks = blanks} x l e h d z other behind marks begins left verb a m v = two_by x (subst (λ t. Longest is_blank r blanks t) e l) h d z a m v
+
+pub two_read : {text r blanks after more front second rest : List ℕ} {c : ℕ} {q u : Place} → PlaceText text q r → Longest is_blank r blanks after → after ≡ c ∷ more → c ≡ 44
+    → Longest is_blank more front second → PlaceText second u rest → AddressText text (Two q u) rest
+two_read {r = r} {blanks = blanks} x l e h d z = p.two x (subst (λ t. Longest is_blank r blanks t) e l) h d z
+
+-- ---- No command
+
+refused_by : {text s marks begins left : List ℕ} {b : Address} {v : WrittenVerb} → BeginsPlace text → ((q : Place) (r : List ℕ) → PlaceText text q r → ⊥)
+    → AddressText text b s → Longest is_mark s marks begins → VerbText begins v left → ⊥
+refused_by f n p.none m v = no_verb_here f.2 (place_no_mark f.0 f.3) (place_other f.0 f.3) m v
+refused_by f n (p.one x) m v = n _ _ x
+refused_by f n (p.two x c h d y) m v = n _ _ x
+
+-- where an address begins that is none
+pub no_first : {text : List ℕ} → BeginsPlace text → ((q : Place) (r : List ℕ) → PlaceText text q r → ⊥) → IsNoCommand text
+no_first f n given negated verb rest c = refused_by f n c.addresses c.run c.verbs
+
+second_by : {text r s blanks more front second marks begins left : List ℕ} {c : ℕ} {q : Place} {b : Address} {v : WrittenVerb} → PlaceText text q r → Longest is_blank r blanks (c ∷ more) → c ≡ 44
+    → Longest is_blank more front second → ((u : Place) (t : List ℕ) → PlaceText second u t → ⊥)
+    → AddressText text b s → Longest is_mark s marks begins → VerbText begins v left → ⊥
+second_by x l h d n p.none m v = no_place_here x m v
+second_by x l h d n (p.one y) m v = no_comma_here (longest_along (one_place x y).1 l) h m v
+second_by x l h d n (p.two y i j k o) m v =
+    let first = one_place y x in
+    let blanks = longest_one (longest_along first.1 i) l in
+    let second = longest_one (longest_along (tails blanks.1) k) d in
+    n _ _ (place_along second.1 o)
+
+-- where behind a comma no address stands
+pub no_second : {text r blanks after more front second : List ℕ} {c : ℕ} {q : Place} → PlaceText text q r → Longest is_blank r blanks after → after ≡ c ∷ more → c ≡ 44
+    → Longest is_blank more front second → ((u : Place) (t : List ℕ) → PlaceText second u t → ⊥) → IsNoCommand text
+no_second {r = r} {blanks = blanks} x l e h d n given negated verb rest c = second_by x (subst (λ t. Longest is_blank r blanks t) e l) h d n c.addresses c.run c.verbs
+
+-- ---- Tails
+
+pub place_tail : {text r : List ℕ} {q : Place} → PlaceText text q r → EndsIn text r
+place_tail (p.line n) = number_tail n
+place_tail (p.last {b = b} e) = (b ∷ [], refl)
+place_tail (p.context {b = b} e x y) = tail_cons b (expression_tail x)
+place_tail (p.custom {b = b} {delimiter = d} e i x y) = tail_cons b (tail_cons d (expression_tail x))
+
+-- the tail behind a place, a comma and the blanks round it
+pub second_tail : {whole text r blanks after more front second : List ℕ} {b : ℕ} {q : Place} → EndsIn whole text → PlaceText text q r → Longest is_blank r blanks after → after ≡ b ∷ more → Longest is_blank more front second → EndsIn whole second
+second_tail h x l e m = tail_tail (tail_behind (tail_tail h (tail_tail (place_tail x) (tail_cut l))) e) (tail_cut m)
+
+pub other_byte : {after more : List ℕ} {b : ℕ} → after ≡ b ∷ more → (b ≡ 44 → ⊥) → IsNoComma after
+other_byte e n c other f h = n (first_byte (sym e ∙ f) ∙ h)
+  where
+    first_byte : {x y : ℕ} {s t : List ℕ} → (x ∷ s) ≡ (y ∷ t) → x ≡ y
+    first_byte g = cc g
+
+-- ---- What is found
+
+pub place_found : {text : List ℕ} {o : Option (CodePlace × Option ℕ × Bor (List ℕ))} {x : CodePlace × Option ℕ × Bor (List ℕ)} → o ≡ Some x
+    → IfSome o (λ y. PlaceText text (place_of y.0) y.2.now) → PlaceText text (place_of x.0) x.2.now
+place_found {text = text} e h = if_some_at (λ y. PlaceText text (place_of y.0) y.2.now) e h
+
+pub none_found : (text : List ℕ) {o : Option (CodePlace × Option ℕ × Bor (List ℕ))} → o ≡ None → IfNone o (BeginsNoPlace text) → BeginsNoPlace text
+none_found text e h = if_none_at (BeginsNoPlace text) e h

@@ -1,0 +1,47 @@
+-- A command is its addresses, its marks and its verb.
+use Rattle.std.proofs.Common.{◌≡◌, ℕ, Bool, ◌||◌, eqb, List, [], ◌∷◌, ◌++◌, Option, Some, None, refl, ap, ◌∙◌, subst₂}
+use Rattle.std.specs.List.{list_any}
+use Rattle.std.specs.Option.{option_or}
+use Rattle.sedck_script.specs.Cuts.{Longest}
+use Rattle.sedck_script.specs.Program.{Pattern, Previous, Expression, Address}
+use Rattle.sedck_script.specs.Parts.{AddressText}
+use Rattle.sedck_script.specs.Parts as p
+use Rattle.sedck_script.specs.Items.{WrittenVerb, VerbText, Takes, CommandText}
+use Rattle.sedck_script.specs.Reading.{EndsIn}
+use Rattle.sedck_script.specs.AddressReading.{is_mark, has_previous, IsEmptyAt, IsOnlyAddress}
+use Rattle.sedck_script.proofs.Cuts.{longest_one}
+use Rattle.sedck_script.proofs.FirstState.{tail_tail}
+use Rattle.sedck_script.proofs.ItemsOne.{longest_along, verb_along}
+use Rattle.sedck_script.proofs.AddressOnly.{place_tail, second_tail}
+
+pub address_tail : {text rest : List ℕ} {a : Address} → AddressText text a rest → EndsIn text rest
+address_tail p.none = ([], refl)
+address_tail (p.one x) = place_tail x
+address_tail (p.two x l e m y) = tail_tail (second_tail ([], refl) x l refl m) (place_tail y)
+
+-- the parts of a command, where its addresses are the only ones
+pub record AreParts (a : Address) (marks begins : List ℕ) (b : Address) (n : Bool) (v : WrittenVerb) (rest : List ℕ) : Type 0 where
+  pub address : b ≡ a
+  pub negated : n ≡ list_any (λ x. eqb x 33) marks
+  pub verbs : VerbText begins v rest
+
+pub command_parts : {text r marks begins rest : List ℕ} {a b : Address} {n : Bool} {v : WrittenVerb} → IsOnlyAddress text a r → Longest is_mark r marks begins → CommandText text b n v rest → AreParts a marks begins b n v rest
+command_parts {b = b} {v = v} only l c =
+    let one = only b c.behind c.marks c.begins _ v c.addresses c.run c.verbs in
+    let same = longest_one (longest_along one.1 c.run) l in
+    record { address = one.0; negated = c.mark ∙ ap (list_any (λ x. eqb x 33)) same.0; verbs = verb_along same.1 c.verbs }
+
+pub takes_along : {a b : Address} {m n : Bool} (v : WrittenVerb) → a ≡ b → m ≡ n → Takes v a m → Takes v b n
+takes_along v e f h = subst₂ (λ x y. Takes v x y) e f h
+
+-- ---- Empty expressions
+
+previous_append : (ps qs : List Pattern) → has_previous (ps ++ qs) ≡ (has_previous ps || has_previous qs)
+previous_append [] qs = refl
+previous_append (Previous ∷ ps) qs = refl
+previous_append (Expression tree ∷ ps) qs = previous_append ps qs
+
+pub empty_append : (end : ℕ) (ps qs : List Pattern) (o u : Option ℕ) → IsEmptyAt end ps o → IsEmptyAt end qs u → IsEmptyAt end (ps ++ qs) (option_or o u)
+empty_append end ps qs None None h k = previous_append ps qs ∙ rw (h, k) refl
+empty_append end ps qs None (Some q) h k = (previous_append ps qs ∙ rw (h, k.0) refl, k.1)
+empty_append end ps qs (Some p) u h k = (previous_append ps qs ∙ rw h.0 refl, h.1)

@@ -1,0 +1,14 @@
+-- Ends of commands.
+use Rattle.std.proofs.Common.{◌≡◌, ℕ, ◌≤◌, false, List, [], ◌∷◌, length, get_or, subst, arith}
+use Rattle.std.proofs.lemmas.Bool.{both_ways}
+use Rattle.sedck_script.specs.Cuts.{is_blank, is_ending, IsEmptyOr, Longest}
+use Rattle.sedck_script.specs.Parts.{Ends}
+use Rattle.sedck_script.proofs.Cuts.{longest_one}
+
+no_ending : (rest : List ℕ) → 1 ≤ length rest → is_ending (get_or rest 0 0) ≡ false → IsEmptyOr is_ending rest → ⊥
+no_ending [] some other h = absurd (omega arith)
+no_ending (b ∷ rest) some other h = both_ways (is_ending b) other h
+
+-- behind the blanks stands a byte that ends no command
+pub no_end : {text blanks begins rest : List ℕ} → Longest is_blank text blanks begins → 1 ≤ length begins → is_ending (get_or begins 0 0) ≡ false → Ends text rest → ⊥
+no_end {begins = begins} l some other e = no_ending begins some other (subst (λ t. IsEmptyOr is_ending t) (longest_one e.run l).1 e.ending)

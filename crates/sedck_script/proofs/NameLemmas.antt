@@ -1,0 +1,137 @@
+-- Where a name goes in a list that rises.
+use Rattle.std.proofs.Common.{◌≡◌, ◌⊎◌, ℕ, zero, suc, ◌<◌, ◌≤◌, true, false, List, [], ◌∷◌, ◌++◌, length, map, get_or, refl, ap, sym, ◌∙◌, subst, subst₂, insert, drop, Option, Some, None, inl, inr, arith}
+use Rattle.std.specs.List.Sorted.{IsPartitionedBy}
+use Rattle.std.specs.Borrow.{Bor}
+use Rattle.std.specs.declared.cmp.Ordering.{Ordering}
+use Rattle.std.specs.declared.cmp.Ordering.TheVariants.{Less, Equal, Greater}
+use Rattle.std.specs.Ordering.{nat_cmp, is_lt, is_eq, ordering_reverse}
+use Rattle.std.specs.Str.{bytes_eq}
+use Rattle.std.proofs.lemmas.Map.Text.{is_eq-slice_cmp}
+use Rattle.std.proofs.lemmas.List.{get_or_default}
+use Rattle.std.specs.Cmp.Lexicographic.{slice_cmp}
+use Rattle.std.proofs.lemmas.Bool.{false≢true}
+use Rattle.std.proofs.lemmas.Cmp.{nat_list_cmp_total}
+use Rattle.std.specs.Prelude.{option_to_list}
+use Rattle.std.proofs.Math.Seq.{drop-cons}
+use Rattle.sedck_script.specs.Names.{IsBefore, AreRising, placed, with_name, sorted_names}
+use Rattle.sedck_script.specs.View.{verb_of, command_of}
+use Rattle.sedck_script.specs.NameReading.{accessed, all_accessed, with_any}
+use Rattle.sedck_script.specs.declared.script.Command.{Command}
+use Rattle.sedck_script.specs.declared.name_lists.Access.{Access}
+
+is_less : (o : Ordering) → is_lt o ≡ true → o ≡ Less
+is_less Less h = refl
+is_less Equal h = absurd (false≢true h)
+is_less Greater h = absurd (false≢true h)
+
+get_map : (xs : List (Bor (List ℕ))) (k : ℕ) (d : Bor (List ℕ)) → k < length xs → get_or (map (λ n. n.now) xs) k d.now ≡ (get_or xs k d).now
+get_map [] k d lt = absurd (omega arith)
+get_map (x ∷ xs) zero d lt = refl
+get_map (x ∷ xs) (suc k) d lt = get_map xs k d (omega arith)
+
+map_length : (xs : List (Bor (List ℕ))) → length (map (λ n. n.now) xs) ≡ length xs
+map_length [] = refl
+map_length (x ∷ xs) = ap suc (map_length xs)
+
+-- what is before the name stands in front of what isn't
+pub rising_split : (xs : List (Bor (List ℕ))) (name : List ℕ) → AreRising (map (λ n. n.now) xs) → IsPartitionedBy (λ n. is_lt (slice_cmp nat_cmp n.now name)) xs
+rising_split xs name rising i j d le lt h = elim (same_or_less i j le) [
+  | inl same ↦ subst (λ k. is_lt (slice_cmp nat_cmp (get_or xs k d).now name) ≡ true) (sym same) h
+  | inr less ↦ (
+      let first = subst₂ (λ a b. IsBefore a b) (get_map xs i d (omega arith)) (get_map xs j d lt) (rising i j d.now less (omega (arith, map_length xs))) in
+      ap is_lt (nat_list_cmp_total.trans (get_or xs i d).now (get_or xs j d).now name first (is_less _ h)))
+]
+  where
+    same_or_less : (i j : ℕ) → i ≤ j → (i ≡ j) ⊎ (i < j)
+    same_or_less zero zero h = inl refl
+    same_or_less zero (suc j) h = inr (omega arith)
+    same_or_less (suc i) zero h = absurd (omega arith)
+    same_or_less (suc i) (suc j) h = elim (same_or_less i j (omega arith)) [ inl e ↦ inl (ap suc e) | inr e ↦ inr (omega arith) ]
+
+-- ---- Insertion
+
+not_less : (o : Ordering) → is_lt o ≡ false → (o ≡ Equal) ⊎ (o ≡ Greater)
+not_less Less h = absurd (false≢true (sym h))
+not_less Equal h = inl refl
+not_less Greater h = inr refl
+
+turned : (a b : List ℕ) {o : Ordering} → slice_cmp nat_cmp a b ≡ o → slice_cmp nat_cmp b a ≡ ordering_reverse o
+turned a b e = nat_list_cmp_total.antisymm b a ∙ ap ordering_reverse e
+
+-- a name goes behind those that are before it, unless it is there
+pub with_name_at : (xs : List (List ℕ)) (name : List ℕ) (i : ℕ) → i ≤ length xs → ((k : ℕ) (d : List ℕ) → k < i → is_lt (slice_cmp nat_cmp (get_or xs k d) name) ≡ true)
+    → ((d : List ℕ) → i < length xs → slice_cmp nat_cmp (get_or xs i d) name ≡ Greater) → with_name name xs ≡ insert xs i name
+with_name_at [] name zero le before behind = refl
+with_name_at [] name (suc i) le before behind = absurd (omega arith)
+with_name_at (x ∷ xs) name zero le before behind = ap (λ o. placed o name x xs (with_name name xs)) (turned x name (behind [] (omega arith)))
+with_name_at (x ∷ xs) name (suc i) le before behind =
+    ap (λ o. placed o name x xs (with_name name xs)) (turned x name (is_less _ (before 0 [] (omega arith))))
+    ∙ ap (λ t. x ∷ t) (with_name_at xs name i (omega arith) (λ k d lt. before (suc k) d (omega arith)) (λ d lt. behind d (omega arith)))
+
+pub with_name_there : (xs : List (List ℕ)) (name : List ℕ) (i : ℕ) → ((k : ℕ) (d : List ℕ) → k < i → is_lt (slice_cmp nat_cmp (get_or xs k d) name) ≡ true) → i < length xs
+    → ((d : List ℕ) → slice_cmp nat_cmp (get_or xs i d) name ≡ Equal) → with_name name xs ≡ xs
+with_name_there [] name i before lt here = absurd (omega arith)
+with_name_there (x ∷ xs) name zero before lt here = ap (λ o. placed o name x xs (with_name name xs)) (turned x name (here []))
+with_name_there (x ∷ xs) name (suc i) before lt here =
+    ap (λ o. placed o name x xs (with_name name xs)) (turned x name (is_less _ (before 0 [] (omega arith))))
+    ∙ ap (λ t. x ∷ t) (with_name_there xs name i (λ k d lt'. before (suc k) d (omega arith)) (omega arith) here)
+
+-- ---- The same of a list of borrowed names
+
+get_mapped : (xs : List (Bor (List ℕ))) (k : ℕ) (d : List ℕ) (e : Bor (List ℕ)) → k < length xs → get_or (map (λ n. n.now) xs) k d ≡ (get_or xs k e).now
+get_mapped xs k d e lt = get_or_default (map (λ n. n.now) xs) k d e.now (omega (arith, map_length xs, lt)) ∙ get_map xs k e lt
+
+is_equal : (o : Ordering) → is_eq o ≡ true → o ≡ Equal
+is_equal Less h = absurd (false≢true h)
+is_equal Equal h = refl
+is_equal Greater h = absurd (false≢true h)
+
+is_greater : (o : Ordering) → is_lt o ≡ false → is_eq o ≡ false → o ≡ Greater
+is_greater Less h k = absurd (false≢true (sym h))
+is_greater Equal h k = absurd (false≢true (sym k))
+is_greater Greater h k = refl
+
+abbrev pub AreBefore : List (Bor (List ℕ)) → Bor (List ℕ) → ℕ → Type 0
+AreBefore xs name i = (k : ℕ) (d : Bor (List ℕ)) → k < i → is_lt (slice_cmp nat_cmp (get_or xs k d).now name.now) ≡ true
+
+-- a name that is there is not added
+pub name_there : (xs : List (Bor (List ℕ))) (name other : Bor (List ℕ)) (i : ℕ) → AreBefore xs name i → i < length xs → other ≡ get_or xs i other → bytes_eq other.now name.now ≡ true
+    → map (λ n. n.now) xs ≡ with_name name.now (map (λ n. n.now) xs)
+name_there xs name other i before lt at same =
+    let equal : slice_cmp nat_cmp other.now name.now ≡ Equal = is_equal _ (is_eq-slice_cmp other.now name.now ∙ same) in
+    sym (with_name_there (map (λ n. n.now) xs) name.now i
+    (λ k d lt'. ap (λ n. is_lt (slice_cmp nat_cmp n name.now)) (get_mapped xs k d name (omega arith)) ∙ before k name lt')
+    (omega (arith, map_length xs))
+    (λ d. ap (λ n. slice_cmp nat_cmp n name.now) (get_mapped xs i d other lt ∙ ap (λ b. b.now) (sym at)) ∙ equal))
+
+map_insert : (xs : List (Bor (List ℕ))) (i : ℕ) (y : Bor (List ℕ)) → map (λ n. n.now) (insert xs i y) ≡ insert (map (λ n. n.now) xs) i y.now
+map_insert [] zero y = refl
+map_insert [] (suc i) y = refl
+map_insert (x ∷ xs) zero y = refl
+map_insert (x ∷ xs) (suc i) y = ap (λ t. x.now ∷ t) (map_insert xs i y)
+
+abbrev pub IsBehind : List (Bor (List ℕ)) → Bor (List ℕ) → ℕ → Type 0
+IsBehind xs name i = i < length xs → (is_lt (slice_cmp nat_cmp (get_or xs i name).now name.now) ≡ false) × (bytes_eq (get_or xs i name).now name.now ≡ false)
+
+-- another goes to its place
+pub name_new : (xs : List (Bor (List ℕ))) (name : Bor (List ℕ)) (i : ℕ) → AreBefore xs name i → i ≤ length xs
+    → IsBehind xs name i → map (λ n. n.now) (insert xs i name) ≡ with_name name.now (map (λ n. n.now) xs)
+name_new xs name i before le behind =
+    map_insert xs i name ∙ sym (with_name_at (map (λ n. n.now) xs) name.now i (omega (arith, map_length xs))
+    (λ k d lt. ap (λ n. is_lt (slice_cmp nat_cmp n name.now)) (get_mapped xs k d name (omega arith)) ∙ before k name lt)
+    (λ d lt. let both = behind (omega (arith, map_length xs)) in
+    ap (λ n. slice_cmp nat_cmp n name.now) (get_mapped xs i d name (omega (arith, map_length xs))) ∙ is_greater _ both.0 (is_eq-slice_cmp (get_or xs i name).now name.now ∙ both.1)))
+
+-- ---- The names of commands
+
+any_before : (o : Option (List ℕ)) (names : List (List ℕ)) → sorted_names (option_to_list o ++ names) ≡ with_any o (sorted_names names)
+any_before None names = refl
+any_before (Some name) names = refl
+
+-- the names from a command on, from those behind it
+pub names_from : (a : Access) (commands : List Command) (i : ℕ) (d : Command) (o : Option (List ℕ)) → i < length commands → option_to_list o ≡ accessed a (verb_of (get_or commands i d).verb)
+    → sorted_names (all_accessed a (map command_of (drop i commands))) ≡ with_any o (sorted_names (all_accessed a (map command_of (drop (suc i) commands))))
+names_from a commands i d o lt h =
+    ap (λ l. sorted_names (all_accessed a (map command_of l))) (drop-cons commands i d lt)
+    ∙ ap (λ l. sorted_names (l ++ all_accessed a (map command_of (drop (suc i) commands)))) (sym h)
+    ∙ any_before o (all_accessed a (map command_of (drop (suc i) commands)))

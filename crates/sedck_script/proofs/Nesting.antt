@@ -1,0 +1,121 @@
+-- Items that resolve to commands close each block; and their labels stand at their commands.
+use Rattle.std.proofs.Common.{◌≡◌, ℕ, Bool, false, zero, suc, List, [], ◌∷◌, ◌++◌, length, Option, Some, None, refl, ap, sym, ◌∙◌, arith}
+use Rattle.sedck_script.specs.Program.{Address, NoAddress, Label, Verb, Branch, Command}
+use Rattle.sedck_script.specs.Items.{Known, Item, Written, Closing}
+use Rattle.sedck_script.specs.Resolution.{Defines, AreLabelsDistinct, Resolves, done, known, branch, test, opening, closing}
+use Rattle.sedck_script.specs.Reading.{IsLabelOf, AreLabelsOnce}
+use Rattle.sedck_script.specs.ItemReading.{commands_among, Turn, Opens, Closes, Stays, turn_of, Turned, Nests}
+use Rattle.sedck_script.proofs.ResolvesOne.{verbs_same}
+
+pub resolves_nests : {A cs : List Command} {blocks : List ℕ} {place : ℕ} {items : List Item} → Resolves A blocks place items cs → Nests items (length blocks)
+resolves_nests done = refl
+resolves_nests (known r) = resolves_nests r
+resolves_nests (branch h r) = resolves_nests r
+resolves_nests (test h r) = resolves_nests r
+resolves_nests (opening h r) = (h, resolves_nests r)
+resolves_nests (closing h r) = resolves_nests r
+
+pub resolves_length : {A cs : List Command} {blocks : List ℕ} {place : ℕ} {items : List Item} → Resolves A blocks place items cs → length cs ≡ length (commands_among items)
+resolves_length done = refl
+resolves_length (known r) = ap suc (resolves_length r)
+resolves_length (branch h r) = ap suc (resolves_length r)
+resolves_length (test h r) = ap suc (resolves_length r)
+resolves_length (opening h r) = ap suc (resolves_length r)
+resolves_length (closing h r) = resolves_length r
+
+-- ---- Depths
+
+abbrev turned_one_goal : Turn → (ℕ → Type 0) → Type 0
+turned_one_goal t P = (d e : ℕ) → Turned t P d → Turned t P e → d ≡ e
+
+turned_one : (t : Turn) (P : ℕ → Type 0) → ((d e : ℕ) → P d → P e → d ≡ e) → turned_one_goal t P
+turned_one Opens P one d e h k = omega (arith, one (suc d) (suc e) h.1 k.1)
+turned_one Closes P one zero e h k = absurd h
+turned_one Closes P one (suc d) zero h k = absurd k
+turned_one Closes P one (suc d) (suc e) h k = ap suc (one d e h k)
+turned_one Stays P one d e h k = one d e h k
+
+-- items close one number of blocks
+pub nests_one : (items : List Item) (d e : ℕ) → Nests items d → Nests items e → d ≡ e
+nests_one [] d e h k = h ∙ sym k
+nests_one (x ∷ items) d e h k = turned_one (turn_of x) (Nests items) (nests_one items) d e h k
+
+turned_some : (t : Turn) (P : ℕ → Type 0) (d : ℕ) → Turned t P d → (e : ℕ) × P e
+turned_some Opens P d h = (suc d, h.1)
+turned_some Closes P zero h = absurd h
+turned_some Closes P (suc d) h = (d, h)
+turned_some Stays P d h = (d, h)
+
+-- an end of items that nest nests
+pub nests_behind : (front items : List Item) (d : ℕ) → Nests (front ++ items) d → (e : ℕ) × Nests items e
+nests_behind [] items d h = (d, h)
+nests_behind (x ∷ front) items d h = let one = turned_some (turn_of x) (Nests (front ++ items)) d h in nests_behind front items one.0 one.1
+
+-- ---- Labels
+
+some_item : {x y : Item} → Some x ≡ Some y → x ≡ y
+some_item e = cc e
+
+-- the command of an item whose verb has no target
+abbrev plain_command : Item → Command
+plain_command (Written a n (Known v)) = record { address = a; negated = n; verb = v }
+plain_command (Written a n v) = record { address = a; negated = n; verb = Branch 0 }
+plain_command Closing = record { address = NoAddress; negated = false; verb = Branch 0 }
+
+label_command : {x : Item} {name : List ℕ} → Some x ≡ Some (Written NoAddress false (Known (Label name))) → plain_command x ≡ record { address = NoAddress; negated = false; verb = Label name }
+label_command e = ap plain_command (some_item e)
+
+no_branch_verb : {t : ℕ} {name : List ℕ} → Branch t ≡ Label name → ⊥
+no_branch_verb e = cc e
+
+-- a label's item becomes the command that defines it
+pub label_defined : {A cs : List Command} {blocks : List ℕ} {place : ℕ} {items : List Item} → Resolves A blocks place items cs → (name : List ℕ) (i : ℕ) → IsLabelOf (commands_among items) name i → Defines cs name i
+label_defined done name i h = absurd (cc h)
+label_defined (known r) name zero h = ap Some (label_command h)
+label_defined (branch x r) name zero h = absurd (no_branch_verb (ap (λ c. c.verb) (label_command h)))
+label_defined (test x r) name zero h = absurd (no_branch_verb (ap (λ c. c.verb) (label_command h)))
+label_defined (opening x r) name zero h = absurd (no_branch_verb (ap (λ c. c.verb) (label_command h)))
+label_defined (known r) name (suc i) h = label_defined r name i h
+label_defined (branch x r) name (suc i) h = label_defined r name i h
+label_defined (test x r) name (suc i) h = label_defined r name i h
+label_defined (opening x r) name (suc i) h = label_defined r name i h
+label_defined (closing x r) name i h = label_defined r name i h
+
+abbrev written_some : Option Command → Option Item
+written_some (Some c) = Some (Written c.address c.negated (Known c.verb))
+written_some None = None
+
+same_written : {a b : Address} {n m : Bool} {v w : Verb} → ◌≡◌ {A = Option Command} (Some (record { address = a; negated = n; verb = v })) (Some (record { address = b; negated = m; verb = w })) → ◌≡◌ {A = Option Item} (Some (Written a n (Known v))) (Some (Written b m (Known w)))
+same_written e = ap written_some e
+
+-- a command that defines a label comes of the label's item
+pub label_written : {A cs : List Command} {blocks : List ℕ} {place : ℕ} {items : List Item} → Resolves A blocks place items cs → (name : List ℕ) (i : ℕ) → Defines cs name i → IsLabelOf (commands_among items) name i
+label_written done name i h = absurd (cc h)
+label_written (known r) name zero h = same_written h
+label_written (branch x r) name zero h = absurd (cc (verbs_same h))
+label_written (test x r) name zero h = absurd (cc (verbs_same h))
+label_written (opening x r) name zero h = absurd (cc (verbs_same h))
+label_written (known r) name (suc i) h = label_written r name i h
+label_written (branch x r) name (suc i) h = label_written r name i h
+label_written (test x r) name (suc i) h = label_written r name i h
+label_written (opening x r) name (suc i) h = label_written r name i h
+label_written (closing x r) name i h = label_written r name i h
+
+-- the labels of commands are distinct where those of their items stand once, and the other way round
+pub labels_once : {A cs : List Command} {blocks : List ℕ} {place : ℕ} {items : List Item} → Resolves A blocks place items cs → AreLabelsDistinct cs → AreLabelsOnce (commands_among items)
+labels_once r d name i j h k = d name i j (label_defined r name i h) (label_defined r name j k)
+
+-- ---- A list of commands that has the labels of the items
+
+abbrev pub plain_commands : List Item → List Command
+plain_commands [] = []
+plain_commands (x ∷ items) = plain_command x ∷ plain_commands items
+
+pub plain_length : (items : List Item) → length (plain_commands items) ≡ length items
+plain_length [] = refl
+plain_length (x ∷ items) = ap suc (plain_length items)
+
+pub plain_label : (items : List Item) (name : List ℕ) (i : ℕ) → IsLabelOf items name i → Defines (plain_commands items) name i
+plain_label [] name i h = absurd (cc h)
+plain_label (x ∷ items) name zero h = ap Some (label_command h)
+plain_label (x ∷ items) name (suc i) h = plain_label items name i h

@@ -1,0 +1,232 @@
+-- How far a delimited part has been read.
+use Rattle.std.proofs.Common.{◌≡◌, ◌≢◌, ℕ, ◌<◌, eqb, cond, Some, None, inl, inr, ◌⊎◌, List, [], ◌∷◌, ◌++◌, length, refl, ap, sym, ◌∙◌, subst, append_assoc, append-nil, arith}
+use Rattle.sedck_script.specs.Parts.{DelimitedExpression, DelimitedList}
+use Rattle.sedck_script.specs.Parts as p
+use Rattle.sedck_script.specs.Reading.{EndsIn}
+use Rattle.sedck_script.specs.declared.delimited.Piece.{Piece}
+use Rattle.sedck_script.specs.declared.delimited.Piece.TheVariants as piece
+use Rattle.std.proofs.lemmas.Bool.{eqb-true, cond_both}
+use Rattle.sedck_bre.specs.Tree.{Tree}
+use Rattle.sedck_bre.specs.Shape.{Shape}
+use Rattle.sedck_script.specs.Program.{Pattern, Previous, Expression}
+use Rattle.sedck_script.specs.Parts.{IsPattern, previous, expression}
+use Rattle.sedck_script.specs.PieceReading.{IsPiece, list_escape, PatternText}
+use Rattle.sedck_script.proofs.PartsOne.{expression_one}
+use Rattle.sedck_script.proofs.PartLemmas.{no_bytes}
+use Rattle.sedck_script.proofs.FirstState.{tail_tail}
+use Rattle.sedck_script.proofs.FirstOne.{heads}
+
+pub piece_tail : (d : ℕ) (text rest : List ℕ) (x : Piece) → IsPiece d text x rest → EndsIn text rest
+piece_tail d text rest piece.End h = (d ∷ [], h)
+piece_tail d text rest (piece.Byte b) h = (b ∷ [], h.0)
+piece_tail d text rest piece.Escaped h = (92 ∷ d ∷ [], h.0)
+piece_tail d text rest (piece.Pair b) h = (92 ∷ b ∷ [], h.0)
+
+pub piece_shorter : (d : ℕ) (text rest : List ℕ) (x : Piece) → IsPiece d text x rest → length rest < length text
+piece_shorter d text rest piece.End h = omega (arith, ap length h)
+piece_shorter d text rest (piece.Byte b) h = omega (arith, ap length h.0)
+piece_shorter d text rest piece.Escaped h = omega (arith, ap length h.0)
+piece_shorter d text rest (piece.Pair b) h = omega (arith, ap length h.0)
+
+-- an expression begins with some piece
+pub record SomePiece (d : ℕ) (text : List ℕ) : Type 0 where
+  pub kind : Piece
+  pub rest : List ℕ
+  pub is : IsPiece d text kind rest
+
+pub expression_piece : {d : ℕ} {text e r : List ℕ} → DelimitedExpression d text e r → SomePiece d text
+expression_piece (p.ends {rest = rest} h) = record { kind = piece.End; rest = rest; is = ap (λ b. b ∷ rest) h }
+expression_piece (p.byte {b = b} {text = rest} f g h x) = record { kind = piece.Byte b; rest = rest; is = (refl, f, g, h) }
+expression_piece (p.escaped {text = rest} f g h x) = record { kind = piece.Escaped; rest = rest; is = (cc, h) }
+expression_piece (p.pair {b = b} {text = rest} f g h x) = record { kind = piece.Pair b; rest = rest; is = (ap (λ a. a ∷ b ∷ rest) f, g) }
+
+pub list_piece : {d : ℕ} {text e r : List ℕ} → d ≢ 92 → DelimitedList d text e r → SomePiece d text
+list_piece n (p.ends {rest = rest} h) = record { kind = piece.End; rest = rest; is = ap (λ b. b ∷ rest) h }
+list_piece n (p.byte {b = b} {text = rest} f g h x) = record { kind = piece.Byte b; rest = rest; is = (refl, f, g, h) }
+list_piece n (p.escaped {text = rest} f g h x) = record { kind = piece.Escaped; rest = rest; is = (cc, h) }
+list_piece n (p.backslashes {b = b} {text = rest} f g x) = record { kind = piece.Pair b; rest = rest; is = (ap (λ a. a ∷ b ∷ rest) f, λ e. n (sym e ∙ g)) }
+list_piece n (p.line {b = b} {text = rest} f g h x) = record { kind = piece.Pair b; rest = rest; is = (ap (λ a. a ∷ b ∷ rest) f, g) }
+
+-- These bytes of an expression have been read, and rest is left.
+pub record ExpressionPassed (d : ℕ) (whole text bytes rest : List ℕ) : Type 0 where
+  pub tail : EndsIn whole rest
+  pub sound : (e r : List ℕ) → DelimitedExpression d rest e r → DelimitedExpression d text (bytes ++ e) r
+  pub only : (e r : List ℕ) → DelimitedExpression d text e r → (f : List ℕ) × DelimitedExpression d rest f r
+
+pub expression_start : {d : ℕ} {whole text : List ℕ} → EndsIn whole text → ExpressionPassed d whole text [] text
+expression_start h = record { tail = h; sound = λ e r x. x; only = λ e r x. (e, x) }
+
+-- one more piece
+pub record ExpressionStep (d : ℕ) (text front behind : List ℕ) : Type 0 where
+  pub sound : (e r : List ℕ) → DelimitedExpression d behind e r → DelimitedExpression d text (front ++ e) r
+  pub only : (e r : List ℕ) → DelimitedExpression d text e r → (f : List ℕ) × DelimitedExpression d behind f r
+
+pub expression_more : {d : ℕ} {whole text bytes rest front behind : List ℕ} (all : List ℕ) → all ≡ bytes ++ front → ExpressionPassed d whole text bytes rest → EndsIn rest behind → ExpressionStep d rest front behind → ExpressionPassed d whole text all behind
+expression_more {bytes = bytes} {front = front} all g h t s = record {
+  tail = tail_tail h.tail t;
+  sound = λ e r x. rw (g, append_assoc) (h.sound (front ++ e) r (s.sound e r x));
+  only = λ e r x. let one = h.only e r x in s.only one.0 r one.1;
+}
+
+only_byte : {d b : ℕ} {behind e r : List ℕ} → b ≢ d → b ≢ 92 → DelimitedExpression d (b ∷ behind) e r → (f : List ℕ) × DelimitedExpression d behind f r
+only_byte n m (p.ends h) = absurd (n h)
+only_byte n m (p.byte f g h x) = (_, x)
+only_byte n m (p.escaped f g h x) = absurd (m f)
+only_byte n m (p.pair f g h x) = absurd (m f)
+
+only_two : {d a b : ℕ} {behind e r : List ℕ} → d ≢ 92 → a ≡ 92 → DelimitedExpression d (a ∷ b ∷ behind) e r → (f : List ℕ) × DelimitedExpression d behind f r
+only_two n m (p.ends h) = absurd (n (sym h ∙ m))
+only_two n m (p.byte f g h x) = absurd (g m)
+only_two n m (p.escaped f g h x) = (_, x)
+only_two n m (p.pair f g h x) = (_, x)
+
+pub expression_byte : {d b : ℕ} {text behind : List ℕ} → IsPiece d text (piece.Byte b) behind → ExpressionStep d text (b ∷ []) behind
+expression_byte {d} {b} h = record {
+  sound = λ e r x. subst (λ t. DelimitedExpression d t (b ∷ e) r) (sym h.0) (p.byte h.1 h.2 h.3 x);
+  only = λ e r x. only_byte h.1 h.2 (subst (λ t. DelimitedExpression d t e r) h.0 x);
+}
+
+pub expression_escaped : {d : ℕ} {text behind : List ℕ} → d ≢ 92 → IsPiece d text piece.Escaped behind → ExpressionStep d text (d ∷ []) behind
+expression_escaped {d} n h = record {
+  sound = λ e r x. subst (λ t. DelimitedExpression d t (d ∷ e) r) (sym h.0) (p.escaped refl refl h.1 x);
+  only = λ e r x. only_two n refl (subst (λ t. DelimitedExpression d t e r) h.0 x);
+}
+
+pub expression_pair : {d b : ℕ} {text behind : List ℕ} → d ≢ 92 → b ≢ 10 → IsPiece d text (piece.Pair b) behind → ExpressionStep d text (92 ∷ b ∷ []) behind
+expression_pair {d} {b} n m h = record {
+  sound = λ e r x. subst (λ t. DelimitedExpression d t (92 ∷ b ∷ e) r) (sym h.0) (p.pair refl h.1 m x);
+  only = λ e r x. only_two n refl (subst (λ t. DelimitedExpression d t e r) h.0 x);
+}
+
+pub expression_end : {d : ℕ} {whole text bytes rest behind : List ℕ} → ExpressionPassed d whole text bytes rest → IsPiece d rest piece.End behind → DelimitedExpression d text bytes behind
+expression_end {d} {behind = behind} h e = rw append-nil at (h.sound [] behind (subst (λ t. DelimitedExpression d t [] behind) (sym e) (p.ends refl)))
+
+-- where no piece follows
+pub expression_stuck : {d : ℕ} {whole text bytes rest : List ℕ} → ExpressionPassed d whole text bytes rest → ((x : Piece) (r : List ℕ) → IsPiece d rest x r → ⊥) → (e r : List ℕ) → DelimitedExpression d text e r → ⊥
+expression_stuck h n e r x = let one = h.only e r x in let some = expression_piece one.1 in n some.kind some.rest some.is
+
+no_escaped_line : {d a b : ℕ} {behind e r : List ℕ} → d ≢ 92 → a ≡ 92 → b ≢ d → b ≡ 10 → DelimitedExpression d (a ∷ b ∷ behind) e r → ⊥
+no_escaped_line n m k l (p.ends h) = n (sym h ∙ m)
+no_escaped_line n m k l (p.byte f g h x) = g m
+no_escaped_line n m k l (p.escaped f g h x) = k g
+no_escaped_line n m k l (p.pair f g h x) = h l
+
+-- where an escaped newline follows
+pub expression_broken : {d b : ℕ} {whole text bytes rest behind : List ℕ} → d ≢ 92 → ExpressionPassed d whole text bytes rest → IsPiece d rest (piece.Pair b) behind → b ≡ 10 → (e r : List ℕ) → DelimitedExpression d text e r → ⊥
+expression_broken {d} n h k l e r x = let one = h.only e r x in no_escaped_line n refl k.1 l (subst (λ t. DelimitedExpression d t one.0 r) k.0 one.1)
+
+-- These bytes of a list have been read, and rest is left.
+pub record ListPassed (d : ℕ) (whole text bytes rest : List ℕ) : Type 0 where
+  pub tail : EndsIn whole rest
+  pub sound : (e r : List ℕ) → DelimitedList d rest e r → DelimitedList d text (bytes ++ e) r
+  pub only : (e r : List ℕ) → DelimitedList d text e r → (f : List ℕ) × DelimitedList d rest f r
+
+pub list_start : {d : ℕ} {whole text : List ℕ} → EndsIn whole text → ListPassed d whole text [] text
+list_start h = record { tail = h; sound = λ e r x. x; only = λ e r x. (e, x) }
+
+-- one more byte
+pub record ListStep (d : ℕ) (text : List ℕ) (byte : ℕ) (behind : List ℕ) : Type 0 where
+  pub sound : (e r : List ℕ) → DelimitedList d behind e r → DelimitedList d text (byte ∷ e) r
+  pub only : (e r : List ℕ) → DelimitedList d text e r → (f : List ℕ) × DelimitedList d behind f r
+
+pub list_more : {d byte : ℕ} {whole text bytes rest behind : List ℕ} (all : List ℕ) → all ≡ bytes ++ byte ∷ [] → ListPassed d whole text bytes rest → EndsIn rest behind → ListStep d rest byte behind → ListPassed d whole text all behind
+list_more {byte = byte} {bytes = bytes} all g h t s = record {
+  tail = tail_tail h.tail t;
+  sound = λ e r x. rw (g, append_assoc) (h.sound (byte ∷ e) r (s.sound e r x));
+  only = λ e r x. let one = h.only e r x in s.only one.0 r one.1;
+}
+
+only_list_byte : {d b : ℕ} {behind e r : List ℕ} → b ≢ d → b ≢ 92 → DelimitedList d (b ∷ behind) e r → (f : List ℕ) × DelimitedList d behind f r
+only_list_byte n m (p.ends h) = absurd (n h)
+only_list_byte n m (p.byte f g h x) = (_, x)
+only_list_byte n m (p.escaped f g h x) = absurd (m f)
+only_list_byte n m (p.backslashes f g x) = absurd (m f)
+only_list_byte n m (p.line f g h x) = absurd (m f)
+
+only_list_two : {d a b : ℕ} {behind e r : List ℕ} → d ≢ 92 → a ≡ 92 → DelimitedList d (a ∷ b ∷ behind) e r → (f : List ℕ) × DelimitedList d behind f r
+only_list_two n m (p.ends h) = absurd (n (sym h ∙ m))
+only_list_two n m (p.byte f g h x) = absurd (g m)
+only_list_two n m (p.escaped f g h x) = (_, x)
+only_list_two n m (p.backslashes f g x) = (_, x)
+only_list_two n m (p.line f g h x) = (_, x)
+
+pub list_byte : {d b : ℕ} {text behind : List ℕ} → IsPiece d text (piece.Byte b) behind → ListStep d text b behind
+list_byte {d} {b} h = record {
+  sound = λ e r x. subst (λ t. DelimitedList d t (b ∷ e) r) (sym h.0) (p.byte h.1 h.2 h.3 x);
+  only = λ e r x. only_list_byte h.1 h.2 (subst (λ t. DelimitedList d t e r) h.0 x);
+}
+
+pub list_escaped : {d : ℕ} {text behind : List ℕ} → d ≢ 92 → IsPiece d text piece.Escaped behind → ListStep d text d behind
+list_escaped {d} n h = record {
+  sound = λ e r x. subst (λ t. DelimitedList d t (d ∷ e) r) (sym h.0) (p.escaped refl refl h.1 x);
+  only = λ e r x. only_list_two n refl (subst (λ t. DelimitedList d t e r) h.0 x);
+}
+
+-- what an escape of a list means
+escape_cases : (b m : ℕ) → list_escape b ≡ Some m → ((b ≡ 92) × (m ≡ 92)) ⊎ ((b ≡ 110) × (m ≡ 10))
+escape_cases b m h =
+    cond_both (eqb b 92) (Some 92) (cond (eqb b 110) (Some 10) None) (λ o. o ≡ Some m → ((b ≡ 92) × (m ≡ 92)) ⊎ ((b ≡ 110) × (m ≡ 10)))
+    (λ t e. inl (eqb-true b 92 t, cc e))
+    (λ f. cond_both (eqb b 110) (Some 10) None (λ o. o ≡ Some m → ((b ≡ 92) × (m ≡ 92)) ⊎ ((b ≡ 110) × (m ≡ 10)))
+    (λ t e. inr (eqb-true b 110 t, cc e))
+    (λ g e. absurd (cc e)))
+    h
+
+pub list_pair : {d b m : ℕ} {text behind : List ℕ} → d ≢ 92 → list_escape b ≡ Some m → IsPiece d text (piece.Pair b) behind → ListStep d text m behind
+list_pair {d} {b} {m} n k h = record {
+  sound = λ e r x. subst (λ t. DelimitedList d t (m ∷ e) r) (sym h.0) (elim (escape_cases b m k) [
+    | inl f ↦ rw f.1 (p.backslashes refl f.0 x)
+    | inr f ↦ rw f.1 (p.line refl h.1 (ap (λ c. c ∷ []) f.0) x)
+  ]);
+  only = λ e r x. only_list_two n refl (subst (λ t. DelimitedList d t e r) h.0 x);
+}
+
+pub list_end : {d : ℕ} {whole text bytes rest behind : List ℕ} → ListPassed d whole text bytes rest → IsPiece d rest piece.End behind → DelimitedList d text bytes behind
+list_end {d} {behind = behind} h e = rw append-nil at (h.sound [] behind (subst (λ t. DelimitedList d t [] behind) (sym e) (p.ends refl)))
+
+-- where no piece follows
+pub list_stuck : {d : ℕ} {whole text bytes rest : List ℕ} → d ≢ 92 → ListPassed d whole text bytes rest → ((x : Piece) (r : List ℕ) → IsPiece d rest x r → ⊥) → (e r : List ℕ) → DelimitedList d text e r → ⊥
+list_stuck k h n e r x = let one = h.only e r x in let some = list_piece k one.1 in n some.kind some.rest some.is
+
+no_list_pair : {d a b : ℕ} {behind e r : List ℕ} → d ≢ 92 → a ≡ 92 → b ≢ d → list_escape b ≡ None → DelimitedList d (a ∷ b ∷ behind) e r → ⊥
+no_list_pair n m k l (p.ends h) = n (sym h ∙ m)
+no_list_pair n m k l (p.byte f g h x) = g m
+no_list_pair n m k l (p.escaped f g h x) = k g
+no_list_pair n m k l (p.backslashes f g x) = let h = rw g at l in cc
+no_list_pair n m k l (p.line f g h x) = let e = heads h in let i = rw e at l in cc
+
+-- where an escape follows that means nothing
+pub list_broken : {d b : ℕ} {whole text bytes rest behind : List ℕ} → d ≢ 92 → ListPassed d whole text bytes rest → IsPiece d rest (piece.Pair b) behind → list_escape b ≡ None → (e r : List ℕ) → DelimitedList d text e r → ⊥
+list_broken {d} n h k l e r x = let one = h.only e r x in no_list_pair n refl k.1 l (subst (λ t. DelimitedList d t one.0 r) k.0 one.1)
+
+-- an empty expression, and one that isn't
+pub pattern_none : {d : ℕ} {text bytes rest : List ℕ} → DelimitedExpression d text bytes rest → length bytes ≡ 0 → PatternText d text Previous rest
+pattern_none {d} {text} {bytes} {rest} x e = let none = no_bytes bytes e in ([], subst (λ t. DelimitedExpression d text t rest) none x, previous)
+
+pub pattern_some : {d : ℕ} {text bytes rest : List ℕ} {tree : Tree} → DelimitedExpression d text bytes rest → 0 < length bytes → Shape bytes tree → PatternText d text (Expression tree) rest
+pattern_some {bytes = bytes} {tree = tree} x some s = (bytes, x, is_expression bytes some s)
+  where
+    is_expression : (bytes : List ℕ) → 0 < length bytes → Shape bytes tree → IsPattern bytes (Expression tree)
+    is_expression [] some s = absurd (omega arith)
+    is_expression (b ∷ bytes) some s = expression s
+
+no_pattern_by : (bytes : List ℕ) (pattern : Pattern) → 0 < length bytes → ((t : Tree) → Shape bytes t → ⊥) → IsPattern bytes pattern → ⊥
+no_pattern_by bytes pattern some n previous = omega arith
+no_pattern_by bytes pattern some n (expression s) = n _ s
+
+pub no_pattern : {d : ℕ} {text bytes rest r : List ℕ} (pattern : Pattern) → d ≢ 92 → DelimitedExpression d text bytes rest → 0 < length bytes → ((t : Tree) → Shape bytes t → ⊥) → PatternText d text pattern r → ⊥
+no_pattern {bytes = bytes} pattern k x some n y = no_pattern_by bytes pattern some n (subst (λ t. IsPattern t pattern) (expression_one k y.1 x).0 y.2)
+
+none_only : (q : Pattern) (bytes : List ℕ) → length bytes ≡ 0 → IsPattern bytes q → q ≡ Previous
+none_only q bytes e previous = refl
+none_only q bytes e (expression s) = absurd (omega arith)
+
+some_only : {tree : Tree} (q : Pattern) (bytes : List ℕ) → 0 < length bytes → ((t : Tree) → Shape bytes t → t ≡ tree) → IsPattern bytes q → q ≡ Expression tree
+some_only q bytes some n previous = absurd (omega arith)
+some_only q bytes some n (expression {tree = t} s) = ap Expression (n t s)
+
+pub pattern_none_only : {d : ℕ} {text bytes rest r : List ℕ} (q : Pattern) → d ≢ 92 → DelimitedExpression d text bytes rest → length bytes ≡ 0 → PatternText d text q r → (q ≡ Previous) × (r ≡ rest)
+pattern_none_only {bytes = bytes} q k x e y = let one = expression_one k y.1 x in (none_only q bytes e (subst (λ t. IsPattern t q) one.0 y.2), one.1)
+
+pub pattern_some_only : {d : ℕ} {text bytes rest r : List ℕ} {tree : Tree} (q : Pattern) → d ≢ 92 → DelimitedExpression d text bytes rest → 0 < length bytes → ((t : Tree) → Shape bytes t → t ≡ tree) → PatternText d text q r → (q ≡ Expression tree) × (r ≡ rest)
+pattern_some_only {bytes = bytes} q k x some n y = let one = expression_one k y.1 x in (some_only q bytes some n (subst (λ t. IsPattern t q) one.0 y.2), one.1)

@@ -1,0 +1,123 @@
+-- Which programs a text spells, by its items.
+use Rattle.std.proofs.Common.{◌≡◌, ◌≢◌, ℕ, zero, suc, ◌<◌, ◌≤◌, true, false, List, [], ◌∷◌, ◌++◌, length, map, get_or, Option, Some, None, Contains, refl, ap, sym, ◌∙◌, subst, inl, inr, arith}
+use Rattle.std.specs.Prelude.{Any}
+use Rattle.std.proofs.lemmas.Bool.{false≢true}
+use Rattle.std.specs.Borrow.{Bor}
+use Rattle.std.specs.HashMap.{HashMap}
+use Rattle.sedck_bre.specs.Tree.{Tree}
+use Rattle.sedck_script.specs.Program.{Pattern, Previous, Expression, Command, Program, address_patterns, verb_patterns, patterns, expressions}
+use Rattle.sedck_script.specs.Items.{Item, Items}
+use Rattle.sedck_script.specs.Resolution.{Defines, AreLabelsDistinct, LeadsTo, Resolves, done, known, branch, test, opening, closing}
+use Rattle.sedck_script.specs.Spelling.{Spells, AreCommands}
+use Rattle.sedck_script.specs.Reading.{label_place, HasLabels}
+use Rattle.sedck_script.specs.ItemReading.{item_of, commands_among, item_label, IsLostLabel}
+use Rattle.sedck_script.specs.AddressReading.{has_previous}
+use Rattle.sedck_script.specs.Progress.{HasNoItems, item_patterns}
+use Rattle.sedck_script.specs.ExpressionReading.{has_some}
+use Rattle.sedck_script.specs.declared.written.WrittenItem.{WrittenItem}
+use Rattle.sedck_script.proofs.Nesting.{resolves_nests, resolves_length, label_written, labels_once}
+use Rattle.sedck_script.proofs.SortedNames.{Contains-cons_cases, Contains-cons_more}
+use Rattle.sedck_script.proofs.ItemsOne.{items_one}
+use Rattle.sedck_script.proofs.ResolvesOne.{commands_one}
+use Rattle.sedck_script.proofs.Determined.{expressions_determined}
+
+-- a text without items spells no program
+pub no_program : {text : List ℕ} → HasNoItems text → (other : Program) → Spells text other → ⊥
+no_program none other s =
+    none s.items s.spelled (omega (arith, resolves_length s.commands.resolved, s.commands.count)) (labels_once s.commands.resolved s.commands.labels) (resolves_nests s.commands.resolved)
+
+-- ---- Labels
+
+module _ {S : Type 0} (labels : HashMap (Bor (List ℕ)) ℕ S) where
+  lost_by : (all : List Command) (label : Option (List ℕ)) (target : ℕ) → LeadsTo all label target → IsLostLabel labels label → (name : List ℕ) × (at : ℕ) × (label_place labels name ≡ None) × Defines all name at
+  lost_by all None target h l = absurd l
+  lost_by all (Some name) target h l = (name, target, l, h)
+
+  -- a lost label would be defined by a command
+  lost_at : {all cs : List Command} {blocks : List ℕ} {place : ℕ} {items : List Item} (k : ℕ) (d : Item) → Resolves all blocks place items cs → k < length items → IsLostLabel labels (item_label (get_or items k d))
+      → (name : List ℕ) × (at : ℕ) × (label_place labels name ≡ None) × Defines all name at
+  lost_at k d done lt l = absurd (omega arith)
+  lost_at zero d (known r) lt l = absurd l
+  lost_at {all = all} zero d (branch {target = t} {label = n} h r) lt l = lost_by all n t h l
+  lost_at {all = all} zero d (test {target = t} {label = n} h r) lt l = lost_by all n t h l
+  lost_at zero d (opening h r) lt l = absurd l
+  lost_at zero d (closing h r) lt l = absurd l
+  lost_at (suc k) d (known r) lt l = lost_at k d r (omega arith) l
+  lost_at (suc k) d (branch h r) lt l = lost_at k d r (omega arith) l
+  lost_at (suc k) d (test h r) lt l = lost_at k d r (omega arith) l
+  lost_at (suc k) d (opening h r) lt l = lost_at k d r (omega arith) l
+  lost_at (suc k) d (closing h r) lt l = lost_at k d r (omega arith) l
+
+  none_some : {i : ℕ} {o : Option ℕ} → o ≡ None → o ≡ Some i → ⊥
+  none_some e f = absurd (cc (e, f))
+
+  get_item : (items : List WrittenItem) (k : ℕ) (d : WrittenItem) → k < length items → get_or (map item_of items) k (item_of d) ≡ item_of (get_or items k d)
+  get_item [] k d lt = absurd (omega arith)
+  get_item (x ∷ items) zero d lt = refl
+  get_item (x ∷ items) (suc k) d lt = get_item items k d (omega arith)
+
+  items_length : (items : List WrittenItem) → length (map item_of items) ≡ length items
+  items_length [] = refl
+  items_length (x ∷ items) = ap suc (items_length items)
+
+  -- where a label is lost, no program is spelled
+  pub no_target : {text : List ℕ} (items : List WrittenItem) → Items text (map item_of items) → HasLabels labels (commands_among (map item_of items)) → Any (λ item. IsLostLabel labels (item_label (item_of item))) items
+      → (other : Program) → Spells text other → ⊥
+  no_target items x h any other s =
+      let same : s.items ≡ map item_of items = items_one expressions_determined s.spelled x in
+      let r : Resolves other.commands [] 0 (map item_of items) other.commands = subst (λ t. Resolves other.commands [] 0 t other.commands) same s.commands.resolved in
+      let lost = lost_at any.0 (item_of any.1) r (omega (arith, any.2, items_length items)) (subst (λ i. IsLostLabel labels (item_label i)) (sym (get_item items any.0 any.1 any.2)) (rw any.3 any.4)) in
+      none_some lost.2 (h.found lost.0 lost.1 (label_written r lost.0 lost.1 lost.3))
+
+  pub distinct : {items : List Item} {cs : List Command} → HasLabels labels (commands_among items) → Resolves cs [] 0 items cs → AreLabelsDistinct cs
+  distinct h r name i j d e = some_place (sym (h.found name i (label_written r name i d)) ∙ h.found name j (label_written r name j e))
+    where
+      some_place : {m n : ℕ} → Some m ≡ Some n → m ≡ n
+      some_place f = cc f
+
+-- ---- Expressions
+
+resolved_patterns : {all cs : List Command} {blocks : List ℕ} {place : ℕ} {items : List Item} → Resolves all blocks place items cs → patterns cs ≡ item_patterns items
+resolved_patterns done = refl
+resolved_patterns (known {address = a} {verb = v} r) = ap (λ t. (address_patterns a ++ verb_patterns v) ++ t) (resolved_patterns r)
+resolved_patterns (branch {address = a} h r) = ap (λ t. (address_patterns a ++ []) ++ t) (resolved_patterns r)
+resolved_patterns (test {address = a} h r) = ap (λ t. (address_patterns a ++ []) ++ t) (resolved_patterns r)
+resolved_patterns (opening {address = a} h r) = ap (λ t. (address_patterns a ++ []) ++ t) (resolved_patterns r)
+resolved_patterns (closing h r) = resolved_patterns r
+
+contains_previous : (ps : List Pattern) → Contains ps Previous → has_previous ps ≡ true
+contains_previous [] h = absurd (omega (arith, h.1))
+contains_previous (Previous ∷ ps) h = refl
+contains_previous (Expression t ∷ ps) h = elim (Contains-cons_cases (Expression t) ps Previous h) [ inl e ↦ absurd (cc e) | inr more ↦ contains_previous ps more ]
+
+previous_contained : (ps : List Pattern) → has_previous ps ≡ true → Contains ps Previous
+previous_contained [] h = absurd (false≢true h)
+previous_contained (Previous ∷ ps) h = (0, omega arith, refl)
+previous_contained (Expression t ∷ ps) h = Contains-cons_more (Expression t) ps Previous (previous_contained ps h)
+
+some_not_empty : (ts : List Tree) → has_some ts ≡ true → ts ≢ []
+some_not_empty [] h e = false≢true h
+some_not_empty (t ∷ ts) h e = absurd (cc e)
+
+none_empty : (ts : List Tree) → has_some ts ≡ false → ts ≡ []
+none_empty [] h = refl
+none_empty (t ∷ ts) h = absurd (false≢true (sym h))
+
+-- an empty expression without another one
+pub no_expression : {text : List ℕ} {items : List Item} {cs : List Command} → Items text items → Resolves cs [] 0 items cs → has_previous (item_patterns items) ≡ true → has_some (expressions cs) ≡ false
+    → (other : Program) → Spells text other → ⊥
+no_expression {items = items} {cs = cs} x r h none other s =
+    let same : s.items ≡ items = items_one expressions_determined s.spelled x in
+    let commands : cs ≡ other.commands = commands_one r (subst (λ t. Resolves other.commands [] 0 t other.commands) same s.commands.resolved) s.commands.labels in
+    let previous : Contains (patterns cs) Previous = previous_contained (patterns cs) (ap has_previous (resolved_patterns r) ∙ h) in
+    s.commands.expression (subst (λ c. Contains (patterns c) Previous) commands previous) (subst (λ c. expressions c ≡ []) commands (none_empty (expressions cs) none))
+
+-- the items are these commands, where each empty expression has another one
+pub are_commands : {S : Type 0} (labels : HashMap (Bor (List ℕ)) ℕ S) {items : List Item} {cs : List Command} → HasLabels labels (commands_among items) → Resolves cs [] 0 items cs → length (commands_among items) ≤ 4095
+    → (has_previous (item_patterns items) ≡ true → has_some (expressions cs) ≡ true) → AreCommands items cs
+are_commands labels {cs = cs} h r few other = record {
+  resolved = r;
+  labels = distinct labels h r;
+  expression = λ k. some_not_empty (expressions cs) (other (sym (ap has_previous (resolved_patterns r)) ∙ contains_previous (patterns cs) k));
+  count = omega (arith, resolves_length r, few);
+}

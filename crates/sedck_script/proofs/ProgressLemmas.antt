@@ -1,0 +1,254 @@
+-- How the items of a script go on.
+use Rattle.std.proofs.Common.{◌≡◌, ℕ, suc, ◌<◌, ◌≤◌, ◌-◌, Bool, false, not, List, [], ◌∷◌, ◌++◌, length, map, Some, refl, ap, sym, ◌∙◌, subst, append_assoc, append-nil, length-append, inl, inr, ◌⊎◌, arith}
+use Rattle.std.specs.Prelude.{slice_get}
+use Rattle.sedck_script.specs.Cuts.{is_newline, is_separator, Longest}
+use Rattle.std.specs.Borrow.{Bor}
+use Rattle.std.specs.HashMap.{HashMap}
+use Rattle.std.proofs.lemmas.Option.{slice_get_within}
+use Rattle.sedck_script.specs.Program.{Address, NoAddress, Label}
+use Rattle.sedck_script.specs.Parts.{Ends}
+use Rattle.sedck_script.specs.Items.{WrittenVerb, Known, Opening, VerbText, Takes, CommandText, Item, Written, Closing, Items}
+use Rattle.sedck_script.specs.Items as w
+use Rattle.sedck_script.specs.Reading.{EndsIn, IsLabelOf, AreLabelsOnce, HasLabels}
+use Rattle.sedck_script.specs.VerbReading.{DefinesKnown}
+use Rattle.sedck_script.specs.ItemReading.{item_of, Turn, Opens, Closes, Stays, commands_among, verb_turn, Turned, Nests}
+use Rattle.sedck_script.specs.Progress.{IsFront, IsProgress, HasNoItems, BeginsCommand, IsBeyond}
+use Rattle.sedck_script.specs.declared.items.Progress.{Progress}
+use Rattle.sedck_script.proofs.Cuts.{longest_one}
+use Rattle.sedck_script.proofs.FirstOne.{heads}
+use Rattle.sedck_script.proofs.FirstState.{tail_cut, tail_tail, get_front, get_seam}
+use Rattle.sedck_script.proofs.Tails.{tail_length, verb_text_tail, verb_text_shorter}
+use Rattle.sedck_script.proofs.CommandLemmas.{address_tail}
+use Rattle.sedck_script.proofs.StateLemmas.{among_append, Deeper}
+use Rattle.sedck_script.proofs.PartsOne.{ends_one}
+use Rattle.sedck_script.proofs.ItemsOne.{longest_along, ends_along, items_along, command_along, command_one, no_command_other, no_command_end, empty_is_not, tails}
+use Rattle.sedck_script.proofs.Determined.{expressions_determined}
+
+pub front_start : (text : List ℕ) → IsFront text [] 0 text
+front_start text = record { tail = ([], refl); sound = λ more h. h; only = λ all h. (all, refl, h); nests = λ more h. h; nested = λ more h. h }
+
+-- ---- Separators
+
+-- behind a longest run stands none of its bytes
+no_more : {test : ℕ → Bool} {text front rest : List ℕ} → Longest test text front rest → Longest test rest [] rest
+no_more l = record { cut = refl; passes = refl; stops = l.stops }
+
+-- separators before what begins without one
+skipped : {text separators begins none starts : List ℕ} → Longest is_separator text separators begins → Longest is_separator begins none starts → Longest is_separator text separators starts
+skipped {text} {separators} l m = subst (λ t. Longest is_separator text separators t) (sym (longest_one m (no_more l)).1) l
+
+items_back : {text separators begins : List ℕ} {items : List Item} → Longest is_separator text separators begins → Items begins items → Items text items
+items_back l (w.nothing m) = w.nothing (skipped l m)
+items_back l (w.comment m e k x) = w.comment (skipped l m) e k x
+items_back l (w.closing m e f x) = w.closing (skipped l m) e f x
+items_back l (w.command m c x) = w.command (skipped l m) c x
+
+begun : {text separators begins none starts : List ℕ} → Longest is_separator text separators begins → Longest is_separator text none starts → Longest is_separator begins [] starts
+begun {begins = begins} l m = subst (λ t. Longest is_separator begins [] t) (longest_one l m).1 (no_more l)
+
+items_forth : {text separators begins : List ℕ} {items : List Item} → Longest is_separator text separators begins → Items text items → Items begins items
+items_forth l (w.nothing m) = w.nothing (begun l m)
+items_forth l (w.comment m e k x) = w.comment (begun l m) e k x
+items_forth l (w.closing m e f x) = w.closing (begun l m) e f x
+items_forth l (w.command m c x) = w.command (begun l m) c x
+
+pub front_skip : {text rest separators begins : List ℕ} {items : List Item} {depth : ℕ} → IsFront text items depth rest → Longest is_separator rest separators begins → IsFront text items depth begins
+front_skip f l = record {
+  tail = tail_tail f.tail (tail_cut l);
+  sound = λ more h. f.sound more (items_back l h);
+  only = λ all h. let one = f.only all h in (one.0, one.1, items_forth l one.2);
+  nests = f.nests;
+  nested = f.nested;
+}
+
+-- ---- Steps
+
+at_front : {b : ℕ} {text rest : List ℕ} → text ≡ b ∷ rest → is_separator b ≡ false → Longest is_separator text [] (b ∷ rest)
+at_front {b} e n = record { cut = e; passes = refl; stops = rw n refl }
+
+comment_step : {b : ℕ} {text behind line rest : List ℕ} {all : List Item} → text ≡ b ∷ behind → b ≡ 35 → Longest (λ c. not (is_newline c)) behind line rest → Items text all → Items rest all
+comment_step e h k (w.nothing m) = empty_is_not expressions_determined (longest_one m (at_front e (rw h refl))).1
+comment_step e h k (w.comment m i n x) =
+    let same = tails (longest_one m (at_front e (rw h refl))).1 in items_along (longest_one (longest_along same n) k).1 x
+comment_step e h k (w.closing m i f x) = absurd (omega (arith, heads (longest_one m (at_front e (rw h refl))).1, h, i))
+comment_step e h k (w.command m c x) = no_command_other expressions_determined (longest_one m (at_front e (rw h refl))).1 (inl h) c
+
+-- what begins with a `}` goes on with its end
+pub closing_first : {b : ℕ} {text behind : List ℕ} {all : List Item} → text ≡ b ∷ behind → b ≡ 125 → Items text all → (more : List Item) × (rest : List ℕ) × (all ≡ Closing ∷ more) × Ends behind rest × Items rest more
+closing_first e h (w.nothing m) = empty_is_not expressions_determined (longest_one m (at_front e (rw h refl))).1
+closing_first e h (w.comment m i n x) = absurd (omega (arith, heads (longest_one m (at_front e (rw h refl))).1, h, i))
+closing_first e h (w.closing {rest = rest} {items = more} m i f x) = (more, rest, refl, ends_along (tails (longest_one m (at_front e (rw h refl))).1) f, x)
+closing_first e h (w.command m c x) = no_command_other expressions_determined (longest_one m (at_front e (rw h refl))).1 (inr h) c
+
+closing_step : {b : ℕ} {text behind rest : List ℕ} {all : List Item} → text ≡ b ∷ behind → b ≡ 125 → Ends behind rest → Items text all → (more : List Item) × (all ≡ Closing ∷ more) × Items rest more
+closing_step e h k x = let one = closing_first e h x in (one.0, one.2, items_along (ends_one one.3 k) one.4)
+
+pub front_comment : {b : ℕ} {text begins behind line rest : List ℕ} {items : List Item} {depth : ℕ} → IsFront text items depth begins → begins ≡ b ∷ behind → b ≡ 35 → Longest (λ c. not (is_newline c)) behind line rest → IsFront text items depth rest
+front_comment {b = b} f e h k = record {
+  tail = tail_tail f.tail (tail_tail (b ∷ [], e) (tail_cut k));
+  sound = λ more x. f.sound more (w.comment (at_front e (rw h refl)) h k x);
+  only = λ all x. let one = f.only all x in (one.0, one.1, comment_step e h k one.2);
+  nests = f.nests;
+  nested = f.nested;
+}
+
+pub front_closing : {b depth : ℕ} {text begins behind rest : List ℕ} {items : List Item} → IsFront text items (suc depth) begins → begins ≡ b ∷ behind → b ≡ 125 → Ends behind rest → IsFront text (items ++ Closing ∷ []) depth rest
+front_closing {b} {items = items} f e h k = record {
+  tail = tail_tail f.tail (tail_tail (b ∷ [], e) (tail_cut k.run));
+  sound = λ more x. rw append_assoc (f.sound (Closing ∷ more) (w.closing (at_front e (rw h refl)) h k x));
+  only = λ all x.
+      let one = f.only all x in
+      let step = closing_step e h k one.2 in
+      (step.0, one.1 ∙ ap (λ t. items ++ t) step.1 ∙ sym (append_assoc items (Closing ∷ []) step.0), step.2);
+  nests = λ more x. rw append_assoc (f.nests (Closing ∷ more) x);
+  nested = λ more x. f.nested (Closing ∷ more) (subst (λ t. Nests t 0) (append_assoc items (Closing ∷ []) more) x);
+}
+
+-- ---- Refusals
+
+-- a `}` without a block
+pub front_unopened : {b : ℕ} {text begins behind : List ℕ} {items : List Item} {depth : ℕ} → IsFront text items depth begins → begins ≡ b ∷ behind → b ≡ 125 → depth ≡ 0 → HasNoItems text
+front_unopened {items = items} {depth = depth} f e h none all x few once nests =
+    let one = f.only all x in
+    let step = closing_first e h one.2 in
+    subst (λ d. Nests (Closing ∷ step.0) d) none (subst (λ t. Nests t depth) step.2 (f.nested one.0 (subst (λ t. Nests t 0) one.1 nests)))
+
+-- a `}` without its end
+pub front_unended : {b : ℕ} {text begins behind : List ℕ} {items : List Item} {depth : ℕ} → IsFront text items depth begins → begins ≡ b ∷ behind → b ≡ 125 → ((rest : List ℕ) → Ends behind rest → ⊥) → HasNoItems text
+front_unended f e h none all x few once nests = let step = closing_first e h (f.only all x).2 in none step.1 step.3
+
+-- ---- Commands
+
+command_tail : {text rest : List ℕ} {a : Address} {n : Bool} {v : WrittenVerb} → CommandText text a n v rest → EndsIn text rest
+command_tail c = tail_tail (address_tail c.addresses) (tail_tail (tail_cut c.run) (verb_text_tail c.verbs))
+
+pub command_shorter : {text rest : List ℕ} {a : Address} {n : Bool} {v : WrittenVerb} → CommandText text a n v rest → length rest < length text
+command_shorter c = omega (arith, tail_length (address_tail c.addresses), tail_length (tail_cut c.run), verb_text_shorter c.verbs)
+
+label_item : {a : Address} {n : Bool} {name : List ℕ} (v : WrittenVerb) → v ≡ Known (Label name) → Takes v a n → Written a n v ≡ Written NoAddress false (Known (Label name))
+label_item {a} {n} v e t = let x = subst (λ u. Takes u a n) e t in cc (x.0, x.1, e)
+
+-- a label that stands there already
+twice : (items more all : List Item) (name : List ℕ) (i : ℕ) → IsLabelOf items name i → all ≡ items ++ Written NoAddress false (Known (Label name)) ∷ more → AreLabelsOnce all → ⊥
+twice items more all name i here e once =
+    let first : IsLabelOf all name i = rw e (get_front items _ i _ here) in
+    let second : IsLabelOf all name (length items) = rw e (get_seam items more (Written NoAddress false (Known (Label name)))) in
+    omega (arith, once name i (length items) first second, slice_get_within items i _ here)
+
+-- what begins neither a comment nor the end of a block goes on with a command, where it goes on
+pub command_first : {text : List ℕ} {all : List Item} → BeginsCommand text → Items text all
+    → (a : Address) × (n : Bool) × (v : WrittenVerb) × (rest : List ℕ) × (more : List Item) × (all ≡ Written a n v ∷ more) × CommandText text a n v rest × Items rest more
+command_first k (w.nothing m) = empty_is_not expressions_determined (longest_one m (at_front k.2 k.3)).1
+command_first k (w.comment m i n x) = absurd (k.4 (heads (sym (longest_one m (at_front k.2 k.3)).1) ∙ i))
+command_first k (w.closing m i f x) = absurd (k.5 (heads (sym (longest_one m (at_front k.2 k.3)).1) ∙ i))
+command_first k (w.command {rest = r} {address = a} {negated = n} {verb = v} {items = more} m c x) = (a, n, v, r, more, refl, command_along ((longest_one m (at_front k.2 k.3)).1 ∙ sym k.2) c, x)
+
+command_step : {text rest : List ℕ} {all : List Item} {a : Address} {n : Bool} {v : WrittenVerb} → BeginsCommand text → CommandText text a n v rest → Items text all
+    → (more : List Item) × (all ≡ Written a n v ∷ more) × Items rest more
+command_step k c x =
+    let first = command_first k x in
+    let one = command_one expressions_determined first.6 c in
+    (first.4, first.5 ∙ ap (λ y. y ∷ first.4) one.0, items_along one.1 first.7)
+
+deeper : (t : Turn) (depth deep : ℕ) (P : ℕ → Type 0) → Deeper t depth deep → P deep → Turned t P depth
+deeper Opens depth deep P h x = (h.1, subst P h.0 x)
+deeper Closes depth deep P h x = absurd h
+deeper Stays depth deep P h x = subst P h x
+
+less_deep : (t : Turn) (depth deep : ℕ) (P : ℕ → Type 0) → Deeper t depth deep → Turned t P depth → P deep
+less_deep Opens depth deep P h x = subst P (sym h.0) x.1
+less_deep Closes depth deep P h x = absurd h
+less_deep Stays depth deep P h x = subst P (sym h) x
+
+pub front_command : {depth deep : ℕ} {text begins rest : List ℕ} {items : List Item} {a : Address} {n : Bool} {v : WrittenVerb} → IsFront text items depth begins → BeginsCommand begins → CommandText begins a n v rest
+    → Deeper (verb_turn v) depth deep → IsFront text (items ++ Written a n v ∷ []) deep rest
+front_command {depth} {deep} {begins = begins} {items = items} {a = a} {n = n} {v = v} f k c d = record {
+  tail = tail_tail f.tail (command_tail c);
+  sound = λ more x. rw append_assoc (f.sound (Written a n v ∷ more) (w.command (subst (λ t. Longest is_separator begins [] t) (sym k.2) (at_front k.2 k.3)) c x));
+  only = λ all x.
+      let one = f.only all x in
+      let step = command_step k c one.2 in
+      (step.0, one.1 ∙ ap (λ t. items ++ t) step.1 ∙ sym (append_assoc items (Written a n v ∷ []) step.0), step.2);
+  nests = λ more x. rw append_assoc (f.nests (Written a n v ∷ more) (deeper (verb_turn v) depth deep (Nests more) d x));
+  nested = λ more x. less_deep (verb_turn v) depth deep (Nests more) d (f.nested (Written a n v ∷ more) (subst (λ t. Nests t 0) (append_assoc items (Written a n v ∷ []) more) x));
+}
+
+too_deep : (v : WrittenVerb) (depth : ℕ) (P : ℕ → Type 0) → v ≡ Opening → 64 ≤ depth → Turned (verb_turn v) P depth → ⊥
+too_deep v depth P e h t = let x = subst (λ u. Turned (verb_turn u) P depth) e t in omega (arith, x.0)
+
+-- a command that may not stand there
+pub front_refused : {S : Type 0} {text begins : List ℕ} {items : List Item} {depth count : ℕ} (labels : HashMap (Bor (List ℕ)) ℕ S) → IsFront text items depth begins → BeginsCommand begins → HasLabels labels (commands_among items) → count ≡ length (commands_among items)
+    → ((a : Address) (n : Bool) (v : WrittenVerb) (rest : List ℕ) → CommandText begins a n v rest → DefinesKnown labels v ⊎ IsBeyond depth count v) → HasNoItems text
+front_refused {items = items} {depth = depth} {count = count} labels f k h e none all x few once nests =
+    let one = f.only all x in
+    let first = command_first k one.2 in
+    let cut : all ≡ items ++ Written first.0 first.1 first.2 ∷ first.4 = one.1 ∙ ap (λ t. items ++ t) first.5 in
+    let among : commands_among all ≡ commands_among items ++ Written first.0 first.1 first.2 ∷ commands_among first.4 = ap commands_among cut ∙ among_append items (Written first.0 first.1 first.2 ∷ first.4) in
+    elim (none first.0 first.1 first.2 first.3 first.6) [
+      | inl known ↦ twice (commands_among items) (commands_among first.4) (commands_among all) known.0 known.1 (h.at known.0 known.1 known.3) (among ∙ ap (λ y. commands_among items ++ y ∷ commands_among first.4) (label_item first.2 known.2 first.6.taken)) once
+      | inr (inl deep) ↦ too_deep first.2 depth (Nests first.4) deep.0 deep.1 (subst (λ t. Nests t depth) first.5 (f.nested one.0 (subst (λ t. Nests t 0) one.1 nests)))
+      | inr (inr many) ↦ omega (arith, e, many, few, ap length among, length-append (commands_among items) (Written first.0 first.1 first.2 ∷ commands_among first.4))
+    ]
+
+stands_behind : (front tail : List ℕ) (b : ℕ) → slice_get (front ++ b ∷ tail) (length front) ≡ Some b
+stands_behind [] tail b = refl
+stands_behind (x ∷ front) tail b = stands_behind front tail b
+
+opening_last : {text rest : List ℕ} {v : WrittenVerb} → v ≡ Opening → VerbText text v rest → text ≡ 123 ∷ rest
+opening_last e (w.opening h) = rw h refl
+opening_last e (w.simple x f) = absurd (cc e)
+opening_last e (w.label h l n f) = absurd (cc e)
+opening_last e (w.branch h l n f) = absurd (cc e)
+opening_last e (w.branch_to_end h n f) = absurd (cc e)
+opening_last e (w.test h l n f) = absurd (cc e)
+opening_last e (w.test_to_end h n f) = absurd (cc e)
+opening_last e (w.append h l g) = absurd (cc e)
+opening_last e (w.change h l g) = absurd (cc e)
+opening_last e (w.insert h l g) = absurd (cc e)
+opening_last e (w.read h n) = absurd (cc e)
+opening_last e (w.write h n) = absurd (cc e)
+opening_last e (w.substitute h d x y z g f) = absurd (cc e)
+opening_last e (w.transliterate h d x y l f) = absurd (cc e)
+
+stands_at : (whole front rest : List ℕ) (place : ℕ) → whole ≡ front ++ 123 ∷ rest → place ≡ length whole - length rest - 1 → slice_get whole place ≡ Some 123
+stands_at whole front rest place e p =
+    let at : place ≡ length front = omega (arith, p, ap length e, length-append front (123 ∷ rest)) in
+    rw (at, e) (stands_behind front rest 123)
+
+-- the `{` of a block stands right before what follows it
+pub brace_stands : {whole text rest : List ℕ} {a : Address} {n : Bool} {v : WrittenVerb} (place : ℕ) → EndsIn whole text → CommandText text a n v rest → place ≡ length whole - length rest - 1 → v ≡ Opening → slice_get whole place ≡ Some 123
+brace_stands {whole} {rest = rest} place h c p e =
+    let tail : EndsIn whole c.begins = tail_tail h (tail_tail (address_tail c.addresses) (tail_cut c.run)) in
+    stands_at whole tail.0 rest place (tail.1 ∙ ap (λ t. tail.0 ++ t) (opening_last e c.verbs)) p
+
+-- ---- Progress
+
+-- the same is known where another rest is left
+pub progress_at : {text old new : List ℕ} {progress : Progress} → IsProgress text old progress → IsFront text (map item_of progress.items.items) (length progress.blocks.items) new → IsProgress text new progress
+progress_at p f = record { front = f; labels = p.labels; count = p.count; few = p.few; within = p.within; opened = p.opened; empty = p.empty }
+
+no_length : {X : Type 0} (xs : List X) → length xs ≡ 0 → xs ≡ []
+no_length [] e = refl
+no_length (x ∷ xs) e = absurd (omega arith)
+
+-- where nothing but separators is left, the items are read
+pub front_done : {text rest separators begins : List ℕ} {items : List Item} {depth : ℕ} → IsFront text items depth rest → Longest is_separator rest separators begins → length begins ≡ 0 → Items text items
+front_done {text} {rest} {separators} {begins} {items} f l e =
+    subst (λ t. Items text t) (append-nil items) (f.sound [] (w.nothing (subst (λ t. Longest is_separator rest separators t) (no_length begins e) l)))
+
+items_end : {text separators : List ℕ} {all : List Item} → Longest is_separator text separators [] → Items text all → all ≡ []
+items_end l (w.nothing m) = refl
+items_end l (w.comment m i n x) = empty_is_not expressions_determined (longest_one l m).1
+items_end l (w.closing m i f x) = empty_is_not expressions_determined (longest_one l m).1
+items_end l (w.command m c x) = no_command_end expressions_determined (longest_one m l).1 c
+
+-- where blocks are open at the end
+pub front_unclosed : {text rest separators begins : List ℕ} {items : List Item} {depth : ℕ} → IsFront text items depth rest → Longest is_separator rest separators begins → length begins ≡ 0 → 0 < depth → HasNoItems text
+front_unclosed {rest = rest} {separators = separators} {begins = begins} {depth = depth} f l e some all x few once nests =
+    let one = f.only all x in
+    let none : one.0 ≡ [] = items_end (subst (λ t. Longest is_separator rest separators t) (no_length begins e) l) one.2 in
+    let closed : depth ≡ 0 = subst (λ t. Nests t depth) none (f.nested one.0 (subst (λ t. Nests t 0) one.1 nests)) in
+    omega arith
+
+pub front_closed : {text rest : List ℕ} {items : List Item} {depth : ℕ} → IsFront text items depth rest → depth ≡ 0 → Nests items 0
+front_closed {items = items} f e = subst (λ t. Nests t 0) (append-nil items) (f.nests [] e)

@@ -1,0 +1,171 @@
+-- A script that is spelled keeps the invariant of scripts.
+use Rattle.std.proofs.Common.{◌≡◌, ℕ, suc, ◌+◌, ◌≤◌, Bool, List, [], ◌∷◌, ◌++◌, length, Contains, refl, length-append, arith}
+use Rattle.std.specs.Prelude.{flat_map}
+use Rattle.std.specs.List.{AllByRecursion}
+use Rattle.std.specs.declared.cmp.Ordering.{Ordering}
+use Rattle.std.specs.declared.cmp.Ordering.TheVariants.{Less, Equal, Greater}
+use Rattle.std.specs.Ordering.{nat_cmp}
+use Rattle.std.specs.Cmp.Lexicographic.{slice_cmp}
+use Rattle.std.proofs.lemmas.List.Elements.{All-from_recursion}
+use Rattle.std.proofs.lemmas.List.Sums.{sum_by-cons, sum_by-append}
+use Rattle.sedck_script.specs.Program.{Address, Verb, Command, Program}
+use Rattle.sedck_script.specs.Items.{WrittenVerb, Known, BranchTo, TestTo, Opening, Item, Written, Closing, Items}
+use Rattle.sedck_script.specs.Items as w
+use Rattle.sedck_script.specs.Resolution.{Resolves, done, known, branch, test, opening, closing}
+use Rattle.sedck_script.specs.Spelling.{Spells}
+use Rattle.sedck_script.specs.Names.{IsName, AreNames, names_size, read_names, write_names, placed, with_name, sorted_names}
+use Rattle.sedck_script.specs.Invariant.{IsReplacement, IsScript}
+use Rattle.sedck_script.specs.Reading.{EndsIn}
+use Rattle.sedck_script.proofs.FirstState.{tail_cut, tail_tail}
+use Rattle.sedck_script.proofs.FirstReading.{tail_behind}
+use Rattle.sedck_script.proofs.Tails.{tail_length, ends_tail, verb_text_tail}
+use Rattle.sedck_script.proofs.CommandLemmas.{address_tail}
+use Rattle.sedck_script.proofs.Spelled.{spelled_targets, spelled_formed, spelled_transliterations}
+use Rattle.sedck_script.proofs.SortedNames.{sorted_names-rise, with_all}
+use Rattle.sedck_script.proofs.Bounds.{verb_cost, IsBounded, IsCheapWritten, verb_cheap}
+
+-- ---- Items
+
+abbrev item_cost : Item → ℕ
+item_cost (Written a n (Known v)) = verb_cost v
+item_cost (Written a n (BranchTo l)) = 0
+item_cost (Written a n (TestTo l)) = 0
+item_cost (Written a n Opening) = 0
+item_cost Closing = 0
+
+abbrev items_cost : List Item → ℕ
+items_cost [] = 0
+items_cost (x ∷ items) = item_cost x + items_cost items
+
+abbrev IsBoundedItem : Item → Type 0
+IsBoundedItem (Written a n (Known v)) = IsBounded v
+IsBoundedItem (Written a n (BranchTo l)) = Unit {0}
+IsBoundedItem (Written a n (TestTo l)) = Unit {0}
+IsBoundedItem (Written a n Opening) = Unit {0}
+IsBoundedItem Closing = Unit {0}
+
+written_cheap : (text rest : List ℕ) (a : Address) (n : Bool) (v : WrittenVerb) → IsCheapWritten v text rest → IsBoundedItem (Written a n v) × (item_cost (Written a n v) + length rest ≤ length text)
+written_cheap text rest a n (Known v) h = (h.bounded, h.cost)
+written_cheap text rest a n (BranchTo l) h = (tt, omega arith)
+written_cheap text rest a n (TestTo l) h = (tt, omega arith)
+written_cheap text rest a n Opening h = (tt, omega arith)
+
+module _ {whole : List ℕ} (few : length whole ≤ 1048576) (zeros : Contains whole 0 → ⊥) where
+  items_cheap : {text : List ℕ} {items : List Item} → EndsIn whole text → Items text items → AllByRecursion IsBoundedItem items × (items_cost items ≤ length text)
+  items_cheap h (w.nothing l) = (tt, omega arith)
+  items_cheap h (w.comment l e k x) =
+      let tail = tail_tail (tail_behind (tail_cut l) refl) (tail_cut k) in
+      let more = items_cheap (tail_tail h tail) x in (more.0, omega (arith, more.1, tail_length tail))
+  items_cheap h (w.closing l e k x) =
+      let tail = tail_tail (tail_behind (tail_cut l) refl) (ends_tail k) in
+      let more = items_cheap (tail_tail h tail) x in ((tt, more.0), omega (arith, more.1, tail_length tail))
+  items_cheap h (w.command {rest = r} {address = a} {negated = n} {verb = v} l c x) =
+      let front = tail_tail (tail_cut l) (tail_tail (address_tail c.addresses) (tail_cut c.run)) in
+      let one = written_cheap c.begins r a n v (verb_cheap few zeros (tail_tail h front) c.verbs) in
+      let more = items_cheap (tail_tail h (tail_tail front (verb_text_tail c.verbs))) x in
+      ((one.0, more.0), omega (arith, one.1, more.1, tail_length front))
+
+-- ---- Commands
+
+abbrev commands_cost : List Command → ℕ
+commands_cost [] = 0
+commands_cost (c ∷ commands) = verb_cost c.verb + commands_cost commands
+
+no_names : {v : Verb} → read_names v ≡ [] → write_names v ≡ [] → IsReplacement v → IsBounded v
+no_names e f r = record { reads = rw e tt; writes = rw f tt; one_read = rw e (omega arith); one_write = rw f (omega arith); replacement = r }
+
+commands_cheap : {A cs : List Command} {blocks : List ℕ} {place : ℕ} {items : List Item} → Resolves A blocks place items cs → AllByRecursion IsBoundedItem items
+    → AllByRecursion (λ c. IsBounded c.verb) cs × (commands_cost cs ≤ items_cost items)
+commands_cheap done h = (tt, omega arith)
+commands_cheap (known r) h = let more = commands_cheap r h.1 in ((h.0, more.0), omega (arith, more.1))
+commands_cheap (branch k r) h = let more = commands_cheap r h.1 in ((no_names refl refl tt, more.0), omega (arith, more.1))
+commands_cheap (test k r) h = let more = commands_cheap r h.1 in ((no_names refl refl tt, more.0), omega (arith, more.1))
+commands_cheap (opening k r) h = let more = commands_cheap r h.1 in ((no_names refl refl tt, more.0), omega (arith, more.1))
+commands_cheap (closing k r) h = let more = commands_cheap r h.1 in (more.0, omega (arith, more.1))
+
+-- ---- Names
+
+size_cons : (name : List ℕ) (names : List (List ℕ)) → names_size (name ∷ names) ≡ length name + 1 + names_size names
+size_cons name names = sum_by-cons (λ n. length n + 1) name names
+
+placed_size : (o : Ordering) (name first : List ℕ) (names others : List (List ℕ)) → names_size others ≤ length name + 1 + names_size names → names_size (placed o name first names others) ≤ length name + 1 + names_size (first ∷ names)
+placed_size Less name first names others h = omega (arith, size_cons name (first ∷ names))
+placed_size Equal name first names others h = omega arith
+placed_size Greater name first names others h = omega (arith, size_cons first others, size_cons first names)
+
+with_size : (name : List ℕ) (names : List (List ℕ)) → names_size (with_name name names) ≤ length name + 1 + names_size names
+with_size name [] = omega (arith, size_cons name [])
+with_size name (first ∷ names) = placed_size (slice_cmp nat_cmp name first) name first names (with_name name names) (with_size name names)
+
+sorted_size : (names : List (List ℕ)) → names_size (sorted_names names) ≤ names_size names
+sorted_size [] = omega arith
+sorted_size (name ∷ names) = omega (arith, with_size name (sorted_names names), sorted_size names, size_cons name names)
+
+placed_length : (o : Ordering) (name first : List ℕ) (names others : List (List ℕ)) → length others ≤ suc (length names) → length (placed o name first names others) ≤ suc (suc (length names))
+placed_length Less name first names others h = omega arith
+placed_length Equal name first names others h = omega arith
+placed_length Greater name first names others h = omega arith
+
+with_length : (name : List ℕ) (names : List (List ℕ)) → length (with_name name names) ≤ suc (length names)
+with_length name [] = omega arith
+with_length name (first ∷ names) = placed_length (slice_cmp nat_cmp name first) name first names (with_name name names) (with_length name names)
+
+sorted_length : (names : List (List ℕ)) → length (sorted_names names) ≤ length names
+sorted_length [] = omega arith
+sorted_length (name ∷ names) = omega (arith, with_length name (sorted_names names), sorted_length names)
+
+sorted_all : (names : List (List ℕ)) → AllByRecursion IsName names → AllByRecursion IsName (sorted_names names)
+sorted_all [] h = tt
+sorted_all (name ∷ names) h = with_all IsName name (sorted_names names) h.0 (sorted_all names h.1)
+
+size_append : (xs ys : List (List ℕ)) → names_size (xs ++ ys) ≡ names_size xs + names_size ys
+size_append xs ys = sum_by-append (λ n. length n + 1) xs ys
+
+all_append : (xs ys : List (List ℕ)) → AllByRecursion IsName xs → AllByRecursion IsName ys → AllByRecursion IsName (xs ++ ys)
+all_append [] ys h k = k
+all_append (x ∷ xs) ys h k = (h.0, all_append xs ys h.1 k)
+
+abbrev all_reads : List Command → List (List ℕ)
+all_reads cs = flat_map (λ c. read_names c.verb) cs
+
+abbrev all_writes : List Command → List (List ℕ)
+all_writes cs = flat_map (λ c. write_names c.verb) cs
+
+costs : (cs : List Command) → names_size (all_reads cs) + names_size (all_writes cs) ≡ commands_cost cs
+costs [] = refl
+costs (c ∷ cs) = omega (arith, size_append (read_names c.verb) (all_reads cs), size_append (write_names c.verb) (all_writes cs), costs cs)
+
+reads_bounded : (cs : List Command) → AllByRecursion (λ c. IsBounded c.verb) cs → AllByRecursion IsName (all_reads cs) × (length (all_reads cs) ≤ length cs)
+reads_bounded [] h = (tt, omega arith)
+reads_bounded (c ∷ cs) h = let more = reads_bounded cs h.1 in (all_append (read_names c.verb) (all_reads cs) h.0.reads more.0, omega (arith, h.0.one_read, more.1, length-append (read_names c.verb) (all_reads cs)))
+
+writes_bounded : (cs : List Command) → AllByRecursion (λ c. IsBounded c.verb) cs → AllByRecursion IsName (all_writes cs) × (length (all_writes cs) ≤ length cs)
+writes_bounded [] h = (tt, omega arith)
+writes_bounded (c ∷ cs) h = let more = writes_bounded cs h.1 in (all_append (write_names c.verb) (all_writes cs) h.0.writes more.0, omega (arith, h.0.one_write, more.1, length-append (write_names c.verb) (all_writes cs)))
+
+are_names : (names : List (List ℕ)) → AllByRecursion IsName names → length names ≤ 4095 → AreNames (sorted_names names)
+are_names names h l = record { each = All-from_recursion IsName _ (sorted_all names h); rising = sorted_names-rise names; count = omega (arith, sorted_length names, l) }
+
+all_replacements : (cs : List Command) → AllByRecursion (λ c. IsBounded c.verb) cs → AllByRecursion (λ c. IsReplacement c.verb) cs
+all_replacements [] h = tt
+all_replacements (c ∷ cs) h = (h.0.replacement, all_replacements cs h.1)
+
+-- ---- Scripts
+
+pub spelled_script : {text : List ℕ} {p : Program} → Spells text p → IsScript p
+spelled_script {text} {p} s =
+    let items = items_cheap s.allowed.fits s.allowed.no_zero ([], refl) s.spelled in
+    let commands = commands_cheap s.commands.resolved items.0 in
+    let read = reads_bounded p.commands commands.0 in
+    let written = writes_bounded p.commands commands.0 in
+    record {
+      count = s.commands.count;
+      targets = spelled_targets s;
+      formed = spelled_formed s;
+      replacements = All-from_recursion _ p.commands (all_replacements p.commands commands.0);
+      transliterations = spelled_transliterations s;
+      expression = s.commands.expression;
+      read = are_names (all_reads p.commands) read.0 (omega (arith, read.1, s.commands.count));
+      written = are_names (all_writes p.commands) written.0 (omega (arith, written.1, s.commands.count));
+      names = omega (arith, sorted_size (all_reads p.commands), sorted_size (all_writes p.commands), costs p.commands, commands.1, items.1, s.allowed.fits);
+    }

@@ -1,0 +1,77 @@
+-- What is known of the items read so far, when one more is read.
+use Rattle.std.proofs.Common.{◌≡◌, ℕ, suc, ◌<◌, Bool, List, [], ◌∷◌, ◌++◌, length, Option, Some, None, refl, ap, sym, ◌∙◌, subst, append_assoc, append-nil, length-append, arith}
+use Rattle.std.specs.Prelude.{All}
+use Rattle.std.proofs.Math.ListN.{get_or-append}
+use Rattle.sedck_script.specs.Program.{Address, Verb}
+use Rattle.sedck_script.specs.Items.{WrittenVerb, Known, BranchTo, TestTo, Opening, Takes, Item, Written, Closing}
+use Rattle.sedck_script.specs.Faults.{StandsAt}
+use Rattle.sedck_script.specs.Cuts.{brace}
+use Rattle.sedck_script.specs.ItemReading.{Turn, Opens, Closes, Stays, verb_turn, commands_among}
+use Rattle.sedck_script.specs.Progress.{patterns_of, item_patterns, NotesLabel, NotesBlock}
+use Rattle.std.specs.Borrow.{Bor}
+use Rattle.std.specs.HashMap.{HashMap}
+use Rattle.std.proofs.lemmas.List.Elements.{All-push}
+use Rattle.sedck_script.specs.Reading.{HasLabels, label_place}
+use Rattle.sedck_script.specs.VerbReading.{written_verb, IsWrittenWithin, DefinesKnown}
+use Rattle.sedck_script.specs.declared.verbs.Written.{Written as WrittenCode}
+use Rattle.sedck_script.specs.declared.verbs.Written.TheVariants as code
+use Rattle.sedck_script.proofs.FirstState.{labels_label, labels_other}
+
+pub among_append : (xs ys : List Item) → commands_among (xs ++ ys) ≡ commands_among xs ++ commands_among ys
+among_append [] ys = refl
+among_append (Written a n v ∷ xs) ys = ap (λ t. Written a n v ∷ t) (among_append xs ys)
+among_append (Closing ∷ xs) ys = among_append xs ys
+
+pub among_closing : (xs : List Item) → commands_among (xs ++ Closing ∷ []) ≡ commands_among xs
+among_closing xs = among_append xs (Closing ∷ []) ∙ append-nil (commands_among xs)
+
+pub patterns_push : (xs : List Item) (x : Item) → item_patterns (xs ++ x ∷ []) ≡ item_patterns xs ++ patterns_of x
+patterns_push [] x = append-nil (patterns_of x)
+patterns_push (y ∷ xs) x = ap (λ t. patterns_of y ++ t) (patterns_push xs x) ∙ sym (append_assoc (patterns_of y) (item_patterns xs) (patterns_of x))
+
+pub patterns_closing : (xs : List Item) → item_patterns (xs ++ Closing ∷ []) ≡ item_patterns xs
+patterns_closing xs = patterns_push xs Closing ∙ append-nil (item_patterns xs)
+
+pub opened_front : (text : List ℕ) (xs ys : List ℕ) → All (λ place. StandsAt text place brace) (xs ++ ys) → All (λ place. StandsAt text place brace) xs
+opened_front text xs ys h = λ k d lt. subst (λ place. StandsAt text place brace) (get_or-append xs ys d k lt) (h k d (omega (arith, length-append xs ys)))
+
+-- ---- Labels
+
+known_same : {a b : Address} {n m : Bool} {v w : Verb} → Written a n (Known v) ≡ Written b m (Known w) → v ≡ w
+known_same e = cc e
+
+no_place : (o : Option ℕ) → ((i : ℕ) → o ≡ Some i → ⊥) → o ≡ None
+no_place None h = refl
+no_place (Some i) h = absurd (h i refl)
+
+-- the labels after one more command
+pub labels_noted : {S : Type 0} (old new : HashMap (Bor (List ℕ)) ℕ S) (xs : List Item) (end : ℕ) (a : Address) (n : Bool) (v : WrittenCode) → HasLabels old xs → IsWrittenWithin end v → Takes (written_verb v) a n
+    → (DefinesKnown old (written_verb v) → ⊥) → NotesLabel old new (length xs) v → HasLabels new (xs ++ Written a n (written_verb v) ∷ [])
+labels_noted old new xs end a n (code.Known v) h w t f k = labels_other old new xs h _ (λ q e. w q (known_same e)) k
+labels_noted old new xs end a n (code.Label name place) h w t f k =
+    rw (t.0, t.1) (labels_label old new xs h name.now (no_place (label_place old name.now) (λ i e. f (name.now, i, refl, e))) k)
+labels_noted old new xs end a n (code.BranchTo l place) h w t f k = labels_other old new xs h _ (λ q e. absurd (cc e)) k
+labels_noted old new xs end a n (code.TestTo l place) h w t f k = labels_other old new xs h _ (λ q e. absurd (cc e)) k
+labels_noted old new xs end a n code.Opening h w t f k = labels_other old new xs h _ (λ q e. absurd (cc e)) k
+
+-- ---- Blocks
+
+-- so many blocks are open behind a turn
+abbrev pub Deeper : Turn → ℕ → ℕ → Type 0
+Deeper Opens depth deep = (deep ≡ suc depth) × (depth < 64)
+Deeper Closes depth deep = ⊥
+Deeper Stays depth deep = deep ≡ depth
+
+abbrev pub AreOpen : List ℕ → List ℕ → Type 0
+AreOpen text places = All (λ place. StandsAt text place brace) places
+
+open_push : (text xs : List ℕ) (x : ℕ) → AreOpen text xs → StandsAt text x brace → AreOpen text (xs ++ x ∷ [])
+open_push text xs x h k = All-push (λ place. StandsAt text place brace) xs x h k
+
+pub blocks_noted : (v : WrittenVerb) (text old new : List ℕ) (place : ℕ) → NotesBlock (verb_turn v) old new place → (v ≡ Opening → length old < 64) → (v ≡ Opening → StandsAt text place brace) → AreOpen text old
+    → Deeper (verb_turn v) (length old) (length new) × AreOpen text new
+blocks_noted (Known v) text old new place k few at o = (ap length k, subst (AreOpen text) (sym k) o)
+blocks_noted (BranchTo l) text old new place k few at o = (ap length k, subst (AreOpen text) (sym k) o)
+blocks_noted (TestTo l) text old new place k few at o = (ap length k, subst (AreOpen text) (sym k) o)
+blocks_noted Opening text old new place k few at o =
+    ((omega (arith, ap length k, length-append old (place ∷ [])), few refl), subst (AreOpen text) (sym k) (open_push text old place o (at refl)))

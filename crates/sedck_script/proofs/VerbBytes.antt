@@ -1,0 +1,89 @@
+-- What the first byte of a verb says of it.
+use Rattle.std.proofs.Common.{◌≡◌, ◌≢◌, ℕ, Bool, true, false, not, ◌&&◌, eqb, List, [], ◌∷◌, Option, Some, refl, sym, ◌∙◌, subst, arith}
+use Rattle.std.proofs.lemmas.Bool.{false≢true, eq-eqb}
+use Rattle.sedck_bre.specs.Text.{is_in}
+use Rattle.sedck_script.specs.Program.{Address, NoAddress, One, Two, Verb}
+use Rattle.sedck_script.specs.Items.{WrittenVerb, Known, Opening, Simple, VerbText, Takes, IsNoBrace}
+use Rattle.sedck_script.specs.Items as w
+use Rattle.sedck_script.specs.Faults.{verb_bytes}
+use Rattle.sedck_script.specs.Progress.{is_none, is_two, takes}
+use Rattle.sedck_script.proofs.FirstOne.{heads}
+use Rattle.sedck_script.proofs.Tails.{verb_takes}
+
+pub record IsVerbByte (b : ℕ) (v : WrittenVerb) : Type 0 where
+  pub known : is_in b verb_bytes ≡ true
+  pub takes_so : (a : Address) (n : Bool) → takes b a n ≡ true → Takes v a n
+  pub taken_so : (a : Address) (n : Bool) → Takes v a n → takes b a n ≡ true
+  pub opens : b ≡ 123 → v ≡ Opening
+  pub opening : v ≡ Opening → b ≡ 123
+
+-- a verb that takes any addresses and opens no block
+any_addresses : {v : WrittenVerb} (b : ℕ) → is_in b verb_bytes ≡ true → ((a : Address) (n : Bool) → takes b a n ≡ true) → ((a : Address) (n : Bool) → Takes v a n) → eqb b 123 ≡ false → (v ≡ Opening → ⊥) → IsVerbByte b v
+any_addresses b k t u f g = record { known = k; takes_so = λ a n h. u a n; taken_so = λ a n h. t a n; opens = λ e. absurd (false≢true (sym f ∙ eq-eqb b 123 e)); opening = λ e. absurd (g e) }
+
+no_opening : {v : Verb} → Known v ≡ Opening → ⊥
+no_opening e = cc e
+
+not_two : (a : Address) → not (is_two a) ≡ true → (p q : _) → a ≢ Two p q
+not_two NoAddress h p q e = cc e
+not_two (One x) h p q e = cc e
+not_two (Two x y) h p q e = false≢true h
+
+is_not_two : (a : Address) → ((p q : _) → a ≢ Two p q) → not (is_two a) ≡ true
+is_not_two NoAddress h = refl
+is_not_two (One x) h = refl
+is_not_two (Two x y) h = absurd (h x y refl)
+
+none_is : (a : Address) (n : Bool) → (is_none a && not n) ≡ true → (a ≡ NoAddress) × (n ≡ false)
+none_is NoAddress false h = (refl, refl)
+none_is NoAddress true h = absurd (false≢true h)
+none_is (One x) n h = absurd (false≢true h)
+none_is (Two x y) n h = absurd (false≢true h)
+
+simple_byte : {b : ℕ} {v : Verb} → Simple (b ∷ []) v → IsVerbByte b (Known v)
+simple_byte w.line_number = any_addresses 61 refl (λ a n. refl) (λ a n. tt) refl no_opening
+simple_byte w.delete = any_addresses 100 refl (λ a n. refl) (λ a n. tt) refl no_opening
+simple_byte w.delete_first_line = any_addresses 68 refl (λ a n. refl) (λ a n. tt) refl no_opening
+simple_byte w.get = any_addresses 103 refl (λ a n. refl) (λ a n. tt) refl no_opening
+simple_byte w.get_append = any_addresses 71 refl (λ a n. refl) (λ a n. tt) refl no_opening
+simple_byte w.hold = any_addresses 104 refl (λ a n. refl) (λ a n. tt) refl no_opening
+simple_byte w.hold_append = any_addresses 72 refl (λ a n. refl) (λ a n. tt) refl no_opening
+simple_byte w.list = any_addresses 108 refl (λ a n. refl) (λ a n. tt) refl no_opening
+simple_byte w.next = any_addresses 110 refl (λ a n. refl) (λ a n. tt) refl no_opening
+simple_byte w.next_append = any_addresses 78 refl (λ a n. refl) (λ a n. tt) refl no_opening
+simple_byte w.print = any_addresses 112 refl (λ a n. refl) (λ a n. tt) refl no_opening
+simple_byte w.print_first_line = any_addresses 80 refl (λ a n. refl) (λ a n. tt) refl no_opening
+simple_byte w.exchange = any_addresses 120 refl (λ a n. refl) (λ a n. tt) refl no_opening
+simple_byte w.quit = record { known = refl; takes_so = λ a n h. not_two a h; taken_so = λ a n h. is_not_two a h; opens = λ e. absurd (omega arith); opening = λ e. absurd (no_opening e) }
+
+along : {b c : ℕ} {v : WrittenVerb} → b ≡ c → IsVerbByte c v → IsVerbByte b v
+along {v = v} e h = subst (λ x. IsVerbByte x v) (sym e) h
+
+pub byte_of : {b : ℕ} {t text rest : List ℕ} {v : WrittenVerb} → t ≡ b ∷ text → VerbText t v rest → IsVerbByte b v
+byte_of e (w.simple x f) = along (sym (heads e)) (simple_byte x)
+byte_of e (w.label h l n f) = along (sym (heads e) ∙ h) (record { known = refl; takes_so = λ a n h. none_is a n h; taken_so = λ a n h. rw (h.0, h.1) refl; opens = λ e. absurd (omega arith); opening = λ e. absurd (no_opening e) })
+byte_of e (w.opening h) = along (sym (heads e) ∙ h) (record { known = refl; takes_so = λ a n h. tt; taken_so = λ a n h. refl; opens = λ e. refl; opening = λ e. refl })
+byte_of e (w.branch h l n f) = along (sym (heads e) ∙ heads h) (any_addresses 98 refl (λ a n. refl) (λ a n. tt) refl (λ e. cc e))
+byte_of e (w.branch_to_end h n f) = along (sym (heads e) ∙ heads h) (any_addresses 98 refl (λ a n. refl) (λ a n. tt) refl (λ e. cc e))
+byte_of e (w.test h l n f) = along (sym (heads e) ∙ heads h) (any_addresses 116 refl (λ a n. refl) (λ a n. tt) refl (λ e. cc e))
+byte_of e (w.test_to_end h n f) = along (sym (heads e) ∙ heads h) (any_addresses 116 refl (λ a n. refl) (λ a n. tt) refl (λ e. cc e))
+byte_of e (w.append h l g) = along (sym (heads e) ∙ heads h) (any_addresses 97 refl (λ a n. refl) (λ a n. tt) refl (λ e. cc e))
+byte_of e (w.change h l g) = along (sym (heads e) ∙ heads h) (any_addresses 99 refl (λ a n. refl) (λ a n. tt) refl (λ e. cc e))
+byte_of e (w.insert h l g) = along (sym (heads e) ∙ heads h) (any_addresses 105 refl (λ a n. refl) (λ a n. tt) refl (λ e. cc e))
+byte_of e (w.read h n) = along (sym (heads e) ∙ heads h) (any_addresses 114 refl (λ a n. refl) (λ a n. tt) refl (λ e. cc e))
+byte_of e (w.write h n) = along (sym (heads e) ∙ heads h) (any_addresses 119 refl (λ a n. refl) (λ a n. tt) refl (λ e. cc e))
+byte_of e (w.substitute h d x y z g f) = along (sym (heads e) ∙ heads h) (any_addresses 115 refl (λ a n. refl) (λ a n. tt) refl (λ e. cc e))
+byte_of e (w.transliterate h d x y l f) = along (sym (heads e) ∙ heads h) (any_addresses 121 refl (λ a n. refl) (λ a n. tt) refl (λ e. cc e))
+
+-- a verb begins with a byte
+pub no_verb_at_end : {text rest : List ℕ} {v : WrittenVerb} → text ≡ [] → VerbText text v rest → ⊥
+no_verb_at_end e x = let t = verb_takes x in empty (sym e ∙ t.2)
+  where
+    empty : {b : ℕ} {s : List ℕ} → [] ≡ b ∷ s → ⊥
+    empty h = cc h
+
+pub same_byte : {a b : ℕ} {o : Option ℕ} → o ≡ Some a → o ≡ Some b → a ≡ b
+same_byte e f = some_same (sym e ∙ f)
+  where
+    some_same : {x y : ℕ} → Some x ≡ Some y → x ≡ y
+    some_same h = cc h

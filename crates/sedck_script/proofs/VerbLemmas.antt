@@ -1,0 +1,99 @@
+-- What stands behind a verb's byte.
+use Rattle.std.proofs.Common.{◌≡◌, ◌≢◌, ℕ, ◌≤◌, List, ◌∷◌, length, refl, ap, sym, ◌∙◌, subst}
+use Rattle.std.specs.Prelude.{IsTrue}
+use Rattle.sedck_script.specs.Cuts.{is_delimiter}
+use Rattle.sedck_script.specs.Program.{Pattern, Part, Substitution, Substitute, Transliterate}
+use Rattle.sedck_script.specs.Parts.{Ends, DelimitedList, Replacement, HasGroups, greatest_group, Flags}
+use Rattle.sedck_script.specs.Items.{WrittenVerb, Known, BranchTo, TestTo, Simple, VerbText, IsNoBrace}
+use Rattle.sedck_script.specs.Items as w
+use Rattle.sedck_script.specs.PieceReading.{PatternText}
+use Rattle.sedck_script.specs.ReplacementReading.{HasGroupsUpTo}
+use Rattle.sedck_script.proofs.PartsOne.{list_one, replacement_one}
+use Rattle.sedck_script.proofs.WholeOne.{class_of, begins, differ}
+
+-- what stands behind the delimiter of a `s`
+record SubstituteInside (d : ℕ) (opened : List ℕ) (rest : List ℕ) : Type 0 where
+  behind : List ℕ
+  flags : List ℕ
+  pattern : Pattern
+  parts : List Part
+  substitution : Substitution
+  patterns : PatternText d opened pattern behind
+  replacement : Replacement d behind parts flags
+  groups : HasGroups pattern parts
+  others : Flags pattern parts flags substitution rest
+
+substitute_at : {d : ℕ} {opened rest : List ℕ} {verb : WrittenVerb} → VerbText (115 ∷ d ∷ opened) verb rest → SubstituteInside d opened rest
+substitute_at (w.substitute {expression = e} {behind = b} {flags = f} {pattern = q} {parts = ps} {substitution = s} h i x p z g k) =
+    record { behind = b; flags = f; pattern = q; parts = ps; substitution = s; patterns = (e, x, p); replacement = z; groups = g; others = k }
+substitute_at x = absurd (differ 115 (class_of x) refl (begins x))
+
+substitute_inside : {d : ℕ} {text opened rest : List ℕ} {verb : WrittenVerb} → text ≡ d ∷ opened → VerbText (115 ∷ text) verb rest → SubstituteInside d opened rest
+substitute_inside {rest = rest} {verb = verb} e x = substitute_at (subst (λ t. VerbText (115 ∷ t) verb rest) e x)
+
+pub substitute_read : {d : ℕ} {text opened behind after rest : List ℕ} {q : Pattern} {ps : List Part} {s : Substitution} → text ≡ d ∷ opened → IsTrue (is_delimiter d) → PatternText d opened q behind → Replacement d behind ps after → HasGroups q ps → Flags q ps after s rest → VerbText (115 ∷ text) (Known (Substitute s)) rest
+substitute_read {rest = rest} {s = s} e h p z g f = subst (λ t. VerbText (115 ∷ t) (Known (Substitute s)) rest) (sym e) (w.substitute refl h p.1 p.2 z g f)
+
+pub substitute_no_pattern : {d : ℕ} {text opened : List ℕ} → text ≡ d ∷ opened → ((p : Pattern) (r : List ℕ) → PatternText d opened p r → ⊥) → (verb : WrittenVerb) (rest : List ℕ) → VerbText (115 ∷ text) verb rest → ⊥
+substitute_no_pattern e n verb rest x = let i = substitute_inside e x in n i.pattern i.behind i.patterns
+
+pub substitute_no_parts : {d : ℕ} {text opened behind : List ℕ} (g : ℕ) (q : Pattern) → text ≡ d ∷ opened → ((p : Pattern) (r : List ℕ) → PatternText d opened p r → (p ≡ q) × (r ≡ behind)) → g ≡ greatest_group q → ((ps : List Part) (r : List ℕ) → Replacement d behind ps r → HasGroupsUpTo g ps → ⊥) → (verb : WrittenVerb) (rest : List ℕ) → VerbText (115 ∷ text) verb rest → ⊥
+substitute_no_parts {d} g q e only h n verb rest x =
+    let i = substitute_inside e x in
+    let one = only i.pattern i.behind i.patterns in
+    n i.parts i.flags (subst (λ t. Replacement d t i.parts i.flags) one.1 i.replacement) (λ k c. subst (λ m. k ≤ m) (ap greatest_group one.0 ∙ sym h) (i.groups k c))
+
+pub substitute_no_flags : {d : ℕ} {text opened behind after : List ℕ} {parts : List Part} (q : Pattern) → d ≢ 92 → text ≡ d ∷ opened → ((p : Pattern) (r : List ℕ) → PatternText d opened p r → (p ≡ q) × (r ≡ behind)) → Replacement d behind parts after → ((p : Pattern) (ps : List Part) (s : Substitution) (r : List ℕ) → Flags p ps after s r → ⊥) → (verb : WrittenVerb) (rest : List ℕ) → VerbText (115 ∷ text) verb rest → ⊥
+substitute_no_flags {d} q k e only z n verb rest x =
+    let i = substitute_inside e x in
+    let one = only i.pattern i.behind i.patterns in
+    let two = replacement_one k (subst (λ t. Replacement d t i.parts i.flags) one.1 i.replacement) z in
+    n i.pattern i.parts i.substitution rest (subst (λ t. Flags i.pattern i.parts t i.substitution rest) two.1 i.others)
+
+-- what stands behind the delimiter of a `y`
+record TransliterateInside (d : ℕ) (opened rest : List ℕ) : Type 0 where
+  behind : List ℕ
+  after : List ℕ
+  from : List ℕ
+  to : List ℕ
+  first : DelimitedList d opened from behind
+  second : DelimitedList d behind to after
+  equal : length from ≡ length to
+  ends : Ends after rest
+
+transliterate_at : {d : ℕ} {opened rest : List ℕ} {verb : WrittenVerb} → VerbText (121 ∷ d ∷ opened) verb rest → TransliterateInside d opened rest
+transliterate_at (w.transliterate {from = f} {behind = b} {to = o} {after = a} h i x y l e) =
+    record { behind = b; after = a; from = f; to = o; first = x; second = y; equal = l; ends = e }
+transliterate_at x = absurd (differ 121 (class_of x) refl (begins x))
+
+transliterate_inside : {d : ℕ} {text opened rest : List ℕ} {verb : WrittenVerb} → text ≡ d ∷ opened → VerbText (121 ∷ text) verb rest → TransliterateInside d opened rest
+transliterate_inside {rest = rest} {verb = verb} e x = transliterate_at (subst (λ t. VerbText (121 ∷ t) verb rest) e x)
+
+pub transliterate_read : {d : ℕ} {text opened behind after from to rest : List ℕ} → text ≡ d ∷ opened → IsTrue (is_delimiter d) → DelimitedList d opened from behind → DelimitedList d behind to after → length from ≡ length to → Ends after rest → VerbText (121 ∷ text) (Known (Transliterate from to)) rest
+transliterate_read {from = from} {to = to} {rest = rest} e h x y l f = subst (λ t. VerbText (121 ∷ t) (Known (Transliterate from to)) rest) (sym e) (w.transliterate refl h x y l f)
+
+pub transliterate_no_first : {d : ℕ} {text opened : List ℕ} → text ≡ d ∷ opened → ((bytes r : List ℕ) → DelimitedList d opened bytes r → ⊥) → (verb : WrittenVerb) (rest : List ℕ) → VerbText (121 ∷ text) verb rest → ⊥
+transliterate_no_first e n verb rest x = let i = transliterate_inside e x in n i.from i.behind i.first
+
+-- the second list of a `y` whose first is known, and its end
+record SecondInside (d : ℕ) (from behind rest : List ℕ) : Type 0 where
+  after : List ℕ
+  to : List ℕ
+  second : DelimitedList d behind to after
+  equal : length from ≡ length to
+  ends : Ends after rest
+
+second_inside : {d : ℕ} {text opened from behind rest : List ℕ} {verb : WrittenVerb} → d ≢ 92 → text ≡ d ∷ opened → DelimitedList d opened from behind → VerbText (121 ∷ text) verb rest → SecondInside d from behind rest
+second_inside {d} k e x v =
+    let i = transliterate_inside e v in
+    let one = list_one k i.first x in
+    record { after = i.after; to = i.to; second = subst (λ t. DelimitedList d t i.to i.after) one.1 i.second; equal = sym (ap length one.0) ∙ i.equal; ends = i.ends }
+
+pub transliterate_no_second : {d : ℕ} {text opened from behind : List ℕ} → d ≢ 92 → text ≡ d ∷ opened → DelimitedList d opened from behind → ((bytes r : List ℕ) → DelimitedList d behind bytes r → ⊥) → (verb : WrittenVerb) (rest : List ℕ) → VerbText (121 ∷ text) verb rest → ⊥
+transliterate_no_second k e x n verb rest v = let i = second_inside k e x v in n i.to i.after i.second
+
+pub transliterate_unequal : {d : ℕ} {text opened from behind to after : List ℕ} → d ≢ 92 → text ≡ d ∷ opened → DelimitedList d opened from behind → DelimitedList d behind to after → length from ≢ length to → (verb : WrittenVerb) (rest : List ℕ) → VerbText (121 ∷ text) verb rest → ⊥
+transliterate_unequal k e x y n verb rest v = let i = second_inside k e x v in n (i.equal ∙ ap length (list_one k i.second y).0)
+
+pub transliterate_no_end : {d : ℕ} {text opened from behind to after : List ℕ} → d ≢ 92 → text ≡ d ∷ opened → DelimitedList d opened from behind → DelimitedList d behind to after → ((r : List ℕ) → Ends after r → ⊥) → (verb : WrittenVerb) (rest : List ℕ) → VerbText (121 ∷ text) verb rest → ⊥
+transliterate_no_end k e x y n verb rest v = let i = second_inside k e x v in n rest (subst (λ t. Ends t rest) (list_one k i.second y).1 i.ends)

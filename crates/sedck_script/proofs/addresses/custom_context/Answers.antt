@@ -1,0 +1,10 @@
+use Rattle.sedck_script.proofs.Outcomes.{if_err_more}
+use Rattle.sedck_script.proofs.FirstReading.{tail_behind}
+use Rattle.sedck_script.proofs.AddressLemmas.{custom_delimiter}
+use Rattle.sedck_script.proofs.addresses.custom_context.Goals as goal
+
+pub context-requires-clause-tail : goal.context-requires-clause-tail
+context-requires-clause-tail c = tail_behind c.requires.tail c.in-Some.ensures.cases.0
+
+pub returns-clause-refused : goal.returns-clause-refused
+returns-clause-refused c = if_err_more c.context.result (λ fault h memory p rest x. h memory p rest (custom_delimiter c.in-Some.ensures.cases.0 x).1) c.context.ensures.refused

@@ -1,0 +1,36 @@
+use Rattle.std.proofs.Common.{◌≡◌, Some, ap, sym, ◌∙◌, inl, arith}
+use Rattle.std.proofs.lemmas.Bool.{false≢true}
+use Rattle.sedck_bre.specs.Text.{is_in}
+use Rattle.sedck_script.specs.Faults.{verb_bytes}
+use Rattle.sedck_script.proofs.FirstReading.{stands_at_tail}
+use Rattle.sedck_script.proofs.VerbBytes.{byte_of, same_byte}
+use Rattle.sedck_script.proofs.commands.check_verb.Goals.{else-verb-eq123-via-then-verb-eq123+else-depth-ge-DEPTH_LIMIT, else-verb-eq123-via-else-verb-eq123}
+use Rattle.sedck_script.proofs.commands.check_verb.Goals as goal
+
+pub returns-then-not-is_verb-clause-refused : goal.returns-then-not-is_verb-clause-refused
+returns-then-not-is_verb-clause-refused c = λ verb rest x t. absurd (false≢true (sym c.if-not-is_verb.true ∙ c.is_verb.ensures ∙ (byte_of c.in-Some.ensures.cases.0 x).known))
+
+pub returns-then-not-is_verb-clause-placed : goal.returns-then-not-is_verb-clause-placed
+returns-then-not-is_verb-clause-placed c =
+    (omega arith, λ b at. ap (λ x. is_in x verb_bytes) (same_byte at (stands_at_tail c.requires.tail c.in-Some.ensures.cases.0)) ∙ sym c.is_verb.ensures ∙ c.if-not-is_verb.true)
+
+pub returns-then-not-takes-clause-refused : goal.returns-then-not-takes-clause-refused
+returns-then-not-takes-clause-refused c = λ verb rest x t. absurd (false≢true (sym c.if-not-takes.true ∙ c.takes.ensures ∙ (byte_of c.in-Some.ensures.cases.0 x).taken_so _ _ t))
+
+pub returns-then-depth-ge-DEPTH_LIMIT-clause-refused : goal.returns-then-depth-ge-DEPTH_LIMIT-clause-refused
+returns-then-depth-ge-DEPTH_LIMIT-clause-refused c = λ verb rest x t. inl ((byte_of c.in-Some.ensures.cases.0 x).opens c.if-verb-eq123.true, omega arith)
+
+pub returns-then-depth-ge-DEPTH_LIMIT-clause-placed : goal.returns-then-depth-ge-DEPTH_LIMIT-clause-placed
+returns-then-depth-ge-DEPTH_LIMIT-clause-placed c = stands_at_tail c.requires.tail c.in-Some.ensures.cases.0 ∙ ap Some c.if-verb-eq123.true
+
+pub returns-clause-allowed : goal.returns-clause-allowed
+returns-clause-allowed c = λ verb rest x.
+    let byte = byte_of c.in-Some.ensures.cases.0 x in (
+      byte.takes_so _ _ (sym c.takes.ensures ∙ c.if-not-takes.false),
+      λ e. let brace : c.in-Some.verb.now ≡ 123 = byte.opening e in
+          elim c.else-verb-eq123.branch [
+            | else-verb-eq123-via-then-verb-eq123+else-depth-ge-DEPTH_LIMIT w ↦ omega arith
+            | else-verb-eq123-via-else-verb-eq123 w ↦ absurd (omega (arith, brace, w.if-verb-eq123.false))
+          ],
+      omega arith,
+    )

@@ -1,0 +1,18 @@
+use Rattle.std.proofs.Common.{◌∙◌, sym}
+use Rattle.sedck_script.proofs.FirstReading.{if_err_always}
+use Rattle.sedck_script.proofs.FlagLemmas.{no_flag, no_file, no_number, no_flags_end}
+use Rattle.sedck_script.proofs.flags.flag_at.Goals as goal
+
+pub returns-in_default-name-clause-refused : goal.returns-in_default-name-clause-refused
+returns-in_default-name-clause-refused c = λ q ps s r x. no_file c.in-Some.ensures.cases.0 c.if-first-eq119.true c.in_default-name.ensures.none x
+
+pub returns-in_default-number-clause-refused : goal.returns-in_default-number-clause-refused
+returns-in_default-number-clause-refused c = λ q ps s r x. no_number c.in-Some.ensures.cases.0 (sym c.is_digit.ensures ∙ c.if-is_digit.true) c.in_default-number.ensures.none x
+
+pub returns-then-not-is_ending-clause-refused : goal.returns-then-not-is_ending-clause-refused
+returns-then-not-is_ending-clause-refused c = λ q ps s r x.
+    no_flag c.in-Some.ensures.cases.0 c.if-first-eq103.false c.if-first-eq112.false c.if-first-eq119.false (sym c.is_digit.ensures ∙ c.if-is_digit.false) (sym c.is_blank.ensures ∙ c.if-not-is_blank.true) (sym c.is_ending.ensures ∙ c.if-not-is_ending.true) x
+
+pub returns-in_err-rest-clause-refused : goal.returns-in_err-rest-clause-refused
+returns-in_err-rest-clause-refused c = if_err_always c.from_residual.result (λ q ps s r x.
+    no_flags_end c.in-Some.ensures.cases.0 c.if-first-eq103.false c.if-first-eq112.false c.if-first-eq119.false (sym c.is_digit.ensures ∙ c.if-is_digit.false) c.in_err-rest.ensures.refused x)

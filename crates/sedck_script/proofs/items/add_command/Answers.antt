@@ -1,0 +1,55 @@
+use Rattle.std.proofs.Common.{◌⊎◌, ◌<◌, ◌∷◌, [], length, map, refl, ap, ◌∙◌, subst, length-append, arith}
+use Rattle.std.proofs.lemmas.List.{map_push}
+use Rattle.std.proofs.lemmas.List.Elements.{All-push}
+use Rattle.sedck_script.specs.Items.{Written}
+use Rattle.sedck_script.specs.View.{address_of}
+use Rattle.sedck_script.specs.VerbReading.{written_verb, DefinesKnown}
+use Rattle.sedck_script.specs.ItemReading.{item_of, commands_among, IsItemWithin}
+use Rattle.sedck_script.specs.Progress.{IsBeyond, NotesLabel, patterns_of, item_patterns}
+use Rattle.sedck_script.proofs.FirstWhole.{if_err_from}
+use Rattle.sedck_script.proofs.Tails.{tail_length}
+use Rattle.sedck_script.proofs.ProgressLemmas.{front_refused, front_command, command_shorter, brace_stands}
+use Rattle.sedck_script.proofs.StateLemmas.{among_append, patterns_push, labels_noted, blocks_noted}
+use Rattle.sedck_script.proofs.CommandLemmas.{empty_append}
+use Rattle.sedck_script.proofs.items.add_command.Goals as goal
+
+pub returns-in_err-command-clause-refused : goal.returns-in_err-command-clause-refused
+returns-in_err-command-clause-refused c =
+    if_err_from _ c.from_residual.result _ c.from_residual.ensures.1 (λ memory. front_refused c.args.progress.now.labels c.requires.progress.front c.requires.begins c.requires.progress.labels c.requires.progress.count
+    (λ a n v rest x. subst (λ d. DefinesKnown c.args.progress.now.labels v ⊎ IsBeyond d c.args.progress.now.count v) (c.len.ensures ∙ c.args.progress.now.blocks.ok.0) (c.in_err-command.ensures.refused memory a n v rest x)))
+
+pub returns-in_err-note_label-clause-refused : goal.returns-in_err-note_label-clause-refused
+returns-in_err-note_label-clause-refused c = if_err_from _ c.from_residual-in_err-note_label.result _ c.from_residual-in_err-note_label.ensures.1 (λ memory. absurd (memory c.in_err-note_label.ensures.memory))
+
+pub overflow_sub-place : goal.overflow_sub-place
+overflow_sub-place c = omega (arith, tail_length c.requires.progress.front.tail, command_shorter c.in_ok-command.ensures.read)
+
+pub overflow_sub-place-2 : goal.overflow_sub-place-2
+overflow_sub-place-2 c = omega (arith, tail_length c.requires.progress.front.tail, command_shorter c.in_ok-command.ensures.read)
+
+pub returns-in_err-note_block-clause-refused : goal.returns-in_err-note_block-clause-refused
+returns-in_err-note_block-clause-refused c = if_err_from _ c.from_residual-in_err-note_block.result _ c.from_residual-in_err-note_block.ensures.1 (λ memory. absurd (memory c.in_err-note_block.ensures.memory))
+
+pub returns-clause-shorter : goal.returns-clause-shorter
+returns-clause-shorter c = command_shorter c.in_ok-command.ensures.read
+
+pub returns-clause-progress : goal.returns-clause-progress
+returns-clause-progress c =
+    let old = c.args.progress.now in
+    let command = c.in_ok-command.command in
+    let items = ap (map item_of) c.in_ok-push.ensures.items ∙ map_push item_of old.items.items _ in
+    let noted = blocks_noted (written_verb command.verb) c.args.text.now old.blocks.items c.note_block.new.blocks.items _ c.in_ok-note_block.ensures.ok
+    (λ e. subst (λ d. d < 64) (c.len.ensures ∙ old.blocks.ok.0) (c.in_ok-command.ensures.shallow e))
+    (λ e. brace_stands _ c.requires.progress.front.tail c.in_ok-command.ensures.read refl e) c.requires.progress.opened in
+    record {
+      front = rw items (front_command c.requires.progress.front c.requires.begins c.in_ok-command.ensures.read noted.0);
+      labels = rw (items, among_append) (labels_noted old.labels c.note_label.new.labels (commands_among (map item_of old.items.items)) (length c.args.text.now) (address_of command.address) command.negated command.verb
+          c.requires.progress.labels c.in_ok-command.ensures.within c.in_ok-command.ensures.read.taken c.in_ok-command.ensures.fresh
+          (subst (λ k. NotesLabel old.labels c.note_label.new.labels k command.verb) c.requires.progress.count c.in_ok-note_label.ensures.ok));
+      count = rw (items, among_append) (omega (arith, c.requires.progress.count, length-append (commands_among (map item_of old.items.items)) (Written (address_of command.address) command.negated (written_verb command.verb) ∷ [])));
+      few = omega (arith, c.in_ok-command.ensures.few);
+      within = rw c.in_ok-push.ensures.items (All-push (IsItemWithin (length c.args.text.now)) _ _ c.requires.progress.within c.in_ok-command.ensures.within);
+      opened = noted.1;
+      empty = rw (items, patterns_push, c.or-progress.ensures) (empty_append (length c.args.text.now) (item_patterns (map item_of old.items.items)) (patterns_of (Written (address_of command.address) command.negated (written_verb command.verb))) old.empty c.in_ok-command.empty
+          c.requires.progress.empty c.in_ok-command.ensures.empty);
+    }

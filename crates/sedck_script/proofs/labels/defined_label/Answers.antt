@@ -1,0 +1,10 @@
+use Rattle.std.proofs.Common.{arith}
+use Rattle.sedck_script.proofs.FirstReading.{if_err_always}
+use Rattle.sedck_script.proofs.LabelLemmas.{no_label_there, no_definition}
+use Rattle.sedck_script.proofs.labels.defined_label.Goals as goal
+
+pub returns-then-is_empty-clause-refused : goal.returns-then-is_empty-clause-refused
+returns-then-is_empty-clause-refused c = λ name behind rest l n e. no_label_there c.label_parts-place.ensures.parts (grind (arith, c.if-is_empty.ensures)) l
+
+pub returns-in_err-check_behind_definition-clause-refused : goal.returns-in_err-check_behind_definition-clause-refused
+returns-in_err-check_behind_definition-clause-refused c = if_err_always c.from_residual.result (λ name behind rest l n e. no_definition c.label_parts-place.ensures.parts c.in_err-check_behind_definition.ensures.refused l n e)

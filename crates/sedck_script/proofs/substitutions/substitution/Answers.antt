@@ -1,0 +1,37 @@
+use Rattle.std.proofs.Common.{◌≤◌, subst}
+use Rattle.sedck_script.specs.View.{pattern_of}
+use Rattle.sedck_script.proofs.FirstState.{tail_tail}
+use Rattle.sedck_script.proofs.FirstReading.{tail_behind, if_err_each}
+use Rattle.sedck_script.proofs.FirstWhole.{if_err_from}
+use Rattle.sedck_script.proofs.Tails.{expression_tail, replacement_tail}
+use Rattle.sedck_script.proofs.WholeOne.{no_backslash}
+use Rattle.sedck_script.proofs.VerbLemmas.{substitute_read, substitute_no_pattern, substitute_no_parts, substitute_no_flags}
+use Rattle.sedck_script.proofs.substitutions.substitution.Goals as goal
+
+pub pattern-requires-clause-tail : goal.pattern-requires-clause-tail
+pattern-requires-clause-tail c = tail_behind c.requires.tail c.in_ok-delimiter.ensures.read.0
+
+pub returns-in_err-pattern-clause-refused : goal.returns-in_err-pattern-clause-refused
+returns-in_err-pattern-clause-refused c =
+    if_err_from _ c.from_residual-in_err-pattern.result _ c.from_residual-in_err-pattern.ensures.1
+    (λ memory. substitute_no_pattern c.in_ok-delimiter.ensures.read.0 (c.in_err-pattern.ensures.refused memory))
+
+pub replacement-requires-clause-tail : goal.replacement-requires-clause-tail
+replacement-requires-clause-tail c = tail_tail (tail_behind c.requires.tail c.in_ok-delimiter.ensures.read.0) (expression_tail c.in_ok-pattern.ensures.read.1)
+
+pub returns-in_err-parts-clause-refused : goal.returns-in_err-parts-clause-refused
+returns-in_err-parts-clause-refused c =
+    if_err_from _ c.from_residual-in_err-parts.result _ c.from_residual-in_err-parts.ensures.1
+    (λ memory. substitute_no_parts _ (pattern_of c.in_ok-pattern.pattern) c.in_ok-delimiter.ensures.read.0 c.in_ok-pattern.ensures.only c.greatest_group-greatest.ensures (c.in_err-parts.ensures.refused memory))
+
+pub flags-requires : goal.flags-requires
+flags-requires c = tail_tail (tail_tail (tail_behind c.requires.tail c.in_ok-delimiter.ensures.read.0) (expression_tail c.in_ok-pattern.ensures.read.1)) (replacement_tail c.in_ok-parts.ensures.read)
+
+pub returns-in_err-seen-clause-refused : goal.returns-in_err-seen-clause-refused
+returns-in_err-seen-clause-refused c = if_err_each _ c.from_residual-in_err-seen.result (λ fault memory.
+    substitute_no_flags (pattern_of c.in_ok-pattern.pattern) (no_backslash c.in_ok-delimiter.ensures.read.1) c.in_ok-delimiter.ensures.read.0 c.in_ok-pattern.ensures.only c.in_ok-parts.ensures.read c.in_err-seen.ensures.refused)
+
+pub returns-clause-read : goal.returns-clause-read
+returns-clause-read c =
+    substitute_read c.in_ok-delimiter.ensures.read.0 c.in_ok-delimiter.ensures.read.1 c.in_ok-pattern.ensures.read c.in_ok-parts.ensures.read
+    (λ k i. subst (λ m. k ≤ m) c.greatest_group-greatest.ensures (c.in_ok-parts.ensures.groups k i)) (c.in_ok-seen.ensures.read _ _)

@@ -1,0 +1,52 @@
+-- What the readers of addresses say of what they read. Only private contracts cite it.
+use Rattle.std.specs.Prelude.{◌≡◌, ℕ, ◌≤◌, Bool, true, false, not, ◌||◌, ◌==◌, List, [], ◌∷◌, Option, Some, None, IsTrue}
+use Rattle.sedck_bre.specs.Text.{one_of}
+use Rattle.sedck_script.specs.Cuts.{bang, is_blank, is_digit, is_delimiter, IsEmptyOr, Longest}
+use Rattle.sedck_script.specs.Program.{Pattern, Previous, Expression, Place, Context, Address}
+use Rattle.sedck_script.specs.Parts.{AddressText}
+use Rattle.sedck_script.specs.Items.{WrittenVerb, VerbText, CommandText}
+use Rattle.sedck_script.specs.PieceReading.{PatternText}
+
+-- a byte that begins an address
+abbrev pub begins_place : ℕ → Bool
+begins_place b = is_digit b || one_of "$/\\" b
+
+-- what may stand between the addresses and the verb
+abbrev pub is_mark : ℕ → Bool
+is_mark b = is_blank b || (b == bang)
+
+-- one of the patterns is empty
+abbrev pub has_previous : List Pattern → Bool
+has_previous [] = false
+has_previous (Previous ∷ patterns) = true
+has_previous (Expression tree ∷ patterns) = has_previous patterns
+
+-- There is a place where one of the patterns is empty, and it lies up to the end.
+abbrev pub IsEmptyAt : ℕ → List Pattern → Option ℕ → Type 0
+IsEmptyAt end patterns None = has_previous patterns ≡ false
+IsEmptyAt end patterns (Some place) = (has_previous patterns ≡ true) × (place ≤ end)
+
+-- an address between delimiters, behind the opening one
+abbrev pub ContextText : ℕ → List ℕ → Place → List ℕ → Type 0
+ContextText delimiter text place rest = (pattern : Pattern) × (place ≡ Context pattern) × PatternText delimiter text pattern rest
+
+-- an address with a delimiter of its own, behind its backslash
+abbrev pub CustomText : List ℕ → Place → List ℕ → Type 0
+CustomText text place rest = (delimiter : ℕ) × (behind : List ℕ) × (text ≡ delimiter ∷ behind) × IsTrue (is_delimiter delimiter) × ContextText delimiter behind place rest
+
+-- the text begins with a byte of an address
+abbrev pub BeginsPlace : List ℕ → Type 0
+BeginsPlace text = (b : ℕ) × (more : List ℕ) × (text ≡ b ∷ more) × (begins_place b ≡ true)
+
+-- the text begins with no byte of an address
+abbrev pub BeginsNoPlace : List ℕ → Type 0
+BeginsNoPlace text = IsEmptyOr (λ b. not (begins_place b)) text
+
+-- each command of the text has this address, and this is what stands behind it
+abbrev pub IsOnlyAddress : List ℕ → Address → List ℕ → Type 0
+IsOnlyAddress text address rest = (other : Address) (behind marks begins left : List ℕ) (verb : WrittenVerb)
+    → AddressText text other behind → Longest is_mark behind marks begins → VerbText begins verb left → (other ≡ address) × (behind ≡ rest)
+
+-- the text doesn't begin with a command
+abbrev pub IsNoCommand : List ℕ → Type 0
+IsNoCommand text = (address : Address) (negated : Bool) (verb : WrittenVerb) (rest : List ℕ) → CommandText text address negated verb rest → ⊥

@@ -1,0 +1,102 @@
+-- What the readers of items, and the resolver of their labels, say of them. Only private contracts cite it.
+use Rattle.std.specs.Prelude.{◌≡◌, ℕ, suc, zero, ◌<◌, List, [], ◌∷◌, ◌++◌, Option, Some, None, unwrap_or}
+use Rattle.std.specs.Borrow.{Bor}
+use Rattle.std.specs.HashMap.{HashMap}
+use Rattle.sedck_script.specs.Program.{Verb, Branch, Test, Block, Command}
+use Rattle.sedck_script.specs.Items.{WrittenVerb, Known, BranchTo, TestTo, Opening, Item, Written, Closing}
+use Rattle.sedck_script.specs.View.{address_of}
+use Rattle.sedck_script.specs.Reading.{label_place}
+use Rattle.sedck_script.specs.VerbReading.{written_verb, IsWrittenWithin}
+use Rattle.sedck_script.specs.declared.written.WrittenCommand.{WrittenCommand}
+use Rattle.sedck_script.specs.declared.written.WrittenItem.{WrittenItem}
+use Rattle.sedck_script.specs.declared.written.WrittenItem.TheVariants as code
+
+-- ---- Items
+
+abbrev pub item_of : WrittenItem → Item
+item_of (code.Command c) = Written (address_of c.address) c.negated (written_verb c.verb)
+item_of code.Closing = Closing
+
+-- the commands among the items
+abbrev pub commands_among : List Item → List Item
+commands_among [] = []
+commands_among (Written a n v ∷ items) = Written a n v ∷ commands_among items
+commands_among (Closing ∷ items) = commands_among items
+
+-- what an item does to the number of open blocks
+pub data Turn : Type 0 where
+  Opens : Turn
+  Closes : Turn
+  Stays : Turn
+
+abbrev pub verb_turn : WrittenVerb → Turn
+verb_turn (Known v) = Stays
+verb_turn (BranchTo label) = Stays
+verb_turn (TestTo label) = Stays
+verb_turn Opening = Opens
+
+abbrev pub turn_of : Item → Turn
+turn_of (Written a n v) = verb_turn v
+turn_of Closing = Closes
+
+-- what follows is right for the number of blocks that are open behind the turn, of which there are at most 64
+abbrev pub Turned : Turn → (ℕ → Type 0) → ℕ → Type 0
+Turned Opens P depth = (depth < 64) × P (suc depth)
+Turned Closes P zero = ⊥
+Turned Closes P (suc depth) = P depth
+Turned Stays P depth = P depth
+
+-- where so many blocks are open, the items close each block, and open none too deep
+abbrev pub Nests : List Item → ℕ → Type 0
+Nests [] depth = depth ≡ 0
+Nests (item ∷ items) depth = Turned (turn_of item) (Nests items) depth
+
+-- the place of an item's label lies in the text
+abbrev pub IsItemWithin : ℕ → WrittenItem → Type 0
+IsItemWithin end (code.Command c) = IsWrittenWithin end c.verb
+IsItemWithin end code.Closing = Unit {0}
+
+-- ---- Labels
+
+-- a label is one that the map has, or there is none
+abbrev pub IsKnownLabel : {S : Type 0} → HashMap (Bor (List ℕ)) ℕ S → Option (List ℕ) → Type 0
+IsKnownLabel labels None = Unit {0}
+IsKnownLabel labels (Some name) = (i : ℕ) × (label_place labels name ≡ Some i)
+
+-- a label is one that the map lacks
+abbrev pub IsLostLabel : {S : Type 0} → HashMap (Bor (List ℕ)) ℕ S → Option (List ℕ) → Type 0
+IsLostLabel labels None = ⊥
+IsLostLabel labels (Some name) = label_place labels name ≡ None
+
+-- the label to which a verb leads, if it leads to one
+abbrev pub label_of : WrittenVerb → Option (List ℕ)
+label_of (BranchTo label) = label
+label_of (TestTo label) = label
+label_of (Known v) = None
+label_of Opening = None
+
+abbrev pub item_label : Item → Option (List ℕ)
+item_label (Written a n v) = label_of v
+item_label Closing = None
+
+-- the place to which a label leads
+abbrev pub target_of : {S : Type 0} → HashMap (Bor (List ℕ)) ℕ S → ℕ → Option (List ℕ) → ℕ
+target_of labels end None = end
+target_of labels end (Some name) = unwrap_or (label_place labels name) end
+
+-- the verb with its target, where a block leads to this place
+abbrev pub resolved_verb : {S : Type 0} → HashMap (Bor (List ℕ)) ℕ S → ℕ → ℕ → WrittenVerb → Verb
+resolved_verb labels end block (Known v) = v
+resolved_verb labels end block (BranchTo label) = Branch (target_of labels end label)
+resolved_verb labels end block (TestTo label) = Test (target_of labels end label)
+resolved_verb labels end block Opening = Block block
+
+-- the command with its target
+abbrev pub resolved_command : {S : Type 0} → HashMap (Bor (List ℕ)) ℕ S → ℕ → ℕ → WrittenCommand → Command
+resolved_command labels end block c = record { address = address_of c.address; negated = c.negated; verb = resolved_verb labels end block (written_verb c.verb) }
+
+-- where the command opens a block, its target is taken from the end of the list, and else nothing is taken
+abbrev pub Takes : Turn → List ℕ → List ℕ → ℕ → Type 0
+Takes Opens old new target = (old ≡ [] → ⊥) → old ≡ new ++ target ∷ []
+Takes Closes old new target = new ≡ old
+Takes Stays old new target = new ≡ old

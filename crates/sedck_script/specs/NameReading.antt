@@ -1,0 +1,18 @@
+-- The names that commands read, or write. Only private contracts and proofs cite it.
+use Rattle.std.specs.Prelude.{ℕ, List, Option, Some, None, flat_map}
+use Rattle.sedck_script.specs.Program.{Verb, Command}
+use Rattle.sedck_script.specs.Names.{read_names, write_names, with_name}
+use Rattle.sedck_script.specs.declared.name_lists.Access.{Access}
+use Rattle.sedck_script.specs.declared.name_lists.Access.TheVariants as access
+
+abbrev pub accessed : Access → Verb → List (List ℕ)
+accessed access.Read v = read_names v
+accessed access.Write v = write_names v
+
+abbrev pub all_accessed : Access → List Command → List (List ℕ)
+all_accessed a cs = flat_map (λ c. accessed a c.verb) cs
+
+-- rising names with another one, where there is one
+abbrev pub with_any : Option (List ℕ) → List (List ℕ) → List (List ℕ)
+with_any None names = names
+with_any (Some name) names = with_name name names

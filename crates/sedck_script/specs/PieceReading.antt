@@ -1,0 +1,22 @@
+-- What the readers of delimited parts say of what they read. Only private contracts cite it.
+use Rattle.std.specs.Prelude.{◌≡◌, ◌≢◌, ℕ, ◌==◌, List, ◌∷◌, Option, Some, None, IsTrue, if◌then◌else◌}
+use Rattle.sedck_script.specs.Cuts.{newline, backslash, can_be_escaped}
+use Rattle.sedck_script.specs.Program.{Pattern}
+use Rattle.sedck_script.specs.Parts.{DelimitedExpression, IsPattern}
+use Rattle.sedck_script.specs.declared.delimited.Piece.{Piece}
+use Rattle.sedck_script.specs.declared.delimited.Piece.TheVariants as piece
+
+-- the first piece of a delimited part, and what stands behind it
+abbrev pub IsPiece : ℕ → List ℕ → Piece → List ℕ → Type 0
+IsPiece delimiter text piece.End rest = text ≡ delimiter ∷ rest
+IsPiece delimiter text (piece.Byte b) rest = (text ≡ b ∷ rest) × (b ≢ delimiter) × (b ≢ backslash) × (b ≢ newline)
+IsPiece delimiter text piece.Escaped rest = (text ≡ backslash ∷ delimiter ∷ rest) × IsTrue (can_be_escaped delimiter)
+IsPiece delimiter text (piece.Pair b) rest = (text ≡ backslash ∷ b ∷ rest) × (b ≢ delimiter)
+
+-- a pattern behind its opening delimiter, and what stands behind it
+abbrev pub PatternText : ℕ → List ℕ → Pattern → List ℕ → Type 0
+PatternText delimiter text pattern rest = (expression : List ℕ) × DelimitedExpression delimiter text expression rest × IsPattern expression pattern
+
+-- what a backslash and this byte mean in a list of `y`
+abbrev pub list_escape : ℕ → Option ℕ
+list_escape b = if b == backslash then Some backslash else if b == 110 then Some newline else None

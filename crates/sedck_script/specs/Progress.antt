@@ -1,0 +1,103 @@
+-- How far the items of a script have been read. Only private contracts cite it.
+use Rattle.std.specs.Prelude.{◌≡◌, ◌≢◌, ℕ, ◌<◌, ◌≤◌, Bool, true, false, not, ◌&&◌, ◌==◌, if◌then◌else◌, List, [], ◌∷◌, ◌++◌, length, map, flat_map, All, ◌⊎◌, Some}
+use Rattle.std.specs.Str.{bytes_eq}
+use Rattle.std.specs.Borrow.{Bor}
+use Rattle.std.specs.HashMap.{HashMap}
+use Rattle.sedck_bre.specs.Text.{one_of}
+use Rattle.sedck_script.specs.Cuts.{colon, brace, hash, closing_brace, is_separator}
+use Rattle.sedck_script.specs.Program.{Pattern, Address, NoAddress, One, Two, address_patterns, verb_patterns}
+use Rattle.sedck_script.specs.Items.{WrittenVerb, Known, BranchTo, TestTo, Opening, VerbText, Takes, Item, Written, Closing, Items}
+use Rattle.sedck_script.specs.Faults.{StandsAt}
+use Rattle.sedck_script.specs.Reading.{EndsIn, HasLabels, AreLabelsOnce, label_place}
+use Rattle.sedck_script.specs.ItemReading.{Turn, Opens, Closes, Stays, item_of, commands_among, Nests, IsItemWithin}
+use Rattle.sedck_script.specs.AddressReading.{IsEmptyAt}
+use Rattle.sedck_script.specs.declared.items.Progress.{Progress}
+use Rattle.sedck_script.specs.declared.verbs.Written.{Written as WrittenCode}
+use Rattle.sedck_script.specs.declared.verbs.Written.TheVariants as code
+
+-- ---- A command
+
+abbrev pub is_none : Address → Bool
+is_none NoAddress = true
+is_none (One p) = false
+is_none (Two p q) = false
+
+abbrev pub is_two : Address → Bool
+is_two NoAddress = false
+is_two (One p) = false
+is_two (Two p q) = true
+
+-- a command that begins with this byte behind its addresses takes them
+abbrev pub takes : ℕ → Address → Bool → Bool
+takes b given negated =
+    if one_of "}#" b then false
+    else if b == colon then is_none given && not negated
+    else if b == 113 then not (is_two given)
+    else true
+
+-- the patterns of a verb
+abbrev pub written_patterns : WrittenVerb → List Pattern
+written_patterns (Known verb) = verb_patterns verb
+written_patterns (BranchTo label) = []
+written_patterns (TestTo label) = []
+written_patterns Opening = []
+
+abbrev pub patterns_of : Item → List Pattern
+patterns_of (Written given negated verb) = address_patterns given ++ written_patterns verb
+patterns_of Closing = []
+
+-- the patterns of the items, those of addresses too
+abbrev pub item_patterns : List Item → List Pattern
+item_patterns items = flat_map patterns_of items
+
+-- the verb opens a block though 64 are open, or there are 4,095 commands
+abbrev pub IsBeyond : ℕ → ℕ → WrittenVerb → Type 0
+IsBeyond depth count verb = ((verb ≡ Opening) × (64 ≤ depth)) ⊎ (4095 ≤ count)
+
+-- the text's verbs take the addresses, and are within the limits
+abbrev pub AreAllowed : Address → Bool → ℕ → ℕ → List ℕ → Type 0
+AreAllowed given negated depth count text = (verb : WrittenVerb) (rest : List ℕ) → VerbText text verb rest → Takes verb given negated × (verb ≡ Opening → depth < 64) × (count < 4095)
+
+-- ---- Items
+
+-- These items have been read, so many blocks are open, and rest is left.
+pub record IsFront (text : List ℕ) (items : List Item) (depth : ℕ) (rest : List ℕ) : Type 0 where
+  pub tail : EndsIn text rest
+  pub sound : (more : List Item) → Items rest more → Items text (items ++ more)
+  pub only : (all : List Item) → Items text all → (more : List Item) × (all ≡ items ++ more) × Items rest more
+  pub nests : (more : List Item) → Nests more depth → Nests (items ++ more) 0
+  pub nested : (more : List Item) → Nests (items ++ more) 0 → Nests more depth
+
+-- what has been read of a text, where rest is left
+pub record IsProgress (text rest : List ℕ) (progress : Progress) : Type 0 where
+  pub front : IsFront text (map item_of progress.items.items) (length progress.blocks.items) rest
+  pub labels : HasLabels progress.labels (commands_among (map item_of progress.items.items))
+  pub count : progress.count ≡ length (commands_among (map item_of progress.items.items))
+  pub few : progress.count ≤ 4095
+  pub within : All (IsItemWithin (length text)) progress.items.items
+  pub opened : All (λ place. StandsAt text place brace) progress.blocks.items
+  pub empty : IsEmptyAt (length text) (item_patterns (map item_of progress.items.items)) progress.empty
+
+-- the text has no items that close each block and are within the limits, and whose labels stand once
+abbrev pub HasNoItems : List ℕ → Type 0
+HasNoItems text = (items : List Item) → Items text items → length (commands_among items) ≤ 4095 → AreLabelsOnce (commands_among items) → Nests items 0 → ⊥
+
+-- ---- One more command
+
+-- the text begins with what begins neither a comment nor the end of a block, and with no separator
+abbrev pub BeginsCommand : List ℕ → Type 0
+BeginsCommand text = (b : ℕ) × (behind : List ℕ) × (text ≡ b ∷ behind) × (is_separator b ≡ false) × (b ≢ hash) × (b ≢ closing_brace)
+
+-- new has what old has, and at this place the label that the verb defines
+abbrev pub NotesLabel : {S : Type 0} → HashMap (Bor (List ℕ)) ℕ S → HashMap (Bor (List ℕ)) ℕ S → ℕ → WrittenCode → Type 0
+NotesLabel old new place (code.Label name at) = (q : List ℕ) → label_place new q ≡ (if bytes_eq name.now q then Some place else label_place old q)
+NotesLabel old new place (code.Known verb) = (q : List ℕ) → label_place new q ≡ label_place old q
+NotesLabel old new place (code.BranchTo label at) = (q : List ℕ) → label_place new q ≡ label_place old q
+NotesLabel old new place (code.TestTo label at) = (q : List ℕ) → label_place new q ≡ label_place old q
+NotesLabel old new place code.Opening = (q : List ℕ) → label_place new q ≡ label_place old q
+
+-- the place is added where a block is opened
+abbrev pub NotesBlock : Turn → List ℕ → List ℕ → ℕ → Type 0
+NotesBlock Opens old new place = new ≡ old ++ place ∷ []
+NotesBlock Closes old new place = new ≡ old
+NotesBlock Stays old new place = new ≡ old

@@ -1,0 +1,39 @@
+-- What the readers of verbs say of what they read. Only private contracts cite it.
+use Rattle.std.specs.Prelude.{◌≡◌, ℕ, ◌≤◌, List, Some, option_copied}
+use Rattle.std.specs.Borrow.{Bor}
+use Rattle.std.specs.HashMap.{HashMap}
+use Rattle.sedck_script.specs.Cuts.{is_blank, Longest}
+use Rattle.sedck_script.specs.Program.{Label}
+use Rattle.sedck_script.specs.Parts.{GivenText}
+use Rattle.sedck_script.specs.Items.{WrittenVerb, Known, BranchTo, TestTo, Opening}
+use Rattle.sedck_script.specs.View.{verb_of}
+use Rattle.sedck_script.specs.Reading.{label_place}
+use Rattle.sedck_script.specs.declared.verbs.Written.{Written}
+use Rattle.sedck_script.specs.declared.verbs.Written.TheVariants as code
+
+-- a verb as it is written, without its place
+abbrev pub written_verb : Written → WrittenVerb
+written_verb (code.Known verb) = Known (verb_of verb)
+written_verb (code.Label name place) = Known (Label name.now)
+written_verb (code.BranchTo label place) = BranchTo (option_copied label)
+written_verb (code.TestTo label place) = TestTo (option_copied label)
+written_verb code.Opening = Opening
+
+-- A known verb is no label, and the place of a label's first byte lies in the text.
+abbrev pub IsWrittenWithin : ℕ → Written → Type 0
+IsWrittenWithin end (code.Known verb) = (name : List ℕ) → verb_of verb ≡ Label name → ⊥
+IsWrittenWithin end (code.Label name place) = place ≤ end
+IsWrittenWithin end (code.BranchTo label place) = place ≤ end
+IsWrittenWithin end (code.TestTo label place) = place ≤ end
+IsWrittenWithin end code.Opening = Unit {0}
+
+-- the verb defines a label that the map has
+abbrev pub DefinesKnown : {S : Type 0} → HashMap (Bor (List ℕ)) ℕ S → WrittenVerb → Type 0
+DefinesKnown labels verb = (name : List ℕ) × (at : ℕ) × (verb ≡ Known (Label name)) × (label_place labels name ≡ Some at)
+
+-- the text that is given behind a verb's blanks
+pub record GivenBehind (text bytes rest : List ℕ) : Type 0 where
+  pub blanks : List ℕ
+  pub begins : List ℕ
+  pub skipped : Longest is_blank text blanks begins
+  pub given : GivenText begins bytes rest

@@ -1,0 +1,195 @@
+//! Parts between delimiters.
+
+ghost use Rattle.std.specs.Prelude.{◌≡◌, ◌≢◌, ◌≤◌, ◌<◌, ℕ, List, length, IsTrue, IfOk, IfErr};
+ghost use Rattle.sedck_bre.specs.Faults.{IsOfText};
+ghost use Rattle.sedck_script.specs.Cuts.{is_delimiter};
+ghost use Rattle.sedck_script.specs.Parts.{DelimitedExpression, DelimitedList};
+ghost use Rattle.sedck_script.specs.Faults.{IsPlaced, verb_bytes};
+ghost use Rattle.sedck_script.specs.Reading.{EndsIn};
+ghost use Rattle.sedck_script.specs.Program as clean;
+ghost use Rattle.sedck_script.specs.View.{pattern_of};
+ghost use Rattle.sedck_script.specs.PieceReading.{IsPiece, PatternText, list_escape};
+ghost use Rattle.sedck_script.specs.declared.delimited.Piece.{Piece};
+
+use crate::bytes::can_be_escaped;
+use crate::fault::ScriptFault;
+use crate::script::Pattern;
+use sedck_bre::{ReFault, parse};
+use std::alloc::Global;
+
+/// What a delimited part begins with.
+#[derive(Clone, Copy)]
+pub enum Piece {
+    /// The delimiter.
+    End,
+    /// A byte that is no delimiter, backslash or newline.
+    Byte(u8),
+    /// A backslash and the delimiter.
+    Escaped,
+    /// A backslash and another byte.
+    Pair(u8),
+}
+
+/// The first piece of a delimited part, and what stands behind it. A part without an end is told at its opening.
+pub fn piece_at<'a>(
+    whole: &[u8],
+    opening: usize,
+    delimiter: u8,
+    text: &'a [u8],
+) -> Result<(Piece, &'a [u8]), ScriptFault>
+    requires delimiter { IsTrue (is_delimiter delimiter) }
+    requires tail { EndsIn whole.now text.now }
+    requires opened { opening ≤ length whole.now }
+    ensures read { IfOk result (λ x. IsPiece delimiter text.now x.0 x.1.now) }
+    ensures refused { IfErr result (λ fault. (piece : Piece) (rest : List ℕ) → IsPiece delimiter text.now piece rest → ⊥) }
+    ensures placed { IfErr result (λ fault. IsPlaced verb_bytes whole.now fault) }
+{
+    let unterminated = ScriptFault::Unterminated { place: opening };
+    let Some((first, behind)) = text.split_first() else {
+        return Err(unterminated);
+    };
+    if *first == delimiter {
+        return Ok((Piece::End, behind));
+    }
+    if *first == b'\n' {
+        return Err(unterminated);
+    }
+    if *first != b'\\' {
+        return Ok((Piece::Byte(*first), behind));
+    }
+    let Some((next, after)) = behind.split_first() else {
+        return Err(unterminated);
+    };
+    if *next != delimiter {
+        return Ok((Piece::Pair(*next), after));
+    }
+    if !can_be_escaped(delimiter) {
+        return Err(ScriptFault::EscapedDelimiter {
+            place: whole.len() - text.len(),
+        });
+    }
+    Ok((Piece::Escaped, after))
+}
+
+/// What a backslash and this byte mean in a list of `y`.
+fn list_escape(b: u8) -> Option<u8>
+    ensures { result ≡ list_escape b }
+{
+    match b {
+        b'\\' => Some(b'\\'),
+        b'n' => Some(b'\n'),
+        _ => None,
+    }
+}
+
+/// The expression up to the first delimiter that no backslash escapes, with the escaped delimiters replaced, and what
+/// stands behind it.
+fn delimited_expression<'a>(
+    alloc: Global,
+    whole: &[u8],
+    opening: usize,
+    delimiter: u8,
+    text: &'a [u8],
+) -> Result<(Vec<u8>, &'a [u8]), ScriptFault>
+    requires delimiter { IsTrue (is_delimiter delimiter) }
+    requires tail { EndsIn whole.now text.now }
+    requires opened { opening ≤ length whole.now }
+    ensures read { IfOk result (λ x. DelimitedExpression delimiter text.now x.0.items x.1.now) }
+    ensures refused { IfErr result (λ fault. fault ≢ ScriptFault.OutOfMemory → (expression : List ℕ) (rest : List ℕ) → DelimitedExpression delimiter text.now expression rest → ⊥) }
+    ensures placed { IfErr result (λ fault. IsPlaced verb_bytes whole.now fault) }
+{
+    let mut bytes = Vec::new(alloc);
+    let mut rest = text;
+    loop {
+        let (piece, behind) = piece_at(whole, opening, delimiter, rest)?;
+        match piece {
+            Piece::End => return Ok((bytes, behind)),
+            Piece::Byte(b) => bytes.push(b)?,
+            Piece::Escaped => bytes.push(delimiter)?,
+            Piece::Pair(b) => {
+                if b == b'\n' {
+                    return Err(ScriptFault::Unterminated { place: opening });
+                }
+                bytes.push(b'\\')?;
+                bytes.push(b)?;
+            }
+        }
+        rest = behind;
+    }
+}
+
+/// The fault of an expression that begins at the place.
+fn expression_fault(place: usize, fault: ReFault) -> ScriptFault
+    ensures memory { result ≢ ScriptFault.OutOfMemory → IsOfText fault }
+    ensures placed { (text : List ℕ) → place ≤ length text → IsPlaced verb_bytes text result }
+{
+    match fault {
+        ReFault::OutOfMemory => ScriptFault::OutOfMemory,
+        fault => ScriptFault::BadExpression { place, fault },
+    }
+}
+
+/// The pattern up to the first delimiter that no backslash escapes, and what stands behind it.
+pub fn pattern<'a>(
+    alloc: Global,
+    whole: &[u8],
+    opening: usize,
+    delimiter: u8,
+    text: &'a [u8],
+) -> Result<(Pattern, &'a [u8]), ScriptFault>
+    requires delimiter { IsTrue (is_delimiter delimiter) }
+    requires tail { EndsIn whole.now text.now }
+    requires opened { opening ≤ length whole.now }
+    ensures read { IfOk result (λ x. PatternText delimiter text.now (pattern_of x.0) x.1.now) }
+    ensures only { IfOk result (λ x. (p : clean.Pattern) (rest : List ℕ) → PatternText delimiter text.now p rest → (p ≡ pattern_of x.0) × (rest ≡ x.1.now)) }
+    ensures refused { IfErr result (λ fault. fault ≢ ScriptFault.OutOfMemory → (p : clean.Pattern) (rest : List ℕ) → PatternText delimiter text.now p rest → ⊥) }
+    ensures placed { IfErr result (λ fault. IsPlaced verb_bytes whole.now fault) }
+{
+    let (bytes, rest) = delimited_expression(alloc, whole, opening, delimiter, text)?;
+    if bytes.is_empty() {
+        return Ok((Pattern::Previous, rest));
+    }
+    match parse(alloc, &bytes) {
+        Ok(expression) => Ok((Pattern::Expr(expression), rest)),
+        Err(fault) => Err(expression_fault(whole.len() - text.len(), fault)),
+    }
+}
+
+/// One list of a `y` command, and what stands behind it.
+pub fn delimited_list<'a>(
+    alloc: Global,
+    whole: &[u8],
+    opening: usize,
+    delimiter: u8,
+    text: &'a [u8],
+) -> Result<(Vec<u8>, &'a [u8]), ScriptFault>
+    requires delimiter { IsTrue (is_delimiter delimiter) }
+    requires tail { EndsIn whole.now text.now }
+    requires opened { opening ≤ length whole.now }
+    ensures read { IfOk result (λ x. DelimitedList delimiter text.now x.0.items x.1.now) }
+    ensures refused { IfErr result (λ fault. fault ≢ ScriptFault.OutOfMemory → (bytes : List ℕ) (rest : List ℕ) → DelimitedList delimiter text.now bytes rest → ⊥) }
+    ensures placed { IfErr result (λ fault. IsPlaced verb_bytes whole.now fault) }
+{
+    let mut bytes = Vec::new(alloc);
+    let mut rest = text;
+    loop {
+        let (piece, behind) = piece_at(whole, opening, delimiter, rest)?;
+        match piece {
+            Piece::End => return Ok((bytes, behind)),
+            Piece::Byte(b) => bytes.push(b)?,
+            Piece::Escaped => bytes.push(delimiter)?,
+            Piece::Pair(b) => {
+                if b == b'\n' {
+                    return Err(ScriptFault::Unterminated { place: opening });
+                }
+                let Some(meant) = list_escape(b) else {
+                    return Err(ScriptFault::BadTransliteration {
+                        place: whole.len() - rest.len(),
+                    });
+                };
+                bytes.push(meant)?;
+            }
+        }
+        rest = behind;
+    }
+}

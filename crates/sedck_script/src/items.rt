@@ -1,0 +1,178 @@
+//! Items of a script.
+
+ghost use Rattle.std.specs.Prelude.{false, ◌≡◌, ◌≢◌, ◌<◌, ◌∷◌, ℕ, List, length, map, IfOk, IfErr, OnOk};
+ghost use Rattle.sedck_script.specs.Cuts.{is_separator, Longest};
+ghost use Rattle.sedck_script.specs.Items.{Items};
+ghost use Rattle.sedck_script.specs.Faults.{IsPlaced, verb_bytes};
+ghost use Rattle.sedck_script.specs.Progress.{IsProgress, HasNoItems, BeginsCommand, NotesLabel, NotesBlock};
+ghost use Rattle.sedck_script.specs.VerbReading.{written_verb};
+ghost use Rattle.sedck_script.specs.ItemReading.{item_of, verb_turn, Nests};
+
+use crate::bytes::separators_len;
+use crate::commands::command_at;
+use crate::ends::end_of_command;
+use crate::fault::ScriptFault;
+use crate::first::add_label;
+use crate::names::split_line;
+use crate::verbs::Written;
+use crate::written::WrittenItem;
+use indexmap::IndexMap;
+use std::alloc::Global;
+
+/// What has been read of a script.
+#[derive(Drop)]
+pub struct Progress<'a> {
+    pub items: Vec<WrittenItem<'a>>,
+    /// How many commands are among the items.
+    pub count: usize,
+    /// The places of the labels' commands.
+    pub labels: IndexMap<&'a [u8], usize>,
+    /// The places of the `{` of the blocks that are open.
+    pub blocks: Vec<usize>,
+    /// The place of the first empty expression.
+    pub empty: Option<usize>,
+}
+
+/// What may stand between commands, and what stands behind it.
+fn split_separators(text: &[u8]) -> (&[u8], &[u8])
+    ensures { Longest is_separator text.now result.0.now result.1.now }
+{
+    text.split_at(separators_len(text))
+}
+
+/// Reads the `}` at the front with its end.
+fn close_block<'a>(
+    text: &[u8],
+    begins: &[u8],
+    behind: &'a [u8],
+    progress: &mut Progress<'a>,
+) -> Result<&'a [u8], ScriptFault>
+    requires begins { begins.now ≡ 125 ∷ behind.now }
+    requires progress { IsProgress text.now begins.now progress.old }
+    ensures progress { IfOk result (λ rest. IsProgress text.now rest.now progress.new) }
+    ensures shorter { IfOk result (λ rest. length rest.now < length begins.now) }
+    ensures refused { IfErr result (λ fault. fault ≢ ScriptFault.OutOfMemory → HasNoItems text.now) }
+    ensures placed { IfErr result (λ fault. IsPlaced verb_bytes text.now fault) }
+{
+    let Some(_) = progress.blocks.pop() else {
+        return Err(ScriptFault::UnopenedBlock {
+            place: text.len() - begins.len(),
+        });
+    };
+    let rest = end_of_command(text, behind)?;
+    progress.items.push(WrittenItem::Closing)?;
+    Ok(rest)
+}
+
+/// Adds the label that the verb defines, which isn't there yet, with the place of its command.
+fn note_label<'a>(
+    labels: &mut IndexMap<&'a [u8], usize>,
+    verb: &Written<'a>,
+    at: usize,
+) -> Result<(), ScriptFault>
+    ensures ok { OnOk result (NotesLabel labels.old labels.new at verb.now) }
+    ensures memory { IfErr result (λ fault. fault ≡ ScriptFault.OutOfMemory) }
+{
+    if let Written::Label { name, place: _ } = verb {
+        add_label(labels, name, at)?;
+    }
+    Ok(())
+}
+
+/// Adds the place of the `{` where the verb opens a block.
+fn note_block(blocks: &mut Vec<usize>, verb: &Written, place: usize) -> Result<(), ScriptFault>
+    ensures ok { OnOk result (NotesBlock (verb_turn (written_verb verb.now)) blocks.old.items blocks.new.items place) }
+    ensures memory { IfErr result (λ fault. fault ≡ ScriptFault.OutOfMemory) }
+{
+    if let Written::Opening = verb {
+        blocks.push(place)?;
+    }
+    Ok(())
+}
+
+/// Reads the command at the front with its end.
+fn add_command<'a>(
+    alloc: Global,
+    text: &[u8],
+    begins: &'a [u8],
+    progress: &mut Progress<'a>,
+) -> Result<&'a [u8], ScriptFault>
+    requires begins { BeginsCommand begins.now }
+    requires progress { IsProgress text.now begins.now progress.old }
+    ensures progress { IfOk result (λ rest. IsProgress text.now rest.now progress.new) }
+    ensures shorter { IfOk result (λ rest. length rest.now < length begins.now) }
+    ensures refused { IfErr result (λ fault. fault ≢ ScriptFault.OutOfMemory → HasNoItems text.now) }
+    ensures placed { IfErr result (λ fault. IsPlaced verb_bytes text.now fault) }
+{
+    let (command, empty, rest) = command_at(
+        alloc,
+        text,
+        &progress.labels,
+        progress.blocks.len(),
+        progress.count,
+        begins,
+    )?;
+    note_label(&mut progress.labels, &command.verb, progress.count)?;
+    let place = text.len() - rest.len() - 1;
+    note_block(&mut progress.blocks, &command.verb, place)?;
+    progress.empty = progress.empty.or(empty);
+    progress.count += 1;
+    progress.items.push(WrittenItem::Command(command))?;
+    Ok(rest)
+}
+
+/// Reads the comment, the `}` or the command at the front.
+fn next_item<'a>(
+    alloc: Global,
+    text: &[u8],
+    begins: &'a [u8],
+    first: u8,
+    behind: &'a [u8],
+    progress: &mut Progress<'a>,
+) -> Result<&'a [u8], ScriptFault>
+    requires first { begins.now ≡ first ∷ behind.now }
+    requires separator { is_separator first ≡ false }
+    requires progress { IsProgress text.now begins.now progress.old }
+    ensures progress { IfOk result (λ rest. IsProgress text.now rest.now progress.new) }
+    ensures shorter { IfOk result (λ rest. length rest.now < length begins.now) }
+    ensures refused { IfErr result (λ fault. fault ≢ ScriptFault.OutOfMemory → HasNoItems text.now) }
+    ensures placed { IfErr result (λ fault. IsPlaced verb_bytes text.now fault) }
+{
+    if first == b'#' {
+        let (_, rest) = split_line(behind);
+        return Ok(rest);
+    }
+    if first == b'}' {
+        return close_block(text, begins, behind, progress);
+    }
+    add_command(alloc, text, begins, progress)
+}
+
+/// The items of the text, with what is known of them.
+pub fn items<'a>(alloc: Global, text: &'a [u8]) -> Result<Progress<'a>, ScriptFault>
+    ensures read { IfOk result (λ progress. Items text.now (map item_of progress.items.items)) }
+    ensures nests { IfOk result (λ progress. Nests (map item_of progress.items.items) 0) }
+    ensures progress { IfOk result (λ progress. (rest : List ℕ) × IsProgress text.now rest progress) }
+    ensures refused { IfErr result (λ fault. fault ≢ ScriptFault.OutOfMemory → HasNoItems text.now) }
+    ensures placed { IfErr result (λ fault. IsPlaced verb_bytes text.now fault) }
+{
+    let mut progress = Progress {
+        items: Vec::new(alloc),
+        count: 0,
+        labels: IndexMap::new(alloc),
+        blocks: Vec::new(alloc),
+        empty: None,
+    };
+    let mut rest = text;
+    loop {
+        let (_, begins) = split_separators(rest);
+        let Some((first, behind)) = begins.split_first() else {
+            break;
+        };
+        rest = next_item(alloc, text, begins, *first, behind, &mut progress)?;
+    }
+    if let Some(place) = progress.blocks.last() {
+        return Err(ScriptFault::UnclosedBlock { place: *place });
+    }
+    Ok(progress)
+}

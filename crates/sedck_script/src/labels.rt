@@ -1,0 +1,120 @@
+//! Labels behind `:`, `b` and `t`.
+
+ghost use Rattle.std.specs.Prelude.{◌≡◌, ◌≤◌, ◌<◌, ℕ, List, Option, length, option_copied, IfOk, IfErr, OnOk};
+ghost use Rattle.sedck_script.specs.Cuts.{is_blank, is_ending, Longest};
+ghost use Rattle.sedck_script.specs.Parts.{Ends, LabelText};
+ghost use Rattle.sedck_script.specs.Items.{IsNoComment, IsNoBrace};
+ghost use Rattle.sedck_script.specs.Faults.{IsPlaced, verb_bytes};
+ghost use Rattle.sedck_script.specs.Reading.{EndsIn, IsLabelAt};
+ghost use Rattle.sedck_script.specs.LabelReading.{BranchText};
+
+use crate::bytes::{is_ending, is_spacing};
+use crate::ends::end_of_command;
+use crate::fault::ScriptFault;
+use crate::first::{split_blanks, split_label};
+
+/// The bytes of a label behind blanks, their place, and what stands behind them. There may be none.
+fn label_parts<'a>(whole: &[u8], text: &'a [u8]) -> (&'a [u8], usize, &'a [u8])
+    requires { EndsIn whole.now text.now }
+    ensures parts { IsLabelAt text.now result.0.now result.2.now }
+    ensures tail { EndsIn whole.now result.2.now }
+    ensures within { result.1 ≤ length whole.now }
+{
+    let (_, begins) = split_blanks(text);
+    let (name, behind) = split_label(begins);
+    (name, whole.len() - begins.len(), behind)
+}
+
+/// Whether a label that is defined may end here.
+fn check_behind_definition(whole: &[u8], behind: &[u8]) -> Result<(), ScriptFault>
+    requires { EndsIn whole.now behind.now }
+    ensures allowed { OnOk result (IsNoBrace behind.now) }
+    ensures refused { IfErr result (λ fault. (rest : List ℕ) → IsNoBrace behind.now → Ends behind.now rest → ⊥) }
+    ensures placed { IfErr result (λ fault. IsPlaced verb_bytes whole.now fault) }
+{
+    if let [next, ..] = behind {
+        if !is_spacing(*next) && *next != b';' {
+            return Err(ScriptFault::BadLabel {
+                place: whole.len() - behind.len(),
+            });
+        }
+    }
+    Ok(())
+}
+
+/// The label that is defined, its place, and what stands behind it.
+pub fn defined_label<'a>(
+    whole: &[u8],
+    text: &'a [u8],
+) -> Result<(&'a [u8], usize, &'a [u8]), ScriptFault>
+    requires { EndsIn whole.now text.now }
+    ensures read { IfOk result (λ x. LabelText text.now x.0.now x.2.now × IsNoBrace x.2.now) }
+    ensures within { IfOk result (λ x. x.1 ≤ length whole.now) }
+    ensures refused { IfErr result (λ fault. (name : List ℕ) (behind : List ℕ) (rest : List ℕ) → LabelText text.now name behind → IsNoBrace behind → Ends behind rest → ⊥) }
+    ensures placed { IfErr result (λ fault. IsPlaced verb_bytes whole.now fault) }
+{
+    let (name, place, behind) = label_parts(whole, text);
+    if name.is_empty() {
+        return Err(ScriptFault::BadLabel { place });
+    }
+    check_behind_definition(whole, behind)?;
+    Ok((name, place, behind))
+}
+
+/// Whether the label of a branch may end here.
+fn check_behind_label(whole: &[u8], behind: &[u8]) -> Result<(), ScriptFault>
+    requires { EndsIn whole.now behind.now }
+    ensures allowed { OnOk result (IsNoComment behind.now) }
+    ensures refused { IfErr result (λ fault. (rest : List ℕ) → IsNoComment behind.now → Ends behind.now rest → ⊥) }
+    ensures placed { IfErr result (λ fault. IsPlaced verb_bytes whole.now fault) }
+{
+    if let [next, ..] = behind {
+        if !is_spacing(*next) && *next != b';' && *next != b'}' {
+            return Err(ScriptFault::BadLabel {
+                place: whole.len() - behind.len(),
+            });
+        }
+    }
+    Ok(())
+}
+
+/// Whether a branch without a label ends here, behind its blanks. A comment needs one of them.
+fn check_no_label(whole: &[u8], text: &[u8], begins: &[u8]) -> Result<(), ScriptFault>
+    requires tail { EndsIn whole.now begins.now }
+    requires blanks { (blanks : List ℕ) × Longest is_blank text.now blanks begins.now }
+    ensures allowed { OnOk result (IsNoComment text.now × Ends text.now begins.now) }
+    ensures refused { IfErr result (λ fault. (rest : List ℕ) → IsNoComment text.now → Ends text.now rest → ⊥) }
+    ensures placed { IfErr result (λ fault. IsPlaced verb_bytes whole.now fault) }
+{
+    if let [next, ..] = begins {
+        let place = whole.len() - begins.len();
+        if !is_ending(*next) {
+            return Err(ScriptFault::BadLabel { place });
+        }
+        if *next == b'#' && begins.len() == text.len() {
+            return Err(ScriptFault::BadLabel { place });
+        }
+    }
+    Ok(())
+}
+
+/// The label of a branch or none, the place where it begins, and the rest of the text from the command's end on.
+pub fn branch_label<'a>(
+    whole: &[u8],
+    text: &'a [u8],
+) -> Result<(Option<&'a [u8]>, usize, &'a [u8]), ScriptFault>
+    requires { EndsIn whole.now text.now }
+    ensures read { IfOk result (λ x. BranchText text.now (option_copied x.0) x.2.now) }
+    ensures within { IfOk result (λ x. x.1 ≤ length whole.now) }
+    ensures refused { IfErr result (λ fault. (label : Option (List ℕ)) (rest : List ℕ) → BranchText text.now label rest → ⊥) }
+    ensures placed { IfErr result (λ fault. IsPlaced verb_bytes whole.now fault) }
+{
+    let (name, place, behind) = label_parts(whole, text);
+    if name.is_empty() {
+        check_no_label(whole, text, behind)?;
+        return Ok((None, place, behind));
+    }
+    check_behind_label(whole, behind)?;
+    let rest = end_of_command(whole, behind)?;
+    Ok((Some(name), place, rest))
+}

@@ -1,0 +1,140 @@
+//! From items to commands: the places that branches, tests and blocks lead to.
+
+ghost use Rattle.std.specs.Prelude.{◌≡◌, ◌≤◌, ℕ, [], IfNone, IfSome, Some, None, length, map, All, Any, IfOk, IfErr, OnOk, OnErr, option_copied};
+ghost use Rattle.sedck_script.specs.View as view;
+ghost use Rattle.sedck_script.specs.Resolution.{Resolves};
+ghost use Rattle.sedck_script.specs.Reading.{HasLabels, IsUnknownLabel};
+ghost use Rattle.sedck_script.specs.VerbReading.{written_verb, IsWrittenWithin};
+ghost use Rattle.sedck_script.specs.ItemReading.{item_of, commands_among, Nests, verb_turn, Takes, IsItemWithin, IsKnownLabel, IsLostLabel, label_of, item_label, target_of, resolved_command};
+
+use crate::fault::ScriptFault;
+use crate::first::place_of;
+use crate::script::{Command, Verb};
+use crate::verbs::Written;
+use crate::written::{WrittenCommand, WrittenItem};
+use indexmap::IndexMap;
+use std::alloc::Global;
+
+/// The place that a label leads to: the end where there is none.
+fn target_of(labels: &IndexMap<&[u8], usize>, end: usize, label: Option<&[u8]>) -> usize
+    ensures { result ≡ target_of labels.now end (option_copied label.entry) }
+{
+    match label {
+        Some(name) => place_of(labels, name).unwrap_or(end),
+        None => end,
+    }
+}
+
+/// The command with its target; a block leads to the given place.
+fn command_of<'a>(
+    labels: &IndexMap<&'a [u8], usize>,
+    end: usize,
+    block: usize,
+    command: WrittenCommand<'a>,
+) -> Command<'a>
+    ensures { view.command_of result ≡ resolved_command labels.now end block command.entry }
+{
+    let WrittenCommand {
+        address,
+        negated,
+        verb,
+    } = command;
+    let verb = match verb {
+        Written::Known(verb) => verb,
+        Written::Label { name, place: _ } => Verb::Label(name),
+        Written::BranchTo { label, place: _ } => Verb::Branch(target_of(labels, end, label)),
+        Written::TestTo { label, place: _ } => Verb::Test(target_of(labels, end, label)),
+        Written::Opening => Verb::Block(block),
+    };
+    Command {
+        address,
+        negated,
+        verb,
+    }
+}
+
+/// The target of the block that the verb opens, taken from the end of the list; the end for another verb.
+fn block_target(verb: &Written, targets: &mut Vec<usize>, end: usize) -> usize
+    ensures { Takes (verb_turn (written_verb verb.now)) targets.old.items targets.new.items result }
+{
+    if let Written::Opening = verb {
+        return targets.pop().unwrap_or(end);
+    }
+    end
+}
+
+/// The label of a branch or a test, and its place.
+fn label_of<'a>(item: &WrittenItem<'a>) -> Option<(&'a [u8], usize)>
+    ensures none { IfNone result (item_label (item_of item.now) ≡ None) }
+    ensures some { IfSome result (λ x. item_label (item_of item.now) ≡ Some x.0.now) }
+    ensures within { IfSome result (λ x. (end : ℕ) → IsItemWithin end item.now → x.1 ≤ end) }
+{
+    let WrittenItem::Command(command) = item else {
+        return None;
+    };
+    match &command.verb {
+        Written::BranchTo { label, place } => label.map(|name| (name, *place)),
+        Written::TestTo { label, place } => label.map(|name| (name, *place)),
+        Written::Known(_) | Written::Label { .. } | Written::Opening => None,
+    }
+}
+
+/// Whether the label of a branch or a test is known.
+fn check_target(item: &WrittenItem, labels: &IndexMap<&[u8], usize>) -> Result<(), ScriptFault>
+    ensures known { OnOk result (IsKnownLabel labels.now (item_label (item_of item.now))) }
+    ensures lost { OnErr result (IsLostLabel labels.now (item_label (item_of item.now))) }
+    ensures placed { IfErr result (λ fault. (end : ℕ) → IsItemWithin end item.now → IsUnknownLabel end fault) }
+{
+    if let Some((name, place)) = label_of(item) {
+        if place_of(labels, name).is_none() {
+            return Err(ScriptFault::UnknownLabel { place });
+        }
+    }
+    Ok(())
+}
+
+/// Whether each label is known, and else the first that isn't.
+pub fn check_targets(
+    items: &[WrittenItem],
+    labels: &IndexMap<&[u8], usize>,
+) -> Result<(), ScriptFault>
+    ensures known { OnOk result (All (λ item. IsKnownLabel labels.now (item_label (item_of item))) items.now) }
+    ensures lost { OnErr result (Any (λ item. IsLostLabel labels.now (item_label (item_of item))) items.now) }
+    ensures placed { IfErr result (λ fault. (end : ℕ) → All (IsItemWithin end) items.now → IsUnknownLabel end fault) }
+{
+    for item in items {
+        check_target(item, labels)?;
+    }
+    Ok(())
+}
+
+/// The commands of the items, with the places that they lead to.
+pub fn resolve<'a>(
+    alloc: Global,
+    mut items: Vec<WrittenItem<'a>>,
+    end: usize,
+    labels: &IndexMap<&'a [u8], usize>,
+) -> Result<Vec<Command<'a>>, ScriptFault>
+    requires labels { HasLabels labels.now (commands_among (map item_of items.items)) }
+    requires known { All (λ item. IsKnownLabel labels.now (item_label (item_of item))) items.items }
+    requires nests { Nests (map item_of items.items) 0 }
+    requires end { end ≡ length (commands_among (map item_of items.items)) }
+    ensures resolved { IfOk result (λ v. Resolves (map view.command_of v.items) [] 0 (map item_of items.entry.items) (map view.command_of v.items)) }
+    ensures memory { IfErr result (λ fault. fault ≡ ScriptFault.OutOfMemory) }
+{
+    let mut commands = Vec::new(alloc);
+    let mut targets = Vec::new(alloc);
+    while let Some(item) = items.pop() {
+        match item {
+            WrittenItem::Closing => {
+                targets.push(end - commands.len())?;
+            }
+            WrittenItem::Command(command) => {
+                let block = block_target(&command.verb, &mut targets, end);
+                commands.push(command_of(labels, end, block, command))?;
+            }
+        }
+    }
+    commands.reverse();
+    Ok(commands)
+}

@@ -1,0 +1,88 @@
+//! The verbs with delimited parts: `s` and `y`.
+
+ghost use Rattle.std.specs.Prelude.{◌≡◌, ◌≢◌, ◌≤◌, ℕ, List, ◌∷◌, length, IsTrue, IfOk, IfErr};
+ghost use Rattle.sedck_script.specs.Cuts.{is_delimiter};
+ghost use Rattle.sedck_script.specs.Program as clean;
+ghost use Rattle.sedck_script.specs.Items.{WrittenVerb, Known, VerbText};
+ghost use Rattle.sedck_script.specs.Faults.{IsPlaced, verb_bytes};
+ghost use Rattle.sedck_script.specs.Reading.{EndsIn};
+ghost use Rattle.sedck_script.specs.View.{verb_of};
+
+use crate::bytes::is_delimiter;
+use crate::delimited::{delimited_list, pattern};
+use crate::ends::end_of_command;
+use crate::fault::ScriptFault;
+use crate::flags::flags;
+use crate::replacements::{greatest_group, replacement};
+use crate::script::{Substitution, Verb};
+use std::alloc::Global;
+
+/// The delimiter behind a verb, and what stands behind it.
+fn opening_delimiter<'a>(opening: usize, text: &'a [u8]) -> Result<(u8, &'a [u8]), ScriptFault>
+    ensures read { IfOk result (λ x. (text.now ≡ x.0 ∷ x.1.now) × IsTrue (is_delimiter x.0)) }
+    ensures refused { IfErr result (λ fault. (delimiter : ℕ) (rest : List ℕ) → text.now ≡ delimiter ∷ rest → IsTrue (is_delimiter delimiter) → ⊥) }
+    ensures placed { IfErr result (λ fault. (whole : List ℕ) → opening ≤ length whole → IsPlaced verb_bytes whole fault) }
+{
+    let unterminated = ScriptFault::Unterminated { place: opening };
+    let Some((delimiter, behind)) = text.split_first() else {
+        return Err(unterminated);
+    };
+    if !is_delimiter(*delimiter) {
+        return Err(unterminated);
+    }
+    Ok((*delimiter, behind))
+}
+
+/// What a `s` takes, and the rest of the text from its end on.
+pub fn substitution<'a>(
+    alloc: Global,
+    whole: &[u8],
+    place: usize,
+    text: &'a [u8],
+) -> Result<(Verb<'a>, &'a [u8]), ScriptFault>
+    requires tail { EndsIn whole.now text.now }
+    requires within { place ≤ length whole.now }
+    ensures read { IfOk result (λ x. VerbText (115 ∷ text.now) (Known (verb_of x.0)) x.1.now) }
+    ensures plain { IfOk result (λ x. (name : List ℕ) → verb_of x.0 ≢ clean.Label name) }
+    ensures refused { IfErr result (λ fault. fault ≢ ScriptFault.OutOfMemory → (verb : WrittenVerb) (rest : List ℕ) → VerbText (115 ∷ text.now) verb rest → ⊥) }
+    ensures placed { IfErr result (λ fault. IsPlaced verb_bytes whole.now fault) }
+{
+    let (delimiter, opened) = opening_delimiter(place, text)?;
+    let (pattern, behind) = pattern(alloc, whole, place, delimiter, opened)?;
+    let greatest = greatest_group(&pattern);
+    let (parts, after) = replacement(alloc, whole, place, delimiter, greatest, behind)?;
+    let (seen, file, rest) = flags(whole, after)?;
+    let substitution = Substitution {
+        pattern,
+        parts,
+        global: seen.global,
+        print: seen.print,
+        nth: seen.nth,
+        file,
+    };
+    Ok((Verb::Substitute(substitution), rest))
+}
+
+/// What a `y` takes, and the rest of the text from its end on.
+pub fn transliteration<'a>(
+    alloc: Global,
+    whole: &[u8],
+    place: usize,
+    text: &'a [u8],
+) -> Result<(Verb<'a>, &'a [u8]), ScriptFault>
+    requires tail { EndsIn whole.now text.now }
+    requires within { place ≤ length whole.now }
+    ensures read { IfOk result (λ x. VerbText (121 ∷ text.now) (Known (verb_of x.0)) x.1.now) }
+    ensures plain { IfOk result (λ x. (name : List ℕ) → verb_of x.0 ≢ clean.Label name) }
+    ensures refused { IfErr result (λ fault. fault ≢ ScriptFault.OutOfMemory → (verb : WrittenVerb) (rest : List ℕ) → VerbText (121 ∷ text.now) verb rest → ⊥) }
+    ensures placed { IfErr result (λ fault. IsPlaced verb_bytes whole.now fault) }
+{
+    let (delimiter, opened) = opening_delimiter(place, text)?;
+    let (from, behind) = delimited_list(alloc, whole, place, delimiter, opened)?;
+    let (to, after) = delimited_list(alloc, whole, place, delimiter, behind)?;
+    if from.len() != to.len() {
+        return Err(ScriptFault::BadTransliteration { place });
+    }
+    let rest = end_of_command(whole, after)?;
+    Ok((Verb::Transliterate(from, to), rest))
+}

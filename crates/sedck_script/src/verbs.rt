@@ -1,0 +1,206 @@
+//! Verbs with what they take.
+
+ghost use Rattle.std.specs.Prelude.{◌≡◌, ◌≢◌, ℕ, List, [], ◌∷◌, false, length, IsTrue, IfOk, IfErr, IfSome, IfNone};
+ghost use Rattle.sedck_bre.specs.Text.{one_of};
+ghost use Rattle.sedck_script.specs.Program as clean;
+ghost use Rattle.sedck_script.specs.Items.{WrittenVerb, Known, Simple, VerbText, IsNoBrace};
+ghost use Rattle.sedck_script.specs.Faults.{IsPlaced, StandsAt, verb_bytes};
+ghost use Rattle.sedck_script.specs.Reading.{EndsIn};
+ghost use Rattle.sedck_script.specs.View.{verb_of};
+ghost use Rattle.sedck_script.specs.VerbReading.{written_verb, IsWrittenWithin, DefinesKnown};
+
+use crate::ends::end_of_command;
+use crate::fault::ScriptFault;
+use crate::first::{place_of, split_blanks};
+use crate::labels::{branch_label, defined_label};
+use crate::names::name;
+use crate::script::Verb;
+use crate::substitutions::{substitution, transliteration};
+use crate::texts::given_text;
+use indexmap::IndexMap;
+use std::alloc::Global;
+
+/// A verb as it is written, with the place of its label's first byte.
+#[derive(Drop)]
+pub enum Written<'a> {
+    Known(Verb<'a>),
+    Label {
+        name: &'a [u8],
+        place: usize,
+    },
+    BranchTo {
+        label: Option<&'a [u8]>,
+        place: usize,
+    },
+    TestTo {
+        label: Option<&'a [u8]>,
+        place: usize,
+    },
+    Opening,
+}
+
+/// The verb of a byte, if it takes nothing.
+fn simple_verb<'a>(b: u8) -> Option<Verb<'a>>
+    ensures some { IfSome result (λ verb. Simple (b ∷ []) (verb_of verb)) }
+    ensures none { IfNone result (one_of "=dDgGhHlnNpPqx" b ≡ false) }
+{
+    match b {
+        b'=' => Some(Verb::LineNumber),
+        b'd' => Some(Verb::Delete),
+        b'D' => Some(Verb::DeleteFirstLine),
+        b'g' => Some(Verb::Get),
+        b'G' => Some(Verb::GetAppend),
+        b'h' => Some(Verb::Hold),
+        b'H' => Some(Verb::HoldAppend),
+        b'l' => Some(Verb::List),
+        b'n' => Some(Verb::Next),
+        b'N' => Some(Verb::NextAppend),
+        b'p' => Some(Verb::Print),
+        b'P' => Some(Verb::PrintFirstLine),
+        b'q' => Some(Verb::Quit),
+        b'x' => Some(Verb::Exchange),
+        _ => None,
+    }
+}
+
+/// The text behind one of `a`, `c` and `i`, and the rest of the script from its end on.
+fn text_verb<'a>(
+    place: usize,
+    verb: u8,
+    text: &'a [u8],
+) -> Result<(Verb<'a>, &'a [u8]), ScriptFault>
+    requires { IsTrue (one_of "aci" verb) }
+    ensures read { IfOk result (λ x. VerbText (verb ∷ text.now) (Known (verb_of x.0)) x.1.now) }
+    ensures plain { IfOk result (λ x. (name : List ℕ) → verb_of x.0 ≢ clean.Label name) }
+    ensures refused { IfErr result (λ fault. (written : WrittenVerb) (rest : List ℕ) → VerbText (verb ∷ text.now) written rest → ⊥) }
+    ensures placed { IfErr result (λ fault. fault ≡ ScriptFault.MissingText place) }
+{
+    let (_, begins) = split_blanks(text);
+    let Some((bytes, rest)) = given_text(begins) else {
+        return Err(ScriptFault::MissingText { place });
+    };
+    if verb == b'a' {
+        return Ok((Verb::Append(bytes), rest));
+    }
+    if verb == b'c' {
+        return Ok((Verb::Change(bytes), rest));
+    }
+    Ok((Verb::Insert(bytes), rest))
+}
+
+/// The file behind one of `r` and `w`, and the rest of the script from the end of its line on.
+fn file_verb<'a>(
+    place: usize,
+    verb: u8,
+    text: &'a [u8],
+) -> Result<(Verb<'a>, &'a [u8]), ScriptFault>
+    requires { IsTrue (one_of "rw" verb) }
+    ensures read { IfOk result (λ x. VerbText (verb ∷ text.now) (Known (verb_of x.0)) x.1.now) }
+    ensures plain { IfOk result (λ x. (name : List ℕ) → verb_of x.0 ≢ clean.Label name) }
+    ensures refused { IfErr result (λ fault. (written : WrittenVerb) (rest : List ℕ) → VerbText (verb ∷ text.now) written rest → ⊥) }
+    ensures placed { IfErr result (λ fault. fault ≡ ScriptFault.MissingName place) }
+{
+    let Some((name, rest)) = name(text) else {
+        return Err(ScriptFault::MissingName { place });
+    };
+    if verb == b'r' {
+        return Ok((Verb::Read(name), rest));
+    }
+    Ok((Verb::Write(name), rest))
+}
+
+/// What a verb takes that is neither `:`, `b`, `t` nor `{`, and the rest of the script from its end on.
+fn known_verb<'a>(
+    alloc: Global,
+    whole: &[u8],
+    place: usize,
+    verb: u8,
+    text: &'a [u8],
+) -> Result<(Verb<'a>, &'a [u8]), ScriptFault>
+    requires tail { EndsIn whole.now text.now }
+    requires verb { one_of ":bt{}#" verb ≡ false }
+    requires stands { StandsAt whole.now place verb }
+    ensures read { IfOk result (λ x. VerbText (verb ∷ text.now) (Known (verb_of x.0)) x.1.now) }
+    ensures plain { IfOk result (λ x. (name : List ℕ) → verb_of x.0 ≢ clean.Label name) }
+    ensures refused { IfErr result (λ fault. fault ≢ ScriptFault.OutOfMemory → (written : WrittenVerb) (rest : List ℕ) → VerbText (verb ∷ text.now) written rest → ⊥) }
+    ensures placed { IfErr result (λ fault. IsPlaced verb_bytes whole.now fault) }
+{
+    if b"aci".contains(&verb) {
+        return text_verb(place, verb, text);
+    }
+    if b"rw".contains(&verb) {
+        return file_verb(place, verb, text);
+    }
+    if verb == b's' {
+        return substitution(alloc, whole, place, text);
+    }
+    if verb == b'y' {
+        return transliteration(alloc, whole, place, text);
+    }
+    let Some(simple) = simple_verb(verb) else {
+        return Err(ScriptFault::UnknownCommand { place });
+    };
+    let rest = end_of_command(whole, text)?;
+    Ok((simple, rest))
+}
+
+/// The label that is defined behind a `:`, and the rest of the script from its end on.
+fn definition<'a>(
+    whole: &[u8],
+    labels: &IndexMap<&'a [u8], usize>,
+    text: &'a [u8],
+) -> Result<(Written<'a>, &'a [u8]), ScriptFault>
+    requires { EndsIn whole.now text.now }
+    ensures read { IfOk result (λ x. VerbText (58 ∷ text.now) (written_verb x.0) x.1.now) }
+    ensures fresh { IfOk result (λ x. DefinesKnown labels.now (written_verb x.0) → ⊥) }
+    ensures within { IfOk result (λ x. IsWrittenWithin (length whole.now) x.0) }
+    ensures refused { IfErr result (λ fault. (verb : WrittenVerb) (rest : List ℕ) → VerbText (58 ∷ text.now) verb rest → DefinesKnown labels.now verb) }
+    ensures placed { IfErr result (λ fault. IsPlaced verb_bytes whole.now fault) }
+{
+    let (name, place, behind) = defined_label(whole, text)?;
+    if place_of(labels, name).is_some() {
+        return Err(ScriptFault::DuplicateLabel { place });
+    }
+    let rest = end_of_command(whole, behind)?;
+    Ok((Written::Label { name, place }, rest))
+}
+
+/// The verb at the front with what it takes, and the rest of the text from its end on.
+///
+/// The labels are those that stand before it: one of them may not be defined again. That is told before the end of the
+/// command is looked at.
+pub fn verb_at<'a>(
+    alloc: Global,
+    whole: &[u8],
+    labels: &IndexMap<&'a [u8], usize>,
+    text: &'a [u8],
+) -> Result<(Written<'a>, &'a [u8]), ScriptFault>
+    requires tail { EndsIn whole.now text.now }
+    requires verb { IsNoBrace text.now }
+    ensures read { IfOk result (λ x. VerbText text.now (written_verb x.0) x.1.now) }
+    ensures fresh { IfOk result (λ x. DefinesKnown labels.now (written_verb x.0) → ⊥) }
+    ensures within { IfOk result (λ x. IsWrittenWithin (length whole.now) x.0) }
+    ensures refused { IfErr result (λ fault. fault ≢ ScriptFault.OutOfMemory → (verb : WrittenVerb) (rest : List ℕ) → VerbText text.now verb rest → DefinesKnown labels.now verb) }
+    ensures placed { IfErr result (λ fault. IsPlaced verb_bytes whole.now fault) }
+{
+    let Some((first, behind)) = text.split_first() else {
+        return Err(ScriptFault::UnknownCommand { place: whole.len() });
+    };
+    if *first == b':' {
+        return definition(whole, labels, behind);
+    }
+    if *first == b'{' {
+        return Ok((Written::Opening, behind));
+    }
+    if *first == b'b' {
+        let (label, place, rest) = branch_label(whole, behind)?;
+        return Ok((Written::BranchTo { label, place }, rest));
+    }
+    if *first == b't' {
+        let (label, place, rest) = branch_label(whole, behind)?;
+        return Ok((Written::TestTo { label, place }, rest));
+    }
+    let place = whole.len() - text.len();
+    let (verb, rest) = known_verb(alloc, whole, place, *first, behind)?;
+    Ok((Written::Known(verb), rest))
+}
