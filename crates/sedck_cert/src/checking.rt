@@ -1,7 +1,7 @@
 //! Whether a certificate is accepted for a script, and the first reason why it isn't.
 
 ghost use Rattle.std.specs.Prelude.{◌≡◌, ◌↔◌, ◌+◌, ◌*◌, ◌≤◌, ◌<◌, length, map, IsTrue, Option, MatchOption};
-ghost use Rattle.sedck_flow.specs.Flow.{Flow, FlowFrom, node_index};
+ghost use Rattle.sedck_flow.specs.Flow.{Flow, FlowFrom};
 ghost use Rattle.sedck_flow.specs.Run.{NamesForReading, NamesForWriting};
 ghost use Rattle.sedck_cert.specs.Certificate.{IsCertificate};
 ghost use Rattle.sedck_cert.specs.Ranked.{Accepts, ListsNames, Lowers, MeetsEdge, ranks_at};
@@ -92,23 +92,12 @@ fn first_unmet(script: &Script, cert: &Cert) -> Option<Rejection>
     ensures { JudgesEdges cert.now (Flow script.now) result }
 {
     for index in 0..cert.ranks().len() {
-        let unmet = first_unmet_from(script, cert, node_at(index));
+        let unmet = first_unmet_from(script, cert, Node::nth(index));
         if unmet.is_some() {
             return unmet;
         }
     }
     None
-}
-
-/// The node with this place among all nodes, by place and then flag.
-fn node_at(index: usize) -> Node
-    requires { index < 131072 }
-    ensures { node_index result ≡ index }
-{
-    Node {
-        at: (index / 2) as u16,
-        flag: index % 2 == 1,
-    }
 }
 
 /// The first edge from the node that the ranks don't meet, with the reason.

@@ -24,7 +24,7 @@ pub fn verify(alloc: Global, script: &[u8], certificate: &[u8]) -> Result<Verdic
     ensures answer { (¬ IsWantOfMemory result) → IsAnswered script.now certificate.now result }
     ensures why { SaysWhy script.now certificate.now result }
 {
-    let script = match sedck_script::parse_first(alloc, script) {
+    let script = match sedck_script::parse(alloc, script) {
         Ok(script) => script,
         Err(fault) => return Err(Fault::Script(fault)),
     };

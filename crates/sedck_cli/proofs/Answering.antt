@@ -1,24 +1,26 @@
 -- From the answer of `verify` to what an engine answers.
-use Rattle.std.proofs.Common.{◌≡◌, ◌≤◌, ℕ, length, take, Bool, List, Option, Some, None, IfSome, Result, Ok, Err, refl, subst, sym, ap}
+use Rattle.std.proofs.Common.{◌≡◌, ◌≢◌, ◌≤◌, ℕ, length, take, Bool, List, Option, Some, None, IfSome, Result, Ok, Err, refl, subst, sym, ap}
 use Rattle.std.proofs.KnownBytes.{Keeps-refl}
 use Rattle.std.proofs.lemmas.List.{take_all}
 use Rattle.std.specs.Result.{IsErrAnd}
 use Rattle.sedck_script.specs.Program.{Program}
-use Rattle.sedck_script.specs.First.{FirstSpells as Spells}
+use Rattle.sedck_script.specs.Spelling.{Spells}
+use Rattle.sedck_script.specs.declared.fault.ScriptFault.{ScriptFault}
 use Rattle.sedck_script.specs.declared.fault.ScriptFault.TheVariants as script
 use Rattle.sedck_cert.specs.Certificate.{Certificate}
 use Rattle.sedck_cert.specs.Text.{IsTextOf}
-use Rattle.sedck_cert.specs.Headline.{Stand, IsAnswered, IsWantOfMemory, SaysWhy}
+use Rattle.sedck_cert.specs.Headline.{SpellsOnly, Stand, IsAnswered, IsWantOfMemory, SaysWhy}
 use Rattle.sedck_cert.specs.declared.checking.Verdict.{Verdict}
 use Rattle.sedck_cert.specs.declared.checking.Verdict.TheVariants.{Accepted, Rejected}
 use Rattle.sedck_cert.specs.declared.reading.CertFault.TheVariants as cert
 use Rattle.sedck_cert.specs.declared.verifying.Fault.{Fault}
 use Rattle.sedck_cert.specs.declared.verifying.Fault.TheVariants as below
 use Rattle.sedck_cli.specs.declared.answer.Outcome.{Outcome}
+use Rattle.sedck_cli.specs.declared.answer.Outcome.TheVariants.{Yes}
 use Rattle.sedck_cli.specs.declared.answer.RunFault.{RunFault}
 use Rattle.sedck_cli.specs.declared.answer.RunFault.TheVariants as fault
-use Rattle.sedck_cli.specs.Engines.{script_read, certificate_read, verdict_outcome, ChecksTo, SpellsNone, EngineAnswers, OfKnown, CertificateAnswers}
-use Rattle.sedck_cli.specs.Faults.{run_fault, IsRefusal}
+use Rattle.sedck_cli.specs.Engines.{script_read, certificate_read, verdict_outcome, ChecksTo, SpellsNone, EngineAnswers, OfKnown, OfScript, CertificateAnswers}
+use Rattle.sedck_cli.specs.Faults.{run_fault, script_fault, IsRefusal}
 use Rattle.sedck_cli.specs.Reports.{IsVerdict, IsCheckReport}
 
 -- an error that is this one
@@ -110,3 +112,19 @@ checks_to None (Some b) text bytes verdict report is_script is_cert s =
 checks_to (Some t) None text bytes verdict report is_script is_cert s =
     (bytes, of_texts t bytes text bytes verdict report is_script.front (sym (take_all 1310721 bytes is_cert.within)) s)
 checks_to (Some t) (Some b) text bytes verdict report is_script is_cert s = of_texts t b text bytes verdict report is_script.front is_cert.front s
+
+-- ---- An engine that reads a script alone
+
+-- a refused script, want of memory aside, spells none
+pub script_refusal : (text bytes : List ℕ) (why : ScriptFault) → (why ≢ script.OutOfMemory → (p : Program) → Spells text p → ⊥) → IsRefusal text bytes (script_fault why)
+script_refusal text bytes script.OutOfMemory refused = tt
+script_refusal text bytes why refused = (λ is. cc, refused (λ is. cc))
+
+-- the report of the script that was read, of the source's bytes, where they are known
+pub lists_to : (IsReport : Program → List ℕ → Type 0) (known : Option (List ℕ)) (text : List ℕ) (p : Program) (report : List ℕ)
+    → IsRead 1048577 known text → Spells text p → ((q : Program) → Spells text q → q ≡ p) → IsReport p report
+    → OfKnown known (λ t outcome r. (outcome ≡ Yes) × OfScript t (λ q. IsReport q r)) Yes report
+lists_to IsReport None text p report is spelled only holds =
+    (text, (refl, record { program = p; spelled = subst (λ l. SpellsOnly l p) (sym (take_all 1048577 text is.within)) (record { spells = spelled; only = only }); holds = holds }))
+lists_to IsReport (Some t) text p report is spelled only holds =
+    (refl, record { program = p; spelled = subst (λ l. SpellsOnly l p) is.front (record { spells = spelled; only = only }); holds = holds })

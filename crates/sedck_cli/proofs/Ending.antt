@@ -7,36 +7,42 @@ use Rattle.sedck_cli.specs.declared.answer.RunFault.{RunFault}
 use Rattle.sedck_cli.specs.declared.answer.RunFault.TheVariants as fault
 use Rattle.sedck_cli.specs.declared.command_line.Refusal.{Refusal}
 use Rattle.sedck_cli.specs.declared.command_line.Refusal.TheVariants.{Usage, Run}
-use Rattle.sedck_cli.specs.Engines.{ChecksTo, EngineAnswers, OfKnown}
-use Rattle.sedck_cli.specs.Statuses.{status_of, Reports, BreaksOff, Leaves}
+use Rattle.sedck_cli.specs.Engines.{ChecksTo, ListsFilesTo, ListsGraphTo, EngineAnswers, OfKnown}
+use Rattle.sedck_cli.specs.Statuses.{status_of, IsSomeReport, Reports, BreaksOff, Leaves}
 
--- there are texts of which this is the report
-some_texts : (script cert : Option (List ℕ)) (outcome : Outcome) (report : List ℕ) → OfKnown script (λ text. OfKnown cert (ChecksTo text)) outcome report
-    → (text bytes : List ℕ) × ChecksTo text bytes outcome report
-some_texts None None outcome report is = (is.0, is.1.0, is.1.1)
-some_texts None (Some b) outcome report is = (is.0, b, is.1)
-some_texts (Some t) None outcome report is = (t, is.0, is.1)
-some_texts (Some t) (Some b) outcome report is = (t, b, is)
+-- what an engine calls its report is one
+abbrev pub AreReports : (Outcome → List ℕ → Type 0) → Type 0
+AreReports IsReport = (outcome : Outcome) (report : List ℕ) → IsReport outcome report → IsSomeReport outcome report
+
+pub of_check : (script cert : Option (List ℕ)) → AreReports (OfKnown script (λ text. OfKnown cert (ChecksTo text)))
+of_check None None outcome report is = inl (is.0, is.1.0, is.1.1)
+of_check None (Some b) outcome report is = inl (is.0, b, is.1)
+of_check (Some t) None outcome report is = inl (t, is.0, is.1)
+of_check (Some t) (Some b) outcome report is = inl (t, b, is)
+
+pub of_files : (script : Option (List ℕ)) → AreReports (OfKnown script ListsFilesTo)
+of_files None outcome report is = inr (inl is)
+of_files (Some t) outcome report is = inr (inl (t, is))
+
+pub of_graph : (script : Option (List ℕ)) → AreReports (OfKnown script ListsGraphTo)
+of_graph None outcome report is = inr (inr is)
+of_graph (Some t) outcome report is = inr (inr (t, is))
 
 -- an engine's answer
-pub answered : (script cert before after : Option (List ℕ)) (outcome : Outcome)
-    → ((report : List ℕ) × OfKnown script (λ text. OfKnown cert (ChecksTo text)) outcome report × Appends before after report) → Reports before after outcome
-answered script cert before after outcome is =
-    let texts = some_texts script cert outcome is.0 is.1 in
-    (texts.0, texts.1, is.0, texts.2, is.2)
+pub answered : (IsReport : Outcome → List ℕ → Type 0) (before after : Option (List ℕ)) (outcome : Outcome) → AreReports IsReport
+    → ((report : List ℕ) × IsReport outcome report × Appends before after report) → Reports before after outcome
+answered IsReport before after outcome are is = (is.0, are outcome is.0 is.1, is.2)
 
 -- an engine's fault
-pub stopped : (script cert before after : Option (List ℕ)) (script_failed out_failed : Bool) (why : RunFault)
-    → EngineAnswers (record { script = script; script_failed = script_failed; out_before = before; out_after = after; out_failed = out_failed })
-    (OfKnown script (λ text. OfKnown cert (ChecksTo text))) (Err why) → Leaves before after (Err (Run why))
-stopped script cert before after script_failed out_failed (fault.Script why) is = is.0
-stopped script cert before after script_failed out_failed (fault.Certificate why) is = is.0
-stopped script cert before after script_failed out_failed (fault.Read Script) is = is.0
-stopped script cert before after script_failed out_failed (fault.Read Certificate) is = is
-stopped script cert before after script_failed out_failed fault.Write is =
-    let texts = some_texts script cert is.1.0 is.1.1 is.1.3 in
-    (is.1.0, texts.0, texts.1, is.1.1, texts.2, (is.1.2, is.1.4, is.1.5))
-stopped script cert before after script_failed out_failed fault.OutOfMemory is = is
+pub stopped : (IsReport : Outcome → List ℕ → Type 0) (script before after : Option (List ℕ)) (script_failed out_failed : Bool) (why : RunFault) → AreReports IsReport
+    → EngineAnswers (record { script = script; script_failed = script_failed; out_before = before; out_after = after; out_failed = out_failed }) IsReport (Err why)
+    → Leaves before after (Err (Run why))
+stopped IsReport script before after script_failed out_failed (fault.Script why) are is = is.0
+stopped IsReport script before after script_failed out_failed (fault.Certificate why) are is = is.0
+stopped IsReport script before after script_failed out_failed (fault.Read Script) are is = is.0
+stopped IsReport script before after script_failed out_failed (fault.Read Certificate) are is = is
+stopped IsReport script before after script_failed out_failed fault.Write are is = (is.1.0, is.1.1, are is.1.0 is.1.1 is.1.3, (is.1.2, is.1.4, is.1.5))
+stopped IsReport script before after script_failed out_failed fault.OutOfMemory are is = is
 
 -- no refusal has the status of an answer
 pub refusal_status : (refusal : Refusal) → 1 < status_of refusal

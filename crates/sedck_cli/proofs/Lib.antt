@@ -1,3 +1,4 @@
 pub mod Inputs
 pub mod Answering
 pub mod Ending
+pub mod GraphLines

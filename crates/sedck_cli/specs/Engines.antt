@@ -2,11 +2,11 @@
 use Rattle.std.specs.Prelude.{◌≡◌, ◌≢◌, ℕ, Bool, IsTrue, List, take, Option, Some, None, IfSome, Result, Ok, Err}
 use Rattle.std.specs.Io.KnownBytes.{Keeps, Appends}
 use Rattle.sedck_script.specs.Program.{Program}
-use Rattle.sedck_script.specs.First.{FirstSpells as Spells}
+use Rattle.sedck_script.specs.Spelling.{Spells}
 use Rattle.sedck_script.specs.declared.fault.ScriptFault.TheVariants as script
 use Rattle.sedck_cert.specs.Certificate.{Certificate}
 use Rattle.sedck_cert.specs.Text.{IsTextOf}
-use Rattle.sedck_cert.specs.Headline.{Stand}
+use Rattle.sedck_cert.specs.Headline.{SpellsOnly, Stand}
 use Rattle.sedck_cert.specs.Streams.{IsFrontOf}
 use Rattle.sedck_cert.specs.declared.reading.CertFault.TheVariants as cert
 use Rattle.sedck_cert.specs.declared.checking.Verdict.{Verdict}
@@ -16,7 +16,7 @@ use Rattle.sedck_cli.specs.declared.answer.Outcome.TheVariants.{Yes, No}
 use Rattle.sedck_cli.specs.declared.answer.RunFault.{RunFault}
 use Rattle.sedck_cli.specs.declared.answer.RunFault.TheVariants as fault
 use Rattle.sedck_cli.specs.declared.answer.Input.TheVariants as input
-use Rattle.sedck_cli.specs.Reports.{IsVerdict, IsCheckReport}
+use Rattle.sedck_cli.specs.Reports.{IsVerdict, IsCheckReport, IsFilesReport, IsGraphReport}
 
 -- what is judged of a script's and of a certificate's bytes: one more than either may have
 abbrev pub script_read : List ℕ → List ℕ
@@ -34,6 +34,18 @@ verdict_outcome (Rejected why) = No
 abbrev pub ChecksTo : List ℕ → List ℕ → Outcome → List ℕ → Type 0
 ChecksTo text bytes outcome report = (verdict : Verdict) × (outcome ≡ verdict_outcome verdict)
     × Stand (script_read text) (certificate_read bytes) (λ p c. IsVerdict p c verdict × IsCheckReport p c verdict report)
+
+-- the same where the script alone is read
+pub record OfScript (text : List ℕ) (Holds : Program → Type 0) : Type 0 where
+  pub program : Program
+  pub spelled : SpellsOnly (script_read text) program
+  pub holds : Holds program
+
+abbrev pub ListsFilesTo : List ℕ → Outcome → List ℕ → Type 0
+ListsFilesTo text outcome report = (outcome ≡ Yes) × OfScript text (λ p. IsFilesReport p report)
+
+abbrev pub ListsGraphTo : List ℕ → Outcome → List ℕ → Type 0
+ListsGraphTo text outcome report = (outcome ≡ Yes) × OfScript text (λ p. IsGraphReport p report)
 
 -- ---- An engine's answer
 
@@ -71,3 +83,9 @@ CertificateAnswers text bytes failed (Err (fault.Certificate why)) =
     IfSome text (λ t. (p : Program) × Spells (script_read t) p) × IfSome bytes (λ b. (c : Certificate) → ¬ IsTextOf (certificate_read b) c)
 CertificateAnswers text bytes failed (Err (fault.Read input.Certificate)) = IsTrue failed
 CertificateAnswers text bytes failed _ = Unit {0}
+
+-- an engine that reads no certificate doesn't speak of one
+abbrev pub ReadsNoCertificate : Result Outcome RunFault → Type 0
+ReadsNoCertificate (Err (fault.Certificate why)) = ⊥
+ReadsNoCertificate (Err (fault.Read input.Certificate)) = ⊥
+ReadsNoCertificate _ = Unit {0}

@@ -1,7 +1,8 @@
 -- What an engine makes of the faults below it. What stands behind `run_fault` is for private contracts and proofs alone.
 use Rattle.std.specs.Prelude.{◌≢◌, ℕ, List}
 use Rattle.sedck_script.specs.Program.{Program}
-use Rattle.sedck_script.specs.First.{FirstSpells as Spells}
+use Rattle.sedck_script.specs.Spelling.{Spells}
+use Rattle.sedck_script.specs.declared.fault.ScriptFault.{ScriptFault}
 use Rattle.sedck_script.specs.declared.fault.ScriptFault.TheVariants as script
 use Rattle.sedck_cert.specs.Certificate.{Certificate}
 use Rattle.sedck_cert.specs.Text.{IsTextOf}
@@ -17,6 +18,11 @@ run_fault (below.Script script.OutOfMemory) = fault.OutOfMemory
 run_fault (below.Certificate cert.OutOfMemory) = fault.OutOfMemory
 run_fault (below.Script why) = fault.Script why
 run_fault (below.Certificate why) = fault.Certificate why
+
+-- the same of a script's fault alone
+abbrev pub script_fault : ScriptFault → RunFault
+script_fault script.OutOfMemory = fault.OutOfMemory
+script_fault why = fault.Script why
 
 -- the fault is want of memory, or tells truly of these texts
 abbrev pub IsRefusal : List ℕ → List ℕ → RunFault → Type 0

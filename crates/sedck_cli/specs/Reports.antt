@@ -1,10 +1,13 @@
 -- The reports, as bytes.
-use Rattle.std.specs.Prelude.{◌≡◌, ℕ, List, ◌++◌, codes}
+use Rattle.std.specs.Prelude.{◌≡◌, ℕ, List, [], ◌∷◌, ◌++◌, length, decimal, codes}
 use Rattle.sedck_script.specs.Program.{Program}
+use Rattle.sedck_flow.specs.Run.{NamesForReading, NamesForWriting}
+use Rattle.sedck_flow.specs.Flow.{Flow, ListsEdges}
 use Rattle.sedck_flow.specs.Words.{edge_words}
+use Rattle.sedck_flow.specs.declared.graph.Edge.{Edge}
 use Rattle.sedck_cert.specs.Certificate.{Certificate}
 use Rattle.sedck_cert.specs.Text.{line, files_text}
-use Rattle.sedck_cert.specs.Ranked.{Accepts}
+use Rattle.sedck_cert.specs.Ranked.{Accepts, ListsNames}
 use Rattle.sedck_cert.specs.Rejections.{IsRejection}
 use Rattle.sedck_cert.specs.declared.checking.Rejection.{Rejection}
 use Rattle.sedck_cert.specs.declared.checking.Rejection.TheVariants.{WrongCount, StartUnranked, LeavesRanked, NotLowered, ReadsDiffer, WritesDiffer}
@@ -31,6 +34,26 @@ IsVerdict p c (Rejected why) = IsRejection p c why
 abbrev pub IsCheckReport : Program → Certificate → Verdict → List ℕ → Type 0
 IsCheckReport p c Accepted report = report ≡ line (codes "accepted") ++ files_text c.reads c.writes
 IsCheckReport p c (Rejected why) report = report ≡ line (rejection_words why)
+
+-- ---- files and graph
+
+-- the names of the script's commands, read and written, each once and rising
+pub record IsFilesReport (p : Program) (report : List ℕ) : Type 0 where
+  pub reads : List (List ℕ)
+  pub writes : List (List ℕ)
+  pub lists_reads : ListsNames reads (NamesForReading p)
+  pub lists_writes : ListsNames writes (NamesForWriting p)
+  pub is_report : report ≡ files_text reads writes
+
+abbrev pub edge_lines : List Edge → List ℕ
+edge_lines [] = []
+edge_lines (e ∷ edges) = line (edge_words e) ++ edge_lines edges
+
+-- the number of commands, and each edge of the flow graph once and in order
+pub record IsGraphReport (p : Program) (report : List ℕ) : Type 0 where
+  pub edges : List Edge
+  pub lists : ListsEdges edges (Flow p)
+  pub is_report : report ≡ line (codes "commands " ++ decimal (length p.commands)) ++ edge_lines edges
 
 -- ---- which input
 

@@ -1,10 +1,10 @@
 -- The exit statuses of the program, and what stands on its output at each.
-use Rattle.std.specs.Prelude.{◌==◌, ℕ, Bool, false, List, [], ◌∷◌, Option, Result, Ok, Err, String, string_bytes}
+use Rattle.std.specs.Prelude.{◌==◌, ◌⊎◌, ℕ, Bool, false, List, [], ◌∷◌, Option, Result, Ok, Err, String, string_bytes}
 use Rattle.std.specs.List.{list_any}
 use Rattle.std.specs.declared.alloc.Global.{Global}
 use Rattle.std.specs.Io.KnownBytes.{Keeps, Appends}
 use Rattle.sedck_cert.specs.Streams.{AppendsFront}
-use Rattle.sedck_cli.specs.Engines.{ChecksTo}
+use Rattle.sedck_cli.specs.Engines.{ChecksTo, ListsFilesTo, ListsGraphTo}
 use Rattle.sedck_cli.specs.declared.answer.Outcome.{Outcome}
 use Rattle.sedck_cli.specs.declared.answer.RunFault.TheVariants as fault
 use Rattle.sedck_cli.specs.declared.command_line.Refusal.{Refusal}
@@ -18,14 +18,19 @@ status_of (Run (fault.Read input)) = 4
 status_of (Run fault.Write) = 4
 status_of (Run fault.OutOfMemory) = 4
 
--- the report with this outcome, on some script and certificate, was written
+-- the report of some script and certificate, or of some script, with this outcome
+abbrev pub IsSomeReport : Outcome → List ℕ → Type 0
+IsSomeReport outcome report =
+    ((text bytes : List ℕ) × ChecksTo text bytes outcome report)
+    ⊎ (((text : List ℕ) × ListsFilesTo text outcome report) ⊎ ((text : List ℕ) × ListsGraphTo text outcome report))
+
+-- such a report was written
 abbrev pub Reports : Option (List ℕ) → Option (List ℕ) → Outcome → Type 0
-Reports before after outcome = (text bytes report : List ℕ) × ChecksTo text bytes outcome report × Appends before after report
+Reports before after outcome = (report : List ℕ) × IsSomeReport outcome report × Appends before after report
 
 -- only a front of such a report was
 abbrev pub BreaksOff : Option (List ℕ) → Option (List ℕ) → Type 0
-BreaksOff before after =
-    (outcome : Outcome) × (text bytes report : List ℕ) × ChecksTo text bytes outcome report × AppendsFront before after report
+BreaksOff before after = (outcome : Outcome) × (report : List ℕ) × IsSomeReport outcome report × AppendsFront before after report
 
 -- what stands on the output after an answer
 abbrev pub Leaves : Option (List ℕ) → Option (List ℕ) → Result Outcome Refusal → Type 0

@@ -2,7 +2,7 @@
 
 ghost use Rattle.std.specs.Prelude.{◌≡◌, Some};
 ghost use Rattle.sedck_cli.specs.declared.answer.RunFault.TheVariants.{OutOfMemory};
-ghost use Rattle.sedck_cli.specs.Faults.{run_fault};
+ghost use Rattle.sedck_cli.specs.Faults.{run_fault, script_fault};
 
 use sedck_cert::{CertFault, Fault};
 use sedck_script::ScriptFault;
@@ -57,6 +57,17 @@ impl From<AllocError> for RunFault {
 
     fn from(_error: AllocError) -> RunFault {
         RunFault::OutOfMemory
+    }
+}
+
+impl From<ScriptFault> for RunFault {
+    ghost from_gives = { λ fault e. e ≡ script_fault fault };
+
+    fn from(fault: ScriptFault) -> RunFault {
+        match fault {
+            ScriptFault::OutOfMemory => RunFault::OutOfMemory,
+            _ => RunFault::Script(fault),
+        }
     }
 }
 

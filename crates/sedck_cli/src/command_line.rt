@@ -7,7 +7,7 @@ ghost use Rattle.sedck_cli.specs.declared.command_line.Refusal.TheVariants.{Run}
 ghost use Rattle.sedck_cli.specs.declared.answer.RunFault.TheVariants as fault;
 
 use crate::answer::{Input, Outcome, RunFault};
-use crate::engines::run_check;
+use crate::engines::{run_check, run_files, run_graph};
 use clap::error::ErrorKind;
 use clap::{Arg, Command};
 use sedck_cert::streams::{FromRead, Sink, write_all};
@@ -89,6 +89,12 @@ enum Request<'a> {
         script: &'a str,
         certificate: &'a str,
     },
+    Files {
+        script: &'a str,
+    },
+    Graph {
+        script: &'a str,
+    },
 }
 
 /// The whole program for the words after its name, and its exit status: 0 for yes, 1 for no, 2 where the script or the
@@ -130,6 +136,8 @@ fn answer<R: Files + AllocGlobal, W: Sink>(
             script,
             certificate,
         } => check(rt, script, certificate, out),
+        Request::Files { script } => files(rt, script, out),
+        Request::Graph { script } => graph(rt, script, out),
     }
 }
 
@@ -145,6 +153,34 @@ fn check<R: Files + AllocGlobal, W: Sink>(
     let mut script = open(rt, script, Input::Script)?;
     let mut certificate = open(rt, certificate, Input::Certificate)?;
     match run_check(rt.alloc(), &mut script, &mut certificate, out) {
+        Ok(outcome) => Ok(outcome),
+        Err(fault) => Err(Refusal::Run(fault)),
+    }
+}
+
+fn files<R: Files + AllocGlobal, W: Sink>(
+    rt: &R,
+    script: &str,
+    out: &mut W,
+) -> Result<Outcome, Refusal>
+    ensures { Leaves (W.taken out.old) (W.taken out.new) result }
+{
+    let mut script = open(rt, script, Input::Script)?;
+    match run_files(rt.alloc(), &mut script, out) {
+        Ok(outcome) => Ok(outcome),
+        Err(fault) => Err(Refusal::Run(fault)),
+    }
+}
+
+fn graph<R: Files + AllocGlobal, W: Sink>(
+    rt: &R,
+    script: &str,
+    out: &mut W,
+) -> Result<Outcome, Refusal>
+    ensures { Leaves (W.taken out.old) (W.taken out.new) result }
+{
+    let mut script = open(rt, script, Input::Script)?;
+    match run_graph(rt.alloc(), &mut script, out) {
         Ok(outcome) => Ok(outcome),
         Err(fault) => Err(Refusal::Run(fault)),
     }
@@ -168,15 +204,22 @@ fn read_words<'a>(alloc: Global, words: &'a [String]) -> Result<Request<'a>, Ref
         return Err(Refusal::Usage);
     }
     let matches = command(alloc)?.try_get_matches_from(words)?;
-    let Some(("check", files)) = matches.subcommand() else {
+    let Some((name, files)) = matches.subcommand() else {
         return Err(Refusal::Usage);
     };
-    match (files.get_str("script"), files.get_str("certificate")) {
-        (Some(script), Some(certificate)) => Ok(Request::Check {
-            script,
-            certificate,
-        }),
-        _ => Err(Refusal::Usage),
+    let Some(script) = files.get_str("script") else {
+        return Err(Refusal::Usage);
+    };
+    match name {
+        "files" => Ok(Request::Files { script }),
+        "graph" => Ok(Request::Graph { script }),
+        _ => match files.get_str("certificate") {
+            Some(certificate) => Ok(Request::Check {
+                script,
+                certificate,
+            }),
+            None => Err(Refusal::Usage),
+        },
     }
 }
 
@@ -196,14 +239,20 @@ fn is_option(word: &str) -> bool
 
 /// The forms that the words may have.
 fn command<'a>(alloc: Global) -> Result<Command<'a>, AllocError> {
-    let check = Command::new(alloc, "check")
-        .disable_help_flag(true)
-        .arg(Arg::new(alloc, "script").required(true))?
-        .arg(Arg::new(alloc, "certificate").required(true))?;
+    let check = of_script(alloc, "check")?.arg(Arg::new(alloc, "certificate").required(true))?;
     Command::new(alloc, "sedck")
         .no_binary_name(true)
         .disable_help_flag(true)
         .disable_help_subcommand(true)
         .subcommand_required(true)
-        .subcommand(check)
+        .subcommand(check)?
+        .subcommand(of_script(alloc, "files")?)?
+        .subcommand(of_script(alloc, "graph")?)
+}
+
+/// A subcommand whose first word is a script.
+fn of_script<'a>(alloc: Global, name: &'a str) -> Result<Command<'a>, AllocError> {
+    Command::new(alloc, name)
+        .disable_help_flag(true)
+        .arg(Arg::new(alloc, "script").required(true))
 }

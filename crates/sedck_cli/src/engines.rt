@@ -1,13 +1,14 @@
 //! The engines: each reads from sources, and writes one report to a sink.
 
 ghost use Rattle.std.specs.Prelude.{◌≡◌};
-ghost use Rattle.sedck_cli.specs.Engines.{verdict_outcome, ChecksTo, EngineAnswers, OfKnown, CertificateAnswers};
+ghost use Rattle.sedck_cli.specs.Engines.{verdict_outcome, ChecksTo, ListsFilesTo, ListsGraphTo, EngineAnswers, OfKnown, CertificateAnswers, ReadsNoCertificate};
 
 use crate::answer::{Input, Outcome, RunFault};
 use crate::input::read_whole;
-use crate::report::check_report;
+use crate::report::{check_report, files_report, graph_report};
 use sedck_cert::streams::{Sink, Source, write_all};
 use sedck_cert::{Verdict, verify};
+use sedck_script::parse;
 use std::alloc::Global;
 
 /// How many bytes of a script are read: one more than it may have.
@@ -36,6 +37,46 @@ pub fn run_check<R: Source, C: Source, W: Sink>(
         return Err(RunFault::Write);
     };
     Ok(outcome_of(verdict))
+}
+
+/// Writes the names of the files that the script reads and writes.
+pub fn run_files<R: Source, W: Sink>(
+    alloc: Global,
+    script: &mut R,
+    out: &mut W,
+) -> Result<Outcome, RunFault>
+    ensures report { EngineAnswers
+        (record { script = R.left script.old; script_failed = R.has_failed script.new; out_before = W.taken out.old; out_after = W.taken out.new; out_failed = W.has_failed out.new })
+        (OfKnown (R.left script.old) ListsFilesTo) result }
+    ensures no_certificate { ReadsNoCertificate result }
+{
+    let text = read_whole(alloc, script, SCRIPT_READ, Input::Script)?;
+    let script = parse(alloc, &text)?;
+    let report = files_report(alloc, &script)?;
+    let Ok(()) = write_all(out, &report) else {
+        return Err(RunFault::Write);
+    };
+    Ok(Outcome::Yes)
+}
+
+/// Writes the script's flow graph.
+pub fn run_graph<R: Source, W: Sink>(
+    alloc: Global,
+    script: &mut R,
+    out: &mut W,
+) -> Result<Outcome, RunFault>
+    ensures report { EngineAnswers
+        (record { script = R.left script.old; script_failed = R.has_failed script.new; out_before = W.taken out.old; out_after = W.taken out.new; out_failed = W.has_failed out.new })
+        (OfKnown (R.left script.old) ListsGraphTo) result }
+    ensures no_certificate { ReadsNoCertificate result }
+{
+    let text = read_whole(alloc, script, SCRIPT_READ, Input::Script)?;
+    let script = parse(alloc, &text)?;
+    let report = graph_report(alloc, &script)?;
+    let Ok(()) = write_all(out, &report) else {
+        return Err(RunFault::Write);
+    };
+    Ok(Outcome::Yes)
 }
 
 /// The verdict in one word.

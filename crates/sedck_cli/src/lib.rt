@@ -11,4 +11,4 @@ mod tests;
 
 pub use answer::{Input, Outcome, RunFault};
 pub use command_line::{Refusal, program};
-pub use engines::run_check;
+pub use engines::{run_check, run_files, run_graph};

@@ -1,16 +1,19 @@
 //! The reports, as bytes.
 
-ghost use Rattle.std.specs.Prelude.{◌≡◌, ◌++◌, IfOk, IfErr, OnOk, length, decimal, codes, string_bytes};
+ghost use Rattle.std.specs.Prelude.{◌≡◌, ◌++◌, IfOk, IfErr, OnOk, ◌<◌, ◌≤◌, length, map, decimal, codes, string_bytes};
 ghost use Rattle.sedck_script.specs.Program.{Program};
 ghost use Rattle.sedck_cert.specs.Certificate.{Certificate};
 ghost use Rattle.sedck_cert.specs.Text.{IsTextOf, line, name_lines, files_text};
-ghost use Rattle.sedck_cert.specs.View.{names_of};
-ghost use Rattle.sedck_cli.specs.Reports.{IsCheckReport, rejection_words};
+ghost use Rattle.sedck_cli.specs.Graph.{AddsEdgesFrom};
+ghost use Rattle.sedck_cli.specs.Reports.{IsCheckReport, IsFilesReport, IsGraphReport, rejection_words};
 ghost use Rattle.sedck_cli.specs.Faults.{IsCertificateRefusal};
 
 use crate::answer::RunFault;
 use sedck_cert::{Fault, Rejection, Verdict, read_cert};
+use sedck_flow::{Node, edges_of};
+use sedck_script::Script;
 use std::alloc::{AllocError, Global};
+use std::convert::AsSlice;
 
 /// The report on a certificate, whose names are read from its text once more.
 pub(crate) fn check_report(
@@ -40,6 +43,47 @@ pub(crate) fn check_report(
     Ok(report)
 }
 
+/// The names that the script reads and writes.
+pub(crate) fn files_report(alloc: Global, script: &Script) -> Result<Vec<u8>, AllocError>
+    ensures { IfOk result (λ report. IsFilesReport script.now report.items) }
+{
+    let mut report = Vec::new(alloc);
+    add_names(alloc, &mut report, "read", script.reads())?;
+    add_names(alloc, &mut report, "write", script.writes())?;
+    Ok(report)
+}
+
+/// The number of the script's commands, and each edge of its flow graph on a line, in order.
+pub(crate) fn graph_report(alloc: Global, script: &Script) -> Result<Vec<u8>, AllocError>
+    ensures { IfOk result (λ report. IsGraphReport script.now report.items) }
+{
+    let count = script.commands().len();
+    let head = format!(in alloc; "commands {count}")?;
+    let mut report = Vec::new(alloc);
+    add_line(&mut report, head.as_bytes())?;
+    for index in 0..2 * (count + 1) {
+        add_edges(alloc, &mut report, script, Node::nth(index))?;
+    }
+    Ok(report)
+}
+
+/// Adds each edge that leaves the node on a line, in order.
+fn add_edges(
+    alloc: Global,
+    report: &mut Vec<u8>,
+    script: &Script,
+    node: Node,
+) -> Result<(), AllocError>
+    requires { node.at ≤ length script.now.commands }
+    ensures { OnOk result (AddsEdgesFrom script.now node report.old.items report.new.items) }
+{
+    for edge in edges_of(script, node) {
+        let words = format!(in alloc; "{edge}")?;
+        add_line(report, words.as_bytes())?;
+    }
+    Ok(())
+}
+
 /// What a rejection says, without its newline.
 fn rejection_text(alloc: Global, why: Rejection) -> Result<String, AllocError>
     ensures { IfOk result (λ text. string_bytes text ≡ rejection_words why) }
@@ -55,20 +99,20 @@ fn rejection_text(alloc: Global, why: Rejection) -> Result<String, AllocError>
 }
 
 /// Adds how many names there are, and each on a line.
-fn add_names(
+fn add_names<N: AsSlice<u8>>(
     alloc: Global,
     report: &mut Vec<u8>,
     word: &str,
-    names: &[Vec<u8>],
+    names: &[N],
 ) -> Result<(), AllocError>
     ensures { OnOk result (report.new.items
-        ≡ report.old.items ++ (line (word.now ++ codes " " ++ decimal (length names.now)) ++ name_lines (names_of names.now))) }
+        ≡ report.old.items ++ (line (word.now ++ codes " " ++ decimal (length names.now)) ++ name_lines (map N.items names.now))) }
 {
     let count = names.len();
     let head = format!(in alloc; "{word} {count}")?;
     add_line(report, head.as_bytes())?;
     for name in names {
-        add_line(report, name)?;
+        add_line(report, name.as_slice())?;
     }
     Ok(())
 }

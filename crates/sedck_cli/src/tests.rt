@@ -3,6 +3,7 @@
 mod engines;
 mod fakes;
 mod programs;
+mod reports;
 
 /// A loop that reads a line in each turn.
 const LOOP: &str = ":a\nn\nb a";
@@ -15,3 +16,7 @@ const LOOP_CERTIFICATE: &str =
 const EMPTY_CERTIFICATE: &str = "sedck 1\ncommands 0\n0 0 1 1\n0 1 -\nread 0\nwrite 0\nend\n";
 
 const ACCEPTED: &str = "accepted\nread 0\nwrite 0\n";
+
+/// The loop's flow graph.
+const LOOP_GRAPH: &str =
+    "commands 3\n0 0 1 0 keep\n0 1 1 1 keep\n1 0 2 0 consume\n1 1 2 0 consume\n1 1 2 1 consume\n2 0 0 0 keep\n2 1 0 1 keep\n3 0 0 0 consume\n3 1 0 0 consume\n";

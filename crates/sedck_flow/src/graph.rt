@@ -8,8 +8,22 @@ pub struct Node {
 }
 
 impl Node {
+    ghost use Rattle.std.specs.Prelude.{◌≡◌, ◌<◌};
+    ghost use Rattle.sedck_flow.specs.Flow.{node_index};
+
     /// Where a cycle begins: the first command, with the flag reset.
     pub const START: Node = Node { at: 0, flag: false };
+
+    /// The node with this place among all nodes, by place and then flag.
+    pub fn nth(index: usize) -> Node
+        requires { index < 131072 }
+        ensures { node_index result ≡ index }
+    {
+        Node {
+            at: (index / 2) as u16,
+            flag: index % 2 == 1,
+        }
+    }
 }
 
 /// What a step along an edge does to the unread lines and to the pattern space.

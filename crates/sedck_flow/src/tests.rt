@@ -1,11 +1,11 @@
 use super::*;
-use sedck_script::parse_first;
+use sedck_script::parse;
 use std::alloc::Global;
 use std::test::*;
 
 /// The script's edges from each node in order, a line each.
 fn graph(alloc: Global, text: &[u8]) -> Result<String, Fail> {
-    let script = parse_first(alloc, text).ok().ok_or("refused")?;
+    let script = parse(alloc, text).ok().ok_or("refused")?;
     let end = script.commands().len();
     if end > 9 {
         return Err("too long".into());

@@ -1,7 +1,7 @@
 //! `program` over files.
 
 use super::fakes::Kept;
-use super::{ACCEPTED, EMPTY_CERTIFICATE, LOOP, LOOP_CERTIFICATE};
+use super::{ACCEPTED, EMPTY_CERTIFICATE, LOOP, LOOP_CERTIFICATE, LOOP_GRAPH};
 use crate::program;
 use std::test::Fail;
 use std::{env, fs, process};
@@ -70,8 +70,11 @@ fn words(rt: HostRuntime) -> Result<(), Fail> {
         "check @script @certificate @certificate",
         "check @nowhere @nowhere @nowhere",
         "rank @script",
-        "files @script",
-        "graph @script",
+        "files",
+        "files @script @script",
+        "graph",
+        "graph @script @certificate",
+        "graph -- @script",
         "--help",
         "-h check @script @certificate",
         "check --version @certificate",
@@ -144,6 +147,22 @@ fn files(rt: HostRuntime) -> Result<(), Fail> {
             "",
             "sedck: certificate fault 1 bad-header at line 1\n",
         ),
+        ("files @nowhere", 4, "", "sedck: cannot read script\n"),
+        ("graph @nowhere", 4, "", "sedck: cannot read script\n"),
+        (
+            "files @unknown",
+            2,
+            "",
+            "sedck: script fault 15 unknown-label at 2\n",
+        ),
+        (
+            "graph @unknown",
+            2,
+            "",
+            "sedck: script fault 15 unknown-label at 2\n",
+        ),
+        ("files @script", 0, "read 0\nwrite 0\n", ""),
+        ("graph @script", 0, LOOP_GRAPH, ""),
         ("check @script @certificate", 0, ACCEPTED, ""),
         ("check @script @empty", 1, "rejected 1 wrong-count\n", ""),
     ];

@@ -6,8 +6,8 @@ use Rattle.sedck_cert.proofs.checking.first_unmet.Goals as goal
 -- the edges of the nodes so far are met, and this node has one that isn't
 pub returns-then-is_some : goal.returns-then-is_some
 returns-then-is_some c =
-    first_of_all c.args.script.now c.args.cert.now c.node_at.result c.first_unmet_from-unmet.result
-    (λ e is_edge below. let less : node_index e.from < c.loop-index.index = omega (arith, below, c.node_at.ensures) in c.loop-index.invariant e is_edge less)
+    first_of_all c.args.script.now c.args.cert.now c.nth.result c.first_unmet_from-unmet.result
+    (λ e is_edge below. let less : node_index e.from < c.loop-index.index = omega (arith, below, c.nth.ensures) in c.loop-index.invariant e is_edge less)
     c.first_unmet_from-unmet.ensures (sym c.is_some.ensures ∙ c.if-is_some.true)
 
 -- no node is left
