@@ -1,5 +1,5 @@
 #!/usr/bin/env python3
-"""Measures `sedck check` on large inputs: wall time and peak memory, the best and the middle of several runs.
+"""Measures `sedck` on large inputs: wall time and peak memory, the best and the middle of several runs.
 
     python3 bench/run.py build/sedck [RUNS]
 
@@ -51,11 +51,22 @@ def inputs():
     yield "the longest certificate", b"p\n" * COMMANDS, full, 1
     many = certificate(COMMANDS, lambda at, flag: (65535, 65535), names(COMMANDS, 6 * COMMANDS), names(COMMANDS, NAMES_LIMIT - 6 * COMMANDS))
     yield "two lists of 4,095 names", b"p\n" * COMMANDS, many, 1
+    both = certificate(COMMANDS, lambda at, flag: (0, COMMANDS - at))
+    yield "4,095 of `/abc/p`", b"/abc/p\n" * COMMANDS, both, 0
+    yield "4,095 of `s/abc/ab/`", b"s/abc/ab/\n" * COMMANDS, both, 0
+    yield "4,095 of `s//ab/`, one with an expression", b"s/abc/ab/\n" + b"s//ab/\n" * (COMMANDS - 1), both, 0
+    yield "4,095 of `/x/D`", b"/x/D\n" * COMMANDS, both, 0
+    one = certificate(1, lambda at, flag: (0, 1 - at))
+    yield "a megabyte of one text", b"a\\\n" + b"t" * (SCRIPT_LIMIT - 4) + b"\n", one, 0
+    yield "a megabyte of one expression", b"/" + b"e" * (SCRIPT_LIMIT - 3) + b"/p", one, 0
+    few = names(COMMANDS, SCRIPT_LIMIT - 2 * COMMANDS)
+    written = certificate(COMMANDS, lambda at, flag: (0, COMMANDS - at), (), few)
+    yield "4,095 names written, falling", b"".join(b"w " + name + b"\n" for name in reversed(few)), written, 0
 
 
-def measure(program, folder, status):
+def measure(program, folder, words, status):
     begin = time.perf_counter()
-    done = subprocess.run([program, "check", "script", "cert"], cwd=folder, stdout=subprocess.DEVNULL)
+    done = subprocess.run([program, *words], cwd=folder, stdout=subprocess.DEVNULL)
     seconds = time.perf_counter() - begin
     if done.returncode != status:
         raise SystemExit("status %d in place of %d" % (done.returncode, status))
@@ -74,17 +85,19 @@ def peak(program, folder):
 def main():
     program = os.path.abspath(sys.argv[1])
     runs = int(sys.argv[2]) if len(sys.argv) > 2 else 15
-    print("| input | script bytes | certificate bytes | best ms | median ms | peak MiB |")
-    print("|---|---|---|---|---|---|")
+    print("| input | script bytes | certificate bytes | check: best ms | median ms | peak MiB | graph: median ms |")
+    print("|---|---|---|---|---|---|---|")
     for name, script, cert, status in inputs():
         with tempfile.TemporaryDirectory(prefix="bench") as folder:
             for file, data in (("script", script), ("cert", cert)):
                 with open(os.path.join(folder, file), "wb") as handle:
                     handle.write(data)
-            times = [measure(program, folder, status) for _ in range(runs)]
+            times = [measure(program, folder, ["check", "script", "cert"], status) for _ in range(runs)]
+            graphs = [measure(program, folder, ["graph", "script"], 0) for _ in range(runs)]
             memory = peak(program, folder)
-        print("| %s | %s | %s | %.1f | %.1f | %s |" % (
-            name, format(len(script), ","), format(len(cert), ","), min(times), statistics.median(times), memory))
+        print("| %s | %s | %s | %.1f | %.1f | %s | %.1f |" % (
+            name, format(len(script), ","), format(len(cert), ","), min(times), statistics.median(times), memory,
+            statistics.median(graphs)))
 
 
 if __name__ == "__main__":

@@ -1,6 +1,7 @@
 use super::*;
 use std::test::*;
 
+mod scripts;
 mod verbs;
 
 /// The place of a fault of the first part, and its number.
