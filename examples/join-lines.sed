@@ -1,0 +1,5 @@
+:a
+/\\$/N
+s/\\\n//
+t a
+w joined.txt
