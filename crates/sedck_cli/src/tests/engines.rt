@@ -63,9 +63,9 @@ fn verdicts(rt: HostRuntime) -> Result<(), Fail> {
 #[test]
 fn refused_scripts(rt: HostRuntime) -> Result<(), Fail> {
     let rows = [
-        ("q", "script fault 3 unknown-command at 0"),
-        ("p;p", "script fault 20 extra-text at 1"),
-        ("1p", "script fault 3 unknown-command at 0"),
+        ("k", "script fault 3 unknown-command at 0"),
+        ("p p", "script fault 20 extra-text at 2"),
+        ("1~2p", "script fault 3 unknown-command at 1"),
         ("b z", "script fault 15 unknown-label at 2"),
         (":", "script fault 13 bad-label at 1"),
         (":a\n:a", "script fault 14 duplicate-label at 4"),
