@@ -1,0 +1,4 @@
+pub mod RowSets
+mod Totals
+mod RowBits
+mod NextNode

@@ -1,0 +1,11 @@
+use Rattle.sedck_search.proofs.RowBits.{empty_row, empty_nodes}
+use Rattle.sedck_search.proofs.rows.Row.new.Goals as goal
+
+pub invariant_of-result : goal.invariant_of-result
+invariant_of-result c = empty_row
+
+pub returns-clause-nodes : goal.returns-clause-nodes
+returns-clause-nodes c = empty_nodes
+
+pub returns-clause-row : goal.returns-clause-row
+returns-clause-row c = empty_row

@@ -1,0 +1,112 @@
+//! Sets of nodes as rows of bits, counted several words at a time.
+
+ghost use Rattle.std.specs.Prelude.{◌≡◌, ◌<◌, ◌≤◌, true, false, length, MatchOption};
+ghost use Rattle.sedck_search.specs.Rows.{bit_count, has, IsRow, IsEmpty, HasChanged, HasNoneFrom, IsNext};
+
+use std::marker::Model;
+
+/// The number of bits that are set in the words.
+pub fn count_bits(words: &[u64]) -> u64
+    requires { length words.now ≤ 65536 }
+    ensures { result ≡ bit_count words.now }
+{
+    let mut count = 0;
+    for word in words {
+        count += u64::from(word.count_ones());
+    }
+    count
+}
+
+/// A set of nodes, one bit a node: those of 4,095 commands and the script's end, with either flag.
+#[derive(Drop)]
+pub(crate) struct Row {
+    words: [u64; 128],
+}
+
+impl Model for Row {
+    ghost use Rattle.std.specs.Prelude.{ℕ, List};
+
+    ghost Value = { List ℕ };
+
+    ghost use Rattle.sedck_search.specs.Rows.{IsRow};
+
+    ghost view = { λ a. a.words };
+
+    ghost invariant = { λ a. IsRow a.words };
+}
+
+impl Row {
+    /// No node.
+    pub(crate) fn new() -> Row
+        ensures nodes { IsEmpty result }
+        ensures count { bit_count result ≡ 0 }
+        ensures row { IsRow result }
+    {
+        Row { words: [0; 128] }
+    }
+
+    /// Takes all nodes out.
+    pub(crate) fn clear(&mut self)
+        ensures nodes { IsEmpty self.new }
+        ensures count { bit_count self.new ≡ 0 }
+        ensures row { IsRow self.new }
+    {
+        self.words = [0; 128];
+    }
+
+    /// Whether the node is in the set.
+    pub(crate) fn has(&self, node: usize) -> bool
+        requires { node < 8192 }
+        ensures value { result ≡ has self.now node }
+        ensures row { IsRow self.now }
+    {
+        let words = &self.words;
+        (words[node / 64] >> (node % 64)) & 1 == 1
+    }
+
+    pub(crate) fn insert(&mut self, node: usize)
+        requires { node < 8192 }
+        ensures changed { HasChanged self.old self.new node true }
+        ensures row { IsRow self.new }
+    {
+        self.words[node / 64] |= 1 << (node % 64);
+    }
+
+    pub(crate) fn remove(&mut self, node: usize)
+        requires { node < 8192 }
+        ensures changed { HasChanged self.old self.new node false }
+        ensures row { IsRow self.new }
+    {
+        self.words[node / 64] &= !(1 << (node % 64));
+    }
+
+    /// The first node of the set from this one on.
+    pub(crate) fn next_from(&self, from: usize) -> Option<usize>
+        ensures { MatchOption result (HasNoneFrom self.now from) (λ next. IsNext self.now from next) }
+    {
+        let words = &self.words;
+        let first = from / 64;
+        if first >= 128 {
+            return None;
+        }
+        let word = words[first] & (u64::MAX << (from % 64));
+        if word != 0 {
+            return Some(64 * first + word.trailing_zeros() as usize);
+        }
+        for at in first + 1..128 {
+            let word = words[at];
+            if word != 0 {
+                return Some(64 * at + word.trailing_zeros() as usize);
+            }
+        }
+        None
+    }
+
+    /// The number of nodes in the set.
+    pub(crate) fn count(&self) -> u64
+        ensures value { result ≡ bit_count self.now }
+        ensures row { IsRow self.now }
+    {
+        count_bits(&self.words)
+    }
+}
