@@ -1,4 +1,5 @@
 pub mod RowSets
 mod Totals
+mod LaneCounts
 mod RowBits
 mod NextNode

@@ -4,9 +4,27 @@ ghost use Rattle.std.specs.Prelude.{◌≡◌, ◌<◌, ◌≤◌, true, false, 
 ghost use Rattle.sedck_search.specs.Rows.{bit_count, has, IsRow, IsEmpty, HasChanged, HasNoneFrom, IsNext};
 
 use std::marker::Model;
+use std::simd::prelude::*;
+
+/// How many words are counted at once.
+const LANES: usize = 8;
 
 /// The number of bits that are set in the words.
 pub fn count_bits(words: &[u64]) -> u64
+    requires { length words.now ≤ 65536 }
+    ensures { result ≡ bit_count words.now }
+{
+    let mut sums = u64x8::splat(0);
+    let mut at = 0;
+    while words.len() - at >= LANES {
+        sums = sums.strict_add(u64x8::from_slice(&words[at..]).count_ones());
+        at += LANES;
+    }
+    sums.strict_reduce_sum() + count_each(&words[at..])
+}
+
+/// The same, word by word.
+fn count_each(words: &[u64]) -> u64
     requires { length words.now ≤ 65536 }
     ensures { result ≡ bit_count words.now }
 {

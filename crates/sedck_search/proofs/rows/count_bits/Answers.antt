@@ -1,15 +1,18 @@
-use Rattle.std.proofs.Common.{◌+◌, arith}
-use Rattle.sedck_search.proofs.Totals.{bit_count-within, bit_count-more, bit_count-take}
+use Rattle.std.proofs.Common.{arith}
+use Rattle.sedck_search.proofs.LaneCounts.{next_fits, next_are_sums, last_fits, whole_count, whole_fits}
 use Rattle.sedck_search.proofs.rows.count_bits.Goals as goal
 
-pub overflow_add-count : goal.overflow_add-count
-overflow_add-count c =
-    let more = bit_count-more c.args.words.now c.loop-word.word-index c.loop-word-test.true in
-    let few = bit_count-take c.args.words.now (c.loop-word.word-index + 1) in
-    let most = bit_count-within c.args.words.now c.type_inv.words in
-    record { fits = omega (arith, more, few, most, c.from-count.ensures, c.loop-word.invariant, c.requires) }
+pub overflow_add-sums : goal.overflow_add-sums
+overflow_add-sums c = next_fits c.args.words.now c.loop-at.sums c.loop-at.at c.requires c.type_inv.words c.loop-at.invariant
 
-pub loop-word-preserved : goal.loop-word-preserved
-loop-word-preserved c =
-    let more = bit_count-more c.args.words.now c.loop-word.word-index c.loop-word-test.true in
-    omega (arith, more, c.from-count.ensures, c.loop-word.invariant)
+pub loop-at-preserved : goal.loop-at-preserved
+loop-at-preserved c = next_are_sums c.args.words.now c.loop-at.sums c.loop-at.at c.requires c.type_inv.words c.loop-at.invariant (omega (arith, c.loop-at-test.true, c.loop-at.invariant.within))
+
+pub overflow_add-result : goal.overflow_add-result
+overflow_add-result c = last_fits c.args.words.now c.loop-at.sums c.loop-at.at c.requires c.type_inv.words c.loop-at.invariant
+
+pub overflow_add-result-2 : goal.overflow_add-result-2
+overflow_add-result-2 c = whole_fits c.args.words.now c.loop-at.sums c.loop-at.at c.requires c.type_inv.words c.loop-at.invariant c.count_each.result c.count_each.ensures
+
+pub returns : goal.returns
+returns c = whole_count c.args.words.now c.loop-at.sums c.loop-at.at c.requires c.type_inv.words c.loop-at.invariant c.count_each.result c.count_each.ensures

@@ -1,0 +1,6 @@
+use Rattle.std.proofs.Common.{◌≡◌, take}
+use Rattle.sedck_search.specs.Rows.{bit_count}
+use Rattle.sedck_search.proofs.rows.count_each.Given as goal
+
+abbrev pub invariant-loop-word : goal.invariant-loop-word
+invariant-loop-word l = l.count ≡ bit_count (take l.word-index l.words)
