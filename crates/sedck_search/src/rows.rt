@@ -128,3 +128,6 @@ impl Row {
         count_bits(&self.words)
     }
 }
+
+#[cfg(test)]
+mod tests;
