@@ -6,7 +6,7 @@ ghost use Rattle.sedck_search.specs.Rows.{bit_count, has, IsRow, IsEmpty, HasCha
 use std::marker::Model;
 use std::simd::prelude::*;
 
-/// How many words are counted at once.
+/// How many words are counted at once, each in its lane.
 const LANES: usize = 8;
 
 /// The number of bits that are set in the words.
@@ -23,7 +23,7 @@ pub fn count_bits(words: &[u64]) -> u64
     sums.strict_reduce_sum() + count_each(&words[at..])
 }
 
-/// The same, word by word.
+/// The number of bits that are set in the words, one word after another.
 fn count_each(words: &[u64]) -> u64
     requires { length words.now ≤ 65536 }
     ensures { result ≡ bit_count words.now }
@@ -82,6 +82,7 @@ impl Row {
         (words[node / 64] >> (node % 64)) & 1 == 1
     }
 
+    /// Puts the node into the set.
     pub(crate) fn insert(&mut self, node: usize)
         requires { node < 8192 }
         ensures changed { HasChanged self.old self.new node true }
@@ -90,6 +91,7 @@ impl Row {
         self.words[node / 64] |= 1 << (node % 64);
     }
 
+    /// Takes the node out of the set.
     pub(crate) fn remove(&mut self, node: usize)
         requires { node < 8192 }
         ensures changed { HasChanged self.old self.new node false }
