@@ -91,7 +91,7 @@ leaves_inside : (p : Program) (e : Edge) (o : Option Command) → slice_get p.co
 leaves_inside p e None is h = omega (arith, h.0)
 leaves_inside p e (Some c) is h = omega (arith, slice_get_within p.commands e.from.at c is)
 
-flag_below : (flag : Bool) → (if flag then 1 else 0) ≤ 1
+pub flag_below : (flag : Bool) → (if flag then 1 else 0) ≤ 1
 flag_below true = omega arith
 flag_below false = omega arith
 

@@ -113,7 +113,7 @@ flag-index false false a b e = (omega arith, refl)
 flag-index true false a b e = absurd (omega arith)
 flag-index false true a b e = absurd (omega arith)
 
-node_same : (m n : Node) → node_index m ≡ node_index n → m ≡ n
+pub node_same : (m n : Node) → node_index m ≡ node_index n → m ≡ n
 node_same m n e = node_by (flag-index m.flag n.flag m.at n.at e)
   where
     node_by : (m.at ≡ n.at) × (m.flag ≡ n.flag) → m ≡ n

@@ -1,6 +1,15 @@
-//! The search for a certificate of a script.
-//!
-//! `rows` has sets of nodes, one bit a node.
+//! The search for ranks, or for a loop that rules them out.
 #![tactic(auto)]
 
+mod along;
+mod answer;
+mod counting;
+pub mod laws;
 pub mod rows;
+mod searching;
+mod spreading;
+mod walking;
+mod ways;
+
+pub use answer::{Form, Found, Walk};
+pub use searching::search;

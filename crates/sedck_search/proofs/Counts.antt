@@ -1,0 +1,95 @@
+-- What the counts of two nodes say of the paths between them.
+use Rattle.std.proofs.Common.{◌≡◌, ◌⊎◌, ℕ, ◌<◌, ◌≤◌, true, List, length, sym, ◌∙◌, subst, inl, inr, arith}
+use Rattle.std.specs.Prelude.{Some, slice_get, set}
+use Rattle.std.proofs.lemmas.Bool.{cases_eq}
+use Rattle.std.proofs.lemmas.List.{length-set}
+use Rattle.std.proofs.lemmas.Option.{slice_get_within}
+use Rattle.sedck_script.specs.Program.{Program}
+use Rattle.sedck_flow.specs.Flow.{node_index}
+use Rattle.sedck_flow.specs.declared.graph.Node.{Node}
+use Rattle.sedck_search.specs.Rows.{has}
+use Rattle.sedck_search.specs.Reaching.{Reaches, IsIn, IsReachCount, HasCount, HasNoCount, IsUncounted, ArePartlyCounted, IsLast}
+use Rattle.sedck_search.specs.Obstacle.{IsReachable}
+use Rattle.sedck_search.specs.declared.along.Along.{Along}
+use Rattle.sedck_search.proofs.RowSets.{fewer_or_same, same_nodes}
+use Rattle.sedck_flow.proofs.FoundLemmas.{node_same}
+use Rattle.sedck_search.proofs.GoneOver.{set_same, set_other}
+use Rattle.sedck_search.proofs.Paths.{node_at, reaches_self, reaches-trans, closed_reaches}
+
+-- rows are compared node by node
+pub nodes_within : (a b : List ℕ) → ((m : Node) → IsIn a m → IsIn b m) → (i : ℕ) → has a i ≡ true → has b i ≡ true
+nodes_within a b h i x = let n = node_at i in subst (λ k. has b k ≡ true) n.1 (h n.0 (subst (λ k. has a k ≡ true) (sym n.1) x))
+
+module _ (p : Program) (along : Along) where
+  reach_within : (n m : Node) {a b : ℕ} (x : IsReachCount p along n a) (y : IsReachCount p along m b) → Reaches p along n m → (i : ℕ) → has y.row i ≡ true → has x.row i ≡ true
+  reach_within n m x y r = nodes_within y.row x.row (λ k h. (x.reach.same k).1 (reaches-trans p along n m k r ((y.reach.same k).0 h)))
+
+  -- a node reaches at least as many as each that it reaches
+  pub count_falls : (n m : Node) (a b : ℕ) → IsReachCount p along n a → IsReachCount p along m b → Reaches p along n m → b ≤ a
+  count_falls n m a b x y r =
+      omega (arith, fewer_or_same y.row x.row y.reach.is_row x.reach.is_row (reach_within n m x y r), x.counts, y.counts)
+
+  -- where it reaches as many, it is reached from there
+  pub same_count : (n m : Node) (a b : ℕ) → IsReachCount p along n a → IsReachCount p along m b → Reaches p along n m → a ≡ b → Reaches p along m n
+  same_count n m a b x y r same =
+      (y.reach.same n).0 (same_nodes y.row x.row y.reach.is_row x.reach.is_row (reach_within n m x y r) (y.counts ∙ sym same ∙ sym x.counts) (node_index n) ((x.reach.same n).1 (reaches_self p along n)))
+
+  -- ---- The row of the last counted node
+
+  -- a closed row with a node has all that it reaches; with as many nodes as those it has no other
+  pub last_reached : (row : List ℕ) (count : ℕ) → IsLast p along row count → (n m : Node) → Reaches p along n m → IsIn row m → IsReachCount p along m count → (k : Node) → IsIn row k → Reaches p along n k
+  last_reached row count last n m r has_m x k has_k =
+      let within : (i : ℕ) → has x.row i ≡ true → has row i ≡ true = nodes_within x.row row (λ j h. let to : Reaches p along m j = (x.reach.same j).0 h in closed_reaches p along row last.closed to.0 m j to.1 to.2 has_m) in
+      reaches-trans p along n m k r ((x.reach.same k).0 (same_nodes x.row row x.reach.is_row last.is_row within (x.counts ∙ sym last.counts) (node_index k) has_k))
+
+  -- a closed row with the node, of nodes that it reaches, is all that it reaches
+  pub last_counts : (row : List ℕ) (count : ℕ) → IsLast p along row count → (n : Node) → IsIn row n → ((m : Node) → IsIn row m → Reaches p along n m) → IsReachCount p along n count
+  last_counts row count last n has_n reached = record {
+    row = row;
+    reach = record { is_row = last.is_row; same = λ m. (reached m, λ to. closed_reaches p along row last.closed to.0 n m to.1 to.2 has_n) };
+    counts = last.counts;
+  }
+
+  -- ---- Nodes that are counted
+
+  some_inj : {x y : ℕ} → Some x ≡ Some y → x ≡ y
+  some_inj e = cc
+
+  -- a number that is no mark is the count
+  pub counted_at : (counts : List ℕ) → ArePartlyCounted p along counts → (n : Node) → n.at ≤ length p.commands → (count : ℕ) → slice_get counts (node_index n) ≡ Some count → 0 < count → count < 65535 → IsReachCount p along n count
+  counted_at counts partly n inside count is positive within =
+      elim (partly.each n inside) [
+        | inl (reached, inl counted) ↦ subst (IsReachCount p along n) (some_inj (sym counted.at ∙ is)) counted.is_count
+        | inl (reached, inr marked) ↦ absurd (omega (arith, within, some_inj (sym marked ∙ is)))
+        | inr none ↦ absurd (omega (arith, positive, some_inj (sym none.1 ∙ is)))
+      ]
+
+  -- one node more is counted
+  pub counted_set : (counts : List ℕ) → ArePartlyCounted p along counts → (n : Node) → n.at ≤ length p.commands → (count : ℕ) → IsReachCount p along n count → 0 < count → count ≤ 8192 → slice_get counts (node_index n) ≡ Some 65535
+      → ArePartlyCounted p along (set counts (node_index n) count)
+  counted_set counts partly n inside count is_count positive within marked = record {
+    long = length-set counts (node_index n) count ∙ partly.long;
+    each = λ m m_inside. elim (cases_eq (node_index m) (node_index n)) [
+      | inl same ↦ subst (λ k. (IsReachable p k × (HasCount p along (set counts (node_index n) count) k ⊎ IsUncounted (set counts (node_index n) count) k)) ⊎ HasNoCount p (set counts (node_index n) count) k) (sym (node_same m n same)) (inl (
+        reachable (partly.each n inside),
+        inl record {
+          count = count;
+          at = set_same counts (node_index n) count (slice_get_within counts (node_index n) 65535 marked);
+          positive = positive;
+          within = within;
+          is_count = is_count;
+        },
+      ))
+      | inr other ↦ as_before m (set_other counts (node_index n) (node_index m) count other) (partly.each m m_inside)
+    ];
+  }
+    where
+      reachable : (IsReachable p n × (HasCount p along counts n ⊎ IsUncounted counts n)) ⊎ HasNoCount p counts n → IsReachable p n
+      reachable (inl (is, _)) = is
+      reachable (inr none) = absurd (omega (arith, some_inj (sym none.1 ∙ marked)))
+
+      as_before : (m : Node) → slice_get (set counts (node_index n) count) (node_index m) ≡ slice_get counts (node_index m) → (IsReachable p m × (HasCount p along counts m ⊎ IsUncounted counts m)) ⊎ HasNoCount p counts m
+          → (IsReachable p m × (HasCount p along (set counts (node_index n) count) m ⊎ IsUncounted (set counts (node_index n) count) m)) ⊎ HasNoCount p (set counts (node_index n) count) m
+      as_before m same (inl (is, inl h)) = inl (is, inl record { count = h.count; at = same ∙ h.at; positive = h.positive; within = h.within; is_count = h.is_count })
+      as_before m same (inl (is, inr h)) = inl (is, inr (same ∙ h))
+      as_before m same (inr (none, h)) = inr (none, same ∙ h)

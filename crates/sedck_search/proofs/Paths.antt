@@ -1,0 +1,71 @@
+-- Paths over followed edges, and rows that no followed edge leaves.
+use Rattle.std.proofs.Common.{◌≡◌, ℕ, zero, suc, ◌<◌, ◌≤◌, true, false, List, [], ◌∷◌, ◌++◌, length, refl, sym, subst, arith}
+use Rattle.sedck_script.specs.Invariant.{AreTargetsWithin, IsScript}
+use Rattle.sedck_script.specs.Program.{Program}
+use Rattle.sedck_flow.specs.Flow.{FlowFrom, node_index}
+use Rattle.sedck_flow.specs.declared.graph.Node.{Node}
+use Rattle.sedck_flow.specs.declared.graph.Edge.{Edge}
+use Rattle.sedck_flow.specs.declared.graph.Kind.{Kind}
+use Rattle.sedck_flow.proofs.Inside.{inside}
+use Rattle.sedck_cert.proofs.CheckingLemmas.{flag_below}
+use Rattle.sedck_search.specs.Obstacle.{IsPath}
+use Rattle.sedck_search.specs.Reaching.{IsFollowed, AreFollowed, Reaches, FollowedEdge, IsIn, IsClosed}
+use Rattle.sedck_search.specs.declared.along.Along.{Along}
+use Rattle.sedck_search.specs.declared.along.Along.TheVariants.{Every}
+
+-- ---- Nodes and their places among all nodes
+
+-- each number is the place of a node
+pub node_at : (i : ℕ) → (n : Node) × (node_index n ≡ i)
+node_at zero = (record { at = 0; flag = false }, refl)
+node_at (suc zero) = (record { at = 0; flag = true }, refl)
+node_at (suc (suc i)) = let n = node_at i in (record { at = suc n.0.at; flag = n.0.flag }, omega (arith, n.1))
+
+-- the nodes of a script have a place in each row
+pub index_below : (p : Program) → IsScript p → (n : Node) → n.at ≤ length p.commands → node_index n < 8192
+index_below p script n h = omega (arith, script.count, flag_below n.flag)
+
+-- ---- Paths
+
+-- every path is one of edges of every kind
+pub all_followed : (path : List (Kind × Node)) → AreFollowed Every path
+all_followed [] = tt
+all_followed (edge ∷ path) = (tt, all_followed path)
+
+module _ (p : Program) where
+  pub path-append : (from mid to : Node) (a b : List (Kind × Node)) → IsPath p from a mid → IsPath p mid b to → IsPath p from (a ++ b) to
+  path-append from mid to [] b is h = subst (λ n. IsPath p n b to) (sym is) h
+  path-append from mid to (edge ∷ a) b h k = (h.0, path-append edge.1 mid to a b h.1 k)
+
+  -- a path from a node of the script leads to one of the script
+  pub path_inside : AreTargetsWithin p → (path : List (Kind × Node)) (n m : Node) → IsPath p n path m → n.at ≤ length p.commands → m.at ≤ length p.commands
+  path_inside targets [] n m is h = subst (λ (x : Node). x.at ≤ length p.commands) is h
+  path_inside targets (edge ∷ path) n m is h =
+      path_inside targets path edge.1 m is.1 (inside p targets (record { from = n; to = edge.1; kind = edge.0 }) is.0).1
+
+  module _ (along : Along) where
+    pub followed-append : (a b : List (Kind × Node)) → AreFollowed along a → AreFollowed along b → AreFollowed along (a ++ b)
+    followed-append [] b h k = k
+    followed-append (edge ∷ a) b h k = (h.0, followed-append a b h.1 k)
+
+    pub reaches_self : (n : Node) → Reaches p along n n
+    reaches_self n = ([], refl, tt)
+
+    pub reaches-trans : (a b c : Node) → Reaches p along a b → Reaches p along b c → Reaches p along a c
+    reaches-trans a b c h k = (h.0 ++ k.0, path-append a b c h.0 k.0 h.1 k.1, followed-append h.0 k.0 h.2 k.2)
+
+    pub reaches_edge : (e : Edge) → FollowedEdge p along e → Reaches p along e.from e.to
+    reaches_edge e h = ((e.kind, e.to) ∷ [], (h.0, refl), (h.1, tt))
+
+    -- by an edge that leaves it
+    pub reaches_from : (n : Node) (e : Edge) → FlowFrom p n e → IsFollowed along e.kind → Reaches p along n e.to
+    reaches_from n e flow followed = subst (λ m. Reaches p along m e.to) flow.1 (reaches_edge e (flow.0, followed))
+
+    -- what a node of a closed row reaches is in the row
+    pub closed_reaches : (row : List ℕ) → IsClosed p along row → (path : List (Kind × Node)) (n m : Node) → IsPath p n path m → AreFollowed along path → IsIn row n → IsIn row m
+    closed_reaches row closed [] n m is followed h = subst (IsIn row) is h
+    closed_reaches row closed (edge ∷ path) n m is followed h =
+        closed_reaches row closed path edge.1 m is.1 followed.1 (closed (record { from = n; to = edge.1; kind = edge.0 }) (is.0, followed.0) h)
+
+    pub reaches_inside : AreTargetsWithin p → (n m : Node) → Reaches p along n m → n.at ≤ length p.commands → m.at ≤ length p.commands
+    reaches_inside targets n m h k = path_inside targets h.0 n m h.1 k

@@ -1,0 +1,23 @@
+use Rattle.std.proofs.Common.{◌≡◌, true, sym, ap, ◌∙◌, subst, arith}
+use Rattle.sedck_flow.specs.Flow.{node_index}
+use Rattle.sedck_search.specs.Rows.{has, HasChanged}
+use Rattle.sedck_search.proofs.Meeting.{met_new, frontier_new}
+use Rattle.sedck_search.proofs.spreading.meet.Goals as goal
+
+-- the node wasn't in the row, and is put into both
+pub returns-clause-spread : goal.returns-clause-spread
+returns-clause-spread c =
+    let is : c.index_of-index.result ≡ node_index c.args.node = c.index_of-index.ensures in
+    met_new c.args.node c.args.row.now c.args.waiting.now c.insert.new.self c.insert-2.new.self c.requires.frontier c.insert.ensures.row c.insert-2.ensures.row
+    (ap (has c.args.row.now) (sym is) ∙ sym c.if-has.ensures.value)
+    (subst (λ i. HasChanged c.args.row.now c.insert.new.self i true) is c.insert.ensures.changed)
+    (subst (λ i. HasChanged c.args.waiting.now c.insert-2.new.self i true) is c.insert-2.ensures.changed)
+    c.args.first c.min.result (omega (arith, c.min.ensures)) (omega (arith, c.min.ensures, is))
+
+pub returns-clause-frontier : goal.returns-clause-frontier
+returns-clause-frontier c =
+    let is : c.index_of-index.result ≡ node_index c.args.node = c.index_of-index.ensures in
+    frontier_new c.args.node c.args.row.now c.args.waiting.now c.insert.new.self c.insert-2.new.self c.requires.frontier c.insert.ensures.row c.insert-2.ensures.row
+    (ap (has c.args.row.now) (sym is) ∙ sym c.if-has.ensures.value)
+    (subst (λ i. HasChanged c.args.row.now c.insert.new.self i true) is c.insert.ensures.changed)
+    (subst (λ i. HasChanged c.args.waiting.now c.insert-2.new.self i true) is c.insert-2.ensures.changed)

@@ -1,0 +1,49 @@
+use Rattle.std.proofs.Common.{◌≡◌, ◌<◌, ◌≤◌, ℕ, length, suc, get_or, sym, ◌∙◌, arith, inl, inr, refl}
+use Rattle.std.proofs.lemmas.Bool.{true≢false, cases_lt}
+use Rattle.sedck_search.specs.Ways.{HasWay}
+use Rattle.sedck_search.proofs.GoneOver.{gone_next, gone_over_more, edge_coming, target_coming, place_in, entry_is, entry_of}
+use Rattle.sedck_search.proofs.ways.way_on.Goals as goal
+
+pub bounds-ways-index_of : goal.bounds-ways-index_of
+bounds-ways-index_of c =
+    let p = c.args.script.now in
+    let gone = gone_next p c.args.node c.loop-edge.yielded c.loop-edge.edge-iterator c.next.new.self c.in-Some.edge c.in-Some.ensures.steps c.loop-edge.invariant.edges in
+    omega (arith, c.index_of.ensures, place_in p c.args.ways.now c.requires.long c.in-Some.edge.to (target_coming p c.args.node c.requires.script c.loop-edge.yielded c.next.new.self c.in-Some.edge gone))
+
+pub loop-edge-preserved-then-follows : goal.loop-edge-preserved-then-follows
+loop-edge-preserved-then-follows c =
+    let p = c.args.script.now in
+    let e = c.in-Some.edge in
+    let ways = c.args.ways.now in
+    let gone = gone_next p c.args.node c.loop-edge.yielded c.loop-edge.edge-iterator c.next.new.self e c.in-Some.ensures.steps c.loop-edge.invariant.edges in
+    let flow = edge_coming p c.args.node c.loop-edge.yielded c.next.new.self e gone in
+    let below : c.index_of.result < length ways = omega (arith, c.index_of.ensures, place_in p ways c.requires.long e.to (target_coming p c.args.node c.requires.script c.loop-edge.yielded c.next.new.self e gone)) in
+    let way : ℕ = get_or ways c.index_of.result 0 in
+    let has : HasWay ways e.to way = entry_is ways e.to c.index_of.result way c.index_of.ensures below refl in
+    let less : c.min-least.result ≤ c.loop-edge.least = omega (arith, c.min-least.ensures) in
+    let at : c.min-least.result ≤ suc way = omega (arith, c.min-least.ensures, c.saturating_add.ensures) in
+    record {
+      edges = gone_over_more p c.args.node c.loop-edge.yielded c.next.new.self e gone
+          (λ f held followed after h. omega (arith, held followed after h, less))
+          (λ followed after h. omega (arith, at, entry_of ways e.to c.index_of.result after c.index_of.ensures h));
+      some = λ small. elim (cases_lt (suc way) c.loop-edge.least) [
+        | inl shorter ↦ (
+          way,
+          omega (arith, small, shorter, c.min-least.ensures, c.saturating_add.ensures),
+          record { edge = e; followed = (flow.0, c.follows.ensures.0 c.if-follows.true); leaves = flow.1; way = way; has_way = has; nearer = omega arith },
+        )
+        | inr longer ↦
+            let same : c.min-least.result ≡ c.loop-edge.least = omega (arith, small, longer, c.min-least.ensures, c.saturating_add.ensures) in
+            let old = c.loop-edge.invariant.some (omega (arith, small, same)) in
+            (old.0, same ∙ old.1, old.2)
+      ];
+    }
+
+pub loop-edge-preserved : goal.loop-edge-preserved
+loop-edge-preserved c =
+    let p = c.args.script.now in
+    let gone = gone_next p c.args.node c.loop-edge.yielded c.loop-edge.edge-iterator c.next.new.self c.in-Some.edge c.in-Some.ensures.steps c.loop-edge.invariant.edges in
+    record {
+      edges = gone_over_more p c.args.node c.loop-edge.yielded c.next.new.self c.in-Some.edge gone (λ f held. held) (λ followed after h. absurd (true≢false (sym (c.follows.ensures.1 followed) ∙ c.if-follows.false)));
+      some = c.loop-edge.invariant.some;
+    }

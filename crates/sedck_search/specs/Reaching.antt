@@ -1,0 +1,83 @@
+-- Which nodes can be reached over which edges, and how many they are.
+use Rattle.std.specs.Prelude.{◌≡◌, ◌≢◌, ◌↔◌, ◌⊎◌, ℕ, ◌+◌, ◌*◌, ◌<◌, ◌≤◌, true, List, [], ◌∷◌, Some, slice_get, length}
+use Rattle.sedck_script.specs.Program.{Program}
+use Rattle.sedck_flow.specs.Flow.{Flow, node_index}
+use Rattle.sedck_flow.specs.declared.graph.Node.{Node}
+use Rattle.sedck_flow.specs.declared.graph.Edge.{Edge}
+use Rattle.sedck_flow.specs.declared.graph.Kind.{Kind}
+use Rattle.sedck_flow.specs.declared.graph.Kind.TheVariants.{Consume, Keep}
+use Rattle.sedck_search.specs.Obstacle.{IsPath, IsReachable}
+use Rattle.sedck_search.specs.Rows.{has, bit_count, IsRow}
+use Rattle.sedck_search.specs.declared.along.Along.{Along}
+use Rattle.sedck_search.specs.declared.along.Along.TheVariants.{Every, Unread, Kept}
+
+-- edges of which kinds are followed: of every kind, those on which no line is read, or those on which the pattern space is kept
+abbrev pub IsFollowed : Along → Kind → Type 0
+IsFollowed Every kind = Unit {0}
+IsFollowed Unread kind = kind ≢ Consume
+IsFollowed Kept kind = kind ≡ Keep
+
+abbrev pub AreFollowed : Along → List (Kind × Node) → Type 0
+AreFollowed along [] = Unit {0}
+AreFollowed along (edge ∷ more) = IsFollowed along edge.0 × AreFollowed along more
+
+-- some path over such edges leads from one node to the other; each node reaches itself
+abbrev pub Reaches : Program → Along → Node → Node → Type 0
+Reaches p along from to = (path : List (Kind × Node)) × IsPath p from path to × AreFollowed along path
+
+-- an edge of the graph that is followed
+abbrev pub FollowedEdge : Program → Along → Edge → Type 0
+FollowedEdge p along e = Flow p e × IsFollowed along e.kind
+
+-- a node is in the row
+abbrev pub IsIn : List ℕ → Node → Type 0
+IsIn row n = has row (node_index n) ≡ true
+
+-- no followed edge leads out of the row
+abbrev pub IsClosed : Program → Along → List ℕ → Type 0
+IsClosed p along row = (e : Edge) → FollowedEdge p along e → IsIn row e.from → IsIn row e.to
+
+-- the row has just the nodes that the node reaches
+pub record IsReachOf (p : Program) (along : Along) (n : Node) (row : List ℕ) : Type 0 where
+  pub is_row : IsRow row
+  pub same : (m : Node) → IsIn row m ↔ Reaches p along n m
+
+-- the node reaches so many nodes, itself among them
+pub record IsReachCount (p : Program) (along : Along) (n : Node) (count : ℕ) : Type 0 where
+  pub row : List ℕ
+  pub reach : IsReachOf p along n row
+  pub counts : bit_count row ≡ count
+
+-- ---- The counts of a script's nodes, by place and then flag
+
+-- the node has the count of what it reaches
+pub record HasCount (p : Program) (along : Along) (counts : List ℕ) (n : Node) : Type 0 where
+  pub count : ℕ
+  pub at : slice_get counts (node_index n) ≡ Some count
+  pub positive : 0 < count
+  pub within : count ≤ 8192
+  pub is_count : IsReachCount p along n count
+
+-- a node that no path from the first one leads to has no count
+abbrev pub HasNoCount : Program → List ℕ → Node → Type 0
+HasNoCount p counts n = (¬ IsReachable p n) × (slice_get counts (node_index n) ≡ Some 0)
+
+-- a node that is still to be counted has the greatest number as its mark
+abbrev pub IsUncounted : List ℕ → Node → Type 0
+IsUncounted counts n = slice_get counts (node_index n) ≡ Some 65535
+
+-- each node that can be reached has its count
+pub record AreCounted (p : Program) (along : Along) (counts : List ℕ) : Type 0 where
+  pub long : length counts ≡ 2 * (length p.commands + 1)
+  pub each : (n : Node) → n.at ≤ length p.commands → (IsReachable p n × HasCount p along counts n) ⊎ HasNoCount p counts n
+
+-- each has its count, or is still to be counted
+pub record ArePartlyCounted (p : Program) (along : Along) (counts : List ℕ) : Type 0 where
+  pub long : length counts ≡ 2 * (length p.commands + 1)
+  pub each : (n : Node) → n.at ≤ length p.commands → (IsReachable p n × (HasCount p along counts n ⊎ IsUncounted counts n)) ⊎ HasNoCount p counts n
+
+-- a row of all that some node reaches, or of none, and its size
+pub record IsLast (p : Program) (along : Along) (row : List ℕ) (count : ℕ) : Type 0 where
+  pub is_row : IsRow row
+  pub closed : IsClosed p along row
+  pub counts : bit_count row ≡ count

@@ -1,0 +1,96 @@
+//! The search.
+
+ghost use Rattle.std.specs.Prelude.{◌≡◌, IfOk, length, map};
+ghost use Rattle.sedck_cert.specs.Ranked.{Accepts};
+ghost use Rattle.sedck_cert.specs.View.{names_of};
+ghost use Rattle.sedck_search.specs.Found.{IsFound};
+ghost use Rattle.sedck_search.specs.Reaching.{AreCounted};
+ghost use Rattle.sedck_search.specs.Closing.{Closes};
+ghost use Rattle.sedck_search.specs.Ranking.{ranks_from};
+ghost use Rattle.sedck_flow.specs.declared.graph.Edge.{Edge};
+ghost use Rattle.sedck_flow.specs.declared.graph.Kind.TheVariants.{Keep, Grow};
+ghost use Rattle.sedck_search.specs.declared.along.Along.TheVariants.{Kept, Unread};
+
+use crate::along::Along;
+use crate::answer::{Form, Found};
+use crate::counting::counts_of;
+use crate::walking::{first_closing, loop_from};
+use sedck_cert::Cert;
+use sedck_flow::Kind;
+use sedck_script::Script;
+use std::alloc::{AllocError, Global};
+
+/// Searches for ranks. Where a loop rules them out, it answers the loop: an idle one where there is one, and else a growing one.
+///
+/// Only nodes that the first one reaches are looked at. The first rank of a node is the number of nodes that it reaches
+/// without reading a line, the second the number of those that it reaches while the pattern space is kept, itself among them each time.
+pub fn search(alloc: Global, script: &Script) -> Result<Found, AllocError>
+    ensures { IfOk result (IsFound script.now) }
+{
+    let seconds = counts_of(alloc, script, Along::Kept)?;
+    if let Some(edge) = first_closing(script, Kind::Keep, &seconds) {
+        return Ok(Found::Loop(loop_from(alloc, script, Form::Idle, edge)?));
+    }
+    let firsts = counts_of(alloc, script, Along::Unread)?;
+    if let Some(edge) = first_closing(script, Kind::Grow, &firsts) {
+        return Ok(Found::Loop(loop_from(alloc, script, Form::Growing, edge)?));
+    }
+    Ok(Found::Ranks(certificate(alloc, script, &firsts, &seconds)?))
+}
+
+/// The certificate with these counts as ranks.
+fn certificate(
+    alloc: Global,
+    script: &Script,
+    firsts: &[u16],
+    seconds: &[u16],
+) -> Result<Cert, AllocError>
+    requires firsts { AreCounted script.now Unread firsts.now }
+    requires seconds { AreCounted script.now Kept seconds.now }
+    requires idle { (e : Edge) → ¬ Closes script.now Keep seconds.now e }
+    requires growing { (e : Edge) → ¬ Closes script.now Grow firsts.now e }
+    ensures { IfOk result (λ cert. Accepts script.now cert) }
+{
+    let commands = script.commands().len() as u16;
+    let ranks = ranks_of(alloc, firsts, seconds)?;
+    let reads = names(alloc, script.reads())?;
+    let writes = names(alloc, script.writes())?;
+    match Cert::new(commands, ranks, reads, writes) {
+        Some(cert) => Ok(cert),
+        None => unreachable!(),
+    }
+}
+
+/// Two counts for each node that is counted.
+fn ranks_of(
+    alloc: Global,
+    firsts: &[u16],
+    seconds: &[u16],
+) -> Result<Vec<Option<(u16, u16)>>, AllocError>
+    requires { length firsts.now ≡ length seconds.now }
+    ensures { IfOk result (λ ranks. ranks.items ≡ ranks_from firsts.now seconds.now) }
+{
+    let mut ranks = Vec::new(alloc);
+    for index in 0..firsts.len() {
+        let first = firsts[index];
+        ranks.push(if first == 0 {
+            None
+        } else {
+            Some((first, seconds[index]))
+        })?;
+    }
+    Ok(ranks)
+}
+
+/// The names with memory of their own.
+fn names(alloc: Global, names: &[&[u8]]) -> Result<Vec<Vec<u8>>, AllocError>
+    ensures { IfOk result (λ copies. names_of copies.items ≡ map (λ name. name.now) names.now) }
+{
+    let mut copies = Vec::new(alloc);
+    for name in names {
+        let mut copy = Vec::new(alloc);
+        copy.extend_from_slice(name)?;
+        copies.push(copy)?;
+    }
+    Ok(copies)
+}
