@@ -7,7 +7,7 @@ use Rattle.sedck_script.specs.Items.{WrittenVerb, Known, Opening, Simple, VerbTe
 use Rattle.sedck_script.specs.Items as w
 use Rattle.sedck_script.specs.Faults.{verb_bytes}
 use Rattle.sedck_script.specs.Progress.{is_none, is_two, takes}
-use Rattle.sedck_script.proofs.FirstOne.{heads}
+use Rattle.sedck_script.proofs.Heads.{heads}
 use Rattle.sedck_script.proofs.Tails.{verb_takes}
 
 pub record IsVerbByte (b : ℕ) (v : WrittenVerb) : Type 0 where
@@ -74,13 +74,6 @@ byte_of e (w.read h n) = along (sym (heads e) ∙ heads h) (any_addresses 114 re
 byte_of e (w.write h n) = along (sym (heads e) ∙ heads h) (any_addresses 119 refl (λ a n. refl) (λ a n. tt) refl (λ e. cc e))
 byte_of e (w.substitute h d x y z g f) = along (sym (heads e) ∙ heads h) (any_addresses 115 refl (λ a n. refl) (λ a n. tt) refl (λ e. cc e))
 byte_of e (w.transliterate h d x y l f) = along (sym (heads e) ∙ heads h) (any_addresses 121 refl (λ a n. refl) (λ a n. tt) refl (λ e. cc e))
-
--- a verb begins with a byte
-pub no_verb_at_end : {text rest : List ℕ} {v : WrittenVerb} → text ≡ [] → VerbText text v rest → ⊥
-no_verb_at_end e x = let t = verb_takes x in empty (sym e ∙ t.2)
-  where
-    empty : {b : ℕ} {s : List ℕ} → [] ≡ b ∷ s → ⊥
-    empty h = cc h
 
 pub same_byte : {a b : ℕ} {o : Option ℕ} → o ≡ Some a → o ≡ Some b → a ≡ b
 same_byte e f = some_same (sym e ∙ f)

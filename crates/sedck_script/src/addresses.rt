@@ -10,10 +10,9 @@ ghost use Rattle.sedck_script.specs.Reading.{EndsIn};
 ghost use Rattle.sedck_script.specs.AddressReading.{begins_place, IsEmptyAt, ContextText, CustomText, BeginsPlace, BeginsNoPlace, IsOnlyAddress, IsNoCommand};
 ghost use Rattle.sedck_script.specs.View as view;
 
-use crate::bytes::{is_delimiter, is_digit};
+use crate::bytes::{is_delimiter, is_digit, split_blanks};
 use crate::delimited::pattern;
 use crate::fault::ScriptFault;
-use crate::first::split_blanks;
 use crate::numbers::number;
 use crate::script::{Address, Pattern, Place};
 use std::alloc::Global;

@@ -17,12 +17,14 @@ ghost use Rattle.sedck_script.specs.View.{address_of};
 use crate::addresses::address_at;
 use crate::bytes::marks_len;
 use crate::fault::ScriptFault;
-use crate::first::COMMAND_LIMIT;
 use crate::script::{Address, Pattern, Verb};
 use crate::verbs::{Written, verb_at};
 use crate::written::WrittenCommand;
 use indexmap::IndexMap;
 use std::alloc::Global;
+
+/// How many commands a script may have.
+const COMMAND_LIMIT: usize = 4095;
 
 /// How many blocks may be open.
 const DEPTH_LIMIT: usize = 64;

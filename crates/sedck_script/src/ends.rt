@@ -5,9 +5,8 @@ ghost use Rattle.sedck_script.specs.Parts.{Ends};
 ghost use Rattle.sedck_script.specs.Faults.{IsPlaced, verb_bytes};
 ghost use Rattle.sedck_script.specs.Reading.{EndsIn};
 
-use crate::bytes::is_ending;
+use crate::bytes::{is_ending, split_blanks};
 use crate::fault::ScriptFault;
-use crate::first::split_blanks;
 
 /// The rest of the text from the end of a command on.
 pub fn end_of_command<'a>(whole: &[u8], text: &'a [u8]) -> Result<&'a [u8], ScriptFault>

@@ -12,7 +12,7 @@ use crate::bytes::separators_len;
 use crate::commands::command_at;
 use crate::ends::end_of_command;
 use crate::fault::ScriptFault;
-use crate::first::add_label;
+use crate::label_places::add_label;
 use crate::names::split_line;
 use crate::verbs::Written;
 use crate::written::WrittenItem;

@@ -1,17 +1,23 @@
 //! Labels behind `:`, `b` and `t`.
 
 ghost use Rattle.std.specs.Prelude.{◌≡◌, ◌≤◌, ◌<◌, ℕ, List, Option, length, option_copied, IfOk, IfErr, OnOk};
-ghost use Rattle.sedck_script.specs.Cuts.{is_blank, is_ending, Longest};
+ghost use Rattle.sedck_script.specs.Cuts.{is_blank, is_ending, is_label_byte, Longest};
 ghost use Rattle.sedck_script.specs.Parts.{Ends, LabelText};
 ghost use Rattle.sedck_script.specs.Items.{IsNoComment, IsNoBrace};
 ghost use Rattle.sedck_script.specs.Faults.{IsPlaced, verb_bytes};
 ghost use Rattle.sedck_script.specs.Reading.{EndsIn, IsLabelAt};
 ghost use Rattle.sedck_script.specs.LabelReading.{BranchText};
 
-use crate::bytes::{is_ending, is_spacing};
+use crate::bytes::{is_ending, is_spacing, label_len, split_blanks};
 use crate::ends::end_of_command;
 use crate::fault::ScriptFault;
-use crate::first::{split_blanks, split_label};
+
+/// The bytes of a label at the front, and what stands behind them.
+fn split_label(text: &[u8]) -> (&[u8], &[u8])
+    ensures { Longest is_label_byte text.now result.0.now result.1.now }
+{
+    text.split_at(label_len(text))
+}
 
 /// The bytes of a label behind blanks, their place, and what stands behind them. There may be none.
 fn label_parts<'a>(whole: &[u8], text: &'a [u8]) -> (&'a [u8], usize, &'a [u8])

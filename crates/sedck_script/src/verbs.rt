@@ -9,9 +9,10 @@ ghost use Rattle.sedck_script.specs.Reading.{EndsIn};
 ghost use Rattle.sedck_script.specs.View.{verb_of};
 ghost use Rattle.sedck_script.specs.VerbReading.{written_verb, IsWrittenWithin, DefinesKnown};
 
+use crate::bytes::split_blanks;
 use crate::ends::end_of_command;
 use crate::fault::ScriptFault;
-use crate::first::{place_of, split_blanks};
+use crate::label_places::place_of;
 use crate::labels::{branch_label, defined_label};
 use crate::names::name;
 use crate::script::Verb;

@@ -1,5 +1,5 @@
 use Rattle.std.proofs.Common.{◌∙◌, sym}
-use Rattle.sedck_script.proofs.FirstReading.{if_err_always}
+use Rattle.sedck_script.proofs.Outcomes.{if_err_always}
 use Rattle.sedck_script.proofs.FlagLemmas.{no_flag, no_file, no_number, no_flags_end}
 use Rattle.sedck_script.proofs.flags.flag_at.Goals as goal
 

@@ -6,7 +6,7 @@ use Rattle.sedck_script.specs.View.{address_of}
 use Rattle.sedck_script.specs.VerbReading.{written_verb, DefinesKnown}
 use Rattle.sedck_script.specs.ItemReading.{item_of, commands_among, IsItemWithin}
 use Rattle.sedck_script.specs.Progress.{IsBeyond, NotesLabel, patterns_of, item_patterns}
-use Rattle.sedck_script.proofs.FirstWhole.{if_err_from}
+use Rattle.sedck_script.proofs.Outcomes.{if_err_from}
 use Rattle.sedck_script.proofs.Tails.{tail_length}
 use Rattle.sedck_script.proofs.ProgressLemmas.{front_refused, front_command, command_shorter, brace_stands}
 use Rattle.sedck_script.proofs.StateLemmas.{among_append, patterns_push, labels_noted, blocks_noted}

@@ -3,7 +3,7 @@ use Rattle.std.specs.Prelude.{All, Any}
 use Rattle.std.proofs.lemmas.Bool.{both_ways}
 use Rattle.sedck_script.specs.Faults.{verb_bytes, IsPlaced}
 use Rattle.sedck_script.specs.ItemReading.{item_of, item_label, IsLostLabel, IsItemWithin}
-use Rattle.sedck_script.proofs.FirstWhole.{if_err_from}
+use Rattle.sedck_script.proofs.Outcomes.{if_err_from}
 use Rattle.sedck_script.proofs.ProgramLemmas.{no_program, no_target, no_expression, are_commands}
 use Rattle.sedck_script.specs.Program.{Pattern, expressions}
 use Rattle.sedck_script.specs.View.{command_of}

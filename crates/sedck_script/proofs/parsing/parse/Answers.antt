@@ -6,7 +6,7 @@ use Rattle.sedck_script.specs.Faults.{verb_bytes}
 use Rattle.sedck_script.specs.Spelling.{Spells}
 use Rattle.sedck_script.specs.declared.name_lists.Access.TheVariants.{Read, Write}
 use Rattle.sedck_script.proofs.Determined.{expressions_determined}
-use Rattle.sedck_script.proofs.FirstWhole.{if_err_from}
+use Rattle.sedck_script.proofs.Outcomes.{if_err_from}
 use Rattle.sedck_script.proofs.ItemsOne.{whole_one}
 use Rattle.sedck_script.proofs.SpelledScript.{spelled_script}
 use Rattle.sedck_script.proofs.parsing.parse.Goals as goal

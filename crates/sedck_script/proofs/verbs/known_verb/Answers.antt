@@ -3,7 +3,7 @@ use Rattle.std.proofs.lemmas.Option.{slice_get_within}
 use Rattle.sedck_bre.specs.Text.{is_in}
 use Rattle.sedck_script.specs.Items.{simple}
 use Rattle.sedck_script.specs.Faults.{verb_bytes}
-use Rattle.sedck_script.proofs.FirstReading.{if_err_each}
+use Rattle.sedck_script.proofs.Outcomes.{if_err_each}
 use Rattle.sedck_script.proofs.VerbCases.{unknown_byte, simple_no_end, same_byte}
 use Rattle.sedck_script.proofs.verbs.known_verb.Goals as goal
 
