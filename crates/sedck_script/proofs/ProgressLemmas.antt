@@ -221,7 +221,7 @@ brace_stands {whole} {rest = rest} place h c p e =
 -- ---- Progress
 
 -- the same is known where another rest is left
-pub progress_at : {text old new : List ℕ} {progress : Progress} → IsProgress text old progress → IsFront text (map item_of progress.items.items) (length progress.blocks.items) new → IsProgress text new progress
+pub progress_at : {text old new : List ℕ} {progress : Progress} → IsProgress text old progress → IsFront text (map item_of progress.items.items) (length progress.open_blocks.items) new → IsProgress text new progress
 progress_at p f = record { front = f; labels = p.labels; count = p.count; few = p.few; within = p.within; opened = p.opened; empty = p.empty }
 
 no_length : {X : Type 0} (xs : List X) → length xs ≡ 0 → xs ≡ []

@@ -68,7 +68,7 @@ fn check_verb(
     ensures allowed { OnOk result (AreAllowed (address_of address.now) negated depth count text.now) }
     ensures brace { OnOk result (IsNoBrace text.now) }
     ensures refused { IfErr result (λ fault. (verb : WrittenVerb) (rest : List ℕ) → VerbText text.now verb rest → Takes verb (address_of address.now) negated → IsBeyond depth count verb) }
-    ensures placed { IfErr result (λ fault. IsPlaced verb_bytes whole.now fault) }
+    ensures placed { IfErr result (λ fault. IsPlaced whole.now fault) }
 {
     let place = whole.len() - text.len();
     let Some((verb, _)) = text.split_first() else {
@@ -118,7 +118,7 @@ pub fn command_at<'a>(
     ensures within { IfOk result (λ x. IsWrittenWithin (length whole.now) x.0.verb) }
     ensures empty { IfOk result (λ x. IsEmptyAt (length whole.now) (address_patterns (address_of x.0.address) ++ written_patterns (written_verb x.0.verb)) x.1) }
     ensures refused { IfErr result (λ fault. fault ≢ ScriptFault.OutOfMemory → (given : clean.Address) (negated : Bool) (verb : WrittenVerb) (rest : List ℕ) → CommandText text.now given negated verb rest → DefinesKnown labels.now verb ⊎ IsBeyond depth count verb) }
-    ensures placed { IfErr result (λ fault. IsPlaced verb_bytes whole.now fault) }
+    ensures placed { IfErr result (λ fault. IsPlaced whole.now fault) }
 {
     let (address, empty, behind) = address_at(alloc, whole, text)?;
     let (marks, begins) = split_marks(behind);

@@ -5,7 +5,7 @@ ghost use Rattle.sedck_script.specs.Program.{Program};
 ghost use Rattle.sedck_script.specs.Spelling.{IsScriptText, AreCommands, Spells};
 ghost use Rattle.sedck_script.specs.Items.{Item, Items};
 ghost use Rattle.sedck_script.specs.View.{command_of};
-ghost use Rattle.sedck_script.specs.Faults.{IsPlaced, IsFirstZero, verb_bytes};
+ghost use Rattle.sedck_script.specs.Faults.{IsPlaced, IsFirstZero};
 
 use crate::expressions::{has_expression, is_quiet};
 use crate::fault::ScriptFault;
@@ -23,7 +23,7 @@ pub const TEXT_LIMIT: usize = 1_048_576;
 fn check_text(text: &[u8]) -> Result<(), ScriptFault>
     ensures allowed { OnOk result (IsScriptText text.now) }
     ensures refused { OnErr result (IsScriptText text.now → ⊥) }
-    ensures placed { IfErr result (λ fault. (verbs : List ℕ) → IsPlaced verbs text.now fault) }
+    ensures placed { IfErr result (λ fault. IsPlaced text.now fault) }
     ensures too_long { TEXT_LIMIT < length text.now → result ≡ Err (ScriptFault.TooLong TEXT_LIMIT) }
     ensures zero { (place : ℕ) → length text.now ≤ TEXT_LIMIT → IsFirstZero text.now place → result ≡ Err (ScriptFault.NulByte place) }
 {
@@ -40,13 +40,13 @@ fn check_text(text: &[u8]) -> Result<(), ScriptFault>
 fn commands<'a>(alloc: Global, text: &'a [u8]) -> Result<Vec<Command<'a>>, ScriptFault>
     ensures read { IfOk result (λ commands. (items : List Item) × Items text.now items × AreCommands items (map command_of commands.items)) }
     ensures refused { IfErr result (λ fault. fault ≢ ScriptFault.OutOfMemory → (other : Program) → Spells text.now other → ⊥) }
-    ensures placed { IfErr result (λ fault. IsPlaced verb_bytes text.now fault) }
+    ensures placed { IfErr result (λ fault. IsPlaced text.now fault) }
 {
     let Progress {
         items,
         count,
         labels,
-        blocks: _,
+        open_blocks: _,
         empty,
     } = items(alloc, text)?;
     check_targets(&items, &labels)?;
@@ -67,7 +67,7 @@ pub fn parse<'a>(alloc: Global, text: &'a [u8]) -> Result<Script<'a>, ScriptFaul
     ensures spelled { IfOk result (λ script. Spells text.now script) }
     ensures only { IfOk result (λ script. (other : Program) → Spells text.now other → other ≡ script) }
     ensures refused { IfErr result (λ fault. fault ≢ ScriptFault.OutOfMemory → (other : Program) → Spells text.now other → ⊥) }
-    ensures placed { IfErr result (λ fault. IsPlaced verb_bytes text.now fault) }
+    ensures placed { IfErr result (λ fault. IsPlaced text.now fault) }
     ensures too_long { TEXT_LIMIT < length text.now → result ≡ Err (ScriptFault.TooLong TEXT_LIMIT) }
     ensures zero { (place : ℕ) → length text.now ≤ TEXT_LIMIT → IsFirstZero text.now place → result ≡ Err (ScriptFault.NulByte place) }
 {
