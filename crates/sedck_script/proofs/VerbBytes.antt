@@ -1,7 +1,7 @@
 -- What the first byte of a verb says of it.
 use Rattle.std.proofs.Common.{◌≡◌, ◌≢◌, ℕ, Bool, true, false, not, ◌&&◌, eqb, List, [], ◌∷◌, Option, Some, refl, sym, ◌∙◌, subst, arith}
 use Rattle.std.proofs.lemmas.Bool.{false≢true, eq-eqb}
-use Rattle.sedck_bre.specs.Text.{is_in}
+use Rattle.sedck_bre.specs.Text.{is_in, one_of}
 use Rattle.sedck_script.specs.Program.{Address, NoAddress, One, Two, Verb}
 use Rattle.sedck_script.specs.Items.{WrittenVerb, Known, Opening, Simple, VerbText, Takes, IsNoBrace}
 use Rattle.sedck_script.specs.Items as w
@@ -79,3 +79,7 @@ same_byte e f = some_same (sym e ∙ f)
   where
     some_same : {x y : ℕ} → Some x ≡ Some y → x ≡ y
     some_same h = cc h
+
+-- a byte that takes not all addresses is one of four
+pub not_taken : (b : ℕ) (a : Address) (n : Bool) → takes b a n ≡ false → one_of "q:}#" b ≡ true
+not_taken b a n h = grind (arith, h)
