@@ -10,14 +10,12 @@ use Rattle.sedck_script.specs.AddressReading.{begins_place, is_mark, BeginsPlace
 use Rattle.sedck_script.proofs.Cuts.{longest_one}
 use Rattle.sedck_script.proofs.ItemsOne.{place_first, place_other, place_no_mark, no_verb_here, no_place_here, no_comma_here, longest_along, place_along, tails, place_one}
 use Rattle.sedck_script.specs.Reading.{EndsIn}
-use Rattle.sedck_script.proofs.FirstState.{tail_cut, tail_tail}
-use Rattle.sedck_script.proofs.FirstReading.{tail_behind}
-use Rattle.sedck_script.proofs.Tails.{tail_cons, number_tail, expression_tail}
+use Rattle.sedck_script.proofs.Tails.{tail_cut, tail_tail, tail_behind, tail_cons, number_tail, expression_tail}
+use Rattle.sedck_script.proofs.Outcomes.{if_some_at, if_none_at}
 use Rattle.std.specs.Prelude.{IfSome, IfNone}
 use Rattle.std.specs.Borrow.{Bor}
 use Rattle.sedck_script.specs.View.{place_of}
 use Rattle.sedck_script.specs.declared.script.Place.{Place as CodePlace}
-use Rattle.sedck_script.proofs.Outcomes.{if_some_at, if_none_at}
 use Rattle.sedck_script.proofs.Determined.{expressions_determined}
 
 one_place : {text r s : List ℕ} {q u : Place} → PlaceText text q r → PlaceText text u s → (q ≡ u) × (r ≡ s)

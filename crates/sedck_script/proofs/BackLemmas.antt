@@ -10,7 +10,7 @@ use Rattle.sedck_script.specs.Program.{Address, Command}
 use Rattle.sedck_script.specs.Items.{WrittenVerb, Known, BranchTo, TestTo, Opening, Item, Written, Closing}
 use Rattle.sedck_script.specs.Resolution.{Defines, LeadsTo, Resolves, done, known, branch, test, opening, closing}
 use Rattle.sedck_script.specs.Reading.{label_place, HasLabels}
-use Rattle.sedck_script.specs.ItemReading.{commands_among, verb_turn, Turned, Nests, IsKnownLabel, label_of, item_label, item_of, target_of, resolved_verb, Takes}
+use Rattle.sedck_script.specs.ItemReading.{commands_among, verb_turn, Turned, Nests, IsKnownLabel, label_of, item_label, item_of, target_of, resolved_verb, TakesTarget}
 use Rattle.sedck_script.specs.declared.written.WrittenItem.{WrittenItem}
 use Rattle.sedck_script.proofs.Nesting.{resolves_nests, resolves_length, nests_one, nests_behind, label_defined, plain_commands, plain_length, plain_label}
 
@@ -46,7 +46,7 @@ abbrev pub made_of : {S : Type 0} → HashMap (Bor (List ℕ)) ℕ S → ℕ →
 made_of labels end target a n v = record { address = a; negated = n; verb = resolved_verb labels end target v }
 
 step : {S : Type 0} (labels : HashMap (Bor (List ℕ)) ℕ S) (end place target depth : ℕ) (all made : List Command) (old new : List ℕ) (suffix : List Item) (a : Address) (n : Bool) (v : WrittenVerb)
-    → Knows labels end all → IsKnownLabel labels (label_of v) → Takes (verb_turn v) old new target → Turned (verb_turn v) (Nests suffix) depth
+    → Knows labels end all → IsKnownLabel labels (label_of v) → TakesTarget (verb_turn v) old new target → Turned (verb_turn v) (Nests suffix) depth
     → Resolves all (reverse old) (suc place) suffix made → Resolves all (reverse new) place (Written a n v ∷ suffix) (made_of labels end target a n v ∷ made)
 step labels end place target depth all made old new suffix a n (Known v) k l t d r = known (subst (λ b. Resolves all (reverse b) (suc place) suffix made) (sym t) r)
 step labels end place target depth all made old new suffix a n (BranchTo label) k l t d r = branch (leads labels end all label k l) (subst (λ b. Resolves all (reverse b) (suc place) suffix made) (sym t) r)
@@ -69,7 +69,7 @@ among_closing (Closing ∷ left) = among_closing left
 
 -- one more command
 pub back_command : {S : Type 0} {labels : HashMap (Bor (List ℕ)) ℕ S} {end : ℕ} {whole : List Item} {made : List Command} (old : List ℕ) (left : List Item) (a : Address) (n : Bool) (v : WrittenVerb) (target : ℕ) (new : List ℕ)
-    → Nests whole 0 → IsKnownLabel labels (label_of v) → Takes (verb_turn v) old new target
+    → Nests whole 0 → IsKnownLabel labels (label_of v) → TakesTarget (verb_turn v) old new target
     → IsBack labels end whole (left ++ Written a n v ∷ []) made (reverse old) → IsBack labels end whole left (made_of labels end target a n v ∷ made) (reverse new)
 back_command {labels = labels} {end = end} {whole = whole} {made = made} old left a n v target new nests l t b =
     let split : whole ≡ left ++ Written a n v ∷ b.suffix = b.split ∙ append_assoc left (Written a n v ∷ []) b.suffix in

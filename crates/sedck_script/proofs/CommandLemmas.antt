@@ -10,7 +10,7 @@ use Rattle.sedck_script.specs.Items.{WrittenVerb, VerbText, Takes, CommandText}
 use Rattle.sedck_script.specs.Reading.{EndsIn}
 use Rattle.sedck_script.specs.AddressReading.{is_mark, has_previous, IsEmptyAt, IsOnlyAddress}
 use Rattle.sedck_script.proofs.Cuts.{longest_one}
-use Rattle.sedck_script.proofs.FirstState.{tail_tail}
+use Rattle.sedck_script.proofs.Tails.{tail_tail}
 use Rattle.sedck_script.proofs.ItemsOne.{longest_along, verb_along}
 use Rattle.sedck_script.proofs.AddressOnly.{place_tail, second_tail}
 

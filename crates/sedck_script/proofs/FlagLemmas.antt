@@ -1,5 +1,5 @@
 -- How far the flags of a substitution have been read.
-use Rattle.std.proofs.Common.{◌≡◌, ◌≢◌, ℕ, ◌<◌, Bool, true, false, ◌||◌, List, [], ◌∷◌, length, Option, Some, None, is_some, refl, ap, sym, ◌∙◌, subst, length-append, arith}
+use Rattle.std.proofs.Common.{◌≡◌, ◌≢◌, ℕ, Bool, true, false, ◌||◌, List, ◌∷◌, Option, Some, None, is_some, refl, ap, sym, ◌∙◌, subst, arith}
 use Rattle.std.proofs.Math.Bool.{or-false}
 use Rattle.std.proofs.lemmas.Bool.{false≢true, both_ways, or_from}
 use Rattle.sedck_script.specs.Cuts.{is_blank, is_digit, is_ending}
@@ -7,10 +7,8 @@ use Rattle.sedck_script.specs.Program.{Pattern, Part, Substitution}
 use Rattle.sedck_script.specs.Parts.{Ends, Number, Name, Flags}
 use Rattle.sedck_script.specs.Parts as p
 use Rattle.sedck_script.specs.Reading.{EndsIn}
-use Rattle.sedck_script.proofs.Tails.{number_tail}
-use Rattle.sedck_script.proofs.FirstOne.{heads}
-use Rattle.sedck_script.proofs.FirstState.{tail_tail}
-use Rattle.sedck_script.proofs.FirstReading.{tail_behind}
+use Rattle.sedck_script.proofs.Tails.{number_tail, tail_tail, tail_behind}
+use Rattle.sedck_script.proofs.Heads.{heads}
 use Rattle.sedck_script.proofs.PartsOne.{no_end, ends_no_number, ends_first, number_no_byte, digit_no_end, number_one}
 
 -- no flag begins with this byte
@@ -57,10 +55,6 @@ no_end_inside f g h i n (p.number a x y) = number_no_byte refl i a
 pub no_flags_end : {q : Pattern} {ps : List Part} {b : ℕ} {text behind r : List ℕ} {s : Substitution} → text ≡ b ∷ behind → b ≢ 103 → b ≢ 112 → b ≢ 119 → is_digit b ≡ false → ((rest : List ℕ) → Ends text rest → ⊥) → Flags q ps text s r → ⊥
 no_flags_end {q} {ps} {r = r} {s = s} e f g h i n x = no_end_inside f g h i (λ rest a. n rest (subst (λ t. Ends t rest) (sym e) a)) (subst (λ t. Flags q ps t s r) e x)
 
-pub ends_nothing : (text : List ℕ) → length text ≡ 0 → Ends text text
-ends_nothing [] e = record { blanks = []; run = record { cut = refl; passes = refl; stops = tt }; ending = tt }
-ends_nothing (b ∷ text) e = absurd (omega arith)
-
 -- what has been seen may not stand among the others
 pub record Fits (global print : Bool) (nth : Option ℕ) (others : Substitution) : Type 0 where
   pub globals : global ≡ true → others.global ≡ false
@@ -80,9 +74,6 @@ pub record FlagsPassed (whole text : List ℕ) (global print : Bool) (nth : Opti
   pub tail : EndsIn whole rest
   pub sound : (q : Pattern) (ps : List Part) (others : Substitution) (r : List ℕ) → Flags q ps rest others r → Fits global print nth others → Flags q ps text (joined global print nth others) r
   pub only : (q : Pattern) (ps : List Part) (s : Substitution) (r : List ℕ) → Flags q ps text s r → (others : Substitution) × Flags q ps rest others r × Fits global print nth others
-
-pub flags_start : {whole text : List ℕ} → EndsIn whole text → FlagsPassed whole text false false None text
-flags_start h = record { tail = h; sound = λ q ps o r x f. x; only = λ q ps s r x. (s, x, record { globals = λ e. absurd (false≢true e); prints = λ e. absurd (false≢true e); numbers = λ n e. absurd (cc e) }) }
 
 -- the flags behind a `g`, a `p` or a number
 record BehindGlobal (q : Pattern) (ps : List Part) (behind r : List ℕ) (s : Substitution) : Type 0 where
@@ -216,9 +207,6 @@ nth_twice {nth = nth} h g a q ps s r x =
     let some = ap (λ t. t.nth) two.is in
     cc (none, some)
 
-pub flags_stuck : {whole text rest : List ℕ} {global print : Bool} {nth : Option ℕ} → FlagsPassed whole text global print nth rest → ((q : Pattern) (ps : List Part) (s : Substitution) (r : List ℕ) → Flags q ps rest s r → ⊥) → (q : Pattern) (ps : List Part) (s : Substitution) (r : List ℕ) → Flags q ps text s r → ⊥
-flags_stuck h n q ps s r x = let one = h.only q ps s r x in n q ps one.0 r one.1
-
 nth_none : (nth : Option ℕ) → joined_nth nth None ≡ nth
 nth_none (Some n) = refl
 nth_none None = refl
@@ -233,6 +221,3 @@ pub flags_file : {whole text rest behind after : List ℕ} {global print : Bool}
 flags_file {text = text} {after = after} {global = global} {print = print} {nth = nth} name h e m q ps =
     let x = h.sound q ps _ after (along (sym e) (p.file refl m)) (record { globals = λ g. refl; prints = λ g. refl; numbers = λ n g. refl }) in
     rw (or-false global, or-false print, nth_none nth) at x
-
-pub number_shorter : {text rest : List ℕ} {n : ℕ} → Number text n rest → length rest < length text
-number_shorter {rest = rest} a = omega (arith, ap length a.run.cut, length-append a.digits rest, a.some)

@@ -1,7 +1,7 @@
 -- Labels of branches, and what may stand behind a label.
-use Rattle.std.proofs.Common.{◌≡◌, ◌≢◌, ℕ, ◌<◌, ◌≤◌, true, not, eqb, List, [], ◌∷◌, ◌++◌, length, get_or, Option, Some, None, ap, sym, ◌∙◌, subst, length-append, arith}
+use Rattle.std.proofs.Common.{◌≡◌, ◌≢◌, ℕ, ◌<◌, ◌≤◌, true, not, eqb, List, [], ◌∷◌, ◌++◌, length, get_or, Option, Some, None, ap, sym, subst, arith}
 use Rattle.std.specs.List.{list_all}
-use Rattle.std.proofs.lemmas.Bool.{and_parts, both_ways, not_from_false, ne_eqb, not-true, eq-eqb}
+use Rattle.std.proofs.lemmas.Bool.{and_parts, not_from_false, ne_eqb}
 use Rattle.sedck_script.specs.Cuts.{is_blank, is_ending, is_label_byte, IsEmptyOr, Longest}
 use Rattle.sedck_script.specs.Parts.{Ends, LabelText}
 use Rattle.sedck_script.specs.Items.{IsNoComment, IsNoBrace}
@@ -18,16 +18,6 @@ label_there l some = record { blanks = l.blanks; begins = l.begins; skipped = l.
 
 pub no_label_there : {text name behind g s : List ℕ} → IsLabelAt text name behind → length name ≡ 0 → LabelText text g s → ⊥
 no_label_there l none m = let same = (label_same l m).0 in omega (arith, ap length same, m.some)
-
--- a `#` at once is a comment that no blank precedes
-comment_first : (text blanks begins : List ℕ) → text ≡ blanks ++ begins → length begins ≡ length text → get_or begins 0 0 ≡ 35 → 1 ≤ length begins → IsNoComment text → ⊥
-comment_first text [] [] e n h some none = omega arith
-comment_first [] [] (b ∷ begins) e n h some none = cc e
-comment_first (c ∷ text) [] (b ∷ begins) e n h some none = let same : c ≡ b = cc e in both_ways _ (not-true (eqb c 35) none) (eq-eqb c 35 (same ∙ h))
-comment_first text (c ∷ blanks) begins e n h some none = omega (arith, ap length e, length-append (c ∷ blanks) begins)
-
-pub comment_at_once : {text blanks begins : List ℕ} → Longest is_blank text blanks begins → length begins ≡ length text → get_or begins 0 0 ≡ 35 → 1 ≤ length begins → IsNoComment text → ⊥
-comment_at_once {text} {blanks} {begins} l = comment_first text blanks begins l.cut
 
 blank_no_comment : (c : ℕ) → is_blank c ≡ true → not (eqb c 35) ≡ true
 blank_no_comment c h = grind (arith, h)

@@ -1,4 +1,5 @@
 pub mod Cuts
+pub mod Heads
 pub mod FirstOne
 pub mod ResolvesOne
 pub mod NumberLemmas
@@ -6,18 +7,13 @@ pub mod Ending
 pub mod Tails
 pub mod PartLemmas
 pub mod LabelLemmas
+pub mod LabelPlaces
 pub mod PieceLemmas
 pub mod VerbLemmas
 pub mod VerbCases
 pub mod FlagLemmas
 pub mod ReplacementLemmas
-pub mod FirstReading
-pub mod FirstState
-pub mod FirstCommands
-pub mod FirstWhole
 pub mod FirstIsWhole
-pub mod FirstInvariant
-pub mod FirstFaults
 pub mod Rows
 pub mod Nesting
 pub mod BackLemmas

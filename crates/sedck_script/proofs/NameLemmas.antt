@@ -50,11 +50,6 @@ rising_split xs name rising i j d le lt h = elim (same_or_less i j le) [
 
 -- ---- Insertion
 
-not_less : (o : Ordering) → is_lt o ≡ false → (o ≡ Equal) ⊎ (o ≡ Greater)
-not_less Less h = absurd (false≢true (sym h))
-not_less Equal h = inl refl
-not_less Greater h = inr refl
-
 turned : (a b : List ℕ) {o : Ordering} → slice_cmp nat_cmp a b ≡ o → slice_cmp nat_cmp b a ≡ ordering_reverse o
 turned a b e = nat_list_cmp_total.antisymm b a ∙ ap ordering_reverse e
 

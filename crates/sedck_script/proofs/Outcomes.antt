@@ -1,6 +1,6 @@
 -- What holds of a result where more is known of it.
-use Rattle.std.proofs.Common.{◌≡◌, Result, Ok, Err, Option, Some, None, subst}
-use Rattle.std.specs.Prelude.{IfOk, IfErr, IfSome, IfNone}
+use Rattle.std.proofs.Common.{◌≡◌, Result, Ok, Err, Option, Some, None, subst, sym}
+use Rattle.std.specs.Prelude.{IfOk, IfErr, IfSome, IfNone, IsErrAnd}
 
 pub if_ok_more : {A E : Type 0} {P Q : A → Type 0} (r : Result A E) → ((x : A) → P x → Q x) → IfOk r P → IfOk r Q
 if_ok_more (Ok x) f h = f x h
@@ -15,3 +15,17 @@ if_some_at P e h = subst (λ o. IfSome o P) e h
 
 pub if_none_at : {A : Type 0} (P : Type 0) {o : Option A} → o ≡ None → IfNone o P → P
 if_none_at P e h = subst (λ o. IfNone o P) e h
+
+pub if_err_from : {A E : Type 0} (P : E → Type 0) (r : Result A E) (e : E) → IsErrAnd r (λ y. y ≡ e) → P e → IfErr r P
+if_err_from P (Ok x) e h p = tt
+if_err_from P (Err y) e h p = subst P (sym h) p
+
+-- what doesn't depend on the error
+pub if_err_always : {A E : Type 0} {P : Type 0} (r : Result A E) → P → IfErr r (λ _. P)
+if_err_always (Ok x) h = tt
+if_err_always (Err e) h = h
+
+-- what holds of each error
+pub if_err_each : {A E : Type 0} (Q : E → Type 0) (r : Result A E) → ((e : E) → Q e) → IfErr r Q
+if_err_each Q (Ok x) h = tt
+if_err_each Q (Err e) h = h e

@@ -4,7 +4,7 @@ use Rattle.sedck_script.specs.Cuts.{is_newline, is_blank, Longest}
 use Rattle.sedck_script.specs.Parts.{Name, Lines, GivenText, BeginsPlainly}
 use Rattle.sedck_script.specs.Parts as p
 use Rattle.sedck_script.proofs.Cuts.{longest_one}
-use Rattle.sedck_script.proofs.FirstOne.{heads}
+use Rattle.sedck_script.proofs.Heads.{heads}
 
 pub name_some : {text blanks begins front rest name r : List ℕ} → Longest is_blank text blanks begins → Longest (λ b. not (is_newline b)) begins front rest → Name text name r → 0 < length front
 name_some {front = front} {name = name} {r = r} l m n =
@@ -14,9 +14,6 @@ name_some {front = front} {name = name} {r = r} l m n =
 -- What lines the rest begins with, the text begins with lines up to the same end.
 pub record LinesPassed (text rest : List ℕ) : Type 0 where
   pub sound : (bytes r : List ℕ) → Lines rest bytes r → (all : List ℕ) × Lines text all r
-
-pub passed_start : (text : List ℕ) → LinesPassed text text
-passed_start text = record { sound = λ bytes r h. (bytes, h) }
 
 pub passed_byte : {text rest behind : List ℕ} {b : ℕ} → LinesPassed text rest → rest ≡ b ∷ behind → b ≢ 10 → b ≢ 92 → LinesPassed text behind
 passed_byte {b = b} h e f g = record { sound = λ bytes r x. h.sound (b ∷ bytes) r (subst (λ t. Lines t (b ∷ bytes) r) (sym e) (p.byte f g x)) }

@@ -12,21 +12,15 @@ use Rattle.sedck_script.specs.Program.{Pattern, Previous, Expression}
 use Rattle.sedck_script.specs.Parts.{IsPattern, previous, expression}
 use Rattle.sedck_script.specs.PieceReading.{IsPiece, list_escape, PatternText}
 use Rattle.sedck_script.proofs.PartsOne.{expression_one}
+use Rattle.sedck_script.proofs.Tails.{tail_tail}
+use Rattle.sedck_script.proofs.Heads.{heads}
 use Rattle.sedck_script.proofs.PartLemmas.{no_bytes}
-use Rattle.sedck_script.proofs.FirstState.{tail_tail}
-use Rattle.sedck_script.proofs.FirstOne.{heads}
 
 pub piece_tail : (d : ℕ) (text rest : List ℕ) (x : Piece) → IsPiece d text x rest → EndsIn text rest
 piece_tail d text rest piece.End h = (d ∷ [], h)
 piece_tail d text rest (piece.Byte b) h = (b ∷ [], h.0)
 piece_tail d text rest piece.Escaped h = (92 ∷ d ∷ [], h.0)
 piece_tail d text rest (piece.Pair b) h = (92 ∷ b ∷ [], h.0)
-
-pub piece_shorter : (d : ℕ) (text rest : List ℕ) (x : Piece) → IsPiece d text x rest → length rest < length text
-piece_shorter d text rest piece.End h = omega (arith, ap length h)
-piece_shorter d text rest (piece.Byte b) h = omega (arith, ap length h.0)
-piece_shorter d text rest piece.Escaped h = omega (arith, ap length h.0)
-piece_shorter d text rest (piece.Pair b) h = omega (arith, ap length h.0)
 
 -- an expression begins with some piece
 pub record SomePiece (d : ℕ) (text : List ℕ) : Type 0 where
@@ -52,9 +46,6 @@ pub record ExpressionPassed (d : ℕ) (whole text bytes rest : List ℕ) : Type 
   pub tail : EndsIn whole rest
   pub sound : (e r : List ℕ) → DelimitedExpression d rest e r → DelimitedExpression d text (bytes ++ e) r
   pub only : (e r : List ℕ) → DelimitedExpression d text e r → (f : List ℕ) × DelimitedExpression d rest f r
-
-pub expression_start : {d : ℕ} {whole text : List ℕ} → EndsIn whole text → ExpressionPassed d whole text [] text
-expression_start h = record { tail = h; sound = λ e r x. x; only = λ e r x. (e, x) }
 
 -- one more piece
 pub record ExpressionStep (d : ℕ) (text front behind : List ℕ) : Type 0 where
@@ -120,9 +111,6 @@ pub record ListPassed (d : ℕ) (whole text bytes rest : List ℕ) : Type 0 wher
   pub tail : EndsIn whole rest
   pub sound : (e r : List ℕ) → DelimitedList d rest e r → DelimitedList d text (bytes ++ e) r
   pub only : (e r : List ℕ) → DelimitedList d text e r → (f : List ℕ) × DelimitedList d rest f r
-
-pub list_start : {d : ℕ} {whole text : List ℕ} → EndsIn whole text → ListPassed d whole text [] text
-list_start h = record { tail = h; sound = λ e r x. x; only = λ e r x. (e, x) }
 
 -- one more byte
 pub record ListStep (d : ℕ) (text : List ℕ) (byte : ℕ) (behind : List ℕ) : Type 0 where

@@ -15,17 +15,14 @@ use Rattle.sedck_script.specs.ItemReading.{item_of, Turn, Opens, Closes, Stays, 
 use Rattle.sedck_script.specs.Progress.{IsFront, IsProgress, HasNoItems, BeginsCommand, IsBeyond}
 use Rattle.sedck_script.specs.declared.items.Progress.{Progress}
 use Rattle.sedck_script.proofs.Cuts.{longest_one}
-use Rattle.sedck_script.proofs.FirstOne.{heads}
-use Rattle.sedck_script.proofs.FirstState.{tail_cut, tail_tail, get_front, get_seam}
-use Rattle.sedck_script.proofs.Tails.{tail_length, verb_text_tail, verb_text_shorter}
+use Rattle.sedck_script.proofs.Heads.{heads}
+use Rattle.sedck_script.proofs.Tails.{tail_cut, tail_tail, tail_length, verb_text_tail, verb_text_shorter}
+use Rattle.sedck_script.proofs.LabelPlaces.{get_front, get_seam}
+use Rattle.sedck_script.proofs.PartsOne.{ends_one}
 use Rattle.sedck_script.proofs.CommandLemmas.{address_tail}
 use Rattle.sedck_script.proofs.StateLemmas.{among_append, Deeper}
-use Rattle.sedck_script.proofs.PartsOne.{ends_one}
 use Rattle.sedck_script.proofs.ItemsOne.{longest_along, ends_along, items_along, command_along, command_one, no_command_other, no_command_end, empty_is_not, tails}
 use Rattle.sedck_script.proofs.Determined.{expressions_determined}
-
-pub front_start : (text : List ℕ) → IsFront text [] 0 text
-front_start text = record { tail = ([], refl); sound = λ more h. h; only = λ all h. (all, refl, h); nests = λ more h. h; nested = λ more h. h }
 
 -- ---- Separators
 
@@ -224,7 +221,7 @@ brace_stands {whole} {rest = rest} place h c p e =
 -- ---- Progress
 
 -- the same is known where another rest is left
-pub progress_at : {text old new : List ℕ} {progress : Progress} → IsProgress text old progress → IsFront text (map item_of progress.items.items) (length progress.blocks.items) new → IsProgress text new progress
+pub progress_at : {text old new : List ℕ} {progress : Progress} → IsProgress text old progress → IsFront text (map item_of progress.items.items) (length progress.open_blocks.items) new → IsProgress text new progress
 progress_at p f = record { front = f; labels = p.labels; count = p.count; few = p.few; within = p.within; opened = p.opened; empty = p.empty }
 
 no_length : {X : Type 0} (xs : List X) → length xs ≡ 0 → xs ≡ []

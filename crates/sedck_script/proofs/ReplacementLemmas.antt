@@ -14,8 +14,8 @@ use Rattle.sedck_script.specs.declared.delimited.Piece.TheVariants as piece
 use Rattle.sedck_script.specs.PieceReading.{IsPiece}
 use Rattle.sedck_script.specs.ReplacementReading.{IsGroupWithin, HasGroupsUpTo, IsFirstPart}
 use Rattle.sedck_script.proofs.Cuts.{longest_one}
-use Rattle.sedck_script.proofs.FirstOne.{heads}
-use Rattle.sedck_script.proofs.FirstState.{tail_cut, tail_tail}
+use Rattle.sedck_script.proofs.Heads.{heads}
+use Rattle.sedck_script.proofs.Tails.{tail_cut, tail_tail}
 use Rattle.sedck_script.proofs.PartsOne.{plain_first, no_plain, escaped_one}
 use Rattle.sedck_script.proofs.PieceLemmas.{SomePiece}
 
@@ -137,9 +137,6 @@ pub record PartsPassed (d g : ℕ) (whole text : List ℕ) (parts : List Part) (
   pub groups : HasGroupsUpTo g parts
   pub sound : (more : List Part) (r : List ℕ) → Replacement d rest more r → Replacement d text (parts ++ more) r
   pub only : (all : List Part) (r : List ℕ) → Replacement d text all r → (more : List Part) × (all ≡ parts ++ more) × Replacement d rest more r
-
-pub parts_start : {d g : ℕ} {whole text : List ℕ} → EndsIn whole text → PartsPassed d g whole text [] text
-parts_start h = record { tail = h; groups = λ k i. absurd (omega (arith, i.1)); sound = λ more r x. x; only = λ all r x. (all, refl, x) }
 
 part_groups : (g : ℕ) (parts : List Part) (first : Part) → HasGroupsUpTo g parts → IsGroupWithin g first → HasGroupsUpTo g (parts ++ first ∷ [])
 part_groups g parts first h w k i = elim (Contains-append_cases parts (first ∷ []) (Group k) i) [

@@ -15,7 +15,7 @@ use Rattle.sedck_script.specs.Reading.{HasLabels, label_place}
 use Rattle.sedck_script.specs.VerbReading.{written_verb, IsWrittenWithin, DefinesKnown}
 use Rattle.sedck_script.specs.declared.verbs.Written.{Written as WrittenCode}
 use Rattle.sedck_script.specs.declared.verbs.Written.TheVariants as code
-use Rattle.sedck_script.proofs.FirstState.{labels_label, labels_other}
+use Rattle.sedck_script.proofs.LabelPlaces.{labels_label, labels_other}
 
 pub among_append : (xs ys : List Item) → commands_among (xs ++ ys) ≡ commands_among xs ++ commands_among ys
 among_append [] ys = refl

@@ -1,12 +1,34 @@
 -- What each part leaves is an end of its text.
-use Rattle.std.proofs.Common.{◌≡◌, ℕ, List, [], ◌∷◌, ◌++◌, length, take, drop, ◌-◌, ◌<◌, ◌≤◌, refl, ap, sym, ◌∙◌, subst, subst₂, length-append, arith}
+use Rattle.std.proofs.Common.{◌≡◌, ℕ, Bool, List, [], ◌∷◌, ◌++◌, length, take, drop, ◌-◌, ◌<◌, ◌≤◌, refl, ap, sym, ◌∙◌, subst, subst₂, length-append, arith, Some, append_assoc}
+use Rattle.sedck_script.specs.Cuts.{Longest}
+use Rattle.std.specs.Prelude.{slice_get}
 use Rattle.sedck_script.specs.Program.{Pattern, Part, Substitution}
 use Rattle.sedck_script.specs.Parts.{Ends, Number, Name, Lines, GivenText, LabelText, DelimitedExpression, DelimitedList, Replacement, Flags}
 use Rattle.sedck_script.specs.Parts as p
 use Rattle.sedck_script.specs.Items.{WrittenVerb, VerbText}
 use Rattle.sedck_script.specs.Items as w
 use Rattle.sedck_script.specs.Reading.{EndsIn}
-use Rattle.sedck_script.proofs.FirstState.{tail_cut, tail_tail}
+
+-- what a run, a verb and the end of its line leave is an end of the text
+pub tail_cut : {test : ℕ → Bool} {text front rest : List ℕ} → Longest test text front rest → EndsIn text rest
+tail_cut {front = front} l = (front, l.cut)
+
+pub tail_tail : {a b c : List ℕ} → EndsIn a b → EndsIn b c → EndsIn a c
+tail_tail {a} {b} {c} h k = (h.0 ++ k.0, h.1 ∙ ap (λ t. h.0 ++ t) k.1 ∙ sym (append_assoc h.0 k.0 c))
+
+pub tail_behind : {whole text behind : List ℕ} {b : ℕ} → EndsIn whole text → text ≡ b ∷ behind → EndsIn whole behind
+tail_behind {whole} {text} {behind} {b} h e = (h.0 ++ (b ∷ []), h.1 ∙ ap (λ t. h.0 ++ t) e ∙ sym (append_assoc h.0 (b ∷ []) behind))
+
+stands_behind : (front tail : List ℕ) (b : ℕ) → slice_get (front ++ b ∷ tail) (length front) ≡ Some b
+stands_behind [] tail b = refl
+stands_behind (x ∷ front) tail b = stands_behind front tail b
+
+-- the byte at the front of a tail stands where the tail begins
+pub stands_at_tail : {whole text behind : List ℕ} {b : ℕ} → EndsIn whole text → text ≡ b ∷ behind → slice_get whole (length whole - length text) ≡ Some b
+stands_at_tail {whole} {text} {behind} {b} h e =
+    let same : whole ≡ h.0 ++ b ∷ behind = h.1 ∙ ap (λ t. h.0 ++ t) e in
+    let place : length whole - length text ≡ length h.0 = omega (arith, ap length h.1, length-append h.0 text) in
+    rw (place, same) (stands_behind h.0 behind b)
 
 pub tail_cons : {text rest : List ℕ} (b : ℕ) → EndsIn text rest → EndsIn (b ∷ text) rest
 tail_cons b h = (b ∷ h.0, ap (λ t. b ∷ t) h.1)

@@ -1,14 +1,13 @@
 -- What the first byte of a verb says of it.
 use Rattle.std.proofs.Common.{◌≡◌, ◌≢◌, ℕ, Bool, true, false, not, ◌&&◌, eqb, List, [], ◌∷◌, Option, Some, refl, sym, ◌∙◌, subst, arith}
 use Rattle.std.proofs.lemmas.Bool.{false≢true, eq-eqb}
-use Rattle.sedck_bre.specs.Text.{is_in}
+use Rattle.sedck_bre.specs.Text.{is_in, one_of}
 use Rattle.sedck_script.specs.Program.{Address, NoAddress, One, Two, Verb}
 use Rattle.sedck_script.specs.Items.{WrittenVerb, Known, Opening, Simple, VerbText, Takes, IsNoBrace}
 use Rattle.sedck_script.specs.Items as w
 use Rattle.sedck_script.specs.Faults.{verb_bytes}
 use Rattle.sedck_script.specs.Progress.{is_none, is_two, takes}
-use Rattle.sedck_script.proofs.FirstOne.{heads}
-use Rattle.sedck_script.proofs.Tails.{verb_takes}
+use Rattle.sedck_script.proofs.Heads.{heads}
 
 pub record IsVerbByte (b : ℕ) (v : WrittenVerb) : Type 0 where
   pub known : is_in b verb_bytes ≡ true
@@ -75,15 +74,12 @@ byte_of e (w.write h n) = along (sym (heads e) ∙ heads h) (any_addresses 119 r
 byte_of e (w.substitute h d x y z g f) = along (sym (heads e) ∙ heads h) (any_addresses 115 refl (λ a n. refl) (λ a n. tt) refl (λ e. cc e))
 byte_of e (w.transliterate h d x y l f) = along (sym (heads e) ∙ heads h) (any_addresses 121 refl (λ a n. refl) (λ a n. tt) refl (λ e. cc e))
 
--- a verb begins with a byte
-pub no_verb_at_end : {text rest : List ℕ} {v : WrittenVerb} → text ≡ [] → VerbText text v rest → ⊥
-no_verb_at_end e x = let t = verb_takes x in empty (sym e ∙ t.2)
-  where
-    empty : {b : ℕ} {s : List ℕ} → [] ≡ b ∷ s → ⊥
-    empty h = cc h
-
 pub same_byte : {a b : ℕ} {o : Option ℕ} → o ≡ Some a → o ≡ Some b → a ≡ b
 same_byte e f = some_same (sym e ∙ f)
   where
     some_same : {x y : ℕ} → Some x ≡ Some y → x ≡ y
     some_same h = cc h
+
+-- a byte that takes not all addresses is one of four
+pub not_taken : (b : ℕ) (a : Address) (n : Bool) → takes b a n ≡ false → one_of "q:}#" b ≡ true
+not_taken b a n h = grind (arith, h)

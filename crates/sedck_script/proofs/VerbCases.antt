@@ -15,7 +15,7 @@ use Rattle.sedck_script.specs.Reading.{label_place}
 use Rattle.sedck_script.specs.LabelReading.{BranchText}
 use Rattle.sedck_script.specs.VerbReading.{DefinesKnown}
 use Rattle.sedck_script.proofs.Cuts.{longest_one}
-use Rattle.sedck_script.proofs.FirstOne.{label_one}
+use Rattle.sedck_script.proofs.PartsOne.{label_one}
 use Rattle.sedck_script.proofs.WholeOne.{class_of, begins, differ, simple_class}
 use Rattle.sedck_script.proofs.FlagLemmas.{some_of}
 

@@ -96,7 +96,7 @@ abbrev pub resolved_command : {S : Type 0} → HashMap (Bor (List ℕ)) ℕ S �
 resolved_command labels end block c = record { address = address_of c.address; negated = c.negated; verb = resolved_verb labels end block (written_verb c.verb) }
 
 -- where the command opens a block, its target is taken from the end of the list, and else nothing is taken
-abbrev pub Takes : Turn → List ℕ → List ℕ → ℕ → Type 0
-Takes Opens old new target = (old ≡ [] → ⊥) → old ≡ new ++ target ∷ []
-Takes Closes old new target = new ≡ old
-Takes Stays old new target = new ≡ old
+abbrev pub TakesTarget : Turn → List ℕ → List ℕ → ℕ → Type 0
+TakesTarget Opens old new target = (old ≡ [] → ⊥) → old ≡ new ++ target ∷ []
+TakesTarget Closes old new target = new ≡ old
+TakesTarget Stays old new target = new ≡ old

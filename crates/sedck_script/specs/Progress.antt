@@ -70,12 +70,12 @@ pub record IsFront (text : List ℕ) (items : List Item) (depth : ℕ) (rest : L
 
 -- what has been read of a text, where rest is left
 pub record IsProgress (text rest : List ℕ) (progress : Progress) : Type 0 where
-  pub front : IsFront text (map item_of progress.items.items) (length progress.blocks.items) rest
+  pub front : IsFront text (map item_of progress.items.items) (length progress.open_blocks.items) rest
   pub labels : HasLabels progress.labels (commands_among (map item_of progress.items.items))
   pub count : progress.count ≡ length (commands_among (map item_of progress.items.items))
   pub few : progress.count ≤ 4095
   pub within : All (IsItemWithin (length text)) progress.items.items
-  pub opened : All (λ place. StandsAt text place brace) progress.blocks.items
+  pub opened : All (λ place. StandsAt text place brace) progress.open_blocks.items
   pub empty : IsEmptyAt (length text) (item_patterns (map item_of progress.items.items)) progress.empty
 
 -- the text has no items that close each block and are within the limits, and whose labels stand once

@@ -2,9 +2,7 @@
 use Rattle.std.specs.Prelude.{◌≡◌, ℕ, ◌≤◌, List, Some, option_copied}
 use Rattle.std.specs.Borrow.{Bor}
 use Rattle.std.specs.HashMap.{HashMap}
-use Rattle.sedck_script.specs.Cuts.{is_blank, Longest}
 use Rattle.sedck_script.specs.Program.{Label}
-use Rattle.sedck_script.specs.Parts.{GivenText}
 use Rattle.sedck_script.specs.Items.{WrittenVerb, Known, BranchTo, TestTo, Opening}
 use Rattle.sedck_script.specs.View.{verb_of}
 use Rattle.sedck_script.specs.Reading.{label_place}
@@ -30,10 +28,3 @@ IsWrittenWithin end code.Opening = Unit {0}
 -- the verb defines a label that the map has
 abbrev pub DefinesKnown : {S : Type 0} → HashMap (Bor (List ℕ)) ℕ S → WrittenVerb → Type 0
 DefinesKnown labels verb = (name : List ℕ) × (at : ℕ) × (verb ≡ Known (Label name)) × (label_place labels name ≡ Some at)
-
--- the text that is given behind a verb's blanks
-pub record GivenBehind (text bytes rest : List ℕ) : Type 0 where
-  pub blanks : List ℕ
-  pub begins : List ℕ
-  pub skipped : Longest is_blank text blanks begins
-  pub given : GivenText begins bytes rest

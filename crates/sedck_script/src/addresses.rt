@@ -5,15 +5,14 @@ ghost use Rattle.sedck_script.specs.Cuts.{is_delimiter};
 ghost use Rattle.sedck_script.specs.Program as clean;
 ghost use Rattle.sedck_script.specs.Program.{place_patterns, address_patterns};
 ghost use Rattle.sedck_script.specs.Parts.{PlaceText, AddressText};
-ghost use Rattle.sedck_script.specs.Faults.{IsPlaced, verb_bytes};
+ghost use Rattle.sedck_script.specs.Faults.{IsPlaced};
 ghost use Rattle.sedck_script.specs.Reading.{EndsIn};
 ghost use Rattle.sedck_script.specs.AddressReading.{begins_place, IsEmptyAt, ContextText, CustomText, BeginsPlace, BeginsNoPlace, IsOnlyAddress, IsNoCommand};
 ghost use Rattle.sedck_script.specs.View as view;
 
-use crate::bytes::{is_delimiter, is_digit};
+use crate::bytes::{is_delimiter, is_digit, split_blanks};
 use crate::delimited::pattern;
 use crate::fault::ScriptFault;
-use crate::first::split_blanks;
 use crate::numbers::number;
 use crate::script::{Address, Pattern, Place};
 use std::alloc::Global;
@@ -40,7 +39,7 @@ fn context<'a>(
     ensures read { IfOk result (λ x. ContextText delimiter text.now (view.place_of x.0) x.2.now) }
     ensures empty { IfOk result (λ x. IsEmptyAt (length whole.now) (place_patterns (view.place_of x.0)) x.1) }
     ensures refused { IfErr result (λ fault. fault ≢ ScriptFault.OutOfMemory → (p : clean.Place) (rest : List ℕ) → ContextText delimiter text.now p rest → ⊥) }
-    ensures placed { IfErr result (λ fault. IsPlaced verb_bytes whole.now fault) }
+    ensures placed { IfErr result (λ fault. IsPlaced whole.now fault) }
 {
     let (pattern, rest) = pattern(alloc, whole, opening, delimiter, text)?;
     let empty = match pattern {
@@ -62,7 +61,7 @@ fn custom_context<'a>(
     ensures read { IfOk result (λ x. CustomText text.now (view.place_of x.0) x.2.now) }
     ensures empty { IfOk result (λ x. IsEmptyAt (length whole.now) (place_patterns (view.place_of x.0)) x.1) }
     ensures refused { IfErr result (λ fault. fault ≢ ScriptFault.OutOfMemory → (p : clean.Place) (rest : List ℕ) → CustomText text.now p rest → ⊥) }
-    ensures placed { IfErr result (λ fault. IsPlaced verb_bytes whole.now fault) }
+    ensures placed { IfErr result (λ fault. IsPlaced whole.now fault) }
 {
     let Some((delimiter, behind)) = text.split_first() else {
         return Err(ScriptFault::Unterminated { place: opening });
@@ -87,7 +86,7 @@ fn place_here<'a>(
     ensures read { IfOk result (λ x. PlaceText text.now (view.place_of x.0) x.2.now) }
     ensures empty { IfOk result (λ x. IsEmptyAt (length whole.now) (place_patterns (view.place_of x.0)) x.1) }
     ensures refused { IfErr result (λ fault. fault ≢ ScriptFault.OutOfMemory → (p : clean.Place) (rest : List ℕ) → PlaceText text.now p rest → ⊥) }
-    ensures placed { IfErr result (λ fault. IsPlaced verb_bytes whole.now fault) }
+    ensures placed { IfErr result (λ fault. IsPlaced whole.now fault) }
 {
     let opening = whole.len() - text.len();
     if first == b'$' {
@@ -117,7 +116,7 @@ fn place_at<'a>(
     ensures none { IfOk result (λ x. IfNone x (BeginsNoPlace text.now)) }
     ensures begins { IfErr result (λ fault. BeginsPlace text.now) }
     ensures refused { IfErr result (λ fault. fault ≢ ScriptFault.OutOfMemory → (p : clean.Place) (rest : List ℕ) → PlaceText text.now p rest → ⊥) }
-    ensures placed { IfErr result (λ fault. IsPlaced verb_bytes whole.now fault) }
+    ensures placed { IfErr result (λ fault. IsPlaced whole.now fault) }
 {
     let Some((first, behind)) = text.split_first() else {
         return Ok(None);
@@ -140,7 +139,7 @@ pub fn address_at<'a>(
     ensures only { IfOk result (λ x. IsOnlyAddress text.now (view.address_of x.0) x.2.now) }
     ensures empty { IfOk result (λ x. IsEmptyAt (length whole.now) (address_patterns (view.address_of x.0)) x.1) }
     ensures refused { IfErr result (λ fault. fault ≢ ScriptFault.OutOfMemory → IsNoCommand text.now) }
-    ensures placed { IfErr result (λ fault. IsPlaced verb_bytes whole.now fault) }
+    ensures placed { IfErr result (λ fault. IsPlaced whole.now fault) }
 {
     let Some((from, empty, behind)) = place_at(alloc, whole, text)? else {
         return Ok((Address::None, None, text));

@@ -17,12 +17,14 @@ ghost use Rattle.sedck_script.specs.View.{address_of};
 use crate::addresses::address_at;
 use crate::bytes::marks_len;
 use crate::fault::ScriptFault;
-use crate::first::COMMAND_LIMIT;
 use crate::script::{Address, Pattern, Verb};
 use crate::verbs::{Written, verb_at};
 use crate::written::WrittenCommand;
 use indexmap::IndexMap;
 use std::alloc::Global;
+
+/// How many commands a script may have.
+const COMMAND_LIMIT: usize = 4095;
 
 /// How many blocks may be open.
 const DEPTH_LIMIT: usize = 64;
@@ -66,7 +68,7 @@ fn check_verb(
     ensures allowed { OnOk result (AreAllowed (address_of address.now) negated depth count text.now) }
     ensures brace { OnOk result (IsNoBrace text.now) }
     ensures refused { IfErr result (λ fault. (verb : WrittenVerb) (rest : List ℕ) → VerbText text.now verb rest → Takes verb (address_of address.now) negated → IsBeyond depth count verb) }
-    ensures placed { IfErr result (λ fault. IsPlaced verb_bytes whole.now fault) }
+    ensures placed { IfErr result (λ fault. IsPlaced whole.now fault) }
 {
     let place = whole.len() - text.len();
     let Some((verb, _)) = text.split_first() else {
@@ -116,7 +118,7 @@ pub fn command_at<'a>(
     ensures within { IfOk result (λ x. IsWrittenWithin (length whole.now) x.0.verb) }
     ensures empty { IfOk result (λ x. IsEmptyAt (length whole.now) (address_patterns (address_of x.0.address) ++ written_patterns (written_verb x.0.verb)) x.1) }
     ensures refused { IfErr result (λ fault. fault ≢ ScriptFault.OutOfMemory → (given : clean.Address) (negated : Bool) (verb : WrittenVerb) (rest : List ℕ) → CommandText text.now given negated verb rest → DefinesKnown labels.now verb ⊎ IsBeyond depth count verb) }
-    ensures placed { IfErr result (λ fault. IsPlaced verb_bytes whole.now fault) }
+    ensures placed { IfErr result (λ fault. IsPlaced whole.now fault) }
 {
     let (address, empty, behind) = address_at(alloc, whole, text)?;
     let (marks, begins) = split_marks(behind);

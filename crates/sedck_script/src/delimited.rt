@@ -4,7 +4,7 @@ ghost use Rattle.std.specs.Prelude.{◌≡◌, ◌≢◌, ◌≤◌, ◌<◌, �
 ghost use Rattle.sedck_bre.specs.Faults.{IsOfText};
 ghost use Rattle.sedck_script.specs.Cuts.{is_delimiter};
 ghost use Rattle.sedck_script.specs.Parts.{DelimitedExpression, DelimitedList};
-ghost use Rattle.sedck_script.specs.Faults.{IsPlaced, verb_bytes};
+ghost use Rattle.sedck_script.specs.Faults.{IsPlaced};
 ghost use Rattle.sedck_script.specs.Reading.{EndsIn};
 ghost use Rattle.sedck_script.specs.Program as clean;
 ghost use Rattle.sedck_script.specs.View.{pattern_of};
@@ -42,7 +42,7 @@ pub fn piece_at<'a>(
     requires opened { opening ≤ length whole.now }
     ensures read { IfOk result (λ x. IsPiece delimiter text.now x.0 x.1.now) }
     ensures refused { IfErr result (λ fault. (piece : Piece) (rest : List ℕ) → IsPiece delimiter text.now piece rest → ⊥) }
-    ensures placed { IfErr result (λ fault. IsPlaced verb_bytes whole.now fault) }
+    ensures placed { IfErr result (λ fault. IsPlaced whole.now fault) }
 {
     let unterminated = ScriptFault::Unterminated { place: opening };
     let Some((first, behind)) = text.split_first() else {
@@ -96,7 +96,7 @@ fn delimited_expression<'a>(
     requires opened { opening ≤ length whole.now }
     ensures read { IfOk result (λ x. DelimitedExpression delimiter text.now x.0.items x.1.now) }
     ensures refused { IfErr result (λ fault. fault ≢ ScriptFault.OutOfMemory → (expression : List ℕ) (rest : List ℕ) → DelimitedExpression delimiter text.now expression rest → ⊥) }
-    ensures placed { IfErr result (λ fault. IsPlaced verb_bytes whole.now fault) }
+    ensures placed { IfErr result (λ fault. IsPlaced whole.now fault) }
 {
     let mut bytes = Vec::new(alloc);
     let mut rest = text;
@@ -121,7 +121,7 @@ fn delimited_expression<'a>(
 /// The fault of an expression that begins at the place.
 fn expression_fault(place: usize, fault: ReFault) -> ScriptFault
     ensures memory { result ≢ ScriptFault.OutOfMemory → IsOfText fault }
-    ensures placed { (text : List ℕ) → place ≤ length text → IsPlaced verb_bytes text result }
+    ensures placed { (text : List ℕ) → place ≤ length text → IsPlaced text result }
 {
     match fault {
         ReFault::OutOfMemory => ScriptFault::OutOfMemory,
@@ -143,7 +143,7 @@ pub fn pattern<'a>(
     ensures read { IfOk result (λ x. PatternText delimiter text.now (pattern_of x.0) x.1.now) }
     ensures only { IfOk result (λ x. (p : clean.Pattern) (rest : List ℕ) → PatternText delimiter text.now p rest → (p ≡ pattern_of x.0) × (rest ≡ x.1.now)) }
     ensures refused { IfErr result (λ fault. fault ≢ ScriptFault.OutOfMemory → (p : clean.Pattern) (rest : List ℕ) → PatternText delimiter text.now p rest → ⊥) }
-    ensures placed { IfErr result (λ fault. IsPlaced verb_bytes whole.now fault) }
+    ensures placed { IfErr result (λ fault. IsPlaced whole.now fault) }
 {
     let (bytes, rest) = delimited_expression(alloc, whole, opening, delimiter, text)?;
     if bytes.is_empty() {
@@ -168,7 +168,7 @@ pub fn delimited_list<'a>(
     requires opened { opening ≤ length whole.now }
     ensures read { IfOk result (λ x. DelimitedList delimiter text.now x.0.items x.1.now) }
     ensures refused { IfErr result (λ fault. fault ≢ ScriptFault.OutOfMemory → (bytes : List ℕ) (rest : List ℕ) → DelimitedList delimiter text.now bytes rest → ⊥) }
-    ensures placed { IfErr result (λ fault. IsPlaced verb_bytes whole.now fault) }
+    ensures placed { IfErr result (λ fault. IsPlaced whole.now fault) }
 {
     let mut bytes = Vec::new(alloc);
     let mut rest = text;

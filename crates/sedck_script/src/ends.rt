@@ -2,19 +2,18 @@
 
 ghost use Rattle.std.specs.Prelude.{ℕ, List, IfOk, IfErr};
 ghost use Rattle.sedck_script.specs.Parts.{Ends};
-ghost use Rattle.sedck_script.specs.Faults.{IsPlaced, verb_bytes};
+ghost use Rattle.sedck_script.specs.Faults.{IsPlaced};
 ghost use Rattle.sedck_script.specs.Reading.{EndsIn};
 
-use crate::bytes::is_ending;
+use crate::bytes::{is_ending, split_blanks};
 use crate::fault::ScriptFault;
-use crate::first::split_blanks;
 
 /// The rest of the text from the end of a command on.
 pub fn end_of_command<'a>(whole: &[u8], text: &'a [u8]) -> Result<&'a [u8], ScriptFault>
     requires tail { EndsIn whole.now text.now }
     ensures read { IfOk result (λ rest. Ends text.now rest.now) }
     ensures refused { IfErr result (λ fault. (rest : List ℕ) → Ends text.now rest → ⊥) }
-    ensures placed { IfErr result (λ fault. IsPlaced verb_bytes whole.now fault) }
+    ensures placed { IfErr result (λ fault. IsPlaced whole.now fault) }
 {
     let (_, rest) = split_blanks(text);
     if let [first, ..] = rest {

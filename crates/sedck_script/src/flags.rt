@@ -3,7 +3,7 @@
 ghost use Rattle.std.specs.Prelude.{◌≡◌, ℕ, List, option_copied, IfOk, IfErr};
 ghost use Rattle.sedck_script.specs.Program as clean;
 ghost use Rattle.sedck_script.specs.Parts.{Flags};
-ghost use Rattle.sedck_script.specs.Faults.{IsPlaced, verb_bytes};
+ghost use Rattle.sedck_script.specs.Faults.{IsPlaced};
 ghost use Rattle.sedck_script.specs.Reading.{EndsIn};
 ghost use Rattle.sedck_script.specs.FlagReading.{IsFlag, with_flags};
 
@@ -36,7 +36,7 @@ fn flag_at<'a>(whole: &[u8], text: &'a [u8]) -> Result<(Flag<'a>, &'a [u8]), Scr
     requires { EndsIn whole.now text.now }
     ensures read { IfOk result (λ x. IsFlag text.now x.0 x.1.now) }
     ensures refused { IfErr result (λ fault. (pattern : clean.Pattern) (parts : List clean.Part) (flags : clean.Substitution) (rest : List ℕ) → Flags pattern parts text.now flags rest → ⊥) }
-    ensures placed { IfErr result (λ fault. IsPlaced verb_bytes whole.now fault) }
+    ensures placed { IfErr result (λ fault. IsPlaced whole.now fault) }
 {
     let Some((first, behind)) = text.split_first() else {
         return Ok((Flag::End, text));
@@ -75,7 +75,7 @@ pub fn flags<'a>(
     requires { EndsIn whole.now text.now }
     ensures read { IfOk result (λ x. (pattern : clean.Pattern) (parts : List clean.Part) → Flags pattern parts text.now (with_flags pattern parts x.0 (option_copied x.1)) x.2.now) }
     ensures refused { IfErr result (λ fault. (pattern : clean.Pattern) (parts : List clean.Part) (flags : clean.Substitution) (rest : List ℕ) → Flags pattern parts text.now flags rest → ⊥) }
-    ensures placed { IfErr result (λ fault. IsPlaced verb_bytes whole.now fault) }
+    ensures placed { IfErr result (λ fault. IsPlaced whole.now fault) }
 {
     let mut seen = Seen {
         global: false,

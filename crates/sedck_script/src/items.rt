@@ -3,7 +3,7 @@
 ghost use Rattle.std.specs.Prelude.{false, ◌≡◌, ◌≢◌, ◌<◌, ◌∷◌, ℕ, List, length, map, IfOk, IfErr, OnOk};
 ghost use Rattle.sedck_script.specs.Cuts.{is_separator, Longest};
 ghost use Rattle.sedck_script.specs.Items.{Items};
-ghost use Rattle.sedck_script.specs.Faults.{IsPlaced, verb_bytes};
+ghost use Rattle.sedck_script.specs.Faults.{IsPlaced};
 ghost use Rattle.sedck_script.specs.Progress.{IsProgress, HasNoItems, BeginsCommand, NotesLabel, NotesBlock};
 ghost use Rattle.sedck_script.specs.VerbReading.{written_verb};
 ghost use Rattle.sedck_script.specs.ItemReading.{item_of, verb_turn, Nests};
@@ -12,7 +12,7 @@ use crate::bytes::separators_len;
 use crate::commands::command_at;
 use crate::ends::end_of_command;
 use crate::fault::ScriptFault;
-use crate::first::add_label;
+use crate::label_places::add_label;
 use crate::names::split_line;
 use crate::verbs::Written;
 use crate::written::WrittenItem;
@@ -28,7 +28,7 @@ pub struct Progress<'a> {
     /// The places of the labels' commands.
     pub labels: IndexMap<&'a [u8], usize>,
     /// The places of the `{` of the blocks that are open.
-    pub blocks: Vec<usize>,
+    pub open_blocks: Vec<usize>,
     /// The place of the first empty expression.
     pub empty: Option<usize>,
 }
@@ -52,9 +52,9 @@ fn close_block<'a>(
     ensures progress { IfOk result (λ rest. IsProgress text.now rest.now progress.new) }
     ensures shorter { IfOk result (λ rest. length rest.now < length begins.now) }
     ensures refused { IfErr result (λ fault. fault ≢ ScriptFault.OutOfMemory → HasNoItems text.now) }
-    ensures placed { IfErr result (λ fault. IsPlaced verb_bytes text.now fault) }
+    ensures placed { IfErr result (λ fault. IsPlaced text.now fault) }
 {
-    let Some(_) = progress.blocks.pop() else {
+    let Some(_) = progress.open_blocks.pop() else {
         return Err(ScriptFault::UnopenedBlock {
             place: text.len() - begins.len(),
         });
@@ -80,12 +80,12 @@ fn note_label<'a>(
 }
 
 /// Adds the place of the `{` where the verb opens a block.
-fn note_block(blocks: &mut Vec<usize>, verb: &Written, place: usize) -> Result<(), ScriptFault>
-    ensures ok { OnOk result (NotesBlock (verb_turn (written_verb verb.now)) blocks.old.items blocks.new.items place) }
+fn note_block(open_blocks: &mut Vec<usize>, verb: &Written, place: usize) -> Result<(), ScriptFault>
+    ensures ok { OnOk result (NotesBlock (verb_turn (written_verb verb.now)) open_blocks.old.items open_blocks.new.items place) }
     ensures memory { IfErr result (λ fault. fault ≡ ScriptFault.OutOfMemory) }
 {
     if let Written::Opening = verb {
-        blocks.push(place)?;
+        open_blocks.push(place)?;
     }
     Ok(())
 }
@@ -102,19 +102,19 @@ fn add_command<'a>(
     ensures progress { IfOk result (λ rest. IsProgress text.now rest.now progress.new) }
     ensures shorter { IfOk result (λ rest. length rest.now < length begins.now) }
     ensures refused { IfErr result (λ fault. fault ≢ ScriptFault.OutOfMemory → HasNoItems text.now) }
-    ensures placed { IfErr result (λ fault. IsPlaced verb_bytes text.now fault) }
+    ensures placed { IfErr result (λ fault. IsPlaced text.now fault) }
 {
     let (command, empty, rest) = command_at(
         alloc,
         text,
         &progress.labels,
-        progress.blocks.len(),
+        progress.open_blocks.len(),
         progress.count,
         begins,
     )?;
     note_label(&mut progress.labels, &command.verb, progress.count)?;
     let place = text.len() - rest.len() - 1;
-    note_block(&mut progress.blocks, &command.verb, place)?;
+    note_block(&mut progress.open_blocks, &command.verb, place)?;
     progress.empty = progress.empty.or(empty);
     progress.count += 1;
     progress.items.push(WrittenItem::Command(command))?;
@@ -136,7 +136,7 @@ fn next_item<'a>(
     ensures progress { IfOk result (λ rest. IsProgress text.now rest.now progress.new) }
     ensures shorter { IfOk result (λ rest. length rest.now < length begins.now) }
     ensures refused { IfErr result (λ fault. fault ≢ ScriptFault.OutOfMemory → HasNoItems text.now) }
-    ensures placed { IfErr result (λ fault. IsPlaced verb_bytes text.now fault) }
+    ensures placed { IfErr result (λ fault. IsPlaced text.now fault) }
 {
     if first == b'#' {
         let (_, rest) = split_line(behind);
@@ -154,13 +154,13 @@ pub fn items<'a>(alloc: Global, text: &'a [u8]) -> Result<Progress<'a>, ScriptFa
     ensures nests { IfOk result (λ progress. Nests (map item_of progress.items.items) 0) }
     ensures progress { IfOk result (λ progress. (rest : List ℕ) × IsProgress text.now rest progress) }
     ensures refused { IfErr result (λ fault. fault ≢ ScriptFault.OutOfMemory → HasNoItems text.now) }
-    ensures placed { IfErr result (λ fault. IsPlaced verb_bytes text.now fault) }
+    ensures placed { IfErr result (λ fault. IsPlaced text.now fault) }
 {
     let mut progress = Progress {
         items: Vec::new(alloc),
         count: 0,
         labels: IndexMap::new(alloc),
-        blocks: Vec::new(alloc),
+        open_blocks: Vec::new(alloc),
         empty: None,
     };
     let mut rest = text;
@@ -171,7 +171,7 @@ pub fn items<'a>(alloc: Global, text: &'a [u8]) -> Result<Progress<'a>, ScriptFa
         };
         rest = next_item(alloc, text, begins, *first, behind, &mut progress)?;
     }
-    if let Some(place) = progress.blocks.last() {
+    if let Some(place) = progress.open_blocks.last() {
         return Err(ScriptFault::UnclosedBlock { place: *place });
     }
     Ok(progress)

@@ -1,17 +1,23 @@
 //! Labels behind `:`, `b` and `t`.
 
 ghost use Rattle.std.specs.Prelude.{◌≡◌, ◌≤◌, ◌<◌, ℕ, List, Option, length, option_copied, IfOk, IfErr, OnOk};
-ghost use Rattle.sedck_script.specs.Cuts.{is_blank, is_ending, Longest};
+ghost use Rattle.sedck_script.specs.Cuts.{is_blank, is_ending, is_label_byte, Longest};
 ghost use Rattle.sedck_script.specs.Parts.{Ends, LabelText};
 ghost use Rattle.sedck_script.specs.Items.{IsNoComment, IsNoBrace};
-ghost use Rattle.sedck_script.specs.Faults.{IsPlaced, verb_bytes};
+ghost use Rattle.sedck_script.specs.Faults.{IsPlaced};
 ghost use Rattle.sedck_script.specs.Reading.{EndsIn, IsLabelAt};
 ghost use Rattle.sedck_script.specs.LabelReading.{BranchText};
 
-use crate::bytes::{is_ending, is_spacing};
+use crate::bytes::{is_ending, is_spacing, label_len, split_blanks};
 use crate::ends::end_of_command;
 use crate::fault::ScriptFault;
-use crate::first::{split_blanks, split_label};
+
+/// The bytes of a label at the front, and what stands behind them.
+fn split_label(text: &[u8]) -> (&[u8], &[u8])
+    ensures { Longest is_label_byte text.now result.0.now result.1.now }
+{
+    text.split_at(label_len(text))
+}
 
 /// The bytes of a label behind blanks, their place, and what stands behind them. There may be none.
 fn label_parts<'a>(whole: &[u8], text: &'a [u8]) -> (&'a [u8], usize, &'a [u8])
@@ -30,7 +36,7 @@ fn check_behind_definition(whole: &[u8], behind: &[u8]) -> Result<(), ScriptFaul
     requires { EndsIn whole.now behind.now }
     ensures allowed { OnOk result (IsNoBrace behind.now) }
     ensures refused { IfErr result (λ fault. (rest : List ℕ) → IsNoBrace behind.now → Ends behind.now rest → ⊥) }
-    ensures placed { IfErr result (λ fault. IsPlaced verb_bytes whole.now fault) }
+    ensures placed { IfErr result (λ fault. IsPlaced whole.now fault) }
 {
     if let [next, ..] = behind {
         if !is_spacing(*next) && *next != b';' {
@@ -51,7 +57,7 @@ pub fn defined_label<'a>(
     ensures read { IfOk result (λ x. LabelText text.now x.0.now x.2.now × IsNoBrace x.2.now) }
     ensures within { IfOk result (λ x. x.1 ≤ length whole.now) }
     ensures refused { IfErr result (λ fault. (name : List ℕ) (behind : List ℕ) (rest : List ℕ) → LabelText text.now name behind → IsNoBrace behind → Ends behind rest → ⊥) }
-    ensures placed { IfErr result (λ fault. IsPlaced verb_bytes whole.now fault) }
+    ensures placed { IfErr result (λ fault. IsPlaced whole.now fault) }
 {
     let (name, place, behind) = label_parts(whole, text);
     if name.is_empty() {
@@ -66,7 +72,7 @@ fn check_behind_label(whole: &[u8], behind: &[u8]) -> Result<(), ScriptFault>
     requires { EndsIn whole.now behind.now }
     ensures allowed { OnOk result (IsNoComment behind.now) }
     ensures refused { IfErr result (λ fault. (rest : List ℕ) → IsNoComment behind.now → Ends behind.now rest → ⊥) }
-    ensures placed { IfErr result (λ fault. IsPlaced verb_bytes whole.now fault) }
+    ensures placed { IfErr result (λ fault. IsPlaced whole.now fault) }
 {
     if let [next, ..] = behind {
         if !is_spacing(*next) && *next != b';' && *next != b'}' {
@@ -84,7 +90,7 @@ fn check_no_label(whole: &[u8], text: &[u8], begins: &[u8]) -> Result<(), Script
     requires blanks { (blanks : List ℕ) × Longest is_blank text.now blanks begins.now }
     ensures allowed { OnOk result (IsNoComment text.now × Ends text.now begins.now) }
     ensures refused { IfErr result (λ fault. (rest : List ℕ) → IsNoComment text.now → Ends text.now rest → ⊥) }
-    ensures placed { IfErr result (λ fault. IsPlaced verb_bytes whole.now fault) }
+    ensures placed { IfErr result (λ fault. IsPlaced whole.now fault) }
 {
     if let [next, ..] = begins {
         let place = whole.len() - begins.len();
@@ -107,7 +113,7 @@ pub fn branch_label<'a>(
     ensures read { IfOk result (λ x. BranchText text.now (option_copied x.0) x.2.now) }
     ensures within { IfOk result (λ x. x.1 ≤ length whole.now) }
     ensures refused { IfErr result (λ fault. (label : Option (List ℕ)) (rest : List ℕ) → BranchText text.now label rest → ⊥) }
-    ensures placed { IfErr result (λ fault. IsPlaced verb_bytes whole.now fault) }
+    ensures placed { IfErr result (λ fault. IsPlaced whole.now fault) }
 {
     let (name, place, behind) = label_parts(whole, text);
     if name.is_empty() {

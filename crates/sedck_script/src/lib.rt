@@ -1,4 +1,19 @@
-//! Scripts of sed.
+//! Scripts of sed, as POSIX.1-2024 has them (XCU sed).
+//!
+//! `parse` reads the text of a script: commands with their addresses, blocks, labels, and the expressions, replacements
+//! and file names in them. A text spells one script at most; `specs/Spelling` says which, and what is no script is
+//! refused by a `ScriptFault` with its place in the text. The names of the files that the script reads and writes are
+//! listed beforehand, each once.
+//!
+//! - `Script`: what was read; its commands, the sorted names of its files, whether it is quiet, and the least length of
+//!   what its expressions match.
+//! - `Command`, `Address`, `Place`, `Pattern`, `Verb`, `Substitution` and `Part`: what a script is made of. Branches,
+//!   tests and blocks hold the place among the commands to which they lead, and texts and names are slices of the text
+//!   that was read.
+//! - `ScriptFault`: why a text is no script; its number, its name and its place.
+//! - `laws`: what is proved of the grammar alone.
+//!
+//! Expressions are read by `sedck_bre`. Nothing is run, and no file is opened.
 #![tactic(auto)]
 
 mod addresses;
@@ -8,9 +23,9 @@ mod delimited;
 mod ends;
 mod expressions;
 mod fault;
-mod first;
 mod flags;
 mod items;
+mod label_places;
 mod labels;
 pub mod laws;
 mod name_lists;
@@ -29,5 +44,5 @@ mod verbs;
 mod written;
 
 pub use fault::ScriptFault;
-pub use parsing::{parse, parse_first};
+pub use parsing::parse;
 pub use script::{Address, Command, Part, Pattern, Place, Script, Substitution, Verb};

@@ -4,8 +4,7 @@ ghost use Rattle.std.specs.Prelude.{ℕ, List, IfSome, IfNone, not};
 ghost use Rattle.sedck_script.specs.Cuts.{is_newline, Longest};
 ghost use Rattle.sedck_script.specs.Parts.{Name};
 
-use crate::bytes::line_len;
-use crate::first::split_blanks;
+use crate::bytes::{line_len, split_blanks};
 
 /// The rest of the line, and what stands from its end on.
 pub fn split_line(text: &[u8]) -> (&[u8], &[u8])

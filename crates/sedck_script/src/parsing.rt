@@ -5,15 +5,13 @@ ghost use Rattle.sedck_script.specs.Program.{Program};
 ghost use Rattle.sedck_script.specs.Spelling.{IsScriptText, AreCommands, Spells};
 ghost use Rattle.sedck_script.specs.Items.{Item, Items};
 ghost use Rattle.sedck_script.specs.View.{command_of};
-ghost use Rattle.sedck_script.specs.First.{FirstSpells};
-ghost use Rattle.sedck_script.specs.Faults.{IsPlaced, IsFirstZero, first_verb_bytes, verb_bytes};
+ghost use Rattle.sedck_script.specs.Faults.{IsPlaced, IsFirstZero};
 
 use crate::expressions::{has_expression, is_quiet};
 use crate::fault::ScriptFault;
-use crate::first::{check_targets, first_items, resolve};
 use crate::items::{Progress, items};
 use crate::name_lists::{Access, sorted_names};
-use crate::resolving::{check_targets as check_label_targets, resolve as resolve_items};
+use crate::resolving::{check_targets, resolve};
 use crate::script::{Command, Script};
 use memchr::memchr;
 use std::alloc::Global;
@@ -25,7 +23,7 @@ pub const TEXT_LIMIT: usize = 1_048_576;
 fn check_text(text: &[u8]) -> Result<(), ScriptFault>
     ensures allowed { OnOk result (IsScriptText text.now) }
     ensures refused { OnErr result (IsScriptText text.now → ⊥) }
-    ensures placed { IfErr result (λ fault. (verbs : List ℕ) → IsPlaced verbs text.now fault) }
+    ensures placed { IfErr result (λ fault. IsPlaced text.now fault) }
     ensures too_long { TEXT_LIMIT < length text.now → result ≡ Err (ScriptFault.TooLong TEXT_LIMIT) }
     ensures zero { (place : ℕ) → length text.now ≤ TEXT_LIMIT → IsFirstZero text.now place → result ≡ Err (ScriptFault.NulByte place) }
 {
@@ -42,17 +40,17 @@ fn check_text(text: &[u8]) -> Result<(), ScriptFault>
 fn commands<'a>(alloc: Global, text: &'a [u8]) -> Result<Vec<Command<'a>>, ScriptFault>
     ensures read { IfOk result (λ commands. (items : List Item) × Items text.now items × AreCommands items (map command_of commands.items)) }
     ensures refused { IfErr result (λ fault. fault ≢ ScriptFault.OutOfMemory → (other : Program) → Spells text.now other → ⊥) }
-    ensures placed { IfErr result (λ fault. IsPlaced verb_bytes text.now fault) }
+    ensures placed { IfErr result (λ fault. IsPlaced text.now fault) }
 {
     let Progress {
         items,
         count,
         labels,
-        blocks: _,
+        open_blocks: _,
         empty,
     } = items(alloc, text)?;
-    check_label_targets(&items, &labels)?;
-    let commands = resolve_items(alloc, items, count, &labels)?;
+    check_targets(&items, &labels)?;
+    let commands = resolve(alloc, items, count, &labels)?;
     if let Some(place) = empty {
         if !has_expression(&commands) {
             return Err(ScriptFault::NoPreviousExpression { place });
@@ -69,7 +67,7 @@ pub fn parse<'a>(alloc: Global, text: &'a [u8]) -> Result<Script<'a>, ScriptFaul
     ensures spelled { IfOk result (λ script. Spells text.now script) }
     ensures only { IfOk result (λ script. (other : Program) → Spells text.now other → other ≡ script) }
     ensures refused { IfErr result (λ fault. fault ≢ ScriptFault.OutOfMemory → (other : Program) → Spells text.now other → ⊥) }
-    ensures placed { IfErr result (λ fault. IsPlaced verb_bytes text.now fault) }
+    ensures placed { IfErr result (λ fault. IsPlaced text.now fault) }
     ensures too_long { TEXT_LIMIT < length text.now → result ≡ Err (ScriptFault.TooLong TEXT_LIMIT) }
     ensures zero { (place : ℕ) → length text.now ≤ TEXT_LIMIT → IsFirstZero text.now place → result ≡ Err (ScriptFault.NulByte place) }
 {
@@ -78,20 +76,4 @@ pub fn parse<'a>(alloc: Global, text: &'a [u8]) -> Result<Script<'a>, ScriptFaul
     let reads = sorted_names(alloc, &commands, Access::Read)?;
     let writes = sorted_names(alloc, &commands, Access::Write)?;
     Ok(Script::new(commands, reads, writes, is_quiet(text)))
-}
-
-/// The script that the text spells in the first part of the language.
-pub fn parse_first<'a>(alloc: Global, text: &'a [u8]) -> Result<Script<'a>, ScriptFault>
-    ensures spelled { IfOk result (λ script. FirstSpells text.now script) }
-    ensures only { IfOk result (λ script. (other : Program) → FirstSpells text.now other → other ≡ script) }
-    ensures refused { IfErr result (λ fault. fault ≢ ScriptFault.OutOfMemory → (other : Program) → FirstSpells text.now other → ⊥) }
-    ensures placed { IfErr result (λ fault. IsPlaced first_verb_bytes text.now fault) }
-    ensures too_long { TEXT_LIMIT < length text.now → result ≡ Err (ScriptFault.TooLong TEXT_LIMIT) }
-    ensures zero { (place : ℕ) → length text.now ≤ TEXT_LIMIT → IsFirstZero text.now place → result ≡ Err (ScriptFault.NulByte place) }
-{
-    check_text(text)?;
-    let (verbs, labels) = first_items(alloc, text)?;
-    check_targets(&verbs, &labels)?;
-    let commands = resolve(alloc, verbs, &labels)?;
-    Ok(Script::new(commands, Vec::new(alloc), Vec::new(alloc), false))
 }

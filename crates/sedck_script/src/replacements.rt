@@ -4,7 +4,7 @@ ghost use Rattle.std.specs.Prelude.{◌≡◌, ◌≢◌, ◌≤◌, ◌<◌, �
 ghost use Rattle.sedck_script.specs.Cuts.{is_delimiter, Longest};
 ghost use Rattle.sedck_script.specs.Program as clean;
 ghost use Rattle.sedck_script.specs.Parts.{EscapedPart, Replacement, is_plain, greatest_group};
-ghost use Rattle.sedck_script.specs.Faults.{IsPlaced, verb_bytes};
+ghost use Rattle.sedck_script.specs.Faults.{IsPlaced};
 ghost use Rattle.sedck_script.specs.Reading.{EndsIn};
 ghost use Rattle.sedck_script.specs.View.{pattern_of, part_of};
 ghost use Rattle.sedck_script.specs.ReplacementReading.{IsGroupWithin, HasGroupsUpTo, IsNextPart};
@@ -69,7 +69,7 @@ fn next_part<'a>(
     requires opened { opening ≤ length whole.now }
     ensures read { IfOk result (λ x. IsNextPart delimiter greatest text.now (option_map part_of x.0) x.1.now) }
     ensures refused { IfErr result (λ fault. (parts : List clean.Part) (rest : List ℕ) → Replacement delimiter text.now parts rest → HasGroupsUpTo greatest parts → ⊥) }
-    ensures placed { IfErr result (λ fault. IsPlaced verb_bytes whole.now fault) }
+    ensures placed { IfErr result (λ fault. IsPlaced whole.now fault) }
 {
     let (piece, behind) = piece_at(whole, opening, delimiter, text)?;
     match piece {
@@ -108,7 +108,7 @@ pub fn replacement<'a>(
     ensures read { IfOk result (λ x. Replacement delimiter text.now (map part_of x.0.items) x.1.now) }
     ensures groups { IfOk result (λ x. HasGroupsUpTo greatest (map part_of x.0.items)) }
     ensures refused { IfErr result (λ fault. fault ≢ ScriptFault.OutOfMemory → (parts : List clean.Part) (rest : List ℕ) → Replacement delimiter text.now parts rest → HasGroupsUpTo greatest parts → ⊥) }
-    ensures placed { IfErr result (λ fault. IsPlaced verb_bytes whole.now fault) }
+    ensures placed { IfErr result (λ fault. IsPlaced whole.now fault) }
 {
     let mut parts = Vec::new(alloc);
     let mut rest = text;

@@ -5,10 +5,10 @@ ghost use Rattle.sedck_script.specs.View as view;
 ghost use Rattle.sedck_script.specs.Resolution.{Resolves};
 ghost use Rattle.sedck_script.specs.Reading.{HasLabels, IsUnknownLabel};
 ghost use Rattle.sedck_script.specs.VerbReading.{written_verb, IsWrittenWithin};
-ghost use Rattle.sedck_script.specs.ItemReading.{item_of, commands_among, Nests, verb_turn, Takes, IsItemWithin, IsKnownLabel, IsLostLabel, label_of, item_label, target_of, resolved_command};
+ghost use Rattle.sedck_script.specs.ItemReading.{item_of, commands_among, Nests, verb_turn, TakesTarget, IsItemWithin, IsKnownLabel, IsLostLabel, label_of, item_label, target_of, resolved_command};
 
 use crate::fault::ScriptFault;
-use crate::first::place_of;
+use crate::label_places::place_of;
 use crate::script::{Command, Verb};
 use crate::verbs::Written;
 use crate::written::{WrittenCommand, WrittenItem};
@@ -55,7 +55,7 @@ fn command_of<'a>(
 
 /// The target of the block that the verb opens, taken from the end of the list; the end for another verb.
 fn block_target(verb: &Written, targets: &mut Vec<usize>, end: usize) -> usize
-    ensures { Takes (verb_turn (written_verb verb.now)) targets.old.items targets.new.items result }
+    ensures { TakesTarget (verb_turn (written_verb verb.now)) targets.old.items targets.new.items result }
 {
     if let Written::Opening = verb {
         return targets.pop().unwrap_or(end);

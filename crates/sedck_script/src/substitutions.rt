@@ -4,7 +4,7 @@ ghost use Rattle.std.specs.Prelude.{◌≡◌, ◌≢◌, ◌≤◌, ℕ, List, 
 ghost use Rattle.sedck_script.specs.Cuts.{is_delimiter};
 ghost use Rattle.sedck_script.specs.Program as clean;
 ghost use Rattle.sedck_script.specs.Items.{WrittenVerb, Known, VerbText};
-ghost use Rattle.sedck_script.specs.Faults.{IsPlaced, verb_bytes};
+ghost use Rattle.sedck_script.specs.Faults.{IsPlaced};
 ghost use Rattle.sedck_script.specs.Reading.{EndsIn};
 ghost use Rattle.sedck_script.specs.View.{verb_of};
 
@@ -21,7 +21,7 @@ use std::alloc::Global;
 fn opening_delimiter<'a>(opening: usize, text: &'a [u8]) -> Result<(u8, &'a [u8]), ScriptFault>
     ensures read { IfOk result (λ x. (text.now ≡ x.0 ∷ x.1.now) × IsTrue (is_delimiter x.0)) }
     ensures refused { IfErr result (λ fault. (delimiter : ℕ) (rest : List ℕ) → text.now ≡ delimiter ∷ rest → IsTrue (is_delimiter delimiter) → ⊥) }
-    ensures placed { IfErr result (λ fault. (whole : List ℕ) → opening ≤ length whole → IsPlaced verb_bytes whole fault) }
+    ensures placed { IfErr result (λ fault. (whole : List ℕ) → opening ≤ length whole → IsPlaced whole fault) }
 {
     let unterminated = ScriptFault::Unterminated { place: opening };
     let Some((delimiter, behind)) = text.split_first() else {
@@ -45,7 +45,7 @@ pub fn substitution<'a>(
     ensures read { IfOk result (λ x. VerbText (115 ∷ text.now) (Known (verb_of x.0)) x.1.now) }
     ensures plain { IfOk result (λ x. (name : List ℕ) → verb_of x.0 ≢ clean.Label name) }
     ensures refused { IfErr result (λ fault. fault ≢ ScriptFault.OutOfMemory → (verb : WrittenVerb) (rest : List ℕ) → VerbText (115 ∷ text.now) verb rest → ⊥) }
-    ensures placed { IfErr result (λ fault. IsPlaced verb_bytes whole.now fault) }
+    ensures placed { IfErr result (λ fault. IsPlaced whole.now fault) }
 {
     let (delimiter, opened) = opening_delimiter(place, text)?;
     let (pattern, behind) = pattern(alloc, whole, place, delimiter, opened)?;
@@ -75,7 +75,7 @@ pub fn transliteration<'a>(
     ensures read { IfOk result (λ x. VerbText (121 ∷ text.now) (Known (verb_of x.0)) x.1.now) }
     ensures plain { IfOk result (λ x. (name : List ℕ) → verb_of x.0 ≢ clean.Label name) }
     ensures refused { IfErr result (λ fault. fault ≢ ScriptFault.OutOfMemory → (verb : WrittenVerb) (rest : List ℕ) → VerbText (121 ∷ text.now) verb rest → ⊥) }
-    ensures placed { IfErr result (λ fault. IsPlaced verb_bytes whole.now fault) }
+    ensures placed { IfErr result (λ fault. IsPlaced whole.now fault) }
 {
     let (delimiter, opened) = opening_delimiter(place, text)?;
     let (from, behind) = delimited_list(alloc, whole, place, delimiter, opened)?;

@@ -3,7 +3,7 @@
 ghost use Rattle.std.specs.Prelude.{ℕ, List, IfSome, IfNone};
 ghost use Rattle.sedck_script.specs.Parts.{Lines, GivenText};
 
-use crate::first::split_blanks;
+use crate::bytes::split_blanks;
 
 /// What stands behind the lines at the front.
 fn behind_lines(text: &[u8]) -> &[u8]

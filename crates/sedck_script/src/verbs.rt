@@ -4,14 +4,15 @@ ghost use Rattle.std.specs.Prelude.{◌≡◌, ◌≢◌, ℕ, List, [], ◌∷�
 ghost use Rattle.sedck_bre.specs.Text.{one_of};
 ghost use Rattle.sedck_script.specs.Program as clean;
 ghost use Rattle.sedck_script.specs.Items.{WrittenVerb, Known, Simple, VerbText, IsNoBrace};
-ghost use Rattle.sedck_script.specs.Faults.{IsPlaced, StandsAt, verb_bytes};
+ghost use Rattle.sedck_script.specs.Faults.{IsPlaced, StandsAt};
 ghost use Rattle.sedck_script.specs.Reading.{EndsIn};
 ghost use Rattle.sedck_script.specs.View.{verb_of};
 ghost use Rattle.sedck_script.specs.VerbReading.{written_verb, IsWrittenWithin, DefinesKnown};
 
+use crate::bytes::split_blanks;
 use crate::ends::end_of_command;
 use crate::fault::ScriptFault;
-use crate::first::{place_of, split_blanks};
+use crate::label_places::place_of;
 use crate::labels::{branch_label, defined_label};
 use crate::names::name;
 use crate::script::Verb;
@@ -123,7 +124,7 @@ fn known_verb<'a>(
     ensures read { IfOk result (λ x. VerbText (verb ∷ text.now) (Known (verb_of x.0)) x.1.now) }
     ensures plain { IfOk result (λ x. (name : List ℕ) → verb_of x.0 ≢ clean.Label name) }
     ensures refused { IfErr result (λ fault. fault ≢ ScriptFault.OutOfMemory → (written : WrittenVerb) (rest : List ℕ) → VerbText (verb ∷ text.now) written rest → ⊥) }
-    ensures placed { IfErr result (λ fault. IsPlaced verb_bytes whole.now fault) }
+    ensures placed { IfErr result (λ fault. IsPlaced whole.now fault) }
 {
     if b"aci".contains(&verb) {
         return text_verb(place, verb, text);
@@ -155,7 +156,7 @@ fn definition<'a>(
     ensures fresh { IfOk result (λ x. DefinesKnown labels.now (written_verb x.0) → ⊥) }
     ensures within { IfOk result (λ x. IsWrittenWithin (length whole.now) x.0) }
     ensures refused { IfErr result (λ fault. (verb : WrittenVerb) (rest : List ℕ) → VerbText (58 ∷ text.now) verb rest → DefinesKnown labels.now verb) }
-    ensures placed { IfErr result (λ fault. IsPlaced verb_bytes whole.now fault) }
+    ensures placed { IfErr result (λ fault. IsPlaced whole.now fault) }
 {
     let (name, place, behind) = defined_label(whole, text)?;
     if place_of(labels, name).is_some() {
@@ -181,7 +182,7 @@ pub fn verb_at<'a>(
     ensures fresh { IfOk result (λ x. DefinesKnown labels.now (written_verb x.0) → ⊥) }
     ensures within { IfOk result (λ x. IsWrittenWithin (length whole.now) x.0) }
     ensures refused { IfErr result (λ fault. fault ≢ ScriptFault.OutOfMemory → (verb : WrittenVerb) (rest : List ℕ) → VerbText text.now verb rest → DefinesKnown labels.now verb) }
-    ensures placed { IfErr result (λ fault. IsPlaced verb_bytes whole.now fault) }
+    ensures placed { IfErr result (λ fault. IsPlaced whole.now fault) }
 {
     let Some((first, behind)) = text.split_first() else {
         return Err(ScriptFault::UnknownCommand { place: whole.len() });

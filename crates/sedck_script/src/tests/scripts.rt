@@ -15,7 +15,7 @@ fn fault_of(alloc: Global, text: &[u8]) -> (u8, Option<usize>) {
 
 #[test]
 fn refused_scripts(rt: HostRuntime) {
-    let rows: [(&[u8], u8, usize); 51] = [
+    let rows: [(&[u8], u8, usize); 54] = [
         (b"p\0", 2, 1),
         (b"}\0", 2, 1),
         (b"k", 3, 0),
@@ -51,8 +51,11 @@ fn refused_scripts(rt: HostRuntime) {
         (b"p;w", 12, 2),
         (b"s/a/b/w", 12, 6),
         (b":", 13, 1),
+        (b": \n", 13, 2),
+        (b":a$", 13, 2),
         (b"{:a}", 13, 3),
         (b"b#c", 13, 1),
+        (b"b$", 13, 1),
         (b":a;:a@", 13, 5),
         (b":a;:a b", 14, 4),
         (b"b z", 15, 2),
@@ -119,6 +122,12 @@ fn targets(rt: HostRuntime) -> Result<(), Fail> {
     assert!(rt; matches!(&commands[0].verb, Verb::Block(3)));
     assert!(rt; matches!(&commands[2].verb, Verb::Branch(4)));
     assert!(rt; matches!(&commands[3].verb, Verb::Test(5)));
+    let script = parse(rt.alloc(), b" :a\n n \n\nb a").ok().ok_or("refused")?;
+    let commands = script.commands();
+    assert_eq!(rt; commands.len(), 3);
+    assert!(rt; matches!(&commands[0].verb, Verb::Label(b"a")));
+    assert!(rt; matches!(&commands[1].verb, Verb::Next));
+    assert!(rt; matches!(&commands[2].verb, Verb::Branch(0)));
     Ok(())
 }
 
@@ -135,13 +144,13 @@ fn prefixes(rt: HostRuntime) {
 /// Refuses, or reads, so many copies of the piece and then the end.
 fn repeated(
     alloc: Global,
-    piece: u8,
+    piece: &[u8],
     count: usize,
     end: &[u8],
 ) -> Result<(u8, Option<usize>), Fail> {
     let mut text = Vec::new(alloc);
     for _ in 0..count {
-        text.push(piece)?;
+        text.extend_from_slice(piece)?;
     }
     text.extend_from_slice(end)?;
     Ok(fault_of(alloc, &text))
@@ -150,11 +159,13 @@ fn repeated(
 #[test]
 fn whole_limits(rt: HostRuntime) -> Result<(), Fail> {
     let closed = [b'}'; 64];
-    assert_eq!(rt; repeated(rt.alloc(), b'{', 64, &closed)?, (0, None));
-    assert_eq!(rt; repeated(rt.alloc(), b'{', 65, &closed)?, (18, Some(64)));
-    assert_eq!(rt; repeated(rt.alloc(), b'\n', 1_048_576, b"")?, (0, None));
+    assert_eq!(rt; repeated(rt.alloc(), b"{", 64, &closed)?, (0, None));
+    assert_eq!(rt; repeated(rt.alloc(), b"{", 65, &closed)?, (18, Some(64)));
+    assert_eq!(rt; repeated(rt.alloc(), b"p\n", 4095, b"")?, (0, None));
+    assert_eq!(rt; repeated(rt.alloc(), b"p\n", 4095, b"p")?, (19, Some(8190)));
+    assert_eq!(rt; repeated(rt.alloc(), b"\n", 1_048_576, b"")?, (0, None));
     assert_eq!(rt;
-        repeated(rt.alloc(), b'\n', 1_048_576, b"\0")?,
+        repeated(rt.alloc(), b"\n", 1_048_576, b"\0")?,
         (1, Some(1_048_576))
     );
     Ok(())

@@ -1,6 +1,6 @@
 use Rattle.std.proofs.Common.{ap, length, arith}
 use Rattle.sedck_script.specs.Parts.{none, one}
-use Rattle.sedck_script.proofs.FirstWhole.{if_err_from}
+use Rattle.sedck_script.proofs.Outcomes.{if_err_from}
 use Rattle.sedck_script.proofs.Tails.{tail_length}
 use Rattle.sedck_script.proofs.AddressOnly.{only_none, only_one, only_two, two_read, no_first, no_second, no_place, second_tail, other_byte, place_found, none_found}
 use Rattle.sedck_script.proofs.addresses.address_at.Goals as goal

@@ -1,4 +1,4 @@
-use Rattle.sedck_script.proofs.FirstWhole.{if_err_from}
+use Rattle.sedck_script.proofs.Outcomes.{if_err_from}
 use Rattle.sedck_script.proofs.addresses.context.Goals as goal
 
 pub returns-in_err-pattern-clause-refused : goal.returns-in_err-pattern-clause-refused

@@ -1,5 +1,5 @@
 use Rattle.sedck_script.proofs.Outcomes.{if_err_more}
-use Rattle.sedck_script.proofs.FirstReading.{tail_behind}
+use Rattle.sedck_script.proofs.Tails.{tail_behind}
 use Rattle.sedck_script.proofs.AddressLemmas.{custom_delimiter}
 use Rattle.sedck_script.proofs.addresses.custom_context.Goals as goal
 

@@ -1,7 +1,7 @@
 use Rattle.std.proofs.Common.{arith}
 use Rattle.sedck_script.specs.Parts.{line}
 use Rattle.sedck_script.proofs.Outcomes.{if_ok_more, if_err_more}
-use Rattle.sedck_script.proofs.FirstReading.{tail_behind}
+use Rattle.sedck_script.proofs.Tails.{tail_behind}
 use Rattle.sedck_script.proofs.AddressLemmas.{last_text, slash_text, slash_only, custom_text, custom_only, no_line}
 use Rattle.sedck_script.proofs.addresses.place_here.Goals as goal
 

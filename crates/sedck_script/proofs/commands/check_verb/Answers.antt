@@ -2,8 +2,9 @@ use Rattle.std.proofs.Common.{◌≡◌, Some, ap, sym, ◌∙◌, inl, arith}
 use Rattle.std.proofs.lemmas.Bool.{false≢true}
 use Rattle.sedck_bre.specs.Text.{is_in}
 use Rattle.sedck_script.specs.Faults.{verb_bytes}
-use Rattle.sedck_script.proofs.FirstReading.{stands_at_tail}
-use Rattle.sedck_script.proofs.VerbBytes.{byte_of, same_byte}
+use Rattle.sedck_script.specs.View.{address_of}
+use Rattle.sedck_script.proofs.Tails.{stands_at_tail}
+use Rattle.sedck_script.proofs.VerbBytes.{byte_of, same_byte, not_taken}
 use Rattle.sedck_script.proofs.commands.check_verb.Goals.{else-verb-eq123-via-then-verb-eq123+else-depth-ge-DEPTH_LIMIT, else-verb-eq123-via-else-verb-eq123}
 use Rattle.sedck_script.proofs.commands.check_verb.Goals as goal
 
@@ -16,6 +17,12 @@ returns-then-not-is_verb-clause-placed c =
 
 pub returns-then-not-takes-clause-refused : goal.returns-then-not-takes-clause-refused
 returns-then-not-takes-clause-refused c = λ verb rest x t. absurd (false≢true (sym c.if-not-takes.true ∙ c.takes.ensures ∙ (byte_of c.in-Some.ensures.cases.0 x).taken_so _ _ t))
+
+pub returns-then-not-takes-clause-placed : goal.returns-then-not-takes-clause-placed
+returns-then-not-takes-clause-placed c = (_, stands_at_tail c.requires.tail c.in-Some.ensures.cases.0, not_taken c.in-Some.verb.now (address_of c.args.address.now) c.args.negated (sym c.takes.ensures ∙ c.if-not-takes.true))
+
+pub returns-then-count-ge-COMMAND_LIMIT-clause-placed : goal.returns-then-count-ge-COMMAND_LIMIT-clause-placed
+returns-then-count-ge-COMMAND_LIMIT-clause-placed c = (_, stands_at_tail c.requires.tail c.in-Some.ensures.cases.0, sym c.is_verb.ensures ∙ c.if-not-is_verb.false)
 
 pub returns-then-depth-ge-DEPTH_LIMIT-clause-refused : goal.returns-then-depth-ge-DEPTH_LIMIT-clause-refused
 returns-then-depth-ge-DEPTH_LIMIT-clause-refused c = λ verb rest x t. inl ((byte_of c.in-Some.ensures.cases.0 x).opens c.if-verb-eq123.true, omega arith)

@@ -3,9 +3,8 @@ use Rattle.sedck_script.specs.Program.{address_patterns}
 use Rattle.sedck_script.specs.View.{address_of}
 use Rattle.sedck_script.specs.VerbReading.{written_verb}
 use Rattle.sedck_script.specs.Progress.{written_patterns}
-use Rattle.sedck_script.proofs.FirstWhole.{if_err_from}
-use Rattle.sedck_script.proofs.FirstState.{tail_cut, tail_tail}
-use Rattle.sedck_script.proofs.Tails.{tail_length}
+use Rattle.sedck_script.proofs.Outcomes.{if_err_from}
+use Rattle.sedck_script.proofs.Tails.{tail_cut, tail_tail, tail_length}
 use Rattle.sedck_script.proofs.CommandLemmas.{address_tail, command_parts, empty_append, takes_along}
 use Rattle.sedck_script.proofs.commands.command_at.Goals as goal
 

@@ -1,6 +1,6 @@
 use Rattle.std.proofs.Common.{◌≡◌, None, ap, sym, subst}
 use Rattle.sedck_script.specs.PieceReading.{IsPiece, list_escape}
-use Rattle.sedck_script.proofs.FirstReading.{if_err_each}
+use Rattle.sedck_script.proofs.Outcomes.{if_err_each}
 use Rattle.sedck_script.proofs.WholeOne.{no_backslash}
 use Rattle.sedck_script.proofs.PieceLemmas.{piece_tail, list_more, list_byte, list_escaped, list_pair, list_end, list_stuck, list_broken}
 use Rattle.sedck_script.proofs.delimited.delimited_list.Goals as goal

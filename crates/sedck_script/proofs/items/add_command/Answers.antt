@@ -6,7 +6,7 @@ use Rattle.sedck_script.specs.View.{address_of}
 use Rattle.sedck_script.specs.VerbReading.{written_verb, DefinesKnown}
 use Rattle.sedck_script.specs.ItemReading.{item_of, commands_among, IsItemWithin}
 use Rattle.sedck_script.specs.Progress.{IsBeyond, NotesLabel, patterns_of, item_patterns}
-use Rattle.sedck_script.proofs.FirstWhole.{if_err_from}
+use Rattle.sedck_script.proofs.Outcomes.{if_err_from}
 use Rattle.sedck_script.proofs.Tails.{tail_length}
 use Rattle.sedck_script.proofs.ProgressLemmas.{front_refused, front_command, command_shorter, brace_stands}
 use Rattle.sedck_script.proofs.StateLemmas.{among_append, patterns_push, labels_noted, blocks_noted}
@@ -16,7 +16,7 @@ use Rattle.sedck_script.proofs.items.add_command.Goals as goal
 pub returns-in_err-command-clause-refused : goal.returns-in_err-command-clause-refused
 returns-in_err-command-clause-refused c =
     if_err_from _ c.from_residual.result _ c.from_residual.ensures.1 (λ memory. front_refused c.args.progress.now.labels c.requires.progress.front c.requires.begins c.requires.progress.labels c.requires.progress.count
-    (λ a n v rest x. subst (λ d. DefinesKnown c.args.progress.now.labels v ⊎ IsBeyond d c.args.progress.now.count v) (c.len.ensures ∙ c.args.progress.now.blocks.ok.0) (c.in_err-command.ensures.refused memory a n v rest x)))
+    (λ a n v rest x. subst (λ d. DefinesKnown c.args.progress.now.labels v ⊎ IsBeyond d c.args.progress.now.count v) (omega (arith, c.len.ensures)) (c.in_err-command.ensures.refused memory a n v rest x)))
 
 pub returns-in_err-note_label-clause-refused : goal.returns-in_err-note_label-clause-refused
 returns-in_err-note_label-clause-refused c = if_err_from _ c.from_residual-in_err-note_label.result _ c.from_residual-in_err-note_label.ensures.1 (λ memory. absurd (memory c.in_err-note_label.ensures.memory))
@@ -38,8 +38,8 @@ returns-clause-progress c =
     let old = c.args.progress.now in
     let command = c.in_ok-command.command in
     let items = ap (map item_of) c.in_ok-push.ensures.items ∙ map_push item_of old.items.items _ in
-    let noted = blocks_noted (written_verb command.verb) c.args.text.now old.blocks.items c.note_block.new.blocks.items _ c.in_ok-note_block.ensures.ok
-    (λ e. subst (λ d. d < 64) (c.len.ensures ∙ old.blocks.ok.0) (c.in_ok-command.ensures.shallow e))
+    let noted = blocks_noted (written_verb command.verb) c.args.text.now old.open_blocks.items c.note_block.new.open_blocks.items _ c.in_ok-note_block.ensures.ok
+    (λ e. subst (λ d. d < 64) (omega (arith, c.len.ensures)) (c.in_ok-command.ensures.shallow e))
     (λ e. brace_stands _ c.requires.progress.front.tail c.in_ok-command.ensures.read refl e) c.requires.progress.opened in
     record {
       front = rw items (front_command c.requires.progress.front c.requires.begins c.in_ok-command.ensures.read noted.0);

@@ -6,14 +6,14 @@ use Rattle.sedck_script.specs.Faults.{StandsAt}
 use Rattle.sedck_script.specs.Cuts.{brace}
 use Rattle.sedck_script.specs.ItemReading.{item_of, IsItemWithin}
 use Rattle.sedck_script.specs.Progress.{IsFront}
-use Rattle.sedck_script.proofs.FirstWhole.{if_err_from}
-use Rattle.sedck_script.proofs.FirstReading.{tail_behind, stands_at_tail}
+use Rattle.sedck_script.proofs.Outcomes.{if_err_from}
+use Rattle.sedck_script.proofs.Tails.{tail_behind, stands_at_tail}
 use Rattle.sedck_script.proofs.ProgressLemmas.{front_unopened, front_unended, front_closing}
 use Rattle.sedck_script.proofs.StateLemmas.{among_closing, patterns_closing, opened_front}
 use Rattle.sedck_script.proofs.items.close_block.Goals as goal
 
 pub returns-in_default-clause-refused : goal.returns-in_default-clause-refused
-returns-in_default-clause-refused c = λ memory. front_unopened c.requires.progress.front c.requires.begins refl (omega (arith, c.in_default.ensures.cases.0, c.args.progress.now.blocks.ok.0))
+returns-in_default-clause-refused c = λ memory. front_unopened c.requires.progress.front c.requires.begins refl (omega (arith, c.in_default.ensures.cases.0))
 
 pub returns-in_default-clause-placed : goal.returns-in_default-clause-placed
 returns-in_default-clause-placed c = stands_at_tail c.requires.progress.front.tail c.requires.begins
@@ -27,7 +27,7 @@ returns-in_err-rest-clause-refused c = if_err_from _ c.from_residual.result _ c.
 pub returns-clause-progress : goal.returns-clause-progress
 returns-clause-progress c =
     let items = ap (map item_of) c.in_ok-push.ensures.items ∙ map_push item_of c.args.progress.now.items.items _ in
-    let deep : length c.args.progress.now.blocks.items ≡ suc (length c.pop.new.self.items) = omega (arith, ap length c.in-Some.ensures.items, length-append {A = ℕ}) in
+    let deep : length c.args.progress.now.open_blocks.items ≡ suc (length c.pop.new.self.items) = omega (arith, ap length c.in-Some.ensures.items, length-append {A = ℕ}) in
     record {
       front = rw items (front_closing (subst (λ d. IsFront c.args.text.now (map item_of c.args.progress.now.items.items) d c.args.begins.now) deep c.requires.progress.front) c.requires.begins refl c.in_ok-rest.ensures.read);
       labels = rw (items, among_closing) c.requires.progress.labels;

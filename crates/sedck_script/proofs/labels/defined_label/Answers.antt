@@ -1,5 +1,5 @@
 use Rattle.std.proofs.Common.{arith}
-use Rattle.sedck_script.proofs.FirstReading.{if_err_always}
+use Rattle.sedck_script.proofs.Outcomes.{if_err_always}
 use Rattle.sedck_script.proofs.LabelLemmas.{no_label_there, no_definition}
 use Rattle.sedck_script.proofs.labels.defined_label.Goals as goal
 

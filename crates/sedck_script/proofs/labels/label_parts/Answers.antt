@@ -1,4 +1,4 @@
-use Rattle.sedck_script.proofs.FirstState.{tail_cut, tail_tail}
+use Rattle.sedck_script.proofs.Tails.{tail_cut, tail_tail}
 use Rattle.sedck_script.proofs.labels.label_parts.Goals as goal
 
 pub returns-clause-tail : goal.returns-clause-tail

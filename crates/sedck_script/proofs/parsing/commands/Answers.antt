@@ -1,9 +1,9 @@
 use Rattle.std.proofs.Common.{◌≡◌, ◌∙◌, ℕ, List, Option, Some, None, true, map, length, sym, subst, ap, arith}
 use Rattle.std.specs.Prelude.{All, Any}
 use Rattle.std.proofs.lemmas.Bool.{both_ways}
-use Rattle.sedck_script.specs.Faults.{verb_bytes, IsPlaced}
+use Rattle.sedck_script.specs.Faults.{IsPlaced}
 use Rattle.sedck_script.specs.ItemReading.{item_of, item_label, IsLostLabel, IsItemWithin}
-use Rattle.sedck_script.proofs.FirstWhole.{if_err_from}
+use Rattle.sedck_script.proofs.Outcomes.{if_err_from}
 use Rattle.sedck_script.proofs.ProgramLemmas.{no_program, no_target, no_expression, are_commands}
 use Rattle.sedck_script.specs.Program.{Pattern, expressions}
 use Rattle.sedck_script.specs.View.{command_of}
@@ -27,7 +27,7 @@ returns-in_err-check_targets-clause-placed c =
     if_err_from _ c.from_residual-in_err-check_targets.result _ c.from_residual-in_err-check_targets.ensures.1
     (let within = subst (λ items. All (IsItemWithin (length c.args.text.now)) items) (sym c.deref.ensures.value) c.in_ok-items.ensures.progress.1.within in
     let p = c.in_err-check_targets.ensures.placed (length c.args.text.now) within in
-    subst (λ f. IsPlaced verb_bytes c.args.text.now f) (sym p.1) p.2)
+    subst (λ f. IsPlaced c.args.text.now f) (sym p.1) p.2)
 
 previous : (text : List ℕ) (ps : List Pattern) (o : Option ℕ) (place : ℕ) → o ≡ Some place → IsEmptyAt (length text) ps o → has_previous ps ≡ true
 previous text ps o place e h = (subst (IsEmptyAt (length text) ps) e h).0

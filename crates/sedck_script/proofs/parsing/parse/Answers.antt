@@ -2,17 +2,12 @@ use Rattle.std.proofs.Common.{◌∙◌, map, sym, subst, ap}
 use Rattle.sedck_script.specs.Names.{sorted_names}
 use Rattle.sedck_script.specs.NameReading.{all_accessed}
 use Rattle.sedck_script.specs.View.{program_from, command_of}
-use Rattle.sedck_script.specs.Faults.{verb_bytes}
 use Rattle.sedck_script.specs.Spelling.{Spells}
 use Rattle.sedck_script.specs.declared.name_lists.Access.TheVariants.{Read, Write}
 use Rattle.sedck_script.proofs.Determined.{expressions_determined}
-use Rattle.sedck_script.proofs.FirstWhole.{if_err_from}
 use Rattle.sedck_script.proofs.ItemsOne.{whole_one}
 use Rattle.sedck_script.proofs.SpelledScript.{spelled_script}
 use Rattle.sedck_script.proofs.parsing.parse.Goals as goal
-
-pub returns-in_err-check_text-clause-placed : goal.returns-in_err-check_text-clause-placed
-returns-in_err-check_text-clause-placed c = if_err_from _ c.from_residual.result _ c.from_residual.ensures.1 (c.in_err-check_text.ensures.placed verb_bytes)
 
 pub new-requires-clause-script : goal.new-requires-clause-script
 new-requires-clause-script c =

@@ -1,9 +1,7 @@
 use Rattle.std.proofs.Common.{◌≤◌, subst}
 use Rattle.sedck_script.specs.View.{pattern_of}
-use Rattle.sedck_script.proofs.FirstState.{tail_tail}
-use Rattle.sedck_script.proofs.FirstReading.{tail_behind, if_err_each}
-use Rattle.sedck_script.proofs.FirstWhole.{if_err_from}
-use Rattle.sedck_script.proofs.Tails.{expression_tail, replacement_tail}
+use Rattle.sedck_script.proofs.Tails.{tail_tail, tail_behind, expression_tail, replacement_tail}
+use Rattle.sedck_script.proofs.Outcomes.{if_err_each, if_err_from}
 use Rattle.sedck_script.proofs.WholeOne.{no_backslash}
 use Rattle.sedck_script.proofs.VerbLemmas.{substitute_read, substitute_no_pattern, substitute_no_parts, substitute_no_flags}
 use Rattle.sedck_script.proofs.substitutions.substitution.Goals as goal

@@ -1,8 +1,6 @@
 use Rattle.std.proofs.Common.{arith}
-use Rattle.sedck_script.proofs.FirstState.{tail_tail}
-use Rattle.sedck_script.proofs.FirstReading.{tail_behind, if_err_each}
-use Rattle.sedck_script.proofs.FirstWhole.{if_err_from}
-use Rattle.sedck_script.proofs.Tails.{list_tail}
+use Rattle.sedck_script.proofs.Tails.{tail_tail, tail_behind, list_tail}
+use Rattle.sedck_script.proofs.Outcomes.{if_err_each, if_err_from}
 use Rattle.sedck_script.proofs.WholeOne.{no_backslash}
 use Rattle.sedck_script.proofs.VerbLemmas.{transliterate_read, transliterate_no_first, transliterate_no_second, transliterate_unequal, transliterate_no_end}
 use Rattle.sedck_script.proofs.substitutions.transliteration.Goals as goal

@@ -1,7 +1,8 @@
 use Rattle.std.proofs.Common.{refl}
 use Rattle.std.specs.Prelude.{option_copied}
 use Rattle.sedck_script.specs.Items.{opening}
-use Rattle.sedck_script.proofs.FirstReading.{tail_behind, stands_at_tail, if_err_each}
+use Rattle.sedck_script.proofs.Tails.{tail_behind, stands_at_tail}
+use Rattle.sedck_script.proofs.Outcomes.{if_err_each}
 use Rattle.sedck_script.proofs.VerbCases.{branch_read, test_read, no_branch_at, no_test_at, verb_here}
 use Rattle.sedck_script.proofs.verbs.verb_at.Goals as goal
 

@@ -1,0 +1,5 @@
+-- Texts that are the same begin with the same byte.
+use Rattle.std.proofs.Common.{◌≡◌, ℕ, List, ◌∷◌}
+
+pub heads : {a b : ℕ} {s t : List ℕ} → (a ∷ s) ≡ (b ∷ t) → a ≡ b
+heads h = cc h
