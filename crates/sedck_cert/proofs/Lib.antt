@@ -1,7 +1,7 @@
 pub mod Decimals
 pub mod Pieces
 pub mod Written
-pub mod Limits
+pub mod NameLimits
 pub mod Whole
 pub mod Again
 pub mod Texts
@@ -15,5 +15,6 @@ pub mod Counted
 pub mod Promise
 pub mod Listed
 pub mod CheckingLemmas
+pub mod BoundingLemmas
 pub mod SameNames
 pub mod Streaming

@@ -7,7 +7,7 @@ use Rattle.sedck_script.specs.Names.{AreNames}
 use Rattle.sedck_cert.specs.Certificate.{Certificate, IsCertificate}
 use Rattle.sedck_cert.specs.View.{names_of}
 use Rattle.sedck_cert.specs.Text.{line, ranks_text, node_text, node_lines, name_lines, files_text, certificate_text}
-use Rattle.sedck_cert.proofs.Limits.{left_cons}
+use Rattle.sedck_cert.proofs.NameLimits.{left_cons}
 
 pub some_pieces : (first second : ℕ) → line (ranks_text (Some (first, second))) ≡ (decimal first ++ 32 ∷ []) ++ (decimal second ++ 10 ∷ [])
 some_pieces first second = append_assoc (decimal first ++ 32 ∷ []) (decimal second) (10 ∷ [])

@@ -15,6 +15,7 @@ pub mod Reading
 pub mod Ranked
 pub mod Rejections
 pub mod StepLimit
+pub mod Bounds
 pub mod Laws
 pub mod Checking
 pub mod Headline

@@ -130,7 +130,7 @@ fn reason_unmet(cert: &Cert, edge: Edge) -> Option<Rejection>
 }
 
 /// The ranks of a node, if it has ranks.
-fn ranks_of(cert: &Cert, node: Node) -> Option<(u16, u16)>
+pub(crate) fn ranks_of(cert: &Cert, node: Node) -> Option<(u16, u16)>
     ensures { result ≡ ranks_at cert.now node }
 {
     let index = 2 * usize::from(node.at) + usize::from(node.flag);

@@ -1,16 +1,20 @@
-//! Certificates: what they are, when they are accepted, and what that promises.
+//! Certificates: what they are, when they are accepted, what that promises, and how many steps a run takes.
 #![tactic(auto)]
 
+mod bounding;
 mod certificate;
 mod checking;
 pub mod laws;
+mod limits;
 mod reading;
 pub mod streams;
 mod verifying;
 mod writing;
 
+pub use bounding::bound;
 pub use certificate::Cert;
 pub use checking::{Rejection, Verdict, check};
+pub use limits::Bound;
 pub use reading::{CertFault, read_cert};
 pub use verifying::{Fault, verify};
 pub use writing::write_cert;

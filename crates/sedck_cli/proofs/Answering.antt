@@ -88,11 +88,11 @@ verdict_stand text bytes (Rejected why) answer says = says
 
 -- the report of the texts that were read
 pub judged : (text bytes : List ℕ) (verdict : Verdict) (report : List ℕ) → ((¬ IsWantOfMemory (Ok verdict)) → IsAnswered text bytes (Ok verdict)) → SaysWhy text bytes (Ok verdict)
-    → ((p : Program) (c : Certificate) → IsTextOf bytes c → IsCheckReport p c verdict report)
+    → ((p : Program) (c : Certificate) → Spells text p → IsTextOf bytes c → IsCheckReport p c verdict report)
     → Stand text bytes (λ p c. IsVerdict p c verdict × IsCheckReport p c verdict report)
 judged text bytes verdict report answer says reported =
     let s = verdict_stand text bytes verdict answer says in
-    record { program = s.program; spelled = s.spelled; cert = s.cert; written = s.written; holds = (s.holds, reported s.program s.cert s.written.is_text) }
+    record { program = s.program; spelled = s.spelled; cert = s.cert; written = s.written; holds = (s.holds, reported s.program s.cert s.spelled.spells s.written.is_text) }
 
 of_texts : (t b text bytes : List ℕ) (verdict : Verdict) (report : List ℕ) → text ≡ script_read t → bytes ≡ certificate_read b
     → Stand text bytes (λ p c. IsVerdict p c verdict × IsCheckReport p c verdict report) → ChecksTo t b (verdict_outcome verdict) report

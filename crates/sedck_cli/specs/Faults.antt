@@ -30,9 +30,3 @@ IsRefusal text bytes (fault.Script why) = (why ≢ script.OutOfMemory) × ((p : 
 IsRefusal text bytes (fault.Certificate why) = (why ≢ cert.OutOfMemory) × ((p : Program) × Spells text p) × ((c : Certificate) → ¬ IsTextOf bytes c)
 IsRefusal text bytes fault.OutOfMemory = Unit {0}
 IsRefusal text bytes _ = ⊥
-
--- the fault is want of memory, or these bytes are no certificate's text
-abbrev pub IsCertificateRefusal : List ℕ → RunFault → Type 0
-IsCertificateRefusal bytes (fault.Certificate why) = (why ≢ cert.OutOfMemory) × ((c : Certificate) → ¬ IsTextOf bytes c)
-IsCertificateRefusal bytes fault.OutOfMemory = Unit {0}
-IsCertificateRefusal bytes _ = ⊥

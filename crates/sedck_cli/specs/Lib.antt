@@ -4,6 +4,7 @@ pub use Rattle.sedck_flow.specs.Words
 pub use Rattle.sedck_cert.specs.Certificate
 pub use Rattle.sedck_cert.specs.Headline
 pub mod Reports
+pub mod Bounds
 pub mod Graph
 pub mod Engines
 pub mod Faults

@@ -1,5 +1,5 @@
 -- The reports, as bytes.
-use Rattle.std.specs.Prelude.{◌≡◌, ℕ, List, [], ◌∷◌, ◌++◌, length, decimal, codes}
+use Rattle.std.specs.Prelude.{◌≡◌, ◌⊎◌, ℕ, List, [], ◌∷◌, ◌++◌, length, decimal, codes}
 use Rattle.sedck_script.specs.Program.{Program}
 use Rattle.sedck_flow.specs.Run.{NamesForReading, NamesForWriting}
 use Rattle.sedck_flow.specs.Flow.{Flow, ListsEdges}
@@ -7,10 +7,12 @@ use Rattle.sedck_flow.specs.Words.{edge_words}
 use Rattle.sedck_flow.specs.declared.graph.Edge.{Edge}
 use Rattle.sedck_cert.specs.Certificate.{Certificate}
 use Rattle.sedck_cert.specs.Text.{line, files_text}
-use Rattle.sedck_cert.specs.Ranked.{Accepts, ListsNames}
+use Rattle.sedck_cert.specs.Ranked.{Accepts, IsSteady, ListsNames}
+use Rattle.sedck_cert.specs.Bounds.{IsBoundOf}
 use Rattle.sedck_cert.specs.Rejections.{IsRejection}
 use Rattle.sedck_cert.specs.declared.checking.Rejection.{Rejection}
 use Rattle.sedck_cert.specs.declared.checking.Rejection.TheVariants.{WrongCount, StartUnranked, LeavesRanked, NotLowered, ReadsDiffer, WritesDiffer}
+use Rattle.sedck_cert.specs.declared.limits.Bound.{Bound}
 use Rattle.sedck_cert.specs.declared.checking.Verdict.{Verdict}
 use Rattle.sedck_cert.specs.declared.checking.Verdict.TheVariants.{Accepted, Rejected}
 use Rattle.sedck_cli.specs.declared.answer.Input.{Input}
@@ -30,9 +32,17 @@ abbrev pub IsVerdict : Program → Certificate → Verdict → Type 0
 IsVerdict p c Accepted = Accepts p c
 IsVerdict p c (Rejected why) = IsRejection p c why
 
+abbrev pub bound_words : Bound → List ℕ
+bound_words b = codes "bound " ++ decimal b.per_byte ++ codes " " ++ decimal b.per_line ++ codes " " ++ decimal b.fixed
+
+-- the line of the bound where the certificate is steady, and nothing where it isn't
+abbrev pub IsBoundLine : Program → Certificate → List ℕ → Type 0
+IsBoundLine p c text = (IsSteady p c × ((b : Bound) × IsBoundOf c b × (text ≡ line (bound_words b)))) ⊎ ((¬ IsSteady p c) × (text ≡ []))
+
 -- the report on a certificate, with the verdict
 abbrev pub IsCheckReport : Program → Certificate → Verdict → List ℕ → Type 0
-IsCheckReport p c Accepted report = report ≡ line (codes "accepted") ++ files_text c.reads c.writes
+IsCheckReport p c Accepted report =
+    (bound : List ℕ) × IsBoundLine p c bound × (report ≡ line (codes "accepted") ++ bound ++ files_text c.reads c.writes)
 IsCheckReport p c (Rejected why) report = report ≡ line (rejection_words why)
 
 -- ---- files and graph

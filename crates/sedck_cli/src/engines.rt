@@ -32,7 +32,7 @@ pub fn run_check<R: Source, C: Source, W: Sink>(
     let text = read_whole(alloc, script, SCRIPT_READ, Input::Script)?;
     let certificate = read_whole(alloc, cert, CERTIFICATE_READ, Input::Certificate)?;
     let verdict = verify(alloc, &text, &certificate)?;
-    let report = check_report(alloc, verdict, &certificate)?;
+    let report = check_report(alloc, verdict, &text, &certificate)?;
     let Ok(()) = write_all(out, &report) else {
         return Err(RunFault::Write);
     };

@@ -2,44 +2,85 @@
 
 ghost use Rattle.std.specs.Prelude.{◌≡◌, ◌++◌, IfOk, IfErr, OnOk, ◌<◌, ◌≤◌, length, map, decimal, codes, string_bytes};
 ghost use Rattle.sedck_script.specs.Program.{Program};
+ghost use Rattle.sedck_script.specs.Spelling.{Spells};
 ghost use Rattle.sedck_cert.specs.Certificate.{Certificate};
 ghost use Rattle.sedck_cert.specs.Text.{IsTextOf, line, name_lines, files_text};
 ghost use Rattle.sedck_cli.specs.Graph.{AddsEdgesFrom};
 ghost use Rattle.sedck_cli.specs.Reports.{IsCheckReport, IsFilesReport, IsGraphReport, rejection_words};
-ghost use Rattle.sedck_cli.specs.Faults.{IsCertificateRefusal};
+ghost use Rattle.sedck_cli.specs.Faults.{IsRefusal};
+ghost use Rattle.sedck_cli.specs.Bounds.{AddsBound};
 
 use crate::answer::RunFault;
-use sedck_cert::{Fault, Rejection, Verdict, read_cert};
+use sedck_cert::{Bound, Cert, Fault, Rejection, Verdict, bound, read_cert};
 use sedck_flow::{Node, edges_of};
-use sedck_script::Script;
+use sedck_script::{Script, parse};
 use std::alloc::{AllocError, Global};
 use std::convert::AsSlice;
 
-/// The report on a certificate, whose names are read from its text once more.
+/// The report on a certificate. For an accepted one, script and certificate are read from their texts once more.
 pub(crate) fn check_report(
     alloc: Global,
     verdict: Verdict,
+    script: &[u8],
     certificate: &[u8],
 ) -> Result<Vec<u8>, RunFault>
-    ensures report { IfOk result (λ report. (p : Program) (c : Certificate) → IsTextOf certificate.now c → IsCheckReport p c verdict report.items) }
-    ensures refused { IfErr result (IsCertificateRefusal certificate.now) }
+    ensures report { IfOk result (λ report. (p : Program) (c : Certificate)
+        → Spells script.now p → IsTextOf certificate.now c → IsCheckReport p c verdict report.items) }
+    ensures refused { IfErr result (IsRefusal script.now certificate.now) }
 {
-    let mut report = Vec::new(alloc);
     match verdict {
         Verdict::Accepted => {
+            let script = parse(alloc, script)?;
             let cert = match read_cert(alloc, certificate) {
                 Ok(cert) => cert,
                 Err(fault) => return Err(RunFault::from(Fault::Certificate(fault))),
             };
-            add_line(&mut report, b"accepted")?;
-            add_names(alloc, &mut report, "read", cert.reads())?;
-            add_names(alloc, &mut report, "write", cert.writes())?;
+            Ok(accepted_report(alloc, &script, &cert)?)
         }
-        Verdict::Rejected(why) => {
-            let words = rejection_text(alloc, why)?;
-            add_line(&mut report, words.as_bytes())?;
-        }
+        Verdict::Rejected(why) => Ok(rejected_report(alloc, why)?),
     }
+}
+
+/// That the certificate is accepted, with its bound, if it has one, and its names.
+fn accepted_report(alloc: Global, script: &Script, cert: &Cert) -> Result<Vec<u8>, AllocError>
+    ensures { IfOk result (λ report. IsCheckReport script.now cert.now Verdict.Accepted report.items) }
+{
+    let mut report = Vec::new(alloc);
+    add_line(&mut report, b"accepted")?;
+    add_bound(alloc, &mut report, script, cert)?;
+    add_names(alloc, &mut report, "read", cert.reads())?;
+    add_names(alloc, &mut report, "write", cert.writes())?;
+    Ok(report)
+}
+
+/// Adds the line of the bound, where there is one.
+fn add_bound(
+    alloc: Global,
+    report: &mut Vec<u8>,
+    script: &Script,
+    cert: &Cert,
+) -> Result<(), AllocError>
+    ensures { OnOk result (AddsBound script.now cert.now report.old.items report.new.items) }
+{
+    if let Some(bound) = bound(script, cert) {
+        let Bound {
+            per_byte,
+            per_line,
+            fixed,
+        } = bound;
+        let words = format!(in alloc; "bound {per_byte} {per_line} {fixed}")?;
+        add_line(report, words.as_bytes())?;
+    }
+    Ok(())
+}
+
+/// The first reason why the certificate is rejected.
+fn rejected_report(alloc: Global, why: Rejection) -> Result<Vec<u8>, AllocError>
+    ensures { IfOk result (λ report. report.items ≡ line (rejection_words why)) }
+{
+    let words = rejection_text(alloc, why)?;
+    let mut report = Vec::new(alloc);
+    add_line(&mut report, words.as_bytes())?;
     Ok(report)
 }
 

@@ -1,5 +1,6 @@
 //! What no clause says: printed lines, statuses, streams that fail, and that calls succeed at all.
 
+mod bounds;
 mod engines;
 mod fakes;
 mod programs;
@@ -15,7 +16,8 @@ const LOOP_CERTIFICATE: &str =
 /// The certificate of the empty script.
 const EMPTY_CERTIFICATE: &str = "sedck 1\ncommands 0\n0 0 1 1\n0 1 -\nread 0\nwrite 0\nend\n";
 
-const ACCEPTED: &str = "accepted\nread 0\nwrite 0\n";
+/// The report on the loop and its certificate.
+const ACCEPTED: &str = "accepted\nbound 4 20 4\nread 0\nwrite 0\n";
 
 /// The loop's flow graph.
 const LOOP_GRAPH: &str =

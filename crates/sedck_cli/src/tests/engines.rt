@@ -31,7 +31,12 @@ fn verdicts(rt: HostRuntime) -> Result<(), Fail> {
         "sedck 1\ncommands 2\n0 0 2 2\n0 1 -\n1 0 1 1\n1 1 -\n2 0 -\n2 1 -\nread 0\nwrite 0\nend\n";
     let rows = [
         (LOOP, LOOP_CERTIFICATE, ACCEPTED, Outcome::Yes),
-        ("", EMPTY_CERTIFICATE, ACCEPTED, Outcome::Yes),
+        (
+            "",
+            EMPTY_CERTIFICATE,
+            "accepted\nbound 2 6 2\nread 0\nwrite 0\n",
+            Outcome::Yes,
+        ),
         (
             ":a\nb a",
             branches,

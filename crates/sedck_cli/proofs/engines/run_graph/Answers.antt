@@ -1,4 +1,4 @@
-use Rattle.std.proofs.Common.{[], sym, refl, ◌∙◌, subst}
+use Rattle.std.proofs.Common.{[], sym, ◌∙◌}
 use Rattle.sedck_cli.specs.declared.answer.Outcome.TheVariants.{Yes}
 use Rattle.sedck_cli.specs.Faults.{script_fault}
 use Rattle.sedck_cli.specs.Reports.{IsGraphReport}

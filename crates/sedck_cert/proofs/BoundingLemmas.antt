@@ -1,0 +1,68 @@
+-- The bound of a steady script: its numbers, its limit, and the edges that don't grow.
+use Rattle.std.proofs.Common.{◌≡◌, ◌≢◌, ℕ, ◌+◌, ◌*◌, ◌<◌, List, [], ◌∷◌, ◌++◌, length, take, get_or, refl, sym, ap, ◌∙◌, arith}
+use Rattle.std.specs.Prelude.{Option, Some, None, max}
+use Rattle.std.specs.List.{AllByRecursion}
+use Rattle.std.specs.Ordering.{nat_cmp, ord_max}
+use Rattle.std.proofs.lemmas.Grind.{common_steps}
+use Rattle.std.proofs.lemmas.List.{take_more}
+use Rattle.std.proofs.lemmas.List.Elements.{Contains-append_right}
+use Rattle.sedck_script.specs.Invariant.{AreWellFormed}
+use Rattle.sedck_script.specs.Program.{Program}
+use Rattle.sedck_flow.specs.Flow.{ListsEdges, FlowFrom}
+use Rattle.sedck_flow.specs.Spaces.{bytes_of}
+use Rattle.sedck_flow.specs.declared.graph.Node.{Node}
+use Rattle.sedck_flow.specs.declared.graph.Edge.{Edge}
+use Rattle.sedck_flow.specs.declared.graph.Kind.TheVariants.{Grow}
+use Rattle.sedck_cert.specs.Certificate.{Certificate}
+use Rattle.sedck_cert.specs.Ranked.{ranks_at, IsSteady, NeverGrows}
+use Rattle.sedck_cert.specs.StepLimit.{greatest_first, greatest_second}
+use Rattle.sedck_cert.specs.Bounds.{IsBoundOf, BoundsRuns}
+use Rattle.sedck_cert.specs.declared.limits.Bound.{Bound}
+use Rattle.sedck_cert.proofs.Counted.{steady_counted}
+
+-- the edges are these, of which none so far grows
+pub record HasNoGrowUpTo (IsEdge : Edge → Type 0) (done coming : List Edge) : Type 0 where
+  pub listed : ListsEdges (done ++ coming) IsEdge
+  pub none : AllByRecursion (λ e. e.kind ≢ Grow) done
+
+-- an edge of a node with ranks that grows is one too many
+pub one_grows : (p : Program) (c : Certificate) (n : Node) (done coming : List Edge) (e : Edge) → ListsEdges (done ++ e ∷ coming) (FlowFrom p n) → e.kind ≡ Grow → ranks_at c n ≢ None
+    → ¬ NeverGrows c (FlowFrom p n)
+one_grows p c n done coming e listed grows ranked never =
+    let is_edge = (listed.same e).0 (Contains-append_right done (e ∷ coming) e (0, omega arith, refl)) in
+    ranked (ap (ranks_at c) (sym is_edge.1) ∙ never e is_edge grows)
+
+-- ---- The greatest ranks, one node more at a time
+
+pub greatest_first-push : (ranks : List (Option (ℕ × ℕ))) (r : Option (ℕ × ℕ)) → greatest_first (ranks ++ r ∷ []) ≡ max (greatest_first ranks) (greatest_first (r ∷ []))
+greatest_first-push [] r = omega arith
+greatest_first-push (None ∷ ranks) r = greatest_first-push ranks r
+greatest_first-push (Some x ∷ ranks) r = omega (arith, greatest_first-push ranks r)
+
+pub greatest_second-push : (ranks : List (Option (ℕ × ℕ))) (r : Option (ℕ × ℕ)) → greatest_second (ranks ++ r ∷ []) ≡ max (greatest_second ranks) (greatest_second (r ∷ []))
+greatest_second-push [] r = omega arith
+greatest_second-push (None ∷ ranks) r = greatest_second-push ranks r
+greatest_second-push (Some x ∷ ranks) r = omega (arith, greatest_second-push ranks r)
+
+-- `max` of the program is that of numbers
+pub ord_max-max : (a b : ℕ) → ord_max nat_cmp a b ≡ max a b
+ord_max-max a b = grind (arith, common_steps)
+
+-- a node more, with ranks or without
+pub first_more : (ranks : List (Option (ℕ × ℕ))) (i : ℕ) (r : Option (ℕ × ℕ)) → i < length ranks → get_or ranks i None ≡ r → greatest_first (take (i + 1) ranks) ≡ max (greatest_first (take i ranks)) (greatest_first (r ∷ []))
+first_more ranks i r below is = ap greatest_first (take_more ranks i None below) ∙ greatest_first-push (take i ranks) (get_or ranks i None) ∙ ap (λ o. max (greatest_first (take i ranks)) (greatest_first (o ∷ []))) is
+
+pub second_more : (ranks : List (Option (ℕ × ℕ))) (i : ℕ) (r : Option (ℕ × ℕ)) → i < length ranks → get_or ranks i None ≡ r → greatest_second (take (i + 1) ranks) ≡ max (greatest_second (take i ranks)) (greatest_second (r ∷ []))
+second_more ranks i r below is = ap greatest_second (take_more ranks i None below) ∙ greatest_second-push (take i ranks) (get_or ranks i None) ∙ ap (λ o. max (greatest_second (take i ranks)) (greatest_second (o ∷ []))) is
+
+-- ---- The limit
+
+-- the law's limit is the sum that the numbers give
+multiplied : (first second bytes lines per_byte per_line fixed : ℕ) → per_byte ≡ second + 1 → per_line ≡ (second + 1) * (first + 2) → fixed ≡ second + 1
+    → (second + 1) * (bytes + (first + 2) * lines + 1) ≡ per_byte * bytes + per_line * lines + fixed
+multiplied first second bytes lines per_byte per_line fixed a b c = omega (arith, ap (λ n. n * bytes) a, ap (λ n. n * lines) b)
+
+pub bounds_runs : (p : Program) → AreWellFormed p → (c : Certificate) (b : Bound) → IsSteady p c → IsBoundOf c b → BoundsRuns p b
+bounds_runs p formed c b steady numbers lines steps run =
+    let limit = multiplied (greatest_first c.ranks) (greatest_second c.ranks) (bytes_of lines) (length lines) b.per_byte b.per_line b.fixed numbers.per_byte numbers.per_line numbers.fixed in
+    omega (arith, steady_counted p formed c steady lines steps run, limit)

@@ -1,0 +1,8 @@
+use Rattle.std.proofs.Common.{◌<◌}
+use Rattle.sedck_flow.specs.Flow.{node_index, Flow}
+use Rattle.sedck_cert.specs.Ranked.{NeverGrows}
+use Rattle.sedck_cert.proofs.bounding.never_grows.Given as goal
+
+-- none of the edges that leave the nodes so far
+abbrev pub invariant-loop-index : goal.invariant-loop-index
+invariant-loop-index l = NeverGrows l.cert (λ e. Flow l.script e × (node_index e.from < l.index))

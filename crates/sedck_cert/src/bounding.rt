@@ -1,0 +1,91 @@
+//! The limit on the steps of a steady script's runs.
+
+ghost use Rattle.std.specs.Prelude.{◌≡◌, ◌↔◌, ◌≤◌, length, IsTrue, IsSome, IfSome};
+ghost use Rattle.sedck_script.specs.Invariant.{AreWellFormed};
+ghost use Rattle.sedck_flow.specs.Flow.{Flow, FlowFrom};
+ghost use Rattle.sedck_cert.specs.Ranked.{IsSteady, NeverGrows};
+ghost use Rattle.sedck_cert.specs.StepLimit.{greatest_first, greatest_second};
+ghost use Rattle.sedck_cert.specs.Bounds.{IsBoundOf, BoundsRuns};
+
+use crate::certificate::Cert;
+use crate::checking::{Verdict, check, ranks_of};
+use crate::limits::Bound;
+use sedck_flow::{Kind, Node, edges_of};
+use sedck_script::Script;
+
+/// The limit on the steps of any run of the script, where the certificate is accepted and the pattern
+/// space never grows on an edge from a node with ranks. It takes no memory, and looks at each node
+/// with ranks twice.
+pub fn bound(script: &Script, cert: &Cert) -> Option<Bound>
+    ensures steady { IsSome result ↔ IsSteady script.now cert.now }
+    ensures numbers { IfSome result (IsBoundOf cert.now) }
+    // No run has more steps.
+    ensures counted { IfSome result (BoundsRuns script.now) }
+{
+    let Verdict::Accepted = check(script, cert) else {
+        return None;
+    };
+    if !never_grows(script, cert) {
+        return None;
+    }
+    Some(bound_of(cert))
+}
+
+/// Whether no edge on which the pattern space may grow leaves a node with ranks.
+fn never_grows(script: &Script, cert: &Cert) -> bool
+    ensures steady { IsTrue result ↔ NeverGrows cert.now (Flow script.now) }
+    // What the law on steady runs asks of the script.
+    ensures formed { AreWellFormed script.now }
+{
+    for index in 0..2 * (script.commands().len() + 1) {
+        if !never_grows_from(script, cert, Node::nth(index)) {
+            return false;
+        }
+    }
+    true
+}
+
+/// The same of the edges that leave the node.
+fn never_grows_from(script: &Script, cert: &Cert, node: Node) -> bool
+    requires { node.at ≤ length script.now.commands }
+    ensures { IsTrue result ↔ NeverGrows cert.now (FlowFrom script.now node) }
+{
+    if ranks_of(cert, node).is_none() {
+        return true;
+    }
+    for edge in edges_of(script, node) {
+        if edge.kind == Kind::Grow {
+            return false;
+        }
+    }
+    true
+}
+
+/// The numbers of the limit, by the greatest ranks.
+fn bound_of(cert: &Cert) -> Bound
+    ensures { IsBoundOf cert.now result }
+{
+    let (first, second) = greatest(cert.ranks());
+    let each = u64::from(second) + 1;
+    Bound {
+        per_byte: each,
+        per_line: each * (u64::from(first) + 2),
+        fixed: each,
+    }
+}
+
+/// The greatest first rank and the greatest second rank.
+fn greatest(ranks: &[Option<(u16, u16)>]) -> (u16, u16)
+    ensures first { result.0 ≡ greatest_first ranks.now }
+    ensures second { result.1 ≡ greatest_second ranks.now }
+{
+    let mut first = 0;
+    let mut second = 0;
+    for pair in ranks {
+        if let Some((one, two)) = *pair {
+            first = first.max(one);
+            second = second.max(two);
+        }
+    }
+    (first, second)
+}
