@@ -1,17 +1,21 @@
 -- What the counts of two nodes say of the paths between them.
-use Rattle.std.proofs.Common.{◌≡◌, ◌⊎◌, ℕ, ◌<◌, ◌≤◌, true, List, length, sym, ◌∙◌, subst, inl, inr, arith}
+use Rattle.std.proofs.Common.{◌≡◌, ◌⊎◌, ℕ, suc, ◌<◌, ◌≤◌, ◌/◌, Bool, true, false, List, [], ◌∷◌, length, refl, sym, ap, ◌∙◌, subst, inl, inr, arith}
 use Rattle.std.specs.Prelude.{Some, slice_get, set}
-use Rattle.std.proofs.lemmas.Bool.{cases_eq}
+use Rattle.std.proofs.lemmas.Bool.{cases_eq, true≢false}
 use Rattle.std.proofs.lemmas.List.{length-set}
 use Rattle.std.proofs.lemmas.Option.{slice_get_within}
 use Rattle.sedck_script.specs.Program.{Program}
 use Rattle.sedck_flow.specs.Flow.{node_index}
 use Rattle.sedck_flow.specs.declared.graph.Node.{Node}
-use Rattle.sedck_search.specs.Rows.{has}
-use Rattle.sedck_search.specs.Reaching.{Reaches, IsIn, IsReachCount, HasCount, HasNoCount, IsUncounted, ArePartlyCounted, IsLast}
-use Rattle.sedck_search.specs.Obstacle.{IsReachable}
+use Rattle.sedck_search.specs.Rows.{has, IsRow, HasChanged}
+use Rattle.sedck_flow.specs.declared.graph.Edge.{Edge}
+use Rattle.sedck_flow.specs.declared.graph.Kind.{Kind}
+use Rattle.sedck_search.specs.Reaching.{AreFollowed, FollowedEdge, IsClosed, Reaches, IsIn, IsReachCount, HasCount, HasNoCount, IsUncounted, ArePartlyCounted, IsLast}
+use Rattle.sedck_search.specs.Obstacle.{IsPath, IsReachable}
 use Rattle.sedck_search.specs.declared.along.Along.{Along}
-use Rattle.sedck_search.proofs.RowSets.{fewer_or_same, same_nodes}
+use Rattle.sedck_search.proofs.RowSets.{fewer_or_same, same_nodes, inserted_count}
+use Rattle.sedck_search.proofs.RowBits.{inserted, inserted_row, with_bit}
+use Rattle.sedck_search.proofs.Meeting.{changed_keeps, changed_new}
 use Rattle.sedck_flow.proofs.FoundLemmas.{node_same}
 use Rattle.sedck_search.proofs.GoneOver.{set_same, set_other}
 use Rattle.sedck_search.proofs.Paths.{node_at, reaches_self, reaches-trans, closed_reaches}
@@ -93,3 +97,42 @@ module _ (p : Program) (along : Along) where
       as_before m same (inl (is, inl h)) = inl (is, inl record { count = h.count; at = same ∙ h.at; positive = h.positive; within = h.within; is_count = h.is_count })
       as_before m same (inl (is, inr h)) = inl (is, inr (same ∙ h))
       as_before m same (inr (none, h)) = inr (none, same ∙ h)
+
+  -- ---- A node with one target
+
+  -- where a closed row has the only target and not the node, the node reaches itself and what its target reaches
+  pub single_count : (row : List ℕ) → IsClosed p along row → (n m : Node) → IsIn row m → has row (node_index n) ≡ false → node_index n < 8192 → Reaches p along n m
+      → ((e : Edge) → FollowedEdge p along e → e.from ≡ n → e.to ≡ m) → (count : ℕ) → IsReachCount p along m count → IsReachCount p along n (suc count)
+  single_count row closed n m has_m no_n below on only count x = record {
+    row = more;
+    reach = record {
+      is_row = is_more;
+      same = λ k. (
+        (λ in_more. elim (changed_new x.row more n changed k in_more) [
+          | inl old ↦ reaches-trans p along n m k on ((x.reach.same k).0 old)
+          | inr same ↦ subst (λ j. Reaches p along n j) (sym same) (reaches_self p along n)
+        ]),
+        (λ to. by_path k to.0 to.1 to.2),
+      );
+    };
+    counts = inserted_count x.row more x.reach.is_row is_more (node_index n) changed (absent (has x.row (node_index n)) refl) ∙ ap suc x.counts;
+  }
+    where
+      more : List ℕ
+      more = set x.row (node_index n / 64) (with_bit x.row (node_index n))
+
+      is_more : IsRow more
+      is_more = inserted_row x.row (node_index n) below x.reach.is_row
+
+      changed : HasChanged x.row more (node_index n) true
+      changed = inserted x.row (node_index n) below x.reach.is_row
+
+      absent : (b : Bool) → has x.row (node_index n) ≡ b → has x.row (node_index n) ≡ false
+      absent false e = e
+      absent true e = let back = (x.reach.same n).0 e in absurd (true≢false (sym (closed_reaches p along row closed back.0 m n back.1 back.2 has_m) ∙ no_n))
+
+      by_path : (k : Node) (path : List (Kind × Node)) → IsPath p n path k → AreFollowed along path → IsIn more k
+      by_path k [] is followed = subst (IsIn more) is changed.at
+      by_path k (edge ∷ path) is followed =
+          let to : edge.1 ≡ m = only (record { from = n; to = edge.1; kind = edge.0 }) (is.0, followed.0) refl in
+          changed_keeps x.row more n changed k ((x.reach.same k).1 (path, subst (λ j. IsPath p j path k) to is.1, followed.1))

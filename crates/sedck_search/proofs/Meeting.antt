@@ -16,7 +16,7 @@ use Rattle.sedck_search.proofs.Paths.{reaches_self, reaches-trans, reaches_edge}
 -- ---- Nodes put into a row
 
 -- the nodes that were in a row stay in it
-changed_keeps : (a b : List ℕ) (n : Node) → HasChanged a b (node_index n) true → (m : Node) → IsIn a m → IsIn b m
+pub changed_keeps : (a b : List ℕ) (n : Node) → HasChanged a b (node_index n) true → (m : Node) → IsIn a m → IsIn b m
 changed_keeps a b n h m x =
     elim (cases_eq (node_index m) (node_index n)) [
       | inl same ↦ subst (λ i. has b i ≡ true) (sym same) h.at
@@ -24,7 +24,7 @@ changed_keeps a b n h m x =
     ]
 
 -- and no other node than this one is new
-changed_new : (a b : List ℕ) (n : Node) → HasChanged a b (node_index n) true → (m : Node) → IsIn b m → IsIn a m ⊎ (m ≡ n)
+pub changed_new : (a b : List ℕ) (n : Node) → HasChanged a b (node_index n) true → (m : Node) → IsIn b m → IsIn a m ⊎ (m ≡ n)
 changed_new a b n h m x =
     elim (cases_eq (node_index m) (node_index n)) [
       | inl same ↦ inr (node_same m n same)

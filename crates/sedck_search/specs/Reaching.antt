@@ -81,3 +81,11 @@ pub record IsLast (p : Program) (along : Along) (row : List ℕ) (count : ℕ) :
   pub is_row : IsRow row
   pub closed : IsClosed p along row
   pub counts : bit_count row ≡ count
+
+-- some followed edge leads from the node to the one with this place, and none to another
+pub record IsOnlyTarget (p : Program) (along : Along) (n : Node) (to : ℕ) : Type 0 where
+  pub edge : Edge
+  pub followed : FollowedEdge p along edge
+  pub leaves : edge.from ≡ n
+  pub leads : node_index edge.to ≡ to
+  pub only : (e : Edge) → FollowedEdge p along e → e.from ≡ n → node_index e.to ≡ to

@@ -1,9 +1,9 @@
 //! How many nodes each node reaches.
 
-ghost use Rattle.std.specs.Prelude.{◌≡◌, ◌≢◌, ℕ, ◌+◌, ◌*◌, ◌<◌, ◌≤◌, true, length, Some, slice_get, IfOk};
+ghost use Rattle.std.specs.Prelude.{◌≡◌, ◌≢◌, ℕ, ◌+◌, ◌*◌, ◌<◌, ◌≤◌, true, length, Some, slice_get, IfOk, IfSome};
 ghost use Rattle.sedck_script.specs.Invariant.{IsScript};
 ghost use Rattle.sedck_flow.specs.declared.graph.Node.{Node};
-ghost use Rattle.sedck_search.specs.Reaching.{AreCounted, ArePartlyCounted, IsIn, IsLast, IsReachCount, Reaches};
+ghost use Rattle.sedck_search.specs.Reaching.{AreCounted, ArePartlyCounted, IsIn, IsLast, IsOnlyTarget, IsReachCount, Reaches};
 ghost use Rattle.sedck_search.specs.declared.along.Along.{Along};
 
 use crate::along::Along;
@@ -15,6 +15,9 @@ use std::alloc::{AllocError, Global};
 
 /// The mark of a node that is still to be counted: more than any count.
 const UNCOUNTED: u16 = u16::MAX;
+
+/// The mark of a node that was never come to: more than any place.
+const UNSEEN: u16 = u16::MAX;
 
 /// What the node counted last reaches. Where no node is counted yet, the row is empty.
 #[derive(Drop)]
@@ -48,28 +51,153 @@ pub(crate) fn counts_of(
     ensures counts { IfOk result (λ counts. AreCounted script.now along counts.items) }
 {
     let mut counts = mark_reached(alloc, script)?;
-    count_marked(script, along, &mut counts);
+    let mut back = unseen(alloc, counts.len())?;
+    count_marked(script, along, &mut back, &mut counts);
     Ok(counts)
 }
 
-/// Counts what each marked node reaches.
-fn count_marked(script: &Script, along: Along, counts: &mut [u16])
+/// So many marks of nodes that were never come to.
+fn unseen(alloc: Global, count: usize) -> Result<Vec<u16>, AllocError>
+    ensures { IfOk result (λ back. length back.items ≡ count) }
+{
+    let mut back = Vec::new(alloc);
+    back.resize(count, UNSEEN)?;
+    Ok(back)
+}
+
+/// Counts what each marked node reaches. Each node is counted behind those that it leads to, as far as that goes;
+/// the answer doesn't hang on the order.
+fn count_marked(script: &Script, along: Along, back: &mut [u16], counts: &mut [u16])
     requires script { IsScript script.now }
     requires counted { ArePartlyCounted script.now along counts.old }
+    requires back { length back.old ≡ length counts.old }
     ensures { AreCounted script.now along counts.new }
 {
     let mut last = Last {
         row: Row::new(),
         count: 0,
     };
-    for step in 0..script.commands().len() + 1 {
-        let at = script.commands().len() - step;
-        count_at(script, along, 2 * at + 1, counts, &mut last);
+    for root in 0..counts.len() {
+        if counts[root] == UNCOUNTED && back[root] == UNSEEN {
+            count_from(script, along, root, back, counts, &mut last);
+        }
     }
-    for step in 0..counts.len() {
-        let index = counts.len() - 1 - step;
+    for index in 0..counts.len() {
         count_at(script, along, index, counts, &mut last);
     }
+}
+
+/// Goes from node to node by edges to unseen ones, and counts a node when none is left. `back` has the node from
+/// which each one was seen. A node that leads to uncounted ones alone waits, in a list through `back`.
+fn count_from(
+    script: &Script,
+    along: Along,
+    root: usize,
+    back: &mut [u16],
+    counts: &mut [u16],
+    last: &mut Last,
+)
+    requires script { IsScript script.now }
+    requires inside { root < length counts.old }
+    requires back { length back.old ≡ length counts.old }
+    requires counted { ArePartlyCounted script.now along counts.old }
+    requires last { IsLast script.now along last.old.row last.old.count }
+    ensures back { length back.new ≡ length back.old }
+    ensures counted { ArePartlyCounted script.now along counts.new }
+    ensures last { IsLast script.now along last.new.row last.new.count }
+{
+    back[root] = root as u16;
+    let mut at = root;
+    let mut waiting = UNSEEN;
+    for _ in 0..2 * counts.len() {
+        if let Some(to) = next_unseen(script, along, Node::nth(at), back, counts) {
+            back[to] = at as u16;
+            at = to;
+            continue;
+        }
+        let before = usize::from(back[at]);
+        if leads_to_count(script, along, Node::nth(at), counts) {
+            count_at(script, along, at, counts, last);
+            waiting = count_waiting(script, along, waiting, back, counts, last);
+        } else {
+            back[at] = waiting;
+            waiting = at as u16;
+        }
+        if at == root || before >= counts.len() {
+            return;
+        }
+        at = before;
+    }
+}
+
+/// Counts the first waiting nodes, as long as they lead to a node that reaches what the last one does. It answers which
+/// node waits first then.
+fn count_waiting(
+    script: &Script,
+    along: Along,
+    waiting: u16,
+    back: &[u16],
+    counts: &mut [u16],
+    last: &mut Last,
+) -> u16
+    requires script { IsScript script.now }
+    requires back { length back.now ≡ length counts.old }
+    requires counted { ArePartlyCounted script.now along counts.old }
+    requires last { IsLast script.now along last.old.row last.old.count }
+    ensures counted { ArePartlyCounted script.now along counts.new }
+    ensures last { IsLast script.now along last.new.row last.new.count }
+{
+    let mut waiting = waiting;
+    for _ in 0..back.len() {
+        let at = usize::from(waiting);
+        if at >= back.len() || !goes_on(script, along, Node::nth(at), counts, last) {
+            return waiting;
+        }
+        count_at(script, along, at, counts, last);
+        waiting = back[at];
+    }
+    waiting
+}
+
+/// The first node to which a followed edge leads from this one, and that is neither counted nor seen.
+fn next_unseen(
+    script: &Script,
+    along: Along,
+    node: Node,
+    back: &[u16],
+    counts: &[u16],
+) -> Option<usize>
+    requires script { IsScript script.now }
+    requires inside { node.at ≤ length script.now.commands }
+    requires counts { length counts.now ≡ 2 * (length script.now.commands + 1) }
+    requires back { length back.now ≡ length counts.now }
+    ensures { IfSome result (λ to. to < length counts.now) }
+{
+    for edge in edges_of(script, node) {
+        let to = index_of(edge.to);
+        if along.follows(edge.kind) && counts[to] == UNCOUNTED && back[to] == UNSEEN {
+            return Some(to);
+        }
+    }
+    None
+}
+
+/// Whether the node leads to a counted node, or to none at all.
+fn leads_to_count(script: &Script, along: Along, node: Node, counts: &[u16]) -> bool
+    requires script { IsScript script.now }
+    requires inside { node.at ≤ length script.now.commands }
+    requires counts { length counts.now ≡ 2 * (length script.now.commands + 1) }
+{
+    let mut leads = false;
+    for edge in edges_of(script, node) {
+        if along.follows(edge.kind) {
+            if counts[index_of(edge.to)] != UNCOUNTED {
+                return true;
+            }
+            leads = true;
+        }
+    }
+    !leads
 }
 
 /// Counts what the node with the place reaches, where it is marked.
@@ -101,6 +229,9 @@ fn count_node(script: &Script, along: Along, node: Node, counts: &[u16], last: &
     ensures within { result ≤ 8192 }
 {
     if !goes_on(script, along, node, counts, last) {
+        if let Some(count) = count_by_target(script, along, node, counts, last) {
+            return count;
+        }
         last.row.clear();
         last.count = 0;
     }
@@ -109,6 +240,50 @@ fn count_node(script: &Script, along: Along, node: Node, counts: &[u16], last: &
         last.count = last.row.count() as u16;
     }
     last.count
+}
+
+/// One more than the node's only target reaches, where the last row has the target and not the node.
+fn count_by_target(
+    script: &Script,
+    along: Along,
+    node: Node,
+    counts: &[u16],
+    last: &Last,
+) -> Option<u16>
+    requires script { IsScript script.now }
+    requires inside { node.at ≤ length script.now.commands }
+    requires counted { ArePartlyCounted script.now along counts.now }
+    requires last { IsLast script.now along last.now.row last.now.count }
+    ensures { IfSome result (λ count. IsReachCount script.now along node count × (0 < count) × (count ≤ 8192)) }
+{
+    let to = only_target(script, along, node)?;
+    if last.row.has(index_of(node)) || !last.row.has(to) {
+        return None;
+    }
+    let count = counts[to];
+    if count == 0 || count == UNCOUNTED {
+        return None;
+    }
+    Some(count + 1)
+}
+
+/// The place of the node to which all followed edges lead from this one.
+fn only_target(script: &Script, along: Along, node: Node) -> Option<usize>
+    requires script { IsScript script.now }
+    requires inside { node.at ≤ length script.now.commands }
+    ensures { IfSome result (IsOnlyTarget script.now along node) }
+{
+    let mut only = None;
+    for edge in edges_of(script, node) {
+        if along.follows(edge.kind) {
+            let to = index_of(edge.to);
+            match only {
+                Some(first) if first != to => return None,
+                _ => only = Some(to),
+            }
+        }
+    }
+    only
 }
 
 /// Whether a followed edge leads from the node to one that reaches just what the last one does.

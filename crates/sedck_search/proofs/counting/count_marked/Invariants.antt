@@ -1,18 +1,18 @@
-use Rattle.std.proofs.Common.{◌≢◌, ℕ, ◌+◌, ◌≤◌, length}
+use Rattle.std.proofs.Common.{◌≡◌, ◌≢◌, ℕ, ◌<◌, length}
 use Rattle.std.specs.Prelude.{Some, slice_get}
 use Rattle.sedck_search.specs.Reaching.{ArePartlyCounted, IsLast}
 use Rattle.sedck_search.proofs.counting.count_marked.Given as goal
 
-abbrev pub invariant-loop-step : goal.invariant-loop-step
-invariant-loop-step l = record {
+abbrev pub invariant-loop-root : goal.invariant-loop-root
+invariant-loop-root l = record {
   counted : ArePartlyCounted l.script l.along l.counts;
   last : IsLast l.script l.along l.last.row l.last.count;
 }
 
--- from the last node on all are counted
-abbrev pub invariant-loop-step-2 : goal.invariant-loop-step-2
-invariant-loop-step-2 l = record {
+-- the nodes so far are counted
+abbrev pub invariant-loop-index : goal.invariant-loop-index
+invariant-loop-index l = record {
   counted : ArePartlyCounted l.script l.along l.counts;
   last : IsLast l.script l.along l.last.row l.last.count;
-  done : (i : ℕ) → length l.counts ≤ i + l.step → slice_get l.counts i ≢ Some 65535;
+  done : (i : ℕ) → i < l.index → slice_get l.counts i ≢ Some 65535;
 }

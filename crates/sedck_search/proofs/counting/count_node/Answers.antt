@@ -7,7 +7,7 @@ use Rattle.sedck_search.specs.Rows.{has}
 use Rattle.sedck_search.specs.Reaching.{IsIn, IsLast, Reaches}
 use Rattle.sedck_search.proofs.RowSets.{counts_node, count_within}
 use Rattle.sedck_search.proofs.Counts.{last_counts}
-use Rattle.sedck_search.proofs.counting.count_node.Goals.{then-not-goes_on, else-not-goes_on, then-not-has, else-not-has}
+use Rattle.sedck_search.proofs.counting.count_node.Goals.{then-not-goes_on+in_default, else-not-goes_on, then-not-has, else-not-has}
 use Rattle.sedck_search.proofs.counting.count_node.Goals as goal
 
 pub overflow_cast-last : goal.overflow_cast-last
@@ -16,7 +16,7 @@ overflow_cast-last c = let small : c.count.result ≤ 8192 = omega (arith, c.cou
 -- the row that is gone on from has only nodes that the node reaches
 before : (c : goal.Joined-not-has) → IsLast c.args.script.now c.args.along c.if-not-goes_on.last.row c.if-not-goes_on.last.count × ((m : Node) → IsIn c.if-not-goes_on.last.row m → Reaches c.args.script.now c.args.along c.args.node m)
 before c = elim c.if-not-goes_on.branch [
-  | then-not-goes_on w ↦ subst (λ (l : Last). IsLast c.args.script.now c.args.along l.row l.count × ((m : Node) → IsIn l.row m → Reaches c.args.script.now c.args.along c.args.node m)) (sym w.last-is) (
+  | then-not-goes_on+in_default w ↦ subst (λ (l : Last). IsLast c.args.script.now c.args.along l.row l.count × ((m : Node) → IsIn l.row m → Reaches c.args.script.now c.args.along c.args.node m)) (sym w.last-is) (
     record { is_row = w.clear.ensures.row; closed = λ e followed x. absurd (true≢false (sym x ∙ w.clear.ensures.nodes (node_index e.from))); counts = w.clear.ensures.count },
     λ m x. absurd (true≢false (sym x ∙ w.clear.ensures.nodes (node_index m))),
   )

@@ -14,9 +14,9 @@ returns-clause-counts c =
     let new : List ℕ = c.count_marked.new.counts in
     let items : List ℕ = c.in_ok-counts.counts.items in
     let same : length new ≡ length items = c.count_marked.ensures.long ∙ sym (c.in_ok-counts.ensures.marks c.args.along).long in
-    let len : c.in_ok-counts.counts.len ≡ length items = sym c.deref_mut.ensures.len ∙ ap length c.deref_mut.ensures.value in
+    let len : c.in_ok-counts.counts.len ≡ length items = sym c.deref_mut-2.ensures.len ∙ ap length c.deref_mut-2.ensures.value in
     subst (AreCounted c.args.script.now c.args.along) (sym (in_place c.in_ok-counts.counts.len new items same (len ∙ sym same))) c.count_marked.ensures
 
 pub count_marked-requires-clause-counted : goal.count_marked-requires-clause-counted
 count_marked-requires-clause-counted c =
-    subst (ArePartlyCounted c.args.script.now c.args.along) (sym c.deref_mut.ensures.value) (c.in_ok-counts.ensures.marks c.args.along)
+    subst (ArePartlyCounted c.args.script.now c.args.along) (sym c.deref_mut-2.ensures.value) (c.in_ok-counts.ensures.marks c.args.along)
