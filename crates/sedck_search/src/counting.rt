@@ -82,6 +82,12 @@ fn count_marked(script: &Script, along: Along, back: &mut [u16], counts: &mut [u
             count_from(script, along, root, back, counts, &mut last);
         }
     }
+    for step in 0..counts.len() {
+        let index = counts.len() - 1 - step;
+        if goes_on(script, along, Node::nth(index), counts, &last) {
+            count_at(script, along, index, counts, &mut last);
+        }
+    }
     for index in 0..counts.len() {
         count_at(script, along, index, counts, &mut last);
     }
@@ -116,7 +122,7 @@ fn count_from(
             continue;
         }
         let before = usize::from(back[at]);
-        if leads_to_count(script, along, Node::nth(at), counts) {
+        if at == root || leads_to_count(script, along, Node::nth(at), counts) {
             count_at(script, along, at, counts, last);
             waiting = count_waiting(script, along, waiting, back, counts, last);
         } else {
