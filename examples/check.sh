@@ -60,7 +60,8 @@ done
 
 # Each command of the console blocks, with all that it prints.
 cd .. || exit 1
-for document in README.md examples/README.md; do
+PATH=$scratch/build:$PATH
+for document in README.md examples/README.md docs/RECIPES.md; do
     awk '/^```/ { on = ($0 == "```console"); next } on' "$documents/$document" > shown
     sed -n 's/^[$] //p' shown | while IFS= read -r command; do
         printf '$ %s\n' "$command"
