@@ -47,7 +47,7 @@ while IFS= read -r row; do
 done < rows
 
 # The second table: words, status, text.
-grep -E '^\| `(rank|check) ' README.md > others
+grep -E '^\| `(rank|check|files|graph) ' README.md > others
 while IFS= read -r row; do
     # The words are names of files and hold no blanks.
     # shellcheck disable=SC2046
