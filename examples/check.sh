@@ -65,7 +65,7 @@ for document in README.md examples/README.md docs/RECIPES.md; do
     awk '/^```/ { on = ($0 == "```console"); next } on' "$documents/$document" > shown
     sed -n 's/^[$] //p' shown | while IFS= read -r command; do
         printf '$ %s\n' "$command"
-        sh -c "$command" 2>&1
+        sh -c "$command" 2>&1 < /dev/null
     done > printed
     diff shown printed >&2 || fail "$document shows (<) what isn't printed (>)"
 done
