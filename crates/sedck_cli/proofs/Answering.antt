@@ -19,9 +19,10 @@ use Rattle.sedck_cli.specs.declared.answer.Outcome.{Outcome}
 use Rattle.sedck_cli.specs.declared.answer.Outcome.TheVariants.{Yes}
 use Rattle.sedck_cli.specs.declared.answer.RunFault.{RunFault}
 use Rattle.sedck_cli.specs.declared.answer.RunFault.TheVariants as fault
-use Rattle.sedck_cli.specs.Engines.{script_read, certificate_read, verdict_outcome, ChecksTo, SpellsNone, EngineAnswers, OfKnown, OfScript, CertificateAnswers}
+use Rattle.sedck_cli.specs.Engines.{script_read, certificate_read, verdict_outcome, ChecksTo, SpellsNone, EngineAnswers, OfKnown, OfScript, CertificateAnswers, RanksTo, found_outcome}
 use Rattle.sedck_cli.specs.Faults.{run_fault, script_fault, IsRefusal}
-use Rattle.sedck_cli.specs.Reports.{IsVerdict, IsCheckReport}
+use Rattle.sedck_cli.specs.Reports.{IsVerdict, IsCheckReport, IsRankReport}
+use Rattle.sedck_search.specs.declared.answer.Found.{Found}
 
 -- an error that is this one
 pub err_is : {T E : Type 0} (r : Result T E) (e : E) → IsErrAnd r (λ x. x ≡ e) → r ≡ Err e
@@ -128,3 +129,12 @@ lists_to IsReport None text p report is spelled only holds =
     (text, (refl, record { program = p; spelled = subst (λ l. SpellsOnly l p) (sym (take_all 1048577 text is.within)) (record { spells = spelled; only = only }); holds = holds }))
 lists_to IsReport (Some t) text p report is spelled only holds =
     (refl, record { program = p; spelled = subst (λ l. SpellsOnly l p) is.front (record { spells = spelled; only = only }); holds = holds })
+
+-- the report of what the search found
+pub ranks_to : (known : Option (List ℕ)) (text : List ℕ) (p : Program) (found : Found) (report : List ℕ)
+    → IsRead 1048577 known text → Spells text p → ((q : Program) → Spells text q → q ≡ p) → IsRankReport p found report
+    → OfKnown known RanksTo (found_outcome found) report
+ranks_to None text p found report is spelled only holds =
+    (text, (found, refl, record { program = p; spelled = subst (λ l. SpellsOnly l p) (sym (take_all 1048577 text is.within)) (record { spells = spelled; only = only }); holds = holds }))
+ranks_to (Some t) text p found report is spelled only holds =
+    (found, refl, record { program = p; spelled = subst (λ l. SpellsOnly l p) is.front (record { spells = spelled; only = only }); holds = holds })

@@ -7,7 +7,7 @@ use Rattle.sedck_cli.specs.declared.answer.RunFault.{RunFault}
 use Rattle.sedck_cli.specs.declared.answer.RunFault.TheVariants as fault
 use Rattle.sedck_cli.specs.declared.command_line.Refusal.{Refusal}
 use Rattle.sedck_cli.specs.declared.command_line.Refusal.TheVariants.{Usage, Run}
-use Rattle.sedck_cli.specs.Engines.{ChecksTo, ListsFilesTo, ListsGraphTo, EngineAnswers, OfKnown}
+use Rattle.sedck_cli.specs.Engines.{ChecksTo, ListsFilesTo, ListsGraphTo, RanksTo, EngineAnswers, OfKnown}
 use Rattle.sedck_cli.specs.Statuses.{status_of, IsSomeReport, Reports, BreaksOff, Leaves}
 
 -- what an engine calls its report is one
@@ -25,8 +25,12 @@ of_files None outcome report is = inr (inl is)
 of_files (Some t) outcome report is = inr (inl (t, is))
 
 pub of_graph : (script : Option (List ℕ)) → AreReports (OfKnown script ListsGraphTo)
-of_graph None outcome report is = inr (inr is)
-of_graph (Some t) outcome report is = inr (inr (t, is))
+of_graph None outcome report is = inr (inr (inl is))
+of_graph (Some t) outcome report is = inr (inr (inl (t, is)))
+
+pub of_rank : (script : Option (List ℕ)) → AreReports (OfKnown script RanksTo)
+of_rank None outcome report is = inr (inr (inr is))
+of_rank (Some t) outcome report is = inr (inr (inr (t, is)))
 
 -- an engine's answer
 pub answered : (IsReport : Outcome → List ℕ → Type 0) (before after : Option (List ℕ)) (outcome : Outcome) → AreReports IsReport

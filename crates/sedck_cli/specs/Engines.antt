@@ -16,7 +16,9 @@ use Rattle.sedck_cli.specs.declared.answer.Outcome.TheVariants.{Yes, No}
 use Rattle.sedck_cli.specs.declared.answer.RunFault.{RunFault}
 use Rattle.sedck_cli.specs.declared.answer.RunFault.TheVariants as fault
 use Rattle.sedck_cli.specs.declared.answer.Input.TheVariants as input
-use Rattle.sedck_cli.specs.Reports.{IsVerdict, IsCheckReport, IsFilesReport, IsGraphReport}
+use Rattle.sedck_cli.specs.Reports.{IsVerdict, IsCheckReport, IsFilesReport, IsGraphReport, IsRankReport}
+use Rattle.sedck_search.specs.declared.answer.Found.{Found}
+use Rattle.sedck_search.specs.declared.answer.Found.TheVariants.{Ranks, Loop}
 
 -- what is judged of a script's and of a certificate's bytes: one more than either may have
 abbrev pub script_read : List ℕ → List ℕ
@@ -46,6 +48,14 @@ ListsFilesTo text outcome report = (outcome ≡ Yes) × OfScript text (λ p. IsF
 
 abbrev pub ListsGraphTo : List ℕ → Outcome → List ℕ → Type 0
 ListsGraphTo text outcome report = (outcome ≡ Yes) × OfScript text (λ p. IsGraphReport p report)
+
+-- yes for ranks, and no for a loop
+abbrev pub found_outcome : Found → Outcome
+found_outcome (Ranks cert) = Yes
+found_outcome (Loop walk) = No
+
+abbrev pub RanksTo : List ℕ → Outcome → List ℕ → Type 0
+RanksTo text outcome report = (found : Found) × (outcome ≡ found_outcome found) × OfScript text (λ p. IsRankReport p found report)
 
 -- ---- An engine's answer
 

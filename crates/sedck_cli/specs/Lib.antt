@@ -3,9 +3,11 @@ pub use Rattle.sedck_flow.specs.Flow
 pub use Rattle.sedck_flow.specs.Words
 pub use Rattle.sedck_cert.specs.Certificate
 pub use Rattle.sedck_cert.specs.Headline
+pub use Rattle.sedck_search.specs.Found
 pub mod Reports
 pub mod Bounds
 pub mod Graph
+pub mod Rank
 pub mod Engines
 pub mod Faults
 pub mod Statuses

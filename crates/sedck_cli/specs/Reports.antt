@@ -3,10 +3,18 @@ use Rattle.std.specs.Prelude.{◌≡◌, ◌⊎◌, ℕ, List, [], ◌∷◌, �
 use Rattle.sedck_script.specs.Program.{Program}
 use Rattle.sedck_flow.specs.Run.{NamesForReading, NamesForWriting}
 use Rattle.sedck_flow.specs.Flow.{Flow, ListsEdges}
-use Rattle.sedck_flow.specs.Words.{edge_words}
+use Rattle.sedck_flow.specs.Words.{node_words, kind_text, edge_words}
+use Rattle.sedck_flow.specs.declared.graph.Node.{Node}
+use Rattle.sedck_flow.specs.declared.graph.Kind.{Kind}
+use Rattle.sedck_search.specs.Found.{IsFound}
+use Rattle.sedck_search.specs.declared.answer.Form.{Form}
+use Rattle.sedck_search.specs.declared.answer.Form.TheVariants.{Idle, Growing}
+use Rattle.sedck_search.specs.declared.answer.Walk.{Walk}
+use Rattle.sedck_search.specs.declared.answer.Found.{Found}
+use Rattle.sedck_search.specs.declared.answer.Found.TheVariants.{Ranks, Loop}
 use Rattle.sedck_flow.specs.declared.graph.Edge.{Edge}
 use Rattle.sedck_cert.specs.Certificate.{Certificate}
-use Rattle.sedck_cert.specs.Text.{line, files_text}
+use Rattle.sedck_cert.specs.Text.{line, files_text, certificate_text}
 use Rattle.sedck_cert.specs.Ranked.{Accepts, IsSteady, ListsNames}
 use Rattle.sedck_cert.specs.Bounds.{IsBoundOf}
 use Rattle.sedck_cert.specs.Rejections.{IsRejection}
@@ -64,6 +72,30 @@ pub record IsGraphReport (p : Program) (report : List ℕ) : Type 0 where
   pub edges : List Edge
   pub lists : ListsEdges edges (Flow p)
   pub is_report : report ≡ line (codes "commands " ++ decimal (length p.commands)) ++ edge_lines edges
+
+-- ---- rank
+
+abbrev pub form_words : Form → List ℕ
+form_words Idle = codes "loop idle"
+form_words Growing = codes "loop growing"
+
+-- each edge of a walk by the node that it leaves and its kind, and then the last node
+abbrev pub walk_lines : List Node → List Kind → List ℕ
+walk_lines (n ∷ nodes) (kind ∷ kinds) = line (node_words n ++ codes " " ++ kind_text kind) ++ walk_lines nodes kinds
+walk_lines (n ∷ nodes) [] = line (node_words n)
+walk_lines [] kinds = []
+
+abbrev pub loop_text : Walk → List ℕ
+loop_text walk = line (form_words walk.form) ++ walk_lines walk.nodes.items walk.kinds.items
+
+-- the text of the certificate, or the loop
+abbrev pub found_text : Found → List ℕ
+found_text (Ranks cert) = certificate_text cert
+found_text (Loop walk) = loop_text walk
+
+-- the report of an answer that the search may give
+abbrev pub IsRankReport : Program → Found → List ℕ → Type 0
+IsRankReport p found report = IsFound p found × (report ≡ found_text found)
 
 -- ---- which input
 

@@ -4,7 +4,7 @@ use Rattle.std.specs.List.{list_any}
 use Rattle.std.specs.declared.alloc.Global.{Global}
 use Rattle.std.specs.Io.KnownBytes.{Keeps, Appends}
 use Rattle.sedck_cert.specs.Streams.{AppendsFront}
-use Rattle.sedck_cli.specs.Engines.{ChecksTo, ListsFilesTo, ListsGraphTo}
+use Rattle.sedck_cli.specs.Engines.{ChecksTo, ListsFilesTo, ListsGraphTo, RanksTo}
 use Rattle.sedck_cli.specs.declared.answer.Outcome.{Outcome}
 use Rattle.sedck_cli.specs.declared.answer.RunFault.TheVariants as fault
 use Rattle.sedck_cli.specs.declared.command_line.Refusal.{Refusal}
@@ -22,7 +22,7 @@ status_of (Run fault.OutOfMemory) = 4
 abbrev pub IsSomeReport : Outcome → List ℕ → Type 0
 IsSomeReport outcome report =
     ((text bytes : List ℕ) × ChecksTo text bytes outcome report)
-    ⊎ (((text : List ℕ) × ListsFilesTo text outcome report) ⊎ ((text : List ℕ) × ListsGraphTo text outcome report))
+    ⊎ (((text : List ℕ) × ListsFilesTo text outcome report) ⊎ (((text : List ℕ) × ListsGraphTo text outcome report) ⊎ ((text : List ℕ) × RanksTo text outcome report)))
 
 -- such a report was written
 abbrev pub Reports : Option (List ℕ) → Option (List ℕ) → Outcome → Type 0

@@ -7,7 +7,7 @@ ghost use Rattle.sedck_cli.specs.declared.command_line.Refusal.TheVariants.{Run}
 ghost use Rattle.sedck_cli.specs.declared.answer.RunFault.TheVariants as fault;
 
 use crate::answer::{Input, Outcome, RunFault};
-use crate::engines::{run_check, run_files, run_graph};
+use crate::engines::{run_check, run_files, run_graph, run_rank};
 use clap::error::ErrorKind;
 use clap::{Arg, Command};
 use sedck_cert::streams::{FromRead, Sink, write_all};
@@ -95,6 +95,9 @@ enum Request<'a> {
     Graph {
         script: &'a str,
     },
+    Rank {
+        script: &'a str,
+    },
 }
 
 /// The whole program for the words after its name, and its exit status: 0 for yes, 1 for no, 2 where the script or the
@@ -138,6 +141,7 @@ fn answer<R: Files + AllocGlobal, W: Sink>(
         } => check(rt, script, certificate, out),
         Request::Files { script } => files(rt, script, out),
         Request::Graph { script } => graph(rt, script, out),
+        Request::Rank { script } => rank(rt, script, out),
     }
 }
 
@@ -186,6 +190,20 @@ fn graph<R: Files + AllocGlobal, W: Sink>(
     }
 }
 
+fn rank<R: Files + AllocGlobal, W: Sink>(
+    rt: &R,
+    script: &str,
+    out: &mut W,
+) -> Result<Outcome, Refusal>
+    ensures { Leaves (W.taken out.old) (W.taken out.new) result }
+{
+    let mut script = open(rt, script, Input::Script)?;
+    match run_rank(rt.alloc(), &mut script, out) {
+        Ok(outcome) => Ok(outcome),
+        Err(fault) => Err(Refusal::Run(fault)),
+    }
+}
+
 fn open<R: Files>(rt: &R, path: &str, input: Input) -> Result<FromRead<R::File>, Refusal>
     ensures { IfErr result (λ refusal. refusal ≡ Refusal.Run (RunFault.Read input)) }
 {
@@ -213,6 +231,7 @@ fn read_words<'a>(alloc: Global, words: &'a [String]) -> Result<Request<'a>, Ref
     match name {
         "files" => Ok(Request::Files { script }),
         "graph" => Ok(Request::Graph { script }),
+        "rank" => Ok(Request::Rank { script }),
         _ => match files.get_str("certificate") {
             Some(certificate) => Ok(Request::Check {
                 script,
@@ -247,7 +266,8 @@ fn command<'a>(alloc: Global) -> Result<Command<'a>, AllocError> {
         .subcommand_required(true)
         .subcommand(check)?
         .subcommand(of_script(alloc, "files")?)?
-        .subcommand(of_script(alloc, "graph")?)
+        .subcommand(of_script(alloc, "graph")?)?
+        .subcommand(of_script(alloc, "rank")?)
 }
 
 /// A subcommand whose first word is a script.

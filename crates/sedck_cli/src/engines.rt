@@ -1,14 +1,16 @@
 //! The engines: each reads from sources, and writes one report to a sink.
 
 ghost use Rattle.std.specs.Prelude.{◌≡◌};
-ghost use Rattle.sedck_cli.specs.Engines.{verdict_outcome, ChecksTo, ListsFilesTo, ListsGraphTo, EngineAnswers, OfKnown, CertificateAnswers, ReadsNoCertificate};
+ghost use Rattle.sedck_cli.specs.Engines.{verdict_outcome, ChecksTo, ListsFilesTo, ListsGraphTo, RanksTo, found_outcome, EngineAnswers, OfKnown, CertificateAnswers, ReadsNoCertificate};
 
 use crate::answer::{Input, Outcome, RunFault};
 use crate::input::read_whole;
+use crate::rank::rank_report;
 use crate::report::{check_report, files_report, graph_report};
 use sedck_cert::streams::{Sink, Source, write_all};
 use sedck_cert::{Verdict, verify};
 use sedck_script::parse;
+use sedck_search::{Found, search};
 use std::alloc::Global;
 
 /// How many bytes of a script are read: one more than it may have.
@@ -77,6 +79,37 @@ pub fn run_graph<R: Source, W: Sink>(
         return Err(RunFault::Write);
     };
     Ok(Outcome::Yes)
+}
+
+/// Searches for ranks, and writes the certificate that was found, or the loop that rules all out.
+pub fn run_rank<R: Source, W: Sink>(
+    alloc: Global,
+    script: &mut R,
+    out: &mut W,
+) -> Result<Outcome, RunFault>
+    ensures report { EngineAnswers
+        (record { script = R.left script.old; script_failed = R.has_failed script.new; out_before = W.taken out.old; out_after = W.taken out.new; out_failed = W.has_failed out.new })
+        (OfKnown (R.left script.old) RanksTo) result }
+    ensures no_certificate { ReadsNoCertificate result }
+{
+    let text = read_whole(alloc, script, SCRIPT_READ, Input::Script)?;
+    let script = parse(alloc, &text)?;
+    let found = search(alloc, &script)?;
+    let report = rank_report(alloc, &found)?;
+    let Ok(()) = write_all(out, &report) else {
+        return Err(RunFault::Write);
+    };
+    Ok(outcome_of_found(&found))
+}
+
+/// Yes for ranks, and no for a loop.
+fn outcome_of_found(found: &Found) -> Outcome
+    ensures { result ≡ found_outcome found.now }
+{
+    match found {
+        Found::Ranks(_) => Outcome::Yes,
+        Found::Loop(_) => Outcome::No,
+    }
 }
 
 /// The verdict in one word.

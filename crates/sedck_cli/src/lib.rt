@@ -5,10 +5,11 @@ mod answer;
 mod command_line;
 mod engines;
 mod input;
+mod rank;
 mod report;
 #[cfg(test)]
 mod tests;
 
 pub use answer::{Input, Outcome, RunFault};
 pub use command_line::{Refusal, program};
-pub use engines::{run_check, run_files, run_graph};
+pub use engines::{run_check, run_files, run_graph, run_rank};

@@ -159,7 +159,7 @@ fn add_names<N: AsSlice<u8>>(
 }
 
 /// Adds the text as a line.
-fn add_line(report: &mut Vec<u8>, text: &[u8]) -> Result<(), AllocError>
+pub(crate) fn add_line(report: &mut Vec<u8>, text: &[u8]) -> Result<(), AllocError>
     ensures { OnOk result (report.new.items ≡ report.old.items ++ line text.now) }
 {
     report.extend_from_slice(text)?;
