@@ -4,7 +4,7 @@ RT ?= rt
 PREFIX ?= /usr/local
 EXAMPLE = next-line-loop
 
-.PHONY: all build demo test bench install clean
+.PHONY: all build demo test examples bench install clean
 
 all: build
 
@@ -23,6 +23,11 @@ demo: build
 test:
 	@echo "Running the gate: every proof from nothing, the must-fail edits, the tests and the program (some minutes) ..."
 	$(RT) ci
+	$(MAKE) examples
+
+examples: build
+	@echo "Checking the examples: answers, certificates, and what the documents show ..."
+	sh examples/check.sh
 
 bench: build
 	@echo "Measuring build/sedck (bench/run.py prints the table of docs/BENCH.md) ..."

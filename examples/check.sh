@@ -1,0 +1,74 @@
+#!/bin/sh
+# Checks the examples by what README.md says: the answer in each row of its tables, each certificate as `rank`
+# writes it, and what each command of the documents' console blocks prints. Needs build/sedck.
+# Says what failed, and ends with status 1 on any failure.
+
+CDPATH= cd -- "$(dirname -- "$0")/.." || exit 1
+[ -x build/sedck ] || { echo "examples: build/sedck is missing; make build makes it" >&2; exit 1; }
+scratch=${TMPDIR:-/tmp}/sedck-examples.$$
+mkdir "$scratch" || exit 1
+trap 'rm -rf "$scratch"' EXIT
+trap 'exit 1' HUP INT PIPE TERM
+mkdir "$scratch/build" && cp build/sedck "$scratch/build" && cp -R examples "$scratch" || exit 1
+documents=$PWD
+cd "$scratch/examples" || exit 1
+failures=0
+
+fail() {
+    echo "examples: $*" >&2
+    failures=$((failures + 1))
+}
+
+# The cells of a table's row without backquotes, and its answer one line each.
+cell() { printf '%s\n' "$row" | awk -F ' *[|] *' -v at="$1" '{ gsub("`", ""); print $at }'; }
+answer_of() { cell 4 | awk '{ gsub(", ", "\n"); print }'; }
+
+# Asks sedck: the arguments are the status and the text that are due, and then its words.
+ask() {
+    due_status=$1 due_text=$2
+    shift 2
+    text=$(../build/sedck "$@" 2>&1)
+    status=$?
+    [ $status -eq "$due_status" ] || fail "$*: the status is $status, not $due_status"
+    [ "$text" = "$due_text" ] || fail "$*: sedck prints
+$text
+  and not
+$due_text"
+}
+
+# The first table: accepted, with the certificate that rank writes.
+grep '^| `.*| `accepted`' README.md | grep -v '^| `check ' > rows
+while IFS= read -r row; do
+    name=$(cell 2)
+    ../build/sedck rank "$name.sed" > ranked || fail "rank $name.sed: no certificate is found"
+    cmp -s ranked "$name.cert" || fail "$name.cert isn't what rank writes for $name.sed"
+    lists=$(awk '/^read /{ on = 1 } $0 != "end" && on' "$name.cert")
+    ask 0 "$(answer_of; printf '%s\n' "$lists")" check "$name.sed" "$name.cert"
+done < rows
+
+# The second table: words, status, text.
+grep -E '^\| `(rank|check|files|graph) ' README.md > others
+while IFS= read -r row; do
+    # The words are names of files and hold no blanks.
+    # shellcheck disable=SC2046
+    ask "$(cell 3)" "$(answer_of)" $(cell 2)
+done < others
+
+for script in *.sed; do
+    cat rows others | grep -q -e "\`${script%.sed}\`" -e " $script" || fail "$script stands in no table of README.md"
+done
+
+# Each command of the console blocks, with all that it prints.
+cd .. || exit 1
+PATH=$scratch/build:$PATH
+for document in README.md examples/README.md docs/RECIPES.md; do
+    awk '/^```/ { on = ($0 == "```console"); next } on' "$documents/$document" > shown
+    sed -n 's/^[$] //p' shown | while IFS= read -r command; do
+        printf '$ %s\n' "$command"
+        sh -c "$command" 2>&1 < /dev/null
+    done > printed
+    diff shown printed >&2 || fail "$document shows (<) what isn't printed (>)"
+done
+
+[ $failures -eq 0 ] || exit 1
+echo "examples: all are answered as they should be"

@@ -1,0 +1,2 @@
+$a\
+# end of file

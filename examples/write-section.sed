@@ -1,0 +1,3 @@
+/^## Changes$/,/^## /{
+/^## /!w changes.txt
+}
