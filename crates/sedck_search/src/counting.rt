@@ -79,13 +79,10 @@ fn count_marked(script: &Script, along: Along, back: &mut [u16], counts: &mut [u
     };
     for root in 0..counts.len() {
         if counts[root] == UNCOUNTED && back[root] == UNSEEN {
-            count_from(script, along, root, back, counts, &mut last);
-        }
-    }
-    for step in 0..counts.len() {
-        let index = counts.len() - 1 - step;
-        if goes_on(script, along, Node::nth(index), counts, &last) {
-            count_at(script, along, index, counts, &mut last);
+            let some_wait = count_from(script, along, root, back, counts, &mut last);
+            if some_wait {
+                count_led(script, along, counts, &mut last);
+            }
         }
     }
     for index in 0..counts.len() {
@@ -94,7 +91,8 @@ fn count_marked(script: &Script, along: Along, back: &mut [u16], counts: &mut [u
 }
 
 /// Goes from node to node by edges to unseen ones, and counts a node when none is left. `back` has the node from
-/// which each one was seen. A node that leads to uncounted ones alone waits, in a list through `back`.
+/// which each one was seen. A node that leads to uncounted ones alone waits, in a list through `back`. It answers
+/// whether some node may still wait.
 fn count_from(
     script: &Script,
     along: Along,
@@ -102,7 +100,7 @@ fn count_from(
     back: &mut [u16],
     counts: &mut [u16],
     last: &mut Last,
-)
+) -> bool
     requires script { IsScript script.now }
     requires inside { root < length counts.old }
     requires back { length back.old ≡ length counts.old }
@@ -130,9 +128,27 @@ fn count_from(
             waiting = at as u16;
         }
         if at == root || before >= counts.len() {
-            return;
+            return waiting != UNSEEN;
         }
         at = before;
+    }
+    true
+}
+
+/// Counts, from the last node on, the nodes that lead to one that reaches what the last one does.
+fn count_led(script: &Script, along: Along, counts: &mut [u16], last: &mut Last)
+    requires script { IsScript script.now }
+    requires counted { ArePartlyCounted script.now along counts.old }
+    requires last { IsLast script.now along last.old.row last.old.count }
+    ensures long { length counts.new ≡ length counts.old }
+    ensures counted { ArePartlyCounted script.now along counts.new }
+    ensures last { IsLast script.now along last.new.row last.new.count }
+{
+    for step in 0..counts.len() {
+        let index = counts.len() - 1 - step;
+        if goes_on(script, along, Node::nth(index), counts, last) {
+            count_at(script, along, index, counts, last);
+        }
     }
 }
 

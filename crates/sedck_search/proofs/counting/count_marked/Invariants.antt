@@ -9,12 +9,6 @@ invariant-loop-root l = record {
   last : IsLast l.script l.along l.last.row l.last.count;
 }
 
-abbrev pub invariant-loop-step : goal.invariant-loop-step
-invariant-loop-step l = record {
-  counted : ArePartlyCounted l.script l.along l.counts;
-  last : IsLast l.script l.along l.last.row l.last.count;
-}
-
 -- the nodes so far are counted
 abbrev pub invariant-loop-index : goal.invariant-loop-index
 invariant-loop-index l = record {
