@@ -162,25 +162,47 @@ fn texts(alloc: Global, row: Row) -> Result<(String, String), Fail> {
     Ok((certificate, report))
 }
 
-#[test]
-fn reports(rt: HostRuntime) -> Result<(), Fail> {
-    for row in ROWS {
-        let (certificate, report) = texts(rt.alloc(), row)?;
-        for piece in [1, 100_000] {
-            let mut script = Given::new(row.0.as_bytes(), piece, AMPLE);
-            let mut cert = Given::new(certificate.as_bytes(), piece, AMPLE);
-            let mut out = Kept::new(rt.alloc(), piece, AMPLE);
-            let outcome = run_check(rt.alloc(), &mut script, &mut cert, &mut out)?;
-            let told = String::from_utf8(out.into_bytes())?;
-            assert_eq!(rt; told, report, "{} {}", row.0, row.2);
-            assert_eq!(rt; outcome, Outcome::Yes, "{} {}", row.0, row.2);
-        }
+/// What `run_check` writes, where texts are read and written in pieces.
+fn through_streams(
+    alloc: Global,
+    script: &str,
+    certificate: &str,
+    piece: usize,
+) -> Result<String, Fail> {
+    let mut script = Given::new(script.as_bytes(), piece, AMPLE);
+    let mut certificate = Given::new(certificate.as_bytes(), piece, AMPLE);
+    let mut out = Kept::new(alloc, piece, AMPLE);
+    let Outcome::Yes = run_check(alloc, &mut script, &mut certificate, &mut out)? else {
+        return Err("rejected".into());
+    };
+    Ok(String::from_utf8(out.into_bytes())?)
+}
+
+/// What `program` writes on files of the folder.
+fn through_files(
+    rt: &HostRuntime,
+    folder: &str,
+    script: &str,
+    certificate: &str,
+) -> Result<String, Fail> {
+    let alloc = rt.alloc();
+    let mut words = Vec::new(alloc);
+    words.push(String::from_str(alloc, "check")?)?;
+    for (name, text) in [("script", script), ("certificate", certificate)] {
+        let path = format!(in alloc; "{folder}/{name}")?;
+        fs::write(rt, path.as_str(), text)?;
+        words.push(path)?;
     }
-    Ok(())
+    let mut out = Kept::new(alloc, 7, AMPLE);
+    let mut err = Kept::new(alloc, 7, AMPLE);
+    if program(rt, &words, &mut out, &mut err) != 0 || !err.into_bytes().is_empty() {
+        return Err("not accepted".into());
+    }
+    Ok(String::from_utf8(out.into_bytes())?)
 }
 
 #[test]
-fn programs(rt: HostRuntime) -> Result<(), Fail> {
+fn reports(rt: HostRuntime) -> Result<(), Fail> {
     let alloc = rt.alloc();
     let temp = env::temp_dir(&rt)?;
     let id = process::id(rt.process());
@@ -188,30 +210,12 @@ fn programs(rt: HostRuntime) -> Result<(), Fail> {
     fs::create_dir(&rt, &folder)?;
     for row in ROWS {
         let (certificate, report) = texts(alloc, row)?;
-        let mut words = Vec::new(alloc);
-        words.push(String::from_str(alloc, "check")?)?;
-        for (name, text) in [("script", row.0), ("certificate", certificate.as_str())] {
-            let path = format!(in alloc; "{folder}/{name}")?;
-            fs::write(&rt, path.as_str(), text)?;
-            words.push(path)?;
+        for piece in [1, 100_000] {
+            let text = through_streams(alloc, row.0, &certificate, piece)?;
+            assert_eq!(rt; text, report, "{} {}", row.0, row.2);
         }
-        let mut out = Kept::new(alloc, 7, AMPLE);
-        let mut err = Kept::new(alloc, 7, AMPLE);
-        assert_eq!(rt;
-            program(&rt, &words, &mut out, &mut err),
-            0,
-            "{} {}",
-            row.0,
-            row.2
-        );
-        assert_eq!(rt;
-            String::from_utf8(out.into_bytes())?,
-            report,
-            "{} {}",
-            row.0,
-            row.2
-        );
-        assert!(rt; err.into_bytes().is_empty(), "{} {}", row.0, row.2);
+        let text = through_files(&rt, &folder, row.0, &certificate)?;
+        assert_eq!(rt; text, report, "{} {}", row.0, row.2);
     }
     fs::remove_dir_all(&rt, &folder)?;
     Ok(())
