@@ -13,3 +13,6 @@ mod ways;
 
 pub use answer::{Form, Found, Walk};
 pub use searching::search;
+
+#[cfg(test)]
+mod tests;
