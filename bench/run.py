@@ -64,6 +64,29 @@ def inputs():
     yield "4,095 names written, falling", b"".join(b"w " + name + b"\n" for name in reversed(few)), written, 0
 
 
+def scripts():
+    """Scripts for `rank`, with the status that it answers."""
+    yield "4,095 of `p`", b"p\n" * COMMANDS, 0
+    yield "4,095 of `n`", b"n\n" * COMMANDS, 0
+    yield "4,095 of `/abc/p`", b"/abc/p\n" * COMMANDS, 0
+    yield "4,095 of `s/abc/ab/`", b"s/abc/ab/\n" * COMMANDS, 0
+    yield "4,095 of `/x/D`", b"/x/D\n" * COMMANDS, 0
+    yield "4,095 of `G`", b"G\n" * COMMANDS, 0
+    loops = b"".join(b":a%d\ns/x//\nta%d\n" % (i, i) for i in range(COMMANDS // 3))
+    yield "1,365 loops with ranks, one behind another", loops, 0
+    inner = b"".join(b":b%d\ns/x//\ntb%d\n" % (i, i) for i in range(1363))
+    yield "1,363 loops with ranks inside one that reads", b":a\n" + inner + b"n\nba\n", 0
+    idle = b"".join(b":a%d\ns/a/b/\nta%d\n" % (i, i) for i in range(COMMANDS // 3))
+    yield "1,365 idle loops", idle, 1
+    yield "one idle loop of 4,095 commands", b":a\n" + b"p\n" * (COMMANDS - 2) + b"ba\n", 1
+    yield "1,363 loops inside an idle one", b":a\n" + inner + b"ba\n", 1
+    yield "818 blocks that end in `b`", b"/x/{\ns/a/b/\np\nb\n}\n" * 818, 0
+    back = b":y0\nq\n" + b"".join(b":y%d\nb y%d\n" % (i, i - 1) for i in range(1, 2040))
+    yield "2,039 branches backward", b"b z\n" + back + b":z\nb y2039\n", 0
+    tails = b"".join(b"/x/b l%d\n" % i for i in range(1000)) + b"b z\n" + b"".join(b":l%d\nb z\n" % i for i in range(1000))
+    yield "1,000 branches to branches, and 1,000 of `s/a/b/`", tails + b":z\n" + b"s/a/b/\n" * 1000, 0
+
+
 def measure(program, folder, words, status):
     begin = time.perf_counter()
     done = subprocess.run([program, *words], cwd=folder, stdout=subprocess.DEVNULL)
@@ -98,6 +121,14 @@ def main():
         print("| %s | %s | %s | %.1f | %.1f | %s | %.1f |" % (
             name, format(len(script), ","), format(len(cert), ","), min(times), statistics.median(times), memory,
             statistics.median(graphs)))
+    print("\n| input | script bytes | rank: best ms | median ms |")
+    print("|---|---|---|---|")
+    for name, script, status in scripts():
+        with tempfile.TemporaryDirectory(prefix="bench") as folder:
+            with open(os.path.join(folder, "script"), "wb") as handle:
+                handle.write(script)
+            times = [measure(program, folder, ["rank", "script"], status) for _ in range(runs)]
+        print("| %s | %s | %.1f | %.1f |" % (name, format(len(script), ","), min(times), statistics.median(times)))
 
 
 if __name__ == "__main__":
