@@ -10,7 +10,7 @@ use Rattle.sedck_flow.specs.declared.graph.Node.{Node}
 use Rattle.sedck_search.specs.Rows.{has, IsRow, HasChanged}
 use Rattle.sedck_flow.specs.declared.graph.Edge.{Edge}
 use Rattle.sedck_flow.specs.declared.graph.Kind.{Kind}
-use Rattle.sedck_search.specs.Reaching.{AreFollowed, FollowedEdge, IsClosed, Reaches, IsIn, IsReachCount, HasCount, HasNoCount, IsUncounted, ArePartlyCounted, IsLast}
+use Rattle.sedck_search.specs.Reaching.{AreFollowed, FollowedEdge, IsClosed, Reaches, IsIn, IsReachCount, HasCount, HasNoCount, IsUncounted, ArePartlyCounted, IsLast, IsClosedBeside}
 use Rattle.sedck_search.specs.Obstacle.{IsPath, IsReachable}
 use Rattle.sedck_search.specs.declared.along.Along.{Along}
 use Rattle.sedck_search.proofs.RowSets.{fewer_or_same, same_nodes, inserted_count}
@@ -136,3 +136,18 @@ module _ (p : Program) (along : Along) where
       by_path k (edge ∷ path) is followed =
           let to : edge.1 ≡ m = only (record { from = n; to = edge.1; kind = edge.0 }) (is.0, followed.0) refl in
           changed_keeps x.row more n changed k ((x.reach.same k).1 (path, subst (λ j. IsPath p j path k) to is.1, followed.1))
+
+  -- a closed row, with one node more whose edges lead into it, is closed
+  pub closed_beside : (row : List ℕ) (count : ℕ) → IsLast p along row count → (m : Node) → node_index m < 8192 → ((e : Edge) → FollowedEdge p along e → e.from ≡ m → IsIn row e.to) → IsClosedBeside p along row m
+  closed_beside row count last m below leads =
+      let changed = inserted row (node_index m) below last.is_row in
+      let more : List ℕ = set row (node_index m / 64) (with_bit row (node_index m)) in
+      record {
+        wider = more;
+        closed = λ e followed x. elim (changed_new row more m changed e.from x) [
+          | inl old ↦ changed_keeps row more m changed e.to (last.closed e followed old)
+          | inr same ↦ changed_keeps row more m changed e.to (leads e followed same)
+        ];
+        has_node = changed.at;
+        no_other = changed_new row more m changed;
+      }

@@ -89,3 +89,10 @@ pub record IsOnlyTarget (p : Program) (along : Along) (n : Node) (to : ℕ) : Ty
   pub leaves : edge.from ≡ n
   pub leads : node_index edge.to ≡ to
   pub only : (e : Edge) → FollowedEdge p along e → e.from ≡ n → node_index e.to ≡ to
+
+-- a closed row has the node, and beside it no other nodes than this row
+pub record IsClosedBeside (p : Program) (along : Along) (row : List ℕ) (m : Node) : Type 0 where
+  pub wider : List ℕ
+  pub closed : IsClosed p along wider
+  pub has_node : IsIn wider m
+  pub no_other : (k : Node) → IsIn wider k → IsIn row k ⊎ (k ≡ m)

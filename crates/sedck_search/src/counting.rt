@@ -2,8 +2,9 @@
 
 ghost use Rattle.std.specs.Prelude.{◌≡◌, ◌≢◌, ℕ, ◌+◌, ◌*◌, ◌<◌, ◌≤◌, true, length, Some, slice_get, IfOk, IfSome};
 ghost use Rattle.sedck_script.specs.Invariant.{IsScript};
+ghost use Rattle.sedck_flow.specs.Flow.{node_index};
 ghost use Rattle.sedck_flow.specs.declared.graph.Node.{Node};
-ghost use Rattle.sedck_search.specs.Reaching.{AreCounted, ArePartlyCounted, IsIn, IsLast, IsOnlyTarget, IsReachCount, Reaches};
+ghost use Rattle.sedck_search.specs.Reaching.{AreCounted, ArePartlyCounted, IsClosedBeside, IsIn, IsLast, IsOnlyTarget, IsReachCount, Reaches};
 ghost use Rattle.sedck_search.specs.declared.along.Along.{Along};
 
 use crate::along::Along;
@@ -264,7 +265,8 @@ fn count_node(script: &Script, along: Along, node: Node, counts: &[u16], last: &
     last.count
 }
 
-/// One more than the node's only target reaches, where the last row has the target and not the node.
+/// One more than the node's only target reaches, where the target stands in the last row or leads into it alone, and
+/// the node does not.
 fn count_by_target(
     script: &Script,
     along: Along,
@@ -279,7 +281,10 @@ fn count_by_target(
     ensures { IfSome result (λ count. IsReachCount script.now along node count × (0 < count) × (count ≤ 8192)) }
 {
     let to = only_target(script, along, node)?;
-    if last.row.has(index_of(node)) || !last.row.has(to) {
+    if to == index_of(node)
+        || last.row.has(index_of(node))
+        || !leads_into(script, along, to, last)
+    {
         return None;
     }
     let count = counts[to];
@@ -287,6 +292,22 @@ fn count_by_target(
         return None;
     }
     Some(count + 1)
+}
+
+/// Whether the node with the place stands in the last row, or all its edges lead to one node of it.
+fn leads_into(script: &Script, along: Along, to: usize, last: &Last) -> bool
+    requires script { IsScript script.now }
+    requires inside { to < 2 * (length script.now.commands + 1) }
+    requires last { IsLast script.now along last.now.row last.now.count }
+    ensures { result ≡ true → (m : Node) → node_index m ≡ to → IsClosedBeside script.now along last.now.row m }
+{
+    if last.row.has(to) {
+        return true;
+    }
+    match only_target(script, along, Node::nth(to)) {
+        Some(next) => last.row.has(next),
+        None => false,
+    }
 }
 
 /// The place of the node to which all followed edges lead from this one.

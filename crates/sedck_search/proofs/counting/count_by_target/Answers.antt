@@ -1,12 +1,14 @@
-use Rattle.std.proofs.Common.{◌≡◌, ◌<◌, ◌≤◌, ◌+◌, ℕ, suc, length, get_or, true, false, refl, sym, ap, ◌∙◌, subst, arith}
+use Rattle.std.proofs.Common.{◌≡◌, ◌<◌, ◌≤◌, ◌+◌, ◌⊎◌, ℕ, suc, Bool, List, length, get_or, true, false, refl, sym, ap, ◌∙◌, subst, inl, inr, arith}
+use Rattle.std.proofs.lemmas.Bool.{true≢false}
+use Rattle.sedck_cert.proofs.CheckingLemmas.{flag_below}
 use Rattle.sedck_script.specs.Invariant.{IsScript}
 use Rattle.sedck_script.specs.Program.{Program}
 use Rattle.sedck_flow.specs.Flow.{node_index}
 use Rattle.sedck_flow.specs.declared.graph.Node.{Node}
 use Rattle.sedck_flow.proofs.Inside.{inside}
 use Rattle.sedck_flow.proofs.FoundLemmas.{node_same}
-use Rattle.sedck_search.specs.Rows.{has, bit_count}
-use Rattle.sedck_search.specs.Reaching.{IsOnlyTarget, IsReachCount}
+use Rattle.sedck_search.specs.Rows.{has}
+use Rattle.sedck_search.specs.Reaching.{IsIn, IsOnlyTarget, IsReachCount}
 use Rattle.sedck_search.specs.declared.along.Along.{Along}
 use Rattle.sedck_search.proofs.RowSets.{count_within}
 use Rattle.sedck_search.proofs.Paths.{index_below, reaches_from}
@@ -21,8 +23,10 @@ to_inside p script along n to o = (inside p script.targets o.edge o.followed.0).
 to_below : (p : Program) → IsScript p → (along : Along) (n : Node) (to : ℕ) → IsOnlyTarget p along n to → to < 8192
 to_below p script along n to o = omega (arith, o.leads, index_below p script o.edge.to (to_inside p script along n to o))
 
-pub has-requires-else-has : goal.has-requires-else-has
-has-requires-else-has c = to_below c.args.script.now c.requires.script c.args.along c.args.node c.in_ok-to.to c.in_ok-to.ensures
+pub leads_into-requires-clause-inside : goal.leads_into-requires-clause-inside
+leads_into-requires-clause-inside c =
+    let o : IsOnlyTarget c.args.script.now c.args.along c.args.node c.in_ok-to.to = c.in_ok-to.ensures in
+    omega (arith, o.leads, to_inside c.args.script.now c.requires.script c.args.along c.args.node c.in_ok-to.to o, flag_below o.edge.to.flag)
 
 pub offset_bounds-counts-to : goal.offset_bounds-counts-to
 offset_bounds-counts-to c =
@@ -33,6 +37,11 @@ pub bounds-counts-to : goal.bounds-counts-to
 bounds-counts-to c =
     let o : IsOnlyTarget c.args.script.now c.args.along c.args.node c.in_ok-to.to = c.in_ok-to.ensures in
     omega (arith, o.leads, place_in c.args.script.now c.args.counts.now c.requires.counted.long o.edge.to (to_inside c.args.script.now c.requires.script c.args.along c.args.node c.in_ok-to.to o))
+
+-- the wider row doesn't have the node
+apart : (wider row : List ℕ) (n m : Node) → ((k : Node) → IsIn wider k → IsIn row k ⊎ (k ≡ m)) → has row (node_index n) ≡ false → (n ≡ m → ⊥) → (b : Bool) → has wider (node_index n) ≡ b → has wider (node_index n) ≡ false
+apart wider row n m no_other outside other false e = e
+apart wider row n m no_other outside other true e = elim (no_other n e) [ inl old ↦ absurd (true≢false (sym old ∙ outside)) | inr same ↦ absurd (other same) ]
 
 -- the target is counted, and doesn't reach the node
 pub returns : goal.returns
@@ -49,8 +58,10 @@ returns c =
     let positive : 0 < k = omega (arith, c.if-count-eq0.false) in
     let small : k < 65535 = omega (arith, c.if-count.false, c.type_inv.counts c.in_ok-to.to) in
     let is_count = counted_at p along c.args.counts.now c.requires.counted m m_inside k (entry_is c.args.counts.now m c.in_ok-to.to k (sym o.leads) below refl) positive small in
-    let one = single_count p along row c.requires.last.closed n m (ap (has row) o.leads ∙ sym c.has-else-has.ensures.value ∙ c.if-not-has.false)
-    (ap (has row) (sym c.index_of.ensures) ∙ sym c.has.ensures.value ∙ c.if-has.false) (index_below p c.requires.script n c.requires.inside)
+    let beside = c.leads_into.ensures c.if-not-leads_into.false m o.leads in
+    let outside : has row (node_index n) ≡ false = ap (has row) (sym c.index_of-else-to-index_of.ensures) ∙ sym c.has.ensures.value ∙ c.if-has.false in
+    let one = single_count p along beside.wider beside.closed n m beside.has_node
+    (apart beside.wider row n m beside.no_other outside (λ same. c.if-to-index_of.false (sym o.leads ∙ ap node_index (sym same) ∙ sym c.index_of.ensures)) (has beside.wider (node_index n)) refl) (index_below p c.requires.script n c.requires.inside)
     (reaches_from p along n o.edge (o.followed.0, o.leaves) o.followed.1) (λ e followed leaves. node_same e.to m (o.only e followed leaves ∙ sym o.leads)) k is_count in
     let next : suc k ≡ k + 1 = omega arith in
     (subst (IsReachCount p along n) next one, omega arith, omega (arith, count_within one.row one.reach.is_row, one.counts))

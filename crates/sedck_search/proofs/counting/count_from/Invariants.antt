@@ -1,4 +1,4 @@
-use Rattle.std.proofs.Common.{◌≡◌, ◌<◌, length}
+use Rattle.std.proofs.Common.{◌<◌, length}
 use Rattle.sedck_search.specs.Reaching.{ArePartlyCounted, IsLast}
 use Rattle.sedck_search.proofs.counting.count_from.Given as goal
 

@@ -1,4 +1,4 @@
-use Rattle.std.proofs.Common.{◌≡◌, ◌≢◌, ℕ, ◌<◌, length}
+use Rattle.std.proofs.Common.{◌≢◌, ℕ, ◌<◌}
 use Rattle.std.specs.Prelude.{Some, slice_get}
 use Rattle.sedck_search.specs.Reaching.{ArePartlyCounted, IsLast}
 use Rattle.sedck_search.proofs.counting.count_marked.Given as goal

@@ -1,4 +1,3 @@
-use Rattle.std.proofs.Common.{◌≡◌, length}
 use Rattle.sedck_search.specs.Reaching.{ArePartlyCounted, IsLast}
 use Rattle.sedck_search.proofs.counting.count_waiting.Given as goal
 

@@ -1,4 +1,4 @@
-use Rattle.std.proofs.Common.{◌≡◌, ◌<◌, length, arith}
+use Rattle.std.proofs.Common.{arith}
 use Rattle.sedck_search.proofs.GoneOver.{gone_next, target_coming, place_in}
 use Rattle.sedck_search.proofs.counting.next_unseen.Goals as goal
 

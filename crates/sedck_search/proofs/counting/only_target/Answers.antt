@@ -1,5 +1,5 @@
 use Rattle.std.proofs.Common.{◌≡◌, ℕ, sym, ap, ◌∙◌}
-use Rattle.std.specs.Prelude.{Some, None}
+use Rattle.std.specs.Prelude.{Some}
 use Rattle.std.proofs.lemmas.Option.{none-some}
 use Rattle.sedck_search.proofs.GoneOver.{gone_next, gone_over_more, edge_coming}
 use Rattle.sedck_search.proofs.counting.only_target.Goals as goal
