@@ -85,6 +85,9 @@ def scripts():
     yield "2,039 branches backward", b"b z\n" + back + b":z\nb y2039\n", 0
     tails = b"".join(b"/x/b l%d\n" % i for i in range(1000)) + b"b z\n" + b"".join(b":l%d\nb z\n" % i for i in range(1000))
     yield "1,000 branches to branches, and 1,000 of `s/a/b/`", tails + b":z\n" + b"s/a/b/\n" * 1000, 0
+    parts = b"".join(b":l%d\ns/q/r/\np\nb z\n" % i for i in range(300))
+    joined = b"".join(b"/x/b l%d\n" % i for i in range(300)) + b"b z\n" + parts + b":z\n" + b"s/a/b/\n" * 2500
+    yield "300 branches to parts that join 2,500 of `s/a/b/`", joined, 0
 
 
 def measure(program, folder, words, status):
