@@ -1,9 +1,11 @@
 -- A text is one certificate's at most, and none's where a line of it isn't what is due.
-use Rattle.std.proofs.Common.{◌≡◌, ℕ, zero, suc, ◌+◌, ◌*◌, ◌/◌, ◌%◌, ◌<◌, ◌≤◌, ◌^◌, List, [], ◌∷◌, ◌++◌, length, decimal, codes, Option, Some, None, append_assoc, refl, sym, ◌∙◌, ap, subst, subst₂, arith}
+use Rattle.std.proofs.Common.{◌≡◌, ℕ, zero, suc, ◌+◌, ◌-◌, ◌*◌, ◌/◌, ◌%◌, ◌<◌, ◌≤◌, ◌^◌, List, [], ◌∷◌, ◌++◌, length, decimal, codes, Option, Some, None, append_assoc, refl, sym, ◌∙◌, ap, subst, subst₂, arith}
 use Rattle.std.specs.List.{AllByRecursion}
 use Rattle.std.proofs.lemmas.List.Elements.{recursion_from_All}
 use Rattle.std.proofs.lemmas.Fmt.{decimal_injective}
 use Rattle.std.proofs.lemmas.List.{append_cancel_left}
+use Rattle.sedck_flow.specs.Nodes.{nth_node, node_count}
+use Rattle.sedck_flow.specs.Words.{node_words}
 use Rattle.sedck_cert.specs.Certificate.{Certificate, IsCertificate, AreWithin}
 use Rattle.sedck_cert.specs.Text.{line, IsOneLine, IsTextOf, node_text, ranks_text}
 use Rattle.sedck_cert.specs.Faults.{Due, Header, Count, Node, Names, Name, Last, Nothing, IsDue, AreDue, IsRefused, IsFaultOf, joined_lines, list_word, after_count}
@@ -25,7 +27,7 @@ count_one word m n few less e = decimal_injective m n (omega arith) (omega arith
 
 due_one : (due : Due) (text : List ℕ) (a b : Due) → IsDue due text a → IsDue due text b → a ≡ b
 due_one Header text a b h k = h.1 ∙ sym k.1
-due_one Count text a b h k = h.3 ∙ ap (λ n. Node 0 (2 * n + 1)) (count_one (codes "commands ") h.0 k.0 h.1 k.1 (sym h.2 ∙ k.2)) ∙ sym k.3
+due_one Count text a b h k = h.3 ∙ ap (λ n. Node 0 (node_count n - 1)) (count_one (codes "commands ") h.0 k.0 h.1 k.1 (sym h.2 ∙ k.2)) ∙ sym k.3
 due_one (Node node left) text a b h k = h.3 ∙ sym k.3
 due_one (Names files size) text a b h k = h.3 ∙ ap (λ n. after_count files n size) (count_one (list_word files) h.0 k.0 h.1 k.1 (sym h.2 ∙ k.2)) ∙ sym k.3
 due_one (Name files zero before size) text a b h k = absurd h
@@ -104,7 +106,7 @@ nodes_one node (x ∷ xs) [] h k e = absurd (cc e)
 nodes_one node (x ∷ xs) (y ∷ ys) h k e =
     let heads : node_text node x ≡ node_text node y = cc e in
     let tails : node_texts (suc node) xs ≡ node_texts (suc node) ys = cc e in
-    let same = ranks_one x y h.0 k.0 (append_cancel_left (decimal (node / 2) ++ codes " " ++ decimal (node % 2) ++ codes " ") (ranks_text x) (ranks_text y) heads) in
+    let same = ranks_one x y h.0 k.0 (append_cancel_left (node_words (nth_node node) ++ codes " ") (ranks_text x) (ranks_text y) heads) in
     cc (same, nodes_one (suc node) xs ys h.1 k.1 tails)
 
 length-node_texts : (node : ℕ) (xs : List (Option (ℕ × ℕ))) → length (node_texts node xs) ≡ length xs

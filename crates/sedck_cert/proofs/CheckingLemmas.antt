@@ -6,10 +6,13 @@ use Rattle.std.proofs.lemmas.List.Elements.{All-from_recursion, All-contains, Co
 use Rattle.sedck_script.proofs.SortedNames.{Contains-cons_cases}
 use Rattle.std.proofs.lemmas.Option.{slice_get_within}
 use Rattle.sedck_script.specs.Program.{Command, Program}
-use Rattle.sedck_flow.specs.Flow.{start, node_index, CommandEdge, Flow, FlowFrom, IsEarlier, AreInOrder, ListsEdges}
+use Rattle.sedck_flow.specs.Nodes.{start, node_index, node_count}
+use Rattle.sedck_flow.specs.Flow.{CommandEdge, Flow, FlowFrom, IsEarlier, AreInOrder, ListsEdges}
 use Rattle.sedck_flow.specs.declared.graph.Node.{Node}
 use Rattle.sedck_flow.specs.declared.graph.Edge.{Edge}
 use Rattle.sedck_flow.specs.declared.graph.Kind.TheVariants.{Consume}
+use Rattle.sedck_flow.proofs.NodeLemmas.{before-index, index_below}
+use Rattle.sedck_flow.proofs.EdgeOrder.{never_earlier, earlier-trans}
 use Rattle.sedck_cert.specs.Certificate.{Certificate}
 use Rattle.sedck_cert.specs.Ranked.{ranks_at, MeetsEdge}
 use Rattle.sedck_cert.specs.Checking.{IsUnmetBy, IsFirstUnmetOf, JudgesEdges}
@@ -23,21 +26,6 @@ pub record IsUpTo (c : Certificate) (IsEdge : Edge → Type 0) (done coming : Li
   pub met : AllByRecursion (MeetsEdge c) done
 
 -- ---- The order of edges
-
--- no edge is earlier than itself
-never_earlier : (e : Edge) → IsEarlier e e → ⊥
-never_earlier e (inl less) = absurd (omega (arith, less))
-never_earlier e (inr (same, inl less)) = absurd (omega (arith, less))
-never_earlier e (inr (same, inr (to, less))) = absurd (omega (arith, less))
-
-earlier-trans : (e f g : Edge) → IsEarlier e f → IsEarlier f g → IsEarlier e g
-earlier-trans e f g (inl a) (inl b) = inl (omega (arith, a, b))
-earlier-trans e f g (inl a) (inr (s, b)) = inl (omega (arith, a, ap node_index s))
-earlier-trans e f g (inr (s, a)) (inl b) = inl (omega (arith, b, ap node_index s))
-earlier-trans e f g (inr (s, inl a)) (inr (t, inl b)) = inr (s ∙ t, inl (omega (arith, a, b)))
-earlier-trans e f g (inr (s, inl a)) (inr (t, inr (u, b))) = inr (s ∙ t, inl (omega (arith, a, ap node_index u)))
-earlier-trans e f g (inr (s, inr (u, a))) (inr (t, inl b)) = inr (s ∙ t, inl (omega (arith, b, ap node_index u)))
-earlier-trans e f g (inr (s, inr (u, a))) (inr (t, inr (v, b))) = inr (s ∙ t, inr (u ∙ v, omega (arith, a, b)))
 
 -- in order, an edge is earlier than all behind it
 all_behind : (e : Edge) (coming : List Edge) → AreInOrder (e ∷ coming) → AllByRecursion (IsEarlier e) coming
@@ -91,13 +79,9 @@ leaves_inside : (p : Program) (e : Edge) (o : Option Command) → slice_get p.co
 leaves_inside p e None is h = omega (arith, h.0)
 leaves_inside p e (Some c) is h = omega (arith, slice_get_within p.commands e.from.at c is)
 
-pub flag_below : (flag : Bool) → (if flag then 1 else 0) ≤ 1
-flag_below true = omega arith
-flag_below false = omega arith
-
 -- so its node is one of the certificate's
-pub leaves_below : (p : Program) (e : Edge) → Flow p e → node_index e.from < 2 * (length p.commands + 1)
-leaves_below p e h = omega (arith, leaves_inside p e (slice_get p.commands e.from.at) refl h, flag_below e.from.flag)
+pub leaves_below : (p : Program) (e : Edge) → Flow p e → node_index e.from < node_count (length p.commands)
+leaves_below p e h = index_below e.from (length p.commands) (leaves_inside p e (slice_get p.commands e.from.at) refl h)
 
 -- the first edge of a node that isn't met, where those of the nodes before it are
 pub first_of_all : (p : Program) (c : Certificate) (n : Node) (found : Option Rejection)
@@ -108,7 +92,7 @@ first_of_all p c n (Some why) before judged some = record {
   is_edge = judged.is_edge.0;
   unmet = judged.unmet;
   earlier = λ f is_edge earlier. elim earlier [
-    | inl less ↦ before f is_edge (omega (arith, less, ap node_index judged.is_edge.1))
+    | inl less ↦ before f is_edge (omega (arith, before-index f.from judged.edge.from less, ap node_index judged.is_edge.1))
     | inr (same, later) ↦ judged.earlier f (is_edge, same ∙ judged.is_edge.1) (inr (same, later))
   ];
 }

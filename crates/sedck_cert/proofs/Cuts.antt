@@ -1,15 +1,15 @@
 -- A text is cut at its first such byte in one way only, and what a decimal and such a byte begin is cut there.
-use Rattle.std.proofs.Common.{◌≡◌, ℕ, zero, suc, ◌/◌, ◌%◌, ◌^◌, ◌<◌, ◌≤◌, List, [], ◌∷◌, ◌++◌, Contains, Option, Some, None, MatchOption, codes, append_assoc, refl, sym, ◌∙◌, ap, arith}
+use Rattle.std.proofs.Common.{◌≡◌, ℕ, zero, suc, ◌/◌, ◌%◌, ◌^◌, ◌<◌, ◌≤◌, ◌==◌, List, [], ◌∷◌, ◌++◌, Contains, Option, Some, None, MatchOption, codes, append_assoc, refl, sym, ◌∙◌, ap, arith}
 use Rattle.std.specs.Fmt.{decimal}
 use Rattle.std.specs.Int.{IsInRange}
 use Rattle.std.proofs.lemmas.List.Elements.{All-contains, All-from_get_or}
+use Rattle.sedck_flow.specs.Words.{flag_text}
+use Rattle.sedck_flow.proofs.NodeLemmas.{flag_text-nth}
+use Rattle.sedck_script.proofs.SortedNames.{Contains-cons_more}
 use Rattle.sedck_cert.specs.Certificate.{AreWithin}
 use Rattle.sedck_cert.specs.Text.{ranks_text, node_text}
 use Rattle.sedck_cert.specs.Cuts.{IsCut}
 use Rattle.sedck_cert.proofs.Decimals.{decimal-digit}
-
-pub contains_later : {X : Type 0} (x : X) (xs : List X) (y : X) → Contains xs y → Contains (x ∷ xs) y
-contains_later x xs y (k, below, is) = (suc k, omega arith, is)
 
 -- two cuts of one text at one byte
 pub parts_one : (byte : ℕ) (f g r s : List ℕ) → (Contains f byte → ⊥) → (Contains g byte → ⊥) → f ++ byte ∷ r ≡ g ++ byte ∷ s → (f ≡ g) × (r ≡ s)
@@ -19,7 +19,7 @@ parts_one byte (b ∷ f) [] r s hf hg e = absurd (hf (0, omega arith, let h : b 
 parts_one byte (b ∷ f) (c ∷ g) r s hf hg e =
     let tails : f ++ byte ∷ r ≡ g ++ byte ∷ s = cc in
     let heads : b ≡ c = cc in
-    let both : (f ≡ g) × (r ≡ s) = parts_one byte f g r s (λ h. hf (contains_later b f byte h)) (λ h. hg (contains_later c g byte h)) tails in
+    let both : (f ≡ g) × (r ≡ s) = parts_one byte f g r s (λ h. hf (Contains-cons_more b f byte h)) (λ h. hg (Contains-cons_more c g byte h)) tails in
     (cc (heads, both.0), both.1)
 
 pub cut_one : (byte : ℕ) (text f r g s : List ℕ) → IsCut byte text f r → IsCut byte text g s → (f ≡ g) × (r ≡ s)
@@ -27,7 +27,7 @@ cut_one byte text f r g s a b = parts_one byte f g r s a.none b.none (sym a.is_t
 
 pub has_byte : (byte : ℕ) (text f r : List ℕ) → text ≡ f ++ byte ∷ r → Contains text byte
 has_byte byte text [] r e = rw e (0, omega arith, refl)
-has_byte byte text (b ∷ f) r e = rw e (contains_later b (f ++ byte ∷ r) byte (has_byte byte (f ++ byte ∷ r) f r refl))
+has_byte byte text (b ∷ f) r e = rw e (Contains-cons_more b (f ++ byte ∷ r) byte (has_byte byte (f ++ byte ∷ r) f r refl))
 
 -- a byte below the digits
 pub decimal-lacks : (n byte : ℕ) → n < 2 ^ 64 → byte < 48 → Contains (decimal n) byte → ⊥
@@ -51,7 +51,7 @@ ranks_parts text first second (Some r) within cut is =
 
 -- the parts of a node's line
 abbrev pub node_rest : ℕ → Option (ℕ × ℕ) → List ℕ
-node_rest node ranks = decimal (node % 2) ++ 32 ∷ ranks_text ranks
+node_rest node ranks = flag_text (node % 2 == 1) ++ 32 ∷ ranks_text ranks
 
 pub node_text-parts : (node : ℕ) (ranks : Option (ℕ × ℕ)) → node_text node ranks ≡ decimal (node / 2) ++ 32 ∷ node_rest node ranks
 node_text-parts node ranks = simp append_assoc refl
@@ -60,7 +60,7 @@ pub node_parts : (text at rest : List ℕ) (node : ℕ) (ranks : Option (ℕ × 
 node_parts text at rest node ranks small cut is = decimal-cut text at rest (node_rest node ranks) (node / 2) 32 (omega arith) (omega arith) cut (is ∙ node_text-parts node ranks)
 
 pub flag_parts : (text flag rest : List ℕ) (node : ℕ) (ranks : Option (ℕ × ℕ)) → node < 2 ^ 16 → IsCut 32 text flag rest → text ≡ node_rest node ranks → (flag ≡ decimal (node % 2)) × (rest ≡ ranks_text ranks)
-flag_parts text flag rest node ranks small cut is = decimal-cut text flag rest (ranks_text ranks) (node % 2) 32 (omega arith) (omega arith) cut is
+flag_parts text flag rest node ranks small cut is = decimal-cut text flag rest (ranks_text ranks) (node % 2) 32 (omega arith) (omega arith) cut (is ∙ ap (λ d. d ++ 32 ∷ ranks_text ranks) (flag_text-nth node))
 
 -- the line of a node whose place and flag are these
 pub node_by_ranks : (text at rest flag more : List ℕ) (node : ℕ) (r : Option (Option (ℕ × ℕ))) → node < 2 ^ 16 → IsCut 32 text at rest → IsCut 32 rest flag more → at ≡ decimal (node / 2) → flag ≡ decimal (node % 2)
@@ -71,5 +71,6 @@ node_by_ranks text at rest flag more node None small cut cut2 a f h = λ ranks w
     h ranks within (flag_parts rest flag more node ranks small cut2 p.1).1
 node_by_ranks text at rest flag more node (Some ranks) small cut cut2 a f h =
     let front : text ≡ at ++ 32 ∷ (flag ++ 32 ∷ more) = cut.is_text ∙ ap (λ t. at ++ 32 ∷ t) cut2.is_text in
-    let whole : text ≡ decimal (node / 2) ++ 32 ∷ node_rest node ranks = rw (← a, ← f, ← h.1) front in
+    let flag_is : flag ≡ flag_text (node % 2 == 1) = f ∙ sym (flag_text-nth node) in
+    let whole : text ≡ decimal (node / 2) ++ 32 ∷ node_rest node ranks = rw (← a, ← flag_is, ← h.1) front in
     (h.0, whole ∙ sym (node_text-parts node ranks))

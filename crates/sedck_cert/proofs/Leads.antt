@@ -105,8 +105,3 @@ pub next_by_line : {V : Type 0} (Good : V → Type 0) (text : V → List ℕ) (l
     → MatchOption r ((v : V) → Good v → (more : List ℕ) → IsCut 10 old.rest.now (text v) more → ⊥) (λ v. Good v × IsNext old (text v) new)
 next_by_line Good text line' None old new cut number h = λ v good more other. h v good (cut_one 10 _ line' _ (text v) more cut other).0
 next_by_line Good text line' (Some v) old new cut number h = (h.0, record { cut = subst (λ t. IsCut 10 old.rest.now t new.rest.now) h.1 cut; number = number })
-
--- what a `?` hands on
-pub if_err_from : {A E : Type 0} (P : E → Type 0) (r : Result A E) (e : E) → IsErrAnd r (λ y. y ≡ e) → P e → IfErr r P
-if_err_from P (Ok x) e h p = tt
-if_err_from P (Err y) e h p = subst P (sym h) p

@@ -1,10 +1,15 @@
 -- The pieces of a certificate's text, in the order in which they are written.
-use Rattle.std.proofs.Common.{◌≡◌, ℕ, suc, ◌+◌, ◌<◌, ◌≤◌, ◌/◌, ◌%◌, List, [], ◌∷◌, ◌++◌, length, get_or, take, drop, decimal, codes, Option, Some, Vec, append_assoc, append-nil, refl, sym, ◌∙◌, ap, arith}
+use Rattle.std.proofs.Common.{◌≡◌, ℕ, suc, ◌+◌, ◌<◌, ◌≤◌, ◌/◌, ◌%◌, ◌==◌, List, [], ◌∷◌, ◌++◌, length, get_or, take, drop, decimal, codes, Option, Some, Vec, append_assoc, append-nil, refl, sym, ◌∙◌, ap, arith}
+use Rattle.std.specs.Prelude.{if◌then◌else◌}
 use Rattle.std.proofs.Math.Seq.{drop-cons}
 use Rattle.std.specs.declared.alloc.Global.{Global}
 use Rattle.std.proofs.lemmas.List.{take-append-drop, take_more, map-append, length-take-le, length-map}
 use Rattle.sedck_script.specs.Names.{AreNames}
 use Rattle.sedck_cert.specs.Certificate.{Certificate, IsCertificate}
+use Rattle.sedck_flow.specs.Words.{flag_text}
+use Rattle.sedck_flow.specs.Nodes.{node_index}
+use Rattle.sedck_flow.specs.declared.graph.Node.{Node}
+use Rattle.sedck_flow.proofs.NodeLemmas.{parts-nth, flag_text-nth}
 use Rattle.sedck_cert.specs.View.{names_of}
 use Rattle.sedck_cert.specs.Text.{line, ranks_text, node_text, node_lines, name_lines, files_text, certificate_text}
 use Rattle.sedck_cert.proofs.NameLimits.{left_cons}
@@ -15,8 +20,14 @@ some_pieces first second = append_assoc (decimal first ++ 32 ∷ []) (decimal se
 five : (a s b r e : List ℕ) → a ++ s ++ b ++ s ++ r ++ e ≡ (a ++ s) ++ ((b ++ s) ++ (r ++ e))
 five a s b r e = simp append_assoc
 
-pub node_pieces : (node : ℕ) (ranks : Option (ℕ × ℕ)) → line (node_text node ranks) ≡ (decimal (node / 2) ++ 32 ∷ []) ++ ((decimal (node % 2) ++ 32 ∷ []) ++ line (ranks_text ranks))
-node_pieces node ranks = five (decimal (node / 2)) (32 ∷ []) (decimal (node % 2)) (ranks_text ranks) (10 ∷ [])
+-- by the place of the node, and its flag as a digit
+pub node_pieces : (n : Node) (index : ℕ) (ranks : Option (ℕ × ℕ)) → node_index n ≡ index
+    → line (node_text index ranks) ≡ (decimal n.at ++ 32 ∷ []) ++ ((decimal (if n.flag then 1 else 0) ++ 32 ∷ []) ++ line (ranks_text ranks))
+node_pieces n index ranks is =
+    let parts = parts-nth n index is in
+    five (decimal (index / 2)) (32 ∷ []) (flag_text (index % 2 == 1)) (ranks_text ranks) (10 ∷ [])
+    ∙ ap (λ d. (decimal (index / 2) ++ 32 ∷ []) ++ ((d ++ 32 ∷ []) ++ line (ranks_text ranks))) (flag_text-nth index ∙ ap decimal (sym parts.1))
+    ∙ ap (λ at. (decimal at ++ 32 ∷ []) ++ ((decimal (if n.flag then 1 else 0) ++ 32 ∷ []) ++ line (ranks_text ranks))) (sym parts.0)
 
 node_lines-append : (node : ℕ) (xs ys : List (Option (ℕ × ℕ))) → node_lines node (xs ++ ys) ≡ node_lines node xs ++ node_lines (node + length xs) ys
 node_lines-append node [] ys = ap (λ n. node_lines n ys) (omega arith)

@@ -1,5 +1,5 @@
 -- The lines of a certificate are its text, and are what is due.
-use Rattle.std.proofs.Common.{◌≡◌, ℕ, zero, suc, ◌+◌, ◌*◌, ◌<◌, ◌≤◌, ◌^◌, List, [], ◌∷◌, ◌++◌, length, decimal, codes, Option, append_assoc, append-nil, refl, sym, ◌∙◌, ap, subst, subst₂, inl, inr, arith}
+use Rattle.std.proofs.Common.{◌≡◌, ℕ, zero, suc, ◌+◌, ◌-◌, ◌*◌, ◌<◌, ◌≤◌, ◌^◌, ◌==◌, List, [], ◌∷◌, ◌++◌, length, decimal, codes, Option, append_assoc, append-nil, refl, sym, ◌∙◌, ap, subst, subst₂, inl, inr, arith}
 use Rattle.std.specs.List.{AllByRecursion, list_all}
 use Rattle.std.proofs.lemmas.Bool.{and_parts, ltb-true}
 use Rattle.std.proofs.lemmas.List.Sums.{sum_by-cons}
@@ -10,6 +10,10 @@ use Rattle.std.proofs.lemmas.Fmt.{decimal_injective}
 use Rattle.std.proofs.lemmas.Cmp.{nat_list_cmp_total}
 use Rattle.std.proofs.lemmas.List.{append_cancel_left}
 use Rattle.sedck_script.specs.Names.{IsName, IsBefore, AreRising, AreNames, names_size}
+use Rattle.sedck_flow.specs.Nodes.{nth_node, node_count}
+use Rattle.sedck_flow.specs.Words.{flag_text, node_words}
+use Rattle.sedck_flow.proofs.NodeLemmas.{flag_text-nth}
+use Rattle.sedck_script.proofs.SortedNames.{all_later}
 use Rattle.sedck_cert.specs.Certificate.{Certificate, IsCertificate, AreWithin}
 use Rattle.sedck_cert.specs.Text.{line, node_lines, name_lines, certificate_text, IsOneLine, node_text, ranks_text}
 use Rattle.sedck_cert.specs.Faults.{Due, Header, Count, Node, Names, Last, Nothing, AreDue, Rises, joined_lines, list_word, after_list, after_count, after_name, after_node}
@@ -86,10 +90,11 @@ node_text-one_line : (node : ℕ) (ranks : Option (ℕ × ℕ)) → node < 2 ^ 1
 node_text-one_line node ranks small within =
     let space = above-one_line (codes " ") refl in
     let place = decimal-one_line [] (node / 2) (omega arith) none-one_line in
-    let flag = decimal-one_line [] (node % 2) (omega arith) none-one_line in
-    append-one_line (decimal (node / 2) ++ codes " " ++ decimal (node % 2) ++ codes " ") (ranks_text ranks)
-    (append-one_line (decimal (node / 2) ++ codes " " ++ decimal (node % 2)) (codes " ")
-    (append-one_line (decimal (node / 2) ++ codes " ") (decimal (node % 2)) (append-one_line (decimal (node / 2)) (codes " ") place space) flag) space)
+    let flag : IsOneLine (flag_text (node % 2 == 1)) =
+    subst IsOneLine (sym (flag_text-nth node)) (decimal-one_line [] (node % 2) (omega arith) none-one_line) in
+    append-one_line (node_words (nth_node node) ++ codes " ") (ranks_text ranks)
+    (append-one_line (node_words (nth_node node)) (codes " ")
+    (append-one_line (decimal (node / 2) ++ codes " ") (flag_text (node % 2 == 1)) (append-one_line (decimal (node / 2)) (codes " ") place space) flag) space)
     (ranks_text-one_line ranks within)
 
 -- the lines of the nodes
@@ -116,10 +121,6 @@ record AreListed (files : Files) (before names : List (List ℕ)) (size : ℕ) (
   pub rising : AreRising names
   pub leads : next ≡ after_list files (size + names_size names)
   pub within : size + names_size names ≤ 1048576
-
-all_later : (a b : List ℕ) (names : List (List ℕ)) → IsBefore a b → AllByRecursion (IsBefore b) names → AllByRecursion (IsBefore a) names
-all_later a b [] e h = tt
-all_later a b (c ∷ names) e h = (nat_list_cmp_total.trans a b c e h.0, all_later a b names e h.1)
 
 pub behind_all : (before : List (List ℕ)) (name : List ℕ) (names : List (List ℕ)) → Rises before name → AllByRecursion (IsBefore name) names → IsBeforeAll before (name ∷ names)
 behind_all [] name names e h = tt
@@ -200,10 +201,10 @@ certificate_is_due c h =
     let end = codes "end" ∷ [] in
     let middle : Due = Names Writes (0 + names_size c.reads) in
     let files = are_due-append (list_texts Reads c.reads) (list_texts Writes c.writes ++ end) (Names Reads 0) middle Nothing reads (are_due-append (list_texts Writes c.writes) end middle Last Nothing writes ending) in
-    let start : nodes_due 0 (length c.ranks) ≡ Node 0 (2 * c.commands + 1) = ap (nodes_due 0) (let e : length c.ranks ≡ suc (2 * c.commands + 1) = omega (arith, h.nodes) in e) in
-    let rest = are_due-append (node_texts 0 c.ranks) (list_texts Reads c.reads ++ (list_texts Writes c.writes ++ end)) (Node 0 (2 * c.commands + 1)) (Names Reads 0) Nothing (subst (λ d. AreDue d (node_texts 0 c.ranks) (Names Reads 0)) start nodes) files in (
+    let start : nodes_due 0 (length c.ranks) ≡ Node 0 (node_count c.commands - 1) = ap (nodes_due 0) (let e : length c.ranks ≡ suc (node_count c.commands - 1) = omega (arith, h.nodes) in e) in
+    let rest = are_due-append (node_texts 0 c.ranks) (list_texts Reads c.reads ++ (list_texts Writes c.writes ++ end)) (Node 0 (node_count c.commands - 1)) (Names Reads 0) Nothing (subst (λ d. AreDue d (node_texts 0 c.ranks) (Names Reads 0)) start nodes) files in (
       above-one_line (codes "sedck 1") refl,
       Count,
       (refl, refl),
-      (decimal-one_line (codes "commands ") c.commands (omega (arith, h.commands)) (above-one_line (codes "commands ") refl), Node 0 (2 * c.commands + 1), (c.commands, h.commands, refl, refl), rest),
+      (decimal-one_line (codes "commands ") c.commands (omega (arith, h.commands)) (above-one_line (codes "commands ") refl), Node 0 (node_count c.commands - 1), (c.commands, h.commands, refl, refl), rest),
     )

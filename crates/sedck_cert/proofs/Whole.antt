@@ -1,6 +1,7 @@
 -- The parts of a certificate, read one after another.
-use Rattle.std.proofs.Common.{◌≡◌, ◌⊎◌, inl, inr, ℕ, suc, ◌+◌, ◌*◌, ◌≤◌, List, [], ◌∷◌, ◌++◌, length, decimal, codes, Option, Some, cond, All, count_by, Result, Ok, Err, IfOk, IfErr, IfSome, ◌==◌, append_assoc, append-nil, refl, sym, ◌∙◌, ap, arith}
+use Rattle.std.proofs.Common.{◌≡◌, ◌⊎◌, inl, inr, ℕ, suc, ◌+◌, ◌-◌, ◌*◌, ◌≤◌, List, [], ◌∷◌, ◌++◌, length, decimal, codes, Option, Some, cond, All, count_by, Result, Ok, Err, IfOk, IfErr, IfSome, ◌==◌, append_assoc, append-nil, refl, sym, ◌∙◌, ap, arith}
 use Rattle.std.proofs.lemmas.List.Sums.{sum_by-append}
+use Rattle.sedck_flow.specs.Nodes.{node_count}
 use Rattle.sedck_script.specs.Names.{names_size}
 use Rattle.sedck_cert.specs.Certificate.{Certificate, IsCertificate, AreWithin}
 use Rattle.sedck_cert.specs.Text.{line, certificate_text, IsTextOf}
@@ -38,7 +39,7 @@ fault_later text start fault due before rest number leads h = elim h [
 abbrev made : ℕ → List (Option (ℕ × ℕ)) → List (List ℕ) → List (List ℕ) → Certificate
 made n ranks reads writes = record { commands = n; ranks = ranks; reads = reads; writes = writes }
 
-pub whole_is : (n : ℕ) (ranks : List (Option (ℕ × ℕ))) (reads writes : List (List ℕ)) (size end : ℕ) {x3 x4 x5 : Lines} → n ≤ 4095 → length ranks ≡ 2 * (n + 1) → All AreWithin ranks → length reads ≤ 4095 → length writes ≤ 4095 → size ≤ 1048576
+pub whole_is : (n : ℕ) (ranks : List (Option (ℕ × ℕ))) (reads writes : List (List ℕ)) (size end : ℕ) {x3 x4 x5 : Lines} → n ≤ 4095 → length ranks ≡ node_count n → All AreWithin ranks → length reads ≤ 4095 → length writes ≤ 4095 → size ≤ 1048576
     → Leads (Names Reads 0) x3 (list_texts Reads reads) x4 (after_list Reads size)
     → Leads (Names Writes size) x4 (list_texts Writes writes) x5 (after_list Writes end)
     → IsCertificate (made n ranks reads writes)
@@ -57,8 +58,8 @@ whole_is n ranks reads writes size end few count within less fewer small l4 l5 =
 
 pub whole_text : (text : List ℕ) (n : ℕ) (ranks : List (Option (ℕ × ℕ))) (reads writes : List (List ℕ)) (size end : ℕ) {x0 x1 x2 x3 x4 x5 x6 : Lines} → x0.rest.now ≡ text
     → Leads Header x0 (codes "sedck 1" ∷ []) x1 Count
-    → Leads Count x1 ((codes "commands " ++ decimal n) ∷ []) x2 (Node 0 (2 * n + 1))
-    → Leads (Node 0 (2 * n + 1)) x2 (node_texts 0 ranks) x3 (Names Reads 0)
+    → Leads Count x1 ((codes "commands " ++ decimal n) ∷ []) x2 (Node 0 (node_count n - 1))
+    → Leads (Node 0 (node_count n - 1)) x2 (node_texts 0 ranks) x3 (Names Reads 0)
     → Leads (Names Reads 0) x3 (list_texts Reads reads) x4 (after_list Reads size)
     → Leads (Names Writes size) x4 (list_texts Writes writes) x5 (after_list Writes end)
     → Leads Last x5 (codes "end" ∷ []) x6 Nothing
@@ -66,8 +67,8 @@ pub whole_text : (text : List ℕ) (n : ℕ) (ranks : List (Option (ℕ × ℕ))
     → text ≡ certificate_text (made n ranks reads writes)
 whole_text text n ranks reads writes size end {x0} {x1} {x2} {x3} {x4} {x5} {x6} is l1 l2 l3 l4 l5 l6 last =
     let files = leads_on (Names Reads 0) (Names Writes size) Nothing (list_texts Reads reads) (list_texts Writes writes ++ codes "end" ∷ []) l4 (leads_on (Names Writes size) Last Nothing (list_texts Writes writes) (codes "end" ∷ []) l5 l6) in
-    let nodes = leads_on (Node 0 (2 * n + 1)) (Names Reads 0) Nothing (node_texts 0 ranks) (list_texts Reads reads ++ (list_texts Writes writes ++ codes "end" ∷ [])) l3 files in
-    let counted = leads_on Count (Node 0 (2 * n + 1)) Nothing ((codes "commands " ++ decimal n) ∷ []) (node_texts 0 ranks ++ (list_texts Reads reads ++ (list_texts Writes writes ++ codes "end" ∷ []))) l2 nodes in
+    let nodes = leads_on (Node 0 (node_count n - 1)) (Names Reads 0) Nothing (node_texts 0 ranks) (list_texts Reads reads ++ (list_texts Writes writes ++ codes "end" ∷ [])) l3 files in
+    let counted = leads_on Count (Node 0 (node_count n - 1)) Nothing ((codes "commands " ++ decimal n) ∷ []) (node_texts 0 ranks ++ (list_texts Reads reads ++ (list_texts Writes writes ++ codes "end" ∷ []))) l2 nodes in
     let all = leads_on Header Count Nothing (codes "sedck 1" ∷ []) ((codes "commands " ++ decimal n) ∷ (node_texts 0 ranks ++ (list_texts Reads reads ++ (list_texts Writes writes ++ codes "end" ∷ [])))) l1 counted in
     let lines = certificate_lines (made n ranks reads writes) in
     sym is ∙ all.is_text ∙ ap (λ t. joined_lines lines ++ t) last ∙ append-nil (joined_lines lines) ∙ certificate_lines-joined (made n ranks reads writes)

@@ -16,21 +16,11 @@ pub on_ok_then : {A E : Type 0} (r : Result A E) (P Q : Type 0) → OnOk r P →
 on_ok_then (Ok x) P Q h f = f h
 on_ok_then (Err e) P Q h f = tt
 
-pub appends_none : (a : Option (List ℕ)) → Appends a a []
-appends_none None = tt
-appends_none (Some xs) = sym (append-nil xs)
-
 pub appends_join : (a b c : Option (List ℕ)) (xs ys : List ℕ) → Appends a b xs → Appends b c ys → Appends a c (xs ++ ys)
 appends_join None b c xs ys h k = tt
 appends_join (Some as') None c xs ys h k = absurd h
 appends_join (Some as') (Some bs) None xs ys h k = absurd k
 appends_join (Some as') (Some bs) (Some cs) xs ys h k = k ∙ ap (λ t. t ++ ys) h ∙ append_assoc as' xs ys
-
-pub appends_keeps : (a b c : Option (List ℕ)) (xs : List ℕ) → Appends a b xs → Keeps b c → Appends a c xs
-appends_keeps None b c xs h k = tt
-appends_keeps (Some as') None c xs h k = absurd h
-appends_keeps (Some as') (Some bs) None xs h k = absurd k
-appends_keeps (Some as') (Some bs) (Some cs) xs h k = k ∙ h
 
 -- a front of a longer text
 pub begins_longer : (a b : Option (List ℕ)) (text rest : List ℕ) → AppendsFront a b text → AppendsFront a b (text ++ rest)

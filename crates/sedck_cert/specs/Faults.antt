@@ -1,7 +1,8 @@
 -- Which fault a text that is no certificate's gets: that of the first line that isn't what is due there, after the lines before it.
-use Rattle.std.specs.Prelude.{◌≡◌, ℕ, zero, suc, ◌+◌, ◌*◌, ◌<◌, ◌≤◌, List, [], ◌∷◌, ◌++◌, length, Option, Some, None, ◌==◌, count_by, decimal, codes}
+use Rattle.std.specs.Prelude.{◌≡◌, ℕ, zero, suc, ◌+◌, ◌-◌, ◌<◌, ◌≤◌, List, [], ◌∷◌, ◌++◌, length, Option, Some, None, ◌==◌, count_by, decimal, codes}
 use Rattle.sedck_bre.specs.Bytes.{newline}
 use Rattle.sedck_script.specs.Names.{IsName, IsBefore}
+use Rattle.sedck_flow.specs.Nodes.{node_count}
 use Rattle.sedck_cert.specs.Certificate.{AreWithin}
 use Rattle.sedck_cert.specs.Text.{line, node_text, IsOneLine}
 use Rattle.sedck_cert.specs.declared.reading.names.Files.{Files}
@@ -51,7 +52,7 @@ list_word Writes = codes "write "
 -- the line, without its newline, is what is due, and what is due next
 abbrev pub IsDue : Due → List ℕ → Due → Type 0
 IsDue Header text next = (text ≡ codes "sedck 1") × (next ≡ Count)
-IsDue Count text next = (n : ℕ) × (n ≤ 4095) × (text ≡ codes "commands " ++ decimal n) × (next ≡ Node 0 (2 * n + 1))
+IsDue Count text next = (n : ℕ) × (n ≤ 4095) × (text ≡ codes "commands " ++ decimal n) × (next ≡ Node 0 (node_count n - 1))
 IsDue (Node node left) text next =
     (ranks : Option (ℕ × ℕ)) × AreWithin ranks × (text ≡ node_text node ranks) × (next ≡ after_node node left)
 IsDue (Names files size) text next = (n : ℕ) × (n ≤ 4095) × (text ≡ list_word files ++ decimal n) × (next ≡ after_count files n size)

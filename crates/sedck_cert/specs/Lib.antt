@@ -3,6 +3,7 @@ pub use Rattle.sedck_script.specs.Spelling
 pub use Rattle.sedck_script.specs.Names
 pub use Rattle.sedck_script.specs.Invariant
 pub use Rattle.sedck_flow.specs.Run
+pub use Rattle.sedck_flow.specs.Nodes
 pub use Rattle.sedck_flow.specs.Flow
 pub use Rattle.sedck_flow.specs.Spaces
 pub mod Certificate

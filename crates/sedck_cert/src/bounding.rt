@@ -10,7 +10,7 @@ ghost use Rattle.sedck_cert.specs.Bounds.{IsBoundOf, BoundsRuns};
 use crate::certificate::Cert;
 use crate::checking::{Verdict, check, ranks_of};
 use crate::limits::Bound;
-use sedck_flow::{Kind, Node, edges_of};
+use sedck_flow::{Kind, Node, edges_of, node_count};
 use sedck_script::Script;
 
 /// The limit on the steps of any run of the script, where the certificate is accepted and the pattern
@@ -37,7 +37,7 @@ fn never_grows(script: &Script, cert: &Cert) -> bool
     // What the law on steady runs asks of the script.
     ensures formed { AreWellFormed script.now }
 {
-    for index in 0..2 * (script.commands().len() + 1) {
+    for index in 0..node_count(script.commands().len()) {
         if !never_grows_from(script, cert, Node::nth(index)) {
             return false;
         }

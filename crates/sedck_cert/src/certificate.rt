@@ -6,6 +6,7 @@ ghost use Rattle.sedck_cert.specs.Certificate.{IsCertificate, AreWithin};
 ghost use Rattle.sedck_cert.specs.View.{names_of, certificate_of};
 
 use crate::reading::{NAMES_LIMIT, is_next_name};
+use sedck_flow::node_count;
 use std::marker::Model;
 
 /// A certificate for a script.
@@ -40,7 +41,7 @@ impl Cert {
         ensures within { IsSome result ↔ IsCertificate (certificate_of commands ranks reads writes) }
         ensures same { IfSome result (λ cert. cert ≡ certificate_of commands ranks reads writes) }
     {
-        if commands > 4095 || ranks.len() != 2 * (commands as usize + 1) {
+        if commands > 4095 || ranks.len() != node_count(usize::from(commands)) {
             return None;
         }
         know_limits(&ranks);

@@ -56,8 +56,7 @@ fn first_rejection(script: &Script, cert: &Cert) -> Option<Rejection>
     if usize::from(cert.commands()) != script.commands().len() {
         return Some(Rejection::WrongCount);
     }
-    let start = Node { at: 0, flag: false };
-    if ranks_of(cert, start).is_none() {
+    if ranks_of(cert, Node::START).is_none() {
         return Some(Rejection::StartUnranked);
     }
     if let Some(why) = first_unmet(script, cert) {
@@ -133,8 +132,7 @@ fn reason_unmet(cert: &Cert, edge: Edge) -> Option<Rejection>
 pub(crate) fn ranks_of(cert: &Cert, node: Node) -> Option<(u16, u16)>
     ensures { result ≡ ranks_at cert.now node }
 {
-    let index = 2 * usize::from(node.at) + usize::from(node.flag);
-    cert.ranks().get(index).copied().flatten()
+    cert.ranks().get(node.index()).copied().flatten()
 }
 
 /// Whether the ranks after an edge are to those before it as its kind asks.

@@ -8,6 +8,7 @@ ghost use Rattle.sedck_cert.specs.View.{names_of};
 
 use crate::certificate::Cert;
 use crate::streams::{Failed, Sink, write_all};
+use sedck_flow::Node;
 
 /// Writes the certificate's text. It takes no memory.
 pub fn write_cert<W: Sink>(cert: &Cert, out: &mut W) -> Result<(), Failed>
@@ -69,13 +70,14 @@ fn write_ranks<W: Sink>(out: &mut W, ranks: Option<(u16, u16)>) -> Result<(), Fa
     write_field(out, second, b'\n')
 }
 
-fn write_node<W: Sink>(out: &mut W, node: u16, ranks: Option<(u16, u16)>) -> Result<(), Failed>
-    ensures written { OnOk result (Appends (W.taken out.old) (W.taken out.new) (line (node_text node ranks))) }
-    ensures begun { OnErr result (AppendsFront (W.taken out.old) (W.taken out.new) (line (node_text node ranks))) }
+fn write_node<W: Sink>(out: &mut W, index: u16, ranks: Option<(u16, u16)>) -> Result<(), Failed>
+    ensures written { OnOk result (Appends (W.taken out.old) (W.taken out.new) (line (node_text index ranks))) }
+    ensures begun { OnErr result (AppendsFront (W.taken out.old) (W.taken out.new) (line (node_text index ranks))) }
     ensures failure { TellsFailure result (W.has_failed out.old) (W.has_failed out.new) }
 {
-    write_field(out, node / 2, b' ')?;
-    write_field(out, node % 2, b' ')?;
+    let node = Node::nth(usize::from(index));
+    write_field(out, node.at, b' ')?;
+    write_field(out, u16::from(node.flag), b' ')?;
     write_ranks(out, ranks)
 }
 

@@ -1,14 +1,15 @@
 -- The edges of a flow graph, node after node.
-use Rattle.std.proofs.Common.{◌≡◌, ℕ, ◌+◌, ◌*◌, ◌<◌, ◌≤◌, Bool, true, false, List, [], ◌∷◌, ◌++◌, length, Contains, refl, sym, ap, ◌∙◌, inl, inr, arith, append_assoc, append-nil}
-use Rattle.std.specs.Prelude.{if◌then◌else◌}
+use Rattle.std.proofs.Common.{◌≡◌, ℕ, ◌+◌, ◌*◌, ◌<◌, ◌≤◌, List, [], ◌∷◌, ◌++◌, length, Contains, refl, sym, ap, ◌∙◌, inl, inr, arith, append_assoc}
 use Rattle.std.proofs.lemmas.Bool.{cases_lt}
 use Rattle.std.proofs.lemmas.List.Elements.{Contains-append_cases, Contains-append_left, Contains-append_right}
 use Rattle.sedck_script.specs.Program.{Program}
 use Rattle.sedck_script.proofs.SortedNames.{Contains-cons_more}
-use Rattle.sedck_flow.specs.Flow.{node_index, Flow, IsEarlier, AreInOrder, ListsEdges}
+use Rattle.sedck_flow.specs.Nodes.{node_index, node_count}
+use Rattle.sedck_flow.specs.Flow.{Flow, IsEarlier, AreInOrder, ListsEdges}
 use Rattle.sedck_flow.specs.declared.graph.Node.{Node}
 use Rattle.sedck_flow.specs.declared.graph.Edge.{Edge}
 use Rattle.sedck_flow.specs.Words.{edge_words}
+use Rattle.sedck_flow.proofs.NodeLemmas.{index-before, node_same}
 use Rattle.sedck_cert.specs.Text.{line}
 use Rattle.sedck_cert.proofs.CheckingLemmas.{leaves_below}
 use Rattle.sedck_cli.specs.Reports.{edge_lines}
@@ -31,32 +32,12 @@ append_order (e ∷ []) [] ox oy before = tt
 append_order (e ∷ []) (f ∷ ys) ox oy before = (before e f (0, omega arith, refl) (0, omega arith, refl), oy)
 append_order (e ∷ f ∷ xs) ys ox oy before = (ox.0, append_order (f ∷ xs) ys ox.1 oy (λ a b h k. before a b (Contains-cons_more e (f ∷ xs) a h) k))
 
--- a node is told by its place among all nodes
-same_parts : (a b : ℕ) (f g : Bool) → 2 * a + (if f then 1 else 0) ≡ 2 * b + (if g then 1 else 0) → (a ≡ b) × (f ≡ g)
-same_parts a b true true e = (omega (arith, e), refl)
-same_parts a b false false e = (omega (arith, e), refl)
-same_parts a b true false e = absurd (omega (arith, e))
-same_parts a b false true e = absurd (omega (arith, e))
-
-same_node : (m n : Node) → node_index m ≡ node_index n → m ≡ n
-same_node m n e =
-    let parts = same_parts m.at n.at m.flag n.flag e in
-    let Made : ℕ → Bool → Node = λ at flag. record { at = at; flag = flag } in
-    ap (λ at. Made at m.flag) parts.0 ∙ ap (λ flag. Made n.at flag) parts.1
-
-pub none_yet : (p : Program) (before : List ℕ) → IsGraphUpTo p 0 before before
-none_yet p before = record {
-  edges = [];
-  lists = record { in_order = tt; same = λ e. (λ h. absurd (omega (arith, h.1)), λ h. absurd (omega (arith, h.1))) };
-  added = sym (append-nil before);
-}
-
 pub one_more : (p : Program) (n : Node) (index : ℕ) (before mid after : List ℕ) → node_index n ≡ index → IsGraphUpTo p index before mid → AddsEdgesFrom p n mid after → IsGraphUpTo p (index + 1) before after
 one_more p n index before mid after is upto adds = record {
   edges = upto.edges ++ adds.edges;
   lists = record {
     in_order = append_order upto.edges adds.edges upto.lists.in_order adds.lists.in_order (λ e f h k.
-        inl (omega (arith, ((upto.lists.same e).0 h).1, is, ap node_index ((adds.lists.same f).0 k).1)));
+        inl (index-before e.from f.from (omega (arith, ((upto.lists.same e).0 h).1, is, ap node_index ((adds.lists.same f).0 k).1))));
     same = λ e. (
       λ h. elim (Contains-append_cases upto.edges adds.edges e h) [
         | inl old ↦ let fact = (upto.lists.same e).0 old in (fact.0, omega (arith, fact.1))
@@ -64,7 +45,7 @@ one_more p n index before mid after is upto adds = record {
       ],
       λ h. elim (cases_lt (node_index e.from) index) [
         | inl less ↦ Contains-append_left upto.edges adds.edges e ((upto.lists.same e).1 (h.0, less))
-        | inr more ↦ Contains-append_right upto.edges adds.edges e ((adds.lists.same e).1 (h.0, same_node e.from n (omega (arith, h.1, more, is))))
+        | inr more ↦ Contains-append_right upto.edges adds.edges e ((adds.lists.same e).1 (h.0, node_same e.from n (omega (arith, h.1, more, is))))
       ],
     );
   };
@@ -72,7 +53,7 @@ one_more p n index before mid after is upto adds = record {
 }
 
 -- behind the last node these are all edges
-pub all_nodes : (p : Program) (index : ℕ) (before after : List ℕ) → 2 * (length p.commands + 1) ≤ index → (upto : IsGraphUpTo p index before after) → ListsEdges upto.edges (Flow p)
+pub all_nodes : (p : Program) (index : ℕ) (before after : List ℕ) → node_count (length p.commands) ≤ index → (upto : IsGraphUpTo p index before after) → ListsEdges upto.edges (Flow p)
 all_nodes p index before after end upto = record {
   in_order = upto.lists.in_order;
   same = λ e. (λ h. ((upto.lists.same e).0 h).0, λ h. (upto.lists.same e).1 (h, omega (arith, leaves_below p e h, end)));

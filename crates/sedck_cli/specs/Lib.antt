@@ -1,4 +1,5 @@
 pub use Rattle.sedck_script.specs.Program
+pub use Rattle.sedck_flow.specs.Nodes
 pub use Rattle.sedck_flow.specs.Flow
 pub use Rattle.sedck_flow.specs.Words
 pub use Rattle.sedck_cert.specs.Certificate

@@ -12,7 +12,7 @@ ghost use Rattle.sedck_cli.specs.Bounds.{AddsBound};
 
 use crate::answer::RunFault;
 use sedck_cert::{Bound, Cert, Fault, Rejection, Verdict, bound, read_cert};
-use sedck_flow::{Node, edges_of};
+use sedck_flow::{Node, edges_of, node_count};
 use sedck_script::{Script, parse};
 use std::alloc::{AllocError, Global};
 use std::convert::AsSlice;
@@ -102,7 +102,7 @@ pub(crate) fn graph_report(alloc: Global, script: &Script) -> Result<Vec<u8>, Al
     let head = format!(in alloc; "commands {count}")?;
     let mut report = Vec::new(alloc);
     add_line(&mut report, head.as_bytes())?;
-    for index in 0..2 * (count + 1) {
+    for index in 0..node_count(count) {
         add_edges(alloc, &mut report, script, Node::nth(index))?;
     }
     Ok(report)

@@ -9,13 +9,14 @@ use Rattle.sedck_script.specs.Program.{Verb, Branch, Test, Block, Command, Progr
 use Rattle.sedck_script.specs.View.{command_of}
 use Rattle.sedck_script.specs.declared.script.Command.{Command as Coded}
 use Rattle.sedck_flow.specs.Run.{is_conditional}
-use Rattle.sedck_flow.specs.Flow.{start, VerbEdge, node_past, CommandEdge, Flow, FlowFrom, ListsEdges}
-use Rattle.sedck_flow.specs.Found.{with_edge, ListsTargets}
+use Rattle.sedck_flow.specs.Nodes.{start}
+use Rattle.sedck_flow.specs.Flow.{VerbEdge, node_past, CommandEdge, Flow, FlowFrom, ListsEdges}
+use Rattle.sedck_flow.specs.EdgeList.{AddsEdge, ListsTargets}
 use Rattle.sedck_flow.specs.declared.graph.Node.{Node}
 use Rattle.sedck_flow.specs.declared.graph.Edge.{Edge}
 use Rattle.sedck_flow.specs.declared.graph.Kind.{Kind}
 use Rattle.sedck_flow.specs.declared.graph.Kind.TheVariants.{Consume, Keep}
-use Rattle.sedck_flow.proofs.FoundLemmas.{lists_more, lists_same}
+use Rattle.sedck_flow.proofs.EdgeListLemmas.{lists_more, lists_same}
 use Rattle.sedck_flow.proofs.VerbLemmas.{Only, edge}
 use Rattle.sedck_flow.proofs.Inside.{target_at}
 
@@ -28,11 +29,13 @@ drop_next (y ∷ xs) (suc i) x e = drop_next xs i x e
 
 -- ---- A command
 
-pub conditional : (p : Program) (c : Command) (n : Node) (edges : List Edge) → IsTrue (is_conditional c) → ListsTargets edges n (VerbEdge p c.address c.verb n)
-    → ListsTargets (with_edge (edge n Keep (node_past c.verb n)) edges) n (CommandEdge p c n)
-conditional p c n edges may lists =
-    lists_same _ n _ (CommandEdge p c n) (λ k t. (elim [ inl h ↦ inl (may, h.0, h.1) | inr h ↦ inr h ], elim [ inl h ↦ inl (h.1, h.2) | inr h ↦ inr h ]))
-    (lists_more edges n (VerbEdge p c.address c.verb n) Keep (node_past c.verb n) lists)
+pub conditional : (p : Program) (c : Command) (n : Node) (edges all : List Edge) → IsTrue (is_conditional c)
+    → ListsTargets edges n (VerbEdge p c.address c.verb n) → AddsEdge (edge n Keep (node_past c.verb n)) edges all
+    → ListsTargets all n (CommandEdge p c n)
+conditional p c n edges all may lists adds =
+    lists_same all n _ (CommandEdge p c n)
+    (λ k t. (elim [ inl h ↦ inl (may, h.0, h.1) | inr h ↦ inr h ], elim [ inl h ↦ inl (h.1, h.2) | inr h ↦ inr h ]))
+    (lists_more edges all n (VerbEdge p c.address c.verb n) Keep (node_past c.verb n) lists adds)
 
 pub unconditional : (p : Program) (c : Command) (n : Node) (edges : List Edge) → is_conditional c ≡ false → ListsTargets edges n (VerbEdge p c.address c.verb n) → ListsTargets edges n (CommandEdge p c n)
 unconditional p c n edges may_not lists =

@@ -5,7 +5,8 @@ use Rattle.std.proofs.lemmas.List.Elements.{All-contains}
 use Rattle.std.proofs.lemmas.Option.{get_or_from_slice_get, slice_get_within}
 use Rattle.sedck_script.specs.Invariant.{IsTargetWithin, AreTargetsWithin}
 use Rattle.sedck_script.specs.Program.{Address, NoAddress, One, Two, Verb, Block, Branch, Change, Delete, DeleteFirstLine, Next, NextAppend, Quit, Substitute, Test, Command, Program}
-use Rattle.sedck_flow.specs.Flow.{start, next, VerbEdge, node_past, CommandEdge, Flow}
+use Rattle.sedck_flow.specs.Nodes.{start, moved_to, next, with_flag}
+use Rattle.sedck_flow.specs.Flow.{VerbEdge, node_past, CommandEdge, Flow}
 use Rattle.sedck_flow.specs.declared.graph.Node.{Node}
 use Rattle.sedck_flow.specs.declared.graph.Edge.{Edge}
 use Rattle.sedck_flow.specs.declared.graph.Kind.{Kind}
@@ -35,7 +36,7 @@ module _ (p : Program) (n : ℕ) where
   verb_inside a (Substitute s) inside from kind to below (inr (_, e)) = omega (arith, ap (λ (x : Node). x.at) e)
   verb_inside a (Test target) inside from kind to below (_, e) = by_flag from.flag e
     where
-      by_flag : (flag : Bool) → to ≡ (if flag then record { at = target; flag = false } else next from) → to.at ≤ n
+      by_flag : (flag : Bool) → to ≡ (if flag then with_flag (moved_to from target) false else next from) → to.at ≤ n
       by_flag true e' = omega (arith, ap (λ (x : Node). x.at) e')
       by_flag false e' = omega (arith, ap (λ (x : Node). x.at) e')
   verb_inside a _ inside from kind to below h = omega (arith, ap (λ (x : Node). x.at) h.1)

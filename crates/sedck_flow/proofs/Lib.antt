@@ -8,7 +8,9 @@ pub mod Grown
 pub mod NotStart
 pub mod LineBytes
 pub mod Named
-pub mod FoundLemmas
+pub mod NodeLemmas
+pub mod EdgeOrder
+pub mod EdgeListLemmas
 pub mod SuccessLemmas
 pub mod VerbLemmas
 pub mod EdgesLemmas

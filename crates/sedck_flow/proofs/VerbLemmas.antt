@@ -8,13 +8,14 @@ use Rattle.sedck_script.specs.declared.script.Verb.{Verb as Coded}
 use Rattle.sedck_script.specs.declared.script.Verb.TheVariants as coded
 use Rattle.std.specs.Borrow.{Bor}
 use Rattle.sedck_flow.specs.Run.{KeptOrReset}
-use Rattle.sedck_flow.specs.Flow.{HasKind, start, next, VerbEdge}
-use Rattle.sedck_flow.specs.Found.{with_edge, ListsTargets}
+use Rattle.sedck_flow.specs.Nodes.{start, moved_to, next, with_flag}
+use Rattle.sedck_flow.specs.Flow.{HasKind, VerbEdge}
+use Rattle.sedck_flow.specs.EdgeList.{AddsEdge, ListsTargets}
 use Rattle.sedck_flow.specs.declared.graph.Node.{Node}
 use Rattle.sedck_flow.specs.declared.graph.Edge.{Edge}
 use Rattle.sedck_flow.specs.declared.graph.Kind.{Kind}
 use Rattle.sedck_flow.specs.declared.graph.Kind.TheVariants.{Consume, Shorten, Keep, Grow}
-use Rattle.sedck_flow.proofs.FoundLemmas.{lists_none, lists_more, lists_same}
+use Rattle.sedck_flow.proofs.EdgeListLemmas.{lists_none, lists_more, lists_same}
 
 -- the targets of one edge
 abbrev pub Only : Kind → Node → Kind → Node → Type 0
@@ -23,58 +24,69 @@ Only kind to k n = (k ≡ kind) × (n ≡ to)
 abbrev pub edge : Node → Kind → Node → Edge
 edge from kind to = record { from = from; to = to; kind = kind }
 
-pub same_list : (xs ys : List Edge) (n : Node) (P : Kind → Node → Type 0) → xs ≡ ys → ListsTargets ys n P → ListsTargets xs n P
-same_list xs ys n P is lists = subst (λ zs. ListsTargets zs n P) (sym is) lists
-
-pub one_edge : (n : Node) (kind : Kind) (to : Node) → ListsTargets (with_edge (edge n kind to) []) n (Only kind to)
-one_edge n kind to =
-    lists_same _ n (λ k t. ((k ≡ kind) × (t ≡ to)) ⊎ ⊥) (Only kind to) (λ k t. (elim [ inl h ↦ h | inr h ↦ absurd h ], λ h. inl h)) (lists_more [] n (λ k t. ⊥) kind to (lists_none n))
+pub one_edge : (n : Node) (kind : Kind) (to : Node) (edges : List Edge) → AddsEdge (edge n kind to) [] edges → ListsTargets edges n (Only kind to)
+one_edge n kind to edges adds =
+    lists_same edges n (λ k t. ((k ≡ kind) × (t ≡ to)) ⊎ ⊥) (Only kind to) (λ k t. (elim [ inl h ↦ h | inr h ↦ absurd h ], λ h. inl h))
+    (lists_more [] edges n (λ k t. ⊥) kind to (lists_none n) adds)
 
 -- `c` at a range
-pub changes_range : (p : Program) (n : Node) (first : List Edge) (text : List ℕ) (place end : _) → ListsTargets first n (Only Consume start)
-    → ListsTargets (with_edge (edge n Keep (next n)) first) n (VerbEdge p (Two place end) (Change text) n)
-changes_range p n first text place end lists =
-    lists_same _ n _ (VerbEdge p (Two place end) (Change text) n) (λ k t. (elim [ inl h ↦ inr h | inr h ↦ inl h ], elim [ inl h ↦ inr h | inr h ↦ inl h ]))
-    (lists_more first n (Only Consume start) Keep (next n) lists)
+pub changes_range : (p : Program) (n : Node) (first all : List Edge) (text : List ℕ) (place end : _) → ListsTargets first n (Only Consume start)
+    → AddsEdge (edge n Keep (next n)) first all → ListsTargets all n (VerbEdge p (Two place end) (Change text) n)
+changes_range p n first all text place end lists adds =
+    lists_same all n _ (VerbEdge p (Two place end) (Change text) n)
+    (λ k t. (elim [ inl h ↦ inr h | inr h ↦ inl h ], elim [ inl h ↦ inr h | inr h ↦ inl h ]))
+    (lists_more first all n (Only Consume start) Keep (next n) lists adds)
 
 -- `D`
-drop_targets : (n : Node) (k : Kind) (t : Node) → (Only Shorten (record { at = 0; flag = n.flag }) k t ⊎ (Only Shorten start k t ⊎ Only Consume start k t))
-    ↔ (((k ≡ Consume) × (t ≡ start)) ⊎ ((k ≡ Shorten) × (flag : Bool) × KeptOrReset n.flag flag × (t ≡ record { at = 0; flag = flag })))
+abbrev Drops : Node → Kind → Node → Type 0
+Drops n k t = ((k ≡ Consume) × (t ≡ start)) ⊎ ((k ≡ Shorten) × (flag : Bool) × KeptOrReset n.flag flag × (t ≡ with_flag start flag))
+
+abbrev DropsOne : Node → Kind → Node → Type 0
+DropsOne n k t = Only Shorten (with_flag start n.flag) k t ⊎ (Only Shorten start k t ⊎ Only Consume start k t)
+
+drop_targets : (n : Node) (k : Kind) (t : Node) → DropsOne n k t ↔ Drops n k t
 drop_targets n k t = (forth, back)
   where
-    forth : (Only Shorten (record { at = 0; flag = n.flag }) k t ⊎ (Only Shorten start k t ⊎ Only Consume start k t)) → (((k ≡ Consume) × (t ≡ start)) ⊎ ((k ≡ Shorten) × (flag : Bool) × KeptOrReset n.flag flag × (t ≡ record { at = 0; flag = flag })))
+    forth : DropsOne n k t → Drops n k t
     forth (inl (kind, to)) = inr (kind, n.flag, inl refl, to)
     forth (inr (inl (kind, to))) = inr (kind, false, inr refl, to)
     forth (inr (inr h)) = inl h
 
-    back : (((k ≡ Consume) × (t ≡ start)) ⊎ ((k ≡ Shorten) × (flag : Bool) × KeptOrReset n.flag flag × (t ≡ record { at = 0; flag = flag }))) → (Only Shorten (record { at = 0; flag = n.flag }) k t ⊎ (Only Shorten start k t ⊎ Only Consume start k t))
+    back : Drops n k t → DropsOne n k t
     back (inl h) = inr (inr h)
-    back (inr (kind, flag, inl kept, to)) = inl (kind, to ∙ ap (λ f. record { at = 0; flag = f }) kept)
-    back (inr (kind, flag, inr reset, to)) = inr (inl (kind, to ∙ ap (λ f. record { at = 0; flag = f }) reset))
+    back (inr (kind, flag, inl kept, to)) = inl (kind, to ∙ ap (with_flag start) kept)
+    back (inr (kind, flag, inr reset, to)) = inr (inl (kind, to ∙ ap (with_flag start) reset))
 
-pub drops : (p : Program) (a : Address) (n : Node) (first : List Edge) → ListsTargets first n (Only Consume start)
-    → ListsTargets (with_edge (edge n Shorten (record { at = 0; flag = n.flag })) (with_edge (edge n Shorten start) first)) n (VerbEdge p a DeleteFirstLine n)
-drops p a n first lists =
-    lists_same _ n _ (VerbEdge p a DeleteFirstLine n) (drop_targets n)
-    (lists_more _ n _ Shorten (record { at = 0; flag = n.flag }) (lists_more first n (Only Consume start) Shorten start lists))
+pub drops : (p : Program) (a : Address) (n : Node) (first second all : List Edge) → ListsTargets first n (Only Consume start)
+    → AddsEdge (edge n Shorten start) first second → AddsEdge (edge n Shorten (with_flag start n.flag)) second all
+    → ListsTargets all n (VerbEdge p a DeleteFirstLine n)
+drops p a n first second all lists adds more =
+    lists_same all n _ (VerbEdge p a DeleteFirstLine n) (drop_targets n)
+    (lists_more second all n _ Shorten (with_flag start n.flag) (lists_more first second n (Only Consume start) Shorten start lists adds) more)
 
 -- `n` and `N`
-read_targets : (n : Node) (k : Kind) (t : Node) → (Only Consume (record { at = suc n.at; flag = false }) k t ⊎ Only Consume (next n) k t)
-    ↔ ((k ≡ Consume) × (flag : Bool) × KeptOrReset n.flag flag × (t ≡ record { at = suc n.at; flag = flag }))
+abbrev Reads : Node → Kind → Node → Type 0
+Reads n k t = (k ≡ Consume) × (flag : Bool) × KeptOrReset n.flag flag × (t ≡ with_flag (next n) flag)
+
+abbrev ReadsOne : Node → Kind → Node → Type 0
+ReadsOne n k t = Only Consume (with_flag (next n) false) k t ⊎ Only Consume (next n) k t
+
+read_targets : (n : Node) (k : Kind) (t : Node) → ReadsOne n k t ↔ Reads n k t
 read_targets n k t = (forth, back)
   where
-    forth : (Only Consume (record { at = suc n.at; flag = false }) k t ⊎ Only Consume (next n) k t) → ((k ≡ Consume) × (flag : Bool) × KeptOrReset n.flag flag × (t ≡ record { at = suc n.at; flag = flag }))
+    forth : ReadsOne n k t → Reads n k t
     forth (inl (kind, to)) = (kind, false, inr refl, to)
     forth (inr (kind, to)) = (kind, n.flag, inl refl, to)
 
-    back : ((k ≡ Consume) × (flag : Bool) × KeptOrReset n.flag flag × (t ≡ record { at = suc n.at; flag = flag })) → (Only Consume (record { at = suc n.at; flag = false }) k t ⊎ Only Consume (next n) k t)
-    back (kind, flag, inl kept, to) = inr (kind, to ∙ ap (λ f. record { at = suc n.at; flag = f }) kept)
-    back (kind, flag, inr reset, to) = inl (kind, to ∙ ap (λ f. record { at = suc n.at; flag = f }) reset)
+    back : Reads n k t → ReadsOne n k t
+    back (kind, flag, inl kept, to) = inr (kind, to ∙ ap (with_flag (next n)) kept)
+    back (kind, flag, inr reset, to) = inl (kind, to ∙ ap (with_flag (next n)) reset)
 
-pub reads : (p : Program) (a : Address) (n : Node) (first : List Edge) → ListsTargets first n (Only Consume (next n))
-    → ListsTargets (with_edge (edge n Consume (record { at = suc n.at; flag = false })) first) n (VerbEdge p a Next n)
-reads p a n first lists =
-    lists_same _ n _ (VerbEdge p a Next n) (read_targets n) (lists_more first n (Only Consume (next n)) Consume (record { at = suc n.at; flag = false }) lists)
+pub reads : (p : Program) (a : Address) (n : Node) (first all : List Edge) → ListsTargets first n (Only Consume (next n))
+    → AddsEdge (edge n Consume (with_flag (next n) false)) first all → ListsTargets all n (VerbEdge p a Next n)
+reads p a n first all lists adds =
+    lists_same all n _ (VerbEdge p a Next n) (read_targets n)
+    (lists_more first all n (Only Consume (next n)) Consume (with_flag (next n) false) lists adds)
 
 -- `s`
 never_both : (p : Program) (s : Substitution) → HasKind p s Shorten → HasKind p s Grow → ⊥
@@ -95,13 +107,15 @@ one_kind p s Grow Shorten h j = absurd (never_both p s j h)
 one_kind p s Grow Keep h j = absurd (h j.1)
 one_kind p s Grow Grow h j = refl
 
-pub substitutes : (p : Program) (a : Address) (s : Substitution) (kind : Kind) (n : Node) (first : List Edge) → HasKind p s kind → ListsTargets first n (Only Keep (next n))
-    → ListsTargets (with_edge (edge n kind (record { at = suc n.at; flag = true })) first) n (VerbEdge p a (Substitute s) n)
-substitutes p a s kind n first has lists =
-    lists_same _ n _ (VerbEdge p a (Substitute s) n) (λ k t. (forth k t, back k t)) (lists_more first n (Only Keep (next n)) kind made lists)
+pub substitutes : (p : Program) (a : Address) (s : Substitution) (kind : Kind) (n : Node) (first all : List Edge) → HasKind p s kind
+    → ListsTargets first n (Only Keep (next n)) → AddsEdge (edge n kind (with_flag (next n) true)) first all
+    → ListsTargets all n (VerbEdge p a (Substitute s) n)
+substitutes p a s kind n first all has lists adds =
+    lists_same all n _ (VerbEdge p a (Substitute s) n) (λ k t. (forth k t, back k t))
+    (lists_more first all n (Only Keep (next n)) kind made lists adds)
   where
     made : Node
-    made = record { at = suc n.at; flag = true }
+    made = with_flag (next n) true
 
     forth : (k : Kind) (t : Node) → Only kind made k t ⊎ Only Keep (next n) k t → VerbEdge p a (Substitute s) n k t
     forth k t (inl (is, to)) = inr (subst (λ l. HasKind p s l) (sym is) has, to)
@@ -113,9 +127,9 @@ substitutes p a s kind n first has lists =
 
 -- `t`
 pub tests : (p : Program) (a : Address) (target : ℕ) (n : Node) (edges : List Edge) (flag : Bool) → n.flag ≡ flag
-    → ListsTargets edges n (Only Keep (if flag then record { at = target; flag = false } else next n)) → ListsTargets edges n (VerbEdge p a (Test target) n)
+    → ListsTargets edges n (Only Keep (if flag then with_flag (moved_to n target) false else next n)) → ListsTargets edges n (VerbEdge p a (Test target) n)
 tests p a target n edges flag is lists =
-    subst (λ (f : Bool). ListsTargets edges n (Only Keep (if f then record { at = target; flag = false } else next n))) (sym is) lists
+    subst (λ (f : Bool). ListsTargets edges n (Only Keep (if f then with_flag (moved_to n target) false else next n))) (sym is) lists
 
 -- ---- By the verb as the code has it
 

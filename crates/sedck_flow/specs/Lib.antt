@@ -9,8 +9,9 @@ pub use Rattle.sedck_script.specs.View
 pub mod Patterns
 pub mod Substitutes
 pub mod Run
+pub mod Nodes
 pub mod Flow
-pub mod Found
+pub mod EdgeList
 pub mod Least
 pub mod Spaces
 pub mod Words

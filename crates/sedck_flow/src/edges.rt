@@ -5,20 +5,20 @@ ghost use Rattle.sedck_script.specs.Invariant.{IsTargetWithin, IsReplacement};
 ghost use Rattle.sedck_script.specs.View.{command_of, verb_of};
 ghost use Rattle.sedck_flow.specs.Run.{is_conditional as is_conditional_command};
 ghost use Rattle.sedck_flow.specs.Flow.{node_past as node_past_verb, CommandEdge, ListsEdges, FlowFrom};
-ghost use Rattle.sedck_flow.specs.Found.{ListsTargets};
+ghost use Rattle.sedck_flow.specs.EdgeList.{ListsTargets};
 
-use crate::found::Found;
+use crate::edge_list::EdgeList;
 use crate::graph::{Edge, Kind, Node};
-use crate::verbs::{next, single, verb_edges};
+use crate::verbs::{single, verb_edges};
 use sedck_script::{Address, Command, Script, Verb};
-use std::marker::Model;
+use std::marker::{Model, PhantomData};
 
 /// The edges that leave one node, over the borrowed script. It takes no memory.
 #[derive(Drop)]
 pub struct Edges<'s, 'a> {
-    script: &'s Script<'a>,
-    found: Found,
+    list: EdgeList,
     next: usize,
+    script: PhantomData<&'s Script<'a>>,
 }
 
 impl<'s, 'a> Model for Edges<'s, 'a> {
@@ -28,9 +28,9 @@ impl<'s, 'a> Model for Edges<'s, 'a> {
     /// The edges that are still to come.
     ghost Value = { List Edge };
 
-    ghost view = { λ a. drop a.next a.found };
+    ghost view = { λ a. drop a.next a.list };
 
-    ghost invariant = { λ a. a.next ≤ length a.found };
+    ghost invariant = { λ a. a.next ≤ length a.list };
 }
 
 impl<'s, 'a> Iterator for Edges<'s, 'a> {
@@ -43,35 +43,35 @@ impl<'s, 'a> Iterator for Edges<'s, 'a> {
     ghost remaining = { item_count (λ edges. edges) };
 
     fn next(&mut self) -> Option<Edge> {
-        if self.next == self.found.len() {
+        if self.next == self.list.len() {
             return None;
         }
-        let edge = self.found.get(self.next);
+        let edge = self.list.get(self.next);
         self.next += 1;
         Some(edge)
     }
 }
 
 /// The edges that leave the node, by the node that they lead to and then by their kind. The time is
-/// constant but for a substitution, whose parts are gone over once.
+/// constant but for a substitution, whose parts are scanned once.
 pub fn edges_of<'s, 'a>(script: &'s Script<'a>, node: Node) -> Edges<'s, 'a>
     requires inside { node.at ≤ length script.now.commands }
     ensures edges { ListsEdges result (FlowFrom script.now node) }
     ensures few { length result ≤ 4 }
 {
-    let found = match script.commands().get(usize::from(node.at)) {
+    let list = match script.commands().get(usize::from(node.at)) {
         Some(command) => command_edges(script, command, node),
         None => single(node, Kind::Consume, Node::START),
     };
     Edges {
-        script,
-        found,
+        list,
         next: 0,
+        script: PhantomData,
     }
 }
 
 /// The edges from a command's node: those of its verb, and one by which it may be passed.
-fn command_edges(script: &Script, command: &Command, from: Node) -> Found
+fn command_edges(script: &Script, command: &Command, from: Node) -> EdgeList
     requires place { from.at < 4095 }
     requires target { IsTargetWithin 4095 (verb_of command.now.verb) }
     requires replacement { IsReplacement (verb_of command.now.verb) }
@@ -106,10 +106,7 @@ fn node_past(verb: &Verb, from: Node) -> Node
     ensures { result ≡ node_past_verb (verb_of verb.now) from }
 {
     match verb {
-        Verb::Block(behind) => Node {
-            at: *behind as u16,
-            flag: from.flag,
-        },
-        _ => next(from),
+        Verb::Block(behind) => from.to(*behind),
+        _ => from.next(),
     }
 }

@@ -1,6 +1,10 @@
-//! The flow graph of a script.
+//! The nodes and edges of a script's flow graph.
 
-/// The place of a command, or of the script's end, with the substitution flag.
+ghost use Rattle.std.specs.Prelude.{◌≡◌, ◌<◌};
+ghost use Rattle.sedck_flow.specs.Nodes.{node_count as count_of_nodes};
+
+/// The place of a command, or of the script's end, with the substitution flag. Nodes are ordered by place; at one
+/// place the node with the flag reset comes first.
 #[derive(Clone, Copy, Debug, PartialEq, Eq, PartialOrd, Ord)]
 pub struct Node {
     pub at: u16,
@@ -9,12 +13,12 @@ pub struct Node {
 
 impl Node {
     ghost use Rattle.std.specs.Prelude.{◌≡◌, ◌<◌};
-    ghost use Rattle.sedck_flow.specs.Flow.{node_index};
+    ghost use Rattle.sedck_flow.specs.Nodes.{start, moved_to, next as next_of, with_flag as flagged, node_index};
 
     /// Where a cycle begins: the first command, with the flag reset.
     pub const START: Node = Node { at: 0, flag: false };
 
-    /// The node with this place among all nodes, by place and then flag.
+    /// The node with this index in the order of nodes.
     pub fn nth(index: usize) -> Node
         requires { index < 131072 }
         ensures { node_index result ≡ index }
@@ -24,6 +28,47 @@ impl Node {
             flag: index % 2 == 1,
         }
     }
+
+    /// How many nodes are before this one.
+    pub fn index(self) -> usize
+        ensures { result ≡ node_index self }
+    {
+        2 * usize::from(self.at) + usize::from(self.flag)
+    }
+
+    /// The node at another command, or at the script's end, with the flag as it is.
+    pub fn to(self, target: usize) -> Node
+        requires { target < 65536 }
+        ensures { result ≡ moved_to self target }
+    {
+        Node {
+            at: target as u16,
+            flag: self.flag,
+        }
+    }
+
+    /// The node at the next command, with the flag as it is.
+    pub fn next(self) -> Node
+        requires { self.at < 65535 }
+        ensures { result ≡ next_of self }
+    {
+        self.to(usize::from(self.at) + 1)
+    }
+
+    /// The node at the same place with this flag.
+    pub fn with_flag(self, flag: bool) -> Node
+        ensures { result ≡ flagged self flag }
+    {
+        Node { at: self.at, flag }
+    }
+}
+
+/// How many nodes a script with so many commands has.
+pub fn node_count(commands: usize) -> usize
+    requires { commands < 65536 }
+    ensures { result ≡ count_of_nodes commands }
+{
+    2 * (commands + 1)
 }
 
 /// What a step along an edge does to the unread lines and to the pattern space.
@@ -39,7 +84,8 @@ pub enum Kind {
     Grow,
 }
 
-/// A step from one node to another.
+/// A step from one node to another. Edges are ordered by the node that is left, then the node that is reached, then
+/// the kind.
 #[derive(Clone, Copy, Debug, PartialEq, Eq, PartialOrd, Ord)]
 pub struct Edge {
     pub from: Node,

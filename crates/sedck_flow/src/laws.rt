@@ -1,7 +1,12 @@
 //! What is proved of runs and the flow graph alone. The functions do nothing: their contracts are the laws.
 
-ghost use Rattle.sedck_flow.specs.Laws.{StepsFollowEdges, EdgesStayInside, RunsGoOn, FilesAreNamed};
+ghost use Rattle.sedck_flow.specs.Laws.{NodesAreNumbered, StepsFollowEdges, EdgesStayInside, RunsGoOn, FilesAreNamed};
 ghost use Rattle.sedck_flow.specs.Examples.{ExamplesHold};
+
+/// The index of a node tells its place in the order of nodes, and each number is the index of one node.
+pub fn nodes_are_numbered()
+    ensures { NodesAreNumbered }
+{}
 
 /// Each step from one command to another follows an edge of the flow graph, and the edge's kind tells the truth.
 pub fn steps_follow_edges()

@@ -4,8 +4,8 @@
 //! in `laws`. `edges_of` lists the edges that leave a node. Nothing here takes memory.
 #![tactic(auto)]
 
+mod edge_list;
 mod edges;
-mod found;
 pub mod graph;
 pub mod laws;
 mod success;
@@ -15,4 +15,4 @@ mod verbs;
 mod words;
 
 pub use edges::{Edges, edges_of};
-pub use graph::{Edge, Kind, Node};
+pub use graph::{Edge, Kind, Node, node_count};

@@ -4,35 +4,24 @@ ghost use Rattle.std.specs.Prelude.{◌≡◌, ℕ, ◌<◌, ◌≤◌, List, le
 ghost use Rattle.sedck_script.specs.Program as plain;
 ghost use Rattle.sedck_script.specs.Invariant.{IsTargetWithin, IsReplacement};
 ghost use Rattle.sedck_script.specs.View.{address_of, substitution_of, verb_of};
-ghost use Rattle.sedck_flow.specs.Flow.{next as next_of, VerbEdge};
-ghost use Rattle.sedck_flow.specs.Found.{ListsTargets};
+ghost use Rattle.sedck_flow.specs.Flow.{VerbEdge};
+ghost use Rattle.sedck_flow.specs.EdgeList.{ListsTargets};
 
-use crate::found::Found;
+use crate::edge_list::EdgeList;
 use crate::graph::{Kind, Node};
 use crate::success::success_kind;
 use sedck_script::{Address, Command, Script, Substitution, Verb};
 
-/// The node of the next command.
-pub(crate) fn next(node: Node) -> Node
-    requires { node.at < 4095 }
-    ensures { result ≡ next_of node }
-{
-    Node {
-        at: node.at + 1,
-        flag: node.flag,
-    }
-}
-
 /// The one edge of this kind to this node.
-pub(crate) fn single(from: Node, kind: Kind, to: Node) -> Found
+pub(crate) fn single(from: Node, kind: Kind, to: Node) -> EdgeList
     ensures edges { ListsTargets result from (λ k n. (k ≡ kind) × (n ≡ to)) }
     ensures few { length result ≤ 1 }
 {
-    Found::none().with(from, kind, to)
+    EdgeList::new().with(from, kind, to)
 }
 
 /// `c`: the next cycle begins, or at a range the pattern space may be left empty.
-fn changing(address: &Address, from: Node) -> Found
+fn changing(address: &Address, from: Node) -> EdgeList
     requires { from.at < 4095 }
     ensures edges { (p : plain.Program) (text : List ℕ)
         → ListsTargets result from (VerbEdge p (address_of address.now) (plain.Change text) from) }
@@ -40,60 +29,51 @@ fn changing(address: &Address, from: Node) -> Found
 {
     let begins = single(from, Kind::Consume, Node::START);
     match address {
-        Address::Two(_, _) => begins.with(from, Kind::Keep, next(from)),
+        Address::Two(_, _) => begins.with(from, Kind::Keep, from.next()),
         Address::One(_) => begins,
         Address::None => begins,
     }
 }
 
 /// `D`: the flag is kept or reset where a line is dropped, and without a newline it is as `d`.
-fn dropping(from: Node) -> Found
+fn dropping(from: Node) -> EdgeList
     ensures edges { (p : plain.Program) (a : plain.Address)
         → ListsTargets result from (VerbEdge p a plain.DeleteFirstLine from) }
     ensures few { length result ≤ 3 }
 {
-    let kept = Node {
-        at: 0,
-        flag: from.flag,
-    };
+    let kept = Node::START.with_flag(from.flag);
     single(from, Kind::Consume, Node::START)
         .with(from, Kind::Shorten, Node::START)
         .with(from, Kind::Shorten, kept)
 }
 
 /// `n` and `N`: the flag is kept or reset.
-fn reading(from: Node) -> Found
+fn reading(from: Node) -> EdgeList
     requires { from.at < 4095 }
     ensures edges { (p : plain.Program) (a : plain.Address)
         → ListsTargets result from (VerbEdge p a plain.Next from) }
     ensures few { length result ≤ 2 }
 {
-    let kept = next(from);
-    let reset = Node {
-        at: kept.at,
-        flag: false,
-    };
+    let kept = from.next();
+    let reset = kept.with_flag(false);
     single(from, Kind::Consume, kept).with(from, Kind::Consume, reset)
 }
 
 /// `s`: nothing is found, or a substitution is made.
-fn substituting(script: &Script, substitution: &Substitution, from: Node) -> Found
+fn substituting(script: &Script, substitution: &Substitution, from: Node) -> EdgeList
     requires place { from.at < 4095 }
     requires replacement { plain.literal_length (substitution_of substitution.now).parts ≤ 1048576 }
     ensures edges { (a : plain.Address)
         → ListsTargets result from (VerbEdge script.now a (plain.Substitute (substitution_of substitution.now)) from) }
     ensures few { length result ≤ 2 }
 {
-    let unchanged = next(from);
-    let made = Node {
-        at: unchanged.at,
-        flag: true,
-    };
+    let unchanged = from.next();
+    let made = unchanged.with_flag(true);
     single(from, Kind::Keep, unchanged).with(from, success_kind(script, substitution), made)
 }
 
 /// `t`: it leads to its target where the flag is set, and resets it.
-fn testing(target: usize, from: Node) -> Found
+fn testing(target: usize, from: Node) -> EdgeList
     requires place { from.at < 4095 }
     requires target { target ≤ 4095 }
     ensures edges { (p : plain.Program) (a : plain.Address)
@@ -101,17 +81,13 @@ fn testing(target: usize, from: Node) -> Found
     ensures few { length result ≤ 1 }
 {
     if from.flag {
-        let to = Node {
-            at: target as u16,
-            flag: false,
-        };
-        return single(from, Kind::Keep, to);
+        return single(from, Kind::Keep, from.to(target).with_flag(false));
     }
-    single(from, Kind::Keep, next(from))
+    single(from, Kind::Keep, from.next())
 }
 
 /// The edges of the command where it is applied.
-pub(crate) fn verb_edges(script: &Script, command: &Command, from: Node) -> Found
+pub(crate) fn verb_edges(script: &Script, command: &Command, from: Node) -> EdgeList
     requires place { from.at < 4095 }
     requires target { IsTargetWithin 4095 (verb_of command.now.verb) }
     requires replacement { IsReplacement (verb_of command.now.verb) }
@@ -119,21 +95,15 @@ pub(crate) fn verb_edges(script: &Script, command: &Command, from: Node) -> Foun
         (VerbEdge script.now (address_of command.now.address) (verb_of command.now.verb) from) }
     ensures few { length result ≤ 3 }
 {
-    let onward = next(from);
+    let onward = from.next();
     match &command.verb {
-        Verb::Branch(target) => {
-            let to = Node {
-                at: *target as u16,
-                flag: from.flag,
-            };
-            single(from, Kind::Keep, to)
-        }
+        Verb::Branch(target) => single(from, Kind::Keep, from.to(*target)),
         Verb::Change(_) => changing(&command.address, from),
         Verb::Delete => single(from, Kind::Consume, Node::START),
         Verb::DeleteFirstLine => dropping(from),
         Verb::Exchange | Verb::Get | Verb::GetAppend => single(from, Kind::Grow, onward),
         Verb::Next | Verb::NextAppend => reading(from),
-        Verb::Quit => Found::none(),
+        Verb::Quit => EdgeList::new(),
         Verb::Substitute(substitution) => substituting(script, substitution, from),
         Verb::Test(target) => testing(*target, from),
         _ => single(from, Kind::Keep, onward),

@@ -3,9 +3,9 @@ use Rattle.std.proofs.Common.{◌≡◌, ◌⊎◌, ℕ, suc, ◌<◌, ◌≤◌
 use Rattle.std.specs.Prelude.{Some, slice_get, set}
 use Rattle.std.proofs.lemmas.Bool.{cases_eq, true≢false}
 use Rattle.std.proofs.lemmas.List.{length-set}
-use Rattle.std.proofs.lemmas.Option.{slice_get_within}
+use Rattle.std.proofs.lemmas.Option.{slice_get_within, same_Some}
 use Rattle.sedck_script.specs.Program.{Program}
-use Rattle.sedck_flow.specs.Flow.{node_index}
+use Rattle.sedck_flow.specs.Nodes.{node_index}
 use Rattle.sedck_flow.specs.declared.graph.Node.{Node}
 use Rattle.sedck_search.specs.Rows.{has, IsRow, HasChanged}
 use Rattle.sedck_flow.specs.declared.graph.Edge.{Edge}
@@ -16,9 +16,9 @@ use Rattle.sedck_search.specs.declared.along.Along.{Along}
 use Rattle.sedck_search.proofs.RowSets.{fewer_or_same, same_nodes, inserted_count}
 use Rattle.sedck_search.proofs.RowBits.{inserted, inserted_row, with_bit}
 use Rattle.sedck_search.proofs.Meeting.{changed_keeps, changed_new}
-use Rattle.sedck_flow.proofs.FoundLemmas.{node_same}
+use Rattle.sedck_flow.proofs.NodeLemmas.{node_same, node_at}
 use Rattle.sedck_search.proofs.GoneOver.{set_same, set_other}
-use Rattle.sedck_search.proofs.Paths.{node_at, reaches_self, reaches-trans, closed_reaches}
+use Rattle.sedck_search.proofs.Paths.{reaches_self, reaches-trans, closed_reaches}
 
 -- rows are compared node by node
 pub nodes_within : (a b : List ℕ) → ((m : Node) → IsIn a m → IsIn b m) → (i : ℕ) → has a i ≡ true → has b i ≡ true
@@ -56,16 +56,14 @@ module _ (p : Program) (along : Along) where
 
   -- ---- Nodes that are counted
 
-  some_inj : {x y : ℕ} → Some x ≡ Some y → x ≡ y
-  some_inj e = cc
 
   -- a number that is no mark is the count
   pub counted_at : (counts : List ℕ) → ArePartlyCounted p along counts → (n : Node) → n.at ≤ length p.commands → (count : ℕ) → slice_get counts (node_index n) ≡ Some count → 0 < count → count < 65535 → IsReachCount p along n count
   counted_at counts partly n inside count is positive within =
       elim (partly.each n inside) [
-        | inl (reached, inl counted) ↦ subst (IsReachCount p along n) (some_inj (sym counted.at ∙ is)) counted.is_count
-        | inl (reached, inr marked) ↦ absurd (omega (arith, within, some_inj (sym marked ∙ is)))
-        | inr none ↦ absurd (omega (arith, positive, some_inj (sym none.1 ∙ is)))
+        | inl (reached, inl counted) ↦ subst (IsReachCount p along n) (same_Some _ _ (sym counted.at ∙ is)) counted.is_count
+        | inl (reached, inr marked) ↦ absurd (omega (arith, within, same_Some _ _ (sym marked ∙ is)))
+        | inr none ↦ absurd (omega (arith, positive, same_Some _ _ (sym none.1 ∙ is)))
       ]
 
   -- one node more is counted
@@ -90,7 +88,7 @@ module _ (p : Program) (along : Along) where
     where
       reachable : (IsReachable p n × (HasCount p along counts n ⊎ IsUncounted counts n)) ⊎ HasNoCount p counts n → IsReachable p n
       reachable (inl (is, _)) = is
-      reachable (inr none) = absurd (omega (arith, some_inj (sym none.1 ∙ marked)))
+      reachable (inr none) = absurd (omega (arith, same_Some _ _ (sym none.1 ∙ marked)))
 
       as_before : (m : Node) → slice_get (set counts (node_index n) count) (node_index m) ≡ slice_get counts (node_index m) → (IsReachable p m × (HasCount p along counts m ⊎ IsUncounted counts m)) ⊎ HasNoCount p counts m
           → (IsReachable p m × (HasCount p along (set counts (node_index n) count) m ⊎ IsUncounted (set counts (node_index n) count) m)) ⊎ HasNoCount p (set counts (node_index n) count) m

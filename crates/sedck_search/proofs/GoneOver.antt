@@ -7,9 +7,10 @@ use Rattle.std.proofs.lemmas.Option.{slice_get-get_or, slice_get_past, get_or_fr
 use Rattle.std.proofs.lemmas.List.Elements.{Contains-push_cases, Contains-append_right}
 use Rattle.sedck_script.specs.Invariant.{IsScript}
 use Rattle.sedck_script.specs.Program.{Program}
-use Rattle.sedck_flow.specs.Flow.{node_index, FlowFrom, ListsEdges}
+use Rattle.sedck_flow.specs.Nodes.{node_index, node_count}
+use Rattle.sedck_flow.specs.Flow.{FlowFrom, ListsEdges}
 use Rattle.sedck_flow.proofs.Inside.{inside}
-use Rattle.sedck_cert.proofs.CheckingLemmas.{flag_below}
+use Rattle.sedck_flow.proofs.NodeLemmas.{index_below}
 use Rattle.sedck_flow.specs.declared.graph.Node.{Node}
 use Rattle.sedck_flow.specs.declared.graph.Edge.{Edge}
 
@@ -52,8 +53,8 @@ module _ (p : Program) (n : Node) where
   target_coming script done coming e h = (inside p script.targets e (edge_coming done coming e h).0).1
 
 -- a node of the script has its place in a list with two places a command and two for the end
-pub place_in : (p : Program) (xs : List ℕ) → length xs ≡ 2 * (length p.commands + 1) → (n : Node) → n.at ≤ length p.commands → node_index n < length xs
-place_in p xs long n h = omega (arith, long, h, flag_below n.flag)
+pub place_in : (p : Program) (xs : List ℕ) → length xs ≡ node_count (length p.commands) → (n : Node) → n.at ≤ length p.commands → node_index n < length xs
+place_in p xs long n h = omega (arith, long, index_below n (length p.commands) h)
 
 -- ---- Places in lists
 

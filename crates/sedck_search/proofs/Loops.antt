@@ -2,15 +2,15 @@
 use Rattle.std.proofs.Common.{◌≡◌, ℕ, ◌<◌, ◌≤◌, List, [], ◌∷◌, ◌++◌, length, refl, sym, ap, ◌∙◌, subst, inl, inr, arith}
 use Rattle.std.specs.Prelude.{Some, slice_get}
 use Rattle.std.proofs.lemmas.Bool.{cases_lt}
-use Rattle.std.proofs.lemmas.Option.{slice_get_within}
+use Rattle.std.proofs.lemmas.Option.{slice_get_within, same_Some}
 use Rattle.sedck_script.specs.Invariant.{IsScript}
 use Rattle.sedck_script.specs.Program.{Program}
-use Rattle.sedck_flow.specs.Flow.{start, node_index}
+use Rattle.sedck_flow.specs.Nodes.{start, node_index}
 use Rattle.sedck_flow.specs.declared.graph.Node.{Node}
 use Rattle.sedck_flow.specs.declared.graph.Edge.{Edge}
 use Rattle.sedck_flow.specs.declared.graph.Kind.{Kind}
 use Rattle.sedck_flow.specs.declared.graph.Kind.TheVariants.{Consume, Keep, Grow}
-use Rattle.sedck_flow.proofs.FoundLemmas.{node_same}
+use Rattle.sedck_flow.proofs.NodeLemmas.{node_same, index-before}
 use Rattle.sedck_search.specs.Obstacle.{IsPath, IsReachable, IsObstacle, IsSought, HasForm, HasNone, HasOnly, BeginsGrowing, IsFirst, HasNoIdle, IsChosen}
 use Rattle.sedck_search.specs.Found.{IsLoop}
 use Rattle.sedck_search.specs.Reaching.{IsFollowed, AreFollowed, Reaches, FollowedEdge, IsReachCount, HasCount, AreCounted}
@@ -25,8 +25,6 @@ use Rattle.sedck_search.proofs.Paths.{path-append, path_inside, reaches_edge}
 use Rattle.sedck_search.proofs.Counts.{count_falls, same_count}
 use Rattle.sedck_search.proofs.RuledOut.{ruled_out}
 
-some_inj : {x y : ℕ} → Some x ≡ Some y → x ≡ y
-some_inj e = cc
 
 -- ---- Walks of a form
 
@@ -99,8 +97,8 @@ module _ (p : Program) (script : IsScript p) where
     counted_reach n count is positive =
         let below : n.at ≤ length p.commands = omega (arith, slice_get_within counts (node_index n) count is, counted.long) in
         elim (counted.each n below) [
-          | inl (reachable, has) ↦ (reachable, subst (IsReachCount p along n) (some_inj (sym has.at ∙ is)) has.is_count)
-          | inr (_, none) ↦ absurd (omega (arith, positive, some_inj (sym none ∙ is)))
+          | inl (reachable, has) ↦ (reachable, subst (IsReachCount p along n) (same_Some _ _ (sym has.at ∙ is)) has.is_count)
+          | inr (_, none) ↦ absurd (omega (arith, positive, same_Some _ _ (sym none ∙ is)))
         ]
 
   module _ (form : Form) (counts : List ℕ) (counted : AreCounted p (way_back form) counts) where
@@ -156,7 +154,7 @@ module _ (p : Program) (script : IsScript p) where
           let c = begun_closes other walk o.reachable o.closed begun in
           let least : node_index e.from ≤ node_index other = omega (arith, first.first c.0 c.1, ap node_index c.2) in
           elim (cases_lt (node_index e.from) (node_index other)) [
-            | inl less ↦ inl less
+            | inl less ↦ inl (index-before e.from other less)
             | inr more ↦
                 let same : other ≡ e.from = node_same other e.from (omega (arith, least, more)) in
                 inr (same, loop.shortest walk (subst (λ n. IsPath p n walk n) same o.closed) begun)

@@ -2,7 +2,7 @@
 use Rattle.std.proofs.Common.{◌≡◌, ◌⊎◌, ℕ, ◌+◌, ◌-◌, ◌*◌, ◌<◌, ◌≤◌, Bool, true, false, List, refl, sym, ap, ◌∙◌, subst, inl, inr, arith}
 use Rattle.std.proofs.lemmas.Bool.{cases_eq, cases_lt, true≢false}
 use Rattle.sedck_script.specs.Program.{Program}
-use Rattle.sedck_flow.specs.Flow.{node_index}
+use Rattle.sedck_flow.specs.Nodes.{node_index}
 use Rattle.sedck_flow.specs.declared.graph.Node.{Node}
 use Rattle.sedck_flow.specs.declared.graph.Edge.{Edge}
 use Rattle.sedck_search.specs.Rows.{has, bit_count, IsRow, HasChanged, IsEmpty}
@@ -10,7 +10,7 @@ use Rattle.sedck_search.specs.Reaching.{IsIn, IsClosed, Reaches, FollowedEdge}
 use Rattle.sedck_search.specs.Spreading.{HasMet, HasGrown, IsFollowedFrom, IsFrontier}
 use Rattle.sedck_search.specs.declared.along.Along.{Along}
 use Rattle.sedck_search.proofs.RowSets.{inserted_count, removed_count, count_within}
-use Rattle.sedck_flow.proofs.FoundLemmas.{node_same}
+use Rattle.sedck_flow.proofs.NodeLemmas.{node_same}
 use Rattle.sedck_search.proofs.Paths.{reaches_self, reaches-trans, reaches_edge}
 
 -- ---- Nodes put into a row
@@ -30,17 +30,6 @@ changed_new a b n h m x =
       | inl same ↦ inr (node_same m n same)
       | inr other ↦ inl (sym (h.others (node_index m) other) ∙ x)
     ]
-
--- nothing is met where the node is there
-pub met_before : (IsMet : Node → Type 0) (row waiting : List ℕ) (first : ℕ) → HasMet IsMet row waiting row waiting first first
-met_before IsMet row waiting first = record {
-  kept = λ n h. h;
-  waits_on = λ n h. h;
-  new = λ n h. inl h;
-  waits = λ n h. inl h;
-  earlier = omega arith;
-  room = omega arith;
-}
 
 not_both : {b : Bool} → b ≡ true → b ≡ false → ⊥
 not_both h k = true≢false (sym h ∙ k)

@@ -2,12 +2,13 @@
 use Rattle.std.proofs.Common.{◌≡◌, ℕ, zero, suc, ◌<◌, ◌≤◌, true, false, List, [], ◌∷◌, ◌++◌, length, refl, sym, subst, arith}
 use Rattle.sedck_script.specs.Invariant.{AreTargetsWithin, IsScript}
 use Rattle.sedck_script.specs.Program.{Program}
-use Rattle.sedck_flow.specs.Flow.{FlowFrom, node_index}
+use Rattle.sedck_flow.specs.Nodes.{node_index}
+use Rattle.sedck_flow.specs.Flow.{FlowFrom}
 use Rattle.sedck_flow.specs.declared.graph.Node.{Node}
 use Rattle.sedck_flow.specs.declared.graph.Edge.{Edge}
 use Rattle.sedck_flow.specs.declared.graph.Kind.{Kind}
 use Rattle.sedck_flow.proofs.Inside.{inside}
-use Rattle.sedck_cert.proofs.CheckingLemmas.{flag_below}
+use Rattle.sedck_flow.proofs.NodeLemmas as nodes
 use Rattle.sedck_search.specs.Obstacle.{IsPath}
 use Rattle.sedck_search.specs.Reaching.{IsFollowed, AreFollowed, Reaches, FollowedEdge, IsIn, IsClosed}
 use Rattle.sedck_search.specs.declared.along.Along.{Along}
@@ -15,15 +16,9 @@ use Rattle.sedck_search.specs.declared.along.Along.TheVariants.{Every}
 
 -- ---- Nodes and their places among all nodes
 
--- each number is the place of a node
-pub node_at : (i : ℕ) → (n : Node) × (node_index n ≡ i)
-node_at zero = (record { at = 0; flag = false }, refl)
-node_at (suc zero) = (record { at = 0; flag = true }, refl)
-node_at (suc (suc i)) = let n = node_at i in (record { at = suc n.0.at; flag = n.0.flag }, omega (arith, n.1))
-
 -- the nodes of a script have a place in each row
 pub index_below : (p : Program) → IsScript p → (n : Node) → n.at ≤ length p.commands → node_index n < 8192
-index_below p script n h = omega (arith, script.count, flag_below n.flag)
+index_below p script n h = omega (arith, script.count, nodes.index_below n (length p.commands) h)
 
 -- ---- Paths
 

@@ -3,6 +3,7 @@ use Rattle.std.proofs.Common.{◌≡◌, ◌⊎◌, ℕ, zero, suc, ◌+◌, ◌
 use Rattle.std.specs.Prelude.{Some, None, slice_get, All}
 use Rattle.std.specs.Option.{option_flatten}
 use Rattle.std.proofs.lemmas.Bool.{cases_lt}
+use Rattle.std.proofs.lemmas.Option.{same_Some}
 use Rattle.sedck_script.specs.Invariant.{IsScript}
 use Rattle.sedck_script.specs.Program.{Program}
 use Rattle.sedck_script.specs.Names.{AreNames, names_size, reads, writes}
@@ -10,7 +11,8 @@ use Rattle.sedck_flow.specs.Run.{NamesForReading, NamesForWriting}
 use Rattle.sedck_flow.proofs.Inside.{inside}
 use Rattle.sedck_cert.proofs.Listed.{reads_listed, writes_listed}
 use Rattle.std.proofs.lemmas.List.Elements.{All-nil, All-cons}
-use Rattle.sedck_flow.specs.Flow.{start, node_index, Flow}
+use Rattle.sedck_flow.specs.Nodes.{start, node_index, node_count}
+use Rattle.sedck_flow.specs.Flow.{Flow}
 use Rattle.sedck_flow.specs.declared.graph.Node.{Node}
 use Rattle.sedck_flow.specs.declared.graph.Edge.{Edge}
 use Rattle.sedck_flow.specs.declared.graph.Kind.{Kind}
@@ -27,8 +29,6 @@ use Rattle.sedck_search.proofs.Counts.{count_falls}
 use Rattle.sedck_search.proofs.WayLemmas.{way_at}
 use Rattle.sedck_search.proofs.Loops.{count_of, reachable_on}
 
-some_inj : {A : Type 0} {x y : A} → Some x ≡ Some y → x ≡ y
-some_inj e = cc
 
 pub ranks_from-length : (firsts seconds : List ℕ) → length firsts ≡ length seconds → length (ranks_from firsts seconds) ≡ length firsts
 ranks_from-length [] seconds e = refl
@@ -45,7 +45,7 @@ ranks_from-push (f ∷ firsts) (s ∷ seconds) first second e = ap (λ l. ranks_
 ranks_from-get : (firsts seconds : List ℕ) (i first second : ℕ) → slice_get firsts i ≡ Some first → slice_get seconds i ≡ Some second → slice_get (ranks_from firsts seconds) i ≡ Some (ranks_of_counts first second)
 ranks_from-get [] seconds i first second e e' = cc
 ranks_from-get (f ∷ firsts) [] i first second e e' = cc
-ranks_from-get (f ∷ firsts) (s ∷ seconds) zero first second e e' = ap Some (ap (λ n. ranks_of_counts n s) (some_inj e) ∙ ap (ranks_of_counts first) (some_inj e'))
+ranks_from-get (f ∷ firsts) (s ∷ seconds) zero first second e e' = ap Some (ap (λ n. ranks_of_counts n s) (same_Some _ _ e) ∙ ap (ranks_of_counts first) (same_Some _ _ e'))
 ranks_from-get (f ∷ firsts) (s ∷ seconds) (suc i) first second e e' = ranks_from-get firsts seconds i first second e e'
 
 pub positive_ranks : (first second : ℕ) → 0 < first → ranks_of_counts first second ≡ Some (first, second)
@@ -107,7 +107,7 @@ module _ (p : Program) (script : IsScript p) (firsts seconds : List ℕ) (are_fi
           let there = reachable_on p script e.from e.to reachable ((e.kind, e.to) ∷ []) (flow, refl) in
           let f' = count_of p script Unread firsts are_firsts e.to there in
           let s' = count_of p script Kept seconds are_seconds e.to there in
-          let is : (f.count, s.count) ≡ before = some_inj (sym (ranks_of_node e.from f s) ∙ has) in
+          let is : (f.count, s.count) ≡ before = same_Some _ _ (sym (ranks_of_node e.from f s) ∙ has) in
           ((f'.count, s'.count), ranks_of_node e.to f' s', subst (λ b. Lowers e.kind b (f'.count, s'.count)) is (lowers e flow f s f' s' e.kind refl))
       meets_from e flow (inr (none, zero_count)) before has =
           let second = way_at p seconds are_seconds.long e.from (inside p script.targets e flow).0 in
@@ -150,7 +150,7 @@ module _ (p : Program) (script : IsScript p) (firsts seconds : List ℕ) (are_fi
     pub counts_certificate : ((i : ℕ) → get_or firsts i 0 ≤ 65535) → ((i : ℕ) → get_or seconds i 0 ≤ 65535) → c.commands ≡ length p.commands → c.reads ≡ reads p → c.writes ≡ writes p → IsCertificate c
     counts_certificate f s is_commands is_reads is_writes = record {
       commands = omega (arith, is_commands, script.count);
-      nodes = ap length is_ranks ∙ ranks_from-length firsts seconds same_length ∙ are_firsts.long ∙ ap (λ n. 2 * (n + 1)) (sym is_commands);
+      nodes = ap length is_ranks ∙ ranks_from-length firsts seconds same_length ∙ are_firsts.long ∙ ap node_count (sym is_commands);
       ranks = subst (All AreWithin) (sym is_ranks) (within firsts seconds f s);
       reads = subst AreNames (sym is_reads) script.read;
       writes = subst AreNames (sym is_writes) script.written;

@@ -70,8 +70,6 @@ module _ (p : Program) (script : IsScript p) (along : Along) (ways : List ℕ) (
     inside = (inside p script.targets e edge.0).1;
   }
 
-some_inj : {x y : ℕ} → Some x ≡ Some y → x ≡ y
-some_inj e = cc
 
 -- a nearest edge has a way back
 pub near_small : (p : Program) → IsScript p → (form : Form) (closing first : Edge) (ways : List ℕ) → AreWays p (way_back form) closing.from ways → IsClosing p form closing → (near : IsNearest p ways closing first) → near.way < 65535

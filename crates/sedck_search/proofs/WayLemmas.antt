@@ -5,18 +5,17 @@ use Rattle.std.proofs.lemmas.List.{length-set}
 use Rattle.std.proofs.lemmas.Bool.{cases_eq, ne_eqb}
 use Rattle.std.proofs.lemmas.Bool.Decides.{eqb_tells}
 use Rattle.std.proofs.lemmas.List.Elements.{Contains-append_right}
-use Rattle.std.proofs.lemmas.Option.{slice_get-get_or, slice_get_within, get_or_from_slice_get}
+use Rattle.std.proofs.lemmas.Option.{slice_get-get_or, slice_get_within, get_or_from_slice_get, same_Some}
 use Rattle.sedck_script.specs.Invariant.{IsScript}
 use Rattle.sedck_script.specs.Program.{Program}
 use Rattle.sedck_script.proofs.SortedNames.{Contains-cons_cases}
-use Rattle.sedck_flow.specs.Flow.{node_index}
+use Rattle.sedck_flow.specs.Nodes.{node_index, node_count}
 use Rattle.sedck_flow.specs.declared.graph.Node.{Node}
 use Rattle.sedck_flow.specs.declared.graph.Edge.{Edge}
 use Rattle.sedck_flow.specs.declared.graph.Kind.{Kind}
 use Rattle.sedck_flow.proofs.Inside.{inside}
-use Rattle.sedck_flow.proofs.FoundLemmas.{node_same}
+use Rattle.sedck_flow.proofs.NodeLemmas.{node_same, index_below}
 use Rattle.sedck_search.proofs.GoneOver.{set_same, set_other}
-use Rattle.sedck_cert.proofs.CheckingLemmas.{flag_below}
 use Rattle.sedck_search.specs.Obstacle.{IsPath}
 use Rattle.sedck_search.specs.Reaching.{AreFollowed, FollowedEdge}
 use Rattle.sedck_search.specs.Ways.{HasWay, GoesOn, AreSomeWays, AreWays}
@@ -66,13 +65,11 @@ longer_than_all (suc k) xs all =
 
 -- ---- Ways
 
-some_inj : {x y : ℕ} → Some x ≡ Some y → x ≡ y
-some_inj e = cc
 
 -- each node of the script has a way or a mark
-pub way_at : (p : Program) (ways : List ℕ) → length ways ≡ 2 * (length p.commands + 1) → (n : Node) → n.at ≤ length p.commands → (way : ℕ) × HasWay ways n way
+pub way_at : (p : Program) (ways : List ℕ) → length ways ≡ node_count (length p.commands) → (n : Node) → n.at ≤ length p.commands → (way : ℕ) × HasWay ways n way
 way_at p ways long n inside =
-    let below : node_index n < length ways = omega (arith, long, inside, flag_below n.flag) in
+    let below : node_index n < length ways = omega (arith, long, index_below n (length p.commands) inside) in
     (get_or ways (node_index n) 0, slice_get-get_or ways (node_index n) 0 below)
 
 pub eqb_same : (n : ℕ) → eqb n n ≡ true
@@ -85,17 +82,17 @@ first_way to i = if eqb i to then 0 else 65535
 first_way-zero : (to i : ℕ) → first_way to i ≡ 0 → i ≡ to
 first_way-zero to i e = elim (cases_eq i to) [ inl same ↦ same | inr other ↦ absurd (omega (arith, sym e ∙ ap (λ b. if b then 0 else 65535) (ne_eqb i to other))) ]
 
-pub some_ways : (p : Program) (along : Along) (to : Node) (ways : List ℕ) → length ways ≡ 2 * (length p.commands + 1) → to.at ≤ length p.commands → ((i : ℕ) → i < length ways → slice_get ways i ≡ Some (first_way (node_index to) i)) → AreSomeWays p along to ways
+pub some_ways : (p : Program) (along : Along) (to : Node) (ways : List ℕ) → length ways ≡ node_count (length p.commands) → to.at ≤ length p.commands → ((i : ℕ) → i < length ways → slice_get ways i ≡ Some (first_way (node_index to) i)) → AreSomeWays p along to ways
 some_ways p along to ways long to_inside entries = record {
   long = long;
   small = λ n way has. bounded (node_index to) (node_index n) way (value n way has);
-  here = entries (node_index to) (omega (arith, long, to_inside, flag_below to.flag)) ∙ ap Some (ap (λ b. if b then 0 else 65535) (eqb_same (node_index to)));
+  here = entries (node_index to) (omega (arith, long, index_below to (length p.commands) to_inside)) ∙ ap Some (ap (λ b. if b then 0 else 65535) (eqb_same (node_index to)));
   only = λ n has. node_same n to (first_way-zero (node_index to) (node_index n) (value n 0 has));
   on = λ n way has small. absurd (middle (node_index to) (node_index n) way (value n (suc way) has) small);
 }
   where
     value : (n : Node) (way : ℕ) → HasWay ways n way → first_way (node_index to) (node_index n) ≡ way
-    value n way has = some_inj (sym (entries (node_index n) (slice_get_within ways (node_index n) way has)) ∙ has)
+    value n way has = same_Some _ _ (sym (entries (node_index n) (slice_get_within ways (node_index n) way has)) ∙ has)
 
     bounded : (to i way : ℕ) → first_way to i ≡ way → way ≤ 65535
     bounded to i way e = by_test (eqb i to) refl
@@ -119,7 +116,7 @@ module _ (p : Program) (along : Along) (to : Node) (ways : List ℕ) (h : AreSom
   goes_on_set : (m : Node) (limit : ℕ) → GoesOn p along ways m limit → GoesOn p along (set ways (node_index n) (suc way)) m limit
   goes_on_set m limit g = elim (cases_eq (node_index g.edge.to) (node_index n)) [
     | inl same ↦
-        let is : g.way ≡ old = some_inj (sym g.has_way ∙ ap (slice_get ways) same ∙ was) in
+        let is : g.way ≡ old = same_Some _ _ (sym g.has_way ∙ ap (slice_get ways) same ∙ was) in
         record {
           edge = g.edge;
           followed = g.followed;
@@ -142,20 +139,20 @@ module _ (p : Program) (along : Along) (to : Node) (ways : List ℕ) (h : AreSom
   ways_set = record {
     long = length-set ways (node_index n) (suc way) ∙ h.long;
     small = λ m v has. elim (cases_eq (node_index m) (node_index n)) [
-      | inl same ↦ omega (arith, some_inj (sym (set_same ways (node_index n) (suc way) below) ∙ ap (slice_get (set ways (node_index n) (suc way))) (sym same) ∙ has), shorter, h.small n old was)
+      | inl same ↦ omega (arith, same_Some _ _ (sym (set_same ways (node_index n) (suc way) below) ∙ ap (slice_get (set ways (node_index n) (suc way))) (sym same) ∙ has), shorter, h.small n old was)
       | inr other ↦ h.small m v (sym (set_other ways (node_index n) (node_index m) (suc way) other) ∙ has)
     ];
     here = elim (cases_eq (node_index to) (node_index n)) [
-      | inl same ↦ absurd (omega (arith, shorter, some_inj (sym was ∙ ap (slice_get ways) (sym same) ∙ h.here)))
+      | inl same ↦ absurd (omega (arith, shorter, same_Some _ _ (sym was ∙ ap (slice_get ways) (sym same) ∙ h.here)))
       | inr other ↦ set_other ways (node_index n) (node_index to) (suc way) other ∙ h.here
     ];
     only = λ m has. elim (cases_eq (node_index m) (node_index n)) [
-      | inl same ↦ absurd (omega (arith, some_inj (sym (set_same ways (node_index n) (suc way) below) ∙ ap (slice_get (set ways (node_index n) (suc way))) (sym same) ∙ has)))
+      | inl same ↦ absurd (omega (arith, same_Some _ _ (sym (set_same ways (node_index n) (suc way) below) ∙ ap (slice_get (set ways (node_index n) (suc way))) (sym same) ∙ has)))
       | inr other ↦ h.only m (sym (set_other ways (node_index n) (node_index m) (suc way) other) ∙ has)
     ];
     on = λ m v has small. elim (cases_eq (node_index m) (node_index n)) [
       | inl same ↦
-          let is : suc way ≡ suc v = some_inj (sym (set_same ways (node_index n) (suc way) below) ∙ ap (slice_get (set ways (node_index n) (suc way))) (sym same) ∙ has) in
+          let is : suc way ≡ suc v = same_Some _ _ (sym (set_same ways (node_index n) (suc way) below) ∙ ap (slice_get (set ways (node_index n) (suc way))) (sym same) ∙ has) in
           subst₂ (λ k l. GoesOn p along (set ways (node_index n) (suc way)) k l) (sym (node_same m n same)) (let e : way ≡ v = omega (arith, is) in e) (goes_on_set n way goes)
       | inr other ↦ goes_on_set m v (h.on m v (sym (set_other ways (node_index n) (node_index m) (suc way) other) ∙ has) small)
     ];

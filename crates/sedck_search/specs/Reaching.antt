@@ -1,7 +1,8 @@
 -- Which nodes can be reached over which edges, and how many they are.
 use Rattle.std.specs.Prelude.{◌≡◌, ◌≢◌, ◌↔◌, ◌⊎◌, ℕ, ◌+◌, ◌*◌, ◌<◌, ◌≤◌, true, List, [], ◌∷◌, Some, slice_get, length}
 use Rattle.sedck_script.specs.Program.{Program}
-use Rattle.sedck_flow.specs.Flow.{Flow, node_index}
+use Rattle.sedck_flow.specs.Nodes.{node_index, node_count}
+use Rattle.sedck_flow.specs.Flow.{Flow}
 use Rattle.sedck_flow.specs.declared.graph.Node.{Node}
 use Rattle.sedck_flow.specs.declared.graph.Edge.{Edge}
 use Rattle.sedck_flow.specs.declared.graph.Kind.{Kind}
@@ -68,12 +69,12 @@ IsUncounted counts n = slice_get counts (node_index n) ≡ Some 65535
 
 -- each node that can be reached has its count
 pub record AreCounted (p : Program) (along : Along) (counts : List ℕ) : Type 0 where
-  pub long : length counts ≡ 2 * (length p.commands + 1)
+  pub long : length counts ≡ node_count (length p.commands)
   pub each : (n : Node) → n.at ≤ length p.commands → (IsReachable p n × HasCount p along counts n) ⊎ HasNoCount p counts n
 
 -- each has its count, or is still to be counted
 pub record ArePartlyCounted (p : Program) (along : Along) (counts : List ℕ) : Type 0 where
-  pub long : length counts ≡ 2 * (length p.commands + 1)
+  pub long : length counts ≡ node_count (length p.commands)
   pub each : (n : Node) → n.at ≤ length p.commands → (IsReachable p n × (HasCount p along counts n ⊎ IsUncounted counts n)) ⊎ HasNoCount p counts n
 
 -- a row of all that some node reaches, or of none, and its size

@@ -1,7 +1,7 @@
 -- How a row of reached nodes grows while the nodes around are looked at. Only private contracts and proofs cite it.
 use Rattle.std.specs.Prelude.{◌⊎◌, ℕ, ◌+◌, ◌*◌, ◌≤◌, List}
 use Rattle.sedck_script.specs.Program.{Program}
-use Rattle.sedck_flow.specs.Flow.{node_index}
+use Rattle.sedck_flow.specs.Nodes.{node_index}
 use Rattle.sedck_flow.specs.declared.graph.Node.{Node}
 use Rattle.sedck_search.specs.Rows.{bit_count, IsRow}
 use Rattle.sedck_flow.specs.declared.graph.Kind.{Kind}

@@ -2,7 +2,7 @@
 use Rattle.std.specs.Prelude.{◌≡◌, ℕ, suc, ◌+◌, ◌*◌, ◌<◌, ◌≤◌, List, length, Some, slice_get}
 use Rattle.std.specs.List.{sum_by}
 use Rattle.sedck_script.specs.Program.{Program}
-use Rattle.sedck_flow.specs.Flow.{node_index}
+use Rattle.sedck_flow.specs.Nodes.{node_index, node_count}
 use Rattle.sedck_flow.specs.declared.graph.Node.{Node}
 use Rattle.sedck_flow.specs.declared.graph.Edge.{Edge}
 use Rattle.sedck_search.specs.Reaching.{FollowedEdge}
@@ -23,7 +23,7 @@ pub record GoesOn (p : Program) (along : Along) (ways : List ℕ) (n : Node) (li
 
 -- each way is that of some path to the node; the greatest number is the mark of nodes without one
 pub record AreSomeWays (p : Program) (along : Along) (to : Node) (ways : List ℕ) : Type 0 where
-  pub long : length ways ≡ 2 * (length p.commands + 1)
+  pub long : length ways ≡ node_count (length p.commands)
   pub small : (n : Node) (way : ℕ) → HasWay ways n way → way ≤ 65535
   pub here : HasWay ways to 0
   pub only : (n : Node) → HasWay ways n 0 → n ≡ to

@@ -2,15 +2,15 @@
 
 ghost use Rattle.std.specs.Prelude.{◌≡◌, ◌≢◌, ℕ, ◌+◌, ◌*◌, ◌<◌, ◌≤◌, true, length, Some, slice_get, IfOk, IfSome};
 ghost use Rattle.sedck_script.specs.Invariant.{IsScript};
-ghost use Rattle.sedck_flow.specs.Flow.{node_index};
+ghost use Rattle.sedck_flow.specs.Nodes.{node_index, node_count};
 ghost use Rattle.sedck_flow.specs.declared.graph.Node.{Node};
 ghost use Rattle.sedck_search.specs.Reaching.{AreCounted, ArePartlyCounted, IsClosedBeside, IsIn, IsLast, IsOnlyTarget, IsReachCount, Reaches};
 ghost use Rattle.sedck_search.specs.declared.along.Along.{Along};
 
 use crate::along::Along;
 use crate::rows::Row;
-use crate::spreading::{index_of, spread};
-use sedck_flow::{Node, edges_of};
+use crate::spreading::spread;
+use sedck_flow::{Node, edges_of, node_count};
 use sedck_script::Script;
 use std::alloc::{AllocError, Global};
 
@@ -32,7 +32,7 @@ fn mark_reached(alloc: Global, script: &Script) -> Result<Vec<u16>, AllocError>
     ensures script { IsScript script.now }
     ensures marks { IfOk result (λ marks. (along : Along) → ArePartlyCounted script.now along marks.items) }
 {
-    let count = 2 * (script.commands().len() + 1);
+    let count = node_count(script.commands().len());
     let mut row = Row::new();
     spread(script, Along::Every, &mut row, Node::START);
     let mut marks = Vec::new(alloc);
@@ -192,12 +192,12 @@ fn next_unseen(
 ) -> Option<usize>
     requires script { IsScript script.now }
     requires inside { node.at ≤ length script.now.commands }
-    requires counts { length counts.now ≡ 2 * (length script.now.commands + 1) }
+    requires counts { length counts.now ≡ node_count (length script.now.commands) }
     requires back { length back.now ≡ length counts.now }
     ensures { IfSome result (λ to. to < length counts.now) }
 {
     for edge in edges_of(script, node) {
-        let to = index_of(edge.to);
+        let to = edge.to.index();
         if along.follows(edge.kind) && counts[to] == UNCOUNTED && back[to] == UNSEEN {
             return Some(to);
         }
@@ -209,12 +209,12 @@ fn next_unseen(
 fn leads_to_count(script: &Script, along: Along, node: Node, counts: &[u16]) -> bool
     requires script { IsScript script.now }
     requires inside { node.at ≤ length script.now.commands }
-    requires counts { length counts.now ≡ 2 * (length script.now.commands + 1) }
+    requires counts { length counts.now ≡ node_count (length script.now.commands) }
 {
     let mut leads = false;
     for edge in edges_of(script, node) {
         if along.follows(edge.kind) {
-            if counts[index_of(edge.to)] != UNCOUNTED {
+            if counts[edge.to.index()] != UNCOUNTED {
                 return true;
             }
             leads = true;
@@ -226,7 +226,7 @@ fn leads_to_count(script: &Script, along: Along, node: Node, counts: &[u16]) -> 
 /// Counts what the node with the place reaches, where it is marked.
 fn count_at(script: &Script, along: Along, index: usize, counts: &mut [u16], last: &mut Last)
     requires script { IsScript script.now }
-    requires inside { index < 2 * (length script.now.commands + 1) }
+    requires inside { index < node_count (length script.now.commands) }
     requires counted { ArePartlyCounted script.now along counts.old }
     requires last { IsLast script.now along last.old.row last.old.count }
     ensures counted { ArePartlyCounted script.now along counts.new }
@@ -258,7 +258,7 @@ fn count_node(script: &Script, along: Along, node: Node, counts: &[u16], last: &
         last.row.clear();
         last.count = 0;
     }
-    if !last.row.has(index_of(node)) {
+    if !last.row.has(node.index()) {
         spread(script, along, &mut last.row, node);
         last.count = last.row.count() as u16;
     }
@@ -281,10 +281,7 @@ fn count_by_target(
     ensures { IfSome result (λ count. IsReachCount script.now along node count × (0 < count) × (count ≤ 8192)) }
 {
     let to = only_target(script, along, node)?;
-    if to == index_of(node)
-        || last.row.has(index_of(node))
-        || !leads_into(script, along, to, last)
-    {
+    if to == node.index() || last.row.has(node.index()) || !leads_into(script, along, to, last) {
         return None;
     }
     let count = counts[to];
@@ -297,7 +294,7 @@ fn count_by_target(
 /// Whether the node with the place stands in the last row, or all its edges lead to one node of it.
 fn leads_into(script: &Script, along: Along, to: usize, last: &Last) -> bool
     requires script { IsScript script.now }
-    requires inside { to < 2 * (length script.now.commands + 1) }
+    requires inside { to < node_count (length script.now.commands) }
     requires last { IsLast script.now along last.now.row last.now.count }
     ensures { result ≡ true → (m : Node) → node_index m ≡ to → IsClosedBeside script.now along last.now.row m }
 {
@@ -319,7 +316,7 @@ fn only_target(script: &Script, along: Along, node: Node) -> Option<usize>
     let mut only = None;
     for edge in edges_of(script, node) {
         if along.follows(edge.kind) {
-            let to = index_of(edge.to);
+            let to = edge.to.index();
             match only {
                 Some(first) if first != to => return None,
                 _ => only = Some(to),
@@ -338,7 +335,7 @@ fn goes_on(script: &Script, along: Along, node: Node, counts: &[u16], last: &Las
     ensures { result ≡ true → (m : Node) → IsIn last.now.row m → Reaches script.now along node m }
 {
     for edge in edges_of(script, node) {
-        let to = index_of(edge.to);
+        let to = edge.to.index();
         if along.follows(edge.kind) && last.row.has(to) && counts[to] == last.count {
             return true;
         }

@@ -2,7 +2,7 @@
 
 ghost use Rattle.std.specs.Prelude.{◌≡◌, ◌<◌, ◌≤◌, length};
 ghost use Rattle.sedck_script.specs.Invariant.{IsScript};
-ghost use Rattle.sedck_flow.specs.Flow.{node_index};
+ghost use Rattle.sedck_flow.specs.Nodes.{node_index};
 ghost use Rattle.sedck_search.specs.Rows.{IsRow};
 ghost use Rattle.sedck_search.specs.Reaching.{FollowedEdge, IsClosed, IsIn};
 ghost use Rattle.sedck_search.specs.Spreading.{HasGrown, HasMet, IsFollowedFrom, IsFrontier};
@@ -12,13 +12,6 @@ use crate::along::Along;
 use crate::rows::Row;
 use sedck_flow::{Node, edges_of};
 use sedck_script::Script;
-
-/// The node's place among all nodes.
-pub(crate) fn index_of(node: Node) -> usize
-    ensures { result ≡ node_index node }
-{
-    2 * usize::from(node.at) + usize::from(node.flag)
-}
 
 /// Adds all that the node reaches to the row, out of which no edge leads.
 pub(crate) fn spread(script: &Script, along: Along, row: &mut Row, node: Node)
@@ -30,7 +23,7 @@ pub(crate) fn spread(script: &Script, along: Along, row: &mut Row, node: Node)
     ensures grown { HasGrown script.now along node row.old row.new }
 {
     let mut waiting = Row::new();
-    let mut first = meet(node, row, &mut waiting, index_of(node));
+    let mut first = meet(node, row, &mut waiting, node.index());
     while let Some(index) = waiting.next_from(first) {
         waiting.remove(index);
         first = look_around(script, along, Node::nth(index), row, &mut waiting, index);
@@ -70,7 +63,7 @@ fn meet(node: Node, row: &mut Row, waiting: &mut Row, first: usize) -> usize
     ensures spread { HasMet (λ n. n ≡ node) row.old waiting.old row.new waiting.new first result }
     ensures met { IsIn row.new node }
 {
-    let index = index_of(node);
+    let index = node.index();
     if row.has(index) {
         return first;
     }

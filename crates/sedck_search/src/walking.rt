@@ -3,13 +3,13 @@
 ghost use Rattle.std.specs.Prelude.{◌≡◌, ◌≢◌, ℕ, ◌+◌, ◌*◌, ◌<◌, ◌≤◌, ◌↔◌, length, IfOk, IsTrue, MatchOption};
 ghost use Rattle.sedck_flow.specs.declared.graph.Edge.{Edge};
 ghost use Rattle.sedck_script.specs.Invariant.{IsScript};
+ghost use Rattle.sedck_flow.specs.Nodes.{node_count};
 ghost use Rattle.sedck_flow.specs.Flow.{Flow};
 ghost use Rattle.sedck_search.specs.Closing.{Closes, IsFirstClosing, way_back as way_back_of};
 ghost use Rattle.sedck_search.specs.Walking.{IsClosing, IsNearest, IsShortestLoop};
 
 use crate::along::Along;
 use crate::answer::{Form, Walk};
-use crate::spreading::index_of;
 use crate::ways::{edge_on, ways_to};
 use sedck_flow::{Edge, Kind, Node, edges_of};
 use sedck_script::Script;
@@ -18,7 +18,7 @@ use std::alloc::{AllocError, Global};
 /// The first edge of the kind between two nodes with one count.
 pub(crate) fn first_closing(script: &Script, kind: Kind, counts: &[u16]) -> Option<Edge>
     requires script { IsScript script.now }
-    requires long { length counts.now ≡ 2 * (length script.now.commands + 1) }
+    requires long { length counts.now ≡ node_count (length script.now.commands) }
     ensures { MatchOption result ((e : Edge) → ¬ Closes script.now kind counts.now e) (IsFirstClosing script.now kind counts.now) }
 {
     for index in 0..counts.len() {
@@ -34,15 +34,15 @@ pub(crate) fn first_closing(script: &Script, kind: Kind, counts: &[u16]) -> Opti
 fn first_closing_from(script: &Script, kind: Kind, counts: &[u16], node: Node) -> Option<Edge>
     requires script { IsScript script.now }
     requires inside { node.at ≤ length script.now.commands }
-    requires long { length counts.now ≡ 2 * (length script.now.commands + 1) }
+    requires long { length counts.now ≡ node_count (length script.now.commands) }
     ensures { MatchOption result ((e : Edge) → Closes script.now kind counts.now e → e.from ≢ node) (λ e. Closes script.now kind counts.now e × (e.from ≡ node)) }
 {
-    let count = counts[index_of(node)];
+    let count = counts[node.index()];
     if count == 0 {
         return None;
     }
     for edge in edges_of(script, node) {
-        if is_of(edge, kind) && counts[index_of(edge.to)] == count {
+        if is_of(edge, kind) && counts[edge.to.index()] == count {
             return Some(edge);
         }
     }
@@ -69,7 +69,7 @@ pub(crate) fn loop_from(
     nodes.push(first.to)?;
     kinds.push(first.kind)?;
     let mut at = first.to;
-    let way = ways[index_of(at)];
+    let way = ways[at.index()];
     for step in 0..way {
         let edge = edge_on(script, along, at, way - 1 - step, &ways);
         nodes.push(edge.to)?;
@@ -83,12 +83,12 @@ pub(crate) fn loop_from(
 fn nearest(script: &Script, closing: Edge, ways: &[u16]) -> Edge
     requires script { IsScript script.now }
     requires edge { Flow script.now closing }
-    requires long { length ways.now ≡ 2 * (length script.now.commands + 1) }
+    requires long { length ways.now ≡ node_count (length script.now.commands) }
     ensures { IsNearest script.now ways.now closing result }
 {
     let mut nearest = closing;
     for edge in edges_of(script, closing.from) {
-        if is_of(edge, closing.kind) && ways[index_of(edge.to)] < ways[index_of(nearest.to)] {
+        if is_of(edge, closing.kind) && ways[edge.to.index()] < ways[nearest.to.index()] {
             nearest = edge;
         }
     }

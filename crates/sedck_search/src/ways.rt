@@ -2,15 +2,14 @@
 
 ghost use Rattle.std.specs.Prelude.{◌≡◌, ◌≢◌, ℕ, suc, true, false, ◌+◌, ◌*◌, ◌<◌, ◌≤◌, length, slice_get, IfOk};
 ghost use Rattle.sedck_script.specs.Invariant.{IsScript};
-ghost use Rattle.sedck_flow.specs.Flow.{node_index};
+ghost use Rattle.sedck_flow.specs.Nodes.{node_index, node_count};
 ghost use Rattle.sedck_flow.specs.declared.graph.Edge.{Edge};
 ghost use Rattle.sedck_flow.specs.declared.graph.Node.{Node};
 ghost use Rattle.sedck_search.specs.Reaching.{FollowedEdge};
 ghost use Rattle.sedck_search.specs.Ways.{AreSomeWays, AreWays, GoesOn, HasWay, IsSettled, total};
 
 use crate::along::Along;
-use crate::spreading::index_of;
-use sedck_flow::{Edge, Node, edges_of};
+use sedck_flow::{Edge, Node, edges_of, node_count};
 use sedck_script::Script;
 use std::alloc::{AllocError, Global};
 
@@ -29,8 +28,8 @@ pub(crate) fn ways_to(
     ensures { IfOk result (λ ways. AreWays script.now along to ways.items) }
 {
     let mut ways = Vec::new(alloc);
-    for index in 0..2 * (script.commands().len() + 1) {
-        ways.push(if index == index_of(to) { 0 } else { NONE })?;
+    for index in 0..node_count(script.commands().len()) {
+        ways.push(if index == to.index() { 0 } else { NONE })?;
     }
     while shorten_all(script, along, to, &mut ways) {}
     Ok(ways)
@@ -58,7 +57,7 @@ fn shorten_all(script: &Script, along: Along, _to: Node, ways: &mut [u16]) -> bo
 /// Shortens the way of the node with the place, and answers whether it is shorter now.
 fn shorten_at(script: &Script, along: Along, _to: Node, index: usize, ways: &mut [u16]) -> bool
     requires script { IsScript script.now }
-    requires inside { index < 2 * (length script.now.commands + 1) }
+    requires inside { index < node_count (length script.now.commands) }
     requires some { AreSomeWays script.now along _to ways.old }
     ensures some { AreSomeWays script.now along _to ways.new }
     ensures shorter { result ≡ true → total ways.new < total ways.old }
@@ -77,14 +76,14 @@ fn shorten_at(script: &Script, along: Along, _to: Node, index: usize, ways: &mut
 fn way_on(script: &Script, along: Along, node: Node, ways: &[u16]) -> u16
     requires script { IsScript script.now }
     requires inside { node.at ≤ length script.now.commands }
-    requires long { length ways.now ≡ 2 * (length script.now.commands + 1) }
+    requires long { length ways.now ≡ node_count (length script.now.commands) }
     ensures least { (e : Edge) → FollowedEdge script.now along e → e.from ≡ node → (after : ℕ) → HasWay ways.now e.to after → result ≤ suc after }
     ensures some { result < 65535 → (way : ℕ) × (result ≡ suc way) × GoesOn script.now along ways.now node way }
 {
     let mut least = NONE;
     for edge in edges_of(script, node) {
         if along.follows(edge.kind) {
-            least = least.min(ways[index_of(edge.to)].saturating_add(1));
+            least = least.min(ways[edge.to.index()].saturating_add(1));
         }
     }
     least
@@ -94,14 +93,14 @@ fn way_on(script: &Script, along: Along, node: Node, ways: &[u16]) -> u16
 pub(crate) fn edge_on(script: &Script, along: Along, node: Node, way: u16, ways: &[u16]) -> Edge
     requires script { IsScript script.now }
     requires inside { node.at ≤ length script.now.commands }
-    requires long { length ways.now ≡ 2 * (length script.now.commands + 1) }
+    requires long { length ways.now ≡ node_count (length script.now.commands) }
     requires some { (e : Edge) × FollowedEdge script.now along e × (e.from ≡ node) × HasWay ways.now e.to way }
     ensures followed { FollowedEdge script.now along result }
     ensures leaves { result.from ≡ node }
     ensures way { HasWay ways.now result.to way }
 {
     for edge in edges_of(script, node) {
-        if along.follows(edge.kind) && ways[index_of(edge.to)] == way {
+        if along.follows(edge.kind) && ways[edge.to.index()] == way {
             return edge;
         }
     }

@@ -1,8 +1,9 @@
 //! The lines in front of the nodes, and the last one.
 
-ghost use Rattle.std.specs.Prelude.{◌≡◌, ◌++◌, ◌≤◌, ◌+◌, ◌*◌, ℕ, List, [], ◌∷◌, MatchOption, IfOk, IfErr, OnOk, decimal, codes};
+ghost use Rattle.std.specs.Prelude.{◌-◌, ◌≡◌, ◌++◌, ◌≤◌, ◌+◌, ◌*◌, ℕ, List, [], ◌∷◌, MatchOption, IfOk, IfErr, OnOk, decimal, codes};
 ghost use Rattle.std.specs.Bool.{OnTrue, OnFalse};
 ghost use Rattle.sedck_bre.specs.Bytes.{newline};
+ghost use Rattle.sedck_flow.specs.Nodes.{node_count};
 ghost use Rattle.sedck_cert.specs.Cuts.{IsCut};
 ghost use Rattle.sedck_cert.specs.Faults.{Header, Count, Node, Last, Nothing};
 ghost use Rattle.sedck_cert.specs.Reading.{IsNext, Leads, Stops};
@@ -26,7 +27,7 @@ pub fn header(lines: &mut Lines) -> Result<(), CertFault>
 
 /// The number of commands.
 pub fn command_count(lines: &mut Lines) -> Result<u16, CertFault>
-    ensures read { IfOk result (λ n. (n ≤ 4095) × Leads Count lines.old ((codes "commands " ++ decimal n) ∷ []) lines.new (Node 0 (2 * n + 1))) }
+    ensures read { IfOk result (λ n. (n ≤ 4095) × Leads Count lines.old ((codes "commands " ++ decimal n) ∷ []) lines.new (Node 0 (node_count n - 1))) }
     ensures refused { IfErr result (Stops Count lines.old) }
 {
     let line = lines.number;

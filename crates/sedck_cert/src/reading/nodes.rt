@@ -1,7 +1,8 @@
 //! The lines of the nodes.
 
-ghost use Rattle.std.specs.Prelude.{◌≡◌, ◌⊎◌, ◌/◌, ◌%◌, ◌+◌, ◌≤◌, ◌*◌, ◌<◌, ℕ, List, [], ◌∷◌, length, All, MatchOption, IfOk, IfErr, Option};
+ghost use Rattle.std.specs.Prelude.{◌-◌, ◌≡◌, ◌⊎◌, ◌/◌, ◌%◌, ◌+◌, ◌≤◌, ◌*◌, ◌<◌, ℕ, List, [], ◌∷◌, length, All, MatchOption, IfOk, IfErr, Option};
 ghost use Rattle.sedck_bre.specs.Bytes.{newline};
+ghost use Rattle.sedck_flow.specs.Nodes.{node_count};
 ghost use Rattle.sedck_cert.specs.Certificate.{AreWithin};
 ghost use Rattle.sedck_cert.specs.Text.{ranks_text, node_text};
 ghost use Rattle.sedck_cert.specs.Cuts.{IsCut};
@@ -11,6 +12,7 @@ ghost use Rattle.sedck_cert.specs.Reading.{IsNext, Leads, Stops, node_texts, nod
 use super::CertFault;
 use super::lines::{Lines, cut};
 use super::numbers::number;
+use sedck_flow::node_count;
 use std::alloc::Global;
 
 /// The ranks of all nodes of a script with so many commands.
@@ -20,12 +22,12 @@ pub fn nodes(
     commands: u16,
 ) -> Result<Vec<Option<(u16, u16)>>, CertFault>
     requires { commands ≤ 4095 }
-    ensures read { IfOk result (λ ranks. Leads (Node 0 (2 * commands + 1)) lines.old (node_texts 0 ranks.items) lines.new (nodes_due (2 * (commands + 1)) 0)) }
+    ensures read { IfOk result (λ ranks. Leads (Node 0 (node_count commands - 1)) lines.old (node_texts 0 ranks.items) lines.new (nodes_due (node_count commands) 0)) }
     ensures within { IfOk result (λ ranks. All AreWithin ranks.items) }
-    ensures count { IfOk result (λ ranks. length ranks.items ≡ 2 * (commands + 1)) }
-    ensures refused { IfErr result (λ fault. (fault ≡ CertFault.OutOfMemory) ⊎ Stops (Node 0 (2 * commands + 1)) lines.old fault) }
+    ensures count { IfOk result (λ ranks. length ranks.items ≡ node_count commands) }
+    ensures refused { IfErr result (λ fault. (fault ≡ CertFault.OutOfMemory) ⊎ Stops (Node 0 (node_count commands - 1)) lines.old fault) }
 {
-    let count = 2 * (commands + 1);
+    let count = node_count(usize::from(commands)) as u16;
     let mut ranks = Vec::with_capacity(alloc, count as usize)?;
     for node in 0..count {
         ranks.push(node_line(lines, node)?)?;
@@ -61,15 +63,16 @@ fn ranks(text: &[u8]) -> Option<Option<(u16, u16)>>
 }
 
 /// The ranks that the line gives the node.
-fn node_ranks(text: &[u8], node: u16) -> Option<Option<(u16, u16)>>
-    ensures { MatchOption result ((ranks : Option (ℕ × ℕ)) → AreWithin ranks → text.now ≡ node_text node ranks → ⊥) (λ ranks. AreWithin ranks × (text.now ≡ node_text node ranks)) }
+fn node_ranks(text: &[u8], index: u16) -> Option<Option<(u16, u16)>>
+    ensures { MatchOption result ((ranks : Option (ℕ × ℕ)) → AreWithin ranks → text.now ≡ node_text index ranks → ⊥) (λ ranks. AreWithin ranks × (text.now ≡ node_text index ranks)) }
 {
     let (at, rest) = cut(text, b' ')?;
     let (flag, text) = cut(rest, b' ')?;
-    if number(at, u16::MAX)? != node / 2 {
+    let node = sedck_flow::Node::nth(usize::from(index));
+    if number(at, u16::MAX)? != node.at {
         return None;
     }
-    if number(flag, 1)? != node % 2 {
+    if number(flag, 1)? != u16::from(node.flag) {
         return None;
     }
     ranks(text)

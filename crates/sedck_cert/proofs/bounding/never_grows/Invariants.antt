@@ -1,5 +1,6 @@
 use Rattle.std.proofs.Common.{◌<◌}
-use Rattle.sedck_flow.specs.Flow.{node_index, Flow}
+use Rattle.sedck_flow.specs.Nodes.{node_index}
+use Rattle.sedck_flow.specs.Flow.{Flow}
 use Rattle.sedck_cert.specs.Ranked.{NeverGrows}
 use Rattle.sedck_cert.proofs.bounding.never_grows.Given as goal
 

@@ -1,9 +1,11 @@
-use Rattle.std.proofs.Common.{◌≡◌, ◌⊎◌, inr, ◌+◌, ◌*◌, subst, sym}
+use Rattle.std.proofs.Common.{◌-◌, ◌≡◌, ◌⊎◌, inr, ◌+◌, ◌*◌, subst, sym}
+use Rattle.sedck_flow.specs.Nodes.{node_count}
 use Rattle.sedck_cert.specs.View.{names_of}
 use Rattle.sedck_cert.specs.Faults.{Count, Node, Names, Last, IsFaultOf}
 use Rattle.sedck_cert.specs.declared.reading.names.Files.TheVariants.{Reads, Writes}
 use Rattle.sedck_cert.specs.declared.reading.CertFault.TheVariants.{OutOfMemory}
-use Rattle.sedck_cert.proofs.Leads.{if_err_from, leads_on}
+use Rattle.sedck_script.proofs.Outcomes.{if_err_from}
+use Rattle.sedck_cert.proofs.Leads.{leads_on}
 use Rattle.sedck_cert.proofs.Whole.{fault_later, whole_is, whole_text}
 use Rattle.sedck_cert.proofs.Names.{names-few}
 use Rattle.sedck_cert.specs.Text.{IsTextOf}
@@ -18,7 +20,7 @@ pub returns-in_err-ranks-clause-refused : goal.returns-in_err-ranks-clause-refus
 returns-in_err-ranks-clause-refused c =
     let counted = leads_on _ _ _ _ _ c.in_ok-header.ensures.read c.in_ok-commands.ensures.read.1 in
     if_err_from (λ fault. (fault ≡ OutOfMemory) ⊎ IsFaultOf c.args.text.now fault) c.from_residual-in_err-ranks.result _ c.from_residual-in_err-ranks.ensures.1
-    (fault_later _ c.new-lines.result _ (Node 0 (2 * c.in_ok-commands.commands + 1)) _ c.new-lines.ensures.rest c.new-lines.ensures.number counted c.in_err-ranks.ensures.refused)
+    (fault_later _ c.new-lines.result _ (Node 0 (node_count c.in_ok-commands.commands - 1)) _ c.new-lines.ensures.rest c.new-lines.ensures.number counted c.in_err-ranks.ensures.refused)
 
 pub returns-in_err-reads-clause-refused : goal.returns-in_err-reads-clause-refused
 returns-in_err-reads-clause-refused c =

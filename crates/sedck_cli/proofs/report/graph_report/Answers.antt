@@ -2,6 +2,7 @@ use Rattle.std.proofs.Common.{◌≡◌, ◌+◌, ◌*◌, ◌≤◌, ◌++◌, 
 use Rattle.std.specs.Prelude.{decimal, codes}
 use Rattle.std.proofs.lemmas.List.{length-map}
 use Rattle.sedck_script.specs.View.{command_of}
+use Rattle.sedck_flow.specs.Nodes.{node_count}
 use Rattle.sedck_cert.specs.Text.{line}
 use Rattle.sedck_cli.specs.Reports.{edge_lines}
 use Rattle.sedck_cli.proofs.GraphLines.{one_more, all_nodes}
@@ -13,7 +14,7 @@ loop-index-preserved c = one_more c.args.script.now c.nth.result c.loop-index.in
 pub returns : goal.returns
 returns c =
     let count : length c.commands.result.now ≡ length c.args.script.now.commands = sym (length-map c.commands.result.now command_of) ∙ ap length c.commands.ensures.commands in
-    let end : 2 * (length c.args.script.now.commands + 1) ≤ c.loop-index.index = omega (arith, count, c.loop-index-test.false) in
+    let end : node_count (length c.args.script.now.commands) ≤ c.loop-index.index = omega (arith, count, c.loop-index-test.false) in
     record {
       edges = c.loop-index.invariant.edges;
       lists = all_nodes c.args.script.now c.loop-index.index _ _ end c.loop-index.invariant;

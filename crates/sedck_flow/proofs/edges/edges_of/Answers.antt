@@ -5,14 +5,14 @@ use Rattle.sedck_flow.proofs.EdgesLemmas.{at_command, at_end, has_target, has_re
 use Rattle.sedck_flow.proofs.edges.edges_of.Goals as goal
 use Rattle.sedck_flow.proofs.edges.edges_of.Goals.{in-Some, in-None}
 
-pub command_edges-found-requires-clause-target : goal.command_edges-found-requires-clause-target
-command_edges-found-requires-clause-target c =
+pub command_edges-list-requires-clause-target : goal.command_edges-list-requires-clause-target
+command_edges-list-requires-clause-target c =
     let read = c.in-Some.ensures.lookup in
     has_target c.args.script.now c.commands.ensures.script c.args.node.at (command_of c.in-Some.command.now)
     (read_command c.args.script.now c.commands.result.now c.from.result c.args.node.at c.in-Some.command.now c.commands.ensures.commands c.from.ensures read.3.0 read.1)
 
-pub command_edges-found-requires-clause-replacement : goal.command_edges-found-requires-clause-replacement
-command_edges-found-requires-clause-replacement c =
+pub command_edges-list-requires-clause-replacement : goal.command_edges-list-requires-clause-replacement
+command_edges-list-requires-clause-replacement c =
     let read = c.in-Some.ensures.lookup in
     has_replacement c.args.script.now c.commands.ensures.script c.args.node.at (command_of c.in-Some.command.now)
     (read_command c.args.script.now c.commands.result.now c.from.result c.args.node.at c.in-Some.command.now c.commands.ensures.commands c.from.ensures read.3.0 read.1)
@@ -22,12 +22,12 @@ returns-clause-edges c =
     elim c.match-get.branch [
       | in-Some w ↦
           let read = w.in-Some.ensures.lookup in
-          rw w.found-is
-          (at_command c.args.script.now c.args.node (command_of w.in-Some.command.now) w.command_edges-found.result
-          (read_command c.args.script.now c.commands.result.now c.from.result c.args.node.at w.in-Some.command.now c.commands.ensures.commands c.from.ensures read.3.0 read.1) w.command_edges-found.ensures.edges)
+          rw w.list-is
+          (at_command c.args.script.now c.args.node (command_of w.in-Some.command.now) w.command_edges-list.result
+          (read_command c.args.script.now c.commands.result.now c.from.result c.args.node.at w.in-Some.command.now c.commands.ensures.commands c.from.ensures read.3.0 read.1) w.command_edges-list.ensures.edges)
       | in-None w ↦
           let read = w.in-None.ensures.lookup in
-          rw w.found-is
-          (at_end c.args.script.now c.args.node w.single-found.result (read_none c.args.script.now c.commands.result.now c.from.result c.args.node.at c.commands.ensures.commands c.from.ensures read.3)
-          (omega (arith, read.3, ap length c.commands.ensures.commands, length-map c.commands.result.now command_of)) w.single-found.ensures.edges)
+          rw w.list-is
+          (at_end c.args.script.now c.args.node w.single-list.result (read_none c.args.script.now c.commands.result.now c.from.result c.args.node.at c.commands.ensures.commands c.from.ensures read.3)
+          (omega (arith, read.3, ap length c.commands.ensures.commands, length-map c.commands.result.now command_of)) w.single-list.ensures.edges)
     ]

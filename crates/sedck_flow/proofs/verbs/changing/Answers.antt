@@ -4,7 +4,8 @@ use Rattle.sedck_flow.proofs.verbs.changing.Goals as goal
 
 pub returns-in-Two-clause-edges : goal.returns-in-Two-clause-edges
 returns-in-Two-clause-edges c = λ p text.
-    rw (c.in-Two.is, c.with.ensures.edges, c.next.ensures) (changes_range p c.args.from c.single-begins.result text (place_of c.in-Two.field-0) (place_of c.in-Two.field-1) c.single-begins.ensures.edges)
+    rw c.in-Two.is (changes_range p c.args.from c.single-begins.result c.with.result text (place_of c.in-Two.field-0) (place_of c.in-Two.field-1)
+    c.single-begins.ensures.edges (rw c.next.ensures at c.with.ensures.edges))
 
 pub returns-in-One-clause-edges : goal.returns-in-One-clause-edges
 returns-in-One-clause-edges c = λ p text. rw c.in-One.is c.single-begins.ensures.edges

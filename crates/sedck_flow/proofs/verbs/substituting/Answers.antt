@@ -4,5 +4,6 @@ use Rattle.sedck_flow.proofs.verbs.substituting.Goals as goal
 
 pub returns-clause-edges : goal.returns-clause-edges
 returns-clause-edges c = λ a.
-    rw (c.with.ensures.edges, c.next-unchanged.ensures)
-    (substitutes c.args.script.now a (substitution_of c.args.substitution.now) c.success_kind.result c.args.from c.single.result c.success_kind.ensures (rw c.next-unchanged.ensures at c.single.ensures.edges))
+    substitutes c.args.script.now a (substitution_of c.args.substitution.now) c.success_kind.result c.args.from c.single.result c.with.result
+    c.success_kind.ensures (rw c.next-unchanged.ensures at c.single.ensures.edges)
+    (rw (c.with_flag-made.ensures, c.next-unchanged.ensures) at c.with.ensures.edges)

@@ -5,7 +5,7 @@ use Rattle.sedck_flow.proofs.VerbLemmas.{of_verb, other_verb}
 use Rattle.sedck_flow.proofs.verbs.verb_edges.Goals as goal
 
 pub returns-in-Branch-clause-edges : goal.returns-in-Branch-clause-edges
-returns-in-Branch-clause-edges c = of_verb c.args.script.now (address_of c.args.command.now.address) _ _ _ _ (ap verb_of c.in-Branch.is) c.single.ensures.edges
+returns-in-Branch-clause-edges c = of_verb c.args.script.now (address_of c.args.command.now.address) _ _ _ _ (ap verb_of c.in-Branch.is) (rw c.to.ensures at c.single.ensures.edges)
 
 pub returns-in-Change-clause-edges : goal.returns-in-Change-clause-edges
 returns-in-Change-clause-edges c = of_verb c.args.script.now (address_of c.args.command.now.address) _ _ _ _ (ap verb_of c.in-Change.is) (c.changing.ensures.edges c.args.script.now c.in-Change.field-0.now)

@@ -1,13 +1,11 @@
 use Rattle.std.proofs.Common.{◌≡◌, ℕ, sym, ◌∙◌, subst, arith}
 use Rattle.std.specs.Prelude.{Some, set}
-use Rattle.std.proofs.lemmas.Option.{get_or_from_slice_get}
+use Rattle.std.proofs.lemmas.Option.{get_or_from_slice_get, same_Some}
 use Rattle.sedck_search.specs.Reaching.{ArePartlyCounted}
 use Rattle.sedck_search.proofs.GoneOver.{entry_is, set_same, set_other}
 use Rattle.sedck_search.proofs.Counts.{counted_set}
 use Rattle.sedck_search.proofs.counting.count_at.Goals as goal
 
-some_inj : {x y : ℕ} → Some x ≡ Some y → x ≡ y
-some_inj e = cc
 
 pub returns-then-counts-index-clause-counted : goal.returns-then-counts-index-clause-counted
 returns-then-counts-index-clause-counted c =
@@ -17,7 +15,7 @@ returns-then-counts-index-clause-counted c =
 
 pub returns-then-counts-index-clause-done : goal.returns-then-counts-index-clause-done
 returns-then-counts-index-clause-done c = λ marked.
-    let same : c.count_node.result ≡ 65535 = some_inj (sym (set_same c.args.counts.now c.args.index c.count_node.result (omega (arith, c.requires.counted.long, c.requires.inside))) ∙ marked) in
+    let same : c.count_node.result ≡ 65535 = same_Some _ _ (sym (set_same c.args.counts.now c.args.index c.count_node.result (omega (arith, c.requires.counted.long, c.requires.inside))) ∙ marked) in
     absurd (omega (arith, same, c.count_node.ensures.within))
 
 pub returns-then-counts-index-clause-others : goal.returns-then-counts-index-clause-others

@@ -1,12 +1,12 @@
 use Rattle.std.proofs.Common.{◌≡◌, ◌<◌, ◌≤◌, ◌+◌, ◌⊎◌, ℕ, suc, Bool, List, length, get_or, true, false, refl, sym, ap, ◌∙◌, subst, inl, inr, arith}
 use Rattle.std.proofs.lemmas.Bool.{true≢false}
-use Rattle.sedck_cert.proofs.CheckingLemmas.{flag_below}
+use Rattle.sedck_flow.proofs.NodeLemmas as nodes
 use Rattle.sedck_script.specs.Invariant.{IsScript}
 use Rattle.sedck_script.specs.Program.{Program}
-use Rattle.sedck_flow.specs.Flow.{node_index}
+use Rattle.sedck_flow.specs.Nodes.{node_index}
 use Rattle.sedck_flow.specs.declared.graph.Node.{Node}
 use Rattle.sedck_flow.proofs.Inside.{inside}
-use Rattle.sedck_flow.proofs.FoundLemmas.{node_same}
+use Rattle.sedck_flow.proofs.NodeLemmas.{node_same}
 use Rattle.sedck_search.specs.Rows.{has}
 use Rattle.sedck_search.specs.Reaching.{IsIn, IsOnlyTarget, IsReachCount}
 use Rattle.sedck_search.specs.declared.along.Along.{Along}
@@ -26,7 +26,8 @@ to_below p script along n to o = omega (arith, o.leads, index_below p script o.e
 pub leads_into-requires-clause-inside : goal.leads_into-requires-clause-inside
 leads_into-requires-clause-inside c =
     let o : IsOnlyTarget c.args.script.now c.args.along c.args.node c.in_ok-to.to = c.in_ok-to.ensures in
-    omega (arith, o.leads, to_inside c.args.script.now c.requires.script c.args.along c.args.node c.in_ok-to.to o, flag_below o.edge.to.flag)
+    let p = c.args.script.now in
+    omega (arith, o.leads, nodes.index_below o.edge.to (length p.commands) (to_inside p c.requires.script c.args.along c.args.node c.in_ok-to.to o))
 
 pub offset_bounds-counts-to : goal.offset_bounds-counts-to
 offset_bounds-counts-to c =
@@ -59,9 +60,9 @@ returns c =
     let small : k < 65535 = omega (arith, c.if-count.false, c.type_inv.counts c.in_ok-to.to) in
     let is_count = counted_at p along c.args.counts.now c.requires.counted m m_inside k (entry_is c.args.counts.now m c.in_ok-to.to k (sym o.leads) below refl) positive small in
     let beside = c.leads_into.ensures c.if-not-leads_into.false m o.leads in
-    let outside : has row (node_index n) ≡ false = ap (has row) (sym c.index_of-else-to-index_of.ensures) ∙ sym c.has.ensures.value ∙ c.if-has.false in
+    let outside : has row (node_index n) ≡ false = ap (has row) (sym c.index-else-to-index.ensures) ∙ sym c.has.ensures.value ∙ c.if-has.false in
     let one = single_count p along beside.wider beside.closed n m beside.has_node
-    (apart beside.wider row n m beside.no_other outside (λ same. c.if-to-index_of.false (sym o.leads ∙ ap node_index (sym same) ∙ sym c.index_of.ensures)) (has beside.wider (node_index n)) refl) (index_below p c.requires.script n c.requires.inside)
+    (apart beside.wider row n m beside.no_other outside (λ same. c.if-to-index.false (sym o.leads ∙ ap node_index (sym same) ∙ sym c.index.ensures)) (has beside.wider (node_index n)) refl) (index_below p c.requires.script n c.requires.inside)
     (reaches_from p along n o.edge (o.followed.0, o.leaves) o.followed.1) (λ e followed leaves. node_same e.to m (o.only e followed leaves ∙ sym o.leads)) k is_count in
     let next : suc k ≡ k + 1 = omega arith in
     (subst (IsReachCount p along n) next one, omega arith, omega (arith, count_within one.row one.reach.is_row, one.counts))

@@ -1,6 +1,6 @@
 use Rattle.std.proofs.Common.{◌≤◌, sym, ap, ◌∙◌, subst, inl, inr, arith}
 use Rattle.std.proofs.lemmas.Bool.{true≢false}
-use Rattle.sedck_flow.specs.Flow.{node_index}
+use Rattle.sedck_flow.specs.Nodes.{node_index}
 use Rattle.sedck_flow.specs.declared.graph.Node.{Node}
 use Rattle.sedck_search.specs.declared.counting.Last.{Last}
 use Rattle.sedck_search.specs.Rows.{has}
@@ -33,7 +33,7 @@ after c = elim c.if-not-has.branch [
     λ m x. elim (w.spread.ensures.grown.reached m x) [ inl old ↦ (before c).1 m old | inr reaches ↦ reaches ],
   )
   | else-not-has w ↦ subst (λ (l : Last). IsLast c.args.script.now c.args.along l.row l.count × IsIn l.row c.args.node × ((m : Node) → IsIn l.row m → Reaches c.args.script.now c.args.along c.args.node m)) (sym w.last-is)
-      ((before c).0, ap (has c.if-not-goes_on.last.row) (sym c.index_of.ensures) ∙ sym c.has.ensures.value ∙ w.if-not-has.false, (before c).1)
+      ((before c).0, ap (has c.if-not-goes_on.last.row) (sym c.index.ensures) ∙ sym c.has.ensures.value ∙ w.if-not-has.false, (before c).1)
 ]
 
 pub returns-clause-count : goal.returns-clause-count

@@ -1,7 +1,7 @@
 use Rattle.std.proofs.Common.{◌≡◌, ◌<◌, sym, ap, ◌∙◌, arith}
-use Rattle.sedck_flow.specs.Flow.{node_index}
+use Rattle.sedck_flow.specs.Nodes.{node_index}
 use Rattle.sedck_flow.proofs.Inside.{inside}
-use Rattle.sedck_flow.proofs.FoundLemmas.{node_same}
+use Rattle.sedck_flow.proofs.NodeLemmas.{node_same}
 use Rattle.sedck_search.specs.Rows.{has}
 use Rattle.sedck_search.specs.Reaching.{IsOnlyTarget}
 use Rattle.sedck_search.proofs.Paths.{index_below}

@@ -4,7 +4,7 @@ use Rattle.std.proofs.lemmas.Bool.{true≢false}
 use Rattle.std.proofs.lemmas.List.{length-map}
 use Rattle.sedck_script.specs.Program.{Program}
 use Rattle.sedck_script.specs.View.{command_of}
-use Rattle.sedck_flow.specs.Flow.{start, node_index}
+use Rattle.sedck_flow.specs.Nodes.{start, node_index, node_count}
 use Rattle.sedck_flow.specs.declared.graph.Node.{Node}
 use Rattle.sedck_search.specs.declared.along.Along.{Along}
 use Rattle.sedck_search.specs.declared.along.Along.TheVariants.{Every}
@@ -17,7 +17,7 @@ use Rattle.sedck_search.proofs.GoneOver.{place_in}
 use Rattle.sedck_search.proofs.counting.mark_reached.Goals as goal
 
 -- a node is marked exactly where it is reached
-module _ (p : Program) (none row marks : List ℕ) (empty : IsEmpty none) (closed : IsClosed p Every row) (grown : HasGrown p Every start none row) (long : length marks ≡ 2 * (length p.commands + 1))
+module _ (p : Program) (none row marks : List ℕ) (empty : IsEmpty none) (closed : IsClosed p Every row) (grown : HasGrown p Every start none row) (long : length marks ≡ node_count (length p.commands))
     (entries : (i : ℕ) → i < length marks → slice_get marks i ≡ Some (if has row i then 65535 else 0)) where
   marked : (along : Along) → ArePartlyCounted p along marks
   marked along = record { long = long; each = λ n inside. by_bit n inside (has row (node_index n)) refl }
@@ -36,5 +36,5 @@ pub returns-clause-marks : goal.returns-clause-marks
 returns-clause-marks c =
     let count : length c.commands.result.now ≡ length c.args.script.now.commands = sym (length-map c.commands.result.now command_of) ∙ ap length c.commands.ensures.commands in
     let inv = c.loop-index.invariant in
-    let end : c.loop-index.index ≡ 2 * (length c.args.script.now.commands + 1) = omega (arith, count, c.loop-index-test.false, c.loop-index.auto.index-end) in
+    let end : c.loop-index.index ≡ node_count (length c.args.script.now.commands) = omega (arith, count, c.loop-index-test.false, c.loop-index.auto.index-end) in
     marked c.args.script.now c.new-row.result c.spread.new.row c.loop-index.marks.items c.new-row.ensures.nodes c.spread.ensures.closed c.spread.ensures.grown (inv.long ∙ end) (λ i below. inv.entries i (omega (arith, below, inv.long)))

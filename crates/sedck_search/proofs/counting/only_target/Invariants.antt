@@ -1,6 +1,6 @@
 use Rattle.std.proofs.Common.{◌≡◌, ℕ}
 use Rattle.std.specs.Prelude.{Some}
-use Rattle.sedck_flow.specs.Flow.{node_index}
+use Rattle.sedck_flow.specs.Nodes.{node_index}
 use Rattle.sedck_flow.specs.declared.graph.Edge.{Edge}
 use Rattle.sedck_search.specs.Reaching.{IsFollowed, FollowedEdge}
 use Rattle.sedck_search.proofs.GoneOver.{AreGoneOver}

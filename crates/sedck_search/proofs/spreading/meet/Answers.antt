@@ -1,5 +1,5 @@
 use Rattle.std.proofs.Common.{◌≡◌, true, sym, ap, ◌∙◌, subst, arith}
-use Rattle.sedck_flow.specs.Flow.{node_index}
+use Rattle.sedck_flow.specs.Nodes.{node_index}
 use Rattle.sedck_search.specs.Rows.{has, HasChanged}
 use Rattle.sedck_search.proofs.Meeting.{met_new, frontier_new}
 use Rattle.sedck_search.proofs.spreading.meet.Goals as goal
@@ -7,7 +7,7 @@ use Rattle.sedck_search.proofs.spreading.meet.Goals as goal
 -- the node wasn't in the row, and is put into both
 pub returns-clause-spread : goal.returns-clause-spread
 returns-clause-spread c =
-    let is : c.index_of-index.result ≡ node_index c.args.node = c.index_of-index.ensures in
+    let is : c.index-index.result ≡ node_index c.args.node = c.index-index.ensures in
     met_new c.args.node c.args.row.now c.args.waiting.now c.insert.new.self c.insert-2.new.self c.requires.frontier c.insert.ensures.row c.insert-2.ensures.row
     (ap (has c.args.row.now) (sym is) ∙ sym c.if-has.ensures.value)
     (subst (λ i. HasChanged c.args.row.now c.insert.new.self i true) is c.insert.ensures.changed)
@@ -16,7 +16,7 @@ returns-clause-spread c =
 
 pub returns-clause-frontier : goal.returns-clause-frontier
 returns-clause-frontier c =
-    let is : c.index_of-index.result ≡ node_index c.args.node = c.index_of-index.ensures in
+    let is : c.index-index.result ≡ node_index c.args.node = c.index-index.ensures in
     frontier_new c.args.node c.args.row.now c.args.waiting.now c.insert.new.self c.insert-2.new.self c.requires.frontier c.insert.ensures.row c.insert-2.ensures.row
     (ap (has c.args.row.now) (sym is) ∙ sym c.if-has.ensures.value)
     (subst (λ i. HasChanged c.args.row.now c.insert.new.self i true) is c.insert.ensures.changed)

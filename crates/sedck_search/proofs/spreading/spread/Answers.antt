@@ -1,5 +1,5 @@
 use Rattle.std.proofs.Common.{◌≡◌, false, sym, ap, ◌∙◌, subst, arith}
-use Rattle.sedck_flow.specs.Flow.{node_index}
+use Rattle.sedck_flow.specs.Nodes.{node_index}
 use Rattle.sedck_search.specs.Rows.{has, HasChanged}
 use Rattle.sedck_search.specs.Spreading.{HasMet, IsFollowedFrom}
 use Rattle.sedck_search.specs.Reaching.{IsIn}
@@ -20,7 +20,7 @@ meet-first-requires-clause-frontier c = record {
 
 pub loop-index-init : goal.loop-index-init
 loop-index-init c =
-    spreading_begins c.args.script.now c.args.along c.args.node c.args.row.now c.meet-first.new.row c.new-waiting.result c.meet-first.new.waiting c.index_of.result c.meet-first.result
+    spreading_begins c.args.script.now c.args.along c.args.node c.args.row.now c.meet-first.new.row c.new-waiting.result c.meet-first.new.waiting c.index.result c.meet-first.result
     c.requires.closed c.new-waiting.ensures.nodes c.meet-first.ensures.frontier c.meet-first.ensures.spread c.meet-first.ensures.met
 
 -- the node that is looked at waited

@@ -2,11 +2,11 @@ use Rattle.std.proofs.Common.{◌≡◌, ◌<◌, ℕ, List, Option, Some, None,
 use Rattle.std.specs.Prelude.{MatchOption, is_some, ◌≢◌}
 use Rattle.std.proofs.lemmas.Bool.{cases_lt}
 use Rattle.sedck_script.specs.Program.{Program}
-use Rattle.sedck_flow.specs.Flow.{node_index}
+use Rattle.sedck_flow.specs.Nodes.{node_index}
 use Rattle.sedck_flow.specs.declared.graph.Node.{Node}
 use Rattle.sedck_flow.specs.declared.graph.Edge.{Edge}
 use Rattle.sedck_flow.specs.declared.graph.Kind.{Kind}
-use Rattle.sedck_flow.proofs.FoundLemmas.{node_same}
+use Rattle.sedck_flow.proofs.NodeLemmas.{node_same}
 use Rattle.sedck_cert.proofs.CheckingLemmas.{leaves_below}
 use Rattle.sedck_search.specs.Closing.{Closes, IsFirstClosing}
 use Rattle.sedck_search.proofs.walking.first_closing.Goals as goal

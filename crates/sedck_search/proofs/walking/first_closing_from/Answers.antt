@@ -1,44 +1,42 @@
 use Rattle.std.proofs.Common.{◌≡◌, ◌<◌, ℕ, length, get_or, refl, sym, ap, ◌∙◌, arith}
 use Rattle.std.specs.Prelude.{Some}
 use Rattle.std.proofs.lemmas.Bool.{true≢false}
-use Rattle.sedck_flow.specs.Flow.{node_index}
+use Rattle.sedck_flow.specs.Nodes.{node_index}
 use Rattle.sedck_search.proofs.GoneOver.{gone_next, gone_over_more, gone_end, edge_coming, target_coming, place_in, entry_is, entry_of}
-use Rattle.sedck_search.proofs.walking.first_closing_from.Goals.{else-is_of-via-then-is_of+else-counts-index_of, else-is_of-via-else-is_of}
+use Rattle.sedck_search.proofs.walking.first_closing_from.Goals.{else-is_of-via-then-is_of+else-counts-index, else-is_of-via-else-is_of}
 use Rattle.sedck_search.proofs.walking.first_closing_from.Goals as goal
 
-some_inj : {x y : ℕ} → Some x ≡ Some y → x ≡ y
-some_inj e = cc
 
-pub bounds-counts-index_of-then-is_of : goal.bounds-counts-index_of-then-is_of
-bounds-counts-index_of-then-is_of c =
+pub bounds-counts-index-then-is_of : goal.bounds-counts-index-then-is_of
+bounds-counts-index-then-is_of c =
     let p = c.args.script.now in
     let gone = gone_next p c.args.node c.loop-edge.yielded c.loop-edge.edge-iterator c.next.new.self c.in-Some.edge c.in-Some.ensures.steps c.loop-edge.invariant in
-    omega (arith, c.index_of-then-is_of.ensures, place_in p c.args.counts.now c.requires.long c.in-Some.edge.to (target_coming p c.args.node c.requires.script c.loop-edge.yielded c.next.new.self c.in-Some.edge gone))
+    omega (arith, c.index-then-is_of.ensures, place_in p c.args.counts.now c.requires.long c.in-Some.edge.to (target_coming p c.args.node c.requires.script c.loop-edge.yielded c.next.new.self c.in-Some.edge gone))
 
 -- a node without a count closes nothing
 pub returns-then-count-eq0 : goal.returns-then-count-eq0
 returns-then-count-eq0 c = λ e closes leaves.
-    let zero : closes.count ≡ 0 = sym (entry_of c.args.counts.now e.from c.index_of.result closes.count (c.index_of.ensures ∙ ap node_index (sym leaves)) closes.before) ∙ c.if-count-eq0.true in
+    let zero : closes.count ≡ 0 = sym (entry_of c.args.counts.now e.from c.index.result closes.count (c.index.ensures ∙ ap node_index (sym leaves)) closes.before) ∙ c.if-count-eq0.true in
     omega (arith, closes.positive, zero)
 
 -- both ends have one count
-pub returns-then-counts-index_of : goal.returns-then-counts-index_of
-returns-then-counts-index_of c =
+pub returns-then-counts-index : goal.returns-then-counts-index
+returns-then-counts-index c =
     let p = c.args.script.now in
     let counts = c.args.counts.now in
     let e = c.in-Some.edge in
     let gone = gone_next p c.args.node c.loop-edge.yielded c.loop-edge.edge-iterator c.next.new.self e c.in-Some.ensures.steps c.loop-edge.invariant in
     let flow = edge_coming p c.args.node c.loop-edge.yielded c.next.new.self e gone in
-    let count : ℕ = get_or counts c.index_of.result 0 in
-    let from_below : c.index_of.result < length counts = omega (arith, c.index_of.ensures, place_in p counts c.requires.long c.args.node c.requires.inside) in
-    let to_below : c.index_of-then-is_of.result < length counts = omega (arith, c.index_of-then-is_of.ensures, place_in p counts c.requires.long e.to (target_coming p c.args.node c.requires.script c.loop-edge.yielded c.next.new.self e gone)) in (
+    let count : ℕ = get_or counts c.index.result 0 in
+    let from_below : c.index.result < length counts = omega (arith, c.index.ensures, place_in p counts c.requires.long c.args.node c.requires.inside) in
+    let to_below : c.index-then-is_of.result < length counts = omega (arith, c.index-then-is_of.ensures, place_in p counts c.requires.long e.to (target_coming p c.args.node c.requires.script c.loop-edge.yielded c.next.new.self e gone)) in (
       record {
         is_edge = flow.0;
         is_kind = c.is_of.ensures.0 c.if-is_of.true;
         count = count;
         positive = omega (arith, c.if-count-eq0.false);
-        before = entry_is counts e.from c.index_of.result count (c.index_of.ensures ∙ ap node_index (sym flow.1)) from_below refl;
-        after = entry_is counts e.to c.index_of-then-is_of.result count c.index_of-then-is_of.ensures to_below c.if-counts-index_of.true;
+        before = entry_is counts e.from c.index.result count (c.index.ensures ∙ ap node_index (sym flow.1)) from_below refl;
+        after = entry_is counts e.to c.index-then-is_of.result count c.index-then-is_of.ensures to_below c.if-counts-index.true;
       },
       flow.1,
     )
@@ -52,9 +50,9 @@ loop-edge-preserved c =
     let gone = gone_next p c.args.node c.loop-edge.yielded c.loop-edge.edge-iterator c.next.new.self e c.in-Some.ensures.steps c.loop-edge.invariant in
     let flow = edge_coming p c.args.node c.loop-edge.yielded c.next.new.self e gone in
     gone_over_more p c.args.node c.loop-edge.yielded c.next.new.self e gone (λ f h. h) (λ closes. elim c.else-is_of.branch [
-      | else-is_of-via-then-is_of+else-counts-index_of w ↦ w.if-counts-index_of.false
-          (entry_of counts e.to w.index_of-then-is_of.result closes.count w.index_of-then-is_of.ensures closes.after
-          ∙ sym (entry_of counts e.from c.index_of.result closes.count (c.index_of.ensures ∙ ap node_index (sym flow.1)) closes.before))
+      | else-is_of-via-then-is_of+else-counts-index w ↦ w.if-counts-index.false
+          (entry_of counts e.to w.index-then-is_of.result closes.count w.index-then-is_of.ensures closes.after
+          ∙ sym (entry_of counts e.from c.index.result closes.count (c.index.ensures ∙ ap node_index (sym flow.1)) closes.before))
       | else-is_of-via-else-is_of w ↦ absurd (true≢false (sym (c.is_of.ensures.1 closes.is_kind) ∙ w.if-is_of.false))
     ])
 

@@ -14,7 +14,7 @@ loop-step-init c =
     let ways = c.in_ok-ways.ways.items in
     let first : Edge = c.nearest-first.result in
     let near = subst (λ w. IsNearest p w c.args.closing first) c.deref.ensures.value c.nearest-first.ensures in
-    let way : c.index-way.result.now ≡ near.way = c.index-way.ensures ∙ get_or_from_slice_get ways c.index_of.result near.way c.index-way.result.now (ap (slice_get ways) c.index_of.ensures ∙ near.has_way) in
+    let way : c.index-way.result.now ≡ near.way = c.index-way.ensures ∙ get_or_from_slice_get ways c.index.result near.way c.index-way.result.now (ap (slice_get ways) c.index.ensures ∙ near.has_way) in
     let nodes : c.push-2.new.self.items ≡ first.from ∷ first.to ∷ [] = c.in_ok-push-2.ensures.items ∙ ap (λ l. l ++ first.to ∷ []) (c.in_ok-push.ensures.items ∙ ap (λ l. l ++ first.from ∷ []) c.new-nodes.ensures.items) in
     let kinds : c.push-3.new.self.items ≡ first.kind ∷ [] = c.in_ok-push-3.ensures.items ∙ ap (λ l. l ++ first.kind ∷ []) c.new-kinds.ensures.items in
     record {

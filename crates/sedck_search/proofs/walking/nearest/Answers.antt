@@ -2,13 +2,14 @@ use Rattle.std.proofs.Common.{◌≡◌, ◌<◌, ◌*◌, ◌+◌, ℕ, List, l
 use Rattle.std.proofs.lemmas.Bool.{true≢false}
 use Rattle.sedck_script.specs.Invariant.{IsScript}
 use Rattle.sedck_script.specs.Program.{Program}
-use Rattle.sedck_flow.specs.Flow.{node_index, Flow, FlowFrom, ListsEdges}
+use Rattle.sedck_flow.specs.Nodes.{node_index, node_count}
+use Rattle.sedck_flow.specs.Flow.{Flow, FlowFrom, ListsEdges}
 use Rattle.sedck_flow.specs.declared.graph.Edge.{Edge}
 use Rattle.sedck_flow.proofs.Inside.{inside}
 use Rattle.sedck_search.proofs.Paths.{index_below}
 use Rattle.sedck_search.proofs.WayLemmas.{way_at}
 use Rattle.sedck_search.proofs.GoneOver.{gone_over_none, gone_next, gone_over_more, gone_end, edge_coming, target_coming, place_in, entry_is, entry_of}
-use Rattle.sedck_search.proofs.walking.nearest.Goals.{else-is_of-via-then-is_of+else-ways-index_of, else-is_of-via-else-is_of}
+use Rattle.sedck_search.proofs.walking.nearest.Goals.{else-is_of-via-then-is_of+else-ways-index, else-is_of-via-else-is_of}
 use Rattle.sedck_search.proofs.walking.nearest.Goals as goal
 
 pub edges_of-edge-items-requires : goal.edges_of-edge-items-requires
@@ -26,29 +27,29 @@ loop-edge-init c =
       edges = gone_over_none c.args.script.now c.args.closing.from c.into_iter-edge-iterator.result (subst (λ edges. ListsEdges edges (FlowFrom c.args.script.now c.args.closing.from)) (sym c.into_iter-edge-iterator.ensures.into_iter_gives) c.edges_of-edge-items.ensures.edges);
     }
 
-pub bounds-ways-index_of : goal.bounds-ways-index_of
-bounds-ways-index_of c =
+pub bounds-ways-index : goal.bounds-ways-index
+bounds-ways-index c =
     let p = c.args.script.now in
     let from = c.args.closing.from in
     let gone = gone_next p from c.loop-edge.yielded c.loop-edge.edge-iterator c.next.new.self c.in-Some.edge c.in-Some.ensures.steps c.loop-edge.invariant.edges in
-    omega (arith, c.index_of.ensures, place_in p c.args.ways.now c.requires.long c.in-Some.edge.to (target_coming p from c.requires.script c.loop-edge.yielded c.next.new.self c.in-Some.edge gone))
+    omega (arith, c.index.ensures, place_in p c.args.ways.now c.requires.long c.in-Some.edge.to (target_coming p from c.requires.script c.loop-edge.yielded c.next.new.self c.in-Some.edge gone))
 
 -- the nearest so far leads to a node of the script
-nearest_place : (p : Program) → IsScript p → (ways : List ℕ) → length ways ≡ 2 * (length p.commands + 1) → (e : Edge) → Flow p e → (i : ℕ) → i ≡ node_index e.to → i < length ways
+nearest_place : (p : Program) → IsScript p → (ways : List ℕ) → length ways ≡ node_count (length p.commands) → (e : Edge) → Flow p e → (i : ℕ) → i ≡ node_index e.to → i < length ways
 nearest_place p script ways long e flow i is = omega (arith, is, place_in p ways long e.to (inside p script.targets e flow).1)
 
-pub offset_bounds-ways-index_of-then-is_of : goal.offset_bounds-ways-index_of-then-is_of
-offset_bounds-ways-index_of-then-is_of c =
-    let small : c.index_of-then-is_of.result < 8192 = omega (arith, c.index_of-then-is_of.ensures, index_below c.args.script.now c.requires.script c.loop-edge.nearest.to (inside c.args.script.now c.requires.script.targets c.loop-edge.nearest c.loop-edge.invariant.is_edge).1) in
+pub offset_bounds-ways-index-then-is_of : goal.offset_bounds-ways-index-then-is_of
+offset_bounds-ways-index-then-is_of c =
+    let small : c.index-then-is_of.result < 8192 = omega (arith, c.index-then-is_of.ensures, index_below c.args.script.now c.requires.script c.loop-edge.nearest.to (inside c.args.script.now c.requires.script.targets c.loop-edge.nearest c.loop-edge.invariant.is_edge).1) in
     omega (arith, small)
 
-pub bounds-ways-index_of-then-is_of : goal.bounds-ways-index_of-then-is_of
-bounds-ways-index_of-then-is_of c =
-    nearest_place c.args.script.now c.requires.script c.args.ways.now c.requires.long c.loop-edge.nearest c.loop-edge.invariant.is_edge c.index_of-then-is_of.result c.index_of-then-is_of.ensures
+pub bounds-ways-index-then-is_of : goal.bounds-ways-index-then-is_of
+bounds-ways-index-then-is_of c =
+    nearest_place c.args.script.now c.requires.script c.args.ways.now c.requires.long c.loop-edge.nearest c.loop-edge.invariant.is_edge c.index-then-is_of.result c.index-then-is_of.ensures
 
 -- this edge is nearer
-pub loop-edge-preserved-then-ways-index_of : goal.loop-edge-preserved-then-ways-index_of
-loop-edge-preserved-then-ways-index_of c =
+pub loop-edge-preserved-then-ways-index : goal.loop-edge-preserved-then-ways-index
+loop-edge-preserved-then-ways-index c =
     let p = c.args.script.now in
     let ways = c.args.ways.now in
     let from = c.args.closing.from in
@@ -56,18 +57,18 @@ loop-edge-preserved-then-ways-index_of c =
     let inv = c.loop-edge.invariant in
     let gone = gone_next p from c.loop-edge.yielded c.loop-edge.edge-iterator c.next.new.self e c.in-Some.ensures.steps inv.edges in
     let flow = edge_coming p from c.loop-edge.yielded c.next.new.self e gone in
-    let way : ℕ = get_or ways c.index_of.result 0 in
-    let below : c.index_of.result < length ways = omega (arith, c.index_of.ensures, place_in p ways c.requires.long e.to (target_coming p from c.requires.script c.loop-edge.yielded c.next.new.self e gone)) in
-    let less : way < inv.way = omega (arith, c.if-ways-index_of.true, entry_of ways c.loop-edge.nearest.to c.index_of-then-is_of.result inv.way c.index_of-then-is_of.ensures inv.has_way) in
+    let way : ℕ = get_or ways c.index.result 0 in
+    let below : c.index.result < length ways = omega (arith, c.index.ensures, place_in p ways c.requires.long e.to (target_coming p from c.requires.script c.loop-edge.yielded c.next.new.self e gone)) in
+    let less : way < inv.way = omega (arith, c.if-ways-index.true, entry_of ways c.loop-edge.nearest.to c.index-then-is_of.result inv.way c.index-then-is_of.ensures inv.has_way) in
     record {
       is_edge = flow.0;
       is_kind = c.is_of.ensures.0 c.if-is_of.true;
       leaves = flow.1;
       way = way;
-      has_way = entry_is ways e.to c.index_of.result way c.index_of.ensures below refl;
+      has_way = entry_is ways e.to c.index.result way c.index.ensures below refl;
       edges = gone_over_more p from c.loop-edge.yielded c.next.new.self e gone
           (λ f held kind other has. omega (arith, less, held kind other has))
-          (λ kind other has. omega (arith, entry_of ways e.to c.index_of.result other c.index_of.ensures has));
+          (λ kind other has. omega (arith, entry_of ways e.to c.index.result other c.index.ensures has));
     }
 
 -- this one isn't
@@ -86,8 +87,8 @@ loop-edge-preserved c =
       way = inv.way;
       has_way = inv.has_way;
       edges = gone_over_more p from c.loop-edge.yielded c.next.new.self e gone (λ f held. held) (λ kind other has. elim c.else-is_of.branch [
-        | else-is_of-via-then-is_of+else-ways-index_of w ↦
-            omega (arith, w.if-ways-index_of.false, entry_of ways e.to w.index_of.result other w.index_of.ensures has, entry_of ways c.loop-edge.nearest.to w.index_of-then-is_of.result inv.way w.index_of-then-is_of.ensures inv.has_way)
+        | else-is_of-via-then-is_of+else-ways-index w ↦
+            omega (arith, w.if-ways-index.false, entry_of ways e.to w.index.result other w.index.ensures has, entry_of ways c.loop-edge.nearest.to w.index-then-is_of.result inv.way w.index-then-is_of.ensures inv.has_way)
         | else-is_of-via-else-is_of w ↦ absurd (true≢false (sym (c.is_of.ensures.1 kind) ∙ w.if-is_of.false))
       ]);
     }

@@ -1,33 +1,33 @@
 use Rattle.std.proofs.Common.{◌<◌, length, sym, ◌∙◌, arith}
 use Rattle.std.proofs.lemmas.Bool.{true≢false}
 use Rattle.sedck_search.proofs.GoneOver.{gone_next, gone_over_more, gone_end, edge_coming, target_coming, place_in, entry_is, entry_of}
-use Rattle.sedck_search.proofs.ways.edge_on.Goals.{else-follows-via-then-follows+else-ways-index_of, else-follows-via-else-follows}
+use Rattle.sedck_search.proofs.ways.edge_on.Goals.{else-follows-via-then-follows+else-ways-index, else-follows-via-else-follows}
 use Rattle.sedck_search.proofs.ways.edge_on.Goals as goal
 
-pub bounds-ways-index_of : goal.bounds-ways-index_of
-bounds-ways-index_of c =
+pub bounds-ways-index : goal.bounds-ways-index
+bounds-ways-index c =
     let p = c.args.script.now in
     let gone = gone_next p c.args.node c.loop-edge.yielded c.loop-edge.edge-iterator c.next.new.self c.in-Some.edge c.in-Some.ensures.steps c.loop-edge.invariant in
-    omega (arith, c.index_of.ensures, place_in p c.args.ways.now c.requires.long c.in-Some.edge.to (target_coming p c.args.node c.requires.script c.loop-edge.yielded c.next.new.self c.in-Some.edge gone))
+    omega (arith, c.index.ensures, place_in p c.args.ways.now c.requires.long c.in-Some.edge.to (target_coming p c.args.node c.requires.script c.loop-edge.yielded c.next.new.self c.in-Some.edge gone))
 
-pub returns-then-ways-index_of-clause-followed : goal.returns-then-ways-index_of-clause-followed
-returns-then-ways-index_of-clause-followed c =
+pub returns-then-ways-index-clause-followed : goal.returns-then-ways-index-clause-followed
+returns-then-ways-index-clause-followed c =
     let p = c.args.script.now in
     let gone = gone_next p c.args.node c.loop-edge.yielded c.loop-edge.edge-iterator c.next.new.self c.in-Some.edge c.in-Some.ensures.steps c.loop-edge.invariant in
     ((edge_coming p c.args.node c.loop-edge.yielded c.next.new.self c.in-Some.edge gone).0, c.follows.ensures.0 c.if-follows.true)
 
-pub returns-then-ways-index_of-clause-leaves : goal.returns-then-ways-index_of-clause-leaves
-returns-then-ways-index_of-clause-leaves c =
+pub returns-then-ways-index-clause-leaves : goal.returns-then-ways-index-clause-leaves
+returns-then-ways-index-clause-leaves c =
     let p = c.args.script.now in
     let gone = gone_next p c.args.node c.loop-edge.yielded c.loop-edge.edge-iterator c.next.new.self c.in-Some.edge c.in-Some.ensures.steps c.loop-edge.invariant in
     (edge_coming p c.args.node c.loop-edge.yielded c.next.new.self c.in-Some.edge gone).1
 
-pub returns-then-ways-index_of-clause-way : goal.returns-then-ways-index_of-clause-way
-returns-then-ways-index_of-clause-way c =
+pub returns-then-ways-index-clause-way : goal.returns-then-ways-index-clause-way
+returns-then-ways-index-clause-way c =
     let p = c.args.script.now in
     let gone = gone_next p c.args.node c.loop-edge.yielded c.loop-edge.edge-iterator c.next.new.self c.in-Some.edge c.in-Some.ensures.steps c.loop-edge.invariant in
-    let below : c.index_of.result < length c.args.ways.now = omega (arith, c.index_of.ensures, place_in p c.args.ways.now c.requires.long c.in-Some.edge.to (target_coming p c.args.node c.requires.script c.loop-edge.yielded c.next.new.self c.in-Some.edge gone)) in
-    entry_is c.args.ways.now c.in-Some.edge.to c.index_of.result c.args.way c.index_of.ensures below c.if-ways-index_of.true
+    let below : c.index.result < length c.args.ways.now = omega (arith, c.index.ensures, place_in p c.args.ways.now c.requires.long c.in-Some.edge.to (target_coming p c.args.node c.requires.script c.loop-edge.yielded c.next.new.self c.in-Some.edge gone)) in
+    entry_is c.args.ways.now c.in-Some.edge.to c.index.result c.args.way c.index.ensures below c.if-ways-index.true
 
 -- this edge isn't such a one
 pub loop-edge-preserved : goal.loop-edge-preserved
@@ -35,7 +35,7 @@ loop-edge-preserved c =
     let p = c.args.script.now in
     let gone = gone_next p c.args.node c.loop-edge.yielded c.loop-edge.edge-iterator c.next.new.self c.in-Some.edge c.in-Some.ensures.steps c.loop-edge.invariant in
     gone_over_more p c.args.node c.loop-edge.yielded c.next.new.self c.in-Some.edge gone (λ f h. h) (λ followed has. elim c.else-follows.branch [
-      | else-follows-via-then-follows+else-ways-index_of w ↦ w.if-ways-index_of.false (entry_of c.args.ways.now c.in-Some.edge.to w.index_of.result c.args.way w.index_of.ensures has)
+      | else-follows-via-then-follows+else-ways-index w ↦ w.if-ways-index.false (entry_of c.args.ways.now c.in-Some.edge.to w.index.result c.args.way w.index.ensures has)
       | else-follows-via-else-follows w ↦ absurd (true≢false (sym (c.follows.ensures.1 followed) ∙ w.if-follows.false))
     ])
 

@@ -1,5 +1,5 @@
 use Rattle.std.proofs.Common.{◌≡◌, ◌+◌, ◌<◌, ◌≤◌, true, false, length}
-use Rattle.sedck_flow.specs.Flow.{node_index}
+use Rattle.sedck_flow.specs.Nodes.{node_index}
 use Rattle.sedck_flow.specs.declared.graph.Node.{Node}
 use Rattle.sedck_search.specs.Ways.{AreSomeWays, IsSettled, total}
 use Rattle.sedck_search.proofs.ways.shorten_all.Given as goal

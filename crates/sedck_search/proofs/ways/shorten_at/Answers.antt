@@ -1,6 +1,6 @@
 use Rattle.std.proofs.Common.{◌≡◌, ◌<◌, ◌≤◌, ℕ, suc, length, get_or, refl, sym, ◌∙◌, subst, arith}
 use Rattle.std.specs.Prelude.{set}
-use Rattle.sedck_flow.proofs.FoundLemmas.{node_same}
+use Rattle.sedck_flow.proofs.NodeLemmas.{node_same}
 use Rattle.sedck_search.specs.Ways.{AreSomeWays}
 use Rattle.sedck_search.proofs.GoneOver.{entry_is, entry_of}
 use Rattle.sedck_search.proofs.WayLemmas.{ways_set}

@@ -4,11 +4,11 @@ use Rattle.sedck_search.specs.Ways.{HasWay}
 use Rattle.sedck_search.proofs.GoneOver.{gone_next, gone_over_more, edge_coming, target_coming, place_in, entry_is, entry_of}
 use Rattle.sedck_search.proofs.ways.way_on.Goals as goal
 
-pub bounds-ways-index_of : goal.bounds-ways-index_of
-bounds-ways-index_of c =
+pub bounds-ways-index : goal.bounds-ways-index
+bounds-ways-index c =
     let p = c.args.script.now in
     let gone = gone_next p c.args.node c.loop-edge.yielded c.loop-edge.edge-iterator c.next.new.self c.in-Some.edge c.in-Some.ensures.steps c.loop-edge.invariant.edges in
-    omega (arith, c.index_of.ensures, place_in p c.args.ways.now c.requires.long c.in-Some.edge.to (target_coming p c.args.node c.requires.script c.loop-edge.yielded c.next.new.self c.in-Some.edge gone))
+    omega (arith, c.index.ensures, place_in p c.args.ways.now c.requires.long c.in-Some.edge.to (target_coming p c.args.node c.requires.script c.loop-edge.yielded c.next.new.self c.in-Some.edge gone))
 
 pub loop-edge-preserved-then-follows : goal.loop-edge-preserved-then-follows
 loop-edge-preserved-then-follows c =
@@ -17,15 +17,15 @@ loop-edge-preserved-then-follows c =
     let ways = c.args.ways.now in
     let gone = gone_next p c.args.node c.loop-edge.yielded c.loop-edge.edge-iterator c.next.new.self e c.in-Some.ensures.steps c.loop-edge.invariant.edges in
     let flow = edge_coming p c.args.node c.loop-edge.yielded c.next.new.self e gone in
-    let below : c.index_of.result < length ways = omega (arith, c.index_of.ensures, place_in p ways c.requires.long e.to (target_coming p c.args.node c.requires.script c.loop-edge.yielded c.next.new.self e gone)) in
-    let way : ℕ = get_or ways c.index_of.result 0 in
-    let has : HasWay ways e.to way = entry_is ways e.to c.index_of.result way c.index_of.ensures below refl in
+    let below : c.index.result < length ways = omega (arith, c.index.ensures, place_in p ways c.requires.long e.to (target_coming p c.args.node c.requires.script c.loop-edge.yielded c.next.new.self e gone)) in
+    let way : ℕ = get_or ways c.index.result 0 in
+    let has : HasWay ways e.to way = entry_is ways e.to c.index.result way c.index.ensures below refl in
     let less : c.min-least.result ≤ c.loop-edge.least = omega (arith, c.min-least.ensures) in
     let at : c.min-least.result ≤ suc way = omega (arith, c.min-least.ensures, c.saturating_add.ensures) in
     record {
       edges = gone_over_more p c.args.node c.loop-edge.yielded c.next.new.self e gone
           (λ f held followed after h. omega (arith, held followed after h, less))
-          (λ followed after h. omega (arith, at, entry_of ways e.to c.index_of.result after c.index_of.ensures h));
+          (λ followed after h. omega (arith, at, entry_of ways e.to c.index.result after c.index.ensures h));
       some = λ small. elim (cases_lt (suc way) c.loop-edge.least) [
         | inl shorter ↦ (
           way,

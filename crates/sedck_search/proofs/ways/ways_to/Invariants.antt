@@ -1,6 +1,6 @@
 use Rattle.std.proofs.Common.{◌≡◌, ℕ, ◌<◌, length}
 use Rattle.std.specs.Prelude.{Some, slice_get}
-use Rattle.sedck_flow.specs.Flow.{node_index}
+use Rattle.sedck_flow.specs.Nodes.{node_index}
 use Rattle.sedck_search.specs.Ways.{AreSomeWays, total}
 use Rattle.sedck_search.proofs.WayLemmas.{first_way}
 use Rattle.sedck_search.proofs.ways.ways_to.Given as goal

@@ -3,7 +3,8 @@ use Rattle.std.proofs.lemmas.Grind.{common_steps}
 use Rattle.sedck_cert.specs.Faults.{Names}
 use Rattle.sedck_cert.specs.Reading.{Stops, one_before}
 use Rattle.sedck_cert.specs.declared.reading.CertFault.TheVariants.{OutOfMemory}
-use Rattle.sedck_cert.proofs.Leads.{if_err_from, leads_stops}
+use Rattle.sedck_script.proofs.Outcomes.{if_err_from}
+use Rattle.sedck_cert.proofs.Leads.{leads_stops}
 use Rattle.sedck_cert.proofs.Names.{leads_name, names_due-more, leads_no_names, leads_all_names}
 use Rattle.sedck_cert.proofs.reading.names.names.Goals as goal
 

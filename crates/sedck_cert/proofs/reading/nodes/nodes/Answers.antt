@@ -1,24 +1,27 @@
-use Rattle.std.proofs.Common.{◌≡◌, ◌⊎◌, inr, ◌+◌, ◌*◌, ◌-◌, arith}
+use Rattle.std.proofs.Common.{◌≡◌, ◌⊎◌, ◌<◌, inr, ◌+◌, ◌*◌, ◌-◌, arith}
 use Rattle.std.proofs.lemmas.Grind.{common_steps}
 use Rattle.std.proofs.lemmas.List.Elements.{All-push}
+use Rattle.sedck_flow.specs.Nodes.{node_count}
 use Rattle.sedck_cert.specs.Certificate.{AreWithin}
 use Rattle.sedck_cert.specs.Faults.{Node}
 use Rattle.sedck_cert.specs.Reading.{Stops, node_texts}
 use Rattle.sedck_cert.specs.declared.reading.CertFault.TheVariants.{OutOfMemory}
-use Rattle.sedck_cert.proofs.Leads.{if_err_from, leads_stops}
+use Rattle.sedck_script.proofs.Outcomes.{if_err_from}
+use Rattle.sedck_cert.proofs.Leads.{leads_stops}
 use Rattle.sedck_cert.proofs.Nodes.{leads_node, nodes_due-more}
 use Rattle.sedck_cert.proofs.reading.nodes.nodes.Goals as goal
 
 pub returns-in_err-node_line-clause-refused : goal.returns-in_err-node_line-clause-refused
 returns-in_err-node_line-clause-refused c =
-    let left = 2 * (c.args.commands + 1) - (c.loop-node.node + 1) in
-    if_err_from (λ fault. (fault ≡ OutOfMemory) ⊎ Stops (Node 0 (2 * c.args.commands + 1)) c.args.lines.now fault) c.from_residual-in_err-node_line.result _ c.from_residual-in_err-node_line.ensures.1
-    (inr (leads_stops (Node 0 (2 * c.args.commands + 1)) (Node c.loop-node.node left) (node_texts 0 c.loop-node.ranks.items) _
-    (nodes_due-more _ c.loop-node.node (2 * (c.args.commands + 1)) c.loop-node.ranks.items c.loop-node-test.true c.loop-node.invariant.0) (c.in_err-node_line.ensures.refused left)))
+    let left = node_count c.args.commands - (c.loop-node.node + 1) in
+    let below : c.loop-node.node < node_count c.args.commands = omega arith in
+    if_err_from (λ fault. (fault ≡ OutOfMemory) ⊎ Stops (Node 0 (node_count c.args.commands - 1)) c.args.lines.now fault) c.from_residual-in_err-node_line.result _ c.from_residual-in_err-node_line.ensures.1
+    (inr (leads_stops (Node 0 (node_count c.args.commands - 1)) (Node c.loop-node.node left) (node_texts 0 c.loop-node.ranks.items) _
+    (nodes_due-more _ c.loop-node.node (node_count c.args.commands) c.loop-node.ranks.items below c.loop-node.invariant.0) (c.in_err-node_line.ensures.refused left)))
 
 pub loop-node-preserved : goal.loop-node-preserved
 loop-node-preserved c = rw c.in_ok-push.ensures.items (
-  leads_node _ c.loop-node.node (2 * (c.args.commands + 1)) c.loop-node.ranks.items c.in_ok-node_line.field-0 c.loop-node-test.true c.loop-node.invariant.2 c.loop-node.invariant.0 c.in_ok-node_line.ensures.read,
+  leads_node _ c.loop-node.node (node_count c.args.commands) c.loop-node.ranks.items c.in_ok-node_line.field-0 (omega arith) c.loop-node.invariant.2 c.loop-node.invariant.0 c.in_ok-node_line.ensures.read,
   All-push AreWithin c.loop-node.ranks.items c.in_ok-node_line.field-0 c.loop-node.invariant.1 c.in_ok-node_line.ensures.within,
   grind (arith, common_steps),
 )
