@@ -50,3 +50,17 @@ IsOnlyAddress text address rest = (other : Address) (behind marks begins left : 
 -- the text doesn't begin with a command
 abbrev pub IsNoCommand : List ℕ → Type 0
 IsNoCommand text = (address : Address) (negated : Bool) (verb : WrittenVerb) (rest : List ℕ) → CommandText text address negated verb rest → ⊥
+
+-- behind the blanks at the front stand a comma and blanks, and then the second text
+pub record IsBehindComma (text second : List ℕ) : Type 0 where
+  pub comma : ℕ
+  pub blanks : List ℕ
+  pub more : List ℕ
+  pub front : List ℕ
+  pub before : Longest is_blank text blanks (comma ∷ more)
+  pub is_comma : comma ≡ 44
+  pub behind : Longest is_blank more front second
+
+-- behind the blanks at the front stands no comma
+abbrev pub HasNoComma : List ℕ → Type 0
+HasNoComma text = (blanks more : List ℕ) (b : ℕ) → Longest is_blank text blanks (b ∷ more) → b ≡ 44 → ⊥

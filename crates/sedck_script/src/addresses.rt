@@ -7,7 +7,7 @@ ghost use Rattle.sedck_script.specs.Program.{place_patterns, address_patterns};
 ghost use Rattle.sedck_script.specs.Parts.{PlaceText, AddressText};
 ghost use Rattle.sedck_script.specs.Faults.{IsPlaced};
 ghost use Rattle.sedck_script.specs.Reading.{EndsIn};
-ghost use Rattle.sedck_script.specs.AddressReading.{begins_place, IsEmptyAt, ContextText, CustomText, BeginsPlace, BeginsNoPlace, IsOnlyAddress, IsNoCommand};
+ghost use Rattle.sedck_script.specs.AddressReading.{begins_place, IsEmptyAt, ContextText, CustomText, BeginsPlace, BeginsNoPlace, IsOnlyAddress, IsNoCommand, IsBehindComma, HasNoComma};
 ghost use Rattle.sedck_script.specs.View as view;
 
 use crate::bytes::{is_delimiter, is_digit, split_blanks};
@@ -128,6 +128,22 @@ fn place_at<'a>(
     Ok(Some(found))
 }
 
+/// What stands behind a comma and the blanks round it.
+fn behind_comma(text: &[u8]) -> Option<&[u8]>
+    ensures some { IfSome result (λ second. IsBehindComma text.now second.now) }
+    ensures none { IfNone result (HasNoComma text.now) }
+{
+    let (_, after) = split_blanks(text);
+    let Some((next, more)) = after.split_first() else {
+        return None;
+    };
+    if *next != b',' {
+        return None;
+    }
+    let (_, second) = split_blanks(more);
+    Some(second)
+}
+
 /// The addresses at the front, the place of their first empty expression, and what stands behind them.
 pub fn address_at<'a>(
     alloc: Global,
@@ -144,14 +160,9 @@ pub fn address_at<'a>(
     let Some((from, empty, behind)) = place_at(alloc, whole, text)? else {
         return Ok((Address::None, None, text));
     };
-    let (_, after) = split_blanks(behind);
-    let Some((next, more)) = after.split_first() else {
+    let Some(second) = behind_comma(behind) else {
         return Ok((Address::One(from), empty, behind));
     };
-    if *next != b',' {
-        return Ok((Address::One(from), empty, behind));
-    }
-    let (_, second) = split_blanks(more);
     let Some((to, other, rest)) = place_at(alloc, whole, second)? else {
         return Err(ScriptFault::BadAddress {
             place: whole.len() - second.len(),
