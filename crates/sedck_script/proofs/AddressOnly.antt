@@ -8,7 +8,7 @@ use Rattle.sedck_script.specs.Parts as p
 use Rattle.sedck_script.specs.Items.{WrittenVerb, VerbText}
 use Rattle.sedck_script.specs.AddressReading.{begins_place, is_mark, BeginsPlace, BeginsNoPlace, IsOnlyAddress, IsNoCommand, IsBehindComma, HasNoComma}
 use Rattle.sedck_script.proofs.Cuts.{longest_one}
-use Rattle.sedck_script.proofs.ItemsOne.{place_first, place_other, place_no_mark, no_verb_here, no_place_here, no_comma_here, longest_along, place_along, tails, place_one}
+use Rattle.sedck_script.proofs.ItemsOne.{place_first, place_other, place_no_mark, no_verb_here, no_place_here, no_comma_here, longest_along, place_along, place_one, pair_of}
 use Rattle.sedck_script.specs.Reading.{EndsIn}
 use Rattle.sedck_script.proofs.Tails.{tail_cut, tail_tail, tail_behind, tail_cons, number_tail, expression_tail}
 use Rattle.sedck_script.proofs.Outcomes.{if_some_at, if_none_at}
@@ -17,6 +17,7 @@ use Rattle.std.specs.Borrow.{Bor}
 use Rattle.sedck_script.specs.View.{place_of}
 use Rattle.sedck_script.specs.declared.script.Place.{Place as CodePlace}
 use Rattle.sedck_script.proofs.Determined.{expressions_determined}
+use Rattle.sedck_script.proofs.Heads.{heads, tails}
 
 one_place : {text r s : List ℕ} {q u : Place} → PlaceText text q r → PlaceText text u s → (q ≡ u) × (r ≡ s)
 one_place x y = place_one expressions_determined x y
@@ -45,9 +46,6 @@ one_by x n (p.two {more = more} {b = b} y c h d z) m v = absurd (n _ more b (lon
 -- one address, behind which no comma stands
 pub only_one : {text r : List ℕ} {q : Place} → PlaceText text q r → HasNoComma r → IsOnlyAddress text (One q) r
 only_one x n other behind marks begins left verb a m v = one_by x n a m v
-
-pair_of : {q u x y : Place} {r s : List ℕ} → q ≡ u → (x ≡ y) × (r ≡ s) → (Two q x ≡ Two u y) × (r ≡ s)
-pair_of e h = (cc (e, h.0), h.1)
 
 two_by : {text r s blanks more front second rest marks begins left : List ℕ} {c : ℕ} {q u : Place} {b : Address} {v : WrittenVerb} → PlaceText text q r → Longest is_blank r blanks (c ∷ more) → c ≡ 44
     → Longest is_blank more front second → PlaceText second u rest
@@ -115,10 +113,7 @@ pub no_comma_end : {text blanks after : List ℕ} → Longest is_blank text blan
 no_comma_end l e blanks more b k h = absurd (omega (arith, e, ap length (longest_one l k).1))
 
 pub no_comma : {text blanks after behind : List ℕ} {c : ℕ} → Longest is_blank text blanks after → after ≡ c ∷ behind → (c ≡ 44 → ⊥) → HasNoComma text
-no_comma l e n blanks more b k h = n (first_byte (sym e ∙ (longest_one l k).1) ∙ h)
-  where
-    first_byte : {x y : ℕ} {s t : List ℕ} → (x ∷ s) ≡ (y ∷ t) → x ≡ y
-    first_byte g = cc g
+no_comma l e n blanks more b k h = n (heads (sym e ∙ (longest_one l k).1) ∙ h)
 
 -- ---- What is found
 
