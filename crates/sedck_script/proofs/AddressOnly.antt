@@ -6,7 +6,7 @@ use Rattle.sedck_script.specs.Program.{Place, Address, NoAddress, One, Two}
 use Rattle.sedck_script.specs.Parts.{PlaceText, AddressText}
 use Rattle.sedck_script.specs.Parts as p
 use Rattle.sedck_script.specs.Items.{WrittenVerb, VerbText}
-use Rattle.sedck_script.specs.AddressReading.{begins_place, is_mark, BeginsPlace, BeginsNoPlace, IsOnlyAddress, IsNoCommand, IsBehindComma, HasNoComma}
+use Rattle.sedck_script.specs.AddressReading.{begins_place, is_mark, BeginsPlace, BeginsNoPlace, IsOnlyAddress, IsNoCommand, IsBehindComma, HasNoComma, IsSecond}
 use Rattle.sedck_script.proofs.Cuts.{longest_one}
 use Rattle.sedck_script.proofs.ItemsOne.{place_first, place_other, place_no_mark, no_verb_here, no_place_here, no_comma_here, longest_along, place_along, place_one, pair_of}
 use Rattle.sedck_script.specs.Reading.{EndsIn}
@@ -104,8 +104,8 @@ place_tail (p.custom {b = b} {delimiter = d} e i x y) = tail_cons b (tail_cons d
 pub second_tail : {whole text r blanks after more front second : List ℕ} {b : ℕ} {q : Place} → EndsIn whole text → PlaceText text q r → Longest is_blank r blanks after → after ≡ b ∷ more → Longest is_blank more front second → EndsIn whole second
 second_tail h x l e m = tail_tail (tail_behind (tail_tail h (tail_tail (place_tail x) (tail_cut l))) e) (tail_cut m)
 
-pub comma_tail : {whole text r second : List ℕ} {q : Place} → EndsIn whole text → PlaceText text q r → IsBehindComma r second → EndsIn whole second
-comma_tail h x l = second_tail h x l.before refl l.behind
+pub comma_tail : {whole text second : List ℕ} → EndsIn whole text → IsBehindComma text second → EndsIn whole second
+comma_tail h l = tail_tail (tail_behind (tail_tail h (tail_cut l.before)) refl) (tail_cut l.behind)
 
 -- ---- Commas
 
@@ -120,6 +120,13 @@ no_comma l e n blanks more b k h = n (heads (sym e ∙ (longest_one l k).1) ∙ 
 pub place_found : {text : List ℕ} {o : Option (CodePlace × Option ℕ × Bor (List ℕ))} {x : CodePlace × Option ℕ × Bor (List ℕ)} → o ≡ Some x
     → IfSome o (λ y. PlaceText text (place_of y.0) y.2.now) → PlaceText text (place_of x.0) x.2.now
 place_found {text = text} e h = if_some_at (λ y. PlaceText text (place_of y.0) y.2.now) e h
+
+pub second_found : {text : List ℕ} {o : Option (CodePlace × Option ℕ × Bor (List ℕ))} {x : CodePlace × Option ℕ × Bor (List ℕ)} → o ≡ Some x
+    → IfSome o (λ y. IsSecond text (place_of y.0) y.2.now) → IsSecond text (place_of x.0) x.2.now
+second_found {text = text} e h = if_some_at (λ y. IsSecond text (place_of y.0) y.2.now) e h
+
+pub no_comma_found : (text : List ℕ) {o : Option (CodePlace × Option ℕ × Bor (List ℕ))} → o ≡ None → IfNone o (HasNoComma text) → HasNoComma text
+no_comma_found text e h = if_none_at (HasNoComma text) e h
 
 pub none_found : (text : List ℕ) {o : Option (CodePlace × Option ℕ × Bor (List ℕ))} → o ≡ None → IfNone o (BeginsNoPlace text) → BeginsNoPlace text
 none_found text e h = if_none_at (BeginsNoPlace text) e h

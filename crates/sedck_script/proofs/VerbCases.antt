@@ -150,6 +150,9 @@ test_at x = absurd (differ 116 (class_of x) refl (begins x))
 pub no_jump : {b : ℕ} {text : List ℕ} → (b ≡ 98) ⊎ (b ≡ 116) → ((label : Option (List ℕ)) (rest : List ℕ) → BranchText text label rest → ⊥) → (verb : WrittenVerb) (rest : List ℕ) → VerbText (b ∷ text) verb rest → ⊥
 no_jump h n verb rest x = elim h [ inl e ↦ (let i = branch_at (byte_along e x) in n i.0 rest i.1) | inr e ↦ (let i = test_at (byte_along e x) in n i.0 rest i.1) ]
 
+pub verb_behind : {b c : ℕ} {text behind rest : List ℕ} {verb : WrittenVerb} → text ≡ b ∷ behind → b ≡ c → VerbText text verb rest → VerbText (c ∷ behind) verb rest
+verb_behind {rest = rest} {verb = verb} e h x = byte_along h (subst (λ t. VerbText t verb rest) e x)
+
 -- a verb from its byte and what stands behind it
 pub verb_here : {b c : ℕ} {text behind rest : List ℕ} {verb : WrittenVerb} → text ≡ b ∷ behind → b ≡ c → VerbText (c ∷ behind) verb rest → VerbText text verb rest
 verb_here {behind = behind} {rest = rest} {verb = verb} e h x = subst (λ t. VerbText t verb rest) (sym (e ∙ ap (λ k. k ∷ behind) h)) x

@@ -3,7 +3,7 @@ use Rattle.std.specs.Prelude.{◌≡◌, ℕ, ◌≤◌, Bool, true, false, not,
 use Rattle.sedck_bre.specs.Text.{one_of}
 use Rattle.sedck_script.specs.Cuts.{bang, is_blank, is_digit, is_delimiter, IsEmptyOr, Longest}
 use Rattle.sedck_script.specs.Program.{Pattern, Previous, Expression, Place, Context, Address}
-use Rattle.sedck_script.specs.Parts.{AddressText}
+use Rattle.sedck_script.specs.Parts.{PlaceText, AddressText}
 use Rattle.sedck_script.specs.Items.{WrittenVerb, VerbText, CommandText}
 use Rattle.sedck_script.specs.PieceReading.{PatternText}
 
@@ -64,3 +64,11 @@ pub record IsBehindComma (text second : List ℕ) : Type 0 where
 -- behind the blanks at the front stands no comma
 abbrev pub HasNoComma : List ℕ → Type 0
 HasNoComma text = (blanks more : List ℕ) (b : ℕ) → Longest is_blank text blanks (b ∷ more) → b ≡ 44 → ⊥
+
+-- an address behind a comma
+abbrev pub IsSecond : List ℕ → Place → List ℕ → Type 0
+IsSecond text place rest = (second : List ℕ) × IsBehindComma text second × PlaceText second place rest
+
+-- behind a comma stands no address
+abbrev pub BeginsNoSecond : List ℕ → Type 0
+BeginsNoSecond text = (second : List ℕ) × IsBehindComma text second × ((place : Place) (rest : List ℕ) → PlaceText second place rest → ⊥)

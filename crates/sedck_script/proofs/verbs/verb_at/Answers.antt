@@ -1,7 +1,8 @@
 use Rattle.std.proofs.Common.{refl}
 use Rattle.sedck_script.specs.Items.{opening}
 use Rattle.sedck_script.proofs.Tails.{tail_behind, stands_at_tail}
-use Rattle.sedck_script.proofs.VerbCases.{verb_here}
+use Rattle.sedck_script.proofs.VerbCases.{verb_here, verb_behind}
+use Rattle.sedck_script.proofs.Outcomes.{if_ok_more, if_err_more}
 use Rattle.sedck_script.proofs.verbs.verb_at.Goals as goal
 
 pub definition-requires : goal.definition-requires
@@ -18,3 +19,9 @@ known_verb-requires-clause-tail c = tail_behind c.requires.tail c.in-Some.ensure
 
 pub known_verb-requires-clause-stands : goal.known_verb-requires-clause-stands
 known_verb-requires-clause-stands c = stands_at_tail c.requires.tail c.in-Some.ensures.cases.0
+
+pub returns-then-first-eq58-clause-read : goal.returns-then-first-eq58-clause-read
+returns-then-first-eq58-clause-read c = if_ok_more c.definition.result (λ x. verb_here c.in-Some.ensures.cases.0 c.if-first-eq58.true) c.definition.ensures.read
+
+pub returns-then-first-eq58-clause-refused : goal.returns-then-first-eq58-clause-refused
+returns-then-first-eq58-clause-refused c = if_err_more c.definition.result (λ fault n memory verb rest x. n verb rest (verb_behind c.in-Some.ensures.cases.0 c.if-first-eq58.true x)) c.definition.ensures.refused
