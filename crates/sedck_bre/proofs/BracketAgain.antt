@@ -1,13 +1,13 @@
 -- What is written as a bracket list is read, whatever follows it.
 use Rattle.std.proofs.Common.{◌≡◌, ℕ, ◌≤◌, Bool, true, false, cond, List, [], ◌∷◌, ◌++◌, length, drop, Option, Some, None, inl, inr, refl, sym, ap, ◌∙◌, subst, arith, append_assoc}
 use Rattle.std.specs.Prelude.{◌==◌, ◌&&◌, ◌||◌, ◌⊎◌, not, nat_le, codes, IsTrue, if◌then◌else◌}
-use Rattle.std.proofs.lemmas.Bool.{false≢true, eqb-true}
+use Rattle.std.proofs.lemmas.Bool.{false≢true, eqb-true, not-true}
 use Rattle.std.proofs.lemmas.Bool.Decides.{nat_tests}
 use Rattle.sedck_bre.specs.Text.{begins}
 use Rattle.sedck_bre.specs.Brackets.{Class, upper, lower, alpha, digit, alnum, xdigit, space, blank, punct, graph, print, cntrl, class_name, Element, One, Range, Members, is_plain, WritesByte, begins_range, WritesElement}
 use Rattle.sedck_bre.specs.Reading.{◌>>=◌}
 use Rattle.sedck_bre.specs.BracketReading.{symbol_at, byte_at, ranges, no_range, class_from, classes, one, range_to, range_or_one, element_at}
-use Rattle.sedck_bre.proofs.BracketLemmas.{plain_before, plain_open, plain_back, not_true, range_behind}
+use Rattle.sedck_bre.proofs.BracketLemmas.{plain_before, plain_open, plain_back, range_behind}
 
 -- ---- One byte
 
@@ -17,11 +17,11 @@ itself_again c next h = go (c == 91) (c == 92) refl refl
   where
     go : (a b : Bool) → (c == 91) ≡ a → (c == 92) ≡ b → byte_at (c ∷ next) ≡ Some (c, next)
     go true b e f =
-        let free : begins ":.=" next ≡ false = not_true (begins ":.=" next) (sym (ap (λ x. cond x (not (begins ":.=" next)) (cond (c == 92) (not (begins "n\\" next)) true)) e) ∙ h) in
+        let free : begins ":.=" next ≡ false = not-true (begins ":.=" next) (sym (ap (λ x. cond x (not (begins ":.=" next)) (cond (c == 92) (not (begins "n\\" next)) true)) e) ∙ h) in
         let parts = plain_open next free in
         rw (e, parts.0, parts.1) refl
     go false true e f =
-        let free : begins "n\\" next ≡ false = not_true (begins "n\\" next) (sym (ap (λ x. cond x (not (begins ":.=" next)) (cond (c == 92) (not (begins "n\\" next)) true)) e ∙ ap (λ x. cond x (not (begins "n\\" next)) true) f) ∙ h) in
+        let free : begins "n\\" next ≡ false = not-true (begins "n\\" next) (sym (ap (λ x. cond x (not (begins ":.=" next)) (cond (c == 92) (not (begins "n\\" next)) true)) e ∙ ap (λ x. cond x (not (begins "n\\" next)) true) f) ∙ h) in
         let parts = plain_back next free in
         rw (e, f, parts.0, parts.1) refl
     go false false e f = rw (e, f) refl
@@ -48,7 +48,7 @@ not_open u next c (inl h) = subst (λ x. ((begins "[" (x ++ next) && begins ":" 
 
     go : (b : Bool) → (91 == c) ≡ b → (((91 == c) || false) && begins ":" next ≡ false) × ((((91 == c) || false) && begins "=" next) ≡ false)
     go true e =
-        let free : begins ":.=" next ≡ false = not_true (begins ":.=" next) (sym (ap (λ x. cond x (not (begins ":.=" next)) (cond (c == 92) (not (begins "n\\" next)) true)) (turned c e)) ∙ h.1) in
+        let free : begins ":.=" next ≡ false = not-true (begins ":.=" next) (sym (ap (λ x. cond x (not (begins ":.=" next)) (cond (c == 92) (not (begins "n\\" next)) true)) (turned c e)) ∙ h.1) in
         let parts = plain_open next free in
         (ap (λ x. (x || false) && begins ":" next) e ∙ parts.2, ap (λ x. (x || false) && begins "=" next) e ∙ parts.3)
     go false e = (ap (λ x. (x || false) && begins ":" next) e, ap (λ x. (x || false) && begins "=" next) e)

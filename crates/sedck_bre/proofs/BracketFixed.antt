@@ -100,10 +100,6 @@ elements_before front (es, rest) = Some (front ++ es, rest)
 abbrev pub with_elements : List Element → Option (List Element × List ℕ) → Option (List Element × List ℕ)
 with_elements front o = o >>= elements_before front
 
-pub with_elements-none : (o : Option (List Element × List ℕ)) → with_elements [] o ≡ o
-with_elements-none None = refl
-with_elements-none (Some x) = refl
-
 with_elements-push : (front : List Element) (e : Element) (o : Option (List Element × List ℕ)) → with_elements front (o >>= before_elements e) ≡ with_elements (front ++ e ∷ []) o
 with_elements-push front e None = refl
 with_elements-push front e (Some x) = ap (λ es. Some (es, x.1)) (sym (append_assoc front (e ∷ []) x.0))

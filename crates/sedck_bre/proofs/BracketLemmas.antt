@@ -64,10 +64,6 @@ plain_back (c ∷ text) h = go (110 == c) (92 == c) h
     go false true h = absurd (false≢true (sym h))
     go false false h = (refl, refl)
 
-pub not_true : (b : Bool) → not b ≡ true → b ≡ false
-not_true true h = absurd (false≢true h)
-not_true false h = refl
-
 -- ---- What no written elements begin with, but for the first
 
 -- a closing bracket, or a `-` and a closing bracket

@@ -70,6 +70,3 @@ module _ (complement : Bool) (text rest words : List ℕ) (es : List Element) (r
 
   pub set_empty : has_no_word words ≡ true → set_at complement text ≡ None
   set_empty h = set_is ∙ ap (λ b. cond (not b) (Some (words, rest)) None) h
-
-pub set_fails : (complement : Bool) (text : List ℕ) → elements_of true text ≡ None → set_at complement text ≡ None
-set_fails complement text h = ap (λ o. o >>= set_of complement) h

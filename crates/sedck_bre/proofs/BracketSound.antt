@@ -3,13 +3,12 @@ use Rattle.std.proofs.Common.{◌≡◌, ◌≢◌, ℕ, suc, zero, ◌+◌, ◌
 use Rattle.std.specs.Prelude.{◌==◌, ◌&&◌, ◌||◌, ◌⊎◌, not, nat_eq, nat_le, codes, IsTrue}
 use Rattle.std.specs.List.{starts_with}
 use Rattle.std.proofs.lemmas.Bool.{false≢true, eqb-true}
-use Rattle.std.proofs.lemmas.Bool.Decides.{nat_tests}
 use Prim.Native.String.{String}
 use Rattle.sedck_bre.specs.Text.{begins}
 use Rattle.sedck_bre.specs.Brackets.{Class, class_name, Element, One, Range, Members, is_plain, WritesByte, begins_range, IsInPlace, WritesElement, WritesElements}
 use Rattle.sedck_bre.specs.Reading.{◌>>=◌}
 use Rattle.sedck_bre.specs.BracketReading.{symbol_at, byte_at, ranges, no_range, class_from, classes, one, range_to, range_or_one, element_at, before_elements, others, elements_at}
-use Rattle.sedck_bre.proofs.ReadLemmas.{bind_holds, cond_holds, and_left}
+use Rattle.sedck_bre.proofs.ReadLemmas.{bind_holds, cond_holds, and_left, nat_le_of}
 use Rattle.sedck_bre.proofs.BracketLemmas.{one_front, plain_before, open_plain, back_plain, is_closing_front, range_before}
 
 -- ---- One byte
@@ -149,7 +148,7 @@ byte_element first text bracket dash =
     (λ x h. cond_holds (ranges x.1) (byte_at (drop 1 x.1) >>= range_to x.0) (Some (One x.0, x.1)) (IsElementBefore first text)
     (λ r. bind_holds (byte_at (drop 1 x.1)) (range_to x.0) (IsElementBefore first text) (IsByteBefore (drop 1 x.1)) (byte_takes (drop 1 x.1))
     (λ y k. cond_holds (nat_le x.0 y.0) (Some (Range x.0 y.0, y.1)) None (IsElementBefore first text)
-    (λ l. range_element x.0 y.0 h.0 x.1 k.0 y.1 h.1 h.2 r k.1 k.2 (le_of x.0 y.0 l))
+    (λ l. range_element x.0 y.0 h.0 x.1 k.0 y.1 h.1 h.2 r k.1 k.2 (nat_le_of x.0 y.0 l))
     (λ _. tt)))
     (λ r. (
       h.0,
@@ -161,9 +160,6 @@ byte_element first text bracket dash =
       ),
     )))
   where
-    le_of : (a b : ℕ) → nat_le a b ≡ true → a ≤ b
-    le_of a b h = grind (arith, nat_tests)
-
     dash_front : (after : List ℕ) → ranges after ≡ true → after ≡ 45 ∷ drop 1 after
     dash_front [] h = absurd (false≢true h)
     dash_front (c ∷ []) h = absurd (false≢true h)

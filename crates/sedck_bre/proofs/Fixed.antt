@@ -1,22 +1,16 @@
 -- The bound on the depth of calls does not matter: a list of items is an item with its sign, and the items behind it.
-use Rattle.std.proofs.Common.{◌≡◌, ℕ, zero, suc, ◌+◌, ◌-◌, ◌<◌, ◌≤◌, Bool, true, false, cond, List, [], ◌∷◌, ◌++◌, length, Option, Some, None, refl, sym, ap, ◌∙◌, arith, IfSome, length-append, add-one}
+use Rattle.std.proofs.Common.{◌≡◌, ℕ, zero, suc, ◌+◌, ◌-◌, ◌<◌, ◌≤◌, Bool, true, false, cond, List, [], ◌∷◌, ◌++◌, length, Option, Some, None, refl, ap, ◌∙◌, arith, IfSome, length-append, add-one}
 use Rattle.std.specs.Prelude.{◌==◌, nat_lt, nat_le, ◌&&◌}
-use Rattle.std.proofs.lemmas.Bool.{false≢true}
 use Rattle.sedck_bre.specs.Text.{one_of}
 use Rattle.sedck_bre.specs.Tree.{Trees, Byte, Any, Ref, Nil, groups_in, is_in}
-use Rattle.sedck_bre.specs.Shape.{Level, Inside, Place, First, is_empty, behind}
+use Rattle.sedck_bre.specs.Shape.{Level, Inside, Place, First, behind}
 use Rattle.sedck_bre.specs.Reading.{◌>>=◌, Readers, at_end, plain, closed_by, escaped, backslash, set_before, tree_before, atom, with_sign, before_all, Lister, more, some_items, items, items_of}
-use Rattle.sedck_bre.proofs.ReadLemmas.{bind_holds, and_left, Takes}
-use Rattle.std.proofs.lemmas.Bool.Decides.{nat_tests}
+use Rattle.sedck_bre.proofs.ReadLemmas.{bind_holds, and_left, Takes, nat_lt_of, length_some}
 use Rattle.sedck_bre.proofs.Sound.{ItemRead, atom_sound, sign_sound, items_sound}
 
 pub bind_alike : {A B : Type 0} (o : Option A) (f g : A → Option B) (Q : A → Type 0) → IfSome o Q → ((x : A) → Q x → f x ≡ g x) → (o >>= f) ≡ (o >>= g)
 bind_alike None f g Q h e = refl
 bind_alike (Some x) f g Q h e = e x h
-
-length_some : (u : List ℕ) → is_empty u ≡ false → 0 < length u
-length_some [] h = absurd (false≢true (sym h))
-length_some (x ∷ u) h = omega arith
 
 cond_alike : {A : Type 0} (b : Bool) (x y z : A) → (b ≡ true → x ≡ y) → cond b x z ≡ cond b y z
 cond_alike true x y z e = e refl
@@ -25,9 +19,6 @@ cond_alike false x y z e = refl
 -- the two readings agree on shorter texts, where a group may open
 abbrev Agree : (List ℕ → Option (Trees × List ℕ)) → (List ℕ → Option (Trees × List ℕ)) → ℕ → ℕ → ℕ → Type 0
 Agree f g deep opened size = (x : List ℕ) → deep < 32 → opened < 99 → length x < size → f x ≡ g x
-
-nat_lt_of : (a b : ℕ) → nat_lt a b ≡ true → a < b
-nat_lt_of a b h = grind (arith, nat_tests)
 
 escaped_alike : (f g : List ℕ → Option (Trees × List ℕ)) (deep opened : ℕ) (closed : List ℕ) (b : ℕ) (text : List ℕ) → Agree f g deep opened (suc (length text)) → escaped f deep opened closed b text ≡ escaped g deep opened closed b text
 escaped_alike f g deep opened closed b text e =

@@ -10,10 +10,10 @@ use Rattle.std.proofs.lemmas.List.{append-nil}
 use Rattle.sedck_bre.specs.Tree.{Tree, Trees, Any, Nil, Then, trees, groups_in, is_in}
 use Rattle.sedck_bre.specs.View.{tree, sequence}
 use Rattle.sedck_bre.specs.Shape.{Level, Inside, Place, First, behind}
-use Rattle.sedck_bre.specs.Reading.{◌>>=◌, at_end, atom, with_sign, before_all, more, items_of}
+use Rattle.sedck_bre.specs.Reading.{◌>>=◌, begins_pair, at_end, atom, group_at, with_sign, before_all, more, items_of}
 use Rattle.sedck_bre.specs.FullReading.{full}
 use Rattle.sedck_bre.specs.declared.tree.Bre.{Bre}
-use Rattle.sedck_bre.proofs.ReadLemmas.{Takes, Reads}
+use Rattle.sedck_bre.proofs.ReadLemmas.{Takes, Reads, and_left}
 use Rattle.sedck_bre.proofs.Intervals.{interval_takes, interval_again}
 use Rattle.sedck_bre.proofs.BracketWhole.{bracket_takes, bracket_again}
 use Rattle.sedck_bre.proofs.Fixed.{items_step}
@@ -43,10 +43,6 @@ onto-nil (t ∷ front) = ap (Then t) (onto-nil front)
 onto-push : (front : List Tree) (t : Tree) (ts : Trees) → onto front (Then t ts) ≡ onto (front ++ t ∷ []) ts
 onto-push [] t ts = refl
 onto-push (u ∷ front) t ts = ap (Then u) (onto-push front t ts)
-
-pub with_front-none : (o : Option (Trees × List ℕ)) → with_front [] o ≡ o
-with_front-none None = refl
-with_front-none (Some x) = refl
 
 with_front-push : (front : List Tree) (t : Tree) (o : Option (Trees × List ℕ)) → with_front front (o >>= before_all t) ≡ with_front (front ++ t ∷ []) o
 with_front-push front t None = refl
@@ -87,6 +83,24 @@ pub any_read : (inner : List ℕ → Option (Trees × List ℕ)) (level : Level)
 any_read inner level place deep opened closed [] l h = absurd (omega arith)
 any_read inner level place deep opened closed (b ∷ text) l h =
     ap (λ x. atom full inner level place deep opened closed (x ∷ text)) h ∙ ap (λ r. Some (Any, r)) (sym (rest_is (b ∷ text) 1))
+
+-- behind a backslash stands no opening of a group
+pub no_group : (text : List ℕ) → get_or text 0 0 ≡ 92 → begins_pair 40 text ≡ false → begins_pair 40 (92 ∷ take (length text - 1) (drop 1 text)) ≡ false
+no_group text h e = ap (λ t. begins_pair 40 (92 ∷ t)) (rest_is text 1) ∙ go text h e
+  where
+    go : (text : List ℕ) → get_or text 0 0 ≡ 92 → begins_pair 40 text ≡ false → begins_pair 40 (92 ∷ drop 1 text) ≡ false
+    go [] h e = refl
+    go (b ∷ []) h e = refl
+    go (b ∷ d ∷ text) h e = rw h at e
+
+-- a group is read
+pub group_read : (inner : List ℕ → Option (Trees × List ℕ)) (level : Level) (place : Place) (deep opened : ℕ) (closed text : List ℕ) → begins_pair 40 text ≡ true
+    → atom full inner level place deep opened closed text ≡ group_at inner deep opened (drop 2 text)
+group_read inner level place deep opened closed [] e = absurd (false≢true e)
+group_read inner level place deep opened closed (b ∷ []) e = absurd (false≢true e)
+group_read inner level place deep opened closed (b ∷ d ∷ text) e =
+    let both = and_left (b == 92) (d == 40) e in
+    rw (both.0, both.1) refl
 
 -- the same reading, from equal parts
 pub same_read : (level : Level) (deep : ℕ) (after : List ℕ) (f g : List Tree) (p q : Place) (m n : ℕ) (c d : List ℕ) → f ≡ g → p ≡ q → m ≡ n → c ≡ d

@@ -14,12 +14,6 @@ use Rattle.sedck_bre.specs.IntervalReading.{interval_at}
 use Rattle.sedck_bre.proofs.Intervals.{interval_takes}
 use Rattle.sedck_bre.proofs.BracketWhole.{bracket_takes}
 
-pub tail_whole : (text : List ℕ) → IsTail text text
-tail_whole text = record { front = []; made = refl }
-
-pub tail_short : (whole text : List ℕ) → IsTail whole text → length text ≤ length whole
-tail_short whole text h = omega (arith, ap length h.made, length-append h.front text)
-
 pub tail_drop : (whole text : List ℕ) (n : ℕ) → IsTail whole text → IsTail whole (drop n text)
 tail_drop whole text n h = record {
   front = h.front ++ take n text;
@@ -76,13 +70,6 @@ bracket_is text h = rw h refl
 
 pub bracket_split : (text words rest : List ℕ) → bracket_at text ≡ Some (words, rest) → (u : List ℕ) × (text ≡ u ++ rest) × (is_empty u ≡ false)
 bracket_split text words rest e = let h = rw e at (bracket_takes text) in (h.0, h.1, h.2)
-
-some_length : (u : List ℕ) → is_empty u ≡ false → 0 < length u
-some_length [] h = absurd (false≢true (sym h))
-some_length (c ∷ u) h = omega arith
-
-pub bracket_shorter : (text words rest : List ℕ) → bracket_at text ≡ Some (words, rest) → length rest < length text
-bracket_shorter text words rest e = let s = bracket_split text words rest e in omega (arith, ap length s.1, length-append s.0 rest, some_length s.0 s.2)
 
 pub bracket_tail : (whole text words rest : List ℕ) → IsTail whole text → bracket_at text ≡ Some (words, rest) → IsTail whole rest
 bracket_tail whole text words rest h e = let s = bracket_split text words rest e in tail_split whole text s.0 rest h s.1

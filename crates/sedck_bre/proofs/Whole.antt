@@ -1,5 +1,5 @@
 -- The reading of a whole text, from that of its list of items.
-use Rattle.std.proofs.Common.{◌≡◌, ℕ, false, List, [], ◌∷◌, length, Some, None, refl, sym, ap, ◌∙◌, arith, replicate}
+use Rattle.std.proofs.Common.{◌≡◌, ℕ, false, List, [], ◌∷◌, length, Some, None, refl, sym, ap, ◌∙◌, replicate}
 use Rattle.std.proofs.lemmas.List.{get_or-replicate}
 use Rattle.sedck_bre.specs.Tree.{Tree, Trees, Seq}
 use Rattle.sedck_bre.specs.Shape.{Whole, First, Shape}
@@ -26,10 +26,6 @@ whole-rest ts (x ∷ rest) h = refl
 
 pub read-rest : (text : List ℕ) (ts : Trees) (rest : List ℕ) → (length rest ≡ 0 → ⊥) → items_of full Whole First 0 0 [] text ≡ Some (ts, rest) → read full text ≡ None
 read-rest text ts rest h e = read-items text ∙ (ap (λ o. o >>= whole) e ∙ whole-rest ts rest h)
-
-pub none_left : (rest : List ℕ) → length rest ≡ 0 → rest ≡ []
-none_left [] h = refl
-none_left (x ∷ rest) h = absurd (omega arith)
 
 pub shape_of : (text : List ℕ) (t : Tree) → read full text ≡ Some t → Shape text t
 shape_of text t e = rw e at (read_sound full full_takes text)

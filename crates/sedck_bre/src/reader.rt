@@ -1,9 +1,9 @@
 //! The structure of an expression: its list of items, and the groups in it.
-ghost use Rattle.std.specs.Prelude.{◌≡◌, ◌+◌, ◌++◌, ◌<◌, ◌≤◌, ℕ, List, length, map, IfOk, IfErr, IsTrue, false};
-ghost use Rattle.sedck_bre.specs.Tree.{groups_in, trees};
+ghost use Rattle.std.specs.Prelude.{◌≡◌, ◌≢◌, ◌+◌, ◌∷◌, ◌++◌, ◌<◌, ◌≤◌, ℕ, List, [], length, drop, map, Option, IfOk, IfErr, IsTrue, true, false};
+ghost use Rattle.sedck_bre.specs.Tree.{Trees, groups_in, trees};
 ghost use Rattle.sedck_bre.specs.View.{tree, sequence};
 ghost use Rattle.sedck_bre.specs.Shape as shape;
-ghost use Rattle.sedck_bre.specs.Reading.{at_end, items_of, atom, backslash, group_at};
+ghost use Rattle.sedck_bre.specs.Reading.{begins_pair, at_end, items_of, atom, backslash, escaped, group_at};
 ghost use Rattle.sedck_bre.specs.FullReading.{full, IsTail};
 ghost use Rattle.sedck_bre.specs.Faults.{StandsAt, IsPlaced};
 ghost use Rattle.sedck_bre.specs.Gives.{Gives, place_of, level_of, ClosedIs};
@@ -80,10 +80,73 @@ fn atom<'a>(
     ensures tail { IfOk result (λ x. IsTail whole.now x.1.now) }
     ensures place { IfErr result (λ fault. IsPlaced whole.now fault) }
 {
+    if begins_with(b'(', text) {
+        group(alloc, whole, deep, groups, text)
+    } else {
+        single(whole, inside, place, groups, text)
+    }
+}
+
+/// A group: its `\(`, its items and its `\)`.
+#[cycle(list)]
+fn group<'a>(
+    alloc: Global,
+    whole: &[u8],
+    deep: u8,
+    groups: &mut Groups,
+    text: &'a [u8],
+) -> Result<(Bre, &'a [u8]), ReFault>
+    requires tail { IsTail whole.now text.now }
+    requires opens { begins_pair 40 text.now ≡ true }
+    requires few { groups.old.opened ≤ 99 }
+    requires shallow { deep ≤ 32 }
+    ensures value { (closed : List ℕ) → ClosedIs groups.old.closed closed → Gives (λ x. (tree x.0, x.1.now)) result (group_at (items_of full shape.Inside shape.First (deep + 1) (groups.old.opened + 1) closed) deep groups.old.opened (drop 2 text.now)) }
+    ensures few { groups.new.opened ≤ 99 }
+    ensures opened { IfOk result (λ x. groups.new.opened ≡ groups.old.opened + length (groups_in (tree x.0))) }
+    ensures closed { (closed : List ℕ) → ClosedIs groups.old.closed closed → IfOk result (λ x. ClosedIs groups.new.closed (closed ++ groups_in (tree x.0))) }
+    ensures shorter { IfOk result (λ x. length x.1.now < length text.now) }
+    ensures tail { IfOk result (λ x. IsTail whole.now x.1.now) }
+    ensures place { IfErr result (λ fault. IsPlaced whole.now fault) }
+{
+    let start = place_in(whole, text);
+    if deep >= 32 {
+        return Err(ReFault::TooDeep { place: start });
+    }
+    if groups.opened >= 99 {
+        return Err(ReFault::TooManyGroups { place: start });
+    }
+    groups.opened += 1;
+    let k = groups.opened;
+    let (items, rest) = list(alloc, whole, true, deep + 1, groups, behind_pair(text))?;
+    if !begins_with(b')', rest) {
+        return Err(ReFault::UnclosedGroup { place: start });
+    }
+    groups.closed[k as usize] = true;
+    let body = Box::new(alloc, Bre::Seq(items))?;
+    Ok((Bre::Group(k, body), behind_pair(rest)))
+}
+
+/// An item without a sign of repetition that is no group.
+fn single<'a>(
+    whole: &[u8],
+    inside: bool,
+    place: Place,
+    groups: &Groups,
+    text: &'a [u8],
+) -> Result<(Bre, &'a [u8]), ReFault>
+    requires tail { IsTail whole.now text.now }
+    requires going { at_end text.now ≡ false }
+    requires other { begins_pair 40 text.now ≡ false }
+    ensures value { (inner : List ℕ → Option (Trees × List ℕ)) (deep opened : ℕ) (closed : List ℕ) → ClosedIs groups.now.closed closed → Gives (λ x. (tree x.0, x.1.now)) result (atom full inner (level_of inside) (place_of place) deep opened closed text.now) }
+    ensures groups { IfOk result (λ x. groups_in (tree x.0) ≡ []) }
+    ensures shorter { IfOk result (λ x. length x.1.now < length text.now) }
+    ensures tail { IfOk result (λ x. IsTail whole.now x.1.now) }
+    ensures place { IfErr result (λ fault. IsPlaced whole.now fault) }
+{
     let start = place_in(whole, text);
     match text {
         [] => unreachable!(),
-        [b'\\', rest @ ..] => escaped(alloc, whole, start, place, deep, groups, rest),
+        [b'\\', rest @ ..] => backslash(whole, place, start, groups, rest),
         [b'[', ..] => set(whole, text),
         [b'.', rest @ ..] => Ok((Bre::Any, rest)),
         [b, rest @ ..] => match plain(inside, place, at_end(rest), *b) {
@@ -93,25 +156,19 @@ fn atom<'a>(
     }
 }
 
-/// What stands behind a backslash.
-#[cycle(list)]
-fn escaped<'a>(
-    alloc: Global,
+/// What stands behind a backslash that opens no group.
+fn backslash<'a>(
     whole: &[u8],
-    start: usize,
     place: Place,
-    deep: u8,
-    groups: &mut Groups,
+    start: usize,
+    groups: &Groups,
     text: &'a [u8],
 ) -> Result<(Bre, &'a [u8]), ReFault>
     requires tail { IsTail whole.now text.now }
     requires start { StandsAt whole.now start "\\" }
-    requires few { groups.old.opened ≤ 99 }
-    requires shallow { deep ≤ 32 }
-    ensures value { (closed : List ℕ) → ClosedIs groups.old.closed closed → Gives (λ x. (tree x.0, x.1.now)) result (backslash (items_of full shape.Inside shape.First (deep + 1) (groups.old.opened + 1) closed) deep groups.old.opened closed text.now) }
-    ensures few { groups.new.opened ≤ 99 }
-    ensures opened { IfOk result (λ x. groups.new.opened ≡ groups.old.opened + length (groups_in (tree x.0))) }
-    ensures closed { (closed : List ℕ) → ClosedIs groups.old.closed closed → IfOk result (λ x. ClosedIs groups.new.closed (closed ++ groups_in (tree x.0))) }
+    requires other { begins_pair 40 (92 ∷ text.now) ≡ false }
+    ensures value { (inner : List ℕ → Option (Trees × List ℕ)) (deep opened : ℕ) (closed : List ℕ) → ClosedIs groups.now.closed closed → Gives (λ x. (tree x.0, x.1.now)) result (backslash inner deep opened closed text.now) }
+    ensures groups { IfOk result (λ x. groups_in (tree x.0) ≡ []) }
     ensures shorter { IfOk result (λ x. length x.1.now ≤ length text.now) }
     ensures tail { IfOk result (λ x. IsTail whole.now x.1.now) }
     ensures place { IfErr result (λ fault. IsPlaced whole.now fault) }
@@ -119,67 +176,30 @@ fn escaped<'a>(
     let Some((b, rest)) = text.split_first() else {
         return Err(ReFault::TrailingBackslash { place: start });
     };
-    let b = *b;
-    if b == b'{' {
-        return Err(misplaced(place, start));
-    }
-    if b == b'(' {
-        return group(alloc, whole, start, deep, groups, rest);
-    }
-    if b'1' <= b && b <= b'9' {
-        let k = b - b'0';
-        if !groups.closed[k as usize] {
-            return Err(ReFault::BadReference { place: start });
-        }
-        return Ok((Bre::Ref(k), rest));
-    }
-    if b == b'n' {
-        return Ok((Bre::Byte(b'\n'), rest));
-    }
-    if b == b't' {
-        return Ok((Bre::Byte(b'\t'), rest));
-    }
-    if is_escapable(b) {
-        return Ok((Bre::Byte(b), rest));
-    }
-    Err(ReFault::BadEscape { place: start })
+    let item = escaped(place, start, groups, *b)?;
+    Ok((item, rest))
 }
 
-/// The inside of a group, and its `\)`.
-#[cycle(list)]
-fn group<'a>(
-    alloc: Global,
-    whole: &[u8],
-    start: usize,
-    deep: u8,
-    groups: &mut Groups,
-    text: &'a [u8],
-) -> Result<(Bre, &'a [u8]), ReFault>
-    requires tail { IsTail whole.now text.now }
-    requires start { StandsAt whole.now start "\\" }
-    requires few { groups.old.opened ≤ 99 }
-    requires shallow { deep ≤ 32 }
-    ensures value { (closed : List ℕ) → ClosedIs groups.old.closed closed → Gives (λ x. (tree x.0, x.1.now)) result (group_at (items_of full shape.Inside shape.First (deep + 1) (groups.old.opened + 1) closed) deep groups.old.opened text.now) }
-    ensures few { groups.new.opened ≤ 99 }
-    ensures opened { IfOk result (λ x. groups.new.opened ≡ groups.old.opened + length (groups_in (tree x.0))) }
-    ensures closed { (closed : List ℕ) → ClosedIs groups.old.closed closed → IfOk result (λ x. ClosedIs groups.new.closed (closed ++ groups_in (tree x.0))) }
-    ensures shorter { IfOk result (λ x. length x.1.now ≤ length text.now) }
-    ensures tail { IfOk result (λ x. IsTail whole.now x.1.now) }
-    ensures place { IfErr result (λ fault. IsPlaced whole.now fault) }
+/// What a byte behind a backslash stands for, where it opens no group.
+fn escaped(place: Place, start: usize, groups: &Groups, b: u8) -> Result<Bre, ReFault>
+    requires other { b ≢ 40 }
+    ensures value { (inner : List ℕ → Option (Trees × List ℕ)) (deep opened : ℕ) (closed rest : List ℕ) → ClosedIs groups.now.closed closed → Gives (λ x. (tree x, rest)) result (escaped inner deep opened closed b rest) }
+    ensures groups { IfOk result (λ x. groups_in (tree x) ≡ []) }
+    ensures place { IfErr result (λ fault. (whole : List ℕ) → StandsAt whole start "\\" → IsPlaced whole fault) }
 {
-    if deep >= 32 {
-        return Err(ReFault::TooDeep { place: start });
+    match b {
+        b'{' => Err(misplaced(place, start)),
+        b'1'..=b'9' => {
+            let k = b - b'0';
+            if groups.closed[k as usize] {
+                Ok(Bre::Ref(k))
+            } else {
+                Err(ReFault::BadReference { place: start })
+            }
+        }
+        b'n' => Ok(Bre::Byte(b'\n')),
+        b't' => Ok(Bre::Byte(b'\t')),
+        _ if is_escapable(b) => Ok(Bre::Byte(b)),
+        _ => Err(ReFault::BadEscape { place: start }),
     }
-    if groups.opened >= 99 {
-        return Err(ReFault::TooManyGroups { place: start });
-    }
-    groups.opened += 1;
-    let k = groups.opened;
-    let (items, rest) = list(alloc, whole, true, deep + 1, groups, text)?;
-    if !begins_with(b')', rest) {
-        return Err(ReFault::UnclosedGroup { place: start });
-    }
-    groups.closed[k as usize] = true;
-    let body = Box::new(alloc, Bre::Seq(items))?;
-    Ok((Bre::Group(k, body), behind_pair(rest)))
 }

@@ -44,7 +44,7 @@ pub(crate) fn union(a: ByteSet, b: ByteSet) -> ByteSet
     ByteSet([a[0] | b[0], a[1] | b[1], a[2] | b[2], a[3] | b[3]])
 }
 
-/// The bits that the word lacks.
+/// The bits that the word lacks. It is a function so that each word's bits are proved once.
 fn inverted(word: u64) -> u64
     ensures { (k : ℕ) → k < 64 → bit_at result k ≡ 1 - bit_at word k }
 {

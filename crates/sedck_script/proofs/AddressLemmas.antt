@@ -7,6 +7,7 @@ use Rattle.sedck_script.specs.Parts.{Number, PlaceText}
 use Rattle.sedck_script.specs.Parts as p
 use Rattle.sedck_script.specs.AddressReading.{ContextText, CustomText}
 use Rattle.sedck_script.proofs.PartsOne.{number_no_byte}
+use Rattle.sedck_script.proofs.Heads.{heads, tails}
 
 pub last_text : {text rest : List ℕ} {b : ℕ} → text ≡ b ∷ rest → b ≡ 36 → PlaceText text Last rest
 last_text {rest = rest} e h = subst (λ t. PlaceText t Last rest) (sym e) (p.last h)
@@ -47,15 +48,9 @@ no_line_by f g h none (p.custom e d x y) = h e
 pub no_line : {text behind rest : List ℕ} {b : ℕ} {q : Place} → text ≡ b ∷ behind → b ≢ 36 → b ≢ 47 → b ≢ 92 → ((n : ℕ) (r : List ℕ) → Number text n r → ⊥) → PlaceText text q rest → ⊥
 no_line {rest = rest} {q = q} e f g h none x = no_line_by f g h (λ n r y. none n r (subst (λ t. Number t n r) (sym e) y)) (subst (λ t. PlaceText t q rest) e x)
 
-head_of : {a b : ℕ} {s t : List ℕ} → (a ∷ s) ≡ (b ∷ t) → a ≡ b
-head_of e = cc e
-
-tail_of : {a b : ℕ} {s t : List ℕ} → (a ∷ s) ≡ (b ∷ t) → s ≡ t
-tail_of e = cc e
-
 -- a custom address begins with this delimiter
 pub custom_delimiter : {text behind rest : List ℕ} {d : ℕ} {q : Place} → text ≡ d ∷ behind → CustomText text q rest → IsTrue (is_delimiter d) × ContextText d behind q rest
 custom_delimiter {rest = rest} {q = q} e c =
-    let same : c.0 ≡ _ = head_of (sym c.2 ∙ e) in
-    let more : c.1 ≡ _ = tail_of (sym c.2 ∙ e) in
+    let same : c.0 ≡ _ = heads (sym c.2 ∙ e) in
+    let more : c.1 ≡ _ = tails (sym c.2 ∙ e) in
     (subst (λ b. IsTrue (is_delimiter b)) same c.3, subst₂ (λ b t. ContextText b t q rest) same more c.4)

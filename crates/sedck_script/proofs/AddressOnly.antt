@@ -1,14 +1,14 @@
 -- The addresses of a command are the only ones.
-use Rattle.std.proofs.Common.{◌≡◌, ℕ, true, List, [], ◌∷◌, Option, Some, None, refl, ap, sym, ◌∙◌, subst}
+use Rattle.std.proofs.Common.{◌≡◌, ℕ, true, List, [], ◌∷◌, length, Option, Some, None, refl, ap, sym, ◌∙◌, subst, arith}
 use Rattle.std.proofs.lemmas.Bool.{both_ways, not-true}
 use Rattle.sedck_script.specs.Cuts.{is_blank, Longest}
 use Rattle.sedck_script.specs.Program.{Place, Address, NoAddress, One, Two}
 use Rattle.sedck_script.specs.Parts.{PlaceText, AddressText}
 use Rattle.sedck_script.specs.Parts as p
 use Rattle.sedck_script.specs.Items.{WrittenVerb, VerbText}
-use Rattle.sedck_script.specs.AddressReading.{begins_place, is_mark, BeginsPlace, BeginsNoPlace, IsOnlyAddress, IsNoCommand}
+use Rattle.sedck_script.specs.AddressReading.{begins_place, is_mark, BeginsPlace, BeginsNoPlace, IsOnlyAddress, IsNoCommand, IsBehindComma, HasNoComma, IsSecond}
 use Rattle.sedck_script.proofs.Cuts.{longest_one}
-use Rattle.sedck_script.proofs.ItemsOne.{place_first, place_other, place_no_mark, no_verb_here, no_place_here, no_comma_here, longest_along, place_along, tails, place_one}
+use Rattle.sedck_script.proofs.ItemsOne.{place_first, place_other, place_no_mark, no_verb_here, no_place_here, no_comma_here, longest_along, place_along, place_one, pair_of}
 use Rattle.sedck_script.specs.Reading.{EndsIn}
 use Rattle.sedck_script.proofs.Tails.{tail_cut, tail_tail, tail_behind, tail_cons, number_tail, expression_tail}
 use Rattle.sedck_script.proofs.Outcomes.{if_some_at, if_none_at}
@@ -17,6 +17,7 @@ use Rattle.std.specs.Borrow.{Bor}
 use Rattle.sedck_script.specs.View.{place_of}
 use Rattle.sedck_script.specs.declared.script.Place.{Place as CodePlace}
 use Rattle.sedck_script.proofs.Determined.{expressions_determined}
+use Rattle.sedck_script.proofs.Heads.{heads, tails}
 
 one_place : {text r s : List ℕ} {q u : Place} → PlaceText text q r → PlaceText text u s → (q ≡ u) × (r ≡ s)
 one_place x y = place_one expressions_determined x y
@@ -36,22 +37,15 @@ none_by n (p.two x c h d y) = absurd (no_place n x)
 pub only_none : {text : List ℕ} → BeginsNoPlace text → IsOnlyAddress text NoAddress text
 only_none n other behind marks begins left verb a l v = none_by n a
 
--- behind the blanks stands no comma
-abbrev pub IsNoComma : List ℕ → Type 0
-IsNoComma after = (b : ℕ) (more : List ℕ) → after ≡ b ∷ more → b ≡ 44 → ⊥
-
-one_by : {text r s blanks after marks begins left : List ℕ} {q : Place} {b : Address} {v : WrittenVerb} → PlaceText text q r → Longest is_blank r blanks after → IsNoComma after
+one_by : {text r s marks begins left : List ℕ} {q : Place} {b : Address} {v : WrittenVerb} → PlaceText text q r → HasNoComma r
     → AddressText text b s → Longest is_mark s marks begins → VerbText begins v left → (b ≡ One q) × (s ≡ r)
-one_by x l n p.none m v = absurd (no_place_here x m v)
-one_by x l n (p.one y) m v = let one = one_place y x in (ap One one.0, one.1)
-one_by x l n (p.two {more = more} {b = b} y c h d z) m v = absurd (n b more (longest_one l (longest_along (one_place y x).1 c)).1 h)
+one_by x n p.none m v = absurd (no_place_here x m v)
+one_by x n (p.one y) m v = let one = one_place y x in (ap One one.0, one.1)
+one_by x n (p.two {more = more} {b = b} y c h d z) m v = absurd (n _ more b (longest_along (one_place y x).1 c) h)
 
 -- one address, behind which no comma stands
-pub only_one : {text r blanks after : List ℕ} {q : Place} → PlaceText text q r → Longest is_blank r blanks after → IsNoComma after → IsOnlyAddress text (One q) r
-only_one x l n other behind marks begins left verb a m v = one_by x l n a m v
-
-pair_of : {q u x y : Place} {r s : List ℕ} → q ≡ u → (x ≡ y) × (r ≡ s) → (Two q x ≡ Two u y) × (r ≡ s)
-pair_of e h = (cc (e, h.0), h.1)
+pub only_one : {text r : List ℕ} {q : Place} → PlaceText text q r → HasNoComma r → IsOnlyAddress text (One q) r
+only_one x n other behind marks begins left verb a m v = one_by x n a m v
 
 two_by : {text r s blanks more front second rest marks begins left : List ℕ} {c : ℕ} {q u : Place} {b : Address} {v : WrittenVerb} → PlaceText text q r → Longest is_blank r blanks (c ∷ more) → c ≡ 44
     → Longest is_blank more front second → PlaceText second u rest
@@ -65,13 +59,11 @@ two_by x l h d z (p.two y i j k o) m v =
     pair_of first.0 (one_place (place_along second.1 o) z)
 
 -- two addresses
-pub only_two : {text r blanks after more front second rest : List ℕ} {c : ℕ} {q u : Place} → PlaceText text q r → Longest is_blank r blanks after → after ≡ c ∷ more → c ≡ 44
-    → Longest is_blank more front second → PlaceText second u rest → IsOnlyAddress text (Two q u) rest
-only_two {r = r} {blanks = blanks} x l e h d z other behind marks begins left verb a m v = two_by x (subst (λ t. Longest is_blank r blanks t) e l) h d z a m v
+pub only_two : {text r second rest : List ℕ} {q u : Place} → PlaceText text q r → IsBehindComma r second → PlaceText second u rest → IsOnlyAddress text (Two q u) rest
+only_two x l z other behind marks begins left verb a m v = two_by x l.before l.is_comma l.behind z a m v
 
-pub two_read : {text r blanks after more front second rest : List ℕ} {c : ℕ} {q u : Place} → PlaceText text q r → Longest is_blank r blanks after → after ≡ c ∷ more → c ≡ 44
-    → Longest is_blank more front second → PlaceText second u rest → AddressText text (Two q u) rest
-two_read {r = r} {blanks = blanks} x l e h d z = p.two x (subst (λ t. Longest is_blank r blanks t) e l) h d z
+pub two_read : {text r second rest : List ℕ} {q u : Place} → PlaceText text q r → IsBehindComma r second → PlaceText second u rest → AddressText text (Two q u) rest
+two_read x l z = p.two x l.before l.is_comma l.behind z
 
 -- ---- No command
 
@@ -97,9 +89,8 @@ second_by x l h d n (p.two y i j k o) m v =
     n _ _ (place_along second.1 o)
 
 -- where behind a comma no address stands
-pub no_second : {text r blanks after more front second : List ℕ} {c : ℕ} {q : Place} → PlaceText text q r → Longest is_blank r blanks after → after ≡ c ∷ more → c ≡ 44
-    → Longest is_blank more front second → ((u : Place) (t : List ℕ) → PlaceText second u t → ⊥) → IsNoCommand text
-no_second {r = r} {blanks = blanks} x l e h d n given negated verb rest c = second_by x (subst (λ t. Longest is_blank r blanks t) e l) h d n c.addresses c.run c.verbs
+pub no_second : {text r second : List ℕ} {q : Place} → PlaceText text q r → IsBehindComma r second → ((u : Place) (t : List ℕ) → PlaceText second u t → ⊥) → IsNoCommand text
+no_second x l n given negated verb rest c = second_by x l.before l.is_comma l.behind n c.addresses c.run c.verbs
 
 -- ---- Tails
 
@@ -113,17 +104,29 @@ place_tail (p.custom {b = b} {delimiter = d} e i x y) = tail_cons b (tail_cons d
 pub second_tail : {whole text r blanks after more front second : List ℕ} {b : ℕ} {q : Place} → EndsIn whole text → PlaceText text q r → Longest is_blank r blanks after → after ≡ b ∷ more → Longest is_blank more front second → EndsIn whole second
 second_tail h x l e m = tail_tail (tail_behind (tail_tail h (tail_tail (place_tail x) (tail_cut l))) e) (tail_cut m)
 
-pub other_byte : {after more : List ℕ} {b : ℕ} → after ≡ b ∷ more → (b ≡ 44 → ⊥) → IsNoComma after
-other_byte e n c other f h = n (first_byte (sym e ∙ f) ∙ h)
-  where
-    first_byte : {x y : ℕ} {s t : List ℕ} → (x ∷ s) ≡ (y ∷ t) → x ≡ y
-    first_byte g = cc g
+pub comma_tail : {whole text second : List ℕ} → EndsIn whole text → IsBehindComma text second → EndsIn whole second
+comma_tail h l = tail_tail (tail_behind (tail_tail h (tail_cut l.before)) refl) (tail_cut l.behind)
+
+-- ---- Commas
+
+pub no_comma_end : {text blanks after : List ℕ} → Longest is_blank text blanks after → length after ≡ 0 → HasNoComma text
+no_comma_end l e blanks more b k h = absurd (omega (arith, e, ap length (longest_one l k).1))
+
+pub no_comma : {text blanks after behind : List ℕ} {c : ℕ} → Longest is_blank text blanks after → after ≡ c ∷ behind → (c ≡ 44 → ⊥) → HasNoComma text
+no_comma l e n blanks more b k h = n (heads (sym e ∙ (longest_one l k).1) ∙ h)
 
 -- ---- What is found
 
 pub place_found : {text : List ℕ} {o : Option (CodePlace × Option ℕ × Bor (List ℕ))} {x : CodePlace × Option ℕ × Bor (List ℕ)} → o ≡ Some x
     → IfSome o (λ y. PlaceText text (place_of y.0) y.2.now) → PlaceText text (place_of x.0) x.2.now
 place_found {text = text} e h = if_some_at (λ y. PlaceText text (place_of y.0) y.2.now) e h
+
+pub second_found : {text : List ℕ} {o : Option (CodePlace × Option ℕ × Bor (List ℕ))} {x : CodePlace × Option ℕ × Bor (List ℕ)} → o ≡ Some x
+    → IfSome o (λ y. IsSecond text (place_of y.0) y.2.now) → IsSecond text (place_of x.0) x.2.now
+second_found {text = text} e h = if_some_at (λ y. IsSecond text (place_of y.0) y.2.now) e h
+
+pub no_comma_found : (text : List ℕ) {o : Option (CodePlace × Option ℕ × Bor (List ℕ))} → o ≡ None → IfNone o (HasNoComma text) → HasNoComma text
+no_comma_found text e h = if_none_at (HasNoComma text) e h
 
 pub none_found : (text : List ℕ) {o : Option (CodePlace × Option ℕ × Bor (List ℕ))} → o ≡ None → IfNone o (BeginsNoPlace text) → BeginsNoPlace text
 none_found text e h = if_none_at (BeginsNoPlace text) e h

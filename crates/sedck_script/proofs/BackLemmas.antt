@@ -1,6 +1,6 @@
 -- How far the items have been resolved, from the back.
 use Rattle.std.proofs.Common.{◌≡◌, ℕ, suc, ◌+◌, ◌<◌, List, [], ◌∷◌, ◌++◌, length, map, reverse, Bool, Option, Some, None, refl, ap, sym, ◌∙◌, subst, append-nil, append_assoc, length-append, arith}
-use Rattle.std.proofs.lemmas.List.{length-reverse, reverse-append, map_push, length-map}
+use Rattle.std.proofs.lemmas.List.{length-reverse, reverse-append, map_push, length-map, nil_from_length}
 use Rattle.std.proofs.Math.ListN.{get_or-append}
 use Rattle.std.proofs.Math.Seq.{get_or-append_seam}
 use Rattle.std.specs.Prelude.{All}
@@ -96,17 +96,13 @@ back_closing {whole = whole} {made = made} {blocks = blocks} left target e b =
 knows_plain : {S : Type 0} {labels : HashMap (Bor (List ℕ)) ℕ S} {end : ℕ} (whole : List Item) → HasLabels labels (commands_among whole) → end ≡ length (commands_among whole) → Knows labels end (plain_commands (commands_among whole))
 knows_plain whole h e = record { len = e ∙ sym (plain_length (commands_among whole)); at = λ name i k. plain_label (commands_among whole) name i (h.at name i k) }
 
-no_blocks : (blocks : List ℕ) → length blocks ≡ 0 → blocks ≡ []
-no_blocks [] e = refl
-no_blocks (b ∷ blocks) e = absurd (omega arith)
-
 -- where nothing is left, the items are these commands
 pub back_done : {S : Type 0} {labels : HashMap (Bor (List ℕ)) ℕ S} {end : ℕ} {whole : List Item} {made : List Command} {blocks : List ℕ}
     → HasLabels labels (commands_among whole) → Nests whole 0 → end ≡ length (commands_among whole) → IsBack labels end whole [] made blocks → Resolves made [] 0 whole made
 back_done {labels = labels} {end = end} {whole = whole} {made = made} {blocks = blocks} h nests e b =
     let at_whole : (all : List Command) → Knows labels end all → Resolves all blocks 0 whole made = λ all k. rw b.split (b.resolves all k) in
     let first = at_whole (plain_commands (commands_among whole)) (knows_plain whole h e) in
-    let none : blocks ≡ [] = no_blocks blocks (nests_one whole (length blocks) 0 (resolves_nests first) nests) in
+    let none : blocks ≡ [] = nil_from_length blocks (nests_one whole (length blocks) 0 (resolves_nests first) nests) in
     let knows : Knows labels end made = record { len = e ∙ sym (resolves_length first); at = λ name i k. label_defined first name i (h.at name i k) } in
     subst (λ bs. Resolves made bs 0 whole made) none (at_whole made knows)
 
@@ -128,5 +124,4 @@ pub known_last : {S : Type 0} (labels : HashMap (Bor (List ℕ)) ℕ S) (xs : Li
 known_last labels xs x h = subst (λ item. IsKnownLabel labels (item_label (item_of item))) (get_or-append_seam xs x [] x) (h (length xs) x (omega (arith, length-append xs (x ∷ []))))
 
 pub none_left : {X Y : Type 0} (f : X → Y) (xs : List X) → length xs ≡ 0 → map f xs ≡ []
-none_left f [] e = refl
-none_left f (x ∷ xs) e = absurd (omega arith)
+none_left f xs e = ap (map f) (nil_from_length xs e)

@@ -1,5 +1,8 @@
--- Texts that are the same begin with the same byte.
+-- Texts that are the same begin with the same byte, and the same stands behind it.
 use Rattle.std.proofs.Common.{◌≡◌, ℕ, List, ◌∷◌}
 
 pub heads : {a b : ℕ} {s t : List ℕ} → (a ∷ s) ≡ (b ∷ t) → a ≡ b
 heads h = cc h
+
+pub tails : {a b : ℕ} {s t : List ℕ} → (a ∷ s) ≡ (b ∷ t) → s ≡ t
+tails h = cc h

@@ -1,10 +1,11 @@
 -- Names and texts.
-use Rattle.std.proofs.Common.{◌≡◌, ◌≢◌, ℕ, ◌<◌, not, List, [], ◌∷◌, length, refl, ap, sym, ◌∙◌, subst, inl, inr, ◌⊎◌, arith}
+use Rattle.std.proofs.Common.{◌≡◌, ◌≢◌, ℕ, ◌<◌, not, List, [], ◌∷◌, length, refl, ap, sym, ◌∙◌, subst, inl, inr, ◌⊎◌}
 use Rattle.sedck_script.specs.Cuts.{is_newline, is_blank, Longest}
 use Rattle.sedck_script.specs.Parts.{Name, Lines, GivenText, BeginsPlainly}
 use Rattle.sedck_script.specs.Parts as p
 use Rattle.sedck_script.proofs.Cuts.{longest_one}
 use Rattle.sedck_script.proofs.Heads.{heads}
+use Rattle.std.proofs.lemmas.List.{nil_from_length}
 
 pub name_some : {text blanks begins front rest name r : List ℕ} → Longest is_blank text blanks begins → Longest (λ b. not (is_newline b)) begins front rest → Name text name r → 0 < length front
 name_some {front = front} {name = name} {r = r} l m n =
@@ -24,17 +25,13 @@ passed_pair {a = a} {b = b} h e f g = record { sound = λ bytes r x. h.sound (a 
 last_lines : {a : ℕ} {bytes r : List ℕ} → a ≡ 92 → Lines [] bytes r → Lines (a ∷ []) (a ∷ []) r
 last_lines g p.all = p.last g
 
-pub no_bytes : (xs : List ℕ) → length xs ≡ 0 → xs ≡ []
-no_bytes [] e = refl
-no_bytes (b ∷ xs) e = absurd (omega arith)
-
 pub passed_last : {text rest behind : List ℕ} {a : ℕ} → LinesPassed text rest → rest ≡ a ∷ behind → length behind ≡ 0 → a ≡ 92 → LinesPassed text behind
 passed_last {behind = behind} {a = a} h e f g =
-    let none = no_bytes behind f in
+    let none = nil_from_length behind f in
     record { sound = λ bytes r x. h.sound (a ∷ []) r (subst (λ t. Lines t (a ∷ []) r) (sym (e ∙ ap (λ t. a ∷ t) none)) (last_lines g (subst (λ t. Lines t bytes r) none x))) }
 
 pub passed_end : {text rest : List ℕ} → LinesPassed text rest → length rest ≡ 0 → (bytes : List ℕ) × Lines text bytes rest
-passed_end {rest = rest} h e = let none = no_bytes rest e in h.sound [] rest (subst (λ t. Lines t [] t) (sym none) p.all)
+passed_end {rest = rest} h e = let none = nil_from_length rest e in h.sound [] rest (subst (λ t. Lines t [] t) (sym none) p.all)
 
 pub passed_line : {text rest behind : List ℕ} {b : ℕ} → LinesPassed text rest → rest ≡ b ∷ behind → b ≡ 10 → (bytes : List ℕ) × Lines text bytes rest
 passed_line {rest = rest} h e f = h.sound [] rest (subst (λ t. Lines t [] t) (sym e) (p.ends f))

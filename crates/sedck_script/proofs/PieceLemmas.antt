@@ -14,7 +14,7 @@ use Rattle.sedck_script.specs.PieceReading.{IsPiece, list_escape, PatternText}
 use Rattle.sedck_script.proofs.PartsOne.{expression_one}
 use Rattle.sedck_script.proofs.Tails.{tail_tail}
 use Rattle.sedck_script.proofs.Heads.{heads}
-use Rattle.sedck_script.proofs.PartLemmas.{no_bytes}
+use Rattle.std.proofs.lemmas.List.{nil_from_length}
 
 pub piece_tail : (d : ℕ) (text rest : List ℕ) (x : Piece) → IsPiece d text x rest → EndsIn text rest
 piece_tail d text rest piece.End h = (d ∷ [], h)
@@ -189,7 +189,7 @@ list_broken {d} n h k l e r x = let one = h.only e r x in no_list_pair n refl k.
 
 -- an empty expression, and one that isn't
 pub pattern_none : {d : ℕ} {text bytes rest : List ℕ} → DelimitedExpression d text bytes rest → length bytes ≡ 0 → PatternText d text Previous rest
-pattern_none {d} {text} {bytes} {rest} x e = let none = no_bytes bytes e in ([], subst (λ t. DelimitedExpression d text t rest) none x, previous)
+pattern_none {d} {text} {bytes} {rest} x e = let none = nil_from_length bytes e in ([], subst (λ t. DelimitedExpression d text t rest) none x, previous)
 
 pub pattern_some : {d : ℕ} {text bytes rest : List ℕ} {tree : Tree} → DelimitedExpression d text bytes rest → 0 < length bytes → Shape bytes tree → PatternText d text (Expression tree) rest
 pattern_some {bytes = bytes} {tree = tree} x some s = (bytes, x, is_expression bytes some s)

@@ -15,13 +15,13 @@ use Rattle.sedck_script.specs.ItemReading.{item_of, Turn, Opens, Closes, Stays, 
 use Rattle.sedck_script.specs.Progress.{IsFront, IsProgress, HasNoItems, BeginsCommand, IsBeyond}
 use Rattle.sedck_script.specs.declared.items.Progress.{Progress}
 use Rattle.sedck_script.proofs.Cuts.{longest_one}
-use Rattle.sedck_script.proofs.Heads.{heads}
-use Rattle.sedck_script.proofs.Tails.{tail_cut, tail_tail, tail_length, verb_text_tail, verb_text_shorter}
+use Rattle.sedck_script.proofs.Heads.{tails, heads}
+use Rattle.sedck_script.proofs.Tails.{tail_cut, tail_tail, tail_length, verb_text_tail, verb_text_shorter, stands_behind}
 use Rattle.sedck_script.proofs.LabelPlaces.{get_front, get_seam}
 use Rattle.sedck_script.proofs.PartsOne.{ends_one}
 use Rattle.sedck_script.proofs.CommandLemmas.{address_tail}
 use Rattle.sedck_script.proofs.StateLemmas.{among_append, Deeper}
-use Rattle.sedck_script.proofs.ItemsOne.{longest_along, ends_along, items_along, command_along, command_one, no_command_other, no_command_end, empty_is_not, tails}
+use Rattle.sedck_script.proofs.ItemsOne.{longest_along, ends_along, items_along, command_along, command_one, no_command_other, no_command_end, empty_is_not}
 use Rattle.sedck_script.proofs.Determined.{expressions_determined}
 
 -- ---- Separators
@@ -186,10 +186,6 @@ front_refused {items = items} {depth = depth} {count = count} labels f k h e non
       | inr (inl deep) ↦ too_deep first.2 depth (Nests first.4) deep.0 deep.1 (subst (λ t. Nests t depth) first.5 (f.nested one.0 (subst (λ t. Nests t 0) one.1 nests)))
       | inr (inr many) ↦ omega (arith, e, many, few, ap length among, length-append (commands_among items) (Written first.0 first.1 first.2 ∷ commands_among first.4))
     ]
-
-stands_behind : (front tail : List ℕ) (b : ℕ) → slice_get (front ++ b ∷ tail) (length front) ≡ Some b
-stands_behind [] tail b = refl
-stands_behind (x ∷ front) tail b = stands_behind front tail b
 
 opening_last : {text rest : List ℕ} {v : WrittenVerb} → v ≡ Opening → VerbText text v rest → text ≡ 123 ∷ rest
 opening_last e (w.opening h) = rw h refl

@@ -19,7 +19,7 @@ tail_tail {a} {b} {c} h k = (h.0 ++ k.0, h.1 ∙ ap (λ t. h.0 ++ t) k.1 ∙ sym
 pub tail_behind : {whole text behind : List ℕ} {b : ℕ} → EndsIn whole text → text ≡ b ∷ behind → EndsIn whole behind
 tail_behind {whole} {text} {behind} {b} h e = (h.0 ++ (b ∷ []), h.1 ∙ ap (λ t. h.0 ++ t) e ∙ sym (append_assoc h.0 (b ∷ []) behind))
 
-stands_behind : (front tail : List ℕ) (b : ℕ) → slice_get (front ++ b ∷ tail) (length front) ≡ Some b
+pub stands_behind : (front tail : List ℕ) (b : ℕ) → slice_get (front ++ b ∷ tail) (length front) ≡ Some b
 stands_behind [] tail b = refl
 stands_behind (x ∷ front) tail b = stands_behind front tail b
 

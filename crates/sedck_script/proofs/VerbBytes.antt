@@ -1,6 +1,7 @@
 -- What the first byte of a verb says of it.
 use Rattle.std.proofs.Common.{◌≡◌, ◌≢◌, ℕ, Bool, true, false, not, ◌&&◌, eqb, List, [], ◌∷◌, Option, Some, refl, sym, ◌∙◌, subst, arith}
 use Rattle.std.proofs.lemmas.Bool.{false≢true, eq-eqb}
+use Rattle.std.proofs.lemmas.Option.{same_Some}
 use Rattle.sedck_bre.specs.Text.{is_in, one_of}
 use Rattle.sedck_script.specs.Program.{Address, NoAddress, One, Two, Verb}
 use Rattle.sedck_script.specs.Items.{WrittenVerb, Known, Opening, Simple, VerbText, Takes, IsNoBrace}
@@ -75,10 +76,7 @@ byte_of e (w.substitute h d x y z g f) = along (sym (heads e) ∙ heads h) (any_
 byte_of e (w.transliterate h d x y l f) = along (sym (heads e) ∙ heads h) (any_addresses 121 refl (λ a n. refl) (λ a n. tt) refl (λ e. cc e))
 
 pub same_byte : {a b : ℕ} {o : Option ℕ} → o ≡ Some a → o ≡ Some b → a ≡ b
-same_byte e f = some_same (sym e ∙ f)
-  where
-    some_same : {x y : ℕ} → Some x ≡ Some y → x ≡ y
-    some_same h = cc h
+same_byte e f = same_Some _ _ (sym e ∙ f)
 
 -- a byte that takes not all addresses is one of four
 pub not_taken : (b : ℕ) (a : Address) (n : Bool) → takes b a n ≡ false → one_of "q:}#" b ≡ true

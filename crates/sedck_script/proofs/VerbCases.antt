@@ -56,7 +56,7 @@ insert_at : {text rest : List ℕ} {verb : WrittenVerb} → VerbText (105 ∷ te
 insert_at (w.insert {blanks = s} {begins = b} {bytes = t} h l g) = record { blanks = s; begins = b; bytes = t; skipped = l; given = g }
 insert_at x = absurd (differ 105 (class_of x) refl (begins x))
 
-byte_along : {b c : ℕ} {text rest : List ℕ} {verb : WrittenVerb} → b ≡ c → VerbText (b ∷ text) verb rest → VerbText (c ∷ text) verb rest
+pub byte_along : {b c : ℕ} {text rest : List ℕ} {verb : WrittenVerb} → b ≡ c → VerbText (b ∷ text) verb rest → VerbText (c ∷ text) verb rest
 byte_along {text = text} {rest = rest} {verb = verb} e x = subst (λ k. VerbText (k ∷ text) verb rest) e x
 
 given_inside : (b : ℕ) {text rest : List ℕ} {verb : WrittenVerb} → one_of "aci" b ≡ true → VerbText (b ∷ text) verb rest → GivenInside text rest
@@ -146,15 +146,13 @@ test_at (w.test {name = n} {behind = b} h l k e) = (Some n, (b, l, k, e))
 test_at (w.test_to_end h k e) = (None, (k, e))
 test_at x = absurd (differ 116 (class_of x) refl (begins x))
 
-pub no_branch_at : {b : ℕ} {text behind : List ℕ} → text ≡ b ∷ behind → b ≡ 98 → ((label : Option (List ℕ)) (rest : List ℕ) → BranchText behind label rest → ⊥) → (verb : WrittenVerb) (rest : List ℕ) → VerbText text verb rest → ⊥
-no_branch_at e h n verb rest x = let i = branch_at (byte_along h (subst (λ t. VerbText t verb rest) e x)) in n i.0 rest i.1
+-- a `b` or a `t`, behind which no label stands
+pub no_jump : {b : ℕ} {text : List ℕ} → (b ≡ 98) ⊎ (b ≡ 116) → ((label : Option (List ℕ)) (rest : List ℕ) → BranchText text label rest → ⊥) → (verb : WrittenVerb) (rest : List ℕ) → VerbText (b ∷ text) verb rest → ⊥
+no_jump h n verb rest x = elim h [ inl e ↦ (let i = branch_at (byte_along e x) in n i.0 rest i.1) | inr e ↦ (let i = test_at (byte_along e x) in n i.0 rest i.1) ]
 
-pub no_test_at : {b : ℕ} {text behind : List ℕ} → text ≡ b ∷ behind → b ≡ 116 → ((label : Option (List ℕ)) (rest : List ℕ) → BranchText behind label rest → ⊥) → (verb : WrittenVerb) (rest : List ℕ) → VerbText text verb rest → ⊥
-no_test_at e h n verb rest x = let i = test_at (byte_along h (subst (λ t. VerbText t verb rest) e x)) in n i.0 rest i.1
+pub verb_behind : {b c : ℕ} {text behind rest : List ℕ} {verb : WrittenVerb} → text ≡ b ∷ behind → b ≡ c → VerbText text verb rest → VerbText (c ∷ behind) verb rest
+verb_behind {rest = rest} {verb = verb} e h x = byte_along h (subst (λ t. VerbText t verb rest) e x)
 
 -- a verb from its byte and what stands behind it
 pub verb_here : {b c : ℕ} {text behind rest : List ℕ} {verb : WrittenVerb} → text ≡ b ∷ behind → b ≡ c → VerbText (c ∷ behind) verb rest → VerbText text verb rest
 verb_here {behind = behind} {rest = rest} {verb = verb} e h x = subst (λ t. VerbText t verb rest) (sym (e ∙ ap (λ k. k ∷ behind) h)) x
-
-pub same_byte : {a b : ℕ} → Some a ≡ Some b → a ≡ b
-same_byte e = cc e

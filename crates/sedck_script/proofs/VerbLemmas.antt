@@ -7,9 +7,12 @@ use Rattle.sedck_script.specs.Parts.{Ends, DelimitedList, Replacement, HasGroups
 use Rattle.sedck_script.specs.Items.{WrittenVerb, Known, BranchTo, TestTo, Simple, VerbText, IsNoBrace}
 use Rattle.sedck_script.specs.Items as w
 use Rattle.sedck_script.specs.PieceReading.{PatternText}
+use Rattle.sedck_script.specs.Reading.{EndsIn}
+use Rattle.sedck_script.specs.VerbReading.{AreLists}
 use Rattle.sedck_script.specs.ReplacementReading.{HasGroupsUpTo}
 use Rattle.sedck_script.proofs.PartsOne.{list_one, replacement_one}
 use Rattle.sedck_script.proofs.WholeOne.{class_of, begins, differ}
+use Rattle.sedck_script.proofs.Tails.{tail_tail, list_tail}
 
 -- what stands behind the delimiter of a `s`
 record SubstituteInside (d : ℕ) (opened : List ℕ) (rest : List ℕ) : Type 0 where
@@ -52,48 +55,43 @@ substitute_no_flags {d} q k e only z n verb rest x =
 
 -- what stands behind the delimiter of a `y`
 record TransliterateInside (d : ℕ) (opened rest : List ℕ) : Type 0 where
-  behind : List ℕ
   after : List ℕ
   from : List ℕ
   to : List ℕ
-  first : DelimitedList d opened from behind
-  second : DelimitedList d behind to after
-  equal : length from ≡ length to
+  lists : AreLists d opened from to after
   ends : Ends after rest
 
 transliterate_at : {d : ℕ} {opened rest : List ℕ} {verb : WrittenVerb} → VerbText (121 ∷ d ∷ opened) verb rest → TransliterateInside d opened rest
 transliterate_at (w.transliterate {from = f} {behind = b} {to = o} {after = a} h i x y l e) =
-    record { behind = b; after = a; from = f; to = o; first = x; second = y; equal = l; ends = e }
+    record { after = a; from = f; to = o; lists = record { behind = b; first = x; second = y; equal = l }; ends = e }
 transliterate_at x = absurd (differ 121 (class_of x) refl (begins x))
 
 transliterate_inside : {d : ℕ} {text opened rest : List ℕ} {verb : WrittenVerb} → text ≡ d ∷ opened → VerbText (121 ∷ text) verb rest → TransliterateInside d opened rest
 transliterate_inside {rest = rest} {verb = verb} e x = transliterate_at (subst (λ t. VerbText (121 ∷ t) verb rest) e x)
 
-pub transliterate_read : {d : ℕ} {text opened behind after from to rest : List ℕ} → text ≡ d ∷ opened → IsTrue (is_delimiter d) → DelimitedList d opened from behind → DelimitedList d behind to after → length from ≡ length to → Ends after rest → VerbText (121 ∷ text) (Known (Transliterate from to)) rest
-transliterate_read {from = from} {to = to} {rest = rest} e h x y l f = subst (λ t. VerbText (121 ∷ t) (Known (Transliterate from to)) rest) (sym e) (w.transliterate refl h x y l f)
+pub transliterate_read : {d : ℕ} {text opened after from to rest : List ℕ} → text ≡ d ∷ opened → IsTrue (is_delimiter d) → AreLists d opened from to after → Ends after rest → VerbText (121 ∷ text) (Known (Transliterate from to)) rest
+transliterate_read {from = from} {to = to} {rest = rest} e h l f = subst (λ t. VerbText (121 ∷ t) (Known (Transliterate from to)) rest) (sym e) (w.transliterate refl h l.first l.second l.equal f)
 
-pub transliterate_no_first : {d : ℕ} {text opened : List ℕ} → text ≡ d ∷ opened → ((bytes r : List ℕ) → DelimitedList d opened bytes r → ⊥) → (verb : WrittenVerb) (rest : List ℕ) → VerbText (121 ∷ text) verb rest → ⊥
-transliterate_no_first e n verb rest x = let i = transliterate_inside e x in n i.from i.behind i.first
+pub transliterate_no_lists : {d : ℕ} {text opened : List ℕ} → text ≡ d ∷ opened → ((from to r : List ℕ) → AreLists d opened from to r → ⊥) → (verb : WrittenVerb) (rest : List ℕ) → VerbText (121 ∷ text) verb rest → ⊥
+transliterate_no_lists e n verb rest x = let i = transliterate_inside e x in n i.from i.to i.after i.lists
 
--- the second list of a `y` whose first is known, and its end
-record SecondInside (d : ℕ) (from behind rest : List ℕ) : Type 0 where
-  after : List ℕ
-  to : List ℕ
-  second : DelimitedList d behind to after
-  equal : length from ≡ length to
-  ends : Ends after rest
+-- the second of two lists, where the first is known
+second_list : {d : ℕ} {text from behind f t r : List ℕ} → d ≢ 92 → DelimitedList d text from behind → AreLists d text f t r → DelimitedList d behind t r × (length from ≡ length t)
+second_list {d} {t = t} {r = r} k x l =
+    let one = list_one k l.first x in
+    (subst (λ u. DelimitedList d u t r) one.1 l.second, sym (ap length one.0) ∙ l.equal)
 
-second_inside : {d : ℕ} {text opened from behind rest : List ℕ} {verb : WrittenVerb} → d ≢ 92 → text ≡ d ∷ opened → DelimitedList d opened from behind → VerbText (121 ∷ text) verb rest → SecondInside d from behind rest
-second_inside {d} k e x v =
-    let i = transliterate_inside e v in
-    let one = list_one k i.first x in
-    record { after = i.after; to = i.to; second = subst (λ t. DelimitedList d t i.to i.after) one.1 i.second; equal = sym (ap length one.0) ∙ i.equal; ends = i.ends }
+pub no_second_list : {d : ℕ} {text from behind : List ℕ} → d ≢ 92 → DelimitedList d text from behind → ((bytes r : List ℕ) → DelimitedList d behind bytes r → ⊥) → (f t r : List ℕ) → AreLists d text f t r → ⊥
+no_second_list k x n f t r l = n t r (second_list k x l).0
 
-pub transliterate_no_second : {d : ℕ} {text opened from behind : List ℕ} → d ≢ 92 → text ≡ d ∷ opened → DelimitedList d opened from behind → ((bytes r : List ℕ) → DelimitedList d behind bytes r → ⊥) → (verb : WrittenVerb) (rest : List ℕ) → VerbText (121 ∷ text) verb rest → ⊥
-transliterate_no_second k e x n verb rest v = let i = second_inside k e x v in n i.to i.after i.second
+pub unequal_lists : {d : ℕ} {text from behind to after : List ℕ} → d ≢ 92 → DelimitedList d text from behind → DelimitedList d behind to after → length from ≢ length to → (f t r : List ℕ) → AreLists d text f t r → ⊥
+unequal_lists k x y n f t r l = let s = second_list k x l in n (s.1 ∙ ap length (list_one k s.0 y).0)
 
-pub transliterate_unequal : {d : ℕ} {text opened from behind to after : List ℕ} → d ≢ 92 → text ≡ d ∷ opened → DelimitedList d opened from behind → DelimitedList d behind to after → length from ≢ length to → (verb : WrittenVerb) (rest : List ℕ) → VerbText (121 ∷ text) verb rest → ⊥
-transliterate_unequal k e x y n verb rest v = let i = second_inside k e x v in n (i.equal ∙ ap length (list_one k i.second y).0)
+lists_one : {d : ℕ} {text from to after f t r : List ℕ} → d ≢ 92 → AreLists d text from to after → AreLists d text f t r → r ≡ after
+lists_one k l m = (list_one k (second_list k l.first m).0 l.second).1
 
-pub transliterate_no_end : {d : ℕ} {text opened from behind to after : List ℕ} → d ≢ 92 → text ≡ d ∷ opened → DelimitedList d opened from behind → DelimitedList d behind to after → ((r : List ℕ) → Ends after r → ⊥) → (verb : WrittenVerb) (rest : List ℕ) → VerbText (121 ∷ text) verb rest → ⊥
-transliterate_no_end k e x y n verb rest v = let i = second_inside k e x v in n rest (subst (λ t. Ends t rest) (list_one k i.second y).1 i.ends)
+pub transliterate_no_end : {d : ℕ} {text opened from to after : List ℕ} → d ≢ 92 → text ≡ d ∷ opened → AreLists d opened from to after → ((r : List ℕ) → Ends after r → ⊥) → (verb : WrittenVerb) (rest : List ℕ) → VerbText (121 ∷ text) verb rest → ⊥
+transliterate_no_end k e l n verb rest x = let i = transliterate_inside e x in n rest (subst (λ t. Ends t rest) (lists_one k l i.lists) i.ends)
+
+pub lists_tail : {d : ℕ} {text from to rest : List ℕ} → AreLists d text from to rest → EndsIn text rest
+lists_tail l = tail_tail (list_tail l.first) (list_tail l.second)

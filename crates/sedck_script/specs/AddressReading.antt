@@ -3,7 +3,7 @@ use Rattle.std.specs.Prelude.{◌≡◌, ℕ, ◌≤◌, Bool, true, false, not,
 use Rattle.sedck_bre.specs.Text.{one_of}
 use Rattle.sedck_script.specs.Cuts.{bang, is_blank, is_digit, is_delimiter, IsEmptyOr, Longest}
 use Rattle.sedck_script.specs.Program.{Pattern, Previous, Expression, Place, Context, Address}
-use Rattle.sedck_script.specs.Parts.{AddressText}
+use Rattle.sedck_script.specs.Parts.{PlaceText, AddressText}
 use Rattle.sedck_script.specs.Items.{WrittenVerb, VerbText, CommandText}
 use Rattle.sedck_script.specs.PieceReading.{PatternText}
 
@@ -50,3 +50,25 @@ IsOnlyAddress text address rest = (other : Address) (behind marks begins left : 
 -- the text doesn't begin with a command
 abbrev pub IsNoCommand : List ℕ → Type 0
 IsNoCommand text = (address : Address) (negated : Bool) (verb : WrittenVerb) (rest : List ℕ) → CommandText text address negated verb rest → ⊥
+
+-- behind the blanks at the front stand a comma and blanks, and then the second text
+pub record IsBehindComma (text second : List ℕ) : Type 0 where
+  pub comma : ℕ
+  pub blanks : List ℕ
+  pub more : List ℕ
+  pub front : List ℕ
+  pub before : Longest is_blank text blanks (comma ∷ more)
+  pub is_comma : comma ≡ 44
+  pub behind : Longest is_blank more front second
+
+-- behind the blanks at the front stands no comma
+abbrev pub HasNoComma : List ℕ → Type 0
+HasNoComma text = (blanks more : List ℕ) (b : ℕ) → Longest is_blank text blanks (b ∷ more) → b ≡ 44 → ⊥
+
+-- an address behind a comma
+abbrev pub IsSecond : List ℕ → Place → List ℕ → Type 0
+IsSecond text place rest = (second : List ℕ) × IsBehindComma text second × PlaceText second place rest
+
+-- behind a comma stands no address
+abbrev pub BeginsNoSecond : List ℕ → Type 0
+BeginsNoSecond text = (second : List ℕ) × IsBehindComma text second × ((place : Place) (rest : List ℕ) → PlaceText second place rest → ⊥)

@@ -1,8 +1,9 @@
 -- What the readers of verbs say of what they read. Only private contracts cite it.
-use Rattle.std.specs.Prelude.{◌≡◌, ℕ, ◌≤◌, List, Some, option_copied}
+use Rattle.std.specs.Prelude.{◌≡◌, ℕ, ◌≤◌, List, length, Some, option_copied}
 use Rattle.std.specs.Borrow.{Bor}
 use Rattle.std.specs.HashMap.{HashMap}
 use Rattle.sedck_script.specs.Program.{Label}
+use Rattle.sedck_script.specs.Parts.{DelimitedList}
 use Rattle.sedck_script.specs.Items.{WrittenVerb, Known, BranchTo, TestTo, Opening}
 use Rattle.sedck_script.specs.View.{verb_of}
 use Rattle.sedck_script.specs.Reading.{label_place}
@@ -24,6 +25,13 @@ IsWrittenWithin end (code.Label name place) = place ≤ end
 IsWrittenWithin end (code.BranchTo label place) = place ≤ end
 IsWrittenWithin end (code.TestTo label place) = place ≤ end
 IsWrittenWithin end code.Opening = Unit {0}
+
+-- two lists behind the delimiter of a `y`, equally long
+pub record AreLists (delimiter : ℕ) (text from to rest : List ℕ) : Type 0 where
+  pub behind : List ℕ
+  pub first : DelimitedList delimiter text from behind
+  pub second : DelimitedList delimiter behind to rest
+  pub equal : length from ≡ length to
 
 -- the verb defines a label that the map has
 abbrev pub DefinesKnown : {S : Type 0} → HashMap (Bor (List ℕ)) ℕ S → WrittenVerb → Type 0

@@ -7,7 +7,7 @@ ghost use Rattle.sedck_script.specs.Program.{place_patterns, address_patterns};
 ghost use Rattle.sedck_script.specs.Parts.{PlaceText, AddressText};
 ghost use Rattle.sedck_script.specs.Faults.{IsPlaced};
 ghost use Rattle.sedck_script.specs.Reading.{EndsIn};
-ghost use Rattle.sedck_script.specs.AddressReading.{begins_place, IsEmptyAt, ContextText, CustomText, BeginsPlace, BeginsNoPlace, IsOnlyAddress, IsNoCommand};
+ghost use Rattle.sedck_script.specs.AddressReading.{begins_place, IsEmptyAt, ContextText, CustomText, BeginsPlace, BeginsNoPlace, IsOnlyAddress, IsNoCommand, IsBehindComma, HasNoComma, IsSecond, BeginsNoSecond};
 ghost use Rattle.sedck_script.specs.View as view;
 
 use crate::bytes::{is_delimiter, is_digit, split_blanks};
@@ -128,6 +128,46 @@ fn place_at<'a>(
     Ok(Some(found))
 }
 
+/// What stands behind a comma and the blanks round it.
+fn behind_comma(text: &[u8]) -> Option<&[u8]>
+    ensures some { IfSome result (λ second. IsBehindComma text.now second.now) }
+    ensures none { IfNone result (HasNoComma text.now) }
+{
+    let (_, after) = split_blanks(text);
+    let Some((next, more)) = after.split_first() else {
+        return None;
+    };
+    if *next != b',' {
+        return None;
+    }
+    let (_, second) = split_blanks(more);
+    Some(second)
+}
+
+/// The address behind a comma, where one stands here.
+fn second_at<'a>(
+    alloc: Global,
+    whole: &[u8],
+    text: &'a [u8],
+) -> Result<Option<(Place, Option<usize>, &'a [u8])>, ScriptFault>
+    requires tail { EndsIn whole.now text.now }
+    ensures read { IfOk result (λ x. IfSome x (λ y. IsSecond text.now (view.place_of y.0) y.2.now)) }
+    ensures empty { IfOk result (λ x. IfSome x (λ y. IsEmptyAt (length whole.now) (place_patterns (view.place_of y.0)) y.1)) }
+    ensures none { IfOk result (λ x. IfNone x (HasNoComma text.now)) }
+    ensures refused { IfErr result (λ fault. fault ≢ ScriptFault.OutOfMemory → BeginsNoSecond text.now) }
+    ensures placed { IfErr result (λ fault. IsPlaced whole.now fault) }
+{
+    let Some(second) = behind_comma(text) else {
+        return Ok(None);
+    };
+    let Some(found) = place_at(alloc, whole, second)? else {
+        return Err(ScriptFault::BadAddress {
+            place: whole.len() - second.len(),
+        });
+    };
+    Ok(Some(found))
+}
+
 /// The addresses at the front, the place of their first empty expression, and what stands behind them.
 pub fn address_at<'a>(
     alloc: Global,
@@ -144,18 +184,8 @@ pub fn address_at<'a>(
     let Some((from, empty, behind)) = place_at(alloc, whole, text)? else {
         return Ok((Address::None, None, text));
     };
-    let (_, after) = split_blanks(behind);
-    let Some((next, more)) = after.split_first() else {
+    let Some((to, other, rest)) = second_at(alloc, whole, behind)? else {
         return Ok((Address::One(from), empty, behind));
-    };
-    if *next != b',' {
-        return Ok((Address::One(from), empty, behind));
-    }
-    let (_, second) = split_blanks(more);
-    let Some((to, other, rest)) = place_at(alloc, whole, second)? else {
-        return Err(ScriptFault::BadAddress {
-            place: whole.len() - second.len(),
-        });
     };
     Ok((Address::Two(from, to), empty.or(other), rest))
 }

@@ -101,6 +101,31 @@ fn empty_verb(verb: &Written, behind: usize) -> Option<usize>
     None
 }
 
+/// The verb at the front, where a command with these addresses may go on with it, and what stands behind it.
+fn allowed_verb<'a>(
+    alloc: Global,
+    whole: &[u8],
+    labels: &IndexMap<&'a [u8], usize>,
+    address: &Address,
+    negated: bool,
+    depth: usize,
+    count: usize,
+    text: &'a [u8],
+) -> Result<(Written<'a>, &'a [u8]), ScriptFault>
+    requires tail { EndsIn whole.now text.now }
+    ensures read { IfOk result (λ x. VerbText text.now (written_verb x.0) x.1.now) }
+    ensures taken { IfOk result (λ x. Takes (written_verb x.0) (address_of address.now) negated) }
+    ensures fresh { IfOk result (λ x. DefinesKnown labels.now (written_verb x.0) → ⊥) }
+    ensures shallow { IfOk result (λ x. written_verb x.0 ≡ Opening → depth < 64) }
+    ensures few { IfOk result (λ x. count < 4095) }
+    ensures within { IfOk result (λ x. IsWrittenWithin (length whole.now) x.0) }
+    ensures refused { IfErr result (λ fault. fault ≢ ScriptFault.OutOfMemory → (verb : WrittenVerb) (rest : List ℕ) → VerbText text.now verb rest → Takes verb (address_of address.now) negated → DefinesKnown labels.now verb ⊎ IsBeyond depth count verb) }
+    ensures placed { IfErr result (λ fault. IsPlaced whole.now fault) }
+{
+    check_verb(whole, address, negated, depth, count, text)?;
+    verb_at(alloc, whole, labels, text)
+}
+
 /// The command at the front, the place of its first empty expression, and what stands behind it.
 pub fn command_at<'a>(
     alloc: Global,
@@ -123,8 +148,9 @@ pub fn command_at<'a>(
     let (address, empty, behind) = address_at(alloc, whole, text)?;
     let (marks, begins) = split_marks(behind);
     let negated = marks.contains(&b'!');
-    check_verb(whole, &address, negated, depth, count, begins)?;
-    let (verb, rest) = verb_at(alloc, whole, labels, begins)?;
+    let (verb, rest) = allowed_verb(
+        alloc, whole, labels, &address, negated, depth, count, begins,
+    )?;
     let empty = empty.or(empty_verb(&verb, whole.len() - begins.len().saturating_sub(2)));
     let command = WrittenCommand {
         address,

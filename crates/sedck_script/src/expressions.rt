@@ -54,6 +54,7 @@ fn command_has_expression(command: &Command) -> bool
     address_has_expression(&command.address) || verb_has_expression(&command.verb)
 }
 
+/// It is a function so that what is said of `any` becomes a contract on the list, which the caller restates.
 fn any_has_expression(commands: &[Command]) -> bool
     ensures { result ≡ list_any (λ c. command_has_some (command_of c)) commands.now }
 {

@@ -1,6 +1,7 @@
 //! Items of a script.
 
-ghost use Rattle.std.specs.Prelude.{false, ◌≡◌, ◌≢◌, ◌<◌, ◌∷◌, ℕ, List, length, map, IfOk, IfErr, OnOk};
+ghost use Rattle.std.specs.Prelude.{false, ◌≡◌, ◌≢◌, ◌<◌, ◌≤◌, ◌+◌, ◌++◌, [], ◌∷◌, ℕ, List, length, map, IfOk, IfErr, OnOk};
+ghost use Rattle.std.specs.Option.{option_or};
 ghost use Rattle.sedck_script.specs.Cuts.{is_separator, Longest};
 ghost use Rattle.sedck_script.specs.Items.{Items};
 ghost use Rattle.sedck_script.specs.Faults.{IsPlaced};
@@ -15,7 +16,7 @@ use crate::fault::ScriptFault;
 use crate::label_places::add_label;
 use crate::names::split_line;
 use crate::verbs::Written;
-use crate::written::WrittenItem;
+use crate::written::{WrittenCommand, WrittenItem};
 use indexmap::IndexMap;
 use std::alloc::Global;
 
@@ -90,6 +91,29 @@ fn note_block(open_blocks: &mut Vec<usize>, verb: &Written, place: usize) -> Res
     Ok(())
 }
 
+/// Adds a command and the place of its first empty expression. A `{` that it ends with stands at the place.
+fn note_command<'a>(
+    progress: &mut Progress<'a>,
+    command: WrittenCommand<'a>,
+    empty: Option<usize>,
+    place: usize,
+) -> Result<(), ScriptFault>
+    requires { progress.old.count ≤ 4095 }
+    ensures labels { OnOk result (NotesLabel progress.old.labels progress.new.labels progress.old.count command.entry.verb) }
+    ensures opened { OnOk result (NotesBlock (verb_turn (written_verb command.entry.verb)) progress.old.open_blocks.items progress.new.open_blocks.items place) }
+    ensures empty { OnOk result (progress.new.empty ≡ option_or progress.old.empty empty) }
+    ensures count { OnOk result (progress.new.count ≡ progress.old.count + 1) }
+    ensures items { OnOk result (progress.new.items.items ≡ progress.old.items.items ++ WrittenItem.Command command.entry ∷ []) }
+    ensures memory { IfErr result (λ fault. fault ≡ ScriptFault.OutOfMemory) }
+{
+    note_label(&mut progress.labels, &command.verb, progress.count)?;
+    note_block(&mut progress.open_blocks, &command.verb, place)?;
+    progress.empty = progress.empty.or(empty);
+    progress.count += 1;
+    progress.items.push(WrittenItem::Command(command))?;
+    Ok(())
+}
+
 /// Reads the command at the front with its end.
 fn add_command<'a>(
     alloc: Global,
@@ -112,12 +136,8 @@ fn add_command<'a>(
         progress.count,
         begins,
     )?;
-    note_label(&mut progress.labels, &command.verb, progress.count)?;
     let place = text.len() - rest.len() - 1;
-    note_block(&mut progress.open_blocks, &command.verb, place)?;
-    progress.empty = progress.empty.or(empty);
-    progress.count += 1;
-    progress.items.push(WrittenItem::Command(command))?;
+    note_command(progress, command, empty, place)?;
     Ok(rest)
 }
 

@@ -1,7 +1,8 @@
 //! From a text to the script that it spells.
 
-ghost use Rattle.std.specs.Prelude.{◌≡◌, ◌≢◌, ℕ, ◌<◌, ◌≤◌, List, Err, length, map, IfOk, IfErr, OnOk, OnErr};
-ghost use Rattle.sedck_script.specs.Program.{Program};
+ghost use Rattle.std.specs.Prelude.{◌≡◌, ◌≢◌, ℕ, ◌<◌, ◌≤◌, true, false, Some, List, Err, length, map, IfOk, IfErr, OnOk, OnErr};
+ghost use Rattle.sedck_script.specs.Program.{Program, expressions};
+ghost use Rattle.sedck_script.specs.ExpressionReading.{has_some};
 ghost use Rattle.sedck_script.specs.Spelling.{IsScriptText, AreCommands, Spells};
 ghost use Rattle.sedck_script.specs.Items.{Item, Items};
 ghost use Rattle.sedck_script.specs.View.{command_of};
@@ -11,7 +12,7 @@ use crate::expressions::{has_expression, is_quiet};
 use crate::fault::ScriptFault;
 use crate::items::{Progress, items};
 use crate::name_lists::{Access, sorted_names};
-use crate::resolving::{check_targets, resolve};
+use crate::resolving::linked;
 use crate::script::{Command, Script};
 use memchr::memchr;
 use std::alloc::Global;
@@ -36,6 +37,21 @@ fn check_text(text: &[u8]) -> Result<(), ScriptFault>
     Ok(())
 }
 
+/// Whether the empty expression at the place, if there is one, has another that it stands for.
+fn check_previous(empty: Option<usize>, commands: &[Command]) -> Result<(), ScriptFault>
+    ensures found { OnOk result ((place : ℕ) → empty ≡ Some place → has_some (expressions (map command_of commands.now)) ≡ true) }
+    ensures none { OnErr result (has_some (expressions (map command_of commands.now)) ≡ false) }
+    ensures fault { IfErr result (λ fault. (place : ℕ) × (empty ≡ Some place) × (fault ≡ ScriptFault.NoPreviousExpression place)) }
+{
+    let Some(place) = empty else {
+        return Ok(());
+    };
+    if has_expression(commands) {
+        return Ok(());
+    }
+    Err(ScriptFault::NoPreviousExpression { place })
+}
+
 /// The commands that the text spells.
 fn commands<'a>(alloc: Global, text: &'a [u8]) -> Result<Vec<Command<'a>>, ScriptFault>
     ensures read { IfOk result (λ commands. (items : List Item) × Items text.now items × AreCommands items (map command_of commands.items)) }
@@ -49,13 +65,8 @@ fn commands<'a>(alloc: Global, text: &'a [u8]) -> Result<Vec<Command<'a>>, Scrip
         open_blocks: _,
         empty,
     } = items(alloc, text)?;
-    check_targets(&items, &labels)?;
-    let commands = resolve(alloc, items, count, &labels)?;
-    if let Some(place) = empty {
-        if !has_expression(&commands) {
-            return Err(ScriptFault::NoPreviousExpression { place });
-        }
-    }
+    let commands = linked(alloc, items, count, &labels)?;
+    check_previous(empty, &commands)?;
     Ok(commands)
 }
 

@@ -1,7 +1,8 @@
 //! From items to commands: the places that branches, tests and blocks lead to.
 
-ghost use Rattle.std.specs.Prelude.{◌≡◌, ◌≤◌, ℕ, [], IfNone, IfSome, Some, None, length, map, All, Any, IfOk, IfErr, OnOk, OnErr, option_copied};
+ghost use Rattle.std.specs.Prelude.{◌≡◌, ◌≢◌, ◌≤◌, ℕ, List, [], IfNone, IfSome, Some, None, length, map, All, Any, IfOk, IfErr, OnOk, OnErr, option_copied};
 ghost use Rattle.sedck_script.specs.View as view;
+ghost use Rattle.sedck_script.specs.Faults.{IsPlaced};
 ghost use Rattle.sedck_script.specs.Resolution.{Resolves};
 ghost use Rattle.sedck_script.specs.Reading.{HasLabels, IsUnknownLabel};
 ghost use Rattle.sedck_script.specs.VerbReading.{written_verb, IsWrittenWithin};
@@ -94,10 +95,7 @@ fn check_target(item: &WrittenItem, labels: &IndexMap<&[u8], usize>) -> Result<(
 }
 
 /// Whether each label is known, and else the first that isn't.
-pub fn check_targets(
-    items: &[WrittenItem],
-    labels: &IndexMap<&[u8], usize>,
-) -> Result<(), ScriptFault>
+fn check_targets(items: &[WrittenItem], labels: &IndexMap<&[u8], usize>) -> Result<(), ScriptFault>
     ensures known { OnOk result (All (λ item. IsKnownLabel labels.now (item_label (item_of item))) items.now) }
     ensures lost { OnErr result (Any (λ item. IsLostLabel labels.now (item_label (item_of item))) items.now) }
     ensures placed { IfErr result (λ fault. (end : ℕ) → All (IsItemWithin end) items.now → IsUnknownLabel end fault) }
@@ -108,8 +106,26 @@ pub fn check_targets(
     Ok(())
 }
 
+/// The commands of the items, with the places that they lead to, where each label is known.
+pub fn linked<'a>(
+    alloc: Global,
+    items: Vec<WrittenItem<'a>>,
+    end: usize,
+    labels: &IndexMap<&'a [u8], usize>,
+) -> Result<Vec<Command<'a>>, ScriptFault>
+    requires labels { HasLabels labels.now (commands_among (map item_of items.items)) }
+    requires nests { Nests (map item_of items.items) 0 }
+    requires end { end ≡ length (commands_among (map item_of items.items)) }
+    ensures resolved { IfOk result (λ v. Resolves (map view.command_of v.items) [] 0 (map item_of items.entry.items) (map view.command_of v.items)) }
+    ensures lost { IfErr result (λ fault. fault ≢ ScriptFault.OutOfMemory → Any (λ item. IsLostLabel labels.now (item_label (item_of item))) items.entry.items) }
+    ensures placed { IfErr result (λ fault. (text : List ℕ) → All (IsItemWithin (length text)) items.entry.items → IsPlaced text fault) }
+{
+    check_targets(&items, labels)?;
+    resolve(alloc, items, end, labels)
+}
+
 /// The commands of the items, with the places that they lead to.
-pub fn resolve<'a>(
+fn resolve<'a>(
     alloc: Global,
     mut items: Vec<WrittenItem<'a>>,
     end: usize,

@@ -6,6 +6,7 @@ ghost use Rattle.sedck_script.specs.Program as clean;
 ghost use Rattle.sedck_script.specs.Items.{WrittenVerb, Known, VerbText};
 ghost use Rattle.sedck_script.specs.Faults.{IsPlaced};
 ghost use Rattle.sedck_script.specs.Reading.{EndsIn};
+ghost use Rattle.sedck_script.specs.VerbReading.{AreLists};
 ghost use Rattle.sedck_script.specs.View.{verb_of};
 
 use crate::bytes::is_delimiter;
@@ -63,6 +64,29 @@ pub fn substitution<'a>(
     Ok((Verb::Substitute(substitution), rest))
 }
 
+/// The two lists of a `y`, which are equally long, and what stands behind them.
+fn equal_lists<'a>(
+    alloc: Global,
+    whole: &[u8],
+    place: usize,
+    delimiter: u8,
+    text: &'a [u8],
+) -> Result<(Vec<u8>, Vec<u8>, &'a [u8]), ScriptFault>
+    requires delimiter { IsTrue (is_delimiter delimiter) }
+    requires tail { EndsIn whole.now text.now }
+    requires within { place ≤ length whole.now }
+    ensures read { IfOk result (λ x. AreLists delimiter text.now x.0.items x.1.items x.2.now) }
+    ensures refused { IfErr result (λ fault. fault ≢ ScriptFault.OutOfMemory → (from to rest : List ℕ) → AreLists delimiter text.now from to rest → ⊥) }
+    ensures placed { IfErr result (λ fault. IsPlaced whole.now fault) }
+{
+    let (from, behind) = delimited_list(alloc, whole, place, delimiter, text)?;
+    let (to, rest) = delimited_list(alloc, whole, place, delimiter, behind)?;
+    if from.len() != to.len() {
+        return Err(ScriptFault::BadTransliteration { place });
+    }
+    Ok((from, to, rest))
+}
+
 /// What a `y` takes, and the rest of the text from its end on.
 pub fn transliteration<'a>(
     alloc: Global,
@@ -78,11 +102,7 @@ pub fn transliteration<'a>(
     ensures placed { IfErr result (λ fault. IsPlaced whole.now fault) }
 {
     let (delimiter, opened) = opening_delimiter(place, text)?;
-    let (from, behind) = delimited_list(alloc, whole, place, delimiter, opened)?;
-    let (to, after) = delimited_list(alloc, whole, place, delimiter, behind)?;
-    if from.len() != to.len() {
-        return Err(ScriptFault::BadTransliteration { place });
-    }
+    let (from, to, after) = equal_lists(alloc, whole, place, delimiter, opened)?;
     let rest = end_of_command(whole, after)?;
     Ok((Verb::Transliterate(from, to), rest))
 }

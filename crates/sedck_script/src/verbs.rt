@@ -1,10 +1,10 @@
 //! Verbs with what they take.
 
-ghost use Rattle.std.specs.Prelude.{◌≡◌, ◌≢◌, ℕ, List, [], ◌∷◌, false, length, IsTrue, IfOk, IfErr, IfSome, IfNone};
-ghost use Rattle.sedck_bre.specs.Text.{one_of};
+ghost use Rattle.std.specs.Prelude.{◌≡◌, ◌≢◌, ◌⊎◌, ℕ, List, [], ◌∷◌, false, length, IsTrue, IfOk, IfErr, IfSome, IfNone};
+ghost use Rattle.sedck_bre.specs.Text.{is_in, one_of};
 ghost use Rattle.sedck_script.specs.Program as clean;
 ghost use Rattle.sedck_script.specs.Items.{WrittenVerb, Known, Simple, VerbText, IsNoBrace};
-ghost use Rattle.sedck_script.specs.Faults.{IsPlaced, StandsAt};
+ghost use Rattle.sedck_script.specs.Faults.{IsPlaced, StandsAt, verb_bytes};
 ghost use Rattle.sedck_script.specs.Reading.{EndsIn};
 ghost use Rattle.sedck_script.specs.View.{verb_of};
 ghost use Rattle.sedck_script.specs.VerbReading.{written_verb, IsWrittenWithin, DefinesKnown};
@@ -110,6 +110,28 @@ fn file_verb<'a>(
     Ok((Verb::Write(name), rest))
 }
 
+/// A verb that takes nothing, and the rest of the script from its end on.
+fn simple_command<'a>(
+    whole: &[u8],
+    place: usize,
+    verb: u8,
+    text: &'a [u8],
+) -> Result<(Verb<'a>, &'a [u8]), ScriptFault>
+    requires tail { EndsIn whole.now text.now }
+    requires other { one_of "=dDgGhHlnNpPqx" verb ≡ false → is_in verb verb_bytes ≡ false }
+    requires stands { StandsAt whole.now place verb }
+    ensures read { IfOk result (λ x. VerbText (verb ∷ text.now) (Known (verb_of x.0)) x.1.now) }
+    ensures plain { IfOk result (λ x. (name : List ℕ) → verb_of x.0 ≢ clean.Label name) }
+    ensures refused { IfErr result (λ fault. (written : WrittenVerb) (rest : List ℕ) → VerbText (verb ∷ text.now) written rest → ⊥) }
+    ensures placed { IfErr result (λ fault. IsPlaced whole.now fault) }
+{
+    let Some(simple) = simple_verb(verb) else {
+        return Err(ScriptFault::UnknownCommand { place });
+    };
+    let rest = end_of_command(whole, text)?;
+    Ok((simple, rest))
+}
+
 /// What a verb takes that is neither `:`, `b`, `t` nor `{`, and the rest of the script from its end on.
 fn known_verb<'a>(
     alloc: Global,
@@ -138,11 +160,7 @@ fn known_verb<'a>(
     if verb == b'y' {
         return transliteration(alloc, whole, place, text);
     }
-    let Some(simple) = simple_verb(verb) else {
-        return Err(ScriptFault::UnknownCommand { place });
-    };
-    let rest = end_of_command(whole, text)?;
-    Ok((simple, rest))
+    simple_command(whole, place, verb, text)
 }
 
 /// The label that is defined behind a `:`, and the rest of the script from its end on.
@@ -164,6 +182,24 @@ fn definition<'a>(
     }
     let rest = end_of_command(whole, behind)?;
     Ok((Written::Label { name, place }, rest))
+}
+
+/// What a `b` or a `t` takes, and the rest of the script from its end on.
+fn jump<'a>(whole: &[u8], verb: u8, text: &'a [u8]) -> Result<(Written<'a>, &'a [u8]), ScriptFault>
+    requires tail { EndsIn whole.now text.now }
+    requires verb { (verb ≡ 98) ⊎ (verb ≡ 116) }
+    ensures read { IfOk result (λ x. VerbText (verb ∷ text.now) (written_verb x.0) x.1.now) }
+    ensures no_label { IfOk result (λ x. (name : List ℕ) → written_verb x.0 ≢ Known (clean.Label name)) }
+    ensures within { IfOk result (λ x. IsWrittenWithin (length whole.now) x.0) }
+    ensures refused { IfErr result (λ fault. (written : WrittenVerb) (rest : List ℕ) → VerbText (verb ∷ text.now) written rest → ⊥) }
+    ensures placed { IfErr result (λ fault. IsPlaced whole.now fault) }
+{
+    let (label, place, rest) = branch_label(whole, text)?;
+    if verb == b'b' {
+        Ok((Written::BranchTo { label, place }, rest))
+    } else {
+        Ok((Written::TestTo { label, place }, rest))
+    }
 }
 
 /// The verb at the front with what it takes, and the rest of the text from its end on.
@@ -193,13 +229,8 @@ pub fn verb_at<'a>(
     if *first == b'{' {
         return Ok((Written::Opening, behind));
     }
-    if *first == b'b' {
-        let (label, place, rest) = branch_label(whole, behind)?;
-        return Ok((Written::BranchTo { label, place }, rest));
-    }
-    if *first == b't' {
-        let (label, place, rest) = branch_label(whole, behind)?;
-        return Ok((Written::TestTo { label, place }, rest));
+    if *first == b'b' || *first == b't' {
+        return jump(whole, *first, behind);
     }
     let place = whole.len() - text.len();
     let (verb, rest) = known_verb(alloc, whole, place, *first, behind)?;

@@ -9,9 +9,10 @@ use Rattle.sedck_bre.specs.View.{tree, sequence}
 use Rattle.sedck_bre.specs.Shape.{Whole, First, Shape}
 use Rattle.sedck_bre.specs.Reading.{read, items_of}
 use Rattle.sedck_bre.specs.FullReading.{full}
-use Rattle.sedck_bre.proofs.Whole.{read-none, read-over, read-rest, none_left, shape_of, only_of, none_of, none_closed}
+use Rattle.sedck_bre.proofs.Whole.{read-none, read-over, read-rest, shape_of, only_of, none_of, none_closed}
 use Rattle.sedck_bre.proofs.ViewLemmas.{tree-Seq}
 use Rattle.sedck_bre.proofs.parser.parse.Goals as goal
+use Rattle.std.proofs.lemmas.List.{nil_from_length}
 
 pub returns-in_err-items-clause-refused : goal.returns-in_err-items-clause-refused
 returns-in_err-items-clause-refused c =
@@ -25,7 +26,7 @@ returns-then-not-is_empty-clause-refused c bad =
 
 -- the whole text was read
 whole_read : (text : List ℕ) (items : List Bre) (rest : List ℕ) → (length rest == 0) ≡ true → items_of full Whole First 0 0 [] text ≡ Some (trees (map tree items), rest) → read full text ≡ Some (sequence items)
-whole_read text items rest h e = read-over text (trees (map tree items)) (e ∙ ap (λ r. Some (trees (map tree items), r)) (none_left rest (eqb-true (length rest) 0 h)))
+whole_read text items rest h e = read-over text (trees (map tree items)) (e ∙ ap (λ r. Some (trees (map tree items), r)) (nil_from_length rest (eqb-true (length rest) 0 h)))
 
 pub new-requires-clause-formed : goal.new-requires-clause-formed
 new-requires-clause-formed c =

@@ -1,18 +1,17 @@
-use Rattle.std.proofs.Common.{rules, refl, get_or, take, drop, Some, ◌-◌, ◌≡◌, ◌+◌, ◌<◌, [], ◌∷◌, ◌++◌, length, map, true, false, sym, ap, ◌∙◌, subst, arith, length-append}
+use Rattle.std.proofs.Common.{◌≡◌, ◌+◌, ◌<◌, ◌∷◌, ◌++◌, length, map, true, false, sym, ap, ◌∙◌, subst, arith, length-append}
 use Rattle.std.proofs.lemmas.Result.{err_from_is_err_and}
 use Rattle.std.proofs.lemmas.List.{map_push}
 use Rattle.sedck_bre.specs.Tree.{groups_in}
 use Rattle.sedck_bre.specs.View.{tree, sequence}
 use Rattle.sedck_bre.specs.Shape as shape
 use Rattle.sedck_bre.specs.Reading.{at_end, items_of}
-use Rattle.sedck_bre.specs.Gives.{place_of, level_of, ClosedIs}
-use Rattle.sedck_bre.proofs.Loop.{any_read, groups-push, loop_ends, loop_goes, loop_fails, loop_fails_at, same_read, closed-push, closed_more}
+use Rattle.sedck_bre.specs.Gives.{Gives, place_of, level_of, ClosedIs}
+use Rattle.sedck_bre.proofs.Loop.{group_read, groups-push, loop_ends, loop_goes, loop_fails, loop_fails_at, same_read, closed-push, closed_more}
 use Rattle.std.proofs.Math.ListN.{set}
 use Rattle.sedck_bre.specs.declared.tree.Bre.TheVariants as Bre
-use Rattle.sedck_bre.proofs.ViewLemmas.{tree-Any, tree-Seq, tree-Group}
+use Rattle.sedck_bre.proofs.ViewLemmas.{tree-Seq, tree-Group}
 use Rattle.sedck_bre.specs.FullReading.{full, IsTail}
-use Rattle.sedck_bre.specs.Faults.{StandsAt}
-use Rattle.sedck_bre.proofs.Tails.{tail_rest, tail_drop, tail_split, stands_at, begins_first}
+use Rattle.sedck_bre.proofs.Tails.{tail_drop}
 use Rattle.sedck_bre.proofs.reader.+list.Goals as goal
 
 pub list-returns-clause-value : goal.list-returns-clause-value
@@ -71,49 +70,17 @@ group-returns-clause-closed t c closed h =
     let whole : groups_in (tree (Bre.Group k c.in_ok-body.body)) ≡ k ∷ inner = ap groups_in (tree-Group k c.in_ok-body.body) ∙ ap (λ g. k ∷ g) body in
     subst (λ g. ClosedIs (set c.list.new.groups.closed k true) (closed ++ g)) (sym whole) (closed_more c.list.new.groups.closed closed inner k small (c.in_ok-items.ensures.closed closed h))
 
-pub atom-returns-in-46-clause-tail : goal.atom-returns-in-46-clause-tail
-atom-returns-in-46-clause-tail t c = tail_rest c.args.whole.now c.args.text.now 1 c.requires.tail
-
-pub atom-returns-in-Some-clause-tail : goal.atom-returns-in-Some-clause-tail
-atom-returns-in-Some-clause-tail t c = tail_rest c.args.whole.now c.args.text.now 1 c.requires.tail
-
 pub group-returns-clause-tail : goal.group-returns-clause-tail
-group-returns-clause-tail t c = subst (IsTail c.args.whole.now) (sym c.behind_pair.ensures.value) (tail_drop c.args.whole.now c.in_ok-items.rest.now 2 c.in_ok-items.ensures.tail)
+group-returns-clause-tail t c = subst (IsTail c.args.whole.now) (sym c.behind_pair-2.ensures.value) (tail_drop c.args.whole.now c.in_ok-items.rest.now 2 c.in_ok-items.ensures.tail)
 
-pub escaped-returns-then-b-le57-clause-tail : goal.escaped-returns-then-b-le57-clause-tail
-escaped-returns-then-b-le57-clause-tail t c = tail_split c.args.whole.now c.args.text.now (c.in-Some.b.now ∷ []) c.in-Some.rest.now c.requires.tail c.in-Some.ensures.cases.0
+pub atom-returns-then-begins_with-clause-value : goal.atom-returns-then-begins_with-clause-value
+atom-returns-then-begins_with-clause-value t c closed h =
+    subst (Gives (λ x. (tree x.0, x.1.now)) c.group.result)
+    (sym (group_read (items_of full shape.Inside shape.First (c.args.deep + 1) (c.args.groups.now.opened + 1) closed) (level_of c.args.inside) (place_of c.args.place) c.args.deep c.args.groups.now.opened closed c.args.text.now (sym c.begins_with.ensures.value ∙ c.if-begins_with.true)))
+    (c.group.ensures.value closed h)
 
-pub escaped-returns-then-b-eq110-clause-tail : goal.escaped-returns-then-b-eq110-clause-tail
-escaped-returns-then-b-eq110-clause-tail t c = tail_split c.args.whole.now c.args.text.now (c.in-Some.b.now ∷ []) c.in-Some.rest.now c.requires.tail c.in-Some.ensures.cases.0
-
-pub escaped-returns-then-b-eq116-clause-tail : goal.escaped-returns-then-b-eq116-clause-tail
-escaped-returns-then-b-eq116-clause-tail t c = tail_split c.args.whole.now c.args.text.now (c.in-Some.b.now ∷ []) c.in-Some.rest.now c.requires.tail c.in-Some.ensures.cases.0
-
-pub escaped-returns-then-is_escapable-clause-tail : goal.escaped-returns-then-is_escapable-clause-tail
-escaped-returns-then-is_escapable-clause-tail t c = tail_split c.args.whole.now c.args.text.now (c.in-Some.b.now ∷ []) c.in-Some.rest.now c.requires.tail c.in-Some.ensures.cases.0
-
-pub escaped-group-requires : goal.escaped-group-requires
-escaped-group-requires t c = (
-  omega (arith, ap length c.in-Some.ensures.cases.0),
-  (tail_split c.args.whole.now c.args.text.now (c.in-Some.b.now ∷ []) c.in-Some.rest.now c.requires.tail c.in-Some.ensures.cases.0, (c.requires.start, (c.requires.few, c.requires.shallow))),
+pub group-list-requires : goal.group-list-requires
+group-list-requires t c = (
+  omega (arith, c.behind_pair.ensures.shorter),
+  (subst (IsTail c.args.whole.now) (sym c.behind_pair.ensures.value) (tail_drop c.args.whole.now c.args.text.now 2 c.requires.tail), (omega arith, omega arith)),
 )
-
-pub atom-escaped-requires : goal.atom-escaped-requires
-atom-escaped-requires t c =
-    let byte : get_or c.args.text.now 0 0 ≡ 92 = omega arith in
-    let some : 0 < length c.args.text.now = omega arith in (
-      search rules,
-      (
-        tail_rest c.args.whole.now c.args.text.now 1 c.requires.tail,
-        (
-          subst (λ p. StandsAt c.args.whole.now p "\\") (sym c.place_in-start.ensures.value) (stands_at c.args.whole.now c.args.text.now "\\" c.requires.tail (begins_first "\\" c.args.text.now some (rw byte refl))),
-          (c.requires.few, c.requires.shallow),
-        ),
-      ),
-    )
-
-pub atom-returns-in-46-clause-value : goal.atom-returns-in-46-clause-value
-atom-returns-in-46-clause-value t c closed h =
-    let byte : get_or c.args.text.now 0 0 ≡ 46 = omega arith in
-    any_read (items_of full shape.Inside shape.First (c.args.deep + 1) (c.args.groups.now.opened + 1) closed) (level_of c.args.inside) (place_of c.args.place) c.args.deep c.args.groups.now.opened closed c.args.text.now (omega arith) byte
-    ∙ ap (λ x. Some (x, take (length c.args.text.now - 1) (drop 1 c.args.text.now))) (sym tree-Any)

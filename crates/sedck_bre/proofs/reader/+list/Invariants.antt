@@ -9,16 +9,13 @@ use Rattle.sedck_bre.proofs.Loop.{with_front}
 use Rattle.sedck_bre.proofs.reader.+list.Given as goal
 
 abbrev pub decreases-list : goal.decreases-list
-decreases-list l = 3 * length l.text.now + 2
+decreases-list l = 2 * length l.text.now + 2
 
 abbrev pub decreases-atom : goal.decreases-atom
-decreases-atom l = 3 * length l.text.now + 1
-
-abbrev pub decreases-escaped : goal.decreases-escaped
-decreases-escaped l = 3 * length l.text.now + 3
+decreases-atom l = 2 * length l.text.now + 1
 
 abbrev pub decreases-group : goal.decreases-group
-decreases-group l = 3 * length l.text.now + 3
+decreases-group l = 2 * length l.text.now
 
 abbrev pub invariant-list-items : goal.invariant-list-items
 invariant-list-items l = record {

@@ -1,8 +1,7 @@
-use Rattle.std.proofs.Common.{ap, length, arith}
 use Rattle.sedck_script.specs.Parts.{none, one}
 use Rattle.sedck_script.proofs.Outcomes.{if_err_from}
-use Rattle.sedck_script.proofs.Tails.{tail_length}
-use Rattle.sedck_script.proofs.AddressOnly.{only_none, only_one, only_two, two_read, no_first, no_second, no_place, second_tail, other_byte, place_found, none_found}
+use Rattle.sedck_script.proofs.Tails.{tail_tail}
+use Rattle.sedck_script.proofs.AddressOnly.{only_none, only_one, only_two, two_read, no_first, no_second, place_tail, place_found, none_found, second_found, no_comma_found}
 use Rattle.sedck_script.proofs.addresses.address_at.Goals as goal
 
 pub returns-in_err-from-clause-refused : goal.returns-in_err-from-clause-refused
@@ -14,40 +13,22 @@ returns-in_default-clause-read c = none
 pub returns-in_default-clause-only : goal.returns-in_default-clause-only
 returns-in_default-clause-only c = only_none (none_found c.args.text.now c.in_default.is c.in_ok-from.ensures.none)
 
-pub returns-in_default-split_first-clause-read : goal.returns-in_default-split_first-clause-read
-returns-in_default-split_first-clause-read c = one (place_found c.in-Some.is c.in_ok-from.ensures.read)
-
-pub returns-in_default-split_first-clause-only : goal.returns-in_default-split_first-clause-only
-returns-in_default-split_first-clause-only c =
-    only_one (place_found c.in-Some.is c.in_ok-from.ensures.read) c.split_blanks.ensures (λ b more e h. omega (arith, ap length e, c.in_default-split_first.ensures.cases))
-
-pub returns-then-next-ne44-clause-read : goal.returns-then-next-ne44-clause-read
-returns-then-next-ne44-clause-read c = one (place_found c.in-Some.is c.in_ok-from.ensures.read)
-
-pub returns-then-next-ne44-clause-only : goal.returns-then-next-ne44-clause-only
-returns-then-next-ne44-clause-only c =
-    only_one (place_found c.in-Some.is c.in_ok-from.ensures.read) c.split_blanks.ensures (other_byte c.in-Some-split_first.ensures.cases.0 c.if-next-ne44.true)
-
-pub place_at-requires-2 : goal.place_at-requires-2
-place_at-requires-2 c = record { tail = second_tail c.requires.tail (place_found c.in-Some.is c.in_ok-from.ensures.read) c.split_blanks.ensures c.in-Some-split_first.ensures.cases.0 c.split_blanks-2.ensures }
+pub second_at-requires : goal.second_at-requires
+second_at-requires c = record { tail = tail_tail c.requires.tail (place_tail (place_found c.in-Some.is c.in_ok-from.ensures.read)) }
 
 pub returns-in_err-to-clause-refused : goal.returns-in_err-to-clause-refused
 returns-in_err-to-clause-refused c =
     if_err_from _ c.from_residual-in_err-to.result _ c.from_residual-in_err-to.ensures.1
-    (λ memory. no_second (place_found c.in-Some.is c.in_ok-from.ensures.read) c.split_blanks.ensures c.in-Some-split_first.ensures.cases.0 c.if-next-ne44.false c.split_blanks-2.ensures (c.in_err-to.ensures.refused memory))
+    (λ memory. let n = c.in_err-to.ensures.refused memory in no_second (place_found c.in-Some.is c.in_ok-from.ensures.read) n.1 n.2)
 
-pub overflow_sub-result : goal.overflow_sub-result
-overflow_sub-result c = tail_length (second_tail c.requires.tail (place_found c.in-Some.is c.in_ok-from.ensures.read) c.split_blanks.ensures c.in-Some-split_first.ensures.cases.0 c.split_blanks-2.ensures)
+pub returns-in_default-2-clause-read : goal.returns-in_default-2-clause-read
+returns-in_default-2-clause-read c = one (place_found c.in-Some.is c.in_ok-from.ensures.read)
 
-pub returns-in_default-2-clause-refused : goal.returns-in_default-2-clause-refused
-returns-in_default-2-clause-refused c =
-    λ memory. no_second (place_found c.in-Some.is c.in_ok-from.ensures.read) c.split_blanks.ensures c.in-Some-split_first.ensures.cases.0 c.if-next-ne44.false c.split_blanks-2.ensures
-    (λ u t x. no_place (none_found c.split_blanks-2.result.1.now c.in_default-2.is c.in_ok-to.ensures.none) x)
+pub returns-in_default-2-clause-only : goal.returns-in_default-2-clause-only
+returns-in_default-2-clause-only c = only_one (place_found c.in-Some.is c.in_ok-from.ensures.read) (no_comma_found _ c.in_default-2.is c.in_ok-to.ensures.none)
 
 pub returns-clause-read : goal.returns-clause-read
-returns-clause-read c =
-    two_read (place_found c.in-Some.is c.in_ok-from.ensures.read) c.split_blanks.ensures c.in-Some-split_first.ensures.cases.0 c.if-next-ne44.false c.split_blanks-2.ensures (place_found c.in-Some-2.is c.in_ok-to.ensures.read)
+returns-clause-read c = let s = second_found c.in-Some-2.is c.in_ok-to.ensures.read in two_read (place_found c.in-Some.is c.in_ok-from.ensures.read) s.1 s.2
 
 pub returns-clause-only : goal.returns-clause-only
-returns-clause-only c =
-    only_two (place_found c.in-Some.is c.in_ok-from.ensures.read) c.split_blanks.ensures c.in-Some-split_first.ensures.cases.0 c.if-next-ne44.false c.split_blanks-2.ensures (place_found c.in-Some-2.is c.in_ok-to.ensures.read)
+returns-clause-only c = let s = second_found c.in-Some-2.is c.in_ok-to.ensures.read in only_two (place_found c.in-Some.is c.in_ok-from.ensures.read) s.1 s.2

@@ -1,4 +1,4 @@
-use Rattle.std.proofs.Common.{length, sym, ◌∙◌, inl, inr, arith}
+use Rattle.std.proofs.Common.{length, sym, ◌∙◌, arith}
 use Rattle.sedck_script.specs.Program.{address_patterns}
 use Rattle.sedck_script.specs.View.{address_of}
 use Rattle.sedck_script.specs.VerbReading.{written_verb}
@@ -12,21 +12,13 @@ pub returns-in_err-address-clause-refused : goal.returns-in_err-address-clause-r
 returns-in_err-address-clause-refused c =
     if_err_from _ c.from_residual.result _ c.from_residual.ensures.1 (λ memory given negated verb rest x. absurd (c.in_err-address.ensures.refused memory given negated verb rest x))
 
-pub check_verb-requires : goal.check_verb-requires
-check_verb-requires c = record { tail = tail_tail c.requires.tail (tail_tail (address_tail c.in_ok-address.ensures.read) (tail_cut c.split_marks.ensures)) }
-
-pub returns-in_err-check_verb-clause-refused : goal.returns-in_err-check_verb-clause-refused
-returns-in_err-check_verb-clause-refused c =
-    if_err_from _ c.from_residual-in_err-check_verb.result _ c.from_residual-in_err-check_verb.ensures.1
-    (λ memory given negated verb rest x. let parts = command_parts c.in_ok-address.ensures.only c.split_marks.ensures x in inr (c.in_err-check_verb.ensures.refused verb rest parts.verbs (takes_along verb parts.address (parts.negated ∙ sym c.contains-negated.ensures.value) x.taken)))
-
-pub verb_at-requires-clause-tail : goal.verb_at-requires-clause-tail
-verb_at-requires-clause-tail c = tail_tail c.requires.tail (tail_tail (address_tail c.in_ok-address.ensures.read) (tail_cut c.split_marks.ensures))
+pub allowed_verb-requires : goal.allowed_verb-requires
+allowed_verb-requires c = record { tail = tail_tail c.requires.tail (tail_tail (address_tail c.in_ok-address.ensures.read) (tail_cut c.split_marks.ensures)) }
 
 pub returns-in_err-verb-clause-refused : goal.returns-in_err-verb-clause-refused
 returns-in_err-verb-clause-refused c =
     if_err_from _ c.from_residual-in_err-verb.result _ c.from_residual-in_err-verb.ensures.1
-    (λ memory given negated verb rest x. inl (c.in_err-verb.ensures.refused memory verb rest (command_parts c.in_ok-address.ensures.only c.split_marks.ensures x).verbs))
+    (λ memory given negated verb rest x. let parts = command_parts c.in_ok-address.ensures.only c.split_marks.ensures x in c.in_err-verb.ensures.refused memory verb rest parts.verbs (takes_along verb parts.address (parts.negated ∙ sym c.contains-negated.ensures.value) x.taken))
 
 pub overflow_sub-whole : goal.overflow_sub-whole
 overflow_sub-whole c = omega (arith, tail_length (tail_tail c.requires.tail (tail_tail (address_tail c.in_ok-address.ensures.read) (tail_cut c.split_marks.ensures))))

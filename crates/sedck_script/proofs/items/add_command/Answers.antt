@@ -18,17 +18,14 @@ returns-in_err-command-clause-refused c =
     if_err_from _ c.from_residual.result _ c.from_residual.ensures.1 (λ memory. front_refused c.args.progress.now.labels c.requires.progress.front c.requires.begins c.requires.progress.labels c.requires.progress.count
     (λ a n v rest x. subst (λ d. DefinesKnown c.args.progress.now.labels v ⊎ IsBeyond d c.args.progress.now.count v) (omega (arith, c.len.ensures)) (c.in_err-command.ensures.refused memory a n v rest x)))
 
-pub returns-in_err-note_label-clause-refused : goal.returns-in_err-note_label-clause-refused
-returns-in_err-note_label-clause-refused c = if_err_from _ c.from_residual-in_err-note_label.result _ c.from_residual-in_err-note_label.ensures.1 (λ memory. absurd (memory c.in_err-note_label.ensures.memory))
+pub returns-in_err-note_command-clause-refused : goal.returns-in_err-note_command-clause-refused
+returns-in_err-note_command-clause-refused c = if_err_from _ c.from_residual-in_err-note_command.result _ c.from_residual-in_err-note_command.ensures.1 (λ memory. absurd (memory c.in_err-note_command.ensures.memory))
 
 pub overflow_sub-place : goal.overflow_sub-place
 overflow_sub-place c = omega (arith, tail_length c.requires.progress.front.tail, command_shorter c.in_ok-command.ensures.read)
 
 pub overflow_sub-place-2 : goal.overflow_sub-place-2
 overflow_sub-place-2 c = omega (arith, tail_length c.requires.progress.front.tail, command_shorter c.in_ok-command.ensures.read)
-
-pub returns-in_err-note_block-clause-refused : goal.returns-in_err-note_block-clause-refused
-returns-in_err-note_block-clause-refused c = if_err_from _ c.from_residual-in_err-note_block.result _ c.from_residual-in_err-note_block.ensures.1 (λ memory. absurd (memory c.in_err-note_block.ensures.memory))
 
 pub returns-clause-shorter : goal.returns-clause-shorter
 returns-clause-shorter c = command_shorter c.in_ok-command.ensures.read
@@ -37,19 +34,19 @@ pub returns-clause-progress : goal.returns-clause-progress
 returns-clause-progress c =
     let old = c.args.progress.now in
     let command = c.in_ok-command.command in
-    let items = ap (map item_of) c.in_ok-push.ensures.items ∙ map_push item_of old.items.items _ in
-    let noted = blocks_noted (written_verb command.verb) c.args.text.now old.open_blocks.items c.note_block.new.open_blocks.items _ c.in_ok-note_block.ensures.ok
+    let items = ap (map item_of) c.in_ok-note_command.ensures.items ∙ map_push item_of old.items.items _ in
+    let noted = blocks_noted (written_verb command.verb) c.args.text.now old.open_blocks.items c.note_command.new.progress.open_blocks.items _ c.in_ok-note_command.ensures.opened
     (λ e. subst (λ d. d < 64) (omega (arith, c.len.ensures)) (c.in_ok-command.ensures.shallow e))
     (λ e. brace_stands _ c.requires.progress.front.tail c.in_ok-command.ensures.read refl e) c.requires.progress.opened in
     record {
       front = rw items (front_command c.requires.progress.front c.requires.begins c.in_ok-command.ensures.read noted.0);
-      labels = rw (items, among_append) (labels_noted old.labels c.note_label.new.labels (commands_among (map item_of old.items.items)) (length c.args.text.now) (address_of command.address) command.negated command.verb
+      labels = rw (items, among_append) (labels_noted old.labels c.note_command.new.progress.labels (commands_among (map item_of old.items.items)) (length c.args.text.now) (address_of command.address) command.negated command.verb
           c.requires.progress.labels c.in_ok-command.ensures.within c.in_ok-command.ensures.read.taken c.in_ok-command.ensures.fresh
-          (subst (λ k. NotesLabel old.labels c.note_label.new.labels k command.verb) c.requires.progress.count c.in_ok-note_label.ensures.ok));
-      count = rw (items, among_append) (omega (arith, c.requires.progress.count, length-append (commands_among (map item_of old.items.items)) (Written (address_of command.address) command.negated (written_verb command.verb) ∷ [])));
-      few = omega (arith, c.in_ok-command.ensures.few);
-      within = rw c.in_ok-push.ensures.items (All-push (IsItemWithin (length c.args.text.now)) _ _ c.requires.progress.within c.in_ok-command.ensures.within);
+          (subst (λ k. NotesLabel old.labels c.note_command.new.progress.labels k command.verb) c.requires.progress.count c.in_ok-note_command.ensures.labels));
+      count = rw (items, among_append) (omega (arith, c.requires.progress.count, c.in_ok-note_command.ensures.count, length-append (commands_among (map item_of old.items.items)) (Written (address_of command.address) command.negated (written_verb command.verb) ∷ [])));
+      few = omega (arith, c.in_ok-command.ensures.few, c.in_ok-note_command.ensures.count);
+      within = rw c.in_ok-note_command.ensures.items (All-push (IsItemWithin (length c.args.text.now)) _ _ c.requires.progress.within c.in_ok-command.ensures.within);
       opened = noted.1;
-      empty = rw (items, patterns_push, c.or-progress.ensures) (empty_append (length c.args.text.now) (item_patterns (map item_of old.items.items)) (patterns_of (Written (address_of command.address) command.negated (written_verb command.verb))) old.empty c.in_ok-command.empty
+      empty = rw (items, patterns_push, c.in_ok-note_command.ensures.empty) (empty_append (length c.args.text.now) (item_patterns (map item_of old.items.items)) (patterns_of (Written (address_of command.address) command.negated (written_verb command.verb))) old.empty c.in_ok-command.empty
           c.requires.progress.empty c.in_ok-command.ensures.empty);
     }
