@@ -26,6 +26,3 @@ mod tree;
 pub use fault::ReFault;
 pub use parser::parse;
 pub use tree::{Bre, ByteSet, Expr};
-
-#[cfg(test)]
-mod tests;

@@ -12,8 +12,6 @@ mod lines;
 mod names;
 mod nodes;
 mod numbers;
-#[cfg(test)]
-mod tests;
 
 use self::frame::{command_count, ending, header};
 use self::lines::Lines;

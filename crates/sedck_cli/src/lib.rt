@@ -7,8 +7,6 @@ mod engines;
 mod input;
 mod rank;
 mod report;
-#[cfg(test)]
-mod tests;
 
 pub use answer::{Input, Outcome, RunFault};
 pub use command_line::{Refusal, program};

@@ -9,8 +9,6 @@ mod edges;
 pub mod graph;
 pub mod laws;
 mod success;
-#[cfg(test)]
-mod tests;
 mod verbs;
 mod words;
 

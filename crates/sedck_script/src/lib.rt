@@ -37,8 +37,6 @@ mod resolving;
 mod script;
 mod shortest;
 mod substitutions;
-#[cfg(test)]
-mod tests;
 mod texts;
 mod verbs;
 mod written;

@@ -18,6 +18,3 @@ mod ways;
 
 pub use answer::{Form, Found, Walk};
 pub use searching::search;
-
-#[cfg(test)]
-mod tests;

@@ -130,6 +130,3 @@ impl Row {
         count_bits(&self.words)
     }
 }
-
-#[cfg(test)]
-mod tests;

@@ -1,15 +1,16 @@
-//! What no clause says: which ranks the search gives, which of equally short loops it tells, and that it answers at all.
-
+//! Which ranks the search gives, which of equally short loops it tells, and that it answers at all.
+mod counts;
 mod large;
 mod loops;
 mod ranks;
 
-use crate::{Form, Found, Walk, search};
 use sedck_cert::{Cert, Verdict, check};
 use sedck_flow::Node;
 use sedck_script::parse;
+use sedck_search::{Form, Found, Walk, search};
 use std::alloc::{AllocError, Global};
-use std::test::*;
+use std::process::Abort;
+use std::test::Fail;
 
 /// What the search tells of the script: a line for each node with ranks, or the loop.
 fn told(alloc: Global, text: &[u8]) -> Result<String, Fail> {
@@ -66,4 +67,16 @@ fn in_lines(alloc: Global, text: &[u8]) -> Result<Vec<u8>, AllocError> {
         lines.push(if *byte == b';' { b'\n' } else { *byte })?;
     }
     Ok(lines)
+}
+
+/// A script, and what is told of it, also where it has a newline for each semicolon.
+type Row = (&'static [u8], &'static str);
+
+fn are_told(rt: &impl Abort, alloc: Global, rows: &[Row]) -> Result<(), Fail> {
+    for (text, lines) in rows {
+        assert_eq!(rt; told(alloc, text)?.as_str(), *lines, "{text:?}");
+        let text = in_lines(alloc, text)?;
+        assert_eq!(rt; told(alloc, &text)?.as_str(), *lines, "{text:?}");
+    }
+    Ok(())
 }

@@ -1,5 +1,7 @@
 //! Limits from both sides, the numbers of groups, and want of memory.
-use super::*;
+use super::refusal;
+use sedck_bre::{ReFault, parse};
+use std::alloc::Global;
 use std::test::Fail;
 
 /// The part, so many times.
@@ -43,35 +45,37 @@ fn deep_before_many(rt: HostRuntime) -> Result<(), Fail> {
     Ok(())
 }
 
+static INTERVALS: [(&'static [u8], Option<(u8, Option<usize>)>); 8] = [
+    (b"a\\{255\\}", None),
+    (b"a\\{256\\}", Some((8, Some(1)))),
+    (b"a\\{255,\\}", None),
+    (b"a\\{256,\\}", Some((8, Some(1)))),
+    (b"a\\{0,255\\}", None),
+    (b"a\\{0,256\\}", Some((8, Some(1)))),
+    (b"a\\{0000000000000000000000000255\\}", None),
+    (b"a\\{18446744073709551617\\}", Some((8, Some(1)))),
+];
+
 #[test]
 fn numbers_of_intervals(rt: HostRuntime) {
-    let rows: [(&[u8], Option<(u8, Option<usize>)>); 8] = [
-        (b"a\\{255\\}", None),
-        (b"a\\{256\\}", Some((8, Some(1)))),
-        (b"a\\{255,\\}", None),
-        (b"a\\{256,\\}", Some((8, Some(1)))),
-        (b"a\\{0,255\\}", None),
-        (b"a\\{0,256\\}", Some((8, Some(1)))),
-        (b"a\\{0000000000000000000000000255\\}", None),
-        (b"a\\{18446744073709551617\\}", Some((8, Some(1)))),
-    ];
-    for (text, wanted) in rows {
-        assert_eq!(rt; refusal(rt.alloc(), text), wanted, "{text:?}");
+    for (text, wanted) in &INTERVALS {
+        assert_eq!(rt; refusal(rt.alloc(), text), *wanted, "{text:?}");
     }
 }
 
+static GROUPS: [(&'static [u8], u8); 5] = [
+    (b"", 0),
+    (b"a", 0),
+    (b"\\(a\\)", 1),
+    (b"\\(\\(a\\)b\\)\\(c\\)", 3),
+    (b"\\(a\\)\\{0\\}", 1),
+];
+
 #[test]
 fn group_numbers(rt: HostRuntime) {
-    let rows: [(&[u8], u8); 5] = [
-        (b"", 0),
-        (b"a", 0),
-        (b"\\(a\\)", 1),
-        (b"\\(\\(a\\)b\\)\\(c\\)", 3),
-        (b"\\(a\\)\\{0\\}", 1),
-    ];
-    for (text, groups) in rows {
+    for (text, groups) in &GROUPS {
         match parse(rt.alloc(), text) {
-            Ok(expression) => assert_eq!(rt; expression.groups(), groups, "{text:?}"),
+            Ok(expression) => assert_eq!(rt; expression.groups(), *groups, "{text:?}"),
             Err(_) => assert!(rt; false, "{text:?}"),
         }
     }

@@ -1,7 +1,6 @@
 //! Large scripts.
-
 use super::told;
-use std::test::*;
+use std::test::Fail;
 
 /// As many commands as a script may have, one behind the other.
 #[test]

@@ -1,12 +1,10 @@
 //! The line of the bound, through `run_check` and `program`.
-
+use super::AMPLE;
 use super::fakes::{Given, Kept};
-use crate::{Outcome, program, run_check};
+use sedck_cli::{Outcome, program, run_check};
 use std::alloc::Global;
 use std::test::Fail;
 use std::{env, fs, process};
-
-const AMPLE: usize = 4_000_000;
 
 const NO_FILES: &str = "read 0\nwrite 0\n";
 
@@ -20,7 +18,7 @@ type Row = (
 );
 
 /// Scripts whose certificates are accepted.
-const ROWS: [Row; 22] = [
+static ROWS: [Row; 22] = [
     (
         ":a;N;b a",
         3,
@@ -151,7 +149,7 @@ const ROWS: [Row; 22] = [
 ];
 
 /// The certificate of a row, and the report that it is to have.
-fn texts(alloc: Global, row: Row) -> Result<(String, String), Fail> {
+fn texts(alloc: Global, row: &Row) -> Result<(String, String), Fail> {
     let (_, commands, nodes, lists, numbers) = row;
     let nodes = nodes.replace(alloc, ", ", "\n")?;
     let certificate = format!(in alloc; "sedck 1\ncommands {commands}\n{nodes}\n{lists}end\n")?;
@@ -208,7 +206,7 @@ fn reports(rt: HostRuntime) -> Result<(), Fail> {
     let id = process::id(rt.process());
     let folder = format!(in alloc; "{}/sedck-{id}-bounds", temp.display())?;
     fs::create_dir(&rt, &folder)?;
-    for row in ROWS {
+    for row in &ROWS {
         let (certificate, report) = texts(alloc, row)?;
         for piece in [1, 100_000] {
             let text = through_streams(alloc, row.0, &certificate, piece)?;

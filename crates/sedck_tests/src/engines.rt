@@ -1,10 +1,12 @@
-//! What no clause says: printed lines, statuses, streams that fail, and that calls succeed at all.
-
+//! What no clause says of the program: printed lines, statuses, streams that fail, and that calls succeed at all.
 mod bounds;
-mod engines;
+mod checks;
 mod fakes;
 mod programs;
 mod reports;
+
+/// More bytes than a test reads or writes.
+const AMPLE: usize = 4_000_000;
 
 /// A loop that reads a line in each turn.
 const LOOP: &str = ":a\nn\nb a";

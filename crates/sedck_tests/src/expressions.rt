@@ -1,10 +1,10 @@
-//! Tests as tables: what is read, what is refused and where, and the members of sets.
+//! Expressions as tables: what is read, what is refused and where, and the members of sets.
 mod limits;
 mod members;
 mod read;
 mod refused;
 
-use super::*;
+use sedck_bre::parse;
 use std::alloc::Global;
 
 /// The number and the place of the fault, if the text is refused.

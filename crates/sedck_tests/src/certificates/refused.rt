@@ -1,0 +1,124 @@
+//! Texts that are no certificates: the number of the fault and its line.
+use super::{ENDLESS, NAMED, fault_of};
+use bstr::ByteSlice;
+use std::alloc::{AllocError, Global};
+use std::process::Abort;
+
+/// The first and the last size that has a fault, its number, and its line.
+static CUTS: [(usize, usize, u8, usize); 13] = [
+    (0, 7, 1, 1),
+    (8, 18, 2, 2),
+    (19, 26, 3, 3),
+    (27, 32, 3, 4),
+    (33, 40, 3, 5),
+    (41, 46, 3, 6),
+    (47, 54, 3, 7),
+    (55, 60, 3, 8),
+    (61, 66, 3, 9),
+    (67, 72, 3, 10),
+    (73, 79, 4, 11),
+    (80, 87, 4, 12),
+    (88, 91, 5, 13),
+];
+
+#[test]
+fn refuses_cut_texts(rt: HostRuntime) {
+    assert_eq!(rt; ENDLESS.len(), 92);
+    for (size, _) in ENDLESS.iter().enumerate() {
+        for (first, last, number, line) in &CUTS {
+            if *first <= size && size <= *last {
+                assert_eq!(rt;
+                    fault_of(rt.alloc(), &ENDLESS[..size]),
+                    (*number, *line),
+                    "cut to {size}"
+                );
+            }
+        }
+    }
+}
+
+/// A part of a text, what stands in its place, and the number and the line of the fault; zeros for none.
+type Row = (&'static [u8], &'static [u8], u8, usize);
+
+fn refused(rt: &impl Abort, alloc: Global, text: &[u8], rows: &[Row]) -> Result<(), AllocError> {
+    for (old, new, number, line) in rows {
+        let text = text.replace(alloc, *old, *new)?;
+        assert_eq!(rt; fault_of(alloc, &text), (*number, *line), "{new:?}");
+    }
+    Ok(())
+}
+
+static CHANGED: [Row; 23] = [
+    (b"0 0 2 2\n", b"0 0 02 2\n", 3, 3),
+    (b"0 0 2 2\n", b"0 0 2 02\n", 3, 3),
+    (b"0 0 2 2\n", b"0 0  2 2\n", 3, 3),
+    (b"0 0 2 2\n", b"0 0 2 2 \n", 3, 3),
+    (b"0 0 2 2\n", b"0 0 +2 2\n", 3, 3),
+    (b"0 0 2 2\n", b"0 0 2\n", 3, 3),
+    (b"0 0 2 2\n", b"0 0 2 2 2\n", 3, 3),
+    (b"0 0 2 2\n", b"0 1 2 2\n", 3, 3),
+    (b"0 1 -\n", b"0 1 - 1\n", 3, 4),
+    (b"0 1 -\n", b"0 1\n", 3, 4),
+    (b"1 0 1 1\n", b"01 0 1 1\n", 3, 5),
+    (b"sedck 1\n", b"sedck  1\n", 1, 1),
+    (b"sedck 1\n", b"Sedck 1\n", 1, 1),
+    (b"commands 3\n", b"commands 03\n", 2, 2),
+    (b"commands 3\n", b"command 3\n", 2, 2),
+    (b"commands 3\n", b"commands -3\n", 2, 2),
+    (b"read 0\n", b"read 00\n", 4, 11),
+    (b"read 0\n", b"read 1\n", 4, 13),
+    (b"write 0\n", b"write -\n", 4, 12),
+    (b"end\n", b"end \n", 5, 13),
+    (b"end\n", b"end\nend\n", 5, 14),
+    (b"end\n", b"end\n\n", 5, 14),
+    (b"end\n", b"end", 5, 13),
+];
+
+#[test]
+fn refuses_changed_texts(rt: HostRuntime) -> Result<(), AllocError> {
+    refused(&rt, rt.alloc(), ENDLESS, &CHANGED)
+}
+
+static CHANGED_NAMES: [Row; 15] = [
+    (b"read 6\n", b"read 06\n", 4, 17),
+    (b"read 6\n", b"read 5\n", 4, 23),
+    (b"read 6\n", b"read -6\n", 4, 17),
+    (b"read 6\n", b"read  6\n", 4, 17),
+    (b"read 6\n", b"read\n", 4, 17),
+    (b"read 6\n", b"reads 6\n", 4, 17),
+    (b"read 6\n", b"read 7\n", 4, 24),
+    (b"\nZ\n", b"\n\n", 4, 18),
+    (b"\nZ\n", b"\nZ\0\n", 4, 18),
+    (b"\nZ\na\n", b"\na\na\n", 4, 19),
+    (b"\nZ\na\n", b"\na\nZ\n", 4, 19),
+    (b"end\n\xe9\n", b"\xe9\nend\n", 4, 23),
+    (b"a b \na;b}\n", b"a;b}\na b \n", 4, 21),
+    (b"write 0\n", b"writes 0\n", 4, 24),
+    (b"write 0\n", b"write 1\n", 5, 26),
+];
+
+#[test]
+fn refuses_changed_names(rt: HostRuntime) -> Result<(), AllocError> {
+    refused(&rt, rt.alloc(), NAMED, &CHANGED_NAMES)
+}
+
+/// The certificate of the script without commands.
+const EMPTY: &[u8] = b"sedck 1\ncommands 0\n0 0 1 1\n0 1 -\nread 0\nwrite 0\nend\n";
+
+static NUMBERS: [Row; 10] = [
+    (b"commands 0\n", b"commands 4096\n", 2, 2),
+    (b"commands 0\n", b"commands 18446744073709551616\n", 2, 2),
+    (b"commands 0\n", b"commands 4095\n", 3, 5),
+    (b"0 0 1 1\n", b"0 0 65536 1\n", 3, 3),
+    (b"0 0 1 1\n", b"0 0 1 65536\n", 3, 3),
+    (b"0 0 1 1\n", b"0 0 18446744073709551617 1\n", 3, 3),
+    (b"0 0 1 1\n", b"0 0 65535 65535\n", 0, 0),
+    (b"read 0\n", b"read 4096\n", 4, 5),
+    (b"write 0\n", b"write 4096\n", 4, 6),
+    (b"write 0\n", b"write 4294967296\n", 4, 6),
+];
+
+#[test]
+fn limits_of_numbers(rt: HostRuntime) -> Result<(), AllocError> {
+    refused(&rt, rt.alloc(), EMPTY, &NUMBERS)
+}

@@ -1,0 +1,184 @@
+//! Texts that are no scripts: which fault comes first, and where.
+use super::fault_of;
+use std::alloc::Global;
+use std::process::Abort;
+
+/// A text, and the number and the place of its fault.
+type Row = (&'static [u8], u8, usize);
+
+fn refused(rt: &impl Abort, alloc: Global, rows: &[Row]) {
+    for (text, number, place) in rows {
+        assert_eq!(rt; fault_of(alloc, text), (*number, Some(*place)), "{text:?}");
+    }
+}
+
+static SCRIPTS: [Row; 54] = [
+    (b"p\0", 2, 1),
+    (b"}\0", 2, 1),
+    (b"k", 3, 0),
+    (b"1~2p", 3, 1),
+    (b"/a/Ip", 3, 3),
+    (b"1", 3, 1),
+    (b"!1p", 3, 1),
+    (b"1,2,3p", 3, 3),
+    (b"0p", 4, 0),
+    (b"1,+2p", 4, 2),
+    (b"1,  p", 4, 4),
+    (b"1,0p", 4, 2),
+    (b"4294967296p", 4, 0),
+    (b"1,2q", 5, 3),
+    (b"1:a", 5, 1),
+    (b"1}", 5, 1),
+    (b"p;!#", 5, 3),
+    (b"s/a\\{2/x/", 6, 2),
+    (b"p;/[a/p", 6, 3),
+    (b"s/a/b", 7, 0),
+    (b"s/a\\+", 7, 0),
+    (b"1,/a", 7, 2),
+    (b"s /a/b/", 7, 0),
+    (b"p;\\", 7, 2),
+    (b"s/a/\\1/", 8, 4),
+    (b"s/a/\\1", 8, 4),
+    (b"s/a/b/I", 9, 6),
+    (b"s/a/b/gg", 9, 7),
+    (b"s/a/b/00", 9, 6),
+    (b"y/a/bc/", 10, 0),
+    (b"y/a\\q", 10, 3),
+    (b"p;a", 11, 2),
+    (b"p;w", 12, 2),
+    (b"s/a/b/w", 12, 6),
+    (b":", 13, 1),
+    (b": \n", 13, 2),
+    (b":a$", 13, 2),
+    (b"{:a}", 13, 3),
+    (b"b#c", 13, 1),
+    (b"b$", 13, 1),
+    (b":a;:a@", 13, 5),
+    (b":a;:a b", 14, 4),
+    (b"b z", 15, 2),
+    (b"b y;t z", 15, 2),
+    (b"p;}", 16, 2),
+    (b"{p", 17, 0),
+    (b"{p;{p", 17, 3),
+    (b"b z;{", 17, 4),
+    (b"p p", 20, 2),
+    (b"{p}p", 20, 3),
+    (b"s/a/b/ g", 20, 7),
+    (b"s//x/", 21, 2),
+    (b"b z;s//x/", 15, 2),
+    (b"s|a\\|b|c|", 22, 3),
+];
+
+#[test]
+fn refused_scripts(rt: HostRuntime) {
+    refused(&rt, rt.alloc(), &SCRIPTS);
+}
+
+static VERBS: [Row; 11] = [
+    (b"!", 3, 1),
+    (b"p x", 20, 2),
+    (b"dd", 20, 1),
+    (b"r", 12, 0),
+    (b"w  \np", 12, 0),
+    (b"a", 11, 0),
+    (b"c  \nx", 11, 0),
+    (b"i\\", 11, 0),
+    (b"a\\ ", 11, 0),
+    (b"a\\ \\x", 11, 0),
+    (b"c\\\\x", 11, 0),
+];
+
+#[test]
+fn refused_verbs(rt: HostRuntime) {
+    refused(&rt, rt.alloc(), &VERBS);
+}
+
+static LABELS: [Row; 12] = [
+    (b":  ", 13, 3),
+    (b": ;", 13, 2),
+    (b": #c", 13, 2),
+    (b":a@", 13, 2),
+    (b":a}", 13, 2),
+    (b":a#x", 13, 2),
+    (b":a b", 20, 3),
+    (b"b@", 13, 1),
+    (b"b /x/", 13, 2),
+    (b"t!", 13, 1),
+    (b"ta#c", 13, 2),
+    (b"b a x", 20, 4),
+];
+
+#[test]
+fn refused_labels(rt: HostRuntime) {
+    refused(&rt, rt.alloc(), &LABELS);
+}
+
+static LISTS: [Row; 11] = [
+    (b"y", 7, 0),
+    (b"y\nab\n", 7, 0),
+    (b"y\\a\\b\\", 7, 0),
+    (b"y/a/b", 7, 0),
+    (b"y/a\\", 7, 0),
+    (b"y/a\nb/c/", 7, 0),
+    (b"y/a\\\nb/c/", 7, 0),
+    (b"y/ab/c/x", 10, 0),
+    (b"y/a/b/x", 20, 6),
+    (b"yna\\nnbn", 22, 3),
+    (b"y|a\\|b|c|", 22, 3),
+];
+
+#[test]
+fn refused_lists(rt: HostRuntime) {
+    refused(&rt, rt.alloc(), &LISTS);
+}
+
+static REPLACEMENTS: [Row; 12] = [
+    (b"s", 7, 0),
+    (b"s\na\nb\n", 7, 0),
+    (b"s/a\nb/c/", 7, 0),
+    (b"s//b", 7, 0),
+    (b"s//b\\", 7, 0),
+    (b"s//a\nb/", 7, 0),
+    (b"s//\\q/", 8, 3),
+    (b"s//\\U", 8, 3),
+    (b"s//\\0/", 8, 3),
+    (b"s1\\1", 22, 2),
+    (b"s&&\\&&", 22, 3),
+    (b"sn\\na", 22, 2),
+];
+
+#[test]
+fn refused_replacements(rt: HostRuntime) {
+    refused(&rt, rt.alloc(), &REPLACEMENTS);
+}
+
+static FLAGS: [Row; 10] = [
+    (b"s//x/I", 9, 5),
+    (b"s//x/ g", 20, 6),
+    (b"s//x/gg", 9, 6),
+    (b"s//x/pgp", 9, 7),
+    (b"s//x/2g3", 9, 7),
+    (b"s//x/0", 9, 5),
+    (b"s//x/00", 9, 5),
+    (b"s//x/4294967296", 9, 5),
+    (b"s//x/99999999999999999999999", 9, 5),
+    (b"s//x/gw \n", 12, 6),
+];
+
+#[test]
+fn refused_flags(rt: HostRuntime) {
+    refused(&rt, rt.alloc(), &FLAGS);
+}
+
+static EXPRESSIONS: [Row; 5] = [
+    (b"s/\\(a\\)/\\1\\2/", 8, 10),
+    (b"s/a**/b/", 6, 2),
+    (b"s/\\(a/\\q/", 6, 2),
+    (b"s/[/]/b/", 6, 2),
+    (b"s|a\\|b", 22, 3),
+];
+
+#[test]
+fn refused_expressions(rt: HostRuntime) {
+    refused(&rt, rt.alloc(), &EXPRESSIONS);
+}

@@ -1,0 +1,73 @@
+//! Counts of bits against plain arithmetic.
+use sedck_search::rows::count_bits;
+
+/// A number of words, and the bits of so many full words.
+static FULL: [(usize, u64); 7] = [
+    (0, 0),
+    (1, 64),
+    (7, 448),
+    (8, 512),
+    (9, 576),
+    (127, 8128),
+    (128, 8192),
+];
+
+#[test]
+fn counts_of_no_bit_and_of_all(rt: HostRuntime) {
+    let clear = [0; 128];
+    let full = [u64::MAX; 128];
+    for (length, bits) in &FULL {
+        let (length, bits) = (*length, *bits);
+        assert!(rt; length <= 128);
+        assert_eq!(rt; count_bits(&clear[..length]), 0, "clear, {length}");
+        assert_eq!(rt; count_bits(&full[..length]), bits, "full, {length}");
+    }
+}
+
+/// A number of words, and the one of them that has a bit: at the beginning or the end of a chunk, or behind the last one.
+static PLACES: [(usize, usize); 15] = [
+    (1, 0),
+    (7, 0),
+    (7, 6),
+    (8, 0),
+    (8, 7),
+    (9, 0),
+    (9, 7),
+    (9, 8),
+    (127, 119),
+    (127, 120),
+    (127, 126),
+    (128, 0),
+    (128, 119),
+    (128, 120),
+    (128, 127),
+];
+
+#[test]
+fn counts_of_one_bit(rt: HostRuntime) {
+    for (length, at) in &PLACES {
+        let (length, at) = (*length, *at);
+        assert!(rt; at < length && length <= 128);
+        for bit in [0, 1, 31, 32, 63] {
+            let mut words = [0; 128];
+            words[at] = 1 << bit;
+            assert_eq!(rt; count_bits(&words[..length]), 1, "{length}, {at}, {bit}");
+            assert_eq!(rt; count_bits(&words[..at]), 0, "{length}, {at}, {bit}");
+        }
+    }
+}
+
+/// The words 1, 3, 7 and so on have 1, 2, 3 bits and so on: a number of words, and their bits.
+static GROWING: [(usize, u64); 6] = [(1, 1), (7, 28), (8, 36), (9, 45), (64, 2080), (128, 2080)];
+
+#[test]
+fn counts_of_growing_words(rt: HostRuntime) {
+    let mut words = [0; 128];
+    for at in 0..64 {
+        words[at] = u64::MAX >> (63 - at);
+    }
+    for (length, bits) in &GROWING {
+        assert!(rt; *length <= 128);
+        assert_eq!(rt; count_bits(&words[..*length]), *bits, "{length}");
+    }
+}

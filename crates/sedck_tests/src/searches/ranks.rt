@@ -1,0 +1,84 @@
+//! Scripts with ranks.
+use super::{Row, are_told};
+use sedck_script::parse;
+use sedck_search::{Found, search};
+use std::alloc::{AllocError, Global};
+use std::test::Fail;
+
+/// Each node with its two ranks; all other nodes have none.
+static RANKS: [Row; 15] = [
+    (b"", "0 0 1 1\n"),
+    (b"p", "0 0 2 2\n1 0 1 1\n"),
+    (b"d", "0 0 1 1\n"),
+    (b":a;N;b a", "0 0 2 2\n1 0 1 1\n2 0 3 3\n"),
+    (b":a;n;b a", "0 0 2 2\n1 0 1 1\n2 0 3 3\n"),
+    (
+        b":a;s/x//;ta",
+        "0 0 5 4\n1 0 5 3\n2 0 2 2\n2 1 5 5\n3 0 1 1\n",
+    ),
+    (b"$!N;P;D", "0 0 3 3\n1 0 3 2\n2 0 3 1\n"),
+    (
+        b":a;$!{N;ba};s/\\n/ /g",
+        "0 0 6 6\n1 0 5 5\n2 0 1 1\n3 0 7 7\n4 0 3 3\n5 0 1 1\n5 1 1 1\n",
+    ),
+    (
+        b":a;H;s/x//;ta;x",
+        "0 0 7 5\n1 0 7 4\n2 0 7 3\n3 0 3 2\n3 1 7 6\n4 0 2 1\n5 0 1 1\n",
+    ),
+    (b"q;:a;ba", "0 0 1 1\n"),
+    (b"s/a/b/w out.txt\nq\nw log", "0 0 3 3\n1 0 1 1\n1 1 1 1\n"),
+    (b"1!G;h;$!d", "0 0 4 4\n1 0 3 3\n2 0 2 2\n3 0 1 1\n"),
+    (b"/x/D", "0 0 2 2\n1 0 1 1\n"),
+    // loops that the start doesn't reach
+    (b"b;:a;s/x/xx/;ta", "0 0 2 2\n4 0 1 1\n"),
+    (b"d;:a;s/x*/y/;ta", "0 0 1 1\n"),
+];
+
+#[test]
+fn ranks(rt: HostRuntime) -> Result<(), Fail> {
+    are_told(&rt, rt.alloc(), &RANKS)
+}
+
+/// The names with a newline each.
+fn lines(alloc: Global, names: &[Vec<u8>]) -> Result<Vec<u8>, AllocError> {
+    let mut lines = Vec::new(alloc);
+    for name in names {
+        lines.extend_from_slice(name)?;
+        lines.push(b'\n')?;
+    }
+    Ok(lines)
+}
+
+/// A text and its names, those read and those written: those of the whole text, each once.
+static NAMES: [(&'static [u8], &'static [u8], &'static [u8]); 4] = [
+    (b"", b"", b""),
+    (b"s/a/b/w out.txt\nq\nw log", b"", b"log\nout.txt\n"),
+    (b"r x\nr x", b"x\n", b""),
+    (b"r b\nw c\nr a\nw c", b"a\nb\n", b"c\n"),
+];
+
+#[test]
+fn names(rt: HostRuntime) -> Result<(), Fail> {
+    for (text, reads, writes) in &NAMES {
+        let script = parse(rt.alloc(), text).ok().ok_or("refused")?;
+        let Found::Ranks(cert) = search(rt.alloc(), &script)? else {
+            return Err("a loop".into());
+        };
+        assert_eq!(rt;
+            usize::from(cert.commands()),
+            script.commands().len(),
+            "{text:?}"
+        );
+        assert_eq!(rt;
+            lines(rt.alloc(), cert.reads())?.as_slice(),
+            *reads,
+            "{text:?}"
+        );
+        assert_eq!(rt;
+            lines(rt.alloc(), cert.writes())?.as_slice(),
+            *writes,
+            "{text:?}"
+        );
+    }
+    Ok(())
+}
