@@ -46,7 +46,8 @@ not_refused Last mid text more one h wrong = wrong text more mid refl one h
 not_refused Nothing mid text more one h wrong = h
 
 -- a text of lines that are due to the end stops nowhere
-pub none_refused : (before lines : List (List ℕ)) (rest : List ℕ) (due wrong : Due) → joined_lines before ++ rest ≡ joined_lines lines → AreDue due before wrong → AreDue due lines Nothing → IsRefused wrong rest → ⊥
+pub none_refused : (before lines : List (List ℕ)) (rest : List ℕ) (due wrong : Due) → joined_lines before ++ rest ≡ joined_lines lines
+    → AreDue due before wrong → AreDue due lines Nothing → IsRefused wrong rest → ⊥
 none_refused [] [] rest due wrong e h k refused =
     let end : wrong ≡ Nothing = h ∙ sym k in
     let some : 0 < length rest = subst (λ d. IsRefused d rest) end refused in
@@ -61,7 +62,8 @@ none_refused (a ∷ before) (b ∷ lines) rest due wrong e h k refused =
 
 pub fault_of_none : (text : List ℕ) (fault : CertFault) → IsFaultOf text fault → (c : Certificate) → ¬ IsTextOf text c
 fault_of_none text fault f c h =
-    none_refused f.before (certificate_lines c) f.rest Header f.due (sym f.is_text ∙ h.is_text ∙ sym (certificate_lines-joined c)) f.are_due (certificate_is_due c h.within) f.is_refused
+    none_refused f.before (certificate_lines c) f.rest Header f.due (sym f.is_text ∙ h.is_text ∙ sym (certificate_lines-joined c)) f.are_due
+    (certificate_is_due c h.within) f.is_refused
 
 -- ---- One certificate
 
@@ -88,18 +90,22 @@ append_split (x ∷ xs) (y ∷ ys) as' bs l e =
 
 ranks_one : (x y : Option (ℕ × ℕ)) → AreWithin x → AreWithin y → ranks_text x ≡ ranks_text y → x ≡ y
 ranks_one None None h k e = refl
-ranks_one None (Some s) h k e = absurd (dash_lacks 32 (omega arith) (has_byte 32 (codes "-") (decimal s.0) (decimal s.1) (e ∙ append_assoc (decimal s.0) (codes " ") (decimal s.1))))
-ranks_one (Some r) None h k e = absurd (dash_lacks 32 (omega arith) (has_byte 32 (codes "-") (decimal r.0) (decimal r.1) (sym e ∙ append_assoc (decimal r.0) (codes " ") (decimal r.1))))
+ranks_one None (Some s) h k e =
+    absurd (dash_lacks 32 (omega arith) (has_byte 32 (codes "-") (decimal s.0) (decimal s.1) (e ∙ append_assoc (decimal s.0) (codes " ") (decimal s.1))))
+ranks_one (Some r) None h k e =
+    absurd (dash_lacks 32 (omega arith) (has_byte 32 (codes "-") (decimal r.0) (decimal r.1) (sym e ∙ append_assoc (decimal r.0) (codes " ") (decimal r.1))))
 ranks_one (Some r) (Some s) h k e =
     let small : (r.0 < 2 ^ 64) × (r.1 < 2 ^ 64) = (omega (arith, h.0), omega (arith, h.1)) in
     let less : (s.0 < 2 ^ 64) × (s.1 < 2 ^ 64) = (omega (arith, k.0), omega (arith, k.1)) in
-    let both = parts_one 32 (decimal r.0) (decimal s.0) (decimal r.1) (decimal s.1) (decimal-lacks r.0 32 small.0 (omega arith)) (decimal-lacks s.0 32 less.0 (omega arith))
+    let both = parts_one 32 (decimal r.0) (decimal s.0) (decimal r.1) (decimal s.1) (decimal-lacks r.0 32 small.0 (omega arith))
+    (decimal-lacks s.0 32 less.0 (omega arith))
     (sym (append_assoc (decimal r.0) (codes " ") (decimal r.1)) ∙ e ∙ append_assoc (decimal s.0) (codes " ") (decimal s.1)) in
     let first : r.0 ≡ s.0 = decimal_injective r.0 s.0 small.0 less.0 both.0 in
     let second : r.1 ≡ s.1 = decimal_injective r.1 s.1 small.1 less.1 both.1 in
     (λ i. Some (first i, second i))
 
-nodes_one : (node : ℕ) (xs ys : List (Option (ℕ × ℕ))) → AllByRecursion AreWithin xs → AllByRecursion AreWithin ys → node_texts node xs ≡ node_texts node ys → xs ≡ ys
+nodes_one : (node : ℕ) (xs ys : List (Option (ℕ × ℕ))) → AllByRecursion AreWithin xs → AllByRecursion AreWithin ys
+    → node_texts node xs ≡ node_texts node ys → xs ≡ ys
 nodes_one node [] [] h k e = refl
 nodes_one node [] (y ∷ ys) h k e = absurd (cc e)
 nodes_one node (x ∷ xs) [] h k e = absurd (cc e)
@@ -114,7 +120,8 @@ length-node_texts node [] = refl
 length-node_texts node (x ∷ xs) = ap suc (length-node_texts (suc node) xs)
 
 -- two lists, and what is behind them
-lists_one : (files : Files) (xs ys as' bs : List (List ℕ)) → length xs ≤ 4095 → length ys ≤ 4095 → list_texts files xs ++ as' ≡ list_texts files ys ++ bs → (xs ≡ ys) × (as' ≡ bs)
+lists_one : (files : Files) (xs ys as' bs : List (List ℕ)) → length xs ≤ 4095 → length ys ≤ 4095
+    → list_texts files xs ++ as' ≡ list_texts files ys ++ bs → (xs ≡ ys) × (as' ≡ bs)
 lists_one files xs ys as' bs few less e =
     let heads : list_word files ++ decimal (length xs) ≡ list_word files ++ decimal (length ys) = cc e in
     let tails : xs ++ as' ≡ ys ++ bs = cc e in
@@ -125,8 +132,10 @@ certificate_one c d h k e =
     let end = codes "end" ∷ [] in
     let counts : codes "commands " ++ decimal c.commands ≡ codes "commands " ++ decimal d.commands = cc e in
     let commands = count_one (codes "commands ") c.commands d.commands h.commands k.commands counts in
-    let rest : node_texts 0 c.ranks ++ (list_texts Reads c.reads ++ (list_texts Writes c.writes ++ end)) ≡ node_texts 0 d.ranks ++ (list_texts Reads d.reads ++ (list_texts Writes d.writes ++ end)) = cc e in
-    let long : length (node_texts 0 c.ranks) ≡ length (node_texts 0 d.ranks) = omega (arith, length-node_texts 0 c.ranks, length-node_texts 0 d.ranks, h.nodes, k.nodes, commands) in
+    let rest : node_texts 0 c.ranks ++ (list_texts Reads c.reads ++ (list_texts Writes c.writes ++ end)) ≡ node_texts 0 d.ranks ++
+    (list_texts Reads d.reads ++ (list_texts Writes d.writes ++ end)) = cc e in
+    let long : length (node_texts 0 c.ranks) ≡ length (node_texts 0 d.ranks) =
+    omega (arith, length-node_texts 0 c.ranks, length-node_texts 0 d.ranks, h.nodes, k.nodes, commands) in
     let nodes = append_split (node_texts 0 c.ranks) (node_texts 0 d.ranks) _ _ long rest in
     let ranks = nodes_one 0 c.ranks d.ranks (recursion_from_All AreWithin c.ranks h.ranks) (recursion_from_All AreWithin d.ranks k.ranks) nodes.0 in
     let reads = lists_one Reads c.reads d.reads (list_texts Writes c.writes ++ end) (list_texts Writes d.writes ++ end) h.reads.count k.reads.count nodes.1 in
@@ -136,4 +145,6 @@ certificate_one c d h k e =
 -- a text is one certificate's
 pub text_of_one : (text : List ℕ) (c d : Certificate) → IsTextOf text c → IsTextOf text d → d ≡ c
 text_of_one text c d h k =
-    certificate_one d c k.within h.within (joined_one (certificate_lines d) (certificate_lines c) Header Nothing (certificate_lines-joined d ∙ sym k.is_text ∙ h.is_text ∙ sym (certificate_lines-joined c)) (certificate_is_due d k.within) (certificate_is_due c h.within))
+    certificate_one d c k.within h.within (joined_one (certificate_lines d) (certificate_lines c) Header Nothing
+    (certificate_lines-joined d ∙ sym k.is_text ∙ h.is_text ∙ sym (certificate_lines-joined c)) (certificate_is_due d k.within)
+    (certificate_is_due c h.within))

@@ -26,7 +26,8 @@ pub record HasNoGrowUpTo (IsEdge : Edge → Type 0) (done coming : List Edge) : 
   pub none : AllByRecursion (λ e. e.kind ≢ Grow) done
 
 -- an edge of a node with ranks that grows is one too many
-pub one_grows : (p : Program) (c : Certificate) (n : Node) (done coming : List Edge) (e : Edge) → ListsEdges (done ++ e ∷ coming) (FlowFrom p n) → e.kind ≡ Grow → ranks_at c n ≢ None
+pub one_grows : (p : Program) (c : Certificate) (n : Node) (done coming : List Edge) (e : Edge) → ListsEdges (done ++ e ∷ coming) (FlowFrom p n)
+    → e.kind ≡ Grow → ranks_at c n ≢ None
     → ¬ NeverGrows c (FlowFrom p n)
 one_grows p c n done coming e listed grows ranked never =
     let is_edge = (listed.same e).0 (Contains-append_right done (e ∷ coming) e (0, omega arith, refl)) in
@@ -34,12 +35,14 @@ one_grows p c n done coming e listed grows ranked never =
 
 -- ---- The greatest ranks, one node more at a time
 
-pub greatest_first-push : (ranks : List (Option (ℕ × ℕ))) (r : Option (ℕ × ℕ)) → greatest_first (ranks ++ r ∷ []) ≡ max (greatest_first ranks) (greatest_first (r ∷ []))
+pub greatest_first-push : (ranks : List (Option (ℕ × ℕ))) (r : Option (ℕ × ℕ))
+    → greatest_first (ranks ++ r ∷ []) ≡ max (greatest_first ranks) (greatest_first (r ∷ []))
 greatest_first-push [] r = omega arith
 greatest_first-push (None ∷ ranks) r = greatest_first-push ranks r
 greatest_first-push (Some x ∷ ranks) r = omega (arith, greatest_first-push ranks r)
 
-pub greatest_second-push : (ranks : List (Option (ℕ × ℕ))) (r : Option (ℕ × ℕ)) → greatest_second (ranks ++ r ∷ []) ≡ max (greatest_second ranks) (greatest_second (r ∷ []))
+pub greatest_second-push : (ranks : List (Option (ℕ × ℕ))) (r : Option (ℕ × ℕ))
+    → greatest_second (ranks ++ r ∷ []) ≡ max (greatest_second ranks) (greatest_second (r ∷ []))
 greatest_second-push [] r = omega arith
 greatest_second-push (None ∷ ranks) r = greatest_second-push ranks r
 greatest_second-push (Some x ∷ ranks) r = omega (arith, greatest_second-push ranks r)
@@ -49,11 +52,15 @@ pub ord_max-max : (a b : ℕ) → ord_max nat_cmp a b ≡ max a b
 ord_max-max a b = grind (arith, common_steps)
 
 -- a node more, with ranks or without
-pub first_more : (ranks : List (Option (ℕ × ℕ))) (i : ℕ) (r : Option (ℕ × ℕ)) → i < length ranks → get_or ranks i None ≡ r → greatest_first (take (i + 1) ranks) ≡ max (greatest_first (take i ranks)) (greatest_first (r ∷ []))
-first_more ranks i r below is = ap greatest_first (take_more ranks i None below) ∙ greatest_first-push (take i ranks) (get_or ranks i None) ∙ ap (λ o. max (greatest_first (take i ranks)) (greatest_first (o ∷ []))) is
+pub first_more : (ranks : List (Option (ℕ × ℕ))) (i : ℕ) (r : Option (ℕ × ℕ)) → i < length ranks → get_or ranks i None ≡ r
+    → greatest_first (take (i + 1) ranks) ≡ max (greatest_first (take i ranks)) (greatest_first (r ∷ []))
+first_more ranks i r below is = ap greatest_first (take_more ranks i None below) ∙ greatest_first-push (take i ranks) (get_or ranks i None)
+    ∙ ap (λ o. max (greatest_first (take i ranks)) (greatest_first (o ∷ []))) is
 
-pub second_more : (ranks : List (Option (ℕ × ℕ))) (i : ℕ) (r : Option (ℕ × ℕ)) → i < length ranks → get_or ranks i None ≡ r → greatest_second (take (i + 1) ranks) ≡ max (greatest_second (take i ranks)) (greatest_second (r ∷ []))
-second_more ranks i r below is = ap greatest_second (take_more ranks i None below) ∙ greatest_second-push (take i ranks) (get_or ranks i None) ∙ ap (λ o. max (greatest_second (take i ranks)) (greatest_second (o ∷ []))) is
+pub second_more : (ranks : List (Option (ℕ × ℕ))) (i : ℕ) (r : Option (ℕ × ℕ)) → i < length ranks → get_or ranks i None ≡ r
+    → greatest_second (take (i + 1) ranks) ≡ max (greatest_second (take i ranks)) (greatest_second (r ∷ []))
+second_more ranks i r below is = ap greatest_second (take_more ranks i None below) ∙ greatest_second-push (take i ranks) (get_or ranks i None)
+    ∙ ap (λ o. max (greatest_second (take i ranks)) (greatest_second (o ∷ []))) is
 
 -- ---- The limit
 
@@ -64,5 +71,6 @@ multiplied first second bytes lines per_byte per_line fixed a b c = omega (arith
 
 pub bounds_runs : (p : Program) → AreWellFormed p → (c : Certificate) (b : Bound) → IsSteady p c → IsBoundOf c b → BoundsRuns p b
 bounds_runs p formed c b steady numbers lines steps run =
-    let limit = multiplied (greatest_first c.ranks) (greatest_second c.ranks) (bytes_of lines) (length lines) b.per_byte b.per_line b.fixed numbers.per_byte numbers.per_line numbers.fixed in
+    let limit = multiplied (greatest_first c.ranks) (greatest_second c.ranks) (bytes_of lines)
+    (length lines) b.per_byte b.per_line b.fixed numbers.per_byte numbers.per_line numbers.fixed in
     omega (arith, steady_counted p formed c steady lines steps run, limit)

@@ -75,7 +75,8 @@ first_found c IsEdge done coming e (Some why) listed met judged some = record {
 
 -- an edge leaves a command, or the script's end
 leaves_inside : (p : Program) (e : Edge) (o : Option Command) → slice_get p.commands e.from.at ≡ o
-    → MatchOption o ((e.from.at ≡ length p.commands) × (e.kind ≡ Consume) × (e.to ≡ start)) (λ c. CommandEdge p c e.from e.kind e.to) → e.from.at ≤ length p.commands
+    → MatchOption o ((e.from.at ≡ length p.commands) × (e.kind ≡ Consume) × (e.to ≡ start)) (λ c. CommandEdge p c e.from e.kind e.to)
+    → e.from.at ≤ length p.commands
 leaves_inside p e None is h = omega (arith, h.0)
 leaves_inside p e (Some c) is h = omega (arith, slice_get_within p.commands e.from.at c is)
 
@@ -85,7 +86,8 @@ leaves_below p e h = index_below e.from (length p.commands) (leaves_inside p e (
 
 -- the first edge of a node that isn't met, where those of the nodes before it are
 pub first_of_all : (p : Program) (c : Certificate) (n : Node) (found : Option Rejection)
-    → ((e : Edge) → Flow p e → node_index e.from < node_index n → MeetsEdge c e) → JudgesEdges c (FlowFrom p n) found → is_some found ≡ true → JudgesEdges c (Flow p) found
+    → ((e : Edge) → Flow p e → node_index e.from < node_index n → MeetsEdge c e) → JudgesEdges c (FlowFrom p n) found → is_some found ≡ true
+    → JudgesEdges c (Flow p) found
 first_of_all p c n None before judged some = cc
 first_of_all p c n (Some why) before judged some = record {
   edge = judged.edge;
@@ -97,7 +99,8 @@ first_of_all p c n (Some why) before judged some = record {
   ];
 }
 
-first_unmet : (p : Program) (c : Certificate) (e : Edge) → Flow p e → ¬ MeetsEdge c e → ((f : Edge) → Flow p f → IsEarlier f e → MeetsEdge c f) → IsFirstUnmet p c e
+first_unmet : (p : Program) (c : Certificate) (e : Edge) → Flow p e → ¬ MeetsEdge c e → ((f : Edge) → Flow p f → IsEarlier f e → MeetsEdge c f)
+    → IsFirstUnmet p c e
 first_unmet p c e is_edge unmet earlier = record { is_edge = is_edge; unmet = unmet; earlier = earlier }
 
 -- behind count and start, the first edge that isn't met is what is rejected
@@ -110,5 +113,8 @@ edge_rejection p c (LeavesRanked e) started h =
     let is : e ≡ h.edge = h.unmet.0 in
     (started, subst (IsFirstUnmet p c) (sym is) (first_unmet p c h.edge h.is_edge h.unmet.1 h.earlier), ap (λ (f : Edge). ranks_at c f.to) is ∙ h.unmet.2)
 edge_rejection p c (NotLowered e) started h =
-    let is : e ≡ h.edge = h.unmet.0 in
-    (started, subst (IsFirstUnmet p c) (sym is) (first_unmet p c h.edge h.is_edge h.unmet.1 h.earlier), λ none. h.unmet.2 (sym (ap (λ (f : Edge). ranks_at c f.to) is) ∙ none))
+    let is : e ≡ h.edge = h.unmet.0 in (
+      started,
+      subst (IsFirstUnmet p c) (sym is) (first_unmet p c h.edge h.is_edge h.unmet.1 h.earlier),
+      λ none. h.unmet.2 (sym (ap (λ (f : Edge). ranks_at c f.to) is) ∙ none),
+    )

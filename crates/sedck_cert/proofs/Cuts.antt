@@ -32,7 +32,8 @@ has_byte byte text (b ∷ f) r e = rw e (Contains-cons_more b (f ++ byte ∷ r) 
 -- a byte below the digits
 pub decimal-lacks : (n byte : ℕ) → n < 2 ^ 64 → byte < 48 → Contains (decimal n) byte → ⊥
 decimal-lacks n byte small below has =
-    let range : IsInRange 48 57 byte = All-contains (IsInRange 48 57) (decimal n) byte (All-from_get_or (IsInRange 48 57) (decimal n) 0 (λ k within. decimal-digit (decimal n) n k small refl within)) has in
+    let range : IsInRange 48 57 byte = All-contains (IsInRange 48 57) (decimal n) byte
+    (All-from_get_or (IsInRange 48 57) (decimal n) 0 (λ k within. decimal-digit (decimal n) n k small refl within)) has in
     omega (arith, range)
 
 pub decimal-cut : (text f r s : List ℕ) (n byte : ℕ) → n < 2 ^ 64 → byte < 48 → IsCut byte text f r → text ≡ decimal n ++ byte ∷ s → (f ≡ decimal n) × (r ≡ s)
@@ -43,10 +44,12 @@ dash_lacks byte below (zero, within, is) = let e : 45 ≡ byte = is in omega ari
 dash_lacks byte below (suc k, within, is) = omega arith
 
 -- the two decimals of ranks
-pub ranks_parts : (text first second : List ℕ) (ranks : Option (ℕ × ℕ)) → AreWithin ranks → IsCut 32 text first second → text ≡ ranks_text ranks → (m n : ℕ) × (m ≤ 65535) × (n ≤ 65535) × (first ≡ decimal m) × (second ≡ decimal n) × (ranks ≡ Some (m, n))
+pub ranks_parts : (text first second : List ℕ) (ranks : Option (ℕ × ℕ)) → AreWithin ranks → IsCut 32 text first second → text ≡ ranks_text ranks
+    → (m n : ℕ) × (m ≤ 65535) × (n ≤ 65535) × (first ≡ decimal m) × (second ≡ decimal n) × (ranks ≡ Some (m, n))
 ranks_parts text first second None within cut is = absurd (dash_lacks 32 (omega arith) (has_byte 32 (codes "-") first second (sym is ∙ cut.is_text)))
 ranks_parts text first second (Some r) within cut is =
-    let both = decimal-cut text first second (decimal r.1) r.0 32 (omega (arith, within.0)) (omega arith) cut (is ∙ append_assoc (decimal r.0) (codes " ") (decimal r.1)) in
+    let both = decimal-cut text first second (decimal r.1) r.0 32 (omega (arith, within.0)) (omega arith) cut
+    (is ∙ append_assoc (decimal r.0) (codes " ") (decimal r.1)) in
     (r.0, r.1, within.0, within.1, both.0, both.1, refl)
 
 -- the parts of a node's line
@@ -56,14 +59,19 @@ node_rest node ranks = flag_text (node % 2 == 1) ++ 32 ∷ ranks_text ranks
 pub node_text-parts : (node : ℕ) (ranks : Option (ℕ × ℕ)) → node_text node ranks ≡ decimal (node / 2) ++ 32 ∷ node_rest node ranks
 node_text-parts node ranks = simp append_assoc refl
 
-pub node_parts : (text at rest : List ℕ) (node : ℕ) (ranks : Option (ℕ × ℕ)) → node < 2 ^ 16 → IsCut 32 text at rest → text ≡ node_text node ranks → (at ≡ decimal (node / 2)) × (rest ≡ node_rest node ranks)
-node_parts text at rest node ranks small cut is = decimal-cut text at rest (node_rest node ranks) (node / 2) 32 (omega arith) (omega arith) cut (is ∙ node_text-parts node ranks)
+pub node_parts : (text at rest : List ℕ) (node : ℕ) (ranks : Option (ℕ × ℕ)) → node < 2 ^ 16 → IsCut 32 text at rest → text ≡ node_text node ranks
+    → (at ≡ decimal (node / 2)) × (rest ≡ node_rest node ranks)
+node_parts text at rest node ranks small cut is = decimal-cut text at rest (node_rest node ranks) (node / 2) 32 (omega arith) (omega arith) cut
+    (is ∙ node_text-parts node ranks)
 
-pub flag_parts : (text flag rest : List ℕ) (node : ℕ) (ranks : Option (ℕ × ℕ)) → node < 2 ^ 16 → IsCut 32 text flag rest → text ≡ node_rest node ranks → (flag ≡ decimal (node % 2)) × (rest ≡ ranks_text ranks)
-flag_parts text flag rest node ranks small cut is = decimal-cut text flag rest (ranks_text ranks) (node % 2) 32 (omega arith) (omega arith) cut (is ∙ ap (λ d. d ++ 32 ∷ ranks_text ranks) (flag_text-nth node))
+pub flag_parts : (text flag rest : List ℕ) (node : ℕ) (ranks : Option (ℕ × ℕ)) → node < 2 ^ 16 → IsCut 32 text flag rest → text ≡ node_rest node ranks
+    → (flag ≡ decimal (node % 2)) × (rest ≡ ranks_text ranks)
+flag_parts text flag rest node ranks small cut is =
+    decimal-cut text flag rest (ranks_text ranks) (node % 2) 32 (omega arith) (omega arith) cut (is ∙ ap (λ d. d ++ 32 ∷ ranks_text ranks) (flag_text-nth node))
 
 -- the line of a node whose place and flag are these
-pub node_by_ranks : (text at rest flag more : List ℕ) (node : ℕ) (r : Option (Option (ℕ × ℕ))) → node < 2 ^ 16 → IsCut 32 text at rest → IsCut 32 rest flag more → at ≡ decimal (node / 2) → flag ≡ decimal (node % 2)
+pub node_by_ranks : (text at rest flag more : List ℕ) (node : ℕ) (r : Option (Option (ℕ × ℕ))) → node < 2 ^ 16 → IsCut 32 text at rest
+    → IsCut 32 rest flag more → at ≡ decimal (node / 2) → flag ≡ decimal (node % 2)
     → MatchOption r ((ranks : Option (ℕ × ℕ)) → AreWithin ranks → more ≡ ranks_text ranks → ⊥) (λ ranks. AreWithin ranks × (more ≡ ranks_text ranks))
     → MatchOption r ((ranks : Option (ℕ × ℕ)) → AreWithin ranks → text ≡ node_text node ranks → ⊥) (λ ranks. AreWithin ranks × (text ≡ node_text node ranks))
 node_by_ranks text at rest flag more node None small cut cut2 a f h = λ ranks within is.

@@ -32,7 +32,8 @@ decimal-le text n i small is =
     omega (arith, ap (digits_value 10) is ∙ digits_value-decimal own n small)
 
 -- one more digit
-pub digits-more : (text : List ℕ) (i value byte : ℕ) → i < length text → AllDigits 10 (take i text) → value ≡ digits_value 10 (take i text) → byte ≡ get_or text i 0 → IsInRange 48 57 byte → AllDigits 10 (take (i + 1) text) × (value * 10 + (byte - 48) ≡ digits_value 10 (take (i + 1) text))
+pub digits-more : (text : List ℕ) (i value byte : ℕ) → i < length text → AllDigits 10 (take i text) → value ≡ digits_value 10 (take i text)
+    → byte ≡ get_or text i 0 → IsInRange 48 57 byte → AllDigits 10 (take (i + 1) text) × (value * 10 + (byte - 48) ≡ digits_value 10 (take (i + 1) text))
 digits-more text i value byte within all is read range =
     let above : digit_value byte + 48 ≡ byte = digit_value_digit byte range in
     let digit : digit_value byte ≡ byte - 48 = let d = digit_value byte in omega arith in
@@ -40,7 +41,8 @@ digits-more text i value byte within all is read range =
     (digits_more 10 text i within all small, rw (digits_value_more 10 text i within, ← read, digit, ← is) refl)
 
 -- digits with no needless zero in front are the decimal of their value
-pub decimal-of_digits : (text : List ℕ) (i value : ℕ) → length text ≤ i → AllDigits 10 (take i text) → value ≡ digits_value 10 (take i text) → 0 < length text → (get_or text 0 0 ≡ 48 → length text ≡ 1) → value < 2 ^ 64 → text ≡ decimal value
+pub decimal-of_digits : (text : List ℕ) (i value : ℕ) → length text ≤ i → AllDigits 10 (take i text) → value ≡ digits_value 10 (take i text)
+    → 0 < length text → (get_or text 0 0 ≡ 48 → length text ≡ 1) → value < 2 ^ 64 → text ≡ decimal value
 decimal-of_digits text i value end all is some front small =
     let whole : take i text ≡ text = take_all i text end in
     let sure : AllDigits 10 text = rw whole at all in

@@ -34,14 +34,16 @@ leads_one due next text {old} {new} line' is = record {
 pub wrong_cuts : (due : Due) (rest : List ℕ) → ((text more : List ℕ) (next : Due) → IsCut 10 rest text more → ¬ IsDue due text next) → IsWrong due rest
 wrong_cuts due rest none = λ text more next is one. none text more next (record { none = one; is_text = is ∙ line-behind text more })
 
-pub wrong_word : (due : Due) (rest word : List ℕ) → ((text : List ℕ) (next : Due) → IsDue due text next → text ≡ word) → ((more : List ℕ) → IsCut 10 rest word more → ⊥) → IsWrong due rest
+pub wrong_word : (due : Due) (rest word : List ℕ) → ((text : List ℕ) (next : Due) → IsDue due text next → text ≡ word)
+    → ((more : List ℕ) → IsCut 10 rest word more → ⊥) → IsWrong due rest
 wrong_word due rest word told none = wrong_cuts due rest (λ text more next cut is. none more (subst (λ t. IsCut 10 rest t more) (told text next is) cut))
 
 -- the number behind the word in a line
 abbrev pub NoCount : List ℕ → List ℕ → Type 0
 NoCount rest word = (n : ℕ) → n ≤ 4095 → (more : List ℕ) → IsCut 10 rest (word ++ decimal n) more → ⊥
 
-pub wrong_count : (due : Due) (rest word : List ℕ) → ((text : List ℕ) (next : Due) → IsDue due text next → (n : ℕ) × (n ≤ 4095) × (text ≡ word ++ decimal n)) → NoCount rest word → IsWrong due rest
+pub wrong_count : (due : Due) (rest word : List ℕ)
+    → ((text : List ℕ) (next : Due) → IsDue due text next → (n : ℕ) × (n ≤ 4095) × (text ≡ word ++ decimal n)) → NoCount rest word → IsWrong due rest
 wrong_count due rest word told none = wrong_cuts due rest (λ text more next cut is.
     let h = told text next is in
     none h.0 h.1 more (subst (λ t. IsCut 10 rest t more) h.2 cut))
@@ -82,7 +84,8 @@ stops_here due old fault refused is = record {
 -- lines after lines
 pub leads_on : (a b c : Due) (xs ys : List (List ℕ)) {x y z : Lines} → Leads a x xs y b → Leads b y ys z c → Leads a x (xs ++ ys) z c
 leads_on a b c xs ys {x} {y} {z} h k = record {
-  is_text = h.is_text ∙ ap (λ t. joined_lines xs ++ t) k.is_text ∙ sym (append_assoc (joined_lines xs) (joined_lines ys) z.rest.now) ∙ ap (λ t. t ++ z.rest.now) (sym (joined_lines-append xs ys));
+  is_text = h.is_text ∙ ap (λ t. joined_lines xs ++ t) k.is_text ∙ sym (append_assoc (joined_lines xs) (joined_lines ys) z.rest.now)
+      ∙ ap (λ t. t ++ z.rest.now) (sym (joined_lines-append xs ys));
   number = omega (arith, h.number, k.number, length-append xs ys);
   are_due = are_due-append xs ys a b c h.are_due k.are_due;
 }
@@ -93,14 +96,16 @@ leads_stops a b xs fault {x} {y} h k = record {
   before = xs ++ k.before;
   rest = k.rest;
   wrong = k.wrong;
-  is_text = h.is_text ∙ ap (λ t. joined_lines xs ++ t) k.is_text ∙ sym (append_assoc (joined_lines xs) (joined_lines k.before) k.rest) ∙ ap (λ t. t ++ k.rest) (sym (joined_lines-append xs k.before));
+  is_text = h.is_text ∙ ap (λ t. joined_lines xs ++ t) k.is_text ∙ sym (append_assoc (joined_lines xs) (joined_lines k.before) k.rest)
+      ∙ ap (λ t. t ++ k.rest) (sym (joined_lines-append xs k.before));
   are_due = are_due-append xs k.before a b k.wrong h.are_due k.are_due;
   is_refused = k.is_refused;
   is_fault = k.is_fault ∙ ap (fault_at k.wrong) (omega (arith, h.number, length-append xs k.before));
 }
 
 -- what is read from the next line, by what is read from a text
-pub next_by_line : {V : Type 0} (Good : V → Type 0) (text : V → List ℕ) (line' : List ℕ) (r : Option V) (old new : Lines) → IsCut 10 old.rest.now line' new.rest.now → new.number ≡ old.number + 1
+pub next_by_line : {V : Type 0} (Good : V → Type 0) (text : V → List ℕ) (line' : List ℕ) (r : Option V) (old new : Lines)
+    → IsCut 10 old.rest.now line' new.rest.now → new.number ≡ old.number + 1
     → MatchOption r ((v : V) → Good v → line' ≡ text v → ⊥) (λ v. Good v × (line' ≡ text v))
     → MatchOption r ((v : V) → Good v → (more : List ℕ) → IsCut 10 old.rest.now (text v) more → ⊥) (λ v. Good v × IsNext old (text v) new)
 next_by_line Good text line' None old new cut number h = λ v good more other. h v good (cut_one 10 _ line' _ (text v) more cut other).0

@@ -23,11 +23,13 @@ module _ (names_of : Verb → List (List ℕ)) where
         | inr more ↦ let later = named cs name more in (suc later.0, later.1, later.2, later.3)
       ]
 
-  listed : (cs : List Command) (name : List ℕ) (at : ℕ) (c : Command) → slice_get cs at ≡ Some c → Contains (names_of c.verb) name → Contains (flat_map (λ (d : Command). names_of d.verb) cs) name
+  listed : (cs : List Command) (name : List ℕ) (at : ℕ) (c : Command) → slice_get cs at ≡ Some c → Contains (names_of c.verb) name
+      → Contains (flat_map (λ (d : Command). names_of d.verb) cs) name
   listed [] name at c e h = absurd (none-some _ e)
   listed (d ∷ cs) name zero c e h =
       let is : d ≡ c = cc in
-      Contains-append_left (names_of d.verb) (flat_map (λ (x : Command). names_of x.verb) cs) name (subst (λ (x : Command). Contains (names_of x.verb) name) (sym is) h)
+      Contains-append_left (names_of d.verb) (flat_map (λ (x : Command). names_of x.verb) cs) name
+      (subst (λ (x : Command). Contains (names_of x.verb) name) (sym is) h)
   listed (d ∷ cs) name (suc at) c e h = Contains-append_right (names_of d.verb) (flat_map (λ (x : Command). names_of x.verb) cs) name (listed cs name at c e h)
 
 pub reads_listed : (p : Program) → ListsNames (reads p) (NamesForReading p)
@@ -35,7 +37,10 @@ reads_listed p =
     let all : List (List ℕ) = flat_map (λ (c : Command). read_names c.verb) p.commands in
     record {
       rising = sorted_names-rise all;
-      same = λ name. (λ h. named read_names p.commands name ((sorted_names-same all name).0 h), λ (at, c, e, h). (sorted_names-same all name).1 (listed read_names p.commands name at c e h));
+      same = λ name. (
+        λ h. named read_names p.commands name ((sorted_names-same all name).0 h),
+        λ (at, c, e, h). (sorted_names-same all name).1 (listed read_names p.commands name at c e h),
+      );
     }
 
 pub writes_listed : (p : Program) → ListsNames (writes p) (NamesForWriting p)
@@ -43,7 +48,10 @@ writes_listed p =
     let all : List (List ℕ) = flat_map (λ (c : Command). write_names c.verb) p.commands in
     record {
       rising = sorted_names-rise all;
-      same = λ name. (λ h. named write_names p.commands name ((sorted_names-same all name).0 h), λ (at, c, e, h). (sorted_names-same all name).1 (listed write_names p.commands name at c e h));
+      same = λ name. (
+        λ h. named write_names p.commands name ((sorted_names-same all name).0 h),
+        λ (at, c, e, h). (sorted_names-same all name).1 (listed write_names p.commands name at c e h),
+      );
     }
 
 -- a list is such a list exactly where it is the sorted one

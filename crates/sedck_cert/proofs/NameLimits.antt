@@ -44,11 +44,13 @@ right_next (name ∷ names) before size h =
       h.each.0,
       first_rises before name names h.behind,
       omega (arith, size-cons name names size, h.within),
-      right_next names (name ∷ []) (size + length name + 1) (record { each = h.each.1; behind = parts.0; rising = parts.1; within = omega (arith, size-cons name names size, h.within) }),
+      right_next names (name ∷ []) (size + length name + 1)
+          (record { each = h.each.1; behind = parts.0; rising = parts.1; within = omega (arith, size-cons name names size, h.within) }),
     )
 
 pub names_next : (names : List (List ℕ)) (size : ℕ) → AreNames names → size + names_size names ≤ 1048576 → AreNext [] names size
-names_next names size h small = right_next names [] size (record { each = recursion_from_All IsName names h.each; behind = tt; rising = h.rising; within = small })
+names_next names size h small = right_next names [] size
+    (record { each = recursion_from_All IsName names h.each; behind = tt; rising = h.rising; within = small })
 
 pub next_names : (names : List (Vec ℕ Global)) (size : ℕ) → length names ≤ 4095 → AreNext [] (names_of names) size → AreNames (names_of names)
 next_names names size few h =
@@ -56,5 +58,6 @@ next_names names size few h =
     let e = length-map names (λ (n : Vec ℕ Global). n.items) in
     record { each = All-from_recursion IsName (names_of names) right.each; rising = right.rising; count = omega arith }
 
-pub left_cons : (names : List (Vec ℕ Global)) (i : ℕ) (name : Vec ℕ Global) → i < length names → name ≡ get_or names i name → names_of (drop i names) ≡ name.items ∷ names_of (drop (i + 1) names)
+pub left_cons : (names : List (Vec ℕ Global)) (i : ℕ) (name : Vec ℕ Global) → i < length names → name ≡ get_or names i name
+    → names_of (drop i names) ≡ name.items ∷ names_of (drop (i + 1) names)
 left_cons names i name within is = rw (add-one, drop-cons names i name within) (ap (λ (n : Vec ℕ Global). n.items ∷ names_of (drop (suc i) names)) (sym is))

@@ -35,13 +35,16 @@ node_lines-append node (x ∷ xs) ys =
     ap (λ t. line (node_text node x) ++ t) (node_lines-append (suc node) xs ys ∙ ap (λ n. node_lines (suc node) xs ++ node_lines n ys) (omega arith))
     ∙ sym (append_assoc (line (node_text node x)) (node_lines (suc node) xs) (node_lines (node + length (x ∷ xs)) ys))
 
-pub node_lines-more : (ranks : List (Option (ℕ × ℕ))) (i : ℕ) (d : Option (ℕ × ℕ)) → i < length ranks → node_lines 0 (take (i + 1) ranks) ≡ node_lines 0 (take i ranks) ++ line (node_text i (get_or ranks i d))
+pub node_lines-more : (ranks : List (Option (ℕ × ℕ))) (i : ℕ) (d : Option (ℕ × ℕ)) → i < length ranks
+    → node_lines 0 (take (i + 1) ranks) ≡ node_lines 0 (take i ranks) ++ line (node_text i (get_or ranks i d))
 node_lines-more ranks i d within =
     let long : length (take i ranks) ≡ i = length-take-le i ranks (omega arith) in
     ap (node_lines 0) (take_more ranks i d within) ∙ node_lines-append 0 (take i ranks) (get_or ranks i d ∷ [])
-    ∙ ap (λ t. node_lines 0 (take i ranks) ++ t) (append-nil (line (node_text (0 + length (take i ranks)) (get_or ranks i d))) ∙ ap (λ n. line (node_text n (get_or ranks i d))) (omega arith))
+    ∙ ap (λ t. node_lines 0 (take i ranks) ++ t) (append-nil (line (node_text (0 + length (take i ranks)) (get_or ranks i d)))
+    ∙ ap (λ n. line (node_text n (get_or ranks i d))) (omega arith))
 
-pub node_lines-at : (ranks : List (Option (ℕ × ℕ))) (i : ℕ) (d : Option (ℕ × ℕ)) → i < length ranks → node_lines 0 ranks ≡ node_lines 0 (take i ranks) ++ (line (node_text i (get_or ranks i d)) ++ node_lines (suc i) (drop (suc i) ranks))
+pub node_lines-at : (ranks : List (Option (ℕ × ℕ))) (i : ℕ) (d : Option (ℕ × ℕ)) → i < length ranks
+    → node_lines 0 ranks ≡ node_lines 0 (take i ranks) ++ (line (node_text i (get_or ranks i d)) ++ node_lines (suc i) (drop (suc i) ranks))
 node_lines-at ranks i d within =
     let long : length (take i ranks) ≡ i = length-take-le i ranks (omega arith) in
     ap (node_lines 0) (sym (take-append-drop i ranks)) ∙ node_lines-append 0 (take i ranks) (drop i ranks)
@@ -55,13 +58,15 @@ name_lines-append (x ∷ xs) ys = ap (λ t. line x ++ t) (name_lines-append xs y
 names_of-append : (xs ys : List (Vec ℕ Global)) → names_of (xs ++ ys) ≡ names_of xs ++ names_of ys
 names_of-append xs ys = map-append (λ n. n.items) xs ys
 
-pub name_lines-at : (names : List (Vec ℕ Global)) (i : ℕ) (name : Vec ℕ Global) → i < length names → name ≡ get_or names i name → name_lines (names_of names) ≡ name_lines (names_of (take i names)) ++ (line name.items ++ name_lines (names_of (drop (i + 1) names)))
+pub name_lines-at : (names : List (Vec ℕ Global)) (i : ℕ) (name : Vec ℕ Global) → i < length names → name ≡ get_or names i name
+    → name_lines (names_of names) ≡ name_lines (names_of (take i names)) ++ (line name.items ++ name_lines (names_of (drop (i + 1) names)))
 name_lines-at names i name within is =
     ap (λ t. name_lines (names_of t)) (sym (take-append-drop i names)) ∙ ap name_lines (names_of-append (take i names) (drop i names))
     ∙ name_lines-append (names_of (take i names)) (names_of (drop i names))
     ∙ ap (λ t. name_lines (names_of (take i names)) ++ name_lines t) (left_cons names i name within is)
 
-pub name_lines-more : (names : List (Vec ℕ Global)) (i : ℕ) (name : Vec ℕ Global) → i < length names → name ≡ get_or names i name → name_lines (names_of (take (i + 1) names)) ≡ name_lines (names_of (take i names)) ++ line name.items
+pub name_lines-more : (names : List (Vec ℕ Global)) (i : ℕ) (name : Vec ℕ Global) → i < length names → name ≡ get_or names i name
+    → name_lines (names_of (take (i + 1) names)) ≡ name_lines (names_of (take i names)) ++ line name.items
 name_lines-more names i name within is =
     ap (λ t. name_lines (names_of t)) (take_more names i name within) ∙ ap name_lines (names_of-append (take i names) (get_or names i name ∷ []))
     ∙ name_lines-append (names_of (take i names)) (names_of (get_or names i name ∷ []))
@@ -79,8 +84,10 @@ length-names_of names = sym (length-map names (λ n. n.items))
 pub head_pieces : (n : ℕ) → line (codes "sedck 1") ++ line (codes "commands " ++ decimal n) ≡ codes "sedck 1\ncommands " ++ (decimal n ++ 10 ∷ [])
 head_pieces n = refl
 
-pub files_pieces : (reads writes : List (List ℕ)) → files_text reads writes ≡ (line (codes "read " ++ decimal (length reads)) ++ name_lines reads) ++ (line (codes "write " ++ decimal (length writes)) ++ name_lines writes)
-files_pieces reads writes = append_assoc (line (codes "read " ++ decimal (length reads)) ++ name_lines reads) (line (codes "write " ++ decimal (length writes))) (name_lines writes)
+pub files_pieces : (reads writes : List (List ℕ)) → files_text reads writes ≡ (line (codes "read " ++ decimal (length reads)) ++ name_lines reads) ++
+    (line (codes "write " ++ decimal (length writes)) ++ name_lines writes)
+files_pieces reads writes = append_assoc (line (codes "read " ++ decimal (length reads)) ++ name_lines reads)
+    (line (codes "write " ++ decimal (length writes))) (name_lines writes)
 
 abbrev pub head_text : ℕ → List ℕ
 head_text n = line (codes "sedck 1") ++ line (codes "commands " ++ decimal n)
@@ -88,7 +95,8 @@ head_text n = line (codes "sedck 1") ++ line (codes "commands " ++ decimal n)
 four : (h n f e : List ℕ) → h ++ n ++ f ++ e ≡ h ++ (n ++ (f ++ e))
 four h n f e = simp append_assoc
 
-pub certificate_pieces : (c : Certificate) → certificate_text c ≡ head_text c.commands ++ (node_lines 0 c.ranks ++ (files_text c.reads c.writes ++ line (codes "end")))
+pub certificate_pieces : (c : Certificate) → certificate_text c ≡ head_text c.commands ++
+    (node_lines 0 c.ranks ++ (files_text c.reads c.writes ++ line (codes "end")))
 unfolding certificate_text
 certificate_pieces c = four (head_text c.commands) (node_lines 0 c.ranks) (files_text c.reads c.writes) (line (codes "end"))
 
@@ -99,5 +107,7 @@ pub few_names : (names : List (Vec ℕ Global)) (list : List (List ℕ)) → Are
 few_names names list h is = omega (arith, h.count, ap length is, length-names_of names)
 
 -- the pieces as they are at hand
-pub pieces_at : (c : Certificate) (n : ℕ) (ranks : List (Option (ℕ × ℕ))) (reads writes : List (List ℕ)) → n ≡ c.commands → ranks ≡ c.ranks → reads ≡ c.reads → writes ≡ c.writes → certificate_text c ≡ head_text n ++ (node_lines 0 ranks ++ (files_text reads writes ++ line (codes "end")))
-pieces_at c n ranks reads writes a b d e = certificate_pieces c ∙ (λ i. head_text (sym a i) ++ (node_lines 0 (sym b i) ++ (files_text (sym d i) (sym e i) ++ line (codes "end"))))
+pub pieces_at : (c : Certificate) (n : ℕ) (ranks : List (Option (ℕ × ℕ))) (reads writes : List (List ℕ)) → n ≡ c.commands → ranks ≡ c.ranks
+    → reads ≡ c.reads → writes ≡ c.writes → certificate_text c ≡ head_text n ++ (node_lines 0 ranks ++ (files_text reads writes ++ line (codes "end")))
+pieces_at c n ranks reads writes a b d e = certificate_pieces c
+    ∙ (λ i. head_text (sym a i) ++ (node_lines 0 (sym b i) ++ (files_text (sym d i) (sym e i) ++ line (codes "end"))))

@@ -11,7 +11,8 @@ pub record IsPartWritten (before after : Option (List ℕ)) (text rest : List �
   pub taken : Appends before after front
 
 -- so many bytes of the rest are written too
-pub more_written : (before mid after : Option (List ℕ)) (text rest : List ℕ) (count : ℕ) → IsPartWritten before mid text rest → Appends mid after (take count rest)
+pub more_written : (before mid after : Option (List ℕ)) (text rest : List ℕ) (count : ℕ) → IsPartWritten before mid text rest
+    → Appends mid after (take count rest)
     → IsPartWritten before after text (take (length rest - count) (drop count rest))
 more_written before mid after text rest count part more = rw (take_rest rest count) (record {
   front = part.front ++ take count rest;

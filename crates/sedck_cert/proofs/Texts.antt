@@ -35,7 +35,8 @@ names_joined : (names : List (List ℕ)) → joined_lines names ≡ name_lines n
 names_joined [] = refl
 names_joined (name ∷ names) = ap (λ t. line name ++ t) (names_joined names)
 
-regrouped : (h c n rc r wc w e n' r' w' : List ℕ) → n ≡ n' → r ≡ r' → w ≡ w' → h ++ (c ++ (n ++ ((rc ++ r) ++ ((wc ++ w) ++ (e ++ []))))) ≡ h ++ c ++ n' ++ (rc ++ r' ++ wc ++ w') ++ e
+regrouped : (h c n rc r wc w e n' r' w' : List ℕ) → n ≡ n' → r ≡ r' → w ≡ w'
+    → h ++ (c ++ (n ++ ((rc ++ r) ++ ((wc ++ w) ++ (e ++ []))))) ≡ h ++ c ++ n' ++ (rc ++ r' ++ wc ++ w') ++ e
 regrouped h c n rc r wc w e n' r' w' en er ew =
     let base : h ++ (c ++ (n ++ ((rc ++ r) ++ ((wc ++ w) ++ (e ++ []))))) ≡ h ++ c ++ n ++ (rc ++ r ++ wc ++ w) ++ e = simp (append_assoc, append-nil) in
     base ∙ (λ i. h ++ c ++ en i ++ (rc ++ er i ++ wc ++ ew i) ++ e)
@@ -45,11 +46,15 @@ unfolding certificate_text
 certificate_lines-joined c =
     let end = codes "end" ∷ [] in
     let texts = node_texts 0 c.ranks in
-    let parts : joined_lines (texts ++ (list_texts Reads c.reads ++ (list_texts Writes c.writes ++ end))) ≡ joined_lines texts ++ (joined_lines (list_texts Reads c.reads) ++ (joined_lines (list_texts Writes c.writes) ++ joined_lines end)) =
+    let parts : joined_lines (texts ++ (list_texts Reads c.reads ++ (list_texts Writes c.writes ++ end))) ≡ joined_lines texts ++
+    (joined_lines (list_texts Reads c.reads) ++ (joined_lines (list_texts Writes c.writes) ++ joined_lines end)) =
     joined_lines-append texts (list_texts Reads c.reads ++ (list_texts Writes c.writes ++ end))
-    ∙ ap (λ t. joined_lines texts ++ t) (joined_lines-append (list_texts Reads c.reads) (list_texts Writes c.writes ++ end) ∙ ap (λ t. joined_lines (list_texts Reads c.reads) ++ t) (joined_lines-append (list_texts Writes c.writes) end)) in
+    ∙ ap (λ t. joined_lines texts ++ t) (joined_lines-append (list_texts Reads c.reads) (list_texts Writes c.writes ++ end)
+    ∙ ap (λ t. joined_lines (list_texts Reads c.reads) ++ t) (joined_lines-append (list_texts Writes c.writes) end)) in
     ap (λ t. line (codes "sedck 1") ++ (line (codes "commands " ++ decimal c.commands) ++ t)) parts
-    ∙ regrouped (line (codes "sedck 1")) (line (codes "commands " ++ decimal c.commands)) (joined_lines texts) (line (codes "read " ++ decimal (length c.reads))) (joined_lines c.reads) (line (codes "write " ++ decimal (length c.writes))) (joined_lines c.writes) (line (codes "end")) _ _ _
+    ∙ regrouped (line (codes "sedck 1")) (line (codes "commands " ++ decimal c.commands)) (joined_lines texts)
+    (line (codes "read " ++ decimal (length c.reads))) (joined_lines c.reads) (line (codes "write " ++ decimal (length c.writes)))
+    (joined_lines c.writes) (line (codes "end")) _ _ _
     (nodes_joined 0 c.ranks) (names_joined c.reads) (names_joined c.writes)
 
 -- ---- What is due
@@ -83,7 +88,8 @@ list_word-one_line Writes = above-one_line (codes "write ") refl
 ranks_text-one_line : (ranks : Option (ℕ × ℕ)) → AreWithin ranks → IsOneLine (ranks_text ranks)
 ranks_text-one_line None within = above-one_line (codes "-") refl
 ranks_text-one_line (Some r) within =
-    append-one_line (decimal r.0 ++ codes " ") (decimal r.1) (append-one_line (decimal r.0) (codes " ") (decimal-one_line [] r.0 (omega (arith, within.0)) none-one_line) (above-one_line (codes " ") refl))
+    append-one_line (decimal r.0 ++ codes " ") (decimal r.1)
+    (append-one_line (decimal r.0) (codes " ") (decimal-one_line [] r.0 (omega (arith, within.0)) none-one_line) (above-one_line (codes " ") refl))
     (decimal-one_line [] r.1 (omega (arith, within.1)) none-one_line)
 
 node_text-one_line : (node : ℕ) (ranks : Option (ℕ × ℕ)) → node < 2 ^ 16 → AreWithin ranks → IsOneLine (node_text node ranks)
@@ -98,13 +104,15 @@ node_text-one_line node ranks small within =
     (ranks_text-one_line ranks within)
 
 -- the lines of the nodes
-pub nodes_are_due : (node : ℕ) (all : List (Option (ℕ × ℕ))) → node + length all < 2 ^ 16 → AllByRecursion AreWithin all → AreDue (nodes_due node (length all)) (node_texts node all) (Names Reads 0)
+pub nodes_are_due : (node : ℕ) (all : List (Option (ℕ × ℕ))) → node + length all < 2 ^ 16 → AllByRecursion AreWithin all
+    → AreDue (nodes_due node (length all)) (node_texts node all) (Names Reads 0)
 nodes_are_due node [] small within = refl
 nodes_are_due node (ranks ∷ all) small within = (
   node_text-one_line node ranks (omega arith) within.0,
   after_node node (length all),
   (ranks, within.0, refl, refl),
-  subst (λ d. AreDue d (node_texts (suc node) all) (Names Reads 0)) (sym (after_node-due node (length all))) (nodes_are_due (suc node) all (omega arith) within.1),
+  subst (λ d. AreDue d (node_texts (suc node) all) (Names Reads 0)) (sym (after_node-due node (length all)))
+      (nodes_are_due (suc node) all (omega arith) within.1),
 )
 
 -- ---- Names in both directions
@@ -122,11 +130,13 @@ record AreListed (files : Files) (before names : List (List ℕ)) (size : ℕ) (
   pub leads : next ≡ after_list files (size + names_size names)
   pub within : size + names_size names ≤ 1048576
 
-pub behind_all : (before : List (List ℕ)) (name : List ℕ) (names : List (List ℕ)) → Rises before name → AllByRecursion (IsBefore name) names → IsBeforeAll before (name ∷ names)
+pub behind_all : (before : List (List ℕ)) (name : List ℕ) (names : List (List ℕ)) → Rises before name → AllByRecursion (IsBefore name) names
+    → IsBeforeAll before (name ∷ names)
 behind_all [] name names e h = tt
 behind_all (b ∷ more) name names e h = (e, all_later b name names e h)
 
-names_listed : (files : Files) (names before : List (List ℕ)) (size : ℕ) (next : Due) → size ≤ 1048576 → AreDue (names_due files (length names) before size) names next → AreListed files before names size next
+names_listed : (files : Files) (names before : List (List ℕ)) (size : ℕ) (next : Due) → size ≤ 1048576
+    → AreDue (names_due files (length names) before size) names next → AreListed files before names size next
 names_listed files [] before size next small h = record {
   each = tt;
   behind = elim before as (λ b. IsBeforeAll b []) [ [] ↦ tt | b ∷ more ↦ tt ];
@@ -135,9 +145,11 @@ names_listed files [] before size next small h = record {
   within = omega arith;
 }
 names_listed files (name ∷ names) before size next small h =
-    let due : IsName name × Rises before name × (size + length name + 1 ≤ 1048576) × (h.1 ≡ after_name files (length names) name (size + length name + 1)) = h.2 in
+    let due : IsName name × Rises before name × (size + length name + 1 ≤ 1048576)
+    × (h.1 ≡ after_name files (length names) name (size + length name + 1)) = h.2 in
     let size' : ℕ = size + length name + 1 in
-    let behind : AreDue (names_due files (length names) (name ∷ []) size') names next = subst (λ d. AreDue d names next) (due.3 ∙ after_name-due files (length names) name size') h.3 in
+    let behind : AreDue (names_due files (length names) (name ∷ []) size') names next =
+    subst (λ d. AreDue d names next) (due.3 ∙ after_name-due files (length names) name size') h.3 in
     let more = names_listed files names (name ∷ []) size' next due.2 behind in
     let sum : size' + names_size names ≡ size + names_size (name ∷ names) = omega (arith, sum_by-cons (λ (n : List ℕ). length n + 1) name names) in
     record {
@@ -153,23 +165,29 @@ after_count-due files zero size = refl
 after_count-due files (suc n) size = refl
 
 -- a list that is due
-pub list_law : (files : Files) (names : List (List ℕ)) (size : ℕ) (next : Due) → size ≤ 1048576 → length names ≤ 4095 → AreDue (Names files size) (list_texts files names) next
+pub list_law : (files : Files) (names : List (List ℕ)) (size : ℕ) (next : Due) → size ≤ 1048576 → length names ≤ 4095
+    → AreDue (Names files size) (list_texts files names) next
     → AreNames names × (next ≡ after_list files (size + names_size names)) × (size + names_size names ≤ 1048576)
 list_law files names size next small few h =
     let count : (n : ℕ) × (n ≤ 4095) × (list_word files ++ decimal (length names) ≡ list_word files ++ decimal n) × (h.1 ≡ after_count files n size) = h.2 in
-    let long : length names ≡ count.0 = decimal_injective (length names) count.0 (omega arith) (omega (arith, count.1)) (append_cancel_left (list_word files) (decimal (length names)) (decimal count.0) count.2) in
+    let long : length names ≡ count.0 = decimal_injective (length names) count.0 (omega arith) (omega (arith, count.1))
+    (append_cancel_left (list_word files) (decimal (length names)) (decimal count.0) count.2) in
     let due : h.1 ≡ names_due files (length names) [] size = count.3 ∙ after_count-due files count.0 size ∙ ap (λ n. names_due files n [] size) (sym long) in
     let listed = names_listed files names [] size next small (subst (λ d. AreDue d names next) due h.3) in
     (record { each = All-from_recursion IsName names listed.each; rising = listed.rising; count = few }, listed.leads, listed.within)
 
 pub rising_parts : (name : List ℕ) (names : List (List ℕ)) → AreRising (name ∷ names) → AllByRecursion (IsBefore name) names × AreRising names
-rising_parts name names h = (recursion_from_All (IsBefore name) names (λ k d within. h 0 (suc k) d (omega arith) (omega arith)), λ i j d low high. h (suc i) (suc j) d (omega arith) (omega arith))
+rising_parts name names h = (
+  recursion_from_All (IsBefore name) names (λ k d within. h 0 (suc k) d (omega arith) (omega arith)),
+  λ i j d low high. h (suc i) (suc j) d (omega arith) (omega arith),
+)
 
 pub first_rises : (before : List (List ℕ)) (name : List ℕ) (names : List (List ℕ)) → IsBeforeAll before (name ∷ names) → Rises before name
 first_rises [] name names h = tt
 first_rises (b ∷ more) name names h = h.0
 
-names_are_due : (files : Files) (names before : List (List ℕ)) (size : ℕ) → AllByRecursion IsName names → IsBeforeAll before names → AreRising names → size + names_size names ≤ 1048576 → AreDue (names_due files (length names) before size) names (after_list files (size + names_size names))
+names_are_due : (files : Files) (names before : List (List ℕ)) (size : ℕ) → AllByRecursion IsName names → IsBeforeAll before names → AreRising names
+    → size + names_size names ≤ 1048576 → AreDue (names_due files (length names) before size) names (after_list files (size + names_size names))
 names_are_due files [] before size each behind rising small = ap (after_list files) (omega arith)
 names_are_due files (name ∷ names) before size each behind rising small =
     let parts = rising_parts name names rising in
@@ -182,12 +200,14 @@ names_are_due files (name ∷ names) before size each behind rising small =
       subst₂ (λ d e. AreDue d names e) (sym (after_name-due files (length names) name size')) (ap (after_list files) sum) more,
     )
 
-pub list_is_due : (files : Files) (names : List (List ℕ)) (size : ℕ) → AreNames names → size + names_size names ≤ 1048576 → AreDue (Names files size) (list_texts files names) (after_list files (size + names_size names))
+pub list_is_due : (files : Files) (names : List (List ℕ)) (size : ℕ) → AreNames names → size + names_size names ≤ 1048576
+    → AreDue (Names files size) (list_texts files names) (after_list files (size + names_size names))
 list_is_due files names size are small = (
   decimal-one_line (list_word files) (length names) (omega (arith, are.count)) (list_word-one_line files),
   after_count files (length names) size,
   (length names, are.count, refl, refl),
-  subst (λ d. AreDue d names (after_list files (size + names_size names))) (sym (after_count-due files (length names) size)) (names_are_due files names [] size (recursion_from_All IsName names are.each) tt are.rising small),
+  subst (λ d. AreDue d names (after_list files (size + names_size names))) (sym (after_count-due files (length names) size))
+      (names_are_due files names [] size (recursion_from_All IsName names are.each) tt are.rising small),
 )
 
 -- ---- The whole
@@ -200,11 +220,19 @@ certificate_is_due c h =
     let ending : AreDue Last (codes "end" ∷ []) Nothing = (above-one_line (codes "end") refl, Nothing, (refl, refl), refl) in
     let end = codes "end" ∷ [] in
     let middle : Due = Names Writes (0 + names_size c.reads) in
-    let files = are_due-append (list_texts Reads c.reads) (list_texts Writes c.writes ++ end) (Names Reads 0) middle Nothing reads (are_due-append (list_texts Writes c.writes) end middle Last Nothing writes ending) in
-    let start : nodes_due 0 (length c.ranks) ≡ Node 0 (node_count c.commands - 1) = ap (nodes_due 0) (let e : length c.ranks ≡ suc (node_count c.commands - 1) = omega (arith, h.nodes) in e) in
-    let rest = are_due-append (node_texts 0 c.ranks) (list_texts Reads c.reads ++ (list_texts Writes c.writes ++ end)) (Node 0 (node_count c.commands - 1)) (Names Reads 0) Nothing (subst (λ d. AreDue d (node_texts 0 c.ranks) (Names Reads 0)) start nodes) files in (
+    let files = are_due-append (list_texts Reads c.reads) (list_texts Writes c.writes ++ end) (Names Reads 0) middle Nothing reads
+    (are_due-append (list_texts Writes c.writes) end middle Last Nothing writes ending) in
+    let start : nodes_due 0 (length c.ranks) ≡ Node 0 (node_count c.commands - 1) =
+    ap (nodes_due 0) (let e : length c.ranks ≡ suc (node_count c.commands - 1) = omega (arith, h.nodes) in e) in
+    let rest = are_due-append (node_texts 0 c.ranks) (list_texts Reads c.reads ++ (list_texts Writes c.writes ++ end))
+    (Node 0 (node_count c.commands - 1)) (Names Reads 0) Nothing (subst (λ d. AreDue d (node_texts 0 c.ranks) (Names Reads 0)) start nodes) files in (
       above-one_line (codes "sedck 1") refl,
       Count,
       (refl, refl),
-      (decimal-one_line (codes "commands ") c.commands (omega (arith, h.commands)) (above-one_line (codes "commands ") refl), Node 0 (node_count c.commands - 1), (c.commands, h.commands, refl, refl), rest),
+      (
+        decimal-one_line (codes "commands ") c.commands (omega (arith, h.commands)) (above-one_line (codes "commands ") refl),
+        Node 0 (node_count c.commands - 1),
+        (c.commands, h.commands, refl, refl),
+        rest,
+      ),
     )

@@ -28,7 +28,8 @@ fault_of text start fault rest number s = record {
   is_fault = s.is_fault ∙ ap (fault_at s.wrong) (omega (arith, number));
 }
 
-pub fault_later : (text : List ℕ) (start : Lines) (fault : CertFault) (due : Due) (before : List (List ℕ)) {at : Lines} → start.rest.now ≡ text → start.number ≡ 1 → Leads Header start before at due → (fault ≡ OutOfMemory) ⊎ Stops due at fault → (fault ≡ OutOfMemory) ⊎ IsFaultOf text fault
+pub fault_later : (text : List ℕ) (start : Lines) (fault : CertFault) (due : Due) (before : List (List ℕ)) {at : Lines} → start.rest.now ≡ text
+    → start.number ≡ 1 → Leads Header start before at due → (fault ≡ OutOfMemory) ⊎ Stops due at fault → (fault ≡ OutOfMemory) ⊎ IsFaultOf text fault
 fault_later text start fault due before rest number leads h = elim h [
   | inl memory ↦ inl memory
   | inr stops ↦ inr (fault_of text start fault rest number (leads_stops Header due before fault leads stops))
@@ -39,7 +40,8 @@ fault_later text start fault due before rest number leads h = elim h [
 abbrev made : ℕ → List (Option (ℕ × ℕ)) → List (List ℕ) → List (List ℕ) → Certificate
 made n ranks reads writes = record { commands = n; ranks = ranks; reads = reads; writes = writes }
 
-pub whole_is : (n : ℕ) (ranks : List (Option (ℕ × ℕ))) (reads writes : List (List ℕ)) (size end : ℕ) {x3 x4 x5 : Lines} → n ≤ 4095 → length ranks ≡ node_count n → All AreWithin ranks → length reads ≤ 4095 → length writes ≤ 4095 → size ≤ 1048576
+pub whole_is : (n : ℕ) (ranks : List (Option (ℕ × ℕ))) (reads writes : List (List ℕ)) (size end : ℕ) {x3 x4 x5 : Lines} → n ≤ 4095
+    → length ranks ≡ node_count n → All AreWithin ranks → length reads ≤ 4095 → length writes ≤ 4095 → size ≤ 1048576
     → Leads (Names Reads 0) x3 (list_texts Reads reads) x4 (after_list Reads size)
     → Leads (Names Writes size) x4 (list_texts Writes writes) x5 (after_list Writes end)
     → IsCertificate (made n ranks reads writes)
@@ -56,7 +58,8 @@ whole_is n ranks reads writes size end few count within less fewer small l4 l5 =
       size = omega (arith, same, second.2);
     }
 
-pub whole_text : (text : List ℕ) (n : ℕ) (ranks : List (Option (ℕ × ℕ))) (reads writes : List (List ℕ)) (size end : ℕ) {x0 x1 x2 x3 x4 x5 x6 : Lines} → x0.rest.now ≡ text
+pub whole_text : (text : List ℕ) (n : ℕ) (ranks : List (Option (ℕ × ℕ))) (reads writes : List (List ℕ)) (size end : ℕ) {x0 x1 x2 x3 x4 x5 x6 : Lines}
+    → x0.rest.now ≡ text
     → Leads Header x0 (codes "sedck 1" ∷ []) x1 Count
     → Leads Count x1 ((codes "commands " ++ decimal n) ∷ []) x2 (Node 0 (node_count n - 1))
     → Leads (Node 0 (node_count n - 1)) x2 (node_texts 0 ranks) x3 (Names Reads 0)
@@ -66,10 +69,14 @@ pub whole_text : (text : List ℕ) (n : ℕ) (ranks : List (Option (ℕ × ℕ))
     → x6.rest.now ≡ []
     → text ≡ certificate_text (made n ranks reads writes)
 whole_text text n ranks reads writes size end {x0} {x1} {x2} {x3} {x4} {x5} {x6} is l1 l2 l3 l4 l5 l6 last =
-    let files = leads_on (Names Reads 0) (Names Writes size) Nothing (list_texts Reads reads) (list_texts Writes writes ++ codes "end" ∷ []) l4 (leads_on (Names Writes size) Last Nothing (list_texts Writes writes) (codes "end" ∷ []) l5 l6) in
-    let nodes = leads_on (Node 0 (node_count n - 1)) (Names Reads 0) Nothing (node_texts 0 ranks) (list_texts Reads reads ++ (list_texts Writes writes ++ codes "end" ∷ [])) l3 files in
-    let counted = leads_on Count (Node 0 (node_count n - 1)) Nothing ((codes "commands " ++ decimal n) ∷ []) (node_texts 0 ranks ++ (list_texts Reads reads ++ (list_texts Writes writes ++ codes "end" ∷ []))) l2 nodes in
-    let all = leads_on Header Count Nothing (codes "sedck 1" ∷ []) ((codes "commands " ++ decimal n) ∷ (node_texts 0 ranks ++ (list_texts Reads reads ++ (list_texts Writes writes ++ codes "end" ∷ [])))) l1 counted in
+    let files = leads_on (Names Reads 0) (Names Writes size) Nothing (list_texts Reads reads) (list_texts Writes writes ++ codes "end" ∷ []) l4
+    (leads_on (Names Writes size) Last Nothing (list_texts Writes writes) (codes "end" ∷ []) l5 l6) in
+    let nodes = leads_on (Node 0 (node_count n - 1)) (Names Reads 0) Nothing (node_texts 0 ranks)
+    (list_texts Reads reads ++ (list_texts Writes writes ++ codes "end" ∷ [])) l3 files in
+    let counted = leads_on Count (Node 0 (node_count n - 1)) Nothing ((codes "commands " ++ decimal n) ∷ [])
+    (node_texts 0 ranks ++ (list_texts Reads reads ++ (list_texts Writes writes ++ codes "end" ∷ []))) l2 nodes in
+    let all = leads_on Header Count Nothing (codes "sedck 1" ∷ [])
+    ((codes "commands " ++ decimal n) ∷ (node_texts 0 ranks ++ (list_texts Reads reads ++ (list_texts Writes writes ++ codes "end" ∷ [])))) l1 counted in
     let lines = certificate_lines (made n ranks reads writes) in
     sym is ∙ all.is_text ∙ ap (λ t. joined_lines lines ++ t) last ∙ append-nil (joined_lines lines) ∙ certificate_lines-joined (made n ranks reads writes)
 
@@ -106,14 +113,17 @@ fault_placed text fault f =
 
 -- ---- What `read_cert` says
 
-pub read_only : (text : List ℕ) (r : Result Certificate CertFault) → IfOk r (IsTextOf text) → IfOk r (λ cert. (other : Certificate) → IsTextOf text other → other ≡ cert)
+pub read_only : (text : List ℕ) (r : Result Certificate CertFault) → IfOk r (IsTextOf text)
+    → IfOk r (λ cert. (other : Certificate) → IsTextOf text other → other ≡ cert)
 read_only text (Ok cert) h = λ other k. text_of_one text cert other h k
 read_only text (Err fault) h = tt
 
-pub refused_none : (text : List ℕ) (r : Result Certificate CertFault) → IfErr r (λ fault. (fault ≡ OutOfMemory) ⊎ IsFaultOf text fault) → IfErr r (λ fault. (fault ≡ OutOfMemory) ⊎ (((other : Certificate) → ¬ IsTextOf text other) × IsFaultOf text fault))
+pub refused_none : (text : List ℕ) (r : Result Certificate CertFault) → IfErr r (λ fault. (fault ≡ OutOfMemory) ⊎ IsFaultOf text fault)
+    → IfErr r (λ fault. (fault ≡ OutOfMemory) ⊎ (((other : Certificate) → ¬ IsTextOf text other) × IsFaultOf text fault))
 refused_none text (Ok cert) h = tt
 refused_none text (Err fault) h = elim h [ inl memory ↦ inl memory | inr is ↦ inr (fault_of_none text fault is, is) ]
 
-pub refused_placed : (text : List ℕ) (r : Result Certificate CertFault) → IfErr r (λ fault. (fault ≡ OutOfMemory) ⊎ IsFaultOf text fault) → IfErr r (λ fault. IfSome (line_of fault) (IsLineOf text))
+pub refused_placed : (text : List ℕ) (r : Result Certificate CertFault) → IfErr r (λ fault. (fault ≡ OutOfMemory) ⊎ IsFaultOf text fault)
+    → IfErr r (λ fault. IfSome (line_of fault) (IsLineOf text))
 refused_placed text (Ok cert) h = tt
 refused_placed text (Err fault) h = elim h [ inl memory ↦ rw memory tt | inr is ↦ fault_placed text fault is ]

@@ -15,6 +15,8 @@ same_front text word rest test is =
     sym (take-append-drop (length word) text) ∙ ap (λ t. t ++ drop (length word) text) front ∙ ap (λ t. word ++ t) (sym is)
 
 -- a number behind a word
-pub counted : (text word rest : List ℕ) (r : Option ℕ) → text ≡ word ++ rest → MatchOption r ((n : ℕ) → n ≤ 4095 → rest ≡ decimal n → ⊥) (λ n. (n ≤ 4095) × (rest ≡ decimal n)) → MatchOption r ((n : ℕ) → n ≤ 4095 → text ≡ word ++ decimal n → ⊥) (λ n. (n ≤ 4095) × (text ≡ word ++ decimal n))
+pub counted : (text word rest : List ℕ) (r : Option ℕ) → text ≡ word ++ rest
+    → MatchOption r ((n : ℕ) → n ≤ 4095 → rest ≡ decimal n → ⊥) (λ n. (n ≤ 4095) × (rest ≡ decimal n))
+    → MatchOption r ((n : ℕ) → n ≤ 4095 → text ≡ word ++ decimal n → ⊥) (λ n. (n ≤ 4095) × (text ≡ word ++ decimal n))
 counted text word rest None is h = λ n most same. h n most (append_cancel_left word rest (decimal n) (sym is ∙ same))
 counted text word rest (Some n) is h = (h.0, is ∙ ap (λ t. word ++ t) h.1)

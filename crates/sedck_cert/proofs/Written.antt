@@ -35,48 +35,67 @@ pub decimal-more : (n : ℕ) → 10 ≤ n → n < 2 ^ 64 → decimal n ≡ decim
 decimal-more n more small = decimal_step n more small
 
 -- a number of one digit, or of more
-pub written_digit : {E : Type 0} (r : Result (Unit {0}) E) (a b : Option (List ℕ)) (n : ℕ) → n < 10 → OnOk r (Appends a b ((48 + n) ∷ [])) → OnOk r (Appends a b (decimal n))
+pub written_digit : {E : Type 0} (r : Result (Unit {0}) E) (a b : Option (List ℕ)) (n : ℕ) → n < 10 → OnOk r (Appends a b ((48 + n) ∷ []))
+    → OnOk r (Appends a b (decimal n))
 written_digit r a b n small h = subst (λ t. OnOk r (Appends a b t)) (sym (decimal_digit n small)) h
 
-pub begun_digit : {E : Type 0} (r : Result (Unit {0}) E) (a b : Option (List ℕ)) (n : ℕ) → n < 10 → OnErr r (AppendsFront a b ((48 + n) ∷ [])) → OnErr r (AppendsFront a b (decimal n))
+pub begun_digit : {E : Type 0} (r : Result (Unit {0}) E) (a b : Option (List ℕ)) (n : ℕ) → n < 10 → OnErr r (AppendsFront a b ((48 + n) ∷ []))
+    → OnErr r (AppendsFront a b (decimal n))
 begun_digit r a b n small h = subst (λ t. OnErr r (AppendsFront a b t)) (sym (decimal_digit n small)) h
 
-pub written_more : {E : Type 0} (r : Result (Unit {0}) E) (a b c : Option (List ℕ)) (n : ℕ) → 10 ≤ n → n < 2 ^ 16 → Appends a b (decimal (n / 10)) → OnOk r (Appends b c ((48 + n % 10) ∷ [])) → OnOk r (Appends a c (decimal n))
-written_more r a b c n more small h k = on_ok_then r (Appends b c ((48 + n % 10) ∷ [])) (Appends a c (decimal n)) k (λ last. subst (Appends a c) (sym (decimal-more n more (omega arith))) (appends_join a b c (decimal (n / 10)) ((48 + n % 10) ∷ []) h last))
+pub written_more : {E : Type 0} (r : Result (Unit {0}) E) (a b c : Option (List ℕ)) (n : ℕ) → 10 ≤ n → n < 2 ^ 16 → Appends a b (decimal (n / 10))
+    → OnOk r (Appends b c ((48 + n % 10) ∷ [])) → OnOk r (Appends a c (decimal n))
+written_more r a b c n more small h k = on_ok_then r (Appends b c ((48 + n % 10) ∷ [])) (Appends a c (decimal n)) k
+    (λ last. subst (Appends a c) (sym (decimal-more n more (omega arith))) (appends_join a b c (decimal (n / 10)) ((48 + n % 10) ∷ []) h last))
 
-pub begun_more : {E : Type 0} (r : Result (Unit {0}) E) (a b c : Option (List ℕ)) (n : ℕ) → 10 ≤ n → n < 2 ^ 16 → Appends a b (decimal (n / 10)) → OnErr r (AppendsFront b c ((48 + n % 10) ∷ [])) → OnErr r (AppendsFront a c (decimal n))
-begun_more r a b c n more small h k = on_err_then r (AppendsFront b c ((48 + n % 10) ∷ [])) (AppendsFront a c (decimal n)) k (λ last. subst (AppendsFront a c) (sym (decimal-more n more (omega arith))) (begins_later a b c (decimal (n / 10)) ((48 + n % 10) ∷ []) h last))
+pub begun_more : {E : Type 0} (r : Result (Unit {0}) E) (a b c : Option (List ℕ)) (n : ℕ) → 10 ≤ n → n < 2 ^ 16 → Appends a b (decimal (n / 10))
+    → OnErr r (AppendsFront b c ((48 + n % 10) ∷ [])) → OnErr r (AppendsFront a c (decimal n))
+begun_more r a b c n more small h k = on_err_then r (AppendsFront b c ((48 + n % 10) ∷ [])) (AppendsFront a c (decimal n)) k
+    (λ last. subst (AppendsFront a c) (sym (decimal-more n more (omega arith))) (begins_later a b c (decimal (n / 10)) ((48 + n % 10) ∷ []) h last))
 
 pub begins_digits : (a b : Option (List ℕ)) (n : ℕ) → 10 ≤ n → n < 2 ^ 16 → AppendsFront a b (decimal (n / 10)) → AppendsFront a b (decimal n)
-begins_digits a b n more small h = subst (AppendsFront a b) (sym (decimal-more n more (omega arith))) (begins_longer a b (decimal (n / 10)) ((48 + n % 10) ∷ []) h)
+begins_digits a b n more small h = subst (AppendsFront a b) (sym (decimal-more n more (omega arith)))
+    (begins_longer a b (decimal (n / 10)) ((48 + n % 10) ∷ []) h)
 
 -- the middle piece of a text
-pub begins_at : (a b c : Option (List ℕ)) (front piece rest text : List ℕ) → text ≡ front ++ (piece ++ rest) → Appends a b front → AppendsFront b c piece → AppendsFront a c text
+pub begins_at : (a b c : Option (List ℕ)) (front piece rest text : List ℕ) → text ≡ front ++ (piece ++ rest) → Appends a b front
+    → AppendsFront b c piece → AppendsFront a c text
 begins_at a b c front piece rest text is h k = subst (AppendsFront a c) (sym is) (begins_later a b c front (piece ++ rest) h (begins_longer b c piece rest k))
 
 pub begins_first : (a b : Option (List ℕ)) (piece rest text : List ℕ) → text ≡ piece ++ rest → AppendsFront a b piece → AppendsFront a b text
 begins_first a b piece rest text is h = subst (AppendsFront a b) (sym is) (begins_longer a b piece rest h)
 
 -- the last piece
-pub written_last : {E : Type 0} (r : Result (Unit {0}) E) (a b c : Option (List ℕ)) (front piece text : List ℕ) → text ≡ front ++ piece → Appends a b front → OnOk r (Appends b c piece) → OnOk r (Appends a c text)
-written_last r a b c front piece text is h k = on_ok_then r (Appends b c piece) (Appends a c text) k (λ last. subst (Appends a c) (sym is) (appends_join a b c front piece h last))
+pub written_last : {E : Type 0} (r : Result (Unit {0}) E) (a b c : Option (List ℕ)) (front piece text : List ℕ) → text ≡ front ++ piece
+    → Appends a b front → OnOk r (Appends b c piece) → OnOk r (Appends a c text)
+written_last r a b c front piece text is h k = on_ok_then r (Appends b c piece) (Appends a c text) k
+    (λ last. subst (Appends a c) (sym is) (appends_join a b c front piece h last))
 
-pub begun_last : {E : Type 0} (r : Result (Unit {0}) E) (a b c : Option (List ℕ)) (front piece text : List ℕ) → text ≡ front ++ piece → Appends a b front → OnErr r (AppendsFront b c piece) → OnErr r (AppendsFront a c text)
-begun_last r a b c front piece text is h k = on_err_then r (AppendsFront b c piece) (AppendsFront a c text) k (λ last. subst (AppendsFront a c) (sym is) (begins_later a b c front piece h last))
+pub begun_last : {E : Type 0} (r : Result (Unit {0}) E) (a b c : Option (List ℕ)) (front piece text : List ℕ) → text ≡ front ++ piece
+    → Appends a b front → OnErr r (AppendsFront b c piece) → OnErr r (AppendsFront a c text)
+begun_last r a b c front piece text is h k = on_err_then r (AppendsFront b c piece) (AppendsFront a c text) k
+    (λ last. subst (AppendsFront a c) (sym is) (begins_later a b c front piece h last))
 
 -- the last of three pieces
-pub written_third : {E : Type 0} (r : Result (Unit {0}) E) (a b c d : Option (List ℕ)) (p q s text : List ℕ) → text ≡ p ++ (q ++ s) → Appends a b p → Appends b c q → OnOk r (Appends c d s) → OnOk r (Appends a d text)
+pub written_third : {E : Type 0} (r : Result (Unit {0}) E) (a b c d : Option (List ℕ)) (p q s text : List ℕ) → text ≡ p ++ (q ++ s) → Appends a b p
+    → Appends b c q → OnOk r (Appends c d s) → OnOk r (Appends a d text)
 written_third r a b c d p q s text is h k l = written_last r a c d (p ++ q) s text (is ∙ sym (append_assoc p q s)) (appends_join a b c p q h k) l
 
-pub begun_third : {E : Type 0} (r : Result (Unit {0}) E) (a b c d : Option (List ℕ)) (p q s text : List ℕ) → text ≡ p ++ (q ++ s) → Appends a b p → Appends b c q → OnErr r (AppendsFront c d s) → OnErr r (AppendsFront a d text)
+pub begun_third : {E : Type 0} (r : Result (Unit {0}) E) (a b c d : Option (List ℕ)) (p q s text : List ℕ) → text ≡ p ++ (q ++ s) → Appends a b p
+    → Appends b c q → OnErr r (AppendsFront c d s) → OnErr r (AppendsFront a d text)
 begun_third r a b c d p q s text is h k l = begun_last r a c d (p ++ q) s text (is ∙ sym (append_assoc p q s)) (appends_join a b c p q h k) l
 
 -- the third of four pieces, and the last
-pub begins_third : (a b c d : Option (List ℕ)) (p q s rest text : List ℕ) → text ≡ p ++ (q ++ (s ++ rest)) → Appends a b p → Appends b c q → AppendsFront c d s → AppendsFront a d text
+pub begins_third : (a b c d : Option (List ℕ)) (p q s rest text : List ℕ) → text ≡ p ++ (q ++ (s ++ rest)) → Appends a b p → Appends b c q
+    → AppendsFront c d s → AppendsFront a d text
 begins_third a b c d p q s rest text is h k l = begins_at a c d (p ++ q) s rest text (is ∙ sym (append_assoc p q (s ++ rest))) (appends_join a b c p q h k) l
 
-pub written_fourth : {E : Type 0} (r : Result (Unit {0}) E) (a b c d e : Option (List ℕ)) (p q s u text : List ℕ) → text ≡ p ++ (q ++ (s ++ u)) → Appends a b p → Appends b c q → Appends c d s → OnOk r (Appends d e u) → OnOk r (Appends a e text)
-written_fourth r a b c d e p q s u text is h k l m = written_third r a c d e (p ++ q) s u text (is ∙ sym (append_assoc p q (s ++ u))) (appends_join a b c p q h k) l m
+pub written_fourth : {E : Type 0} (r : Result (Unit {0}) E) (a b c d e : Option (List ℕ)) (p q s u text : List ℕ) → text ≡ p ++ (q ++ (s ++ u))
+    → Appends a b p → Appends b c q → Appends c d s → OnOk r (Appends d e u) → OnOk r (Appends a e text)
+written_fourth r a b c d e p q s u text is h k l m =
+    written_third r a c d e (p ++ q) s u text (is ∙ sym (append_assoc p q (s ++ u))) (appends_join a b c p q h k) l m
 
-pub begun_fourth : {E : Type 0} (r : Result (Unit {0}) E) (a b c d e : Option (List ℕ)) (p q s u text : List ℕ) → text ≡ p ++ (q ++ (s ++ u)) → Appends a b p → Appends b c q → Appends c d s → OnErr r (AppendsFront d e u) → OnErr r (AppendsFront a e text)
-begun_fourth r a b c d e p q s u text is h k l m = begun_third r a c d e (p ++ q) s u text (is ∙ sym (append_assoc p q (s ++ u))) (appends_join a b c p q h k) l m
+pub begun_fourth : {E : Type 0} (r : Result (Unit {0}) E) (a b c d e : Option (List ℕ)) (p q s u text : List ℕ) → text ≡ p ++ (q ++ (s ++ u))
+    → Appends a b p → Appends b c q → Appends c d s → OnErr r (AppendsFront d e u) → OnErr r (AppendsFront a e text)
+begun_fourth r a b c d e p q s u text is h k l m =
+    begun_third r a c d e (p ++ q) s u text (is ∙ sym (append_assoc p q (s ++ u))) (appends_join a b c p q h k) l m

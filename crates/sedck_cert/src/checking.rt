@@ -162,7 +162,7 @@ fn are_names(names: &[&[u8]], listed: &[Vec<u8>]) -> bool
     true
 }
 
-/// Whether the bytes are the name.
+/// Whether the bytes are the name. A function, so that the comparison is proved once to say it of both lists of bytes.
 fn is_name(bytes: &[u8], name: &[u8]) -> bool
     ensures { IsTrue result ↔ (name.now ≡ bytes.now) }
 {

@@ -124,6 +124,7 @@ pub fn read_cert(alloc: Global, text: &[u8]) -> Result<Cert, CertFault>
     read_lines(alloc, text)
 }
 
+/// Reads the lines in order. That no other certificate has the text is added by `read_cert`.
 fn read_lines(alloc: Global, text: &[u8]) -> Result<Cert, CertFault>
     ensures read { IfOk result (IsTextOf text.now) }
     ensures refused { IfErr result (λ fault. (fault ≡ CertFault.OutOfMemory) ⊎ IsFaultOf text.now fault) }

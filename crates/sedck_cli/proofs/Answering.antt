@@ -44,7 +44,8 @@ pub record IsRead (limit : ℕ) (known : Option (List ℕ)) (text : List ℕ) : 
   pub within : length text ≤ limit
 
 -- the same text, as a slice of it
-pub is_read : (limit : ℕ) (known : Option (List ℕ)) (text items : List ℕ) → text ≡ items → IfSome known (λ t. items ≡ take limit t) → length items ≤ limit → IsRead limit known text
+pub is_read : (limit : ℕ) (known : Option (List ℕ)) (text items : List ℕ) → text ≡ items → IfSome known (λ t. items ≡ take limit t)
+    → length items ≤ limit → IsRead limit known text
 is_read limit known text items same front within = subst (IsRead limit known) (sym same) (record { front = front; within = within })
 
 spells_none : (known : Option (List ℕ)) (text : List ℕ) → IfSome known (λ t. text ≡ script_read t) → ((p : Program) → ¬ Spells text p) → SpellsNone known
@@ -55,7 +56,8 @@ spells_none (Some t) text is none = λ p spelled. none p (subst (λ l. Spells l 
 pub refused_report : (known : Option (List ℕ)) (script_failed out_failed : Bool) (out : Option (List ℕ)) (IsReport : Outcome → List ℕ → Type 0)
     (text bytes : List ℕ) (why : RunFault) → IsRead 1048577 known text → IsRefusal text bytes why
     → EngineAnswers (record { script = known; script_failed = script_failed; out_before = out; out_after = out; out_failed = out_failed }) IsReport (Err why)
-refused_report known script_failed out_failed out IsReport text bytes (fault.Script why) is refused = (Keeps-refl out, refused.0, spells_none known text is.front refused.1)
+refused_report known script_failed out_failed out IsReport text bytes (fault.Script why) is refused =
+    (Keeps-refl out, refused.0, spells_none known text is.front refused.1)
 refused_report known script_failed out_failed out IsReport text bytes (fault.Certificate why) is refused = (Keeps-refl out, refused.0)
 refused_report known script_failed out_failed out IsReport text bytes (fault.Read input) is refused = absurd refused
 refused_report known script_failed out_failed out IsReport text bytes fault.Write is refused = absurd refused
@@ -82,18 +84,26 @@ refused_certificate script cert failed text bytes fault.Write is_script is_cert 
 refused_certificate script cert failed text bytes fault.OutOfMemory is_script is_cert refused = tt
 
 -- the script and the certificate for which the verdict holds
-verdict_stand : (text bytes : List ℕ) (verdict : Verdict) → ((¬ IsWantOfMemory (Ok verdict)) → IsAnswered text bytes (Ok verdict)) → SaysWhy text bytes (Ok verdict)
+verdict_stand : (text bytes : List ℕ) (verdict : Verdict) → ((¬ IsWantOfMemory (Ok verdict)) → IsAnswered text bytes (Ok verdict))
+    → SaysWhy text bytes (Ok verdict)
     → Stand text bytes (λ p c. IsVerdict p c verdict)
 verdict_stand text bytes Accepted answer says = (answer (λ want. want)).accepted.0 refl
 verdict_stand text bytes (Rejected why) answer says = says
 
 -- the report of the texts that were read
-pub judged : (text bytes : List ℕ) (verdict : Verdict) (report : List ℕ) → ((¬ IsWantOfMemory (Ok verdict)) → IsAnswered text bytes (Ok verdict)) → SaysWhy text bytes (Ok verdict)
+pub judged : (text bytes : List ℕ) (verdict : Verdict) (report : List ℕ) → ((¬ IsWantOfMemory (Ok verdict)) → IsAnswered text bytes (Ok verdict))
+    → SaysWhy text bytes (Ok verdict)
     → ((p : Program) (c : Certificate) → Spells text p → IsTextOf bytes c → IsCheckReport p c verdict report)
     → Stand text bytes (λ p c. IsVerdict p c verdict × IsCheckReport p c verdict report)
 judged text bytes verdict report answer says reported =
     let s = verdict_stand text bytes verdict answer says in
-    record { program = s.program; spelled = s.spelled; cert = s.cert; written = s.written; holds = (s.holds, reported s.program s.cert s.spelled.spells s.written.is_text) }
+    record {
+      program = s.program;
+      spelled = s.spelled;
+      cert = s.cert;
+      written = s.written;
+      holds = (s.holds, reported s.program s.cert s.spelled.spells s.written.is_text);
+    }
 
 of_texts : (t b text bytes : List ℕ) (verdict : Verdict) (report : List ℕ) → text ≡ script_read t → bytes ≡ certificate_read b
     → Stand text bytes (λ p c. IsVerdict p c verdict × IsCheckReport p c verdict report) → ChecksTo t b (verdict_outcome verdict) report
@@ -106,8 +116,14 @@ pub checks_to : (script cert : Option (List ℕ)) (text bytes : List ℕ) (verdi
     → IsRead 1048577 script text → IsRead 1310721 cert bytes
     → Stand text bytes (λ p c. IsVerdict p c verdict × IsCheckReport p c verdict report)
     → OfKnown script (λ t. OfKnown cert (ChecksTo t)) (verdict_outcome verdict) report
-checks_to None None text bytes verdict report is_script is_cert s =
-    (text, (bytes, of_texts text bytes text bytes verdict report (sym (take_all 1048577 text is_script.within)) (sym (take_all 1310721 bytes is_cert.within)) s))
+checks_to None None text bytes verdict report is_script is_cert s = (
+  text,
+  (
+    bytes,
+    of_texts text bytes text bytes verdict report (sym (take_all 1048577 text is_script.within))
+        (sym (take_all 1310721 bytes is_cert.within)) s,
+  ),
+)
 checks_to None (Some b) text bytes verdict report is_script is_cert s =
     (text, of_texts text b text bytes verdict report (sym (take_all 1048577 text is_script.within)) is_cert.front s)
 checks_to (Some t) None text bytes verdict report is_script is_cert s =
@@ -117,7 +133,8 @@ checks_to (Some t) (Some b) text bytes verdict report is_script is_cert s = of_t
 -- ---- An engine that reads a script alone
 
 -- a refused script, want of memory aside, spells none
-pub script_refusal : (text bytes : List ℕ) (why : ScriptFault) → (why ≢ script.OutOfMemory → (p : Program) → Spells text p → ⊥) → IsRefusal text bytes (script_fault why)
+pub script_refusal : (text bytes : List ℕ) (why : ScriptFault) → (why ≢ script.OutOfMemory → (p : Program) → Spells text p → ⊥)
+    → IsRefusal text bytes (script_fault why)
 script_refusal text bytes script.OutOfMemory refused = tt
 script_refusal text bytes why refused = (λ is. cc, refused (λ is. cc))
 
@@ -125,8 +142,17 @@ script_refusal text bytes why refused = (λ is. cc, refused (λ is. cc))
 pub lists_to : (IsReport : Program → List ℕ → Type 0) (known : Option (List ℕ)) (text : List ℕ) (p : Program) (report : List ℕ)
     → IsRead 1048577 known text → Spells text p → ((q : Program) → Spells text q → q ≡ p) → IsReport p report
     → OfKnown known (λ t outcome r. (outcome ≡ Yes) × OfScript t (λ q. IsReport q r)) Yes report
-lists_to IsReport None text p report is spelled only holds =
-    (text, (refl, record { program = p; spelled = subst (λ l. SpellsOnly l p) (sym (take_all 1048577 text is.within)) (record { spells = spelled; only = only }); holds = holds }))
+lists_to IsReport None text p report is spelled only holds = (
+  text,
+  (
+    refl,
+    record {
+      program = p;
+      spelled = subst (λ l. SpellsOnly l p) (sym (take_all 1048577 text is.within)) (record { spells = spelled; only = only });
+      holds = holds;
+    },
+  ),
+)
 lists_to IsReport (Some t) text p report is spelled only holds =
     (refl, record { program = p; spelled = subst (λ l. SpellsOnly l p) is.front (record { spells = spelled; only = only }); holds = holds })
 
@@ -134,7 +160,18 @@ lists_to IsReport (Some t) text p report is spelled only holds =
 pub ranks_to : (known : Option (List ℕ)) (text : List ℕ) (p : Program) (found : Found) (report : List ℕ)
     → IsRead 1048577 known text → Spells text p → ((q : Program) → Spells text q → q ≡ p) → IsRankReport p found report
     → OfKnown known RanksTo (found_outcome found) report
-ranks_to None text p found report is spelled only holds =
-    (text, (found, refl, record { program = p; spelled = subst (λ l. SpellsOnly l p) (sym (take_all 1048577 text is.within)) (record { spells = spelled; only = only }); holds = holds }))
+ranks_to None text p found report is spelled only holds = (
+  text,
+  (
+    found,
+    refl,
+    record {
+      program = p;
+      spelled =
+          subst (λ l. SpellsOnly l p) (sym (take_all 1048577 text is.within)) (record { spells = spelled; only = only });
+      holds = holds;
+    },
+  ),
+)
 ranks_to (Some t) text p found report is spelled only holds =
     (found, refl, record { program = p; spelled = subst (λ l. SpellsOnly l p) is.front (record { spells = spelled; only = only }); holds = holds })

@@ -38,8 +38,10 @@ pub answered : (IsReport : Outcome → List ℕ → Type 0) (before after : Opti
 answered IsReport before after outcome are is = (is.0, are outcome is.0 is.1, is.2)
 
 -- an engine's fault
-pub stopped : (IsReport : Outcome → List ℕ → Type 0) (script before after : Option (List ℕ)) (script_failed out_failed : Bool) (why : RunFault) → AreReports IsReport
-    → EngineAnswers (record { script = script; script_failed = script_failed; out_before = before; out_after = after; out_failed = out_failed }) IsReport (Err why)
+pub stopped : (IsReport : Outcome → List ℕ → Type 0) (script before after : Option (List ℕ)) (script_failed out_failed : Bool) (why : RunFault)
+    → AreReports IsReport
+    → EngineAnswers
+    (record { script = script; script_failed = script_failed; out_before = before; out_after = after; out_failed = out_failed }) IsReport (Err why)
     → Leaves before after (Err (Run why))
 stopped IsReport script before after script_failed out_failed (fault.Script why) are is = is.0
 stopped IsReport script before after script_failed out_failed (fault.Certificate why) are is = is.0

@@ -32,7 +32,8 @@ append_order (e ∷ []) [] ox oy before = tt
 append_order (e ∷ []) (f ∷ ys) ox oy before = (before e f (0, omega arith, refl) (0, omega arith, refl), oy)
 append_order (e ∷ f ∷ xs) ys ox oy before = (ox.0, append_order (f ∷ xs) ys ox.1 oy (λ a b h k. before a b (Contains-cons_more e (f ∷ xs) a h) k))
 
-pub one_more : (p : Program) (n : Node) (index : ℕ) (before mid after : List ℕ) → node_index n ≡ index → IsGraphUpTo p index before mid → AddsEdgesFrom p n mid after → IsGraphUpTo p (index + 1) before after
+pub one_more : (p : Program) (n : Node) (index : ℕ) (before mid after : List ℕ) → node_index n ≡ index → IsGraphUpTo p index before mid
+    → AddsEdgesFrom p n mid after → IsGraphUpTo p (index + 1) before after
 one_more p n index before mid after is upto adds = record {
   edges = upto.edges ++ adds.edges;
   lists = record {
@@ -49,11 +50,13 @@ one_more p n index before mid after is upto adds = record {
       ],
     );
   };
-  added = adds.added ∙ ap (λ t. t ++ edge_lines adds.edges) upto.added ∙ append_assoc before (edge_lines upto.edges) (edge_lines adds.edges) ∙ ap (λ t. before ++ t) (sym (edge_lines-append upto.edges adds.edges));
+  added = adds.added ∙ ap (λ t. t ++ edge_lines adds.edges) upto.added ∙ append_assoc before (edge_lines upto.edges) (edge_lines adds.edges)
+      ∙ ap (λ t. before ++ t) (sym (edge_lines-append upto.edges adds.edges));
 }
 
 -- behind the last node these are all edges
-pub all_nodes : (p : Program) (index : ℕ) (before after : List ℕ) → node_count (length p.commands) ≤ index → (upto : IsGraphUpTo p index before after) → ListsEdges upto.edges (Flow p)
+pub all_nodes : (p : Program) (index : ℕ) (before after : List ℕ) → node_count (length p.commands) ≤ index → (upto : IsGraphUpTo p index before after)
+    → ListsEdges upto.edges (Flow p)
 all_nodes p index before after end upto = record {
   in_order = upto.lists.in_order;
   same = λ e. (λ h. ((upto.lists.same e).0 h).0, λ h. (upto.lists.same e).1 (h, omega (arith, leaves_below p e h, end)));

@@ -10,7 +10,8 @@ pub read_to_limit : (before after : Option (List ℕ)) (bytes : List ℕ) (limit
     → IfSome before (λ text. bytes ≡ take limit text)
 read_to_limit None after bytes limit taken full = tt
 read_to_limit (Some text) None bytes limit taken full = absurd taken
-read_to_limit (Some text) (Some rest) bytes limit taken full = sym (ap (λ n. take n text) (sym full) ∙ ap (take (length bytes)) taken ∙ take-append_seam bytes rest)
+read_to_limit (Some text) (Some rest) bytes limit taken full =
+    sym (ap (λ n. take n text) (sym full) ∙ ap (take (length bytes)) taken ∙ take-append_seam bytes rest)
 
 -- nothing is left
 all_taken : (before after : Option (List ℕ)) (bytes : List ℕ) (limit : ℕ) → Consumes before after bytes → IsAtEnd after → length bytes ≤ limit

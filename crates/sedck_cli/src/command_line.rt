@@ -249,7 +249,7 @@ fn holds_option(words: &[String]) -> bool
     words.iter().any(|word| is_option(word))
 }
 
-/// Whether the word begins with a hyphen.
+/// Whether the word begins with a hyphen. A function, so that a word's test is proved apart from the loop over words.
 fn is_option(word: &str) -> bool
     ensures { result ≡ begins_with_hyphen word.now }
 {

@@ -9,7 +9,7 @@ use std::alloc::{AllocError, Global};
 /// How many bytes one read asks for.
 const BLOCK: usize = 65_536;
 
-/// So many bytes 0.
+/// `len` bytes 0. A function, for its clause on the length.
 fn zeros(alloc: Global, len: usize) -> Result<Vec<u8>, AllocError>
     ensures { IfOk result (λ bytes. vec_len bytes ≡ len) }
 {

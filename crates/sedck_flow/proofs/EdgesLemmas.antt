@@ -37,7 +37,8 @@ conditional p c n edges all may lists adds =
     (λ k t. (elim [ inl h ↦ inl (may, h.0, h.1) | inr h ↦ inr h ], elim [ inl h ↦ inl (h.1, h.2) | inr h ↦ inr h ]))
     (lists_more edges all n (VerbEdge p c.address c.verb n) Keep (node_past c.verb n) lists adds)
 
-pub unconditional : (p : Program) (c : Command) (n : Node) (edges : List Edge) → is_conditional c ≡ false → ListsTargets edges n (VerbEdge p c.address c.verb n) → ListsTargets edges n (CommandEdge p c n)
+pub unconditional : (p : Program) (c : Command) (n : Node) (edges : List Edge) → is_conditional c ≡ false
+    → ListsTargets edges n (VerbEdge p c.address c.verb n) → ListsTargets edges n (CommandEdge p c n)
 unconditional p c n edges may_not lists =
     lists_same _ n _ (CommandEdge p c n) (λ k t. (λ h. inr h, elim [ inl h ↦ absurd (never h.0) | inr h ↦ h ])) lists
   where
@@ -49,7 +50,8 @@ unconditional p c n edges may_not lists =
 abbrev EdgeAt : Program → Node → Option Command → Kind → Node → Type 0
 EdgeAt p n o kind to = MatchOption o ((n.at ≡ length p.commands) × (kind ≡ Consume) × (to ≡ start)) (λ c. CommandEdge p c n kind to)
 
-at_node : (p : Program) (n : Node) (o : Option Command) (edges : List Edge) → slice_get p.commands n.at ≡ o → ListsTargets edges n (EdgeAt p n o) → ListsEdges edges (FlowFrom p n)
+at_node : (p : Program) (n : Node) (o : Option Command) (edges : List Edge) → slice_get p.commands n.at ≡ o → ListsTargets edges n (EdgeAt p n o)
+    → ListsEdges edges (FlowFrom p n)
 at_node p n o edges is lists = record {
   in_order = lists.in_order;
   same = λ e. (λ h. let k = (lists.same e).0 h in (forth e k, k.0), λ h. (lists.same e).1 (h.1, back e h));
@@ -61,11 +63,14 @@ at_node p n o edges is lists = record {
     back : (e : Edge) → Flow p e × (e.from ≡ n) → EdgeAt p n o e.kind e.to
     back e (h, from) = subst (λ x. EdgeAt p n x e.kind e.to) is (subst (λ (m : Node). EdgeAt p m (slice_get p.commands m.at) e.kind e.to) from h)
 
-pub at_command : (p : Program) (n : Node) (c : Command) (edges : List Edge) → slice_get p.commands n.at ≡ Some c → ListsTargets edges n (CommandEdge p c n) → ListsEdges edges (FlowFrom p n)
+pub at_command : (p : Program) (n : Node) (c : Command) (edges : List Edge) → slice_get p.commands n.at ≡ Some c
+    → ListsTargets edges n (CommandEdge p c n) → ListsEdges edges (FlowFrom p n)
 at_command p n c edges is lists = at_node p n (Some c) edges is lists
 
-pub at_end : (p : Program) (n : Node) (edges : List Edge) → slice_get p.commands n.at ≡ None → n.at ≡ length p.commands → ListsTargets edges n (Only Consume start) → ListsEdges edges (FlowFrom p n)
-at_end p n edges is place lists = at_node p n None edges is (lists_same edges n (Only Consume start) (EdgeAt p n None) (λ k t. (λ h. (place, h.0, h.1), λ h. (h.1, h.2))) lists)
+pub at_end : (p : Program) (n : Node) (edges : List Edge) → slice_get p.commands n.at ≡ None → n.at ≡ length p.commands
+    → ListsTargets edges n (Only Consume start) → ListsEdges edges (FlowFrom p n)
+at_end p n edges is place lists = at_node p n None edges is
+    (lists_same edges n (Only Consume start) (EdgeAt p n None) (λ k t. (λ h. (place, h.0, h.1), λ h. (h.1, h.2))) lists)
 
 -- ---- What a script's invariant says of one command
 
@@ -80,11 +85,13 @@ has_target p script at c e = target_below (length p.commands) 4095 c.verb script
 
 pub has_replacement : (p : Program) → IsScript p → (at : ℕ) (c : Command) → slice_get p.commands at ≡ Some c → IsReplacement c.verb
 has_replacement p script at c e =
-    All-contains (λ (d : Command). IsReplacement d.verb) p.commands c script.replacements (at, slice_get_within p.commands at c e, get_or_from_slice_get p.commands at c c e)
+    All-contains (λ (d : Command). IsReplacement d.verb) p.commands c script.replacements
+    (at, slice_get_within p.commands at c e, get_or_from_slice_get p.commands at c c e)
 
 -- ---- Where the code reads the commands
 
-pub read_command : (p : Program) (cs : List Coded) (i at : ℕ) (c : Coded) → map command_of cs ≡ p.commands → i ≡ at → i < length cs → c ≡ get_or cs i c → slice_get p.commands at ≡ Some (command_of c)
+pub read_command : (p : Program) (cs : List Coded) (i at : ℕ) (c : Coded) → map command_of cs ≡ p.commands → i ≡ at → i < length cs
+    → c ≡ get_or cs i c → slice_get p.commands at ≡ Some (command_of c)
 read_command p cs i at c all place below is =
     ap (λ xs. slice_get xs at) (sym all) ∙ ap (slice_get (map command_of cs)) (sym place)
     ∙ slice_get-map command_of cs i ∙ ap (option_map command_of) (slice_get_read cs (length cs) i c refl below is)

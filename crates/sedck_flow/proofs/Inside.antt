@@ -45,12 +45,15 @@ module _ (p : Program) (n : ℕ) where
   past_inside (Block behind) inside from to below e = omega (arith, ap (λ (x : Node). x.at) e)
   past_inside _ inside from to below e = omega (arith, ap (λ (x : Node). x.at) e)
 
-command_inside : (p : Program) (c : Command) (n : ℕ) → IsTargetWithin n c.verb → (from : Node) (kind : Kind) (to : Node) → from.at < n → CommandEdge p c from kind to → to.at ≤ n
+command_inside : (p : Program) (c : Command) (n : ℕ) → IsTargetWithin n c.verb → (from : Node) (kind : Kind) (to : Node) → from.at < n
+    → CommandEdge p c from kind to → to.at ≤ n
 command_inside p c n inside from kind to below (inl (_, _, e)) = past_inside p n c.verb inside from to below e
 command_inside p c n inside from kind to below (inr h) = verb_inside p n c.address c.verb inside from kind to below h
 
-edge_inside : (p : Program) (from : Node) (kind : Kind) (to : Node) (o : Option Command) → slice_get p.commands from.at ≡ o → ((c : Command) → o ≡ Some c → IsTargetWithin (length p.commands) c.verb)
-    → MatchOption o ((from.at ≡ length p.commands) × (kind ≡ Consume) × (to ≡ start)) (λ c. CommandEdge p c from kind to) → (from.at ≤ length p.commands) × (to.at ≤ length p.commands)
+edge_inside : (p : Program) (from : Node) (kind : Kind) (to : Node) (o : Option Command) → slice_get p.commands from.at ≡ o
+    → ((c : Command) → o ≡ Some c → IsTargetWithin (length p.commands) c.verb)
+    → MatchOption o ((from.at ≡ length p.commands) × (kind ≡ Consume) × (to ≡ start)) (λ c. CommandEdge p c from kind to)
+    → (from.at ≤ length p.commands) × (to.at ≤ length p.commands)
 edge_inside p from kind to None e inside (place, _, is) = (omega arith, omega (arith, ap (λ (x : Node). x.at) is))
 edge_inside p from kind to (Some c) e inside h =
     let below : from.at < length p.commands = slice_get_within p.commands from.at c e in
@@ -59,7 +62,8 @@ edge_inside p from kind to (Some c) e inside h =
 -- the target of the command at a place
 pub target_at : (p : Program) → AreTargetsWithin p → (at : ℕ) (c : Command) → slice_get p.commands at ≡ Some c → IsTargetWithin (length p.commands) c.verb
 target_at p targets at c e =
-    All-contains (λ (d : Command). IsTargetWithin (length p.commands) d.verb) p.commands c targets (at, slice_get_within p.commands at c e, get_or_from_slice_get p.commands at c c e)
+    All-contains (λ (d : Command). IsTargetWithin (length p.commands) d.verb) p.commands c targets
+    (at, slice_get_within p.commands at c e, get_or_from_slice_get p.commands at c c e)
 
 pub inside : (p : Program) → AreTargetsWithin p → (e : Edge) → Flow p e → (e.from.at ≤ length p.commands) × (e.to.at ≤ length p.commands)
 inside p targets e h = edge_inside p e.from e.kind e.to (slice_get p.commands e.from.at) refl (target_at p targets e.from.at) h

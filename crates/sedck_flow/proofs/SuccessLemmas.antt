@@ -27,14 +27,16 @@ second_false true b h = h
 second_false false b h = refl
 
 -- one part further
-pub literal_more : (ps : List Part) (i : ℕ) (z : Part) → i < length ps → IsTrue (is_literal (take i ps)) → IsTrue (is_literal_part (get_or ps i z)) → IsTrue (is_literal (take (suc i) ps))
+pub literal_more : (ps : List Part) (i : ℕ) (z : Part) → i < length ps → IsTrue (is_literal (take i ps)) → IsTrue (is_literal_part (get_or ps i z))
+    → IsTrue (is_literal (take (suc i) ps))
 literal_more [] i z below h k = absurd (omega arith)
 literal_more (p ∷ ps) zero z below h k = both_true (is_literal_part p) true k refl
 literal_more (p ∷ ps) (suc i) z below h k =
     let parts = first_true (is_literal_part p) (is_literal (take i ps)) h in
     both_true (is_literal_part p) (is_literal (take (suc i) ps)) parts.0 (literal_more ps i z (omega arith) parts.1 k)
 
-pub length_more : (ps : List Part) (i : ℕ) (z : Part) → i < length ps → literal_length (take (suc i) ps) ≡ literal_length (take i ps) + part_length (get_or ps i z)
+pub length_more : (ps : List Part) (i : ℕ) (z : Part) → i < length ps
+    → literal_length (take (suc i) ps) ≡ literal_length (take i ps) + part_length (get_or ps i z)
 length_more [] i z below = absurd (omega arith)
 length_more (p ∷ ps) zero z below = omega arith
 length_more (p ∷ ps) (suc i) z below = omega (arith, length_more ps i z (omega arith))
@@ -64,10 +66,12 @@ module _ (parts : List Coded) (i : ℕ) (z : Coded) (below : i < length parts) w
   inside : i < length (map part_of parts)
   inside = omega (arith, length-map parts part_of)
 
-  pub coded_literal_more : IsTrue (is_literal (take i (map part_of parts))) → IsTrue (is_literal_part (part_of (get_or parts i z))) → IsTrue (is_literal (take (suc i) (map part_of parts)))
+  pub coded_literal_more : IsTrue (is_literal (take i (map part_of parts))) → IsTrue (is_literal_part (part_of (get_or parts i z)))
+      → IsTrue (is_literal (take (suc i) (map part_of parts)))
   coded_literal_more h k = literal_more (map part_of parts) i (part_of z) inside h (subst (λ (x : Part). IsTrue (is_literal_part x)) (sym same) k)
 
-  pub coded_length_more : literal_length (take (suc i) (map part_of parts)) ≡ literal_length (take i (map part_of parts)) + part_length (part_of (get_or parts i z))
+  pub coded_length_more : literal_length (take (suc i) (map part_of parts)) ≡ literal_length (take i (map part_of parts)) + part_length
+      (part_of (get_or parts i z))
   coded_length_more = length_more (map part_of parts) i (part_of z) inside ∙ ap (λ (x : Part). literal_length (take i (map part_of parts)) + part_length x) same
 
   pub coded_not_literal : is_literal_part (part_of (get_or parts i z)) ≡ false → is_literal (map part_of parts) ≡ false
@@ -75,7 +79,8 @@ module _ (parts : List Coded) (i : ℕ) (z : Coded) (below : i < length parts) w
 
 -- ---- The kind
 
-module _ (p : Program) (s : Substitution) (n : ℕ) (least : IsLeastSize (PatternHasLength p s.pattern) n) (literal : IsTrue (is_literal s.parts)) (small : literal_length s.parts ≤ 1048576) where
+module _ (p : Program) (s : Substitution) (n : ℕ) (least : IsLeastSize (PatternHasLength p s.pattern) n) (literal : IsTrue (is_literal s.parts))
+    (small : literal_length s.parts ≤ 1048576) where
   pub shortens : literal_length s.parts < n → HasKind p s Shorten
   shortens less = (literal, λ text h. omega (arith, least.floor (length text) (text, h, refl)))
 

@@ -133,15 +133,19 @@ tests p a target n edges flag is lists =
 
 -- ---- By the verb as the code has it
 
-pub of_verb : (p : Program) (a : Address) (v w : Verb) (n : Node) (edges : List Edge) → v ≡ w → ListsTargets edges n (VerbEdge p a w n) → ListsTargets edges n (VerbEdge p a v n)
+pub of_verb : (p : Program) (a : Address) (v w : Verb) (n : Node) (edges : List Edge) → v ≡ w → ListsTargets edges n (VerbEdge p a w n)
+    → ListsTargets edges n (VerbEdge p a v n)
 of_verb p a v w n edges is lists = subst (λ (x : Verb). ListsTargets edges n (VerbEdge p a x n)) (sym is) lists
 
 -- a verb that is none of these goes on to the next command
 pub other_verb : (p : Program) (a : Address) (v : Coded) (n : Node) (edges : List Edge)
-    → ((target : ℕ) → v ≡ coded.Branch target → ⊥) → ((target : ℕ) → v ≡ coded.Test target → ⊥) → ((text : Bor (List ℕ)) → v ≡ coded.Change text → ⊥) → ((s : CodedSubstitution) → v ≡ coded.Substitute s → ⊥)
-    → (v ≡ coded.Delete → ⊥) → (v ≡ coded.DeleteFirstLine → ⊥) → (v ≡ coded.Get → ⊥) → (v ≡ coded.GetAppend → ⊥) → (v ≡ coded.Next → ⊥) → (v ≡ coded.NextAppend → ⊥) → (v ≡ coded.Quit → ⊥) → (v ≡ coded.Exchange → ⊥)
+    → ((target : ℕ) → v ≡ coded.Branch target → ⊥) → ((target : ℕ) → v ≡ coded.Test target → ⊥) → ((text : Bor (List ℕ)) → v ≡ coded.Change text → ⊥)
+    → ((s : CodedSubstitution) → v ≡ coded.Substitute s → ⊥)
+    → (v ≡ coded.Delete → ⊥) → (v ≡ coded.DeleteFirstLine → ⊥) → (v ≡ coded.Get → ⊥) → (v ≡ coded.GetAppend → ⊥) → (v ≡ coded.Next → ⊥)
+    → (v ≡ coded.NextAppend → ⊥) → (v ≡ coded.Quit → ⊥) → (v ≡ coded.Exchange → ⊥)
     → ListsTargets edges n (Only Keep (next n)) → ListsTargets edges n (VerbEdge p a (verb_of v) n)
-other_verb p a (coded.Branch target) n edges branch test change substitute delete drop get append read read_more quit exchange lists = absurd (branch target refl)
+other_verb p a (coded.Branch target) n edges branch test change substitute delete drop get append read read_more quit exchange lists =
+    absurd (branch target refl)
 other_verb p a (coded.Test target) n edges branch test change substitute delete drop get append read read_more quit exchange lists = absurd (test target refl)
 other_verb p a (coded.Change text) n edges branch test change substitute delete drop get append read read_more quit exchange lists = absurd (change text refl)
 other_verb p a (coded.Substitute s) n edges branch test change substitute delete drop get append read read_more quit exchange lists = absurd (substitute s refl)

@@ -25,7 +25,8 @@ pub nodes_within : (a b : List ℕ) → ((m : Node) → IsIn a m → IsIn b m) �
 nodes_within a b h i x = let n = node_at i in subst (λ k. has b k ≡ true) n.1 (h n.0 (subst (λ k. has a k ≡ true) (sym n.1) x))
 
 module _ (p : Program) (along : Along) where
-  reach_within : (n m : Node) {a b : ℕ} (x : IsReachCount p along n a) (y : IsReachCount p along m b) → Reaches p along n m → (i : ℕ) → has y.row i ≡ true → has x.row i ≡ true
+  reach_within : (n m : Node) {a b : ℕ} (x : IsReachCount p along n a) (y : IsReachCount p along m b) → Reaches p along n m → (i : ℕ)
+      → has y.row i ≡ true → has x.row i ≡ true
   reach_within n m x y r = nodes_within y.row x.row (λ k h. (x.reach.same k).1 (reaches-trans p along n m k r ((y.reach.same k).0 h)))
 
   -- a node reaches at least as many as each that it reaches
@@ -36,18 +37,24 @@ module _ (p : Program) (along : Along) where
   -- where it reaches as many, it is reached from there
   pub same_count : (n m : Node) (a b : ℕ) → IsReachCount p along n a → IsReachCount p along m b → Reaches p along n m → a ≡ b → Reaches p along m n
   same_count n m a b x y r same =
-      (y.reach.same n).0 (same_nodes y.row x.row y.reach.is_row x.reach.is_row (reach_within n m x y r) (y.counts ∙ sym same ∙ sym x.counts) (node_index n) ((x.reach.same n).1 (reaches_self p along n)))
+      (y.reach.same n).0 (same_nodes y.row x.row y.reach.is_row x.reach.is_row (reach_within n m x y r) (y.counts ∙ sym same ∙ sym x.counts)
+      (node_index n) ((x.reach.same n).1 (reaches_self p along n)))
 
   -- ---- The row of the last counted node
 
   -- a closed row with a node has all that it reaches; with as many nodes as those it has no other
-  pub last_reached : (row : List ℕ) (count : ℕ) → IsLast p along row count → (n m : Node) → Reaches p along n m → IsIn row m → IsReachCount p along m count → (k : Node) → IsIn row k → Reaches p along n k
+  pub last_reached : (row : List ℕ) (count : ℕ) → IsLast p along row count → (n m : Node) → Reaches p along n m → IsIn row m
+      → IsReachCount p along m count → (k : Node) → IsIn row k → Reaches p along n k
   last_reached row count last n m r has_m x k has_k =
-      let within : (i : ℕ) → has x.row i ≡ true → has row i ≡ true = nodes_within x.row row (λ j h. let to : Reaches p along m j = (x.reach.same j).0 h in closed_reaches p along row last.closed to.0 m j to.1 to.2 has_m) in
-      reaches-trans p along n m k r ((x.reach.same k).0 (same_nodes x.row row x.reach.is_row last.is_row within (x.counts ∙ sym last.counts) (node_index k) has_k))
+      let within : (i : ℕ) → has x.row i ≡ true → has row i ≡ true =
+      nodes_within x.row row (λ j h. let to : Reaches p along m j = (x.reach.same j).0 h in
+      closed_reaches p along row last.closed to.0 m j to.1 to.2 has_m) in
+      reaches-trans p along n m k r ((x.reach.same k).0
+      (same_nodes x.row row x.reach.is_row last.is_row within (x.counts ∙ sym last.counts) (node_index k) has_k))
 
   -- a closed row with the node, of nodes that it reaches, is all that it reaches
-  pub last_counts : (row : List ℕ) (count : ℕ) → IsLast p along row count → (n : Node) → IsIn row n → ((m : Node) → IsIn row m → Reaches p along n m) → IsReachCount p along n count
+  pub last_counts : (row : List ℕ) (count : ℕ) → IsLast p along row count → (n : Node) → IsIn row n → ((m : Node) → IsIn row m → Reaches p along n m)
+      → IsReachCount p along n count
   last_counts row count last n has_n reached = record {
     row = row;
     reach = record { is_row = last.is_row; same = λ m. (reached m, λ to. closed_reaches p along row last.closed to.0 n m to.1 to.2 has_n) };
@@ -56,9 +63,9 @@ module _ (p : Program) (along : Along) where
 
   -- ---- Nodes that are counted
 
-
   -- a number that is no mark is the count
-  pub counted_at : (counts : List ℕ) → ArePartlyCounted p along counts → (n : Node) → n.at ≤ length p.commands → (count : ℕ) → slice_get counts (node_index n) ≡ Some count → 0 < count → count < 65535 → IsReachCount p along n count
+  pub counted_at : (counts : List ℕ) → ArePartlyCounted p along counts → (n : Node) → n.at ≤ length p.commands → (count : ℕ)
+      → slice_get counts (node_index n) ≡ Some count → 0 < count → count < 65535 → IsReachCount p along n count
   counted_at counts partly n inside count is positive within =
       elim (partly.each n inside) [
         | inl (reached, inl counted) ↦ subst (IsReachCount p along n) (same_Some _ _ (sym counted.at ∙ is)) counted.is_count
@@ -67,21 +74,24 @@ module _ (p : Program) (along : Along) where
       ]
 
   -- one node more is counted
-  pub counted_set : (counts : List ℕ) → ArePartlyCounted p along counts → (n : Node) → n.at ≤ length p.commands → (count : ℕ) → IsReachCount p along n count → 0 < count → count ≤ 8192 → slice_get counts (node_index n) ≡ Some 65535
+  pub counted_set : (counts : List ℕ) → ArePartlyCounted p along counts → (n : Node) → n.at ≤ length p.commands → (count : ℕ)
+      → IsReachCount p along n count → 0 < count → count ≤ 8192 → slice_get counts (node_index n) ≡ Some 65535
       → ArePartlyCounted p along (set counts (node_index n) count)
   counted_set counts partly n inside count is_count positive within marked = record {
     long = length-set counts (node_index n) count ∙ partly.long;
     each = λ m m_inside. elim (cases_eq (node_index m) (node_index n)) [
-      | inl same ↦ subst (λ k. (IsReachable p k × (HasCount p along (set counts (node_index n) count) k ⊎ IsUncounted (set counts (node_index n) count) k)) ⊎ HasNoCount p (set counts (node_index n) count) k) (sym (node_same m n same)) (inl (
-        reachable (partly.each n inside),
-        inl record {
-          count = count;
-          at = set_same counts (node_index n) count (slice_get_within counts (node_index n) 65535 marked);
-          positive = positive;
-          within = within;
-          is_count = is_count;
-        },
-      ))
+      | inl same ↦ subst
+          (λ k. (IsReachable p k × (HasCount p along (set counts (node_index n) count) k ⊎ IsUncounted (set counts (node_index n) count) k))
+          ⊎ HasNoCount p (set counts (node_index n) count) k) (sym (node_same m n same)) (inl (
+            reachable (partly.each n inside),
+            inl record {
+              count = count;
+              at = set_same counts (node_index n) count (slice_get_within counts (node_index n) 65535 marked);
+              positive = positive;
+              within = within;
+              is_count = is_count;
+            },
+          ))
       | inr other ↦ as_before m (set_other counts (node_index n) (node_index m) count other) (partly.each m m_inside)
     ];
   }
@@ -90,16 +100,20 @@ module _ (p : Program) (along : Along) where
       reachable (inl (is, _)) = is
       reachable (inr none) = absurd (omega (arith, same_Some _ _ (sym none.1 ∙ marked)))
 
-      as_before : (m : Node) → slice_get (set counts (node_index n) count) (node_index m) ≡ slice_get counts (node_index m) → (IsReachable p m × (HasCount p along counts m ⊎ IsUncounted counts m)) ⊎ HasNoCount p counts m
-          → (IsReachable p m × (HasCount p along (set counts (node_index n) count) m ⊎ IsUncounted (set counts (node_index n) count) m)) ⊎ HasNoCount p (set counts (node_index n) count) m
-      as_before m same (inl (is, inl h)) = inl (is, inl record { count = h.count; at = same ∙ h.at; positive = h.positive; within = h.within; is_count = h.is_count })
+      as_before : (m : Node) → slice_get (set counts (node_index n) count) (node_index m) ≡ slice_get counts (node_index m)
+          → (IsReachable p m × (HasCount p along counts m ⊎ IsUncounted counts m)) ⊎ HasNoCount p counts m
+          → (IsReachable p m × (HasCount p along (set counts (node_index n) count) m ⊎ IsUncounted (set counts (node_index n) count) m))
+          ⊎ HasNoCount p (set counts (node_index n) count) m
+      as_before m same (inl (is, inl h)) =
+          inl (is, inl record { count = h.count; at = same ∙ h.at; positive = h.positive; within = h.within; is_count = h.is_count })
       as_before m same (inl (is, inr h)) = inl (is, inr (same ∙ h))
       as_before m same (inr (none, h)) = inr (none, same ∙ h)
 
   -- ---- A node with one target
 
   -- where a closed row has the only target and not the node, the node reaches itself and what its target reaches
-  pub single_count : (row : List ℕ) → IsClosed p along row → (n m : Node) → IsIn row m → has row (node_index n) ≡ false → node_index n < 8192 → Reaches p along n m
+  pub single_count : (row : List ℕ) → IsClosed p along row → (n m : Node) → IsIn row m → has row (node_index n) ≡ false → node_index n < 8192
+      → Reaches p along n m
       → ((e : Edge) → FollowedEdge p along e → e.from ≡ n → e.to ≡ m) → (count : ℕ) → IsReachCount p along m count → IsReachCount p along n (suc count)
   single_count row closed n m has_m no_n below on only count x = record {
     row = more;
@@ -136,7 +150,8 @@ module _ (p : Program) (along : Along) where
           changed_keeps x.row more n changed k ((x.reach.same k).1 (path, subst (λ j. IsPath p j path k) to is.1, followed.1))
 
   -- a closed row, with one node more whose edges lead into it, is closed
-  pub closed_beside : (row : List ℕ) (count : ℕ) → IsLast p along row count → (m : Node) → node_index m < 8192 → ((e : Edge) → FollowedEdge p along e → e.from ≡ m → IsIn row e.to) → IsClosedBeside p along row m
+  pub closed_beside : (row : List ℕ) (count : ℕ) → IsLast p along row count → (m : Node) → node_index m < 8192
+      → ((e : Edge) → FollowedEdge p along e → e.from ≡ m → IsIn row e.to) → IsClosedBeside p along row m
   closed_beside row count last m below leads =
       let changed = inserted row (node_index m) below last.is_row in
       let more : List ℕ = set row (node_index m / 64) (with_bit row (node_index m)) in

@@ -27,14 +27,16 @@ module _ (p : Program) (n : Node) where
   gone_over_none {Holds} coming h = record { listed = h; held = none_done Holds }
 
   -- one edge more
-  pub gone_over_more : {Holds Holds' : Edge → Type 0} (done coming : List Edge) (e : Edge) → AreGoneOver p n done (e ∷ coming) Holds → ((f : Edge) → Holds f → Holds' f) → Holds' e → AreGoneOver p n (done ++ e ∷ []) coming Holds'
+  pub gone_over_more : {Holds Holds' : Edge → Type 0} (done coming : List Edge) (e : Edge) → AreGoneOver p n done (e ∷ coming) Holds
+      → ((f : Edge) → Holds f → Holds' f) → Holds' e → AreGoneOver p n (done ++ e ∷ []) coming Holds'
   gone_over_more {Holds} {Holds'} done coming e h on at = record {
     listed = subst (λ edges. ListsEdges edges (FlowFrom p n)) (sym (append_assoc done (e ∷ []) coming)) h.listed;
     held = λ f x. elim (Contains-push_cases done e f x) [ inl before ↦ on f (h.held f before) | inr same ↦ subst Holds' same at ];
   }
 
   -- the edge that comes next
-  pub gone_next : {Holds : Edge → Type 0} (done iterator coming : List Edge) (e : Edge) → iterator ≡ e ∷ coming → AreGoneOver p n done iterator Holds → AreGoneOver p n done (e ∷ coming) Holds
+  pub gone_next : {Holds : Edge → Type 0} (done iterator coming : List Edge) (e : Edge) → iterator ≡ e ∷ coming → AreGoneOver p n done iterator Holds
+      → AreGoneOver p n done (e ∷ coming) Holds
   gone_next {Holds} done iterator coming e is h = subst (λ edges. AreGoneOver p n done edges Holds) is h
 
   -- each edge that comes is one of the node's
@@ -45,11 +47,13 @@ module _ (p : Program) (n : Node) where
   pub gone_over_all : {Holds : Edge → Type 0} (done : List Edge) → AreGoneOver p n done [] Holds → (e : Edge) → FlowFrom p n e → Holds e
   gone_over_all done h e is_edge = h.held e (subst (λ edges. Contains edges e) (append-nil done) ((h.listed.same e).1 is_edge))
 
-  pub gone_end : {Holds : Edge → Type 0} (done iterator : List Edge) → iterator ≡ [] → AreGoneOver p n done iterator Holds → (e : Edge) → FlowFrom p n e → Holds e
+  pub gone_end : {Holds : Edge → Type 0} (done iterator : List Edge) → iterator ≡ [] → AreGoneOver p n done iterator Holds → (e : Edge)
+      → FlowFrom p n e → Holds e
   gone_end {Holds} done iterator is h = gone_over_all done (subst (λ edges. AreGoneOver p n done edges Holds) is h)
 
   -- it leads to a node of the script
-  pub target_coming : {Holds : Edge → Type 0} → IsScript p → (done coming : List Edge) (e : Edge) → AreGoneOver p n done (e ∷ coming) Holds → e.to.at ≤ length p.commands
+  pub target_coming : {Holds : Edge → Type 0} → IsScript p → (done coming : List Edge) (e : Edge) → AreGoneOver p n done (e ∷ coming) Holds
+      → e.to.at ≤ length p.commands
   target_coming script done coming e h = (inside p script.targets e (edge_coming done coming e h).0).1
 
 -- a node of the script has its place in a list with two places a command and two for the end
@@ -70,6 +74,7 @@ set_same xs i v below = slice_get-get_or (set xs i v) i 0 (subst (λ k. i < k) (
 
 pub set_other : (xs : List ℕ) (i j v : ℕ) → j ≢ i → slice_get (set xs i v) j ≡ slice_get xs j
 set_other xs i j v other = elim (cases_lt j (length xs)) [
-  | inl below ↦ slice_get-get_or (set xs i v) j 0 (subst (λ k. j < k) (sym (length-set xs i v)) below) ∙ ap Some (get_or-set_other xs i j v 0 other) ∙ sym (slice_get-get_or xs j 0 below)
+  | inl below ↦ slice_get-get_or (set xs i v) j 0 (subst (λ k. j < k) (sym (length-set xs i v)) below) ∙ ap Some (get_or-set_other xs i j v 0 other)
+      ∙ sym (slice_get-get_or xs j 0 below)
   | inr past ↦ slice_get_past (set xs i v) j (subst (λ k. k ≤ j) (sym (length-set xs i v)) past) ∙ sym (slice_get_past xs j past)
 ]

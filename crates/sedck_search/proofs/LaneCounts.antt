@@ -35,11 +35,19 @@ pub record AreSums (words sums : List ℕ) (at : ℕ) : Type 0 where
   pub eight : length sums ≡ 8
   pub sum : sum_l sums ≡ bit_count (take at words)
 
-module _ (words sums : List ℕ) (at : ℕ) (short : length words ≤ 65536) (small : (j : ℕ) → Fits w64 (slice_index words j)) (sums_are : AreSums words sums at) where
+module _ (words sums : List ℕ) (at : ℕ) (short : length words ≤ 65536) (small : (j : ℕ) → Fits w64 (slice_index words j))
+    (sums_are : AreSums words sums at) where
   pub next_fits : Each2 (λ a b. Fits w64 (a + b)) sums (lane_counts (take 8 (drop at words)))
   next_fits =
       adds_fit w64 sums (lane_counts (take 8 (drop at words)))
-      (omega (arith, sums_are.sum, sum-lane_counts (take 8 (drop at words)), bit_count-next words at, bit_count-take words (at + 8), small_count words short small))
+      (omega (
+        arith,
+        sums_are.sum,
+        sum-lane_counts (take 8 (drop at words)),
+        bit_count-next words at,
+        bit_count-take words (at + 8),
+        small_count words short small,
+      ))
 
   pub next_are_sums : at + 8 ≤ length words → AreSums words (next_sums sums words at) (at + 8)
   next_are_sums room =
@@ -49,7 +57,8 @@ module _ (words sums : List ℕ) (at : ℕ) (short : length words ≤ 65536) (sm
       record {
         within = room;
         eight = length-zip2 (λ a b. a + b) sums lanes same ∙ sums_are.eight;
-        sum = sum-zip2 sums lanes same ∙ ap (λ m. m + sum_l lanes) sums_are.sum ∙ ap (λ m. bit_count (take at words) + m) (sum-lane_counts (take 8 (drop at words))) ∙ bit_count-next words at;
+        sum = sum-zip2 sums lanes same ∙ ap (λ m. m + sum_l lanes) sums_are.sum
+            ∙ ap (λ m. bit_count (take at words) + m) (sum-lane_counts (take 8 (drop at words))) ∙ bit_count-next words at;
       }
 
   pub last_fits : Steps (λ s x. Fits w64 (s + x)) (λ s x. s + x) 0 sums

@@ -25,7 +25,6 @@ use Rattle.sedck_search.proofs.Paths.{path-append, path_inside, reaches_edge}
 use Rattle.sedck_search.proofs.Counts.{count_falls, same_count}
 use Rattle.sedck_search.proofs.RuledOut.{ruled_out}
 
-
 -- ---- Walks of a form
 
 pub closing_follows : (form : Form) (kind : Kind) → kind ≡ closing_kind form → IsFollowed (way_back form) kind
@@ -118,7 +117,8 @@ module _ (p : Program) (script : IsScript p) where
         }
 
     -- a closed walk of the form begins with a closing edge
-    pub begun_closes : (n : Node) (walk : List (Kind × Node)) → IsReachable p n → IsPath p n walk n → IsBegun form walk → (e : Edge) × Closes p (closing_kind form) counts e × (e.from ≡ n)
+    pub begun_closes : (n : Node) (walk : List (Kind × Node)) → IsReachable p n → IsPath p n walk n → IsBegun form walk
+        → (e : Edge) × Closes p (closing_kind form) counts e × (e.from ≡ n)
     begun_closes n [] reachable path begun = absurd begun
     begun_closes n (edge ∷ more) reachable path begun =
         let e : Edge = record { from = n; to = edge.1; kind = edge.0 } in
@@ -127,11 +127,16 @@ module _ (p : Program) (script : IsScript p) where
         let y = count_of (way_back form) counts counted edge.1 there in
         let on : Reaches p (way_back form) n edge.1 = reaches_edge p (way_back form) e (path.0, closing_follows form edge.0 begun.0) in
         let back : Reaches p (way_back form) edge.1 n = (more, path.1, begun.1) in
-        let same : y.count ≡ x.count = omega (arith, count_falls p (way_back form) n edge.1 x.count y.count x.is_count y.is_count on, count_falls p (way_back form) edge.1 n y.count x.count y.is_count x.is_count back) in
+        let same : y.count ≡ x.count = omega (
+          arith,
+          count_falls p (way_back form) n edge.1 x.count y.count x.is_count y.is_count on,
+          count_falls p (way_back form) edge.1 n y.count x.count y.is_count x.is_count back,
+        ) in
         (e, record { is_edge = path.0; is_kind = begun.0; count = x.count; positive = x.positive; before = x.at; after = y.at ∙ ap Some same }, refl)
 
     -- without one there is no sought obstacle
-    pub none_sought : ((e : Edge) → ¬ Closes p (closing_kind form) counts e) → (n : Node) (walk : List (Kind × Node)) → IsObstacle p n walk form → IsSought form walk → ⊥
+    pub none_sought : ((e : Edge) → ¬ Closes p (closing_kind form) counts e) → (n : Node) (walk : List (Kind × Node)) → IsObstacle p n walk form
+        → IsSought form walk → ⊥
     none_sought none n walk o sought =
         let c = begun_closes n walk o.reachable o.closed (sought_begun form walk o.some_edge o.reads_none o.has_form sought) in
         none c.0 c.1
@@ -163,7 +168,8 @@ module _ (p : Program) (script : IsScript p) where
   pub none_idle : (seconds : List ℕ) → AreCounted p Kept seconds → ((e : Edge) → ¬ Closes p Keep seconds e) → HasNoIdle p
   none_idle seconds counted none n walk o = none_sought Idle seconds counted none n walk o tt
 
-  pub idle_loop : (seconds : List ℕ) → AreCounted p Kept seconds → (e : Edge) → IsFirstClosing p Keep seconds e → (w : Walk) → IsShortestLoop p Idle e.from w → IsLoop p w
+  pub idle_loop : (seconds : List ℕ) → AreCounted p Kept seconds → (e : Edge) → IsFirstClosing p Keep seconds e → (w : Walk)
+      → IsShortestLoop p Idle e.from w → IsLoop p w
   idle_loop seconds counted e first w loop = record {
     first = e.from;
     edges = loop.edges;
@@ -173,7 +179,8 @@ module _ (p : Program) (script : IsScript p) where
     rules_out = ruled_out p e.from loop.edges Idle (loop_obstacle Idle seconds counted e first w loop);
   }
 
-  pub growing_loop : (seconds : List ℕ) → AreCounted p Kept seconds → ((e : Edge) → ¬ Closes p Keep seconds e) → (firsts : List ℕ) → AreCounted p Unread firsts → (e : Edge) → IsFirstClosing p Grow firsts e → (w : Walk) → IsShortestLoop p Growing e.from w → IsLoop p w
+  pub growing_loop : (seconds : List ℕ) → AreCounted p Kept seconds → ((e : Edge) → ¬ Closes p Keep seconds e) → (firsts : List ℕ)
+      → AreCounted p Unread firsts → (e : Edge) → IsFirstClosing p Grow firsts e → (w : Walk) → IsShortestLoop p Growing e.from w → IsLoop p w
   growing_loop seconds counted' none firsts counted e first w loop = record {
     first = e.from;
     edges = loop.edges;

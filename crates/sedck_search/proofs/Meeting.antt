@@ -63,7 +63,11 @@ module _ (n : Node) (row waiting row' waiting' : List ℕ) (frontier : IsFrontie
       | inr same ↦ inr (same, subst (IsIn row') (sym same) r.at, omega (arith, least, ap node_index same))
     ];
     earlier = less;
-    room = omega (arith, inserted_count row row' frontier.is_row is_row' (node_index n) r absent, inserted_count waiting waiting' frontier.is_waiting is_waiting' (node_index n) w idle);
+    room = omega (
+      arith,
+      inserted_count row row' frontier.is_row is_row' (node_index n) r absent,
+      inserted_count waiting waiting' frontier.is_waiting is_waiting' (node_index n) w idle,
+    );
   }
 
   pub frontier_new : IsFrontier row' waiting'
@@ -77,7 +81,8 @@ module _ (n : Node) (row waiting row' waiting' : List ℕ) (frontier : IsFrontie
   }
 
 -- what is met after one another
-pub met_then : (IsMet : Node → Type 0) (a w a' w' a'' w'' : List ℕ) (f f' f'' : ℕ) → HasMet IsMet a w a' w' f f' → HasMet IsMet a' w' a'' w'' f' f'' → HasMet IsMet a w a'' w'' f f''
+pub met_then : (IsMet : Node → Type 0) (a w a' w' a'' w'' : List ℕ) (f f' f'' : ℕ) → HasMet IsMet a w a' w' f f' → HasMet IsMet a' w' a'' w'' f' f''
+    → HasMet IsMet a w a'' w'' f f''
 met_then IsMet a w a' w' a'' w'' f f' f'' h k = record {
   kept = λ n x. k.kept n (h.kept n x);
   waits_on = λ n x. k.waits_on n (h.waits_on n x);
@@ -94,7 +99,8 @@ met_then IsMet a w a' w' a'' w'' f f' f'' h k = record {
 }
 
 -- what is met is also one of more
-pub met_among : (IsMet IsMet' : Node → Type 0) → ((n : Node) → IsMet n → IsMet' n) → (a w a' w' : List ℕ) (f f' : ℕ) → HasMet IsMet a w a' w' f f' → HasMet IsMet' a w a' w' f f'
+pub met_among : (IsMet IsMet' : Node → Type 0) → ((n : Node) → IsMet n → IsMet' n) → (a w a' w' : List ℕ) (f f' : ℕ) → HasMet IsMet a w a' w' f f'
+    → HasMet IsMet' a w a' w' f f'
 met_among IsMet IsMet' more a w a' w' f f' h = record {
   kept = h.kept;
   waits_on = h.waits_on;
@@ -118,7 +124,8 @@ pub record IsSpreading (p : Program) (along : Along) (n : Node) (before row wait
 
 module _ (p : Program) (along : Along) (n : Node) (before : List ℕ) where
   -- at first the node alone waits
-  pub spreading_begins : (row none waiting : List ℕ) (first first' : ℕ) → IsClosed p along before → IsEmpty none → IsFrontier row waiting → HasMet (λ m. m ≡ n) before none row waiting first first' → IsIn row n
+  pub spreading_begins : (row none waiting : List ℕ) (first first' : ℕ) → IsClosed p along before → IsEmpty none → IsFrontier row waiting
+      → HasMet (λ m. m ≡ n) before none row waiting first first' → IsIn row n
       → IsSpreading p along n before row waiting first'
   spreading_begins row none waiting first first' closed empty frontier h node = record {
     frontier = frontier;
@@ -137,7 +144,8 @@ module _ (p : Program) (along : Along) (n : Node) (before : List ℕ) where
       only m w = elim (h.waits m w) [ inl old ↦ absurd (not_both old (empty (node_index m))) | inr (same, _, least) ↦ (same, least) ]
 
   module _ (row waiting waiting' row'' waiting'' : List ℕ) (first first'' : ℕ) (m : Node) (s : IsSpreading p along n before row waiting first)
-      (has_m : IsIn waiting m) (none_before : (k : ℕ) → first ≤ k → k < node_index m → has waiting k ≡ false) (removed : HasChanged waiting waiting' (node_index m) false)
+      (has_m : IsIn waiting m) (none_before : (k : ℕ) → first ≤ k → k < node_index m → has waiting k ≡ false)
+      (removed : HasChanged waiting waiting' (node_index m) false)
       (frontier : IsFrontier row'' waiting'') (h : HasMet (IsFollowedFrom p along m) row waiting' row'' waiting'' (node_index m) first'')
       (met : (e : Edge) → FollowedEdge p along e → e.from ≡ m → IsIn row'' e.to) where
     waited : (k : Node) → IsIn waiting' k → IsIn waiting k
@@ -187,10 +195,17 @@ module _ (p : Program) (along : Along) (n : Node) (before : List ℕ) where
     -- the rows have less room
     pub spreading_shrinks : IsRow waiting' → bit_count waiting'' + 2 * (8192 - bit_count row'') < bit_count waiting + 2 * (8192 - bit_count row)
     spreading_shrinks is_waiting' =
-        omega (arith, h.room, removed_count waiting waiting' s.frontier.is_waiting is_waiting' (node_index m) removed has_m, count_within row s.frontier.is_row, count_within row'' frontier.is_row)
+        omega (
+          arith,
+          h.room,
+          removed_count waiting waiting' s.frontier.is_waiting is_waiting' (node_index m) removed has_m,
+          count_within row s.frontier.is_row,
+          count_within row'' frontier.is_row,
+        )
 
   -- where none waits any more
-  pub spreading_ends : (row waiting : List ℕ) (first : ℕ) → IsSpreading p along n before row waiting first → ((i : ℕ) → first ≤ i → has waiting i ≡ false) → IsClosed p along row × HasGrown p along n before row
+  pub spreading_ends : (row waiting : List ℕ) (first : ℕ) → IsSpreading p along n before row waiting first
+      → ((i : ℕ) → first ≤ i → has waiting i ≡ false) → IsClosed p along row × HasGrown p along n before row
   spreading_ends row waiting first s none = (
     (λ e followed x. s.closed e followed x (idle e.from (has waiting (node_index e.from)) refl)),
     record { kept = s.kept; node = s.node; reached = s.reached },

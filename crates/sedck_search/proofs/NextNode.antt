@@ -14,7 +14,8 @@ record IsFirstWord (words : List ℕ) (from j word : ℕ) : Type 0 where
   before : (k : ℕ) → k < 64 → 64 * j + k < from → bit_at word k ≡ 0
   none : (i : ℕ) → from ≤ i → i < 64 * j → has words i ≡ false
 
-none_in : (words : List ℕ) (from j word : ℕ) → IsFirstWord words from j word → (low : ℕ) → low ≤ 64 → ((k : ℕ) → k < low → bit_at word k ≡ 0) → (i : ℕ) → from ≤ i → i < 64 * j + low → has words i ≡ false
+none_in : (words : List ℕ) (from j word : ℕ) → IsFirstWord words from j word → (low : ℕ) → low ≤ 64 → ((k : ℕ) → k < low → bit_at word k ≡ 0)
+    → (i : ℕ) → from ≤ i → i < 64 * j + low → has words i ≡ false
 none_in words from j word first low within zeroes i above below = elim (cases_lt i (64 * j)) [
   | inl less ↦ first.none i above less
   | inr more ↦ in_word more
@@ -36,9 +37,14 @@ positive zero h = absurd (h refl)
 positive (suc m) h = omega arith
 
 -- the place of the word's lowest bit
-next_at : (words : List ℕ) (from j word : ℕ) → IsFirstWord words from j word → j < 128 → (low : ℕ) → low < 64 → bit_at word low ≡ 1 → ((k : ℕ) → k < low → bit_at word k ≡ 0) → IsNext words from (64 * j + low)
-next_at words from j word first inside low within some none =
-    (above, omega (arith, inside, within), has_at words j low true within (first.same low within above ∙ some), none_in words from j word first low (omega (arith, within)) none)
+next_at : (words : List ℕ) (from j word : ℕ) → IsFirstWord words from j word → j < 128 → (low : ℕ) → low < 64 → bit_at word low ≡ 1
+    → ((k : ℕ) → k < low → bit_at word k ≡ 0) → IsNext words from (64 * j + low)
+next_at words from j word first inside low within some none = (
+  above,
+  omega (arith, inside, within),
+  has_at words j low true within (first.same low within above ∙ some),
+  none_in words from j word first low (omega (arith, within)) none,
+)
   where
     above : from ≤ 64 * j + low
     above = elim (cases_lt (64 * j + low) from) [
@@ -46,7 +52,8 @@ next_at words from j word first inside low within some none =
       | inr more ↦ more
     ]
 
-next_in_word : (words : List ℕ) (from j word : ℕ) → IsFirstWord words from j word → j < 128 → word < 2 ^ 64 → word ≢ 0 → IsNext words from (64 * j + trailing_zeros w64 word)
+next_in_word : (words : List ℕ) (from j word : ℕ) → IsFirstWord words from j word → j < 128 → word < 2 ^ 64 → word ≢ 0
+    → IsNext words from (64 * j + trailing_zeros w64 word)
 next_in_word words from j word first inside small some =
     let lowest = bit_at-trailing_zeros w64 word (positive word some) small in
     next_at words from j word first inside (trailing_zeros w64 word) lowest.0 lowest.1 lowest.2
@@ -88,24 +95,28 @@ first_next words row from is good inside some =
 pub first_none : (words row : List ℕ) (from : ℕ) → words ≡ row → from_bit (slice_index words (from / 64)) (from % 64) ≡ 0
     → (i : ℕ) → from ≤ i → i < 64 * (from / 64 + 1) → has row i ≡ false
 first_none words row from is none i above below =
-    ap (λ r. has r i) (sym is) ∙ none_in_word words from (from / 64) (from_bit (slice_index words (from / 64)) (from % 64)) (first_word words from) none i above below
+    ap (λ r. has r i) (sym is) ∙ none_in_word words from (from / 64) (from_bit (slice_index words (from / 64)) (from % 64))
+    (first_word words from) none i above below
 
 -- ---- The words behind it
 
-later_word : (words row : List ℕ) (from j : ℕ) → words ≡ row → from / 64 + 1 ≤ j → ((i : ℕ) → from ≤ i → i < 64 * j → has row i ≡ false) → IsFirstWord words from j (slice_index words j)
+later_word : (words row : List ℕ) (from j : ℕ) → words ≡ row → from / 64 + 1 ≤ j → ((i : ℕ) → from ≤ i → i < 64 * j → has row i ≡ false)
+    → IsFirstWord words from j (slice_index words j)
 later_word words row from j is behind none = record {
   same = λ k _ _. refl;
   before = λ k _ below. absurd (omega (arith, behind, below));
   none = λ i above below. ap (λ r. has r i) is ∙ none i above below;
 }
 
-pub later_next : (words row : List ℕ) (from j : ℕ) → words ≡ row → IsRow words → j < 128 → from / 64 + 1 ≤ j → ((i : ℕ) → from ≤ i → i < 64 * j → has row i ≡ false) → slice_index words j ≢ 0
+pub later_next : (words row : List ℕ) (from j : ℕ) → words ≡ row → IsRow words → j < 128 → from / 64 + 1 ≤ j
+    → ((i : ℕ) → from ≤ i → i < 64 * j → has row i ≡ false) → slice_index words j ≢ 0
     → IsNext row from (64 * j + trailing_zeros w64 (slice_index words j))
 later_next words row from j is good inside behind none some =
     subst (λ r. IsNext r from (64 * j + trailing_zeros w64 (slice_index words j))) is
     (next_in_word words from j (slice_index words j) (later_word words row from j is behind none) inside (word_below words good j inside) some)
 
-pub later_none : (words row : List ℕ) (from j : ℕ) → words ≡ row → from / 64 + 1 ≤ j → ((i : ℕ) → from ≤ i → i < 64 * j → has row i ≡ false) → slice_index words j ≡ 0
+pub later_none : (words row : List ℕ) (from j : ℕ) → words ≡ row → from / 64 + 1 ≤ j → ((i : ℕ) → from ≤ i → i < 64 * j → has row i ≡ false)
+    → slice_index words j ≡ 0
     → (i : ℕ) → from ≤ i → i < 64 * (j + 1) → has row i ≡ false
 later_none words row from j is behind none zeroes i above below =
     ap (λ r. has r i) (sym is) ∙ none_in_word words from j (slice_index words j) (later_word words row from j is behind none) zeroes i above below

@@ -57,7 +57,8 @@ module _ (p : Program) where
     reaches_from n e flow followed = subst (λ m. Reaches p along m e.to) flow.1 (reaches_edge e (flow.0, followed))
 
     -- what a node of a closed row reaches is in the row
-    pub closed_reaches : (row : List ℕ) → IsClosed p along row → (path : List (Kind × Node)) (n m : Node) → IsPath p n path m → AreFollowed along path → IsIn row n → IsIn row m
+    pub closed_reaches : (row : List ℕ) → IsClosed p along row → (path : List (Kind × Node)) (n m : Node) → IsPath p n path m → AreFollowed along path
+        → IsIn row n → IsIn row m
     closed_reaches row closed [] n m is followed h = subst (IsIn row) is h
     closed_reaches row closed (edge ∷ path) n m is followed h =
         closed_reaches row closed path edge.1 m is.1 followed.1 (closed (record { from = n; to = edge.1; kind = edge.0 }) (is.0, followed.0) h)

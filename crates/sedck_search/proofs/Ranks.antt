@@ -29,23 +29,26 @@ use Rattle.sedck_search.proofs.Counts.{count_falls}
 use Rattle.sedck_search.proofs.WayLemmas.{way_at}
 use Rattle.sedck_search.proofs.Loops.{count_of, reachable_on}
 
-
 pub ranks_from-length : (firsts seconds : List ℕ) → length firsts ≡ length seconds → length (ranks_from firsts seconds) ≡ length firsts
 ranks_from-length [] seconds e = refl
 ranks_from-length (f ∷ firsts) [] e = absurd (omega (arith, e))
 ranks_from-length (f ∷ firsts) (s ∷ seconds) e = ap suc (ranks_from-length firsts seconds (let e' : length firsts ≡ length seconds = omega (arith, e) in e'))
 
-pub ranks_from-push : (firsts seconds : List ℕ) (first second : ℕ) → length firsts ≡ length seconds → ranks_from (firsts ++ first ∷ []) (seconds ++ second ∷ []) ≡ ranks_from firsts seconds ++ ranks_of_counts first second ∷ []
+pub ranks_from-push : (firsts seconds : List ℕ) (first second : ℕ) → length firsts ≡ length seconds
+    → ranks_from (firsts ++ first ∷ []) (seconds ++ second ∷ []) ≡ ranks_from firsts seconds ++ ranks_of_counts first second ∷ []
 ranks_from-push [] [] first second e = refl
 ranks_from-push [] (s ∷ seconds) first second e = absurd (omega (arith, e))
 ranks_from-push (f ∷ firsts) [] first second e = absurd (omega (arith, e))
-ranks_from-push (f ∷ firsts) (s ∷ seconds) first second e = ap (λ l. ranks_of_counts f s ∷ l) (ranks_from-push firsts seconds first second (let e' : length firsts ≡ length seconds = omega (arith, e) in e'))
+ranks_from-push (f ∷ firsts) (s ∷ seconds) first second e =
+    ap (λ l. ranks_of_counts f s ∷ l) (ranks_from-push firsts seconds first second (let e' : length firsts ≡ length seconds = omega (arith, e) in e'))
 
 -- the ranks at a place are of the counts there
-ranks_from-get : (firsts seconds : List ℕ) (i first second : ℕ) → slice_get firsts i ≡ Some first → slice_get seconds i ≡ Some second → slice_get (ranks_from firsts seconds) i ≡ Some (ranks_of_counts first second)
+ranks_from-get : (firsts seconds : List ℕ) (i first second : ℕ) → slice_get firsts i ≡ Some first → slice_get seconds i ≡ Some second
+    → slice_get (ranks_from firsts seconds) i ≡ Some (ranks_of_counts first second)
 ranks_from-get [] seconds i first second e e' = cc
 ranks_from-get (f ∷ firsts) [] i first second e e' = cc
-ranks_from-get (f ∷ firsts) (s ∷ seconds) zero first second e e' = ap Some (ap (λ n. ranks_of_counts n s) (same_Some _ _ e) ∙ ap (ranks_of_counts first) (same_Some _ _ e'))
+ranks_from-get (f ∷ firsts) (s ∷ seconds) zero first second e e' =
+    ap Some (ap (λ n. ranks_of_counts n s) (same_Some _ _ e) ∙ ap (ranks_of_counts first) (same_Some _ _ e'))
 ranks_from-get (f ∷ firsts) (s ∷ seconds) (suc i) first second e e' = ranks_from-get firsts seconds i first second e e'
 
 pub positive_ranks : (first second : ℕ) → 0 < first → ranks_of_counts first second ≡ Some (first, second)
@@ -58,14 +61,17 @@ module _ (p : Program) (script : IsScript p) (firsts seconds : List ℕ) (are_fi
 
   module _ (c : Certificate) (is_ranks : c.ranks ≡ ranks_from firsts seconds) where
     -- a node that can be reached has its counts as ranks
-    counts_at : (n : Node) (first second : ℕ) → slice_get firsts (node_index n) ≡ Some first → slice_get seconds (node_index n) ≡ Some second → ranks_at c n ≡ ranks_of_counts first second
-    counts_at n first second f s = ap (λ ranks. option_flatten (slice_get ranks (node_index n))) is_ranks ∙ ap option_flatten (ranks_from-get firsts seconds (node_index n) first second f s)
+    counts_at : (n : Node) (first second : ℕ) → slice_get firsts (node_index n) ≡ Some first → slice_get seconds (node_index n) ≡ Some second
+        → ranks_at c n ≡ ranks_of_counts first second
+    counts_at n first second f s = ap (λ ranks. option_flatten (slice_get ranks (node_index n))) is_ranks
+        ∙ ap option_flatten (ranks_from-get firsts seconds (node_index n) first second f s)
 
     ranks_of_node : (n : Node) (f : HasCount p Unread firsts n) (s : HasCount p Kept seconds n) → ranks_at c n ≡ Some (f.count, s.count)
     ranks_of_node n f s = counts_at n f.count s.count f.at s.at ∙ positive_ranks f.count s.count f.positive
 
     module _ (idle : (e : Edge) → ¬ Closes p Keep seconds e) (growing : (e : Edge) → ¬ Closes p Grow firsts e) where
-      module _ (e : Edge) (flow : Flow p e) (f : HasCount p Unread firsts e.from) (s : HasCount p Kept seconds e.from) (f' : HasCount p Unread firsts e.to) (s' : HasCount p Kept seconds e.to) where
+      module _ (e : Edge) (flow : Flow p e) (f : HasCount p Unread firsts e.from) (s : HasCount p Kept seconds e.from)
+          (f' : HasCount p Unread firsts e.to) (s' : HasCount p Kept seconds e.to) where
         first_falls : (e.kind ≡ Consume → ⊥) → f'.count ≤ f.count
         first_falls unread = count_falls p Unread e.from e.to f.count f'.count f.is_count f'.is_count (reaches_edge p Unread e (flow, unread))
 
@@ -74,7 +80,8 @@ module _ (p : Program) (script : IsScript p) (firsts seconds : List ℕ) (are_fi
           | inl less ↦ less
           | inr more ↦
               let same : f'.count ≡ f.count = omega (arith, more, first_falls (λ reads. differ Grow Consume (sym grows ∙ reads))) in
-              absurd (growing e (record { is_edge = flow; is_kind = grows; count = f.count; positive = f.positive; before = f.at; after = f'.at ∙ ap Some same }))
+              absurd (growing e
+              (record { is_edge = flow; is_kind = grows; count = f.count; positive = f.positive; before = f.at; after = f'.at ∙ ap Some same }))
         ]
           where
             differ : (k l : Kind) → Grow ≡ Consume → ⊥
@@ -84,7 +91,11 @@ module _ (p : Program) (script : IsScript p) (firsts seconds : List ℕ) (are_fi
         second_lower keeps = elim (cases_lt s'.count s.count) [
           | inl less ↦ less
           | inr more ↦
-              let same : s'.count ≡ s.count = omega (arith, more, count_falls p Kept e.from e.to s.count s'.count s.is_count s'.is_count (reaches_edge p Kept e (flow, keeps))) in
+              let same : s'.count ≡ s.count = omega (
+                arith,
+                more,
+                count_falls p Kept e.from e.to s.count s'.count s.is_count s'.is_count (reaches_edge p Kept e (flow, keeps)),
+              ) in
               absurd (idle e (record { is_edge = flow; is_kind = keeps; count = s.count; positive = s.positive; before = s.at; after = s'.at ∙ ap Some same }))
         ]
 
@@ -100,7 +111,8 @@ module _ (p : Program) (script : IsScript p) (firsts seconds : List ℕ) (are_fi
             apart same = cc
         lowers Grow is = first_lower is
 
-      meets_from : (e : Edge) → Flow p e → (IsReachable p e.from × HasCount p Unread firsts e.from) ⊎ HasNoCount p firsts e.from → (before : ℕ × ℕ) → ranks_at c e.from ≡ Some before
+      meets_from : (e : Edge) → Flow p e → (IsReachable p e.from × HasCount p Unread firsts e.from) ⊎ HasNoCount p firsts e.from → (before : ℕ × ℕ)
+          → ranks_at c e.from ≡ Some before
           → (after : ℕ × ℕ) × (ranks_at c e.to ≡ Some after) × Lowers e.kind before after
       meets_from e flow (inl (reachable, f)) before has =
           let s = count_of p script Kept seconds are_seconds e.from reachable in
@@ -137,17 +149,20 @@ module _ (p : Program) (script : IsScript p) (firsts seconds : List ℕ) (are_fi
 
     -- ---- The certificate is within the limits
 
-    within : (firsts' seconds' : List ℕ) → ((i : ℕ) → get_or firsts' i 0 ≤ 65535) → ((i : ℕ) → get_or seconds' i 0 ≤ 65535) → All AreWithin (ranks_from firsts' seconds')
+    within : (firsts' seconds' : List ℕ) → ((i : ℕ) → get_or firsts' i 0 ≤ 65535) → ((i : ℕ) → get_or seconds' i 0 ≤ 65535)
+        → All AreWithin (ranks_from firsts' seconds')
     within [] seconds' f s = All-nil AreWithin
     within (first ∷ firsts') [] f s = All-nil AreWithin
     within (first ∷ firsts') (second ∷ seconds') f s =
-        All-cons AreWithin (ranks_of_counts first second) (ranks_from firsts' seconds') (one first second (f 0) (s 0)) (within firsts' seconds' (λ i. f (suc i)) (λ i. s (suc i)))
+        All-cons AreWithin (ranks_of_counts first second) (ranks_from firsts' seconds') (one first second (f 0) (s 0))
+        (within firsts' seconds' (λ i. f (suc i)) (λ i. s (suc i)))
       where
         one : (a b : ℕ) → a ≤ 65535 → b ≤ 65535 → AreWithin (ranks_of_counts a b)
         one zero b x y = tt
         one (suc a) b x y = (x, y)
 
-    pub counts_certificate : ((i : ℕ) → get_or firsts i 0 ≤ 65535) → ((i : ℕ) → get_or seconds i 0 ≤ 65535) → c.commands ≡ length p.commands → c.reads ≡ reads p → c.writes ≡ writes p → IsCertificate c
+    pub counts_certificate : ((i : ℕ) → get_or firsts i 0 ≤ 65535) → ((i : ℕ) → get_or seconds i 0 ≤ 65535) → c.commands ≡ length p.commands
+        → c.reads ≡ reads p → c.writes ≡ writes p → IsCertificate c
     counts_certificate f s is_commands is_reads is_writes = record {
       commands = omega (arith, is_commands, script.count);
       nodes = ap length is_ranks ∙ ranks_from-length firsts seconds same_length ∙ are_firsts.long ∙ ap node_count (sym is_commands);

@@ -88,7 +88,8 @@ with_bit words node = bit_or (slice_index words (node / 64)) (1 * 2 ^ (node % 64
 pub inserted_row : (words : List ℕ) (node : ℕ) → node < 8192 → IsRow words → IsRow (set words (node / 64) (with_bit words node))
 inserted_row words node l row =
     let bit : 1 * 2 ^ (node % 64) % 2 ^ 64 < 2 ^ 64 = omega arith in
-    changed_row words (node / 64) (with_bit words node) (or_lt 64 (slice_index words (node / 64)) (1 * 2 ^ (node % 64) % 2 ^ 64) (word_below words row (node / 64) (omega arith)) bit) row
+    changed_row words (node / 64) (with_bit words node)
+    (or_lt 64 (slice_index words (node / 64)) (1 * 2 ^ (node % 64) % 2 ^ 64) (word_below words row (node / 64) (omega arith)) bit) row
 
 pub inserted : (words : List ℕ) (node : ℕ) → node < 8192 → IsRow words → HasChanged words (set words (node / 64) (with_bit words node)) node true
 inserted words node l row =

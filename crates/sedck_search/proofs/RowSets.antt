@@ -48,20 +48,24 @@ node_inside a row i h = elim (cases_lt (i / 64) 128) [
   | inr more ↦ absurd (false≢true (sym (none_behind a i (omega (arith, more, row.long))) ∙ h))
 ]
 
-ones_less : (a b : List ℕ) → IsRow a → IsRow b → IsWithin a b → (i : ℕ) → i / 64 < 128 → has a i ≡ false → has b i ≡ true → ones_at a (i / 64) < ones_at b (i / 64)
+ones_less : (a b : List ℕ) → IsRow a → IsRow b → IsWithin a b → (i : ℕ) → i / 64 < 128 → has a i ≡ false → has b i ≡ true
+    → ones_at a (i / 64) < ones_at b (i / 64)
 ones_less a b x y h i l none some =
     let low : i % 64 < 64 = omega arith in
-    let bit : bit_at (slice_index a (i / 64)) (i % 64) < bit_at (slice_index b (i / 64)) (i % 64) = omega (arith, at_node a i, at_node b i, ap bit_of none, ap bit_of some) in
+    let bit : bit_at (slice_index a (i / 64)) (i % 64) < bit_at (slice_index b (i / 64)) (i % 64) =
+    omega (arith, at_node a i, at_node b i, ap bit_of none, ap bit_of some) in
     let less = total_less 64 (bit_at (slice_index a (i / 64))) (bit_at (slice_index b (i / 64))) (bits_within a b h (i / 64)) (i % 64) low bit in
     omega (arith, less, ones_total a x (i / 64) l, ones_total b y (i / 64) l)
 
-pub strictly_fewer : (a b : List ℕ) → IsRow a → IsRow b → ((i : ℕ) → has a i ≡ true → has b i ≡ true) → (i : ℕ) → has a i ≡ false → has b i ≡ true → bit_count a < bit_count b
+pub strictly_fewer : (a b : List ℕ) → IsRow a → IsRow b → ((i : ℕ) → has a i ≡ true → has b i ≡ true) → (i : ℕ) → has a i ≡ false → has b i ≡ true
+    → bit_count a < bit_count b
 strictly_fewer a b x y h i none some =
     let inside = node_inside b y i some in
     let less = total_less 128 (ones_at a) (ones_at b) (ones_within a b x y h) (i / 64) inside (ones_less a b x y h i inside none some) in
     omega (arith, less, count_total a x, count_total b y)
 
-pub same_nodes : (a b : List ℕ) → IsRow a → IsRow b → ((i : ℕ) → has a i ≡ true → has b i ≡ true) → bit_count a ≡ bit_count b → (i : ℕ) → has b i ≡ true → has a i ≡ true
+pub same_nodes : (a b : List ℕ) → IsRow a → IsRow b → ((i : ℕ) → has a i ≡ true → has b i ≡ true) → bit_count a ≡ bit_count b → (i : ℕ)
+    → has b i ≡ true → has a i ≡ true
 same_nodes a b x y h same i some = go (has a i) refl
   where
     go : (found : Bool) → has a i ≡ found → has a i ≡ true
@@ -81,7 +85,8 @@ count_within a row =
 
 -- ---- One node more or less
 
-one_more : (a b : List ℕ) → IsRow a → IsRow b → (node : ℕ) → has a node ≡ false → has b node ≡ true → ((i : ℕ) → i ≢ node → has b i ≡ has a i) → bit_count b ≡ suc (bit_count a)
+one_more : (a b : List ℕ) → IsRow a → IsRow b → (node : ℕ) → has a node ≡ false → has b node ≡ true → ((i : ℕ) → i ≢ node → has b i ≡ has a i)
+    → bit_count b ≡ suc (bit_count a)
 one_more a b x y node none some others =
     let inside = node_inside b y node some in
     count_total b y ∙ total_one_more 128 (ones_at a) (ones_at b) (node / 64) inside other_words (in_word inside) ∙ ap suc (sym (count_total a x))
@@ -91,14 +96,17 @@ one_more a b x y node none some others =
 
     other_words : (j : ℕ) → j < 128 → j ≢ node / 64 → ones_at a j ≡ ones_at b j
     other_words j l other =
-        ones_total a x j l ∙ total_same 64 (bit_at (slice_index a j)) (bit_at (slice_index b j)) (λ k low. same_bit j k low (λ e. other (omega (arith, e, low)))) ∙ sym (ones_total b y j l)
+        ones_total a x j l ∙ total_same 64 (bit_at (slice_index a j)) (bit_at (slice_index b j))
+        (λ k low. same_bit j k low (λ e. other (omega (arith, e, low)))) ∙ sym (ones_total b y j l)
 
     in_word : node / 64 < 128 → ones_at b (node / 64) ≡ suc (ones_at a (node / 64))
     in_word inside =
         let low : node % 64 < 64 = omega arith in
-        let bit : bit_at (slice_index b (node / 64)) (node % 64) ≡ suc (bit_at (slice_index a (node / 64)) (node % 64)) = omega (arith, at_node a node, at_node b node, ap bit_of none, ap bit_of some) in
+        let bit : bit_at (slice_index b (node / 64)) (node % 64) ≡ suc (bit_at (slice_index a (node / 64)) (node % 64)) =
+        omega (arith, at_node a node, at_node b node, ap bit_of none, ap bit_of some) in
         ones_total b y (node / 64) inside
-        ∙ total_one_more 64 (bit_at (slice_index a (node / 64))) (bit_at (slice_index b (node / 64))) (node % 64) low (λ k l other. same_bit (node / 64) k l (λ e. other (omega (arith, e, l)))) bit
+        ∙ total_one_more 64 (bit_at (slice_index a (node / 64))) (bit_at (slice_index b (node / 64))) (node % 64) low
+        (λ k l other. same_bit (node / 64) k l (λ e. other (omega (arith, e, l)))) bit
         ∙ ap suc (sym (ones_total a x (node / 64) inside))
 
 pub inserted_count : (a b : List ℕ) → IsRow a → IsRow b → (i : ℕ) → HasChanged a b i true → has a i ≡ false → bit_count b ≡ suc (bit_count a)

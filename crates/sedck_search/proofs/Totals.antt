@@ -39,7 +39,8 @@ total_less (suc n) f g h zero l less =
     omega (arith, less, others)
 total_less (suc n) f g h (suc m) l less =
     let first : f 0 ≤ g 0 = h 0 (omega arith) in
-    let others : total (λ i. f (suc i)) n < total (λ i. g (suc i)) n = total_less n (λ i. f (suc i)) (λ i. g (suc i)) (λ i l. h (suc i) (omega arith)) m (omega arith) less in
+    let others : total (λ i. f (suc i)) n < total (λ i. g (suc i)) n =
+    total_less n (λ i. f (suc i)) (λ i. g (suc i)) (λ i l. h (suc i) (omega arith)) m (omega arith) less in
     omega (arith, first, others)
 
 -- where one summand is larger by one and all others are the same
@@ -47,7 +48,8 @@ pub total_one_more : (n : ℕ) (f g : ℕ → ℕ) (m : ℕ) → m < n → ((i :
 unfolding total
 total_one_more zero f g m l h more = absurd (omega arith)
 total_one_more (suc n) f g zero l h more =
-    let others : total (λ i. f (suc i)) n ≡ total (λ i. g (suc i)) n = total_same n (λ i. f (suc i)) (λ i. g (suc i)) (λ i l. h (suc i) (omega arith) (λ e. absurd (omega (arith, e)))) in
+    let others : total (λ i. f (suc i)) n ≡ total (λ i. g (suc i)) n =
+    total_same n (λ i. f (suc i)) (λ i. g (suc i)) (λ i l. h (suc i) (omega arith) (λ e. absurd (omega (arith, e)))) in
     omega (arith, more, others)
 total_one_more (suc n) f g (suc m) l h more =
     let first : f 0 ≡ g 0 = h 0 (omega arith) (λ e. absurd (omega (arith, e))) in
@@ -71,7 +73,8 @@ unfolding total
 word_total zero word small = omega (arith, ones-le 0 word small)
 word_total (suc k) word small =
     let half : word / 2 < 2 ^ k = omega (arith, small, pow-suc 2 k) in
-    let others : total (λ i. bit_at word (suc i)) k ≡ total (bit_at (word / 2)) k = total_same k (λ i. bit_at word (suc i)) (bit_at (word / 2)) (λ i l. bit_at-suc word i) in
+    let others : total (λ i. bit_at word (suc i)) k ≡ total (bit_at (word / 2)) k =
+    total_same k (λ i. bit_at word (suc i)) (bit_at (word / 2)) (λ i l. bit_at-suc word i) in
     ones_step word ∙ ap (λ m. m + count_ones (word / 2)) (sym (bit_at_lowest word)) ∙ ap (λ m. bit_at word 0 + m) (word_total k (word / 2) half ∙ sym others)
 
 -- the words of a row
@@ -94,9 +97,11 @@ bit_count-within words small =
 
 pub bit_count-more : (words : List ℕ) (i : ℕ) → i < length words → bit_count (take (i + 1) words) ≡ bit_count (take i words) + count_ones (slice_index words i)
 bit_count-more words i l =
-    ap bit_count (take_more words i 0 l) ∙ bit_count-append (take i words) (slice_index words i ∷ []) ∙ ap (λ m. bit_count (take i words) + m) (add-zero (count_ones (slice_index words i)))
+    ap bit_count (take_more words i 0 l) ∙ bit_count-append (take i words) (slice_index words i ∷ [])
+    ∙ ap (λ m. bit_count (take i words) + m) (add-zero (count_ones (slice_index words i)))
 
 pub bit_count-take : (words : List ℕ) (i : ℕ) → bit_count (take i words) ≤ bit_count words
 bit_count-take words i =
-    let whole : bit_count (take i words) + bit_count (drop i words) ≡ bit_count words = sym (bit_count-append (take i words) (drop i words)) ∙ ap bit_count (take-append-drop i words) in
+    let whole : bit_count (take i words) + bit_count (drop i words) ≡ bit_count words = sym (bit_count-append (take i words) (drop i words))
+    ∙ ap bit_count (take-append-drop i words) in
     omega (arith, whole)

@@ -21,23 +21,29 @@ use Rattle.sedck_search.proofs.Paths.{path-append, followed-append}
 use Rattle.sedck_search.proofs.WayLemmas.{way_least}
 
 -- one edge more at the end
-walk_edges-push : (nodes : List Node) (kinds : List Kind) (node : Node) (kind : Kind) → length nodes ≡ suc (length kinds) → walk_edges (nodes ++ node ∷ []) (kinds ++ kind ∷ []) ≡ walk_edges nodes kinds ++ (kind, node) ∷ []
+walk_edges-push : (nodes : List Node) (kinds : List Kind) (node : Node) (kind : Kind) → length nodes ≡ suc (length kinds)
+    → walk_edges (nodes ++ node ∷ []) (kinds ++ kind ∷ []) ≡ walk_edges nodes kinds ++ (kind, node) ∷ []
 walk_edges-push [] kinds node kind e = absurd (omega (arith, e))
 walk_edges-push (first ∷ []) [] node kind e = refl
 walk_edges-push (first ∷ []) (k ∷ kinds) node kind e = absurd (omega (arith, e))
 walk_edges-push (first ∷ next ∷ nodes) [] node kind e = absurd (omega (arith, e))
-walk_edges-push (first ∷ next ∷ nodes) (k ∷ kinds) node kind e = ap (λ edges. (k, next) ∷ edges) (walk_edges-push (next ∷ nodes) kinds node kind (let e' : length (next ∷ nodes) ≡ suc (length kinds) = omega (arith, e) in e'))
+walk_edges-push (first ∷ next ∷ nodes) (k ∷ kinds) node kind e =
+    ap (λ edges. (k, next) ∷ edges) (walk_edges-push (next ∷ nodes) kinds node kind
+    (let e' : length (next ∷ nodes) ≡ suc (length kinds) = omega (arith, e) in e'))
 
-pub walk-push : (nodes : List Node) (kinds : List Kind) (n : Node) (walk : List (Kind × Node)) (node : Node) (kind : Kind) → IsWalk nodes kinds n walk → IsWalk (nodes ++ node ∷ []) (kinds ++ kind ∷ []) n (walk ++ (kind, node) ∷ [])
+pub walk-push : (nodes : List Node) (kinds : List Kind) (n : Node) (walk : List (Kind × Node)) (node : Node) (kind : Kind) → IsWalk nodes kinds n walk
+    → IsWalk (nodes ++ node ∷ []) (kinds ++ kind ∷ []) n (walk ++ (kind, node) ∷ [])
 walk-push nodes kinds n walk node kind w = record {
   rest = w.rest ++ node ∷ [];
   begins = ap (λ l. l ++ node ∷ []) w.begins;
-  counts = length-append nodes (node ∷ []) ∙ ap (λ k. k + 1) w.counts ∙ (let e : suc (length kinds) + 1 ≡ suc (length kinds + 1) = omega arith in e) ∙ ap suc (sym (length-append kinds (kind ∷ [])));
+  counts = length-append nodes (node ∷ []) ∙ ap (λ k. k + 1) w.counts ∙ (let e : suc (length kinds) + 1 ≡ suc (length kinds + 1) = omega arith in e)
+      ∙ ap suc (sym (length-append kinds (kind ∷ [])));
   edges = ap (λ l. l ++ (kind, node) ∷ []) w.edges ∙ sym (walk_edges-push nodes kinds node kind w.counts);
 }
 
 -- the walk so far: a first edge, and edges back that come nearer by one each time
-pub record IsWalking (p : Program) (along : Along) (ways : List ℕ) (first : Edge) (nodes : List Node) (kinds : List Kind) (at : Node) (step left : ℕ) : Type 0 where
+pub record IsWalking (p : Program) (along : Along) (ways : List ℕ) (first : Edge) (nodes : List Node) (kinds : List Kind) (at : Node)
+    (step left : ℕ) : Type 0 where
   pub walked : List (Kind × Node)
   pub written : IsWalk nodes kinds first.from ((first.kind, first.to) ∷ walked)
   pub path : IsPath p first.to walked at
@@ -47,7 +53,8 @@ pub record IsWalking (p : Program) (along : Along) (ways : List ℕ) (first : Ed
   pub inside : at.at ≤ length p.commands
 
 module _ (p : Program) (script : IsScript p) (along : Along) (ways : List ℕ) (first : Edge) where
-  pub walking_begins : Flow p first → (left : ℕ) → HasWay ways first.to left → IsWalking p along ways first (first.from ∷ first.to ∷ []) (first.kind ∷ []) first.to 0 left
+  pub walking_begins : Flow p first → (left : ℕ) → HasWay ways first.to left
+      → IsWalking p along ways first (first.from ∷ first.to ∷ []) (first.kind ∷ []) first.to 0 left
   walking_begins flows left has = record {
     walked = [];
     written = record { rest = first.to ∷ []; begins = refl; counts = refl; edges = refl };
@@ -58,28 +65,33 @@ module _ (p : Program) (script : IsScript p) (along : Along) (ways : List ℕ) (
     inside = (inside p script.targets first flows).1;
   }
 
-  pub walking_goes_on : (nodes : List Node) (kinds : List Kind) (at : Node) (step left left' : ℕ) (e : Edge) → IsWalking p along ways first nodes kinds at step left → FollowedEdge p along e → e.from ≡ at → HasWay ways e.to left'
+  pub walking_goes_on : (nodes : List Node) (kinds : List Kind) (at : Node) (step left left' : ℕ) (e : Edge)
+      → IsWalking p along ways first nodes kinds at step left → FollowedEdge p along e → e.from ≡ at → HasWay ways e.to left'
       → IsWalking p along ways first (nodes ++ e.to ∷ []) (kinds ++ e.kind ∷ []) e.to (step + 1) left'
   walking_goes_on nodes kinds at step left left' e w edge leaves has = record {
     walked = w.walked ++ (e.kind, e.to) ∷ [];
     written = walk-push nodes kinds first.from ((first.kind, first.to) ∷ w.walked) e.to e.kind w.written;
-    path = path-append p first.to at e.to w.walked ((e.kind, e.to) ∷ []) w.path (subst (λ k. Flow p (record { from = k; to = e.to; kind = e.kind })) leaves edge.0, refl);
+    path = path-append p first.to at e.to w.walked ((e.kind, e.to) ∷ []) w.path
+        (subst (λ k. Flow p (record { from = k; to = e.to; kind = e.kind })) leaves edge.0, refl);
     followed = followed-append p along w.walked ((e.kind, e.to) ∷ []) w.followed (edge.1, tt);
     long = length-append w.walked ((e.kind, e.to) ∷ []) ∙ ap (λ k. k + 1) w.long;
     has_way = has;
     inside = (inside p script.targets e edge.0).1;
   }
 
-
 -- a nearest edge has a way back
-pub near_small : (p : Program) → IsScript p → (form : Form) (closing first : Edge) (ways : List ℕ) → AreWays p (way_back form) closing.from ways → IsClosing p form closing → (near : IsNearest p ways closing first) → near.way < 65535
+pub near_small : (p : Program) → IsScript p → (form : Form) (closing first : Edge) (ways : List ℕ) → AreWays p (way_back form) closing.from ways
+    → IsClosing p form closing → (near : IsNearest p ways closing first) → near.way < 65535
 near_small p script form closing first ways are_ways closes near =
-    let back = way_least p script (way_back form) closing.from ways are_ways closes.back.0 closing.to closes.back.1 closes.back.2 (inside p script.targets closing closes.is_edge).1 in
+    let back = way_least p script (way_back form) closing.from ways are_ways closes.back.0 closing.to closes.back.1 closes.back.2
+    (inside p script.targets closing closes.is_edge).1 in
     omega (arith, near.nearest closing closes.is_edge refl refl back.0 back.1, back.3)
 
 -- back at the node the walk is closed, and none is shorter
-pub shortest_loop : (p : Program) → IsScript p → (form : Form) (closing first : Edge) (ways : List ℕ) (nodes : List Node) (kinds : List Kind) (at : Node) (step : ℕ) (w : Walk)
-    → AreWays p (way_back form) closing.from ways → IsClosing p form closing → (near : IsNearest p ways closing first) → IsWalking p (way_back form) ways first nodes kinds at step 0 → step ≡ near.way
+pub shortest_loop : (p : Program) → IsScript p → (form : Form) (closing first : Edge) (ways : List ℕ) (nodes : List Node) (kinds : List Kind)
+    (at : Node) (step : ℕ) (w : Walk)
+    → AreWays p (way_back form) closing.from ways → IsClosing p form closing → (near : IsNearest p ways closing first)
+    → IsWalking p (way_back form) ways first nodes kinds at step 0 → step ≡ near.way
     → w.nodes.items ≡ nodes → w.kinds.items ≡ kinds → w.form ≡ form → IsShortestLoop p form closing.from w
 shortest_loop p script form closing first ways nodes kinds at step w are_ways closes near walking same_step is_nodes is_kinds is_form = record {
   edges = (first.kind, first.to) ∷ walking.walked;
@@ -87,7 +99,10 @@ shortest_loop p script form closing first ways nodes kinds at step w are_ways cl
       (subst (λ l. IsWalk l w.kinds.items first.from ((first.kind, first.to) ∷ walking.walked)) (sym is_nodes)
       (subst (λ l. IsWalk nodes l first.from ((first.kind, first.to) ∷ walking.walked)) (sym is_kinds) walking.written));
   is_form = is_form;
-  closed = (subst (λ n. Flow p (record { from = n; to = first.to; kind = first.kind })) near.leaves near.is_edge, subst (λ n. IsPath p first.to walking.walked n) (are_ways.some.only at walking.has_way) walking.path);
+  closed = (
+    subst (λ n. Flow p (record { from = n; to = first.to; kind = first.kind })) near.leaves near.is_edge,
+    subst (λ n. IsPath p first.to walking.walked n) (are_ways.some.only at walking.has_way) walking.path,
+  );
   begun = (near.is_kind ∙ closes.is_kind, walking.followed);
   shortest = shorter;
 }

@@ -31,7 +31,8 @@ record IsWithout (x : ℕ) (xs ys : List ℕ) : Type 0 where
 contains_more : (y : ℕ) (ys : List ℕ) (v : ℕ) → Contains ys v → Contains (y ∷ ys) v
 contains_more y ys v h = Contains-append_right (y ∷ []) ys v h
 
-without_head : (x y : ℕ) (xs : List ℕ) → Contains (y ∷ xs) x → (Contains xs x → (ys : List ℕ) × IsWithout x xs ys) → (x ≡ y) ⊎ (x ≢ y) → (ys : List ℕ) × IsWithout x (y ∷ xs) ys
+without_head : (x y : ℕ) (xs : List ℕ) → Contains (y ∷ xs) x → (Contains xs x → (ys : List ℕ) × IsWithout x xs ys) → (x ≡ y) ⊎ (x ≢ y)
+    → (ys : List ℕ) × IsWithout x (y ∷ xs) ys
 without_head x y xs h rest (inl same) = (
   xs,
   record {
@@ -65,9 +66,9 @@ longer_than_all (suc k) xs all =
 
 -- ---- Ways
 
-
 -- each node of the script has a way or a mark
-pub way_at : (p : Program) (ways : List ℕ) → length ways ≡ node_count (length p.commands) → (n : Node) → n.at ≤ length p.commands → (way : ℕ) × HasWay ways n way
+pub way_at : (p : Program) (ways : List ℕ) → length ways ≡ node_count (length p.commands) → (n : Node) → n.at ≤ length p.commands
+    → (way : ℕ) × HasWay ways n way
 way_at p ways long n inside =
     let below : node_index n < length ways = omega (arith, long, index_below n (length p.commands) inside) in
     (get_or ways (node_index n) 0, slice_get-get_or ways (node_index n) 0 below)
@@ -80,13 +81,16 @@ abbrev pub first_way : ℕ → ℕ → ℕ
 first_way to i = if eqb i to then 0 else 65535
 
 first_way-zero : (to i : ℕ) → first_way to i ≡ 0 → i ≡ to
-first_way-zero to i e = elim (cases_eq i to) [ inl same ↦ same | inr other ↦ absurd (omega (arith, sym e ∙ ap (λ b. if b then 0 else 65535) (ne_eqb i to other))) ]
+first_way-zero to i e =
+    elim (cases_eq i to) [ inl same ↦ same | inr other ↦ absurd (omega (arith, sym e ∙ ap (λ b. if b then 0 else 65535) (ne_eqb i to other))) ]
 
-pub some_ways : (p : Program) (along : Along) (to : Node) (ways : List ℕ) → length ways ≡ node_count (length p.commands) → to.at ≤ length p.commands → ((i : ℕ) → i < length ways → slice_get ways i ≡ Some (first_way (node_index to) i)) → AreSomeWays p along to ways
+pub some_ways : (p : Program) (along : Along) (to : Node) (ways : List ℕ) → length ways ≡ node_count (length p.commands) → to.at ≤ length p.commands
+    → ((i : ℕ) → i < length ways → slice_get ways i ≡ Some (first_way (node_index to) i)) → AreSomeWays p along to ways
 some_ways p along to ways long to_inside entries = record {
   long = long;
   small = λ n way has. bounded (node_index to) (node_index n) way (value n way has);
-  here = entries (node_index to) (omega (arith, long, index_below to (length p.commands) to_inside)) ∙ ap Some (ap (λ b. if b then 0 else 65535) (eqb_same (node_index to)));
+  here = entries (node_index to) (omega (arith, long, index_below to (length p.commands) to_inside))
+      ∙ ap Some (ap (λ b. if b then 0 else 65535) (eqb_same (node_index to)));
   only = λ n has. node_same n to (first_way-zero (node_index to) (node_index n) (value n 0 has));
   on = λ n way has small. absurd (middle (node_index to) (node_index n) way (value n (suc way) has) small);
 }
@@ -109,7 +113,8 @@ some_ways p along to ways long to_inside entries = record {
         by_test false is = omega (arith, sym e ∙ ap (λ b. if b then 0 else 65535) is, small)
 
 -- a way is shortened
-module _ (p : Program) (along : Along) (to : Node) (ways : List ℕ) (h : AreSomeWays p along to ways) (n : Node) (way old : ℕ) (was : HasWay ways n old) (shorter : suc way < old) (goes : GoesOn p along ways n way) where
+module _ (p : Program) (along : Along) (to : Node) (ways : List ℕ) (h : AreSomeWays p along to ways) (n : Node) (way old : ℕ)
+    (was : HasWay ways n old) (shorter : suc way < old) (goes : GoesOn p along ways n way) where
   below : node_index n < length ways
   below = slice_get_within ways (node_index n) old was
 
@@ -139,7 +144,13 @@ module _ (p : Program) (along : Along) (to : Node) (ways : List ℕ) (h : AreSom
   ways_set = record {
     long = length-set ways (node_index n) (suc way) ∙ h.long;
     small = λ m v has. elim (cases_eq (node_index m) (node_index n)) [
-      | inl same ↦ omega (arith, same_Some _ _ (sym (set_same ways (node_index n) (suc way) below) ∙ ap (slice_get (set ways (node_index n) (suc way))) (sym same) ∙ has), shorter, h.small n old was)
+      | inl same ↦ omega (
+        arith,
+        same_Some _ _ (sym (set_same ways (node_index n) (suc way) below) ∙ ap (slice_get (set ways (node_index n) (suc way))) (sym same)
+            ∙ has),
+        shorter,
+        h.small n old was,
+      )
       | inr other ↦ h.small m v (sym (set_other ways (node_index n) (node_index m) (suc way) other) ∙ has)
     ];
     here = elim (cases_eq (node_index to) (node_index n)) [
@@ -147,13 +158,20 @@ module _ (p : Program) (along : Along) (to : Node) (ways : List ℕ) (h : AreSom
       | inr other ↦ set_other ways (node_index n) (node_index to) (suc way) other ∙ h.here
     ];
     only = λ m has. elim (cases_eq (node_index m) (node_index n)) [
-      | inl same ↦ absurd (omega (arith, same_Some _ _ (sym (set_same ways (node_index n) (suc way) below) ∙ ap (slice_get (set ways (node_index n) (suc way))) (sym same) ∙ has)))
+      | inl same ↦ absurd
+          (omega (
+            arith,
+            same_Some _ _ (sym (set_same ways (node_index n) (suc way) below)
+                ∙ ap (slice_get (set ways (node_index n) (suc way))) (sym same) ∙ has),
+          ))
       | inr other ↦ h.only m (sym (set_other ways (node_index n) (node_index m) (suc way) other) ∙ has)
     ];
     on = λ m v has small. elim (cases_eq (node_index m) (node_index n)) [
       | inl same ↦
-          let is : suc way ≡ suc v = same_Some _ _ (sym (set_same ways (node_index n) (suc way) below) ∙ ap (slice_get (set ways (node_index n) (suc way))) (sym same) ∙ has) in
-          subst₂ (λ k l. GoesOn p along (set ways (node_index n) (suc way)) k l) (sym (node_same m n same)) (let e : way ≡ v = omega (arith, is) in e) (goes_on_set n way goes)
+          let is : suc way ≡ suc v = same_Some _ _ (sym (set_same ways (node_index n) (suc way) below)
+          ∙ ap (slice_get (set ways (node_index n) (suc way))) (sym same) ∙ has) in
+          subst₂ (λ k l. GoesOn p along (set ways (node_index n) (suc way)) k l) (sym (node_same m n same)) (let e : way ≡ v = omega (arith, is) in e)
+          (goes_on_set n way goes)
       | inr other ↦ goes_on_set m v (h.on m v (sym (set_other ways (node_index n) (node_index m) (suc way) other) ∙ has) small)
     ];
   }
@@ -186,7 +204,8 @@ module _ (p : Program) (script : IsScript p) (along : Along) (to : Node) (ways :
   way_below n way has within = omega (arith, longer_than_all way ways (all_below way n has within), h.some.long, script.count)
 
   -- a path to the node gives a way that isn't longer
-  pub way_least : (path : List (Kind × Node)) (n : Node) → IsPath p n path to → AreFollowed along path → n.at ≤ length p.commands → (way : ℕ) × HasWay ways n way × (way ≤ length path) × (way < 65535)
+  pub way_least : (path : List (Kind × Node)) (n : Node) → IsPath p n path to → AreFollowed along path → n.at ≤ length p.commands
+      → (way : ℕ) × HasWay ways n way × (way ≤ length path) × (way < 65535)
   way_least [] n is followed n_inside = (0, subst (λ k. HasWay ways k 0) (sym is) h.some.here, omega arith, omega arith)
   way_least (edge ∷ path) n is followed n_inside =
       let e : Edge = record { from = n; to = edge.1; kind = edge.0 } in
@@ -196,9 +215,12 @@ module _ (p : Program) (script : IsScript p) (along : Along) (to : Node) (ways :
       (here.0, here.1, omega (arith, less, next.2), omega (arith, less, way_below edge.1 next.0 next.1 next.3))
 
 -- one more entry
-pub entries_push : (f : ℕ → ℕ) (xs : List ℕ) (i v : ℕ) → length xs ≡ i → ((j : ℕ) → j < i → slice_get xs j ≡ Some (f j)) → v ≡ f i → (j : ℕ) → j < i + 1 → slice_get (xs ++ v ∷ []) j ≡ Some (f j)
+pub entries_push : (f : ℕ → ℕ) (xs : List ℕ) (i v : ℕ) → length xs ≡ i → ((j : ℕ) → j < i → slice_get xs j ≡ Some (f j)) → v ≡ f i → (j : ℕ)
+    → j < i + 1 → slice_get (xs ++ v ∷ []) j ≡ Some (f j)
 entries_push f [] i v long h is zero below = ap Some (is ∙ ap f (sym long))
 entries_push f [] i v long h is (suc j) below = absurd (omega (arith, long, below))
 entries_push f (x ∷ xs) zero v long h is j below = absurd (omega (arith, long))
 entries_push f (x ∷ xs) (suc i) v long h is zero below = h 0 (omega arith)
-entries_push f (x ∷ xs) (suc i) v long h is (suc j) below = entries_push (λ k. f (suc k)) xs i v (let e : length xs ≡ i = omega (arith, long) in e) (λ k less. h (suc k) (omega (arith, less))) is j (omega (arith, below))
+entries_push f (x ∷ xs) (suc i) v long h is (suc j) below =
+    entries_push (λ k. f (suc k)) xs i v (let e : length xs ≡ i = omega (arith, long) in e) (λ k less. h (suc k) (omega (arith, less))) is j
+    (omega (arith, below))

@@ -95,7 +95,7 @@ fn nearest(script: &Script, closing: Edge, ways: &[u16]) -> Edge
     nearest
 }
 
-/// Whether the edge is of the kind.
+/// Whether the edge is of the kind. A function, so that the comparison is proved once to say it of the kinds.
 fn is_of(edge: Edge, kind: Kind) -> bool
     ensures { IsTrue result ↔ (edge.kind ≡ kind) }
 {

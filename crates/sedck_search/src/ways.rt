@@ -36,7 +36,7 @@ pub(crate) fn ways_to(
 }
 
 /// Shortens the way of each node by the nodes that its edges lead to, from the last node on. It answers whether
-/// any is shorter now.
+/// any is shorter now. `_to` is there for the contract alone: the node that the ways lead to.
 fn shorten_all(script: &Script, along: Along, _to: Node, ways: &mut [u16]) -> bool
     requires script { IsScript script.now }
     requires some { AreSomeWays script.now along _to ways.old }
@@ -55,6 +55,7 @@ fn shorten_all(script: &Script, along: Along, _to: Node, ways: &mut [u16]) -> bo
 }
 
 /// Shortens the way of the node with the place, and answers whether it is shorter now.
+/// `_to` is there for the contract alone.
 fn shorten_at(script: &Script, along: Along, _to: Node, index: usize, ways: &mut [u16]) -> bool
     requires script { IsScript script.now }
     requires inside { index < node_count (length script.now.commands) }

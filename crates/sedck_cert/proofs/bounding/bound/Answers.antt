@@ -5,4 +5,7 @@ use Rattle.sedck_cert.proofs.bounding.bound.Goals as goal
 pub returns-clause-counted : goal.returns-clause-counted
 returns-clause-counted c =
     bounds_runs c.args.script.now c.never_grows.ensures.formed c.args.cert.now c.bound_of.result
-    (record { accepted = c.check.ensures.accepted.0 c.in-Accepted.is; never_grows = c.never_grows.ensures.steady.0 c.if-not-never_grows.false }) c.bound_of.ensures
+    (record {
+      accepted = c.check.ensures.accepted.0 c.in-Accepted.is;
+      never_grows = c.never_grows.ensures.steady.0 c.if-not-never_grows.false;
+    }) c.bound_of.ensures

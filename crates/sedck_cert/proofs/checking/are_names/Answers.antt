@@ -16,9 +16,11 @@ no_name : Bor (List ℕ)
 no_name = record { ref_ptr = (0, 0); now = [] }
 
 -- the listed name and the script's name at this place
-both_at : (names : List (Bor (List ℕ))) (listed : List (Vec ℕ Global)) (k : ℕ) (v : Vec ℕ Global) (d : Bor (List ℕ)) (w : List ℕ) → k < length names → k < length listed → v ≡ get_or listed k v → w ≡ v.items
+both_at : (names : List (Bor (List ℕ))) (listed : List (Vec ℕ Global)) (k : ℕ) (v : Vec ℕ Global) (d : Bor (List ℕ)) (w : List ℕ) → k < length names
+    → k < length listed → v ≡ get_or listed k v → w ≡ v.items
     → (get_or (names_of listed) k [] ≡ w) × (get_or (map (λ name. name.now) names) k [] ≡ (get_or names k d).now)
-both_at names listed k v d w below within is value = (listed_at listed k v within ∙ ap (λ (x : Vec ℕ Global). x.items) (sym is) ∙ sym value, name_at names k d below)
+both_at names listed k v d w below within is value =
+    (listed_at listed k v within ∙ ap (λ (x : Vec ℕ Global). x.items) (sym is) ∙ sym value, name_at names k d below)
 
 pub returns-then-not-is_name : goal.returns-then-not-is_name
 returns-then-not-is_name c =

@@ -5,4 +5,5 @@ use Rattle.sedck_cert.proofs.checking.first_rejection.Goals as goal
 
 -- an edge isn't met
 pub returns-in-Some : goal.returns-in-Some
-returns-in-Some c = edge_rejection c.args.script.now c.args.cert.now c.in-Some.why (record { count = grind (arith, common_steps); start_ranked = grind (arith, common_steps) }) c.in-Some.ensures
+returns-in-Some c = edge_rejection c.args.script.now c.args.cert.now c.in-Some.why
+    (record { count = grind (arith, common_steps); start_ranked = grind (arith, common_steps) }) c.in-Some.ensures

@@ -13,7 +13,8 @@ returns-then-is_some c =
 -- no node is left
 pub returns : goal.returns
 returns c = λ e is_edge.
-    let nodes : length c.args.cert.now.ranks ≡ node_count (length c.args.script.now.commands) = c.ranks-index-end.ensures.certificate.nodes ∙ ap node_count c.requires in
+    let nodes : length c.args.cert.now.ranks ≡ node_count (length c.args.script.now.commands) = c.ranks-index-end.ensures.certificate.nodes
+    ∙ ap node_count c.requires in
     let all : length c.ranks-index-end.result.now ≡ length c.args.cert.now.ranks = ap length c.ranks-index-end.ensures.ranks in
     let below : node_index e.from < c.loop-index.index = omega (arith, leaves_below c.args.script.now e is_edge, nodes, all, c.loop-index-test.false) in
     c.loop-index.invariant e is_edge below

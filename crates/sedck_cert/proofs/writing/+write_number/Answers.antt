@@ -8,10 +8,13 @@ pub returns-then-number-lt10-clause-begun : goal.returns-then-number-lt10-clause
 returns-then-number-lt10-clause-begun g t c = begun_digit c.write_all.result _ _ c.args.number c.if-number-lt10.true c.write_all.ensures.begun
 
 pub returns-in_err-write_number-clause-begun : goal.returns-in_err-write_number-clause-begun
-returns-in_err-write_number-clause-begun g t c = on_err c.from_residual.result _ (begins_digits _ _ c.args.number c.if-number-lt10.false c.ranges.number.fits c.in_err-write_number.ensures.begun)
+returns-in_err-write_number-clause-begun g t c = on_err c.from_residual.result _
+    (begins_digits _ _ c.args.number c.if-number-lt10.false c.ranges.number.fits c.in_err-write_number.ensures.begun)
 
 pub returns-clause-written : goal.returns-clause-written
-returns-clause-written g t c = written_more c.write_all-2.result _ _ _ c.args.number c.if-number-lt10.false c.ranges.number.fits c.in_ok-write_number.ensures.written c.write_all-2.ensures.written
+returns-clause-written g t c =
+    written_more c.write_all-2.result _ _ _ c.args.number c.if-number-lt10.false c.ranges.number.fits c.in_ok-write_number.ensures.written c.write_all-2.ensures.written
 
 pub returns-clause-begun : goal.returns-clause-begun
-returns-clause-begun g t c = begun_more c.write_all-2.result _ _ _ c.args.number c.if-number-lt10.false c.ranges.number.fits c.in_ok-write_number.ensures.written c.write_all-2.ensures.begun
+returns-clause-begun g t c =
+    begun_more c.write_all-2.result _ _ _ c.args.number c.if-number-lt10.false c.ranges.number.fits c.in_ok-write_number.ensures.written c.write_all-2.ensures.begun

@@ -9,27 +9,33 @@ use Rattle.sedck_cli.proofs.engines.run_check.Goals as goal
 pub returns-in_err-verdict-clause-report : goal.returns-in_err-verdict-clause-report
 returns-in_err-verdict-clause-report g c =
     let is = err_is c.from_residual-in_err-verdict.result (run_fault c.in_err-verdict.field-0.0) c.from_residual-in_err-verdict.ensures.1 in
-    let text = is_read 1048577 (g.R.Source.left c.args.script.now) c.deref.result.now _ c.deref.ensures.value c.in_ok-text.ensures.read c.in_ok-text.ensures.within in
+    let text = is_read 1048577
+    (g.R.Source.left c.args.script.now) c.deref.result.now _ c.deref.ensures.value c.in_ok-text.ensures.read c.in_ok-text.ensures.within in
     rw is (refused_report _ _ _ _ _ c.deref.result.now c.deref-2.result.now _ text (refusal _ _ _ c.in_err-verdict.ensures.answer))
 
 pub returns-in_err-verdict-clause-certificate : goal.returns-in_err-verdict-clause-certificate
 returns-in_err-verdict-clause-certificate g c =
     let is = err_is c.from_residual-in_err-verdict.result (run_fault c.in_err-verdict.field-0.0) c.from_residual-in_err-verdict.ensures.1 in
-    let text = is_read 1048577 (g.R.Source.left c.args.script.now) c.deref.result.now _ c.deref.ensures.value c.in_ok-text.ensures.read c.in_ok-text.ensures.within in
-    let bytes = is_read 1310721 (g.C.Source.left c.args.cert.now) c.deref-2.result.now _ c.deref-2.ensures.value c.in_ok-certificate.ensures.read c.in_ok-certificate.ensures.within in
+    let text = is_read 1048577
+    (g.R.Source.left c.args.script.now) c.deref.result.now _ c.deref.ensures.value c.in_ok-text.ensures.read c.in_ok-text.ensures.within in
+    let bytes = is_read 1310721
+    (g.C.Source.left c.args.cert.now) c.deref-2.result.now _ c.deref-2.ensures.value c.in_ok-certificate.ensures.read c.in_ok-certificate.ensures.within in
     rw is (refused_certificate _ _ _ c.deref.result.now c.deref-2.result.now _ text bytes (refusal _ _ _ c.in_err-verdict.ensures.answer))
 
 -- the second reading is refused, which only want of memory can bring about
 pub returns-in_err-report-clause-report : goal.returns-in_err-report-clause-report
 returns-in_err-report-clause-report g c =
     let is = err_is c.from_residual-in_err-report.result c.in_err-report.field-0.0 c.from_residual-in_err-report.ensures.1 in
-    let text = is_read 1048577 (g.R.Source.left c.args.script.now) c.deref-3.result.now _ c.deref-3.ensures.value c.in_ok-text.ensures.read c.in_ok-text.ensures.within in
+    let text = is_read 1048577
+    (g.R.Source.left c.args.script.now) c.deref-3.result.now _ c.deref-3.ensures.value c.in_ok-text.ensures.read c.in_ok-text.ensures.within in
     rw is (refused_report _ _ _ _ _ c.deref-3.result.now c.deref-4.result.now _ text c.in_err-report.ensures.refused)
 
 pub returns-in_default-clause-report : goal.returns-in_default-clause-report
 returns-in_default-clause-report g c =
-    let text = is_read 1048577 (g.R.Source.left c.args.script.now) c.deref.result.now _ c.deref.ensures.value c.in_ok-text.ensures.read c.in_ok-text.ensures.within in
-    let bytes = is_read 1310721 (g.C.Source.left c.args.cert.now) c.deref-2.result.now _ c.deref-2.ensures.value c.in_ok-certificate.ensures.read c.in_ok-certificate.ensures.within in
+    let text = is_read 1048577
+    (g.R.Source.left c.args.script.now) c.deref.result.now _ c.deref.ensures.value c.in_ok-text.ensures.read c.in_ok-text.ensures.within in
+    let bytes = is_read 1310721
+    (g.C.Source.left c.args.cert.now) c.deref-2.result.now _ c.deref-2.ensures.value c.in_ok-certificate.ensures.read c.in_ok-certificate.ensures.within in
     let verdict = c.in_ok-verdict.ensures in
     let same_text = c.deref.ensures.value ∙ sym c.deref-3.ensures.value in
     let same_bytes = c.deref-2.ensures.value ∙ sym c.deref-4.ensures.value in
@@ -49,8 +55,10 @@ returns-in_default-clause-report g c =
 
 pub returns-clause-report : goal.returns-clause-report
 returns-clause-report g c =
-    let text = is_read 1048577 (g.R.Source.left c.args.script.now) c.deref.result.now _ c.deref.ensures.value c.in_ok-text.ensures.read c.in_ok-text.ensures.within in
-    let bytes = is_read 1310721 (g.C.Source.left c.args.cert.now) c.deref-2.result.now _ c.deref-2.ensures.value c.in_ok-certificate.ensures.read c.in_ok-certificate.ensures.within in
+    let text = is_read 1048577
+    (g.R.Source.left c.args.script.now) c.deref.result.now _ c.deref.ensures.value c.in_ok-text.ensures.read c.in_ok-text.ensures.within in
+    let bytes = is_read 1310721
+    (g.C.Source.left c.args.cert.now) c.deref-2.result.now _ c.deref-2.ensures.value c.in_ok-certificate.ensures.read c.in_ok-certificate.ensures.within in
     let verdict = c.in_ok-verdict.ensures in
     let same_text = c.deref.ensures.value ∙ sym c.deref-3.ensures.value in
     let same_bytes = c.deref-2.ensures.value ∙ sym c.deref-4.ensures.value in

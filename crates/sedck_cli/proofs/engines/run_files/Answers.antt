@@ -8,12 +8,14 @@ use Rattle.sedck_cli.proofs.engines.run_files.Goals as goal
 pub returns-in_err-script-clause-report : goal.returns-in_err-script-clause-report
 returns-in_err-script-clause-report g c =
     let is = err_is c.from_residual-in_err-script.result (script_fault c.in_err-script.field-0.0) c.from_residual-in_err-script.ensures.1 in
-    let text = is_read 1048577 (g.R.Source.left c.args.script.now) c.deref.result.now _ c.deref.ensures.value c.in_ok-text.ensures.read c.in_ok-text.ensures.within in
+    let text = is_read 1048577
+    (g.R.Source.left c.args.script.now) c.deref.result.now _ c.deref.ensures.value c.in_ok-text.ensures.read c.in_ok-text.ensures.within in
     rw is (refused_report _ _ _ _ _ c.deref.result.now [] _ text (script_refusal _ [] _ c.in_err-script.ensures.refused))
 
 pub returns-in_default-clause-report : goal.returns-in_default-clause-report
 returns-in_default-clause-report g c =
-    let text = is_read 1048577 (g.R.Source.left c.args.script.now) c.deref.result.now _ c.deref.ensures.value c.in_ok-text.ensures.read c.in_ok-text.ensures.within in
+    let text = is_read 1048577
+    (g.R.Source.left c.args.script.now) c.deref.result.now _ c.deref.ensures.value c.in_ok-text.ensures.read c.in_ok-text.ensures.within in
     let front = c.in_default.ensures.begun in (
       c.in_default.ensures.failure,
       (
@@ -28,5 +30,9 @@ returns-in_default-clause-report g c =
 
 pub returns-clause-report : goal.returns-clause-report
 returns-clause-report g c =
-    let text = is_read 1048577 (g.R.Source.left c.args.script.now) c.deref.result.now _ c.deref.ensures.value c.in_ok-text.ensures.read c.in_ok-text.ensures.within in
-    (c.in_ok-report.report.items, lists_to IsFilesReport _ _ _ c.in_ok-report.report.items text c.in_ok-script.ensures.spelled c.in_ok-script.ensures.only c.in_ok-report.ensures, rw (← c.deref-2.ensures.value) c.in-Ok.ensures.written)
+    let text = is_read 1048577
+    (g.R.Source.left c.args.script.now) c.deref.result.now _ c.deref.ensures.value c.in_ok-text.ensures.read c.in_ok-text.ensures.within in (
+      c.in_ok-report.report.items,
+      lists_to IsFilesReport _ _ _ c.in_ok-report.report.items text c.in_ok-script.ensures.spelled c.in_ok-script.ensures.only c.in_ok-report.ensures,
+      rw (← c.deref-2.ensures.value) c.in-Ok.ensures.written,
+    )

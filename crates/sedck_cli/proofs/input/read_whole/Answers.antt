@@ -8,7 +8,8 @@ use Rattle.sedck_cli.proofs.input.read_whole.Goals.{else-loop-input-test, then-l
 pub loop-input-preserved : goal.loop-input-preserved
 loop-input-preserved g c =
     let items = c.in_ok-extend_from_slice.ensures.items in
-    let within : vec_len c.extend_from_slice.new.self ≤ c.args.limit = grind (arith, common_steps, c.in_ok-extend_from_slice.ensures.len, c.in-Ok.ensures.bound) in
+    let within : vec_len c.extend_from_slice.new.self ≤ c.args.limit =
+    grind (arith, common_steps, c.in_ok-extend_from_slice.ensures.len, c.in-Ok.ensures.bound) in
     (rw items (Consumes-trans _ _ _ _ _ c.loop-input.invariant.0 c.in-Ok.ensures.bytes.0), within, c.loop-input.invariant.2)
 
 pub returns-clause-read : goal.returns-clause-read
@@ -17,6 +18,7 @@ returns-clause-read g c = elim c.loop-input-test.branch [
   | then-loop-input-test+in-Ok+then-count-eq0 w ↦
       let room : 0 < length w.read.new.buf = grind (arith, common_steps, w.min-room.ensures) in
       let read = w.in-Ok.ensures.bytes in
-      read_to_end _ (g.S.Source.left c.loop-input.source) (g.S.Source.left w.read.new.self) _ w.read.new.buf w.in-Ok.count _ c.loop-input.invariant.0 read.0 w.if-count-eq0.true
+      read_to_end _ (g.S.Source.left c.loop-input.source)
+      (g.S.Source.left w.read.new.self) _ w.read.new.buf w.in-Ok.count _ c.loop-input.invariant.0 read.0 w.if-count-eq0.true
       (read.1 w.if-count-eq0.true room) (omega (arith, c.loop-input.bytes.ok.0))
 ]

@@ -15,5 +15,7 @@ returns-in_ok-add_line c =
     let steady : IsSteady c.args.script.now c.args.cert.now = c.in-Some.ensures.steady.0 (search rules) in (
       line (bound_words c.in-Some.bound),
       inl (steady, (c.in-Some.bound, c.in-Some.ensures.numbers, refl)),
-      c.in_ok-add_line.ensures ∙ ap (λ t. c.args.report.now.items ++ line t) (c.as_bytes.ensures.value ∙ c.in_ok-words.ensures.ok ∙ spaced (decimal c.in-Some.bound.per_byte) (decimal c.in-Some.bound.per_line) (decimal c.in-Some.bound.fixed)),
+      c.in_ok-add_line.ensures ∙ ap (λ t. c.args.report.now.items ++ line t)
+          (c.as_bytes.ensures.value ∙ c.in_ok-words.ensures.ok
+          ∙ spaced (decimal c.in-Some.bound.per_byte) (decimal c.in-Some.bound.per_line) (decimal c.in-Some.bound.fixed)),
     )

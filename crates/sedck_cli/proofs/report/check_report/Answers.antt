@@ -15,15 +15,18 @@ use Rattle.sedck_cli.proofs.Answering.{err_is, script_refusal}
 use Rattle.sedck_cli.proofs.report.check_report.Goals as goal
 
 -- a refused certificate, want of memory aside, is no certificate's text
-certificate_refusal : (text bytes : List ℕ) (p : Program) (why : CertFault) → Spells text p → (why ≡ cert.OutOfMemory) ⊎ (((d : Certificate) → IsTextOf bytes d → ⊥) × IsFaultOf bytes why)
+certificate_refusal : (text bytes : List ℕ) (p : Program) (why : CertFault) → Spells text p
+    → (why ≡ cert.OutOfMemory) ⊎ (((d : Certificate) → IsTextOf bytes d → ⊥) × IsFaultOf bytes why)
     → IsRefusal text bytes (run_fault (below.Certificate why))
 certificate_refusal text bytes p cert.OutOfMemory spelled refused = tt
 certificate_refusal text bytes p why spelled (inl memory) = cc
 certificate_refusal text bytes p why spelled (inr none) = (λ is. cc, (p, spelled), none.0)
 
 -- the texts are of one script and of one certificate, so what is reported of these is reported of them
-reported : (text bytes : List ℕ) (p : Program) (c : Certificate) (verdict : Verdict) (report : List ℕ) → ((q : Program) → Spells text q → q ≡ p) → ((d : Certificate) → IsTextOf bytes d → d ≡ c)
-    → verdict ≡ Accepted → IsCheckReport p c Accepted report → (q : Program) (d : Certificate) → Spells text q → IsTextOf bytes d → IsCheckReport q d verdict report
+reported : (text bytes : List ℕ) (p : Program) (c : Certificate) (verdict : Verdict) (report : List ℕ) → ((q : Program) → Spells text q → q ≡ p)
+    → ((d : Certificate) → IsTextOf bytes d → d ≡ c)
+    → verdict ≡ Accepted → IsCheckReport p c Accepted report → (q : Program) (d : Certificate) → Spells text q → IsTextOf bytes d
+    → IsCheckReport q d verdict report
 reported text bytes p c verdict report one_script one_cert accepted is q d spelled written =
     subst (λ r. IsCheckReport r d verdict report) (sym (one_script q spelled))
     (subst (λ e. IsCheckReport p e verdict report) (sym (one_cert d written)) (subst (λ v. IsCheckReport p c v report) (sym accepted) is))

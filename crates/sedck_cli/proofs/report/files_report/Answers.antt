@@ -22,9 +22,11 @@ part_listed word names all e =
 joined : (r w : List (List ℕ)) → listed (codes "read") r ++ listed (codes "write") w ≡ files_text r w
 joined r w = sym (append_assoc (listed (codes "read") r) (line (codes "write" ++ codes " " ++ decimal (length w))) (name_lines w))
 
-both : (r w : List (Bor (List ℕ))) (rs ws : List (List ℕ)) → map (λ name. name.now) r ≡ rs → map (λ name. name.now) w ≡ ws → ([] ++ part (codes "read") r) ++ part (codes "write") w ≡ files_text rs ws
+both : (r w : List (Bor (List ℕ))) (rs ws : List (List ℕ)) → map (λ name. name.now) r ≡ rs → map (λ name. name.now) w ≡ ws
+    → ([] ++ part (codes "read") r) ++ part (codes "write") w ≡ files_text rs ws
 both r w rs ws e f =
-    ap (λ x. x ++ part (codes "write") w) (part_listed (codes "read") r rs e) ∙ ap (λ x. listed (codes "read") rs ++ x) (part_listed (codes "write") w ws f) ∙ joined rs ws
+    ap (λ x. x ++ part (codes "write") w) (part_listed (codes "read") r rs e)
+    ∙ ap (λ x. listed (codes "read") rs ++ x) (part_listed (codes "write") w ws f) ∙ joined rs ws
 
 pub returns : goal.returns
 returns c = record {
@@ -34,5 +36,6 @@ returns c = record {
   lists_writes = writes_listed c.args.script.now;
   is_report =
       let first = c.in_ok-add_names.ensures ∙ ap (λ x. x ++ part (codes "read") c.reads.result.now) c.new-report.ensures.items in
-      c.in_ok-add_names-2.ensures ∙ ap (λ x. x ++ part (codes "write") c.writes.result.now) first ∙ both c.reads.result.now c.writes.result.now _ _ c.reads.ensures c.writes.ensures;
+      c.in_ok-add_names-2.ensures ∙ ap (λ x. x ++ part (codes "write") c.writes.result.now) first
+      ∙ both c.reads.result.now c.writes.result.now _ _ c.reads.ensures c.writes.ensures;
 }

@@ -11,4 +11,5 @@ returns-then-is_conditional-clause-edges c =
 
 pub returns-clause-edges : goal.returns-clause-edges
 returns-clause-edges c =
-    unconditional c.args.script.now (command_of c.args.command.now) c.args.from c.verb_edges-applied.result (sym c.is_conditional.ensures ∙ c.if-is_conditional.false) c.verb_edges-applied.ensures.edges
+    unconditional c.args.script.now (command_of c.args.command.now) c.args.from c.verb_edges-applied.result
+    (sym c.is_conditional.ensures ∙ c.if-is_conditional.false) c.verb_edges-applied.ensures.edges

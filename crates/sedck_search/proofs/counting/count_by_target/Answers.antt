@@ -37,10 +37,16 @@ offset_bounds-counts-to c =
 pub bounds-counts-to : goal.bounds-counts-to
 bounds-counts-to c =
     let o : IsOnlyTarget c.args.script.now c.args.along c.args.node c.in_ok-to.to = c.in_ok-to.ensures in
-    omega (arith, o.leads, place_in c.args.script.now c.args.counts.now c.requires.counted.long o.edge.to (to_inside c.args.script.now c.requires.script c.args.along c.args.node c.in_ok-to.to o))
+    omega (
+      arith,
+      o.leads,
+      place_in c.args.script.now c.args.counts.now c.requires.counted.long o.edge.to
+          (to_inside c.args.script.now c.requires.script c.args.along c.args.node c.in_ok-to.to o),
+    )
 
 -- the wider row doesn't have the node
-apart : (wider row : List ℕ) (n m : Node) → ((k : Node) → IsIn wider k → IsIn row k ⊎ (k ≡ m)) → has row (node_index n) ≡ false → (n ≡ m → ⊥) → (b : Bool) → has wider (node_index n) ≡ b → has wider (node_index n) ≡ false
+apart : (wider row : List ℕ) (n m : Node) → ((k : Node) → IsIn wider k → IsIn row k ⊎ (k ≡ m)) → has row (node_index n) ≡ false → (n ≡ m → ⊥)
+    → (b : Bool) → has wider (node_index n) ≡ b → has wider (node_index n) ≡ false
 apart wider row n m no_other outside other false e = e
 apart wider row n m no_other outside other true e = elim (no_other n e) [ inl old ↦ absurd (true≢false (sym old ∙ outside)) | inr same ↦ absurd (other same) ]
 
@@ -58,11 +64,14 @@ returns c =
     let below : c.in_ok-to.to < length c.args.counts.now = omega (arith, o.leads, place_in p c.args.counts.now c.requires.counted.long m m_inside) in
     let positive : 0 < k = omega (arith, c.if-count-eq0.false) in
     let small : k < 65535 = omega (arith, c.if-count.false, c.type_inv.counts c.in_ok-to.to) in
-    let is_count = counted_at p along c.args.counts.now c.requires.counted m m_inside k (entry_is c.args.counts.now m c.in_ok-to.to k (sym o.leads) below refl) positive small in
+    let is_count = counted_at p along c.args.counts.now c.requires.counted m m_inside k
+    (entry_is c.args.counts.now m c.in_ok-to.to k (sym o.leads) below refl) positive small in
     let beside = c.leads_into.ensures c.if-not-leads_into.false m o.leads in
     let outside : has row (node_index n) ≡ false = ap (has row) (sym c.index-else-to-index.ensures) ∙ sym c.has.ensures.value ∙ c.if-has.false in
     let one = single_count p along beside.wider beside.closed n m beside.has_node
-    (apart beside.wider row n m beside.no_other outside (λ same. c.if-to-index.false (sym o.leads ∙ ap node_index (sym same) ∙ sym c.index.ensures)) (has beside.wider (node_index n)) refl) (index_below p c.requires.script n c.requires.inside)
-    (reaches_from p along n o.edge (o.followed.0, o.leaves) o.followed.1) (λ e followed leaves. node_same e.to m (o.only e followed leaves ∙ sym o.leads)) k is_count in
+    (apart beside.wider row n m beside.no_other outside (λ same. c.if-to-index.false (sym o.leads ∙ ap node_index (sym same) ∙ sym c.index.ensures))
+    (has beside.wider (node_index n)) refl) (index_below p c.requires.script n c.requires.inside)
+    (reaches_from p along n o.edge (o.followed.0, o.leaves) o.followed.1)
+    (λ e followed leaves. node_same e.to m (o.only e followed leaves ∙ sym o.leads)) k is_count in
     let next : suc k ≡ k + 1 = omega arith in
     (subst (IsReachCount p along n) next one, omega arith, omega (arith, count_within one.row one.reach.is_row, one.counts))

@@ -7,7 +7,8 @@ use Rattle.sedck_search.proofs.counting.counts_of.Goals as goal
 -- the numbers are counts in place
 in_place : (n : ℕ) (xs ys : List ℕ) → length xs ≡ length ys → n ≡ length xs → take n (xs ++ drop (length xs) ys) ≡ xs
 in_place n xs ys same is =
-    ap (λ k. take n (xs ++ drop k ys)) same ∙ ap (λ l. take n (xs ++ l)) (drop-length ys) ∙ ap (take n) (append-nil xs) ∙ ap (λ k. take k xs) is ∙ take-length xs
+    ap (λ k. take n (xs ++ drop k ys)) same ∙ ap (λ l. take n (xs ++ l)) (drop-length ys) ∙ ap (take n) (append-nil xs) ∙ ap (λ k. take k xs) is
+    ∙ take-length xs
 
 pub returns-clause-counts : goal.returns-clause-counts
 returns-clause-counts c =

@@ -12,13 +12,23 @@ pub has-requires : goal.has-requires
 has-requires c =
     let p = c.args.script.now in
     let gone = gone_next p c.args.node c.loop-edge.yielded c.loop-edge.edge-iterator c.next.new.self c.in-Some.edge c.in-Some.ensures.steps c.loop-edge.invariant in
-    omega (arith, c.index-to.ensures, index_below p c.requires.script c.in-Some.edge.to (target_coming p c.args.node c.requires.script c.loop-edge.yielded c.next.new.self c.in-Some.edge gone))
+    omega (
+      arith,
+      c.index-to.ensures,
+      index_below p c.requires.script c.in-Some.edge.to
+          (target_coming p c.args.node c.requires.script c.loop-edge.yielded c.next.new.self c.in-Some.edge gone),
+    )
 
 pub bounds-counts-to : goal.bounds-counts-to
 bounds-counts-to c =
     let p = c.args.script.now in
     let gone = gone_next p c.args.node c.loop-edge.yielded c.loop-edge.edge-iterator c.next.new.self c.in-Some.edge c.in-Some.ensures.steps c.loop-edge.invariant in
-    omega (arith, c.index-to.ensures, place_in p c.args.counts.now c.requires.counted.long c.in-Some.edge.to (target_coming p c.args.node c.requires.script c.loop-edge.yielded c.next.new.self c.in-Some.edge gone))
+    omega (
+      arith,
+      c.index-to.ensures,
+      place_in p c.args.counts.now c.requires.counted.long c.in-Some.edge.to
+          (target_coming p c.args.node c.requires.script c.loop-edge.yielded c.next.new.self c.in-Some.edge gone),
+    )
 
 -- the target is in the row, and reaches as many as it has
 pub returns-then-counts-to : goal.returns-then-counts-to
@@ -28,11 +38,13 @@ returns-then-counts-to c = λ _ m in_row.
     let row = c.args.last.now.row in
     let gone = gone_next p c.args.node c.loop-edge.yielded c.loop-edge.edge-iterator c.next.new.self e c.in-Some.ensures.steps c.loop-edge.invariant in
     let inside = target_coming p c.args.node c.requires.script c.loop-edge.yielded c.next.new.self e gone in
-    let place : c.index-to.result < length c.args.counts.now = omega (arith, c.index-to.ensures, place_in p c.args.counts.now c.requires.counted.long e.to inside) in
+    let place : c.index-to.result < length c.args.counts.now =
+    omega (arith, c.index-to.ensures, place_in p c.args.counts.now c.requires.counted.long e.to inside) in
     let at = entry_is c.args.counts.now e.to c.index-to.result c.args.last.now.count c.index-to.ensures place c.if-counts-to.true in
     let has_to : IsIn row e.to = ap (has row) (sym c.index-to.ensures) ∙ sym c.if-has.ensures.value in
     let positive : 0 < c.args.last.now.count = omega (arith, counts_node row c.requires.last.is_row (node_index e.to) has_to, c.requires.last.counts) in
     let small : c.args.last.now.count < 65535 = omega (arith, count_within row c.requires.last.is_row, c.requires.last.counts) in
     last_reached p c.args.along row c.args.last.now.count c.requires.last c.args.node e.to
-    (reaches_from p c.args.along c.args.node e (edge_coming p c.args.node c.loop-edge.yielded c.next.new.self e gone) (c.follows.ensures.0 c.if-follows.true)) has_to
+    (reaches_from p c.args.along c.args.node e (edge_coming p c.args.node c.loop-edge.yielded c.next.new.self e gone)
+    (c.follows.ensures.0 c.if-follows.true)) has_to
     (counted_at p c.args.along c.args.counts.now c.requires.counted e.to inside c.args.last.now.count at positive small) m in_row

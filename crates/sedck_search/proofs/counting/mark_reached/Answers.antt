@@ -17,12 +17,14 @@ use Rattle.sedck_search.proofs.GoneOver.{place_in}
 use Rattle.sedck_search.proofs.counting.mark_reached.Goals as goal
 
 -- a node is marked exactly where it is reached
-module _ (p : Program) (none row marks : List ℕ) (empty : IsEmpty none) (closed : IsClosed p Every row) (grown : HasGrown p Every start none row) (long : length marks ≡ node_count (length p.commands))
+module _ (p : Program) (none row marks : List ℕ) (empty : IsEmpty none) (closed : IsClosed p Every row) (grown : HasGrown p Every start none row)
+    (long : length marks ≡ node_count (length p.commands))
     (entries : (i : ℕ) → i < length marks → slice_get marks i ≡ Some (if has row i then 65535 else 0)) where
   marked : (along : Along) → ArePartlyCounted p along marks
   marked along = record { long = long; each = λ n inside. by_bit n inside (has row (node_index n)) refl }
     where
-      by_bit : (n : Node) → n.at ≤ length p.commands → (b : Bool) → has row (node_index n) ≡ b → (IsReachable p n × (HasCount p along marks n ⊎ IsUncounted marks n)) ⊎ HasNoCount p marks n
+      by_bit : (n : Node) → n.at ≤ length p.commands → (b : Bool) → has row (node_index n) ≡ b
+          → (IsReachable p n × (HasCount p along marks n ⊎ IsUncounted marks n)) ⊎ HasNoCount p marks n
       by_bit n inside true is = elim (grown.reached n is) [
         | inl old ↦ absurd (true≢false (sym old ∙ empty (node_index n)))
         | inr reaches ↦ inl ((reaches.0, reaches.1), inr (entries (node_index n) (place_in p marks long n inside) ∙ ap (λ b. Some (if b then 65535 else 0)) is))
@@ -34,7 +36,9 @@ module _ (p : Program) (none row marks : List ℕ) (empty : IsEmpty none) (close
 
 pub returns-clause-marks : goal.returns-clause-marks
 returns-clause-marks c =
-    let count : length c.commands.result.now ≡ length c.args.script.now.commands = sym (length-map c.commands.result.now command_of) ∙ ap length c.commands.ensures.commands in
+    let count : length c.commands.result.now ≡ length c.args.script.now.commands = sym (length-map c.commands.result.now command_of)
+    ∙ ap length c.commands.ensures.commands in
     let inv = c.loop-index.invariant in
-    let end : c.loop-index.index ≡ node_count (length c.args.script.now.commands) = omega (arith, count, c.loop-index-test.false, c.loop-index.auto.index-end) in
+    let end : c.loop-index.index ≡ node_count (length c.args.script.now.commands) =
+    omega (arith, count, c.loop-index-test.false, c.loop-index.auto.index-end) in
     marked c.args.script.now c.new-row.result c.spread.new.row c.loop-index.marks.items c.new-row.ensures.nodes c.spread.ensures.closed c.spread.ensures.grown (inv.long ∙ end) (λ i below. inv.entries i (omega (arith, below, inv.long)))

@@ -37,4 +37,5 @@ certificate-requires-clause-idle c =
 
 pub certificate-requires-clause-growing : goal.certificate-requires-clause-growing
 certificate-requires-clause-growing c =
-    subst (λ counts. (e : Edge) → ¬ Closes c.args.script.now Grow counts e) (c.deref-2.ensures.value ∙ sym c.deref-3.ensures.value) c.in_default-first_closing.ensures
+    subst (λ counts. (e : Edge) → ¬ Closes c.args.script.now Grow counts e)
+    (c.deref-2.ensures.value ∙ sym c.deref-3.ensures.value) c.in_default-first_closing.ensures

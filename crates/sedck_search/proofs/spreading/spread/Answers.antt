@@ -27,7 +27,8 @@ loop-index-init c =
 pub look_around-first-requires-clause-inside : goal.look_around-first-requires-clause-inside
 look_around-first-requires-clause-inside c =
     let waits : IsIn c.loop-index.waiting c.nth.result = ap (has c.loop-index.waiting) c.nth.ensures ∙ c.in-Some.ensures.2 in
-    reaches_inside c.args.script.now c.args.along c.requires.script.targets c.args.node c.nth.result (c.loop-index.invariant.waits c.nth.result waits) c.requires.inside
+    reaches_inside c.args.script.now c.args.along c.requires.script.targets c.args.node c.nth.result
+    (c.loop-index.invariant.waits c.nth.result waits) c.requires.inside
 
 pub look_around-first-requires-clause-frontier : goal.look_around-first-requires-clause-frontier
 look_around-first-requires-clause-frontier c =
@@ -44,7 +45,8 @@ loop-index-smaller c =
     spreading_shrinks c.args.script.now c.args.along c.args.node c.args.row.now c.loop-index.row c.loop-index.waiting c.remove.new.self c.look_around-first.new.row c.look_around-first.new.waiting c.loop-index.first c.look_around-first.result c.nth.result
     c.loop-index.invariant (ap (has c.loop-index.waiting) is ∙ c.in-Some.ensures.2) (λ k least less. c.in-Some.ensures.3 k least (omega (arith, less, is)))
     (subst (λ i. HasChanged c.loop-index.waiting c.remove.new.self i false) (sym is) c.remove.ensures.changed) c.look_around-first.ensures.frontier
-    (subst (λ i. HasMet (IsFollowedFrom c.args.script.now c.args.along c.nth.result) c.loop-index.row c.remove.new.self c.look_around-first.new.row c.look_around-first.new.waiting i c.look_around-first.result) (sym is) c.look_around-first.ensures.spread)
+    (subst (λ i. HasMet
+    (IsFollowedFrom c.args.script.now c.args.along c.nth.result) c.loop-index.row c.remove.new.self c.look_around-first.new.row c.look_around-first.new.waiting i c.look_around-first.result) (sym is) c.look_around-first.ensures.spread)
     c.look_around-first.ensures.met c.remove.ensures.row
 
 pub loop-index-preserved : goal.loop-index-preserved
@@ -53,7 +55,8 @@ loop-index-preserved c =
     spreading_goes_on c.args.script.now c.args.along c.args.node c.args.row.now c.loop-index.row c.loop-index.waiting c.remove.new.self c.look_around-first.new.row c.look_around-first.new.waiting c.loop-index.first c.look_around-first.result c.nth.result
     c.loop-index.invariant (ap (has c.loop-index.waiting) is ∙ c.in-Some.ensures.2) (λ k least less. c.in-Some.ensures.3 k least (omega (arith, less, is)))
     (subst (λ i. HasChanged c.loop-index.waiting c.remove.new.self i false) (sym is) c.remove.ensures.changed) c.look_around-first.ensures.frontier
-    (subst (λ i. HasMet (IsFollowedFrom c.args.script.now c.args.along c.nth.result) c.loop-index.row c.remove.new.self c.look_around-first.new.row c.look_around-first.new.waiting i c.look_around-first.result) (sym is) c.look_around-first.ensures.spread)
+    (subst (λ i. HasMet
+    (IsFollowedFrom c.args.script.now c.args.along c.nth.result) c.loop-index.row c.remove.new.self c.look_around-first.new.row c.look_around-first.new.waiting i c.look_around-first.result) (sym is) c.look_around-first.ensures.spread)
     c.look_around-first.ensures.met
 
 -- none waits any more

@@ -6,17 +6,23 @@ use Rattle.sedck_search.proofs.GoneOver.{gone_next, gone_over_more, gone_end, ed
 use Rattle.sedck_search.proofs.walking.first_closing_from.Goals.{else-is_of-via-then-is_of+else-counts-index, else-is_of-via-else-is_of}
 use Rattle.sedck_search.proofs.walking.first_closing_from.Goals as goal
 
-
 pub bounds-counts-index-then-is_of : goal.bounds-counts-index-then-is_of
 bounds-counts-index-then-is_of c =
     let p = c.args.script.now in
     let gone = gone_next p c.args.node c.loop-edge.yielded c.loop-edge.edge-iterator c.next.new.self c.in-Some.edge c.in-Some.ensures.steps c.loop-edge.invariant in
-    omega (arith, c.index-then-is_of.ensures, place_in p c.args.counts.now c.requires.long c.in-Some.edge.to (target_coming p c.args.node c.requires.script c.loop-edge.yielded c.next.new.self c.in-Some.edge gone))
+    omega (
+      arith,
+      c.index-then-is_of.ensures,
+      place_in p c.args.counts.now c.requires.long c.in-Some.edge.to
+          (target_coming p c.args.node c.requires.script c.loop-edge.yielded c.next.new.self c.in-Some.edge gone),
+    )
 
 -- a node without a count closes nothing
 pub returns-then-count-eq0 : goal.returns-then-count-eq0
 returns-then-count-eq0 c = λ e closes leaves.
-    let zero : closes.count ≡ 0 = sym (entry_of c.args.counts.now e.from c.index.result closes.count (c.index.ensures ∙ ap node_index (sym leaves)) closes.before) ∙ c.if-count-eq0.true in
+    let zero : closes.count ≡ 0 =
+    sym (entry_of c.args.counts.now e.from c.index.result closes.count (c.index.ensures ∙ ap node_index (sym leaves)) closes.before)
+    ∙ c.if-count-eq0.true in
     omega (arith, closes.positive, zero)
 
 -- both ends have one count
@@ -29,7 +35,13 @@ returns-then-counts-index c =
     let flow = edge_coming p c.args.node c.loop-edge.yielded c.next.new.self e gone in
     let count : ℕ = get_or counts c.index.result 0 in
     let from_below : c.index.result < length counts = omega (arith, c.index.ensures, place_in p counts c.requires.long c.args.node c.requires.inside) in
-    let to_below : c.index-then-is_of.result < length counts = omega (arith, c.index-then-is_of.ensures, place_in p counts c.requires.long e.to (target_coming p c.args.node c.requires.script c.loop-edge.yielded c.next.new.self e gone)) in (
+    let to_below : c.index-then-is_of.result < length counts =
+    omega (
+      arith,
+      c.index-then-is_of.ensures,
+      place_in p counts c.requires.long e.to
+          (target_coming p c.args.node c.requires.script c.loop-edge.yielded c.next.new.self e gone),
+    ) in (
       record {
         is_edge = flow.0;
         is_kind = c.is_of.ensures.0 c.if-is_of.true;

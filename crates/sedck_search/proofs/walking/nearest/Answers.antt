@@ -17,14 +17,17 @@ edges_of-edge-items-requires c = record { inside = (inside c.args.script.now c.r
 
 pub loop-edge-init : goal.loop-edge-init
 loop-edge-init c =
-    let way = way_at c.args.script.now c.args.ways.now c.requires.long c.args.closing.to (inside c.args.script.now c.requires.script.targets c.args.closing c.requires.edge).1 in
+    let way = way_at c.args.script.now c.args.ways.now c.requires.long c.args.closing.to
+    (inside c.args.script.now c.requires.script.targets c.args.closing c.requires.edge).1 in
     record {
       is_edge = c.requires.edge;
       is_kind = refl;
       leaves = refl;
       way = way.0;
       has_way = way.1;
-      edges = gone_over_none c.args.script.now c.args.closing.from c.into_iter-edge-iterator.result (subst (λ edges. ListsEdges edges (FlowFrom c.args.script.now c.args.closing.from)) (sym c.into_iter-edge-iterator.ensures.into_iter_gives) c.edges_of-edge-items.ensures.edges);
+      edges = gone_over_none c.args.script.now c.args.closing.from c.into_iter-edge-iterator.result
+          (subst (λ edges. ListsEdges edges (FlowFrom c.args.script.now c.args.closing.from))
+          (sym c.into_iter-edge-iterator.ensures.into_iter_gives) c.edges_of-edge-items.ensures.edges);
     }
 
 pub bounds-ways-index : goal.bounds-ways-index
@@ -32,15 +35,26 @@ bounds-ways-index c =
     let p = c.args.script.now in
     let from = c.args.closing.from in
     let gone = gone_next p from c.loop-edge.yielded c.loop-edge.edge-iterator c.next.new.self c.in-Some.edge c.in-Some.ensures.steps c.loop-edge.invariant.edges in
-    omega (arith, c.index.ensures, place_in p c.args.ways.now c.requires.long c.in-Some.edge.to (target_coming p from c.requires.script c.loop-edge.yielded c.next.new.self c.in-Some.edge gone))
+    omega (
+      arith,
+      c.index.ensures,
+      place_in p c.args.ways.now c.requires.long c.in-Some.edge.to
+          (target_coming p from c.requires.script c.loop-edge.yielded c.next.new.self c.in-Some.edge gone),
+    )
 
 -- the nearest so far leads to a node of the script
-nearest_place : (p : Program) → IsScript p → (ways : List ℕ) → length ways ≡ node_count (length p.commands) → (e : Edge) → Flow p e → (i : ℕ) → i ≡ node_index e.to → i < length ways
+nearest_place : (p : Program) → IsScript p → (ways : List ℕ) → length ways ≡ node_count (length p.commands) → (e : Edge) → Flow p e → (i : ℕ)
+    → i ≡ node_index e.to → i < length ways
 nearest_place p script ways long e flow i is = omega (arith, is, place_in p ways long e.to (inside p script.targets e flow).1)
 
 pub offset_bounds-ways-index-then-is_of : goal.offset_bounds-ways-index-then-is_of
 offset_bounds-ways-index-then-is_of c =
-    let small : c.index-then-is_of.result < 8192 = omega (arith, c.index-then-is_of.ensures, index_below c.args.script.now c.requires.script c.loop-edge.nearest.to (inside c.args.script.now c.requires.script.targets c.loop-edge.nearest c.loop-edge.invariant.is_edge).1) in
+    let small : c.index-then-is_of.result < 8192 = omega (
+      arith,
+      c.index-then-is_of.ensures,
+      index_below c.args.script.now c.requires.script c.loop-edge.nearest.to
+          (inside c.args.script.now c.requires.script.targets c.loop-edge.nearest c.loop-edge.invariant.is_edge).1,
+    ) in
     omega (arith, small)
 
 pub bounds-ways-index-then-is_of : goal.bounds-ways-index-then-is_of
@@ -58,8 +72,13 @@ loop-edge-preserved-then-ways-index c =
     let gone = gone_next p from c.loop-edge.yielded c.loop-edge.edge-iterator c.next.new.self e c.in-Some.ensures.steps inv.edges in
     let flow = edge_coming p from c.loop-edge.yielded c.next.new.self e gone in
     let way : ℕ = get_or ways c.index.result 0 in
-    let below : c.index.result < length ways = omega (arith, c.index.ensures, place_in p ways c.requires.long e.to (target_coming p from c.requires.script c.loop-edge.yielded c.next.new.self e gone)) in
-    let less : way < inv.way = omega (arith, c.if-ways-index.true, entry_of ways c.loop-edge.nearest.to c.index-then-is_of.result inv.way c.index-then-is_of.ensures inv.has_way) in
+    let below : c.index.result < length ways = omega
+    (arith, c.index.ensures, place_in p ways c.requires.long e.to (target_coming p from c.requires.script c.loop-edge.yielded c.next.new.self e gone)) in
+    let less : way < inv.way = omega (
+      arith,
+      c.if-ways-index.true,
+      entry_of ways c.loop-edge.nearest.to c.index-then-is_of.result inv.way c.index-then-is_of.ensures inv.has_way,
+    ) in
     record {
       is_edge = flow.0;
       is_kind = c.is_of.ensures.0 c.if-is_of.true;
@@ -88,7 +107,12 @@ loop-edge-preserved c =
       has_way = inv.has_way;
       edges = gone_over_more p from c.loop-edge.yielded c.next.new.self e gone (λ f held. held) (λ kind other has. elim c.else-is_of.branch [
         | else-is_of-via-then-is_of+else-ways-index w ↦
-            omega (arith, w.if-ways-index.false, entry_of ways e.to w.index.result other w.index.ensures has, entry_of ways c.loop-edge.nearest.to w.index-then-is_of.result inv.way w.index-then-is_of.ensures inv.has_way)
+            omega (
+              arith,
+              w.if-ways-index.false,
+              entry_of ways e.to w.index.result other w.index.ensures has,
+              entry_of ways c.loop-edge.nearest.to w.index-then-is_of.result inv.way w.index-then-is_of.ensures inv.has_way,
+            )
         | else-is_of-via-else-is_of w ↦ absurd (true≢false (sym (c.is_of.ensures.1 kind) ∙ w.if-is_of.false))
       ]);
     }

@@ -12,5 +12,6 @@ invariant-loop-edge l = record {
   leaves : l.nearest.from ≡ l.fn.closing.from;
   way : ℕ;
   has_way : HasWay l.ways l.nearest.to way;
-  edges : AreGoneOver l.script l.fn.closing.from l.yielded l.edge-iterator (λ e. e.kind ≡ l.fn.closing.kind → (other : ℕ) → HasWay l.ways e.to other → way ≤ other);
+  edges : AreGoneOver l.script l.fn.closing.from l.yielded l.edge-iterator
+      (λ e. e.kind ≡ l.fn.closing.kind → (other : ℕ) → HasWay l.ways e.to other → way ≤ other);
 }

@@ -8,7 +8,12 @@ pub bounds-ways-index : goal.bounds-ways-index
 bounds-ways-index c =
     let p = c.args.script.now in
     let gone = gone_next p c.args.node c.loop-edge.yielded c.loop-edge.edge-iterator c.next.new.self c.in-Some.edge c.in-Some.ensures.steps c.loop-edge.invariant.edges in
-    omega (arith, c.index.ensures, place_in p c.args.ways.now c.requires.long c.in-Some.edge.to (target_coming p c.args.node c.requires.script c.loop-edge.yielded c.next.new.self c.in-Some.edge gone))
+    omega (
+      arith,
+      c.index.ensures,
+      place_in p c.args.ways.now c.requires.long c.in-Some.edge.to
+          (target_coming p c.args.node c.requires.script c.loop-edge.yielded c.next.new.self c.in-Some.edge gone),
+    )
 
 pub loop-edge-preserved-then-follows : goal.loop-edge-preserved-then-follows
 loop-edge-preserved-then-follows c =
@@ -17,7 +22,12 @@ loop-edge-preserved-then-follows c =
     let ways = c.args.ways.now in
     let gone = gone_next p c.args.node c.loop-edge.yielded c.loop-edge.edge-iterator c.next.new.self e c.in-Some.ensures.steps c.loop-edge.invariant.edges in
     let flow = edge_coming p c.args.node c.loop-edge.yielded c.next.new.self e gone in
-    let below : c.index.result < length ways = omega (arith, c.index.ensures, place_in p ways c.requires.long e.to (target_coming p c.args.node c.requires.script c.loop-edge.yielded c.next.new.self e gone)) in
+    let below : c.index.result < length ways = omega (
+      arith,
+      c.index.ensures,
+      place_in p ways c.requires.long e.to
+          (target_coming p c.args.node c.requires.script c.loop-edge.yielded c.next.new.self e gone),
+    ) in
     let way : ℕ = get_or ways c.index.result 0 in
     let has : HasWay ways e.to way = entry_is ways e.to c.index.result way c.index.ensures below refl in
     let less : c.min-least.result ≤ c.loop-edge.least = omega (arith, c.min-least.ensures) in
@@ -44,6 +54,7 @@ loop-edge-preserved c =
     let p = c.args.script.now in
     let gone = gone_next p c.args.node c.loop-edge.yielded c.loop-edge.edge-iterator c.next.new.self c.in-Some.edge c.in-Some.ensures.steps c.loop-edge.invariant.edges in
     record {
-      edges = gone_over_more p c.args.node c.loop-edge.yielded c.next.new.self c.in-Some.edge gone (λ f held. held) (λ followed after h. absurd (true≢false (sym (c.follows.ensures.1 followed) ∙ c.if-follows.false)));
+      edges = gone_over_more p c.args.node c.loop-edge.yielded c.next.new.self c.in-Some.edge gone (λ f held. held)
+          (λ followed after h. absurd (true≢false (sym (c.follows.ensures.1 followed) ∙ c.if-follows.false)));
       some = c.loop-edge.invariant.some;
     }

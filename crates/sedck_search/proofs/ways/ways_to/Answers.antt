@@ -11,8 +11,10 @@ use Rattle.sedck_search.proofs.ways.ways_to.Goals as goal
 -- the way that is put at the place
 entry : (c : goal.In_ok-push) → c.if-index.push ≡ first_way (node_index c.args.to) c.loop-index.index
 entry c = elim c.if-index.branch [
-  | then-index w ↦ w.push-is ∙ sym (ap (λ b. if b then 0 else 65535) (ap (λ k. eqb k (node_index c.args.to)) (w.if-index.true ∙ c.index.ensures) ∙ eqb_same (node_index c.args.to)))
-  | else-index w ↦ w.push-is ∙ sym (ap (λ b. if b then 0 else 65535) (ne_eqb c.loop-index.index (node_index c.args.to) (λ is. w.if-index.false (is ∙ sym c.index.ensures))))
+  | then-index w ↦ w.push-is
+      ∙ sym (ap (λ b. if b then 0 else 65535) (ap (λ k. eqb k (node_index c.args.to)) (w.if-index.true ∙ c.index.ensures) ∙ eqb_same (node_index c.args.to)))
+  | else-index w ↦ w.push-is
+      ∙ sym (ap (λ b. if b then 0 else 65535) (ne_eqb c.loop-index.index (node_index c.args.to) (λ is. w.if-index.false (is ∙ sym c.index.ensures))))
 ]
 
 pub loop-index-preserved : goal.loop-index-preserved
@@ -21,12 +23,16 @@ loop-index-preserved c =
     let pushed = c.in_ok-push.ensures.items in
     record {
       long = ap length pushed ∙ length-append c.loop-index.ways.items (c.if-index.push ∷ []) ∙ ap (λ k. k + 1) inv.long;
-      entries = λ i below. ap (λ l. slice_get l i) pushed ∙ entries_push (first_way (node_index c.args.to)) c.loop-index.ways.items c.loop-index.index c.if-index.push inv.long inv.entries (entry c) i below;
+      entries = λ i below. ap (λ l. slice_get l i) pushed
+          ∙ entries_push (first_way (node_index c.args.to)) c.loop-index.ways.items c.loop-index.index c.if-index.push inv.long inv.entries (entry c) i below;
     }
 
 pub loop-along-init : goal.loop-along-init
 loop-along-init c =
-    let count : length c.commands.result.now ≡ length c.args.script.now.commands = sym (length-map c.commands.result.now command_of) ∙ ap length c.commands.ensures.commands in
+    let count : length c.commands.result.now ≡ length c.args.script.now.commands = sym (length-map c.commands.result.now command_of)
+    ∙ ap length c.commands.ensures.commands in
     let inv = c.loop-index.invariant in
-    let end : c.loop-index.index ≡ node_count (length c.args.script.now.commands) = omega (arith, count, c.loop-index-test.false, c.loop-index.auto.index-end) in
-    some_ways c.args.script.now c.args.along c.args.to c.loop-index.ways.items (inv.long ∙ end) c.requires.inside (λ i below. inv.entries i (omega (arith, below, inv.long)))
+    let end : c.loop-index.index ≡ node_count (length c.args.script.now.commands) =
+    omega (arith, count, c.loop-index-test.false, c.loop-index.auto.index-end) in
+    some_ways c.args.script.now c.args.along c.args.to c.loop-index.ways.items (inv.long ∙ end) c.requires.inside
+    (λ i below. inv.entries i (omega (arith, below, inv.long)))

@@ -10,4 +10,5 @@ returns-then-not-next_is-clause-refused c = stops_here Last _ _ (wrong_word Last
 pub returns-then-not-is_empty-clause-refused : goal.returns-then-not-is_empty-clause-refused
 returns-then-not-is_empty-clause-refused c =
     let some : 0 < length c.next_is.new.lines.rest.now = grind (arith, c.if-not-is_empty.ensures) in
-    leads_stops Last Nothing (codes "end" ∷ []) _ (leads_one Last Nothing (codes "end") c.if-not-next_is.ensures.same (refl, refl)) (stops_here Nothing _ _ some refl)
+    leads_stops Last Nothing (codes "end" ∷ []) _ (leads_one Last Nothing (codes "end") c.if-not-next_is.ensures.same (refl, refl))
+    (stops_here Nothing _ _ some refl)

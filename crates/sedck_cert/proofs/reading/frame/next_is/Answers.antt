@@ -6,7 +6,8 @@ use Rattle.sedck_cert.proofs.Cuts.{cut_one}
 use Rattle.sedck_cert.proofs.Leads.{no_cut}
 use Rattle.sedck_cert.proofs.reading.frame.next_is.Goals as goal
 
-other : (rest line more text : List ℕ) (r : Bool) → IsCut 10 rest line more → MatchBool r (line ≡ text) (line ≢ text) → OnFalse r ((behind : List ℕ) → IsCut 10 rest text behind → ⊥)
+other : (rest line more text : List ℕ) (r : Bool) → IsCut 10 rest line more → MatchBool r (line ≡ text) (line ≢ text)
+    → OnFalse r ((behind : List ℕ) → IsCut 10 rest text behind → ⊥)
 other rest line more text true cut test = tt
 other rest line more text false cut test = λ behind h. test (cut_one 10 rest line more text behind cut h).0
 

@@ -7,7 +7,8 @@ use Rattle.sedck_cert.proofs.reading.names.names.Given as goal
 -- the names so far
 abbrev pub invariant-loop-before : goal.invariant-loop-before
 invariant-loop-before l =
-    Leads (Names l.fn.files l.fn.size) l.fn.lines ((list_word l.fn.files ++ decimal l.count) ∷ names_of l.names.items) l.lines (names_due l.fn.files (l.count - length l.names.items) (one_before l.before) l.size)
+    Leads (Names l.fn.files l.fn.size) l.fn.lines ((list_word l.fn.files ++ decimal l.count) ∷ names_of l.names.items) l.lines
+    (names_due l.fn.files (l.count - length l.names.items) (one_before l.before) l.size)
     × (length l.names.items ≤ l.count)
     × (l.size ≤ 1048576)
 

@@ -15,13 +15,16 @@ pub returns-in_err-node_line-clause-refused : goal.returns-in_err-node_line-clau
 returns-in_err-node_line-clause-refused c =
     let left = node_count c.args.commands - (c.loop-node.node + 1) in
     let below : c.loop-node.node < node_count c.args.commands = omega arith in
-    if_err_from (λ fault. (fault ≡ OutOfMemory) ⊎ Stops (Node 0 (node_count c.args.commands - 1)) c.args.lines.now fault) c.from_residual-in_err-node_line.result _ c.from_residual-in_err-node_line.ensures.1
+    if_err_from (λ fault. (fault ≡ OutOfMemory) ⊎ Stops
+    (Node 0 (node_count c.args.commands - 1)) c.args.lines.now fault) c.from_residual-in_err-node_line.result _ c.from_residual-in_err-node_line.ensures.1
     (inr (leads_stops (Node 0 (node_count c.args.commands - 1)) (Node c.loop-node.node left) (node_texts 0 c.loop-node.ranks.items) _
-    (nodes_due-more _ c.loop-node.node (node_count c.args.commands) c.loop-node.ranks.items below c.loop-node.invariant.0) (c.in_err-node_line.ensures.refused left)))
+    (nodes_due-more _ c.loop-node.node (node_count c.args.commands) c.loop-node.ranks.items below c.loop-node.invariant.0)
+    (c.in_err-node_line.ensures.refused left)))
 
 pub loop-node-preserved : goal.loop-node-preserved
 loop-node-preserved c = rw c.in_ok-push.ensures.items (
-  leads_node _ c.loop-node.node (node_count c.args.commands) c.loop-node.ranks.items c.in_ok-node_line.field-0 (omega arith) c.loop-node.invariant.2 c.loop-node.invariant.0 c.in_ok-node_line.ensures.read,
+  leads_node _ c.loop-node.node (node_count c.args.commands) c.loop-node.ranks.items c.in_ok-node_line.field-0
+      (omega arith) c.loop-node.invariant.2 c.loop-node.invariant.0 c.in_ok-node_line.ensures.read,
   All-push AreWithin c.loop-node.ranks.items c.in_ok-node_line.field-0 c.loop-node.invariant.1 c.in_ok-node_line.ensures.within,
   grind (arith, common_steps),
 )

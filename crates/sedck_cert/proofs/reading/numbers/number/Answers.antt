@@ -34,8 +34,9 @@ loop-byte-preserved c =
 pub returns : goal.returns
 returns c = (
   c.loop-byte.invariant.2,
-  decimal-of_digits _ c.loop-byte.byte-index _ c.loop-byte-test.false c.loop-byte.invariant.0 c.loop-byte.invariant.1 (grind (arith, c.if-is_empty.ensures)) (λ zero. elim c.else-text-eq48.branch [
-    | else-text-eq48-via-then-text-eq48+else-text-gt1 w ↦ grind (arith, c.if-is_empty.ensures)
-    | else-text-eq48-via-else-text-eq48 w ↦ absurd (w.if-text-eq48.false zero)
-  ]) (omega arith),
+  decimal-of_digits _ c.loop-byte.byte-index _ c.loop-byte-test.false c.loop-byte.invariant.0 c.loop-byte.invariant.1
+      (grind (arith, c.if-is_empty.ensures)) (λ zero. elim c.else-text-eq48.branch [
+        | else-text-eq48-via-then-text-eq48+else-text-gt1 w ↦ grind (arith, c.if-is_empty.ensures)
+        | else-text-eq48-via-else-text-eq48 w ↦ absurd (w.if-text-eq48.false zero)
+      ]) (omega arith),
 )

@@ -6,4 +6,5 @@ use Rattle.sedck_search.proofs.rows.Row.has.Goals as goal
 
 pub returns-clause-value : goal.returns-clause-value
 unfolding has
-returns-clause-value c = ap (λ m. m == 1) (shr_and_one (slice_index c.self.inside.words (c.args.node / 64)) (c.args.node % 64)) ∙ ap (λ m. has m c.args.node) c.self.view_is
+returns-clause-value c = ap (λ m. m == 1) (shr_and_one (slice_index c.self.inside.words (c.args.node / 64)) (c.args.node % 64))
+    ∙ ap (λ m. has m c.args.node) c.self.view_is

@@ -4,7 +4,8 @@ use Rattle.sedck_search.proofs.NextNode.{first_next, first_none, later_next, lat
 use Rattle.sedck_search.proofs.rows.Row.next_from.Goals as goal
 
 pub returns-then-first-ge128 : goal.returns-then-first-ge128
-returns-then-first-ge128 c = λ i above. last_none c.self.inside.words c.args.self.now c.self.view_is c.self.invariant i (omega (arith, above, c.if-first-ge128.true))
+returns-then-first-ge128 c = λ i above. last_none c.self.inside.words c.args.self.now c.self.view_is c.self.invariant i
+    (omega (arith, above, c.if-first-ge128.true))
 
 pub returns-then-word-ne0 : goal.returns-then-word-ne0
 returns-then-word-ne0 c = first_next c.self.inside.words c.args.self.now c.args.from c.self.view_is c.self.invariant c.if-first-ge128.false c.if-word-ne0.true
@@ -17,7 +18,8 @@ returns-then-word-ne0-2 c =
     later_next c.self.inside.words c.args.self.now c.args.from c.loop-at.at c.self.view_is c.self.invariant c.loop-at-test.true c.loop-at.auto.at c.loop-at.invariant c.if-word-ne0-2.true
 
 pub loop-at-preserved : goal.loop-at-preserved
-loop-at-preserved c = later_none c.self.inside.words c.args.self.now c.args.from c.loop-at.at c.self.view_is c.loop-at.auto.at c.loop-at.invariant c.if-word-ne0-2.false
+loop-at-preserved c =
+    later_none c.self.inside.words c.args.self.now c.args.from c.loop-at.at c.self.view_is c.loop-at.auto.at c.loop-at.invariant c.if-word-ne0-2.false
 
 pub returns : goal.returns
 returns c = λ i above. elim (cases_lt i (64 * c.loop-at.at)) [

@@ -8,7 +8,8 @@ invariant_of-self c = removed_row c.self.inside.words c.args.node c.requires c.s
 
 pub returns-clause-changed : goal.returns-clause-changed
 returns-clause-changed c =
-    subst (λ before. HasChanged before (set c.self.inside.words (c.args.node / 64) (without_bit c.self.inside.words c.args.node)) c.args.node false) c.self.view_is
+    subst (λ before. HasChanged before (set c.self.inside.words (c.args.node / 64)
+    (without_bit c.self.inside.words c.args.node)) c.args.node false) c.self.view_is
     (removed c.self.inside.words c.args.node c.requires c.self.invariant)
 
 pub returns-clause-row : goal.returns-clause-row
