@@ -1,9 +1,10 @@
 //! What no clause says of the program: printed lines, statuses, streams that fail, and that calls succeed at all.
 mod bounds;
 mod checks;
+mod failures;
 mod fakes;
 mod programs;
-mod reports;
+mod runs;
 
 /// More bytes than a test reads or writes.
 const AMPLE: usize = 4_000_000;

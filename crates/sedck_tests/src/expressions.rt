@@ -21,3 +21,10 @@ fn least_of_text(alloc: Global, text: &[u8]) -> Option<u32> {
         Err(_) => None,
     }
 }
+
+fn groups_of_text(alloc: Global, text: &[u8]) -> Option<u8> {
+    match parse(alloc, text) {
+        Ok(expression) => Some(expression.groups()),
+        Err(_) => None,
+    }
+}

@@ -8,8 +8,8 @@ mod engines;
 #[cfg(test)]
 mod expressions;
 #[cfg(test)]
-mod graphs;
-#[cfg(test)]
 mod scripts;
 #[cfg(test)]
 mod searches;
+#[cfg(test)]
+mod texts;

@@ -1,4 +1,4 @@
-//! Scripts as tables: what is refused and where, what is read, and the limits.
+//! Scripts as tables: what is refused and where, what is read, the verbs, and the limits.
 mod limits;
 mod read;
 mod refused;

@@ -69,14 +69,18 @@ fn in_lines(alloc: Global, text: &[u8]) -> Result<Vec<u8>, AllocError> {
     Ok(lines)
 }
 
+fn is_told(rt: &impl Abort, alloc: Global, text: &[u8], lines: &str) -> Result<(), Fail> {
+    assert_eq!(rt; told(alloc, text)?.as_str(), lines);
+    Ok(())
+}
+
 /// A script, and what is told of it, also where it has a newline for each semicolon.
 type Row = (&'static [u8], &'static str);
 
 fn are_told(rt: &impl Abort, alloc: Global, rows: &[Row]) -> Result<(), Fail> {
     for (text, lines) in rows {
-        assert_eq!(rt; told(alloc, text)?.as_str(), *lines, "{text:?}");
-        let text = in_lines(alloc, text)?;
-        assert_eq!(rt; told(alloc, &text)?.as_str(), *lines, "{text:?}");
+        is_told(rt, alloc, text, lines)?;
+        is_told(rt, alloc, &in_lines(alloc, text)?, lines)?;
     }
     Ok(())
 }

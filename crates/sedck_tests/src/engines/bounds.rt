@@ -1,10 +1,10 @@
 //! The line of the bound, through `run_check` and `program`.
 use super::AMPLE;
-use super::fakes::{Given, Kept};
-use sedck_cli::{Outcome, program, run_check};
+use super::programs::{folder, run};
+use super::runs::{Engine, is_answered};
 use std::alloc::Global;
+use std::fs;
 use std::test::Fail;
-use std::{env, fs, process};
 
 const NO_FILES: &str = "read 0\nwrite 0\n";
 
@@ -160,60 +160,42 @@ fn texts(alloc: Global, row: &Row) -> Result<(String, String), Fail> {
     Ok((certificate, report))
 }
 
-/// What `run_check` writes, where texts are read and written in pieces.
-fn through_streams(
-    alloc: Global,
-    script: &str,
-    certificate: &str,
-    piece: usize,
-) -> Result<String, Fail> {
-    let mut script = Given::new(script.as_bytes(), piece, AMPLE);
-    let mut certificate = Given::new(certificate.as_bytes(), piece, AMPLE);
-    let mut out = Kept::new(alloc, piece, AMPLE);
-    let Outcome::Yes = run_check(alloc, &mut script, &mut certificate, &mut out)? else {
-        return Err("rejected".into());
-    };
-    Ok(String::from_utf8(out.into_bytes())?)
-}
-
-/// What `program` writes on files of the folder.
+/// The status of `program` on files of the folder, and both outputs.
 fn through_files(
     rt: &HostRuntime,
     folder: &str,
     script: &str,
     certificate: &str,
-) -> Result<String, Fail> {
-    let alloc = rt.alloc();
-    let mut words = Vec::new(alloc);
-    words.push(String::from_str(alloc, "check")?)?;
-    for (name, text) in [("script", script), ("certificate", certificate)] {
-        let path = format!(in alloc; "{folder}/{name}")?;
-        fs::write(rt, path.as_str(), text)?;
-        words.push(path)?;
-    }
-    let mut out = Kept::new(alloc, 7, AMPLE);
-    let mut err = Kept::new(alloc, 7, AMPLE);
-    if program(rt, &words, &mut out, &mut err) != 0 || !err.into_bytes().is_empty() {
-        return Err("not accepted".into());
-    }
-    Ok(String::from_utf8(out.into_bytes())?)
+) -> Result<(u8, String, String), Fail> {
+    fs::write(rt, format!(in rt.alloc(); "{folder}/script")?, script)?;
+    fs::write(
+        rt,
+        format!(in rt.alloc(); "{folder}/certificate")?,
+        certificate,
+    )?;
+    run(rt, folder, "check @script @certificate", AMPLE)
 }
 
 #[test]
 fn reports(rt: HostRuntime) -> Result<(), Fail> {
-    let alloc = rt.alloc();
-    let temp = env::temp_dir(&rt)?;
-    let id = process::id(rt.process());
-    let folder = format!(in alloc; "{}/sedck-{id}-bounds", temp.display())?;
-    fs::create_dir(&rt, &folder)?;
+    let folder = folder(&rt, "bounds")?;
     for row in &ROWS {
-        let (certificate, report) = texts(alloc, row)?;
+        let (certificate, report) = texts(rt.alloc(), row)?;
         for piece in [1, 100_000] {
-            let text = through_streams(alloc, row.0, &certificate, piece)?;
-            assert_eq!(rt; text, report, "{} {}", row.0, row.2);
+            let answer = ("yes", report.as_str());
+            is_answered(
+                &rt,
+                rt.alloc(),
+                Engine::Check,
+                (row.0, &certificate),
+                piece,
+                answer,
+            )?;
         }
-        let text = through_files(&rt, &folder, row.0, &certificate)?;
-        assert_eq!(rt; text, report, "{} {}", row.0, row.2);
+        let (status, out, err) = through_files(&rt, &folder, row.0, &certificate)?;
+        assert_eq!(rt; status, 0, "{} {}", row.0, row.2);
+        assert_eq!(rt; out, report, "{} {}", row.0, row.2);
+        assert!(rt; err.is_empty(), "{} {}", row.0, row.2);
     }
     fs::remove_dir_all(&rt, &folder)?;
     Ok(())

@@ -2,7 +2,6 @@
 use super::fakes::Kept;
 use super::{ACCEPTED, AMPLE, EMPTY_CERTIFICATE, LOOP, LOOP_CERTIFICATE, LOOP_GRAPH};
 use sedck_cli::program;
-use std::process::Abort;
 use std::test::Fail;
 use std::{env, fs, process};
 
@@ -19,7 +18,7 @@ static FILES: [(&'static str, &'static str); 5] = [
 ];
 
 /// Makes a folder of the test's own, with files that the words of a row may name.
-fn folder(rt: &HostRuntime, test: &str) -> Result<String, Fail> {
+pub fn folder(rt: &HostRuntime, test: &str) -> Result<String, Fail> {
     let alloc = rt.alloc();
     let temp = env::temp_dir(rt)?;
     let id = process::id(rt.process());
@@ -32,7 +31,7 @@ fn folder(rt: &HostRuntime, test: &str) -> Result<String, Fail> {
 }
 
 /// Runs the program on the words, of which each behind `@` is a file of the folder. Gives the status and both outputs.
-fn run(
+pub fn run(
     rt: &HostRuntime,
     folder: &str,
     words: &str,
@@ -184,10 +183,10 @@ fn files(rt: HostRuntime) -> Result<(), Fail> {
     for (words, status, out, err) in &ROWS {
         for room in [0, 7, AMPLE] {
             let (told, reported, fault) = run(&rt, &folder, words, room)?;
-            assert_eq!(rt; told, *status, "{words}");
-            assert_eq!(rt; reported.as_str(), *out, "{words}");
-            assert!(rt; err.starts_with(fault.as_str()), "{words}");
-            assert!(rt; room < AMPLE || fault.as_str() == *err, "{words}: {fault}");
+            assert_eq!(rt; (told, reported.as_str()), (*status, *out), "{words}");
+            let is_front = err.starts_with(fault.as_str())
+                && (room < AMPLE || fault.len() == err.len());
+            assert!(rt; is_front, "{words}: {fault}");
         }
     }
     fs::remove_dir_all(&rt, &folder)?;

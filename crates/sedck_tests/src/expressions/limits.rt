@@ -1,47 +1,32 @@
 //! Limits from both sides, the numbers of groups, and want of memory.
-use super::refusal;
+use super::{groups_of_text, refusal};
+use crate::texts::{Part, repeated};
 use sedck_bre::{ReFault, parse};
-use std::alloc::Global;
-use std::test::Fail;
+use std::alloc::AllocError;
 
-/// The part, so many times.
-fn repeated(alloc: Global, part: &[u8], count: usize) -> Result<Vec<u8>, Fail> {
-    let mut text = Vec::new(alloc);
-    for _ in 0..count {
-        text.extend_from_slice(part)?;
-    }
-    Ok(text)
-}
-
-#[test]
-fn many_groups(rt: HostRuntime) -> Result<(), Fail> {
-    let most = repeated(rt.alloc(), b"\\(\\)", 99)?;
-    match parse(rt.alloc(), &most) {
-        Ok(expression) => assert_eq!(rt; expression.groups(), 99),
-        Err(_) => assert!(rt; false, "refused"),
-    }
-    let more = repeated(rt.alloc(), b"\\(\\)", 100)?;
-    assert_eq!(rt; refusal(rt.alloc(), &more), Some((13, Some(396))));
-    Ok(())
-}
+/// The parts of a text, and the number and the place of its fault, if it is refused.
+static LIMITS: [(&'static [Part], Option<(u8, Option<usize>)>); 5] = [
+    (&[(b"\\(\\)", 99)], None),
+    (&[(b"\\(\\)", 100)], Some((13, Some(396)))),
+    (&[(b"\\(", 32), (b"\\)", 32)], None),
+    (&[(b"\\(", 33), (b"\\)", 33)], Some((12, Some(64)))),
+    // too deep and too many
+    (&[(b"\\(\\)", 67), (b"\\(", 33)], Some((12, Some(332)))),
+];
 
 #[test]
-fn deep_groups(rt: HostRuntime) -> Result<(), Fail> {
-    for (depth, wanted) in [(32, None), (33, Some((12, Some(64))))] {
-        let mut text = repeated(rt.alloc(), b"\\(", depth)?;
-        let close = repeated(rt.alloc(), b"\\)", depth)?;
-        text.extend_from_slice(&close)?;
-        assert_eq!(rt; refusal(rt.alloc(), &text), wanted);
+fn many_and_deep_groups(rt: HostRuntime) -> Result<(), AllocError> {
+    for (parts, wanted) in &LIMITS {
+        let text = repeated(rt.alloc(), *parts)?;
+        assert_eq!(rt; refusal(rt.alloc(), &text), *wanted);
     }
     Ok(())
 }
 
 #[test]
-fn deep_before_many(rt: HostRuntime) -> Result<(), Fail> {
-    let mut text = repeated(rt.alloc(), b"\\(\\)", 67)?;
-    let open = repeated(rt.alloc(), b"\\(", 33)?;
-    text.extend_from_slice(&open)?;
-    assert_eq!(rt; refusal(rt.alloc(), &text), Some((12, Some(332))));
+fn most_groups(rt: HostRuntime) -> Result<(), AllocError> {
+    let text = repeated(rt.alloc(), &[(b"\\(\\)", 99)])?;
+    assert_eq!(rt; groups_of_text(rt.alloc(), &text), Some(99));
     Ok(())
 }
 
@@ -74,10 +59,7 @@ static GROUPS: [(&'static [u8], u8); 5] = [
 #[test]
 fn group_numbers(rt: HostRuntime) {
     for (text, groups) in &GROUPS {
-        match parse(rt.alloc(), text) {
-            Ok(expression) => assert_eq!(rt; expression.groups(), *groups, "{text:?}"),
-            Err(_) => assert!(rt; false, "{text:?}"),
-        }
+        assert_eq!(rt; groups_of_text(rt.alloc(), text), Some(*groups), "{text:?}");
     }
 }
 

@@ -1,7 +1,7 @@
 //! Every beginning of a script, and limits from both sides.
 use super::fault_of;
-use std::alloc::Global;
-use std::test::Fail;
+use crate::texts::{Part, repeated};
+use std::alloc::AllocError;
 
 #[test]
 fn prefixes(rt: HostRuntime) {
@@ -13,32 +13,21 @@ fn prefixes(rt: HostRuntime) {
     }
 }
 
-/// Refuses, or reads, so many copies of the piece and then the end.
-fn repeated(
-    alloc: Global,
-    piece: &[u8],
-    count: usize,
-    end: &[u8],
-) -> Result<(u8, Option<usize>), Fail> {
-    let mut text = Vec::new(alloc);
-    for _ in 0..count {
-        text.extend_from_slice(piece)?;
-    }
-    text.extend_from_slice(end)?;
-    Ok(fault_of(alloc, &text))
-}
+/// The parts of a text, and the number and the place of its fault; 0 where it is a script.
+static LIMITS: [(&'static [Part], (u8, Option<usize>)); 6] = [
+    (&[(b"{", 64), (b"}", 64)], (0, None)),
+    (&[(b"{", 65), (b"}", 64)], (18, Some(64))),
+    (&[(b"p\n", 4095)], (0, None)),
+    (&[(b"p\n", 4095), (b"p", 1)], (19, Some(8190))),
+    (&[(b"\n", 1_048_576)], (0, None)),
+    (&[(b"\n", 1_048_576), (b"\0", 1)], (1, Some(1_048_576))),
+];
 
 #[test]
-fn whole_limits(rt: HostRuntime) -> Result<(), Fail> {
-    let closed = [b'}'; 64];
-    assert_eq!(rt; repeated(rt.alloc(), b"{", 64, &closed)?, (0, None));
-    assert_eq!(rt; repeated(rt.alloc(), b"{", 65, &closed)?, (18, Some(64)));
-    assert_eq!(rt; repeated(rt.alloc(), b"p\n", 4095, b"")?, (0, None));
-    assert_eq!(rt; repeated(rt.alloc(), b"p\n", 4095, b"p")?, (19, Some(8190)));
-    assert_eq!(rt; repeated(rt.alloc(), b"\n", 1_048_576, b"")?, (0, None));
-    assert_eq!(rt;
-        repeated(rt.alloc(), b"\n", 1_048_576, b"\0")?,
-        (1, Some(1_048_576))
-    );
+fn whole_limits(rt: HostRuntime) -> Result<(), AllocError> {
+    for (parts, fault) in &LIMITS {
+        let text = repeated(rt.alloc(), *parts)?;
+        assert_eq!(rt; fault_of(rt.alloc(), &text), *fault);
+    }
     Ok(())
 }

@@ -1,10 +1,10 @@
-//! Whole scripts that are read: the number of commands, the names, whether they are quiet, and targets.
-use sedck_script::{Verb, parse};
-use std::alloc::Global;
-use std::test::Fail;
+//! Whole scripts that are read: the number of commands, the names, and whether they are quiet.
+use sedck_script::parse;
+use std::alloc::{AllocError, Global};
+use std::process::Abort;
 
 /// The names with a newline each.
-fn lines(alloc: Global, names: &[&[u8]]) -> Result<Vec<u8>, Fail> {
+fn lines(alloc: Global, names: &[&[u8]]) -> Result<Vec<u8>, AllocError> {
     let mut lines = Vec::new(alloc);
     for name in names {
         lines.extend_from_slice(name)?;
@@ -32,39 +32,27 @@ static SCRIPTS: [Row; 13] = [
     (b"s//a/;/b/p", 2, b"", b"", false),
 ];
 
-#[test]
-fn scripts(rt: HostRuntime) -> Result<(), Fail> {
-    for (text, commands, reads, writes, quiet) in &SCRIPTS {
-        let script = parse(rt.alloc(), text).ok().ok_or("refused")?;
-        assert_eq!(rt; script.commands().len(), *commands, "{text:?}");
-        assert_eq!(rt;
-            lines(rt.alloc(), script.reads())?.as_slice(),
-            *reads,
-            "{text:?}"
-        );
-        assert_eq!(rt;
-            lines(rt.alloc(), script.writes())?.as_slice(),
-            *writes,
-            "{text:?}"
-        );
-        assert_eq!(rt; script.quiet(), *quiet, "{text:?}");
-    }
+/// Whether the names are these, with a newline each.
+fn are_names(
+    rt: &impl Abort,
+    alloc: Global,
+    names: &[&[u8]],
+    wanted: &[u8],
+) -> Result<(), AllocError> {
+    assert_eq!(rt; lines(alloc, names)?.as_slice(), wanted);
     Ok(())
 }
 
 #[test]
-fn targets(rt: HostRuntime) -> Result<(), Fail> {
-    let script = parse(rt.alloc(), b"{p;b a\n};t;:a").ok().ok_or("refused")?;
-    let commands = script.commands();
-    assert_eq!(rt; commands.len(), 5);
-    assert!(rt; matches!(&commands[0].verb, Verb::Block(3)));
-    assert!(rt; matches!(&commands[2].verb, Verb::Branch(4)));
-    assert!(rt; matches!(&commands[3].verb, Verb::Test(5)));
-    let script = parse(rt.alloc(), b" :a\n n \n\nb a").ok().ok_or("refused")?;
-    let commands = script.commands();
-    assert_eq!(rt; commands.len(), 3);
-    assert!(rt; matches!(&commands[0].verb, Verb::Label(b"a")));
-    assert!(rt; matches!(&commands[1].verb, Verb::Next));
-    assert!(rt; matches!(&commands[2].verb, Verb::Branch(0)));
+fn scripts(rt: HostRuntime) -> Result<(), AllocError> {
+    for (text, commands, reads, writes, quiet) in &SCRIPTS {
+        let Ok(script) = parse(rt.alloc(), text) else {
+            panic!(rt; "refused: {text:?}");
+        };
+        let count = script.commands().len();
+        assert_eq!(rt; (count, script.quiet()), (*commands, *quiet), "{text:?}");
+        are_names(&rt, rt.alloc(), script.reads(), reads)?;
+        are_names(&rt, rt.alloc(), script.writes(), writes)?;
+    }
     Ok(())
 }

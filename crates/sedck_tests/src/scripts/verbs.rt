@@ -1,5 +1,5 @@
 //! Verbs with what they take.
-use sedck_script::{Part, Verb, parse};
+use sedck_script::{Command, Part, Verb, parse};
 use std::alloc::Global;
 use std::process::Abort;
 
@@ -14,6 +14,7 @@ fn letter_of(verb: &Verb) -> u8 {
         Verb::Insert(_) => b'i',
         Verb::Read(_) => b'r',
         Verb::Write(_) => b'w',
+        Verb::Next => b'n',
         Verb::Print => b'p',
         Verb::Quit => b'q',
         Verb::Exchange => b'x',
@@ -44,23 +45,28 @@ fn target(verb: &Verb) -> usize {
     }
 }
 
-/// Each command by its letter, what it takes, and where it leads to.
-type Words = &'static [(u8, &'static [u8], usize)];
+/// A command's letter, what it takes, and where it leads to.
+type Word = (u8, &'static [u8], usize);
+
+type Words = &'static [Word];
+
+fn has_word(verb: &Verb, word: &Word) -> bool {
+    let (letter, text, at) = *word;
+    letter_of(verb) == letter && taken(verb) == text && target(verb) == at
+}
+
+fn are_words(rt: &impl Abort, text: &[u8], commands: &[Command], words: Words) {
+    assert_eq!(rt; commands.len(), words.len(), "{text:?}");
+    for (command, word) in commands.iter().zip(words) {
+        assert!(rt; has_word(&command.verb, word), "{text:?}");
+    }
+}
 
 fn have_words(rt: &impl Abort, alloc: Global, rows: &[(&'static [u8], Words)]) {
     for (text, words) in rows {
-        let Ok(script) = parse(alloc, text) else {
-            panic!(rt; "refused: {text:?}");
-        };
-        let commands = script.commands();
-        assert_eq!(rt; commands.len(), words.len(), "{text:?}");
-        for (command, word) in commands.iter().zip(*words) {
-            let verb = &command.verb;
-            assert_eq!(rt;
-                (letter_of(verb), taken(verb), target(verb)),
-                *word,
-                "{text:?}"
-            );
+        match parse(alloc, text) {
+            Ok(script) => are_words(rt, text, script.commands(), words),
+            Err(_) => panic!(rt; "refused: {text:?}"),
         }
     }
 }
@@ -93,7 +99,21 @@ fn names(rt: HostRuntime) {
     have_words(&rt, rt.alloc(), &NAMES);
 }
 
-static BRANCHES: [(&'static [u8], Words); 10] = [
+static BRANCHES: [(&'static [u8], Words); 12] = [
+    (
+        b"{p;b a\n};t;:a",
+        &[
+            (b'{', b"", 3),
+            (b'p', b"", 0),
+            (b'b', b"", 4),
+            (b't', b"", 5),
+            (b':', b"a", 0),
+        ],
+    ),
+    (
+        b" :a\n n \n\nb a",
+        &[(b':', b"a", 0), (b'n', b"", 0), (b'b', b"", 0)],
+    ),
     (
         b"{ba};:a",
         &[(b'{', b"", 2), (b'b', b"", 2), (b':', b"a", 0)],
@@ -117,8 +137,11 @@ fn branches(rt: HostRuntime) {
     have_words(&rt, rt.alloc(), &BRANCHES);
 }
 
-fn has_lists(verb: &Verb, first: &[u8], second: &[u8]) -> bool {
-    match verb {
+fn has_lists(commands: &[Command], at: usize, first: &[u8], second: &[u8]) -> bool {
+    let Some(command) = commands.get(at) else {
+        return false;
+    };
+    match &command.verb {
         Verb::Transliterate(from, to) => from.as_slice() == first && to.as_slice() == second,
         _ => false,
     }
@@ -135,13 +158,13 @@ static LISTS: [(&'static [u8], usize, usize, &'static [u8], &'static [u8]); 4] =
 #[test]
 fn lists(rt: HostRuntime) {
     for (text, count, at, from, to) in &LISTS {
-        let Ok(script) = parse(rt.alloc(), text) else {
-            panic!(rt; "refused: {text:?}");
-        };
-        let commands = script.commands();
-        assert_eq!(rt; commands.len(), *count, "{text:?}");
-        let command = commands.get(*at).expect(&rt, "no such command");
-        assert!(rt; has_lists(&command.verb, from, to), "{text:?}");
+        match parse(rt.alloc(), text) {
+            Ok(script) => {
+                assert_eq!(rt; script.commands().len(), *count, "{text:?}");
+                assert!(rt; has_lists(script.commands(), *at, from, to), "{text:?}");
+            }
+            Err(_) => panic!(rt; "refused: {text:?}"),
+        }
     }
 }
 
@@ -199,10 +222,17 @@ fn parts(rt: HostRuntime) {
 /// Whether all are substituted, whether lines are printed, which one is substituted, and the file.
 type Flags = (bool, bool, Option<u32>, Option<&'static [u8]>);
 
-fn flags_of<'a>(verb: &Verb<'a>) -> Option<(bool, bool, Option<u32>, Option<&'a [u8]>)> {
-    match verb {
-        Verb::Substitute(s) => Some((s.global, s.print, s.nth, s.file)),
-        _ => None,
+fn has_flags(commands: &[Command], at: usize, flags: &Flags) -> bool {
+    let Some(command) = commands.get(at) else {
+        return false;
+    };
+    let (global, print, nth, file) = *flags;
+    match &command.verb {
+        Verb::Substitute(s) => s.global == global
+            && s.print == print
+            && s.nth == nth
+            && s.file == file,
+        _ => false,
     }
 }
 
@@ -233,12 +263,12 @@ static FLAGS: [(&'static [u8], usize, usize, Flags); 5] = [
 #[test]
 fn flags(rt: HostRuntime) {
     for (text, count, at, flags) in &FLAGS {
-        let Ok(script) = parse(rt.alloc(), text) else {
-            panic!(rt; "refused: {text:?}");
-        };
-        let commands = script.commands();
-        assert_eq!(rt; commands.len(), *count, "{text:?}");
-        let command = commands.get(*at).expect(&rt, "no such command");
-        assert_eq!(rt; flags_of(&command.verb), Some(*flags), "{text:?}");
+        match parse(rt.alloc(), text) {
+            Ok(script) => {
+                assert_eq!(rt; script.commands().len(), *count, "{text:?}");
+                assert!(rt; has_flags(script.commands(), *at, flags), "{text:?}");
+            }
+            Err(_) => panic!(rt; "refused: {text:?}"),
+        }
     }
 }
