@@ -23,10 +23,12 @@ weaker None P Q f h = tt
 weaker (Some x) P Q f h = f x h
 
 symbol_shorter : (mark : ℕ) (text : List ℕ) → IfSome (symbol_at mark text) (Shorter text)
-symbol_shorter mark text = weaker (symbol_at mark text) (λ x. text ≡ x.0 ∷ mark ∷ 93 ∷ x.1) (Shorter text) (λ x h. omega (arith, ap length h)) (symbol_takes mark text)
+symbol_shorter mark text = weaker (symbol_at mark text) (λ x. text ≡ x.0 ∷ mark ∷ 93 ∷ x.1) (Shorter text) (λ x h. omega (arith, ap length h))
+    (symbol_takes mark text)
 
 byte_shorter : (text : List ℕ) → IfSome (byte_at text) (Shorter text)
-byte_shorter text = weaker (byte_at text) (IsByteBefore text) (Shorter text) (λ x h. omega (arith, ap length h.1, length-append h.0 x.1, byte_some h.0 x.1 x.0 h.2)) (byte_takes text)
+byte_shorter text = weaker (byte_at text) (IsByteBefore text) (Shorter text)
+    (λ x h. omega (arith, ap length h.1, length-append h.0 x.1, byte_some h.0 x.1 x.0 h.2)) (byte_takes text)
 
 -- a class's name and its `:]` are read
 abbrev IsClassBefore : List ℕ → Element × List ℕ → Type 0
@@ -34,12 +36,14 @@ IsClassBefore text x = (c : Class) × (x.0 ≡ Members c) × (text ≡ (class_na
 
 class_shorter : (text : List ℕ) → IfSome (class_from classes text) (Shorter text)
 class_shorter text = weaker (class_from classes text) (IsClassBefore text) (Shorter text)
-    (λ x h. omega (arith, ap length h.2, length-append (class_name h.0 ++ codes ":]") x.1, length-append (class_name h.0) (codes ":]"))) (class_takes classes text)
+    (λ x h. omega (arith, ap length h.2, length-append (class_name h.0 ++ codes ":]") x.1, length-append (class_name h.0) (codes ":]")))
+    (class_takes classes text)
 
 element_shorter : (first : Bool) (text : List ℕ) → IfSome (element_at first text) (Shorter text)
 element_shorter first text =
     cond_holds (begins "[" text && begins ":" (drop 1 text)) (whole_class_at (drop 2 text)) _ P
-    (λ _. bind_holds (class_from classes (drop 2 text)) no_range P (Shorter (drop 2 text)) (class_shorter (drop 2 text)) (λ x h. no_range_takes P x.0 x.1 (λ _. omega (arith, h, length-drop 2 text))))
+    (λ _. bind_holds (class_from classes (drop 2 text)) no_range P (Shorter (drop 2 text)) (class_shorter (drop 2 text))
+    (λ x h. no_range_takes P x.0 x.1 (λ _. omega (arith, h, length-drop 2 text))))
     (λ _. cond_holds (begins "[" text && begins "=" (drop 1 text)) (equivalents_at (drop 2 text)) _ P
     (λ _. bind_holds (symbol_at 61 (drop 2 text) >>= one) no_range P (Shorter (drop 2 text))
     (bind_holds (symbol_at 61 (drop 2 text)) one (Shorter (drop 2 text)) (Shorter (drop 2 text)) (symbol_shorter 61 (drop 2 text)) (λ x h. h))
@@ -67,7 +71,8 @@ alike (suc n) (suc m) first text l k =
     (bind_alike (element_at first text) (others (elements_at n)) (others (elements_at m)) (Shorter text) (element_shorter first text)
     (λ x s. ap (λ o. o >>= before_elements x.0) (alike n m false x.1 (omega arith) (omega arith))))
 
-pub elements_step : (first : Bool) (text : List ℕ) → elements_of first text ≡ cond (begins "]" text && not first) (Some ([], drop 1 text)) (element_at first text >>= others elements_of)
+pub elements_step : (first : Bool) (text : List ℕ)
+    → elements_of first text ≡ cond (begins "]" text && not first) (Some ([], drop 1 text)) (element_at first text >>= others elements_of)
 unfolding elements_at elements_of
 elements_step first text =
     ap (λ n. elements_at n first text) (add-one (length text))
@@ -80,7 +85,8 @@ inside_is : (text : List ℕ) → inside_at text ≡ cond (begins "^" text) (set
 unfolding elements_of
 inside_is text = go (begins "^" text) refl
   where
-    go : (b : Bool) → begins "^" text ≡ b → cond b (elements_at (length text) true (drop 1 text) >>= set_of true) (elements_at (length text + 1) true text >>= set_of false) ≡ cond b (set_at true (drop 1 text)) (set_at false text)
+    go : (b : Bool) → begins "^" text ≡ b → cond b (elements_at (length text) true (drop 1 text) >>= set_of true)
+        (elements_at (length text + 1) true text >>= set_of false) ≡ cond b (set_at true (drop 1 text)) (set_at false text)
     go true e =
         let longer : length (drop 1 text) < length text = omega (arith, ap length (one_front "^" 94 text refl e)) in
         ap (λ o. o >>= set_of true) (alike (length text) (length (drop 1 text) + 1) true (drop 1 text) longer (omega arith))
@@ -100,7 +106,8 @@ elements_before front (es, rest) = Some (front ++ es, rest)
 abbrev pub with_elements : List Element → Option (List Element × List ℕ) → Option (List Element × List ℕ)
 with_elements front o = o >>= elements_before front
 
-with_elements-push : (front : List Element) (e : Element) (o : Option (List Element × List ℕ)) → with_elements front (o >>= before_elements e) ≡ with_elements (front ++ e ∷ []) o
+with_elements-push : (front : List Element) (e : Element) (o : Option (List Element × List ℕ))
+    → with_elements front (o >>= before_elements e) ≡ with_elements (front ++ e ∷ []) o
 with_elements-push front e None = refl
 with_elements-push front e (Some x) = ap (λ es. Some (es, x.1)) (sym (append_assoc front (e ∷ []) x.0))
 
@@ -111,7 +118,8 @@ module _ (front : List Element) (first : Bool) (text : List ℕ) where
   pub elements_go : (e : Element) (after : List ℕ) → (begins "]" text && not first) ≡ false → element_at first text ≡ Some (e, after)
       → with_elements front (elements_of first text) ≡ with_elements (front ++ e ∷ []) (elements_of false after)
   elements_go e after going is =
-      ap (with_elements front) (elements_step first text ∙ rw going (ap (λ o. o >>= others elements_of) is)) ∙ with_elements-push front e (elements_of false after)
+      ap (with_elements front) (elements_step first text ∙ rw going (ap (λ o. o >>= others elements_of) is))
+      ∙ with_elements-push front e (elements_of false after)
 
   pub elements_fail : (begins "]" text && not first) ≡ false → element_at first text ≡ None → with_elements front (elements_of first text) ≡ None
   elements_fail going is =

@@ -45,11 +45,13 @@ back_plain (c ∷ text) h k = go (110 == c) (92 == c) h k
     go false b h k = k
 
 -- and the other way round
-pub plain_open : (text : List ℕ) → begins ":.=" text ≡ false → (begins "." text ≡ false) × (begins ":=" text ≡ false) × (begins ":" text ≡ false) × (begins "=" text ≡ false)
+pub plain_open : (text : List ℕ) → begins ":.=" text ≡ false
+    → (begins "." text ≡ false) × (begins ":=" text ≡ false) × (begins ":" text ≡ false) × (begins "=" text ≡ false)
 plain_open [] h = (refl, refl, refl, refl)
 plain_open (c ∷ text) h = go (58 == c) (46 == c) (61 == c) h
   where
-    go : (a b d : Bool) → (a || (b || (d || false))) ≡ false → ((b || false) ≡ false) × ((a || (d || false)) ≡ false) × ((a || false) ≡ false) × ((d || false) ≡ false)
+    go : (a b d : Bool) → (a || (b || (d || false))) ≡ false
+        → ((b || false) ≡ false) × ((a || (d || false)) ≡ false) × ((a || false) ≡ false) × ((d || false) ≡ false)
     go true b d h = absurd (false≢true (sym h))
     go false true d h = absurd (false≢true (sym h))
     go false false true h = absurd (false≢true (sym h))

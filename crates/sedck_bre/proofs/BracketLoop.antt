@@ -23,7 +23,8 @@ any_push p (x ∷ es) e = ap (λ b. p x || b) (any_push p es e) ∙ go (p x)
     go true = refl
     go false = refl
 
-pub just_push : (words : List ℕ) (front : List Element) (e : Element) → HasJust words (λ b. is_of front b || in_element b e) → HasJust words (is_of (front ++ e ∷ []))
+pub just_push : (words : List ℕ) (front : List Element) (e : Element) → HasJust words (λ b. is_of front b || in_element b e)
+    → HasJust words (is_of (front ++ e ∷ []))
 just_push words front e = just_same words (λ b. is_of front b || in_element b e) (is_of (front ++ e ∷ [])) (λ b. sym (any_push (in_element b) front e))
 
 -- ---- The words of the set
@@ -55,9 +56,11 @@ signed_same : (complement : Bool) (es : List Element) (b : ℕ) → signed compl
 signed_same true es b = refl
 signed_same false es b = refl
 
-module _ (complement : Bool) (text rest words : List ℕ) (es : List Element) (read : elements_of true text ≡ Some (es, rest)) (set : IsByteSet words) (just : HasJust words (signed complement (is_of es))) where
+module _ (complement : Bool) (text rest words : List ℕ) (es : List Element) (read : elements_of true text ≡ Some (es, rest)) (set : IsByteSet words)
+    (just : HasJust words (signed complement (is_of es))) where
   words_are : words ≡ words_of (is_listed complement es)
-  words_are = just_words words (is_listed complement es) set (just_same words (signed complement (is_of es)) (is_listed complement es) (signed_same complement es) just)
+  words_are = just_words words (is_listed complement es) set
+      (just_same words (signed complement (is_of es)) (is_listed complement es) (signed_same complement es) just)
 
   set_is : set_at complement text ≡ cond (not (has_no_word words)) (Some (words, rest)) None
   set_is =

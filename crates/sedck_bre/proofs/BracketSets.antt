@@ -28,16 +28,20 @@ word_bit test base (suc n) k l = go (test (base + n)) refl (last k l) (λ less. 
     last k l = elim (cases_lt k n) [ inl less ↦ inl less | inr more ↦ inr (omega arith) ]
 
     above : bit_at (2 ^ n + word_from test base n) n ≡ 1
-    above = ap (λ m. bit_at (m + word_from test base n) n) (sym (one-mul (2 ^ n))) ∙ bit_at_cat_high 1 n (word_from test base n) n (word_below test base n) (omega arith) ∙ ap (bit_at 1) (sub_self n)
+    above = ap (λ m. bit_at (m + word_from test base n) n) (sym (one-mul (2 ^ n)))
+        ∙ bit_at_cat_high 1 n (word_from test base n) n (word_below test base n) (omega arith) ∙ ap (bit_at 1) (sub_self n)
 
     below : (k : ℕ) → k < n → bit_at (2 ^ n + word_from test base n) k ≡ bit_at (word_from test base n) k
     below k less = ap (λ m. bit_at (m + word_from test base n) k) (sym (one-mul (2 ^ n))) ∙ bit_at_cat_low 1 n (word_from test base n) k less
 
-    go : (b : Bool) → test (base + n) ≡ b → (k < n) ⊎ (k ≡ n) → (k < n → bit_at (word_from test base n) k ≡ bit_of (test (base + k))) → bit_at (word_from test base n + cond b (2 ^ n) 0) k ≡ bit_of (test (base + k))
+    go : (b : Bool) → test (base + n) ≡ b → (k < n) ⊎ (k ≡ n) → (k < n → bit_at (word_from test base n) k ≡ bit_of (test (base + k)))
+        → bit_at (word_from test base n + cond b (2 ^ n) 0) k ≡ bit_of (test (base + k))
     go true e (inl less) again = ap (λ m. bit_at m k) (add_comm (word_from test base n) (2 ^ n)) ∙ below k less ∙ again less
-    go true e (inr is) again = ap (λ m. bit_at (word_from test base n + 2 ^ n) m) is ∙ ap (λ m. bit_at m n) (add_comm (word_from test base n) (2 ^ n)) ∙ above ∙ sym (ap (λ m. bit_of (test (base + m))) is ∙ ap bit_of e)
+    go true e (inr is) again = ap (λ m. bit_at (word_from test base n + 2 ^ n) m) is ∙ ap (λ m. bit_at m n) (add_comm (word_from test base n) (2 ^ n))
+        ∙ above ∙ sym (ap (λ m. bit_of (test (base + m))) is ∙ ap bit_of e)
     go false e (inl less) again = ap (λ m. bit_at m k) (add-zero (word_from test base n)) ∙ again less
-    go false e (inr is) again = ap (λ m. bit_at m k) (add-zero (word_from test base n)) ∙ bit_at_above (word_from test base n) n k (word_below test base n) (omega arith) ∙ sym (ap (λ m. bit_of (test (base + m))) is ∙ ap bit_of e)
+    go false e (inr is) again = ap (λ m. bit_at m k) (add-zero (word_from test base n))
+        ∙ bit_at_above (word_from test base n) n k (word_below test base n) (omega arith) ∙ sym (ap (λ m. bit_of (test (base + m))) is ∙ ap bit_of e)
 
 -- ---- The four words
 
@@ -95,12 +99,15 @@ bit_by n i true h = h.1 refl
 bit_by n i false h = zero_or_one n i (λ e. false≢true (h.0 e))
 
 -- the word of a set with these members
-word_same : (words : List ℕ) (test : ℕ → Bool) (i : ℕ) → i < 4 → slice_index words i < 2 ^ 64 → ((b : ℕ) → b < 256 → IsMember words b ↔ IsTrue (test b)) → slice_index words i ≡ word_of test i
+word_same : (words : List ℕ) (test : ℕ → Bool) (i : ℕ) → i < 4 → slice_index words i < 2 ^ 64
+    → ((b : ℕ) → b < 256 → IsMember words b ↔ IsTrue (test b)) → slice_index words i ≡ word_of test i
 word_same words test i l small members =
     same_from_bits_below 64 (slice_index words i) (word_of test i) small (word_below test (64 * i) 64)
     (λ k less. let at : (64 * i + k) / 64 ≡ i = omega arith in
     let low : (64 * i + k) % 64 ≡ k = omega arith in
-    let same : ((bit_at (slice_index words i) k ≡ 1) ↔ IsTrue (test (64 * i + k))) = subst (λ m. (bit_at (slice_index words m) k ≡ 1) ↔ IsTrue (test (64 * i + k))) at (subst (λ m. (bit_at (slice_index words ((64 * i + k) / 64)) m ≡ 1) ↔ IsTrue (test (64 * i + k))) low (members (64 * i + k) (omega arith))) in
+    let same : ((bit_at (slice_index words i) k ≡ 1) ↔ IsTrue (test (64 * i + k))) =
+    subst (λ m. (bit_at (slice_index words m) k ≡ 1) ↔ IsTrue (test (64 * i + k))) at
+    (subst (λ m. (bit_at (slice_index words ((64 * i + k) / 64)) m ≡ 1) ↔ IsTrue (test (64 * i + k))) low (members (64 * i + k) (omega arith))) in
     bit_by (slice_index words i) k (test (64 * i + k)) same ∙ sym (word_bit test (64 * i) 64 k less))
 
 pub set_same : (words : List ℕ) (test : ℕ → Bool) → IsByteSet words → ((b : ℕ) → b < 256 → IsMember words b ↔ IsTrue (test b)) → words ≡ words_of test
@@ -135,7 +142,8 @@ index_tested (w ∷ words) (suc i) l h = tested_later (not (w == 0)) (some_word 
 
 pub member_tested : (words : List ℕ) → length words ≡ 4 → HasMember words → some_word words ≡ true
 member_tested words long (b, below, member) =
-    index_tested words (b / 64) (omega arith) (λ e. let none : 0 ≡ 1 = sym (ap (λ w. bit_at w (b % 64)) e ∙ bit_at-zero (b % 64)) ∙ member in absurd (omega (arith, none)))
+    index_tested words (b / 64) (omega arith) (λ e. let none : 0 ≡ 1 = sym (ap (λ w. bit_at w (b % 64)) e ∙ bit_at-zero (b % 64)) ∙ member in
+    absurd (omega (arith, none)))
 
 tested_index : (words : List ℕ) → some_word words ≡ true → (i : ℕ) × (i < length words) × (slice_index words i ≡ 0 → ⊥)
 tested_index [] h = absurd (false≢true h)
@@ -156,5 +164,8 @@ pub tested_member : (words : List ℕ) → IsByteSet words → some_word words �
 tested_member words set h =
     let found = tested_index words h in
     let below : slice_index words found.0 < 2 ^ 64 = set.1 found.0 0 found.1 in
-    let bit = bit_at-trailing_zeros w64 (slice_index words found.0) (positive (slice_index words found.0) found.2) below in
-    (64 * found.0 + trailing_zeros w64 (slice_index words found.0), omega (arith, set.0, found.1, bit.0), member_at words found.0 (trailing_zeros w64 (slice_index words found.0)) bit.0 bit.1)
+    let bit = bit_at-trailing_zeros w64 (slice_index words found.0) (positive (slice_index words found.0) found.2) below in (
+      64 * found.0 + trailing_zeros w64 (slice_index words found.0),
+      omega (arith, set.0, found.1, bit.0),
+      member_at words found.0 (trailing_zeros w64 (slice_index words found.0)) bit.0 bit.1,
+    )

@@ -19,7 +19,8 @@ symbol_takes mark (c ∷ []) = tt
 symbol_takes mark (c ∷ d ∷ []) = tt
 symbol_takes mark (c ∷ d ∷ e ∷ text) =
     cond_holds ((d == mark) && (e == 93)) (Some (c, text)) None (λ x. c ∷ d ∷ e ∷ text ≡ x.0 ∷ mark ∷ 93 ∷ x.1)
-    (λ h. let both = and_left (d == mark) (e == 93) h in ap (λ x. c ∷ x ∷ e ∷ text) (eqb-true d mark both.0) ∙ ap (λ x. c ∷ mark ∷ x ∷ text) (eqb-true e 93 both.1))
+    (λ h. let both = and_left (d == mark) (e == 93) h in ap (λ x. c ∷ x ∷ e ∷ text) (eqb-true d mark both.0)
+    ∙ ap (λ x. c ∷ mark ∷ x ∷ text) (eqb-true e 93 both.1))
     (λ _. tt)
 
 -- a byte is written at the front of the text, before the rest
@@ -45,9 +46,15 @@ byte_takes (c ∷ text) =
     (λ no_back. itself c text (rw (not_open, is, back_plain text no_n no_back) refl))))
     (λ not_back. itself c text (rw (not_open, not_back) refl)))
   where
-    symbol : (c : ℕ) (text : List ℕ) → c ≡ 91 → text ≡ 46 ∷ drop 1 text → (o : Option (ℕ × List ℕ)) → IfSome o (λ x. drop 1 text ≡ x.0 ∷ 46 ∷ 93 ∷ x.1) → IfSome o (IsByteBefore (c ∷ text))
+    symbol : (c : ℕ) (text : List ℕ) → c ≡ 91 → text ≡ 46 ∷ drop 1 text → (o : Option (ℕ × List ℕ))
+        → IfSome o (λ x. drop 1 text ≡ x.0 ∷ 46 ∷ 93 ∷ x.1) → IfSome o (IsByteBefore (c ∷ text))
     symbol c text is dot None h = tt
-    symbol c text is dot (Some x) h = (codes "[." ++ x.0 ∷ codes ".]", ap (λ y. y ∷ text) is ∙ ap (λ t. 91 ∷ t) (dot ∙ ap (λ t. 46 ∷ t) h), inr (inr (inr refl)))
+    symbol c text is dot (Some x) h = (
+      codes "[." ++ x.0 ∷ codes ".]",
+      ap (λ y. y ∷ text) is
+          ∙ ap (λ t. 91 ∷ t) (dot ∙ ap (λ t. 46 ∷ t) h),
+      inr (inr (inr refl)),
+    )
 
 -- what is written before a text is written before the part of it up to the closing bracket
 writes_before : (u v rest : List ℕ) (c : ℕ) → WritesByte u (v ++ 93 ∷ rest) c → WritesByte u v c
@@ -58,7 +65,8 @@ writes_before u v rest c (inr h) = inr h
 
 -- the element is written at the front of the text, whatever elements come up to the closing bracket
 abbrev IsElementBefore : Bool → List ℕ → Element × List ℕ → Type 0
-IsElementBefore first text x = (u : List ℕ) × (text ≡ u ++ x.1) × ((v rest : List ℕ) → x.1 ≡ v ++ 93 ∷ rest → is_closing_front v ≡ false → WritesElement first u v x.0)
+IsElementBefore first text x = (u : List ℕ) × (text ≡ u ++ x.1)
+    × ((v rest : List ℕ) → x.1 ≡ v ++ 93 ∷ rest → is_closing_front v ≡ false → WritesElement first u v x.0)
 
 range_ends : (v rest after : List ℕ) → after ≡ v ++ 93 ∷ rest → is_closing_front v ≡ false → ranges after ≡ false → begins_range v ≡ false
 range_ends v rest after e h k = range_before v rest h (sym (ap ranges e) ∙ k)
@@ -74,10 +82,12 @@ starts_text (b ∷ p) (c ∷ text) h =
     let both = and_left (b == c) (starts_with nat_eq text p) h in
     ap (λ x. x ∷ text) (sym (eqb-true b c both.0)) ∙ ap (λ t. b ∷ t) (starts_text p text both.1)
 
-pub class_takes : (cs : List Class) (text : List ℕ) → IfSome (class_from cs text) (λ x. (c : Class) × (x.0 ≡ Members c) × (text ≡ (class_name c ++ codes ":]") ++ x.1))
+pub class_takes : (cs : List Class) (text : List ℕ)
+    → IfSome (class_from cs text) (λ x. (c : Class) × (x.0 ≡ Members c) × (text ≡ (class_name c ++ codes ":]") ++ x.1))
 class_takes [] text = tt
 class_takes (c ∷ cs) text =
-    cond_holds (starts_with nat_eq text (class_name c ++ codes ":]")) _ (class_from cs text) (λ x. (c : Class) × (x.0 ≡ Members c) × (text ≡ (class_name c ++ codes ":]") ++ x.1))
+    cond_holds (starts_with nat_eq text (class_name c ++ codes ":]")) _ (class_from cs text)
+    (λ x. (c : Class) × (x.0 ≡ Members c) × (text ≡ (class_name c ++ codes ":]") ++ x.1))
     (λ h. (c, refl, starts_text (class_name c ++ codes ":]") text h ∙ ap (λ n. (class_name c ++ codes ":]") ++ drop n text) (two_more c)))
     (λ _. class_takes cs text)
   where
@@ -88,7 +98,8 @@ abbrev IsFirstBracket : Bool → List ℕ → Type 0
 IsFirstBracket first text = (begins "]" text && not first) ≡ false
 
 -- a bare bracket is first, and a bare `-` too where it isn't last
-in_place : (first : Bool) (text u after next : List ℕ) → text ≡ u ++ after → IsFirstBracket first text → (begins "-" text && not first) ≡ false → IsInPlace first u next
+in_place : (first : Bool) (text u after next : List ℕ) → text ≡ u ++ after → IsFirstBracket first text → (begins "-" text && not first) ≡ false
+    → IsInPlace first u next
 in_place first text u after next e bracket dash = (
   λ is. not_first first (begins "]" text) bracket (ap (begins "]") (e ∙ ap (λ x. x ++ after) is)),
   λ is. inl (not_first first (begins "-" text) dash (ap (begins "-") (e ∙ ap (λ x. x ++ after) is))),
@@ -99,16 +110,19 @@ in_place first text u after next e bracket dash = (
     not_first false true h k = absurd (false≢true (sym h))
     not_first false false h k = k
 
-class_element : (first : Bool) (text : List ℕ) → text ≡ 91 ∷ 58 ∷ drop 2 text → IfSome (class_from classes (drop 2 text) >>= no_range) (IsElementBefore first text)
+class_element : (first : Bool) (text : List ℕ) → text ≡ 91 ∷ 58 ∷ drop 2 text
+    → IfSome (class_from classes (drop 2 text) >>= no_range) (IsElementBefore first text)
 class_element first text front =
-    bind_holds (class_from classes (drop 2 text)) no_range (IsElementBefore first text) (λ x. (c : Class) × (x.0 ≡ Members c) × (drop 2 text ≡ (class_name c ++ codes ":]") ++ x.1)) (class_takes classes (drop 2 text))
+    bind_holds (class_from classes (drop 2 text)) no_range (IsElementBefore first text)
+    (λ x. (c : Class) × (x.0 ≡ Members c) × (drop 2 text ≡ (class_name c ++ codes ":]") ++ x.1)) (class_takes classes (drop 2 text))
     (λ x h. no_range_takes (IsElementBefore first text) x.0 x.1 (λ k. (
       codes "[:" ++ class_name h.0 ++ codes ":]",
       front ∙ ap (λ t. 91 ∷ 58 ∷ t) h.2,
       λ v rest e closing. subst (WritesElement first (codes "[:" ++ class_name h.0 ++ codes ":]") v) (sym h.1) (refl, range_ends v rest x.1 e closing k),
     )))
 
-same_element : (first : Bool) (text : List ℕ) → text ≡ 91 ∷ 61 ∷ drop 2 text → IfSome (symbol_at 61 (drop 2 text) >>= one >>= no_range) (IsElementBefore first text)
+same_element : (first : Bool) (text : List ℕ) → text ≡ 91 ∷ 61 ∷ drop 2 text
+    → IfSome (symbol_at 61 (drop 2 text) >>= one >>= no_range) (IsElementBefore first text)
 same_element first text front = go (symbol_at 61 (drop 2 text)) (symbol_takes 61 (drop 2 text))
   where
     go : (o : Option (ℕ × List ℕ)) → IfSome o (λ x. drop 2 text ≡ x.0 ∷ 61 ∷ 93 ∷ x.1) → IfSome (o >>= one >>= no_range) (IsElementBefore first text)
@@ -116,14 +130,23 @@ same_element first text front = go (symbol_at 61 (drop 2 text)) (symbol_takes 61
     go (Some x) h = no_range_takes (IsElementBefore first text) (One x.0) x.1 (λ k. (
       codes "[=" ++ x.0 ∷ codes "=]",
       front ∙ ap (λ t. 91 ∷ 61 ∷ t) h,
-      λ v rest e closing. (inr refl, ((λ is. absurd (omega (arith, ap length is))), (λ is. absurd (omega (arith, ap length is)))), range_ends v rest x.1 e closing k),
+      λ v rest e closing. (
+        inr refl,
+        ((λ is. absurd (omega (arith, ap length is))), (λ is. absurd (omega (arith, ap length is)))),
+        range_ends v rest x.1 e closing k,
+      ),
     ))
 
 -- the `-` before the closing bracket
 last_dash : (text : List ℕ) → text ≡ 45 ∷ drop 1 text → IfSome (cond (begins "]" (drop 1 text)) (Some (One 45, drop 1 text)) None) (IsElementBefore false text)
 last_dash text front =
     cond_holds (begins "]" (drop 1 text)) (Some (One 45, drop 1 text)) None (IsElementBefore false text)
-    (λ h. (codes "-", front, λ v rest e closing. let none : v ≡ [] = nothing_left v rest (drop 1 text) h e closing in (inl (inl (refl, refl)), ((λ is. absurd (differ is)), (λ _. inr none)), ap begins_range none)))
+    (λ h. (
+      codes "-",
+      front,
+      λ v rest e closing. let none : v ≡ [] =
+          nothing_left v rest (drop 1 text) h e closing in (inl (inl (refl, refl)), ((λ is. absurd (differ is)), (λ _. inr none)), ap begins_range none),
+    ))
     (λ _. tt)
   where
     differ : codes "-" ≡ codes "]" → ⊥
@@ -142,7 +165,8 @@ last_dash text front =
         absurd (false≢true (sym closing ∙ ap (λ x. (x == 93) || ((x == 45) && (d == 93))) first))
 
 -- a byte, or a range that begins with it
-byte_element : (first : Bool) (text : List ℕ) → IsFirstBracket first text → (begins "-" text && not first) ≡ false → IfSome (byte_at text >>= range_or_one) (IsElementBefore first text)
+byte_element : (first : Bool) (text : List ℕ) → IsFirstBracket first text → (begins "-" text && not first) ≡ false
+    → IfSome (byte_at text >>= range_or_one) (IsElementBefore first text)
 byte_element first text bracket dash =
     bind_holds (byte_at text) range_or_one (IsElementBefore first text) (IsByteBefore text) (byte_takes text)
     (λ x h. cond_holds (ranges x.1) (byte_at (drop 1 x.1) >>= range_to x.0) (Some (One x.0, x.1)) (IsElementBefore first text)
@@ -179,7 +203,8 @@ byte_element first text bracket dash =
     first_byte u s t a (inl h) = inl (h.0, plain_dash a t s ∙ h.1)
     first_byte u s t a (inr h) = inr h
 
-    range_element : (a z : ℕ) (u mid w after : List ℕ) → text ≡ u ++ mid → WritesByte u mid a → ranges mid ≡ true → drop 1 mid ≡ w ++ after → WritesByte w after z → a ≤ z → IsElementBefore first text (Range a z, after)
+    range_element : (a z : ℕ) (u mid w after : List ℕ) → text ≡ u ++ mid → WritesByte u mid a → ranges mid ≡ true → drop 1 mid ≡ w ++ after
+        → WritesByte w after z → a ≤ z → IsElementBefore first text (Range a z, after)
     range_element a z u mid w after e wa r f wz le =
         let is_mid : mid ≡ 45 ∷ (w ++ after) = dash_front mid r ∙ ap (λ t. 45 ∷ t) f in (
           u ++ codes "-" ++ w,
@@ -198,7 +223,8 @@ byte_element first text bracket dash =
 
 -- ---- The elements
 
-two_fronts : (s t : String) (a b : ℕ) (text : List ℕ) → codes s ≡ a ∷ [] → codes t ≡ b ∷ [] → (begins s text && begins t (drop 1 text)) ≡ true → text ≡ a ∷ b ∷ drop 2 text
+two_fronts : (s t : String) (a b : ℕ) (text : List ℕ) → codes s ≡ a ∷ [] → codes t ≡ b ∷ [] → (begins s text && begins t (drop 1 text)) ≡ true
+    → text ≡ a ∷ b ∷ drop 2 text
 two_fronts s t a b [] d e h = absurd (false≢true h)
 two_fronts s t a b (c ∷ text) d e h =
     let both = and_left (begins s (c ∷ text)) (begins t text) h in
@@ -213,11 +239,13 @@ element_takes first text bracket =
     (λ h. class_element first text (two_fronts "[" ":" 91 58 text refl refl h))
     (λ _. cond_holds (begins "[" text && begins "=" (drop 1 text)) (symbol_at 61 (drop 2 text) >>= one >>= no_range) _ (IsElementBefore first text)
     (λ h. same_element first text (two_fronts "[" "=" 91 61 text refl refl h))
-    (λ _. cond_holds (begins "-" text && not first) (cond (begins "]" (drop 1 text)) (Some (One 45, drop 1 text)) None) (byte_at text >>= range_or_one) (IsElementBefore first text)
+    (λ _. cond_holds (begins "-" text && not first) (cond (begins "]" (drop 1 text)) (Some (One 45, drop 1 text)) None)
+    (byte_at text >>= range_or_one) (IsElementBefore first text)
     (λ h. dash first h)
     (λ h. byte_element first text bracket h)))
   where
-    dash : (flag : Bool) → (begins "-" text && not flag) ≡ true → IfSome (cond (begins "]" (drop 1 text)) (Some (One 45, drop 1 text)) None) (IsElementBefore flag text)
+    dash : (flag : Bool) → (begins "-" text && not flag) ≡ true
+        → IfSome (cond (begins "]" (drop 1 text)) (Some (One 45, drop 1 text)) None) (IsElementBefore flag text)
     dash true h = absurd (false≢true (and_left (begins "-" text) false h).1)
     dash false h = last_dash text (one_front "-" 45 text refl (and_left (begins "-" text) true h).0)
 
@@ -229,7 +257,8 @@ byte_front u next t c (inr (inr (inl h))) = inr (ap (λ x. is_closing_front (x +
 byte_front u next t c (inr (inr (inr h))) = inr (ap (λ x. is_closing_front (x ++ t)) h)
 
 -- behind the first element a bare bracket doesn't stand, and a bare `-` only at the end
-itself_front : (c : ℕ) (v : List ℕ) → ((c ∷ [] ≡ codes "]") → IsTrue false) → ((c ∷ [] ≡ codes "-") → IsTrue false ⊎ (v ≡ [])) → is_closing_front (c ∷ v) ≡ false
+itself_front : (c : ℕ) (v : List ℕ) → ((c ∷ [] ≡ codes "]") → IsTrue false) → ((c ∷ [] ≡ codes "-") → IsTrue false ⊎ (v ≡ []))
+    → is_closing_front (c ∷ v) ≡ false
 itself_front c [] bracket dash = no_bracket c bracket
   where
     no_bracket : (c : ℕ) → ((c ∷ [] ≡ codes "]") → IsTrue false) → (c == 93) ≡ false
@@ -242,7 +271,8 @@ itself_front c (d ∷ v) bracket dash = go (c == 93) (c == 45) refl refl
   where
     go : (a b : Bool) → (c == 93) ≡ a → (c == 45) ≡ b → (a || (b && (d == 93))) ≡ false
     go true b e f = absurd (false≢true (bracket (ap (λ x. x ∷ []) (eqb-true c 93 e))))
-    go false true e f = elim (dash (ap (λ x. x ∷ []) (eqb-true c 45 f))) [ inl wrong ↦ absurd (false≢true wrong) | inr none ↦ absurd (omega (arith, ap length none)) ]
+    go false true e f =
+        elim (dash (ap (λ x. x ∷ []) (eqb-true c 45 f))) [ inl wrong ↦ absurd (false≢true wrong) | inr none ↦ absurd (omega (arith, ap length none)) ]
     go false false e f = refl
 
 element_front : (u v : List ℕ) (e : Element) → WritesElement false u v e → is_closing_front (u ++ v) ≡ false
@@ -254,8 +284,11 @@ element_front u v (One c) (inl byte, place, range) =
 element_front u v (One c) (inr same, place, range) = ap (λ x. is_closing_front (x ++ v)) same
 element_front u v (Range a z) (x, y, is_text, place, first, second, no_bracket, le) =
     elim (byte_front x (codes "-" ++ y ++ v) (codes "-" ++ y ++ v) a first) [
-      | inl is ↦ ap (λ t. is_closing_front (t ++ v)) (is_text ∙ ap (λ t. (t ++ codes "-") ++ y) is) ∙ itself_front a (45 ∷ (y ++ v)) (λ e. place.0 (is ∙ e)) (λ e. elim (place.1 (is ∙ e)) [ inl wrong ↦ inl wrong | inr none ↦ absurd (omega (arith, ap length none)) ])
-      | inr other ↦ ap (λ t. is_closing_front (t ++ v)) is_text ∙ ap is_closing_front (append_assoc (x ++ codes "-") y v ∙ append_assoc x (codes "-") (y ++ v)) ∙ other
+      | inl is ↦ ap (λ t. is_closing_front (t ++ v)) (is_text ∙ ap (λ t. (t ++ codes "-") ++ y) is)
+          ∙ itself_front a (45 ∷ (y ++ v)) (λ e. place.0 (is ∙ e))
+          (λ e. elim (place.1 (is ∙ e)) [ inl wrong ↦ inl wrong | inr none ↦ absurd (omega (arith, ap length none)) ])
+      | inr other ↦ ap (λ t. is_closing_front (t ++ v)) is_text
+          ∙ ap is_closing_front (append_assoc (x ++ codes "-") y v ∙ append_assoc x (codes "-") (y ++ v)) ∙ other
     ]
 element_front u v (Members class) h = ap (λ x. is_closing_front (x ++ v)) h.0
 
@@ -275,7 +308,12 @@ unfolding elements_at
 elements_take zero first text = tt
 elements_take (suc n) first text =
     cond_holds (begins "]" text && not first) (Some ([], drop 1 text)) (element_at first text >>= others (elements_at n)) (AreElementsBefore first text)
-    (λ h. ([], one_front "]" 93 text refl (and_left (begins "]" text) (not first) h).0, refl, λ is. absurd (false≢true (sym (ap not is) ∙ (and_left (begins "]" text) (not first) h).1))))
+    (λ h. (
+      [],
+      one_front "]" 93 text refl (and_left (begins "]" text) (not first) h).0,
+      refl,
+      λ is. absurd (false≢true (sym (ap not is) ∙ (and_left (begins "]" text) (not first) h).1)),
+    ))
     (λ h. bind_holds (element_at first text) (others (elements_at n)) (AreElementsBefore first text) (IsElementBefore first text) (element_takes first text h)
     (λ x k. bind_holds (elements_at n false x.1) (before_elements x.0) (AreElementsBefore first text) (AreElementsBefore false x.1) (elements_take n false x.1)
     (λ y m. (

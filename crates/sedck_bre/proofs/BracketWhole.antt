@@ -26,15 +26,19 @@ byte_some u next c (inr (inr (inr h))) = omega (arith, ap length h)
 element_some : (first : Bool) (u v : List ℕ) (e : Element) → WritesElement first u v e → 0 < length u
 element_some first u v (One c) (inl byte, place, range) = byte_some u v c byte
 element_some first u v (One c) (inr same, place, range) = omega (arith, ap length same)
-element_some first u v (Range a z) (x, y, is, place, byte, second, no_bracket, le) = omega (arith, ap length is, length-append (x ++ codes "-") y, length-append x (codes "-"))
-element_some first u v (Members class) (is, range) = omega (arith, ap length is, length-append (codes "[:") (class_name class), length-append (codes "[:" ++ class_name class) (codes ":]"))
+element_some first u v (Range a z) (x, y, is, place, byte, second, no_bracket, le) =
+    omega (arith, ap length is, length-append (x ++ codes "-") y, length-append x (codes "-"))
+element_some first u v (Members class) (is, range) =
+    omega (arith, ap length is, length-append (codes "[:") (class_name class), length-append (codes "[:" ++ class_name class) (codes ":]"))
 
 pub elements_few : (es : List Element) (first : Bool) (inside : List ℕ) → WritesElements first inside es → length es ≤ length inside
 elements_few [] first inside h = omega arith
-elements_few (e ∷ es) first inside (u, v, is, one, more) = omega (arith, elements_few es false v more, element_some first u v e one, ap length is, length-append u v)
+elements_few (e ∷ es) first inside (u, v, is, one, more) =
+    omega (arith, elements_few es false v more, element_some first u v e one, ap length is, length-append u v)
 
 -- the list isn't over where elements are left
-goes_on : (first : Bool) (inside rest : List ℕ) → 0 < length inside → (first ≡ false → is_closing_front inside ≡ false) → (begins "]" (inside ++ 93 ∷ rest) && not first) ≡ false
+goes_on : (first : Bool) (inside rest : List ℕ) → 0 < length inside → (first ≡ false → is_closing_front inside ≡ false)
+    → (begins "]" (inside ++ 93 ∷ rest) && not first) ≡ false
 goes_on first [] rest some front = absurd (omega arith)
 goes_on true (c ∷ inside) rest some front = both_false (begins "]" (c ∷ (inside ++ 93 ∷ rest)))
   where
@@ -58,26 +62,31 @@ goes_on false (c ∷ inside) rest some front = ap (λ b. b && not false) (no_bra
     no_bracket c [] h = ap (λ b. b || false) (turned c h)
     no_bracket c (d ∷ inside) h = ap (λ b. b || false) (turned c (left (c == 93) ((c == 45) && (d == 93)) h))
 
-pub elements_again : (es : List Element) (n : ℕ) (first : Bool) (inside rest : List ℕ) → WritesElements first inside es → (first ≡ true → es ≢ []) → length es < n → elements_at n first (inside ++ 93 ∷ rest) ≡ Some (es, rest)
+pub elements_again : (es : List Element) (n : ℕ) (first : Bool) (inside rest : List ℕ) → WritesElements first inside es → (first ≡ true → es ≢ [])
+    → length es < n → elements_at n first (inside ++ 93 ∷ rest) ≡ Some (es, rest)
 unfolding elements_at
 elements_again es zero first inside rest h some l = absurd (omega arith)
 elements_again [] (suc n) true inside rest h some l = absurd (some refl refl)
 elements_again [] (suc n) false inside rest h some l = ap (λ x. elements_at (suc n) false (x ++ 93 ∷ rest)) h
 elements_again (e ∷ es) (suc n) first inside rest (u, v, is, one, more) some l =
     ap (λ b. cond b (Some ([], drop 1 (inside ++ 93 ∷ rest))) (element_at first (inside ++ 93 ∷ rest) >>= others (elements_at n)))
-    (goes_on first inside rest (omega (arith, element_some first u v e one, ap length is, length-append u v)) (λ later. written_front inside (e ∷ es) (subst (λ f. WritesElements f inside (e ∷ es)) later (u, v, is, one, more))))
-    ∙ ap (λ o. o >>= others (elements_at n)) (ap (element_at first) (ap (λ x. x ++ 93 ∷ rest) is ∙ append_assoc u v (93 ∷ rest)) ∙ element_again first u v rest e one)
+    (goes_on first inside rest (omega (arith, element_some first u v e one, ap length is, length-append u v))
+    (λ later. written_front inside (e ∷ es) (subst (λ f. WritesElements f inside (e ∷ es)) later (u, v, is, one, more))))
+    ∙ ap (λ o. o >>= others (elements_at n)) (ap (element_at first) (ap (λ x. x ++ 93 ∷ rest) is ∙ append_assoc u v (93 ∷ rest))
+    ∙ element_again first u v rest e one)
     ∙ ap (λ o. o >>= before_elements e) (elements_again es n false v rest more (λ wrong. absurd (false≢true wrong)) (omega arith))
 
 -- ---- The whole list is read again
 
-set_again : (complement : Bool) (es : List Element) (words rest : List ℕ) → words ≡ words_of (is_listed complement es) → some_word words ≡ true → set_of complement (es, rest) ≡ Some (words, rest)
+set_again : (complement : Bool) (es : List Element) (words rest : List ℕ) → words ≡ words_of (is_listed complement es) → some_word words ≡ true
+    → set_of complement (es, rest) ≡ Some (words, rest)
 set_again complement es words rest is some =
     ap (λ b. cond b (Some (words_of (is_listed complement es), rest)) None) (ap some_word (sym is) ∙ some) ∙ ap (λ w. Some (w, rest)) (sym is)
 
 pub bracket_again : (u words rest : List ℕ) → IsBracketList u words → HasMember words → bracket_at (u ++ rest) ≡ Some (words, rest)
 unfolding bracket_at
-bracket_again u words rest h member = ap (λ x. bracket_at (x ++ rest)) h.written ∙ go h.complement h.sign (set_same words (is_listed h.complement h.elements) h.set h.members)
+bracket_again u words rest h member = ap (λ x. bracket_at (x ++ rest)) h.written
+    ∙ go h.complement h.sign (set_same words (is_listed h.complement h.elements) h.set h.members)
   where
     tail : (complement : Bool) → (opening complement ++ h.inside ++ codes "]") ++ rest ≡ opening complement ++ (h.inside ++ 93 ∷ rest)
     tail complement = append_assoc (opening complement ++ h.inside) (codes "]") rest ∙ append_assoc (opening complement) h.inside (93 ∷ rest)
@@ -88,12 +97,17 @@ bracket_again u words rest h member = ap (λ x. bracket_at (x ++ rest)) h.writte
     enough : length h.elements ≤ length (h.inside ++ 93 ∷ rest)
     enough = omega (arith, elements_few h.elements true h.inside h.spelled, length-append h.inside (93 ∷ rest))
 
-    go : (complement : Bool) → (complement ≡ false → begins "^" h.inside ≡ false) → words ≡ words_of (is_listed complement h.elements) → bracket_at ((opening complement ++ h.inside ++ codes "]") ++ rest) ≡ Some (words, rest)
+    go : (complement : Bool) → (complement ≡ false → begins "^" h.inside ≡ false) → words ≡ words_of (is_listed complement h.elements)
+        → bracket_at ((opening complement ++ h.inside ++ codes "]") ++ rest) ≡ Some (words, rest)
     go true sign is =
-        ap bracket_at (tail true) ∙ ap (λ o. o >>= set_of true) (elements_again h.elements (suc (length (h.inside ++ 93 ∷ rest))) true h.inside rest h.spelled (λ _. h.some) (omega (arith, enough))) ∙ set true is
+        ap bracket_at (tail true) ∙ ap (λ o. o >>= set_of true)
+        (elements_again h.elements (suc (length (h.inside ++ 93 ∷ rest))) true h.inside rest h.spelled (λ _. h.some) (omega (arith, enough))) ∙ set true is
     go false sign is =
-        ap bracket_at (tail false) ∙ ap (λ b. cond b (elements_at (length (h.inside ++ 93 ∷ rest)) true (drop 1 (h.inside ++ 93 ∷ rest)) >>= set_of true) (elements_at (length (h.inside ++ 93 ∷ rest) + 1) true (h.inside ++ 93 ∷ rest) >>= set_of false)) (begins_before "^" h.inside rest refl ∙ sign refl)
-        ∙ ap (λ o. o >>= set_of false) (elements_again h.elements (length (h.inside ++ 93 ∷ rest) + 1) true h.inside rest h.spelled (λ _. h.some) (omega (arith, enough))) ∙ set false is
+        ap bracket_at (tail false)
+        ∙ ap (λ b. cond b (elements_at (length (h.inside ++ 93 ∷ rest)) true (drop 1 (h.inside ++ 93 ∷ rest)) >>= set_of true)
+        (elements_at (length (h.inside ++ 93 ∷ rest) + 1) true (h.inside ++ 93 ∷ rest) >>= set_of false)) (begins_before "^" h.inside rest refl ∙ sign refl)
+        ∙ ap (λ o. o >>= set_of false) (elements_again h.elements (length (h.inside ++ 93 ∷ rest) + 1) true h.inside rest h.spelled (λ _. h.some)
+        (omega (arith, enough))) ∙ set false is
 
 -- ---- What is read is a bracket list
 
@@ -101,7 +115,8 @@ bracket_again u words rest h member = ap (λ x. bracket_at (x ++ rest)) h.writte
 abbrev pub IsListBefore : List ℕ → List ℕ × List ℕ → Type 0
 IsListBefore text x = (u : List ℕ) × (text ≡ u ++ x.1) × (is_empty u ≡ false) × IsBracketList u x.0 × HasMember x.0
 
-list_before : (complement : Bool) (inside : List ℕ) (es : List Element) (rest : List ℕ) → (complement ≡ false → begins "^" inside ≡ false) → WritesElements true inside es → es ≢ []
+list_before : (complement : Bool) (inside : List ℕ) (es : List Element) (rest : List ℕ) → (complement ≡ false → begins "^" inside ≡ false)
+    → WritesElements true inside es → es ≢ []
     → IfSome (set_of complement (es, rest)) (IsListBefore (opening complement ++ (inside ++ 93 ∷ rest)))
 list_before complement inside es rest sign spelled some =
     let words : List ℕ = words_of (is_listed complement es) in
@@ -139,7 +154,11 @@ bracket_takes text =
     behind : (text : List ℕ) → IfSome (inside_at text) (IsListBefore (91 ∷ text))
     behind text =
         cond_holds (begins "^" text) (elements_at (length text) true (drop 1 text) >>= set_of true) _ (IsListBefore (91 ∷ text))
-        (λ sign. bind_holds (elements_at (length text) true (drop 1 text)) (set_of true) (IsListBefore (91 ∷ text)) (AreElementsBefore true (drop 1 text)) (elements_take (length text) true (drop 1 text))
-        (λ x h. subst (λ t. IfSome (set_of true x) (IsListBefore (91 ∷ t))) (sym (one_front "^" 94 text refl sign ∙ ap (λ t. 94 ∷ t) h.1)) (list_before true h.0 x.0 x.1 (λ is. absurd (false≢true (sym is))) h.2 (h.3 refl))))
-        (λ sign. bind_holds (elements_at (length text + 1) true text) (set_of false) (IsListBefore (91 ∷ text)) (AreElementsBefore true text) (elements_take (length text + 1) true text)
-        (λ x h. subst (λ t. IfSome (set_of false x) (IsListBefore (91 ∷ t))) (sym h.1) (list_before false h.0 x.0 x.1 (λ _. sym (begins_before "^" h.0 x.1 refl) ∙ (ap (begins "^") (sym h.1) ∙ sign)) h.2 (h.3 refl))))
+        (λ sign. bind_holds (elements_at (length text) true (drop 1 text)) (set_of true) (IsListBefore (91 ∷ text))
+        (AreElementsBefore true (drop 1 text)) (elements_take (length text) true (drop 1 text))
+        (λ x h. subst (λ t. IfSome (set_of true x) (IsListBefore (91 ∷ t))) (sym (one_front "^" 94 text refl sign ∙ ap (λ t. 94 ∷ t) h.1))
+        (list_before true h.0 x.0 x.1 (λ is. absurd (false≢true (sym is))) h.2 (h.3 refl))))
+        (λ sign. bind_holds (elements_at (length text + 1) true text) (set_of false) (IsListBefore (91 ∷ text)) (AreElementsBefore true text)
+        (elements_take (length text + 1) true text)
+        (λ x h. subst (λ t. IfSome (set_of false x) (IsListBefore (91 ∷ t))) (sym h.1)
+        (list_before false h.0 x.0 x.1 (λ _. sym (begins_before "^" h.0 x.1 refl) ∙ (ap (begins "^") (sym h.1) ∙ sign)) h.2 (h.3 refl))))

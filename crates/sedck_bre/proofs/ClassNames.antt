@@ -16,10 +16,13 @@ closed_length : (class : brackets.Class) → length (closed_name class) ≡ leng
 closed_length class = length-append (class_name class) (codes ":]")
 
 -- one class before others
-class_step : (class : brackets.Class) (cs : List brackets.Class) (text : List ℕ) (o : Option (List ℕ)) → behind_name class text ≡ o → class_from (class ∷ cs) text ≡ class_or class (class_from cs text) o
-class_step class cs text o is = ap (λ n. cond (starts_with nat_eq text (closed_name class)) (Some (Members class, drop n text)) (class_from cs text)) (sym (closed_length class)) ∙ (go (starts_with nat_eq text (closed_name class)) ∙ ap (class_or class (class_from cs text)) is)
+class_step : (class : brackets.Class) (cs : List brackets.Class) (text : List ℕ) (o : Option (List ℕ)) → behind_name class text ≡ o
+    → class_from (class ∷ cs) text ≡ class_or class (class_from cs text) o
+class_step class cs text o is = ap (λ n. cond (starts_with nat_eq text (closed_name class)) (Some (Members class, drop n text)) (class_from cs text))
+    (sym (closed_length class)) ∙ (go (starts_with nat_eq text (closed_name class)) ∙ ap (class_or class (class_from cs text)) is)
   where
-    go : (b : Bool) → cond b (Some (Members class, drop (length (closed_name class)) text)) (class_from cs text) ≡ class_or class (class_from cs text) (cond b (Some (drop (length (closed_name class)) text)) None)
+    go : (b : Bool) → cond b (Some (Members class, drop (length (closed_name class)) text)) (class_from cs text) ≡ class_or class (class_from cs text)
+        (cond b (Some (drop (length (closed_name class)) text)) None)
     go true = refl
     go false = refl
 

@@ -45,7 +45,8 @@ no_times body most e h = (0, h, (refl, refl))
 
 -- a group with a text of two bytes
 group_ab : (k a b : ℕ) (e : Groups) → Match (Group k (lit (a ∷ b ∷ []))) e (a ∷ b ∷ []) (with_text e k (a ∷ b ∷ []))
-group_ab k a b e = group k (lit (a ∷ b ∷ [])) e e (a ∷ b ∷ []) (next (Byte a) (Then (Byte b) Nil) e e e (a ∷ []) (b ∷ []) (byte a e) (next (Byte b) Nil e e e (b ∷ []) [] (byte b e) (none e)))
+group_ab k a b e = group k (lit (a ∷ b ∷ [])) e e (a ∷ b ∷ [])
+    (next (Byte a) (Then (Byte b) Nil) e e e (a ∷ []) (b ∷ []) (byte a e) (next (Byte b) Nil e e e (b ∷ []) [] (byte b e) (none e)))
 
 -- `ababab` is
 ab_twice_match : Language ab_twice (codes "ababab")
@@ -54,8 +55,18 @@ ab_twice_match =
     let two : Groups = with_text one 1 (codes "ab") in
     let body : Tree = Group 1 (lit (codes "ab")) in (
       two,
-      next (Repeat body 2 (Some 3)) (Then (Repeat (Byte 99) 0 None) (Then (Ref 1) Nil)) no_groups two two (codes "abab") (codes "ab")
-          (2, (omega arith, omega arith), (codes "ab", codes "ab", one, refl, group_ab 1 97 98 no_groups, (codes "ab", [], two, refl, group_ab 1 97 98 one, (refl, refl))))
+      next (Repeat body 2 (Some 3)) (Then (Repeat (Byte 99) 0 None) (Then (Ref 1) Nil)) no_groups two two (codes "abab") (codes "ab") (
+        2,
+        (omega arith, omega arith),
+        (
+          codes "ab",
+          codes "ab",
+          one,
+          refl,
+          group_ab 1 97 98 no_groups,
+          (codes "ab", [], two, refl, group_ab 1 97 98 one, (refl, refl)),
+        ),
+      )
           (next (Repeat (Byte 99) 0 None) (Then (Ref 1) Nil) two two two [] (codes "ab") (no_times (Byte 99) None two (omega arith))
           (next (Ref 1) Nil two two two (codes "ab") [] (refl, refl) (none two))),
     )
@@ -71,7 +82,8 @@ ab_any_least = refl
 ab_any_empty : Language ab_any []
 ab_any_empty = (
   no_groups,
-  next (Repeat (Group 1 (lit (codes "ab"))) 0 None) (Then (Ref 1) Nil) no_groups no_groups no_groups [] [] (no_times (Group 1 (lit (codes "ab"))) None no_groups (omega arith))
+  next (Repeat (Group 1 (lit (codes "ab"))) 0 None) (Then (Ref 1) Nil) no_groups no_groups no_groups [] []
+      (no_times (Group 1 (lit (codes "ab"))) None no_groups (omega arith))
       (next (Ref 1) Nil no_groups no_groups no_groups [] [] (refl, refl) (none no_groups)),
 )
 
@@ -111,14 +123,20 @@ least_10 : least no_bounds (seq (Repeat (Group 1 (seq (Repeat (Byte 97) 255 (Som
 least_10 = refl
 
 -- `\(\(a\{255\}\)\{255\}\)\{255\}`
-least_11 : least no_bounds (seq (Repeat (Group 1 (seq (Repeat (Group 2 (seq (Repeat (Byte 97) 255 (Some 255) ∷ []))) 255 (Some 255) ∷ []))) 255 (Some 255) ∷ [])) ≡ 16581375
+least_11 : least no_bounds
+    (seq (Repeat (Group 1 (seq (Repeat (Group 2 (seq (Repeat (Byte 97) 255 (Some 255) ∷ []))) 255 (Some 255) ∷ []))) 255 (Some 255) ∷ [])) ≡ 16581375
 least_11 = refl
 
 -- `\(\(\(a\{255\}\)\{255\}\)\{255\}\)\{2\}` is above the cap
-least_12 : min (least no_bounds (seq (Repeat (Group 1 (seq (Repeat (Group 2 (seq (Repeat (Group 3 (seq (Repeat (Byte 97) 255 (Some 255) ∷ []))) 255 (Some 255) ∷ []))) 255 (Some 255) ∷ []))) 2 (Some 2) ∷ []))) cap ≡ 16777215
+least_12 : min
+    (least no_bounds
+    (seq (Repeat
+    (Group 1 (seq (Repeat (Group 2 (seq (Repeat (Group 3 (seq (Repeat (Byte 97) 255 (Some 255) ∷ []))) 255 (Some 255) ∷ []))) 255 (Some 255) ∷ []))) 2
+    (Some 2) ∷ []))) cap ≡ 16777215
 least_12 = refl
 
--- Whether a group keeps the texts of the groups inside it: after `\(\(a\)*b\)*` has matched `ab` and then `b`, group 2 has `a` or nothing, so both `abba` and `abb` are in the language of `\(\(a\)*b\)*\2`.
+-- Whether a group keeps the texts of the groups inside it: after `\(\(a\)*b\)*` has matched `ab` and then `b`, group 2 has `a` or nothing, so both
+-- `abba` and `abb` are in the language of `\(\(a\)*b\)*\2`.
 abbrev inner_a : Tree
 inner_a = Group 2 (lit (codes "a"))
 
@@ -132,15 +150,35 @@ first_round : Match (Group 1 inner) no_groups (codes "ab") (with_text (with_text
 first_round =
     let one : Groups = with_text no_groups 2 (codes "a") in
     group 1 inner no_groups one (codes "ab")
-    (next (Repeat inner_a 0 None) (Then (Byte 98) Nil) no_groups one one (codes "a") (codes "b")
-    (1, omega arith, (codes "a", [], one, refl, group 2 (lit (codes "a")) no_groups no_groups (codes "a") (next (Byte 97) Nil no_groups no_groups no_groups (codes "a") [] (byte 97 no_groups) (none no_groups)), (refl, refl)))
+    (next (Repeat inner_a 0 None) (Then (Byte 98) Nil) no_groups one one (codes "a") (codes "b") (
+      1,
+      omega arith,
+      (
+        codes "a",
+        [],
+        one,
+        refl,
+        group 2 (lit (codes "a")) no_groups no_groups (codes "a")
+            (next (Byte 97) Nil no_groups no_groups no_groups (codes "a") [] (byte 97 no_groups) (none no_groups)),
+        (refl, refl),
+      ),
+    )
     (next (Byte 98) Nil one one one (codes "b") [] (byte 98 one) (none one)))
 
 -- the second round, from group texts that it may have kept or unset
 second_round : (e d : Groups) → (d ≡ e) ⊎ (d ≡ unset inner e) → Match (Group 1 inner) e (codes "b") (with_text d 1 (codes "b"))
-second_round e d h = (d, d, h, next (Repeat inner_a 0 None) (Then (Byte 98) Nil) d d d [] (codes "b") (no_times inner_a None d (omega arith)) (next (Byte 98) Nil d d d (codes "b") [] (byte 98 d) (none d)), refl)
+second_round e d h = (
+  d,
+  d,
+  h,
+  next (Repeat inner_a 0 None) (Then (Byte 98) Nil) d d d [] (codes "b") (no_times inner_a None d (omega arith))
+      (next (Byte 98) Nil d d d (codes "b") [] (byte 98 d) (none d)),
+  refl,
+)
 
-both_rounds : (d : Groups) → (d ≡ with_text (with_text no_groups 2 (codes "a")) 1 (codes "ab")) ⊎ (d ≡ unset inner (with_text (with_text no_groups 2 (codes "a")) 1 (codes "ab"))) → Language kept_or_lost (codes "abb" ++ text_of (with_text d 1 (codes "b")) 2)
+both_rounds : (d : Groups) → (d ≡ with_text (with_text no_groups 2 (codes "a")) 1 (codes "ab"))
+    ⊎ (d ≡ unset inner (with_text (with_text no_groups 2 (codes "a")) 1 (codes "ab")))
+    → Language kept_or_lost (codes "abb" ++ text_of (with_text d 1 (codes "b")) 2)
 both_rounds d h =
     let one : Groups = with_text (with_text no_groups 2 (codes "a")) 1 (codes "ab") in
     let two : Groups = with_text d 1 (codes "b") in

@@ -50,7 +50,8 @@ with_front-push front t (Some x) = ap (λ ts. Some (ts, x.1)) (onto-push front t
 
 pub groups-push : (xs : List Bre) (x : Bre) → groups_in (sequence (xs ++ x ∷ [])) ≡ groups_in (sequence xs) ++ groups_in (tree x)
 groups-push [] x = append-nil (groups_in (tree x))
-groups-push (y ∷ xs) x = ap (λ g. groups_in (tree y) ++ g) (groups-push xs x) ∙ sym (append_assoc (groups_in (tree y)) (groups_in (sequence xs)) (groups_in (tree x)))
+groups-push (y ∷ xs) x = ap (λ g. groups_in (tree y) ++ g) (groups-push xs x)
+    ∙ sym (append_assoc (groups_in (tree y)) (groups_in (sequence xs)) (groups_in (tree x)))
 
 module _ (level : Level) (place : Place) (deep opened : ℕ) (closed text : List ℕ) (few : opened ≤ 99) (shallow : deep ≤ 32) (front : List Tree) where
   abbrev rest_read : Option (Trees × List ℕ)
@@ -60,25 +61,34 @@ module _ (level : Level) (place : Place) (deep opened : ℕ) (closed text : List
   bare_read = atom full (items_of full Inside First (deep + 1) (opened + 1) closed) level place deep opened closed text
 
   pub loop_ends : at_end text ≡ true → with_front front rest_read ≡ Some (trees front, text)
-  loop_ends e = ap (with_front front) (items_step full full_takes level place deep opened closed text few shallow) ∙ rw e (ap (λ ts. Some (ts, text)) (onto-nil front))
+  loop_ends e = ap (with_front front) (items_step full full_takes level place deep opened closed text few shallow)
+      ∙ rw e (ap (λ ts. Some (ts, text)) (onto-nil front))
 
   opens : at_end text ≡ false → rest_read ≡ (bare_read >>= with_sign full >>= more (items_of full) level place deep opened closed)
   opens e = items_step full full_takes level place deep opened closed text few shallow ∙ rw e refl
 
-  pub loop_goes : (bare item : Tree) (sign after : List ℕ) → at_end text ≡ false → bare_read ≡ Some (bare, sign) → with_sign full (bare, sign) ≡ Some (item, after)
-      → with_front front rest_read ≡ with_front (front ++ item ∷ []) (items_of full level (behind place item) deep (opened + length (groups_in item)) (closed ++ groups_in item) after)
+  pub loop_goes : (bare item : Tree) (sign after : List ℕ) → at_end text ≡ false → bare_read ≡ Some (bare, sign)
+      → with_sign full (bare, sign) ≡ Some (item, after)
+      → with_front front rest_read ≡ with_front (front ++ item ∷ [])
+      (items_of full level (behind place item) deep (opened + length (groups_in item)) (closed ++ groups_in item) after)
   loop_goes bare item sign after e a s =
-      ap (with_front front) (opens e ∙ (ap (λ o. o >>= with_sign full >>= more (items_of full) level place deep opened closed) a ∙ ap (λ o. o >>= more (items_of full) level place deep opened closed) s))
+      ap (with_front front)
+      (opens e ∙ (ap (λ o. o >>= with_sign full >>= more (items_of full) level place deep opened closed) a
+      ∙ ap (λ o. o >>= more (items_of full) level place deep opened closed) s))
       ∙ with_front-push front item (items_of full level (behind place item) deep (opened + length (groups_in item)) (closed ++ groups_in item) after)
 
   pub loop_fails : at_end text ≡ false → bare_read ≡ None → with_front front rest_read ≡ None
   loop_fails e a = ap (with_front front) (opens e ∙ ap (λ o. o >>= with_sign full >>= more (items_of full) level place deep opened closed) a)
 
-  pub loop_fails_at : (bare : Tree) (sign : List ℕ) → at_end text ≡ false → bare_read ≡ Some (bare, sign) → with_sign full (bare, sign) ≡ None → with_front front rest_read ≡ None
-  loop_fails_at bare sign e a s = ap (with_front front) (opens e ∙ (ap (λ o. o >>= with_sign full >>= more (items_of full) level place deep opened closed) a ∙ ap (λ o. o >>= more (items_of full) level place deep opened closed) s))
+  pub loop_fails_at : (bare : Tree) (sign : List ℕ) → at_end text ≡ false → bare_read ≡ Some (bare, sign) → with_sign full (bare, sign) ≡ None
+      → with_front front rest_read ≡ None
+  loop_fails_at bare sign e a s = ap (with_front front)
+      (opens e ∙ (ap (λ o. o >>= with_sign full >>= more (items_of full) level place deep opened closed) a
+      ∙ ap (λ o. o >>= more (items_of full) level place deep opened closed) s))
 
 -- a dot is read
-pub any_read : (inner : List ℕ → Option (Trees × List ℕ)) (level : Level) (place : Place) (deep opened : ℕ) (closed text : List ℕ) → 0 < length text → get_or text 0 0 ≡ 46
+pub any_read : (inner : List ℕ → Option (Trees × List ℕ)) (level : Level) (place : Place) (deep opened : ℕ) (closed text : List ℕ) → 0 < length text
+    → get_or text 0 0 ≡ 46
     → atom full inner level place deep opened closed text ≡ Some (Any, take (length text - 1) (drop 1 text))
 any_read inner level place deep opened closed [] l h = absurd (omega arith)
 any_read inner level place deep opened closed (b ∷ text) l h =
@@ -94,7 +104,8 @@ no_group text h e = ap (λ t. begins_pair 40 (92 ∷ t)) (rest_is text 1) ∙ go
     go (b ∷ d ∷ text) h e = rw h at e
 
 -- a group is read
-pub group_read : (inner : List ℕ → Option (Trees × List ℕ)) (level : Level) (place : Place) (deep opened : ℕ) (closed text : List ℕ) → begins_pair 40 text ≡ true
+pub group_read : (inner : List ℕ → Option (Trees × List ℕ)) (level : Level) (place : Place) (deep opened : ℕ) (closed text : List ℕ)
+    → begins_pair 40 text ≡ true
     → atom full inner level place deep opened closed text ≡ group_at inner deep opened (drop 2 text)
 group_read inner level place deep opened closed [] e = absurd (false≢true e)
 group_read inner level place deep opened closed (b ∷ []) e = absurd (false≢true e)
@@ -107,7 +118,8 @@ pub same_read : (level : Level) (deep : ℕ) (after : List ℕ) (f g : List Tree
     → with_front f (items_of full level p deep m c after) ≡ with_front g (items_of full level q deep n d after)
 same_read level deep after f g p q m n c d e1 e2 e3 e4 = rw (e1, e2, e3, e4) refl
 
-pub closed-push : (closed : List ℕ) (xs : List Bre) (x : Bre) → closed ++ groups_in (sequence (xs ++ x ∷ [])) ≡ (closed ++ groups_in (sequence xs)) ++ groups_in (tree x)
+pub closed-push : (closed : List ℕ) (xs : List Bre) (x : Bre)
+    → closed ++ groups_in (sequence (xs ++ x ∷ [])) ≡ (closed ++ groups_in (sequence xs)) ++ groups_in (tree x)
 closed-push closed xs x = ap (λ g. closed ++ g) (groups-push xs x) ∙ sym (append_assoc closed (groups_in (sequence xs)) (groups_in (tree x)))
 
 or_true : (a b : Bool) → (a || (true || b)) ≡ true
@@ -118,7 +130,8 @@ or_skip : (a b : Bool) → (a || b) ≡ (a || (false || b))
 or_skip a b = refl
 
 -- the flags with one group more
-pub closed_more : (flags : List Bool) (closed inner : List ℕ) (k : ℕ) → k < length flags → ClosedIs flags (closed ++ inner) → ClosedIs (set flags k true) (closed ++ k ∷ inner)
+pub closed_more : (flags : List Bool) (closed inner : List ℕ) (k : ℕ) → k < length flags → ClosedIs flags (closed ++ inner)
+    → ClosedIs (set flags k true) (closed ++ k ∷ inner)
 closed_more flags closed inner k l h j m = go (k == j) refl
   where
     go : (b : Bool) → (k == j) ≡ b → get_or (set flags k true) j false ≡ is_in j (closed ++ k ∷ inner)
@@ -128,4 +141,6 @@ closed_more flags closed inner k l h j m = go (k == j) refl
         ∙ sym (is_in-append j closed (k ∷ inner) ∙ (ap (λ b. is_in j closed || (b || is_in j inner)) e ∙ or_true (is_in j closed) (is_in j inner)))
     go false e =
         let ne : j ≡ k → ⊥ = λ q. absurd (false≢true (sym e ∙ eq-eqb k j (sym q))) in
-        get_or-set_other flags k j true false ne ∙ (h j m ∙ (is_in-append j closed inner ∙ (or_skip (is_in j closed) (is_in j inner) ∙ (ap (λ b. is_in j closed || (b || is_in j inner)) (sym e) ∙ sym (is_in-append j closed (k ∷ inner))))))
+        get_or-set_other flags k j true false ne ∙ (h j m
+        ∙ (is_in-append j closed inner ∙ (or_skip (is_in j closed) (is_in j inner)
+        ∙ (ap (λ b. is_in j closed || (b || is_in j inner)) (sym e) ∙ sym (is_in-append j closed (k ∷ inner))))))

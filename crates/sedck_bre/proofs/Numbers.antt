@@ -31,7 +31,10 @@ capped_all n (c ∷ text) = go (capped_all (n * 10 + digit_value c) text) (is_fr
   where
     go : capped_from (min (n * 10 + digit_value c) 256) text ≡ (min (digits_value_after 10 (n * 10 + digit_value c) (digits_at text).0) 256, (digits_at text).1)
         → (b : Bool) → is_from 48 57 c ≡ b → cond b (capped_from (min (min n 256 * 10 + (c - 48)) 256) text) (min n 256, c ∷ text)
-        ≡ (min (digits_value_after 10 n (cond b (digit_before c (digits_at text)) ([], c ∷ text)).0) 256, (cond b (digit_before c (digits_at text)) ([], c ∷ text)).1)
+        ≡ (
+          min (digits_value_after 10 n (cond b (digit_before c (digits_at text)) ([], c ∷ text)).0) 256,
+          (cond b (digit_before c (digits_at text)) ([], c ∷ text)).1,
+        )
     go more true e = ap (λ v. capped_from v text) (capped_step n c e) ∙ more
     go more false e = refl
 
@@ -41,7 +44,8 @@ digits_length [] = refl
 digits_length (c ∷ text) = go (is_from 48 57 c) (digits_length text)
   where
     go : (b : Bool) → length (digits_at text).0 + length (digits_at text).1 ≡ length text
-        → length (cond b (digit_before c (digits_at text)) ([], c ∷ text)).0 + length (cond b (digit_before c (digits_at text)) ([], c ∷ text)).1 ≡ length (c ∷ text)
+        → length (cond b (digit_before c (digits_at text)) ([], c ∷ text)).0 + length
+        (cond b (digit_before c (digits_at text)) ([], c ∷ text)).1 ≡ length (c ∷ text)
     go true h = omega arith
     go false h = omega arith
 
@@ -57,7 +61,8 @@ refused : (b : Bool) (o : Option (ℕ × List ℕ)) → cond (b && false) o None
 refused true o = refl
 refused false o = refl
 
-given : (digits after : List ℕ) (value : ℕ) (rest : List ℕ) → is_empty digits ≡ false → nat_le (digits_value 10 digits) 255 ≡ true → digits_value 10 digits ≡ value → after ≡ rest → number_of (digits, after) ≡ Some (value, rest)
+given : (digits after : List ℕ) (value : ℕ) (rest : List ℕ) → is_empty digits ≡ false → nat_le (digits_value 10 digits) 255 ≡ true
+    → digits_value 10 digits ≡ value → after ≡ rest → number_of (digits, after) ≡ Some (value, rest)
 given digits after value rest some small same is = rw (some, small, same, is) refl
 
 module _ (text : List ℕ) (value : ℕ) (rest : List ℕ) (is : capped_from 0 text ≡ (value, rest)) where

@@ -57,16 +57,20 @@ less_bit : (a : Bool) → 1 - bit_of a ≡ bit_of (not a)
 less_bit true = refl
 less_bit false = refl
 
-pub union_just : (a b : List ℕ) (p q : ℕ → Bool) → HasJust a p → HasJust b q → HasJust (four (λ i. bit_or (slice_index a i) (slice_index b i))) (λ c. p c || q c)
+pub union_just : (a b : List ℕ) (p q : ℕ → Bool) → HasJust a p → HasJust b q
+    → HasJust (four (λ i. bit_or (slice_index a i) (slice_index b i))) (λ c. p c || q c)
 union_just a b p q h k =
     four_just (λ i. bit_or (slice_index a i) (slice_index b i)) (λ c. p c || q c)
-    (λ i j l below. bit_at_or (slice_index a i) (slice_index b i) j ∙ ap (λ m. max m (bit_at (slice_index b i) j)) (bit_in a p h i j l below) ∙ ap (λ m. max (bit_of (p (64 * i + j))) m) (bit_in b q k i j l below) ∙ max_bits (p (64 * i + j)) (q (64 * i + j)))
+    (λ i j l below. bit_at_or (slice_index a i) (slice_index b i) j ∙ ap (λ m. max m (bit_at (slice_index b i) j)) (bit_in a p h i j l below)
+    ∙ ap (λ m. max (bit_of (p (64 * i + j))) m) (bit_in b q k i j l below) ∙ max_bits (p (64 * i + j)) (q (64 * i + j)))
 
 abbrev Inverts : ℕ → ℕ → Type 0
 Inverts a b = (k : ℕ) → k < 64 → bit_at b k ≡ 1 - bit_at a k
 
-pub complement_just : (a : List ℕ) (p : ℕ → Bool) (w x y z : ℕ) → Inverts (slice_index a 0) w → Inverts (slice_index a 1) x → Inverts (slice_index a 2) y → Inverts (slice_index a 3) z → HasJust a p → HasJust (w ∷ x ∷ y ∷ z ∷ []) (λ c. not (p c))
-complement_just a p w x y z f g s t h = four_just word (λ c. not (p c)) (λ i j l below. each i l j below ∙ ap (λ m. 1 - m) (bit_in a p h i j l below) ∙ less_bit (p (64 * i + j)))
+pub complement_just : (a : List ℕ) (p : ℕ → Bool) (w x y z : ℕ) → Inverts (slice_index a 0) w → Inverts (slice_index a 1) x
+    → Inverts (slice_index a 2) y → Inverts (slice_index a 3) z → HasJust a p → HasJust (w ∷ x ∷ y ∷ z ∷ []) (λ c. not (p c))
+complement_just a p w x y z f g s t h = four_just word (λ c. not (p c))
+    (λ i j l below. each i l j below ∙ ap (λ m. 1 - m) (bit_in a p h i j l below) ∙ less_bit (p (64 * i + j)))
   where
     word : ℕ → ℕ
     word zero = w

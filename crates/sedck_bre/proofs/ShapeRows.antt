@@ -60,7 +60,8 @@ abbrev all_below : (ℕ → Bool) → ℕ → Bool
 all_below p zero = true
 all_below p (suc n) = p n && all_below p n
 
-below_step : (p : ℕ → Bool) (n b : ℕ) → b < suc n → (all_below p n ≡ true → b < n → p b ≡ true) → (x : Bool) → p n ≡ x → (y : Bool) → (b == n) ≡ y → (x && all_below p n) ≡ true → p b ≡ true
+below_step : (p : ℕ → Bool) (n b : ℕ) → b < suc n → (all_below p n ≡ true → b < n → p b ≡ true) → (x : Bool) → p n ≡ x → (y : Bool) → (b == n) ≡ y
+    → (x && all_below p n) ≡ true → p b ≡ true
 below_step p n b l rec true e true s h = rw (eqb-true b n s) e
 below_step p n b l rec true e false s h = let ne : b ≡ n → ⊥ = λ q. absurd (false≢true (sym s ∙ eq-eqb b n q)) in rec h (omega arith)
 below_step p n b l rec false e y s h = absurd (false≢true h)
@@ -84,8 +85,10 @@ iff_of n false false e h = (λ q. absurd (false≢true (sym e ∙ eq-eqb n 1 q))
 abbrev agrees : List ℕ → Bool → List Element → ℕ → Bool
 agrees words complement es b = same (bit_at (slice_index words (b / 64)) (b % 64) == 1) (is_listed complement es b)
 
-members_of : (words : List ℕ) (complement : Bool) (es : List Element) → all_below (agrees words complement es) 256 ≡ true → (b : ℕ) → b < 256 → IsMember words b ↔ IsTrue (is_listed complement es b)
-members_of words complement es h b l = iff_of (bit_at (slice_index words (b / 64)) (b % 64)) (is_listed complement es b) (bit_at (slice_index words (b / 64)) (b % 64) == 1) refl (all_below-at (agrees words complement es) 256 h b l)
+members_of : (words : List ℕ) (complement : Bool) (es : List Element) → all_below (agrees words complement es) 256 ≡ true → (b : ℕ) → b < 256
+    → IsMember words b ↔ IsTrue (is_listed complement es b)
+members_of words complement es h b l = iff_of (bit_at (slice_index words (b / 64)) (b % 64)) (is_listed complement es b)
+    (bit_at (slice_index words (b / 64)) (b % 64) == 1) refl (all_below-at (agrees words complement es) 256 h b l)
 
 abbrev first_byte : List ℕ → ℕ
 first_byte [] = 0
@@ -103,7 +106,18 @@ bracket_1 = record {
   written = refl;
   sign = λ _. refl;
   some = λ e. cc;
-  spelled = (codes "]", codes "x", refl, (inl (inl (refl, refl)), (λ _. refl, λ _. inl refl), refl), (codes "x", [], refl, (inl (inl (refl, refl)), (λ e. absurd (differ 120 93 [] [] refl e), λ e. absurd (differ 120 45 [] [] refl e)), refl), refl));
-  set = (refl, All-cons (λ word. word < 2 ^ 64) 0 (72057594574798848 ∷ 0 ∷ 0 ∷ []) (omega arith) (All-cons (λ word. word < 2 ^ 64) 72057594574798848 (0 ∷ 0 ∷ []) (omega arith) (All-cons (λ word. word < 2 ^ 64) 0 (0 ∷ []) (omega arith) (All-cons (λ word. word < 2 ^ 64) 0 [] (omega arith) (All-nil (λ word. word < 2 ^ 64))))));
+  spelled = (
+    codes "]",
+    codes "x",
+    refl,
+    (inl (inl (refl, refl)), (λ _. refl, λ _. inl refl), refl),
+    (codes "x", [], refl, (inl (inl (refl, refl)), (λ e. absurd (differ 120 93 [] [] refl e), λ e. absurd (differ 120 45 [] [] refl e)), refl), refl),
+  );
+  set = (
+    refl,
+    All-cons (λ word. word < 2 ^ 64) 0 (72057594574798848 ∷ 0 ∷ 0 ∷ []) (omega arith)
+        (All-cons (λ word. word < 2 ^ 64) 72057594574798848 (0 ∷ 0 ∷ []) (omega arith)
+        (All-cons (λ word. word < 2 ^ 64) 0 (0 ∷ []) (omega arith) (All-cons (λ word. word < 2 ^ 64) 0 [] (omega arith) (All-nil (λ word. word < 2 ^ 64))))),
+  );
   members = members_of (0 ∷ 72057594574798848 ∷ 0 ∷ 0 ∷ []) false (One 93 ∷ One 120 ∷ []) refl;
 }

@@ -41,7 +41,8 @@ stands_at whole text s h b =
     let first = begins_index s text b in
     let size : length whole ≡ length h.front + length text = ap length h.made ∙ length-append h.front text in
     let place : length whole - length text ≡ length h.front = omega (arith, size) in
-    let byte : slice_index whole (length whole - length text) ≡ slice_index text 0 = ap (slice_index whole) place ∙ (ap (λ w. slice_index w (length h.front)) h.made ∙ index_behind h.front text) in
+    let byte : slice_index whole (length whole - length text) ≡ slice_index text 0 = ap (slice_index whole) place
+    ∙ (ap (λ w. slice_index w (length h.front)) h.made ∙ index_behind h.front text) in
     (omega (arith, size, first.0), subst (λ c. IsTrue (one_of s c)) (sym byte) first.1)
 
 pub begins_first : (s : String) (text : List ℕ) → 0 < length text → IsTrue (one_of s (get_or text 0 0)) → IsTrue (begins s text)
@@ -55,10 +56,12 @@ tail_split whole text u rest h e = record {
 }
 
 -- what follows an interval and a bracket list
-pub interval_split : (text : List ℕ) (least : ℕ) (most : Option ℕ) (rest : List ℕ) → interval_at text ≡ Some (least, most, rest) → (u : List ℕ) × (text ≡ u ++ rest)
+pub interval_split : (text : List ℕ) (least : ℕ) (most : Option ℕ) (rest : List ℕ) → interval_at text ≡ Some (least, most, rest)
+    → (u : List ℕ) × (text ≡ u ++ rest)
 interval_split text least most rest e = let h = rw e at (interval_takes text) in (h.0, h.1)
 
-pub interval_tail : (whole text : List ℕ) (least : ℕ) (most : Option ℕ) (rest : List ℕ) → IsTail whole text → interval_at text ≡ Some (least, most, rest) → IsTail whole rest
+pub interval_tail : (whole text : List ℕ) (least : ℕ) (most : Option ℕ) (rest : List ℕ) → IsTail whole text
+    → interval_at text ≡ Some (least, most, rest) → IsTail whole rest
 interval_tail whole text least most rest h e = let s = interval_split text least most rest e in tail_split whole text s.0 rest h s.1
 
 pub interval_shorter : (text : List ℕ) (least : ℕ) (most : Option ℕ) (rest : List ℕ) → interval_at text ≡ Some (least, most, rest) → length rest ≤ length text

@@ -24,7 +24,8 @@ whole-rest : (ts : Trees) (rest : List ℕ) → (length rest ≡ 0 → ⊥) → 
 whole-rest ts [] h = absurd (h refl)
 whole-rest ts (x ∷ rest) h = refl
 
-pub read-rest : (text : List ℕ) (ts : Trees) (rest : List ℕ) → (length rest ≡ 0 → ⊥) → items_of full Whole First 0 0 [] text ≡ Some (ts, rest) → read full text ≡ None
+pub read-rest : (text : List ℕ) (ts : Trees) (rest : List ℕ) → (length rest ≡ 0 → ⊥) → items_of full Whole First 0 0 [] text ≡ Some (ts, rest)
+    → read full text ≡ None
 read-rest text ts rest h e = read-items text ∙ (ap (λ o. o >>= whole) e ∙ whole-rest ts rest h)
 
 pub shape_of : (text : List ℕ) (t : Tree) → read full text ≡ Some t → Shape text t

@@ -13,7 +13,8 @@ pub last_text : {text rest : List ℕ} {b : ℕ} → text ≡ b ∷ rest → b �
 last_text {rest = rest} e h = subst (λ t. PlaceText t Last rest) (sym e) (p.last h)
 
 pub slash_text : {text behind rest : List ℕ} {b : ℕ} {q : Place} → text ≡ b ∷ behind → b ≡ 47 → ContextText 47 behind q rest → PlaceText text q rest
-slash_text {behind = behind} {rest = rest} {b = b} {q = q} e h c = subst (λ t. PlaceText t q rest) (sym e) (subst (λ x. PlaceText (b ∷ behind) x rest) (sym c.1) (p.context h c.2.1 c.2.2))
+slash_text {behind = behind} {rest = rest} {b = b} {q = q} e h c =
+    subst (λ t. PlaceText t q rest) (sym e) (subst (λ x. PlaceText (b ∷ behind) x rest) (sym c.1) (p.context h c.2.1 c.2.2))
 
 pub custom_text : {text behind rest : List ℕ} {b : ℕ} {q : Place} → text ≡ b ∷ behind → b ≡ 92 → CustomText behind q rest → PlaceText text q rest
 custom_text {rest = rest} {b = b} {q = q} e h c =
@@ -39,17 +40,20 @@ custom_by h (p.custom {delimiter = d} {text = t} {pattern = q} e i x y) = (d, t,
 pub custom_only : {text behind rest : List ℕ} {b : ℕ} {q : Place} → text ≡ b ∷ behind → b ≡ 92 → PlaceText text q rest → CustomText behind q rest
 custom_only {rest = rest} {q = q} e h x = custom_by h (subst (λ t. PlaceText t q rest) e x)
 
-no_line_by : {behind rest : List ℕ} {b : ℕ} {q : Place} → b ≢ 36 → b ≢ 47 → b ≢ 92 → ((n : ℕ) (r : List ℕ) → Number (b ∷ behind) n r → ⊥) → PlaceText (b ∷ behind) q rest → ⊥
+no_line_by : {behind rest : List ℕ} {b : ℕ} {q : Place} → b ≢ 36 → b ≢ 47 → b ≢ 92 → ((n : ℕ) (r : List ℕ) → Number (b ∷ behind) n r → ⊥)
+    → PlaceText (b ∷ behind) q rest → ⊥
 no_line_by f g h none (p.line {n = n} x) = none n _ x
 no_line_by f g h none (p.last e) = f e
 no_line_by f g h none (p.context e x y) = g e
 no_line_by f g h none (p.custom e d x y) = h e
 
-pub no_line : {text behind rest : List ℕ} {b : ℕ} {q : Place} → text ≡ b ∷ behind → b ≢ 36 → b ≢ 47 → b ≢ 92 → ((n : ℕ) (r : List ℕ) → Number text n r → ⊥) → PlaceText text q rest → ⊥
+pub no_line : {text behind rest : List ℕ} {b : ℕ} {q : Place} → text ≡ b ∷ behind → b ≢ 36 → b ≢ 47 → b ≢ 92
+    → ((n : ℕ) (r : List ℕ) → Number text n r → ⊥) → PlaceText text q rest → ⊥
 no_line {rest = rest} {q = q} e f g h none x = no_line_by f g h (λ n r y. none n r (subst (λ t. Number t n r) (sym e) y)) (subst (λ t. PlaceText t q rest) e x)
 
 -- a custom address begins with this delimiter
-pub custom_delimiter : {text behind rest : List ℕ} {d : ℕ} {q : Place} → text ≡ d ∷ behind → CustomText text q rest → IsTrue (is_delimiter d) × ContextText d behind q rest
+pub custom_delimiter : {text behind rest : List ℕ} {d : ℕ} {q : Place} → text ≡ d ∷ behind → CustomText text q rest
+    → IsTrue (is_delimiter d) × ContextText d behind q rest
 custom_delimiter {rest = rest} {q = q} e c =
     let same : c.0 ≡ _ = heads (sym c.2 ∙ e) in
     let more : c.1 ≡ _ = tails (sym c.2 ∙ e) in

@@ -47,7 +47,8 @@ one_by x n (p.two {more = more} {b = b} y c h d z) m v = absurd (n _ more b (lon
 pub only_one : {text r : List ℕ} {q : Place} → PlaceText text q r → HasNoComma r → IsOnlyAddress text (One q) r
 only_one x n other behind marks begins left verb a m v = one_by x n a m v
 
-two_by : {text r s blanks more front second rest marks begins left : List ℕ} {c : ℕ} {q u : Place} {b : Address} {v : WrittenVerb} → PlaceText text q r → Longest is_blank r blanks (c ∷ more) → c ≡ 44
+two_by : {text r s blanks more front second rest marks begins left : List ℕ} {c : ℕ} {q u : Place} {b : Address} {v : WrittenVerb}
+    → PlaceText text q r → Longest is_blank r blanks (c ∷ more) → c ≡ 44
     → Longest is_blank more front second → PlaceText second u rest
     → AddressText text b s → Longest is_mark s marks begins → VerbText begins v left → (b ≡ Two q u) × (s ≡ rest)
 two_by x l h d z p.none m v = absurd (no_place_here x m v)
@@ -59,10 +60,12 @@ two_by x l h d z (p.two y i j k o) m v =
     pair_of first.0 (one_place (place_along second.1 o) z)
 
 -- two addresses
-pub only_two : {text r second rest : List ℕ} {q u : Place} → PlaceText text q r → IsBehindComma r second → PlaceText second u rest → IsOnlyAddress text (Two q u) rest
+pub only_two : {text r second rest : List ℕ} {q u : Place} → PlaceText text q r → IsBehindComma r second → PlaceText second u rest
+    → IsOnlyAddress text (Two q u) rest
 only_two x l z other behind marks begins left verb a m v = two_by x l.before l.is_comma l.behind z a m v
 
-pub two_read : {text r second rest : List ℕ} {q u : Place} → PlaceText text q r → IsBehindComma r second → PlaceText second u rest → AddressText text (Two q u) rest
+pub two_read : {text r second rest : List ℕ} {q u : Place} → PlaceText text q r → IsBehindComma r second → PlaceText second u rest
+    → AddressText text (Two q u) rest
 two_read x l z = p.two x l.before l.is_comma l.behind z
 
 -- ---- No command
@@ -77,7 +80,8 @@ refused_by f n (p.two x c h d y) m v = n _ _ x
 pub no_first : {text : List ℕ} → BeginsPlace text → ((q : Place) (r : List ℕ) → PlaceText text q r → ⊥) → IsNoCommand text
 no_first f n given negated verb rest c = refused_by f n c.addresses c.run c.verbs
 
-second_by : {text r s blanks more front second marks begins left : List ℕ} {c : ℕ} {q : Place} {b : Address} {v : WrittenVerb} → PlaceText text q r → Longest is_blank r blanks (c ∷ more) → c ≡ 44
+second_by : {text r s blanks more front second marks begins left : List ℕ} {c : ℕ} {q : Place} {b : Address} {v : WrittenVerb} → PlaceText text q r
+    → Longest is_blank r blanks (c ∷ more) → c ≡ 44
     → Longest is_blank more front second → ((u : Place) (t : List ℕ) → PlaceText second u t → ⊥)
     → AddressText text b s → Longest is_mark s marks begins → VerbText begins v left → ⊥
 second_by x l h d n p.none m v = no_place_here x m v
@@ -89,7 +93,8 @@ second_by x l h d n (p.two y i j k o) m v =
     n _ _ (place_along second.1 o)
 
 -- where behind a comma no address stands
-pub no_second : {text r second : List ℕ} {q : Place} → PlaceText text q r → IsBehindComma r second → ((u : Place) (t : List ℕ) → PlaceText second u t → ⊥) → IsNoCommand text
+pub no_second : {text r second : List ℕ} {q : Place} → PlaceText text q r → IsBehindComma r second
+    → ((u : Place) (t : List ℕ) → PlaceText second u t → ⊥) → IsNoCommand text
 no_second x l n given negated verb rest c = second_by x l.before l.is_comma l.behind n c.addresses c.run c.verbs
 
 -- ---- Tails
@@ -101,7 +106,8 @@ place_tail (p.context {b = b} e x y) = tail_cons b (expression_tail x)
 place_tail (p.custom {b = b} {delimiter = d} e i x y) = tail_cons b (tail_cons d (expression_tail x))
 
 -- the tail behind a place, a comma and the blanks round it
-pub second_tail : {whole text r blanks after more front second : List ℕ} {b : ℕ} {q : Place} → EndsIn whole text → PlaceText text q r → Longest is_blank r blanks after → after ≡ b ∷ more → Longest is_blank more front second → EndsIn whole second
+pub second_tail : {whole text r blanks after more front second : List ℕ} {b : ℕ} {q : Place} → EndsIn whole text → PlaceText text q r
+    → Longest is_blank r blanks after → after ≡ b ∷ more → Longest is_blank more front second → EndsIn whole second
 second_tail h x l e m = tail_tail (tail_behind (tail_tail h (tail_tail (place_tail x) (tail_cut l))) e) (tail_cut m)
 
 pub comma_tail : {whole text second : List ℕ} → EndsIn whole text → IsBehindComma text second → EndsIn whole second

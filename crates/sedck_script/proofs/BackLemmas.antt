@@ -26,10 +26,12 @@ pub record IsBack {S : Type 0} (labels : HashMap (Bor (List ℕ)) ℕ S) (end : 
   pub count : end ≡ length (commands_among left) + length made
   pub resolves : (all : List Command) → Knows labels end all → Resolves all blocks (length (commands_among left)) suffix made
 
-pub back_start : {S : Type 0} (labels : HashMap (Bor (List ℕ)) ℕ S) (end : ℕ) (whole : List Item) → end ≡ length (commands_among whole) → IsBack labels end whole whole [] []
+pub back_start : {S : Type 0} (labels : HashMap (Bor (List ℕ)) ℕ S) (end : ℕ) (whole : List Item) → end ≡ length (commands_among whole)
+    → IsBack labels end whole whole [] []
 back_start labels end whole e = record { suffix = []; split = rw append-nil refl; count = omega (arith, e); resolves = λ all k. done }
 
-leads : {S : Type 0} (labels : HashMap (Bor (List ℕ)) ℕ S) (end : ℕ) (all : List Command) (label : Option (List ℕ)) → Knows labels end all → IsKnownLabel labels label → LeadsTo all label (target_of labels end label)
+leads : {S : Type 0} (labels : HashMap (Bor (List ℕ)) ℕ S) (end : ℕ) (all : List Command) (label : Option (List ℕ)) → Knows labels end all
+    → IsKnownLabel labels label → LeadsTo all label (target_of labels end label)
 leads labels end all None k h = k.len
 leads labels end all (Some name) k h = rw h.1 (k.at name h.0 h.1)
 
@@ -45,19 +47,24 @@ not_empty xs h e = omega (arith, h, length-reverse xs, ap length e)
 abbrev pub made_of : {S : Type 0} → HashMap (Bor (List ℕ)) ℕ S → ℕ → ℕ → Address → Bool → WrittenVerb → Command
 made_of labels end target a n v = record { address = a; negated = n; verb = resolved_verb labels end target v }
 
-step : {S : Type 0} (labels : HashMap (Bor (List ℕ)) ℕ S) (end place target depth : ℕ) (all made : List Command) (old new : List ℕ) (suffix : List Item) (a : Address) (n : Bool) (v : WrittenVerb)
+step : {S : Type 0} (labels : HashMap (Bor (List ℕ)) ℕ S) (end place target depth : ℕ) (all made : List Command) (old new : List ℕ)
+    (suffix : List Item) (a : Address) (n : Bool) (v : WrittenVerb)
     → Knows labels end all → IsKnownLabel labels (label_of v) → TakesTarget (verb_turn v) old new target → Turned (verb_turn v) (Nests suffix) depth
     → Resolves all (reverse old) (suc place) suffix made → Resolves all (reverse new) place (Written a n v ∷ suffix) (made_of labels end target a n v ∷ made)
-step labels end place target depth all made old new suffix a n (Known v) k l t d r = known (subst (λ b. Resolves all (reverse b) (suc place) suffix made) (sym t) r)
-step labels end place target depth all made old new suffix a n (BranchTo label) k l t d r = branch (leads labels end all label k l) (subst (λ b. Resolves all (reverse b) (suc place) suffix made) (sym t) r)
-step labels end place target depth all made old new suffix a n (TestTo label) k l t d r = test (leads labels end all label k l) (subst (λ b. Resolves all (reverse b) (suc place) suffix made) (sym t) r)
+step labels end place target depth all made old new suffix a n (Known v) k l t d r =
+    known (subst (λ b. Resolves all (reverse b) (suc place) suffix made) (sym t) r)
+step labels end place target depth all made old new suffix a n (BranchTo label) k l t d r =
+    branch (leads labels end all label k l) (subst (λ b. Resolves all (reverse b) (suc place) suffix made) (sym t) r)
+step labels end place target depth all made old new suffix a n (TestTo label) k l t d r =
+    test (leads labels end all label k l) (subst (λ b. Resolves all (reverse b) (suc place) suffix made) (sym t) r)
 step labels end place target depth all made old new suffix a n Opening k l t d r =
     let deep : length (reverse old) ≡ suc depth = nests_one suffix (length (reverse old)) (suc depth) (resolves_nests r) d.1 in
     let cut : old ≡ new ++ target ∷ [] = t (not_empty old (omega (arith, deep))) in
     let front : reverse old ≡ target ∷ reverse new = ap reverse cut ∙ reverse_push new target in
     opening (omega (arith, ap length front, deep, d.0)) (subst (λ b. Resolves all b (suc place) suffix made) front r)
 
-among_push : (left : List Item) (a : Address) (n : Bool) (v : WrittenVerb) → length (commands_among (left ++ Written a n v ∷ [])) ≡ suc (length (commands_among left))
+among_push : (left : List Item) (a : Address) (n : Bool) (v : WrittenVerb)
+    → length (commands_among (left ++ Written a n v ∷ [])) ≡ suc (length (commands_among left))
 among_push [] a n v = refl
 among_push (Written b m w ∷ left) a n v = ap suc (among_push left a n v)
 among_push (Closing ∷ left) a n v = among_push left a n v
@@ -68,9 +75,11 @@ among_closing (Written b m w ∷ left) = ap suc (among_closing left)
 among_closing (Closing ∷ left) = among_closing left
 
 -- one more command
-pub back_command : {S : Type 0} {labels : HashMap (Bor (List ℕ)) ℕ S} {end : ℕ} {whole : List Item} {made : List Command} (old : List ℕ) (left : List Item) (a : Address) (n : Bool) (v : WrittenVerb) (target : ℕ) (new : List ℕ)
+pub back_command : {S : Type 0} {labels : HashMap (Bor (List ℕ)) ℕ S} {end : ℕ} {whole : List Item} {made : List Command} (old : List ℕ)
+    (left : List Item) (a : Address) (n : Bool) (v : WrittenVerb) (target : ℕ) (new : List ℕ)
     → Nests whole 0 → IsKnownLabel labels (label_of v) → TakesTarget (verb_turn v) old new target
-    → IsBack labels end whole (left ++ Written a n v ∷ []) made (reverse old) → IsBack labels end whole left (made_of labels end target a n v ∷ made) (reverse new)
+    → IsBack labels end whole (left ++ Written a n v ∷ []) made (reverse old)
+    → IsBack labels end whole left (made_of labels end target a n v ∷ made) (reverse new)
 back_command {labels = labels} {end = end} {whole = whole} {made = made} old left a n v target new nests l t b =
     let split : whole ≡ left ++ Written a n v ∷ b.suffix = b.split ∙ append_assoc left (Written a n v ∷ []) b.suffix in
     let deep = nests_behind left (Written a n v ∷ b.suffix) 0 (subst (λ w. Nests w 0) split nests) in
@@ -83,22 +92,29 @@ back_command {labels = labels} {end = end} {whole = whole} {made = made} old lef
     }
 
 -- one more closing
-pub back_closing : {S : Type 0} {labels : HashMap (Bor (List ℕ)) ℕ S} {end : ℕ} {whole : List Item} {made : List Command} {blocks : List ℕ} (left : List Item) (target : ℕ)
+pub back_closing : {S : Type 0} {labels : HashMap (Bor (List ℕ)) ℕ S} {end : ℕ} {whole : List Item} {made : List Command} {blocks : List ℕ}
+    (left : List Item) (target : ℕ)
     → target + length made ≡ end → IsBack labels end whole (left ++ Closing ∷ []) made blocks → IsBack labels end whole left made (target ∷ blocks)
 back_closing {whole = whole} {made = made} {blocks = blocks} left target e b =
     record {
       suffix = Closing ∷ b.suffix;
       split = b.split ∙ append_assoc left (Closing ∷ []) b.suffix;
       count = omega (arith, b.count, among_closing left);
-      resolves = λ all k. closing (omega (arith, e, b.count, among_closing left)) (subst (λ p. Resolves all blocks p b.suffix made) (among_closing left) (b.resolves all k));
+      resolves = λ all k. closing (omega (arith, e, b.count, among_closing left))
+          (subst (λ p. Resolves all blocks p b.suffix made) (among_closing left) (b.resolves all k));
     }
 
-knows_plain : {S : Type 0} {labels : HashMap (Bor (List ℕ)) ℕ S} {end : ℕ} (whole : List Item) → HasLabels labels (commands_among whole) → end ≡ length (commands_among whole) → Knows labels end (plain_commands (commands_among whole))
-knows_plain whole h e = record { len = e ∙ sym (plain_length (commands_among whole)); at = λ name i k. plain_label (commands_among whole) name i (h.at name i k) }
+knows_plain : {S : Type 0} {labels : HashMap (Bor (List ℕ)) ℕ S} {end : ℕ} (whole : List Item) → HasLabels labels (commands_among whole)
+    → end ≡ length (commands_among whole) → Knows labels end (plain_commands (commands_among whole))
+knows_plain whole h e = record {
+  len = e ∙ sym (plain_length (commands_among whole));
+  at = λ name i k. plain_label (commands_among whole) name i (h.at name i k);
+}
 
 -- where nothing is left, the items are these commands
 pub back_done : {S : Type 0} {labels : HashMap (Bor (List ℕ)) ℕ S} {end : ℕ} {whole : List Item} {made : List Command} {blocks : List ℕ}
-    → HasLabels labels (commands_among whole) → Nests whole 0 → end ≡ length (commands_among whole) → IsBack labels end whole [] made blocks → Resolves made [] 0 whole made
+    → HasLabels labels (commands_among whole) → Nests whole 0 → end ≡ length (commands_among whole) → IsBack labels end whole [] made blocks
+    → Resolves made [] 0 whole made
 back_done {labels = labels} {end = end} {whole = whole} {made = made} {blocks = blocks} h nests e b =
     let at_whole : (all : List Command) → Knows labels end all → Resolves all blocks 0 whole made = λ all k. rw b.split (b.resolves all k) in
     let first = at_whole (plain_commands (commands_among whole)) (knows_plain whole h e) in
@@ -118,10 +134,13 @@ abbrev pub AreKnown : {S : Type 0} → HashMap (Bor (List ℕ)) ℕ S → List W
 AreKnown labels items = All (λ item. IsKnownLabel labels (item_label (item_of item))) items
 
 pub known_front : {S : Type 0} (labels : HashMap (Bor (List ℕ)) ℕ S) (xs ys : List WrittenItem) → AreKnown labels (xs ++ ys) → AreKnown labels xs
-known_front labels xs ys h = λ k d lt. subst (λ item. IsKnownLabel labels (item_label (item_of item))) (get_or-append xs ys d k lt) (h k d (omega (arith, length-append xs ys)))
+known_front labels xs ys h = λ k d lt. subst (λ item. IsKnownLabel labels (item_label (item_of item))) (get_or-append xs ys d k lt)
+    (h k d (omega (arith, length-append xs ys)))
 
-pub known_last : {S : Type 0} (labels : HashMap (Bor (List ℕ)) ℕ S) (xs : List WrittenItem) (x : WrittenItem) → AreKnown labels (xs ++ x ∷ []) → IsKnownLabel labels (item_label (item_of x))
-known_last labels xs x h = subst (λ item. IsKnownLabel labels (item_label (item_of item))) (get_or-append_seam xs x [] x) (h (length xs) x (omega (arith, length-append xs (x ∷ []))))
+pub known_last : {S : Type 0} (labels : HashMap (Bor (List ℕ)) ℕ S) (xs : List WrittenItem) (x : WrittenItem) → AreKnown labels (xs ++ x ∷ [])
+    → IsKnownLabel labels (item_label (item_of x))
+known_last labels xs x h = subst (λ item. IsKnownLabel labels (item_label (item_of item))) (get_or-append_seam xs x [] x)
+    (h (length xs) x (omega (arith, length-append xs (x ∷ []))))
 
 pub none_left : {X Y : Type 0} (f : X → Y) (xs : List X) → length xs ≡ 0 → map f xs ≡ []
 none_left f xs e = ap (map f) (nil_from_length xs e)

@@ -59,7 +59,12 @@ contains_behind (b ∷ front) text x h = Contains-cons_more b (front ++ text) x 
 
 contains_front : (front text : List ℕ) (x : ℕ) → Contains front x → Contains (front ++ text) x
 contains_front [] text x h = absurd (omega (arith, h.1))
-contains_front (b ∷ front) text x h = elim (Contains-cons_cases b front x h) [ inl here ↦ (0, omega arith, here) | inr more ↦ Contains-cons_more b (front ++ text) x (contains_front front text x more) ]
+contains_front (b ∷ front) text x h =
+    elim (Contains-cons_cases b front x h) [
+      | inl here ↦ (0, omega arith, here)
+      | inr more ↦ Contains-cons_more b (front ++ text) x
+          (contains_front front text x more)
+    ]
 
 contains_tail : {whole text : List ℕ} → EndsIn whole text → (x : ℕ) → Contains text x → Contains whole x
 contains_tail {whole} {text} h x k = subst (λ t. Contains t x) (sym h.1) (contains_behind h.0 text x k)
@@ -68,7 +73,11 @@ no_newline : (name : List ℕ) → list_all (λ b. not (is_newline b)) name ≡ 
 no_newline [] h k = omega (arith, k.1)
 no_newline (b ∷ name) h k =
     let both = and_parts (not (is_newline b)) (list_all (λ c. not (is_newline c)) name) h in
-    elim (Contains-cons_cases b name 10 k) [ inl here ↦ both_ways (is_newline b) (not-true (is_newline b) both.0) (eq-eqb b 10 here) | inr more ↦ no_newline name both.1 more ]
+    elim (Contains-cons_cases b name 10 k) [
+      | inl here ↦ both_ways (is_newline b) (not-true (is_newline b) both.0)
+          (eq-eqb b 10 here)
+      | inr more ↦ no_newline name both.1 more
+    ]
 
 -- a name that is read is a name, where the script has no byte 0
 pub name_is : {whole text name rest : List ℕ} → (Contains whole 0 → ⊥) → EndsIn whole text → Name text name rest → IsName name
@@ -82,13 +91,15 @@ pub name_size : {text name rest : List ℕ} → Name text name rest → length n
 name_size {name = name} {rest = rest} n = omega (arith, ap length n.skipped.cut, length-append n.blanks n.begins, ap length n.run.cut, length-append name rest)
 
 -- what holds of a substitution's file
-pub flags_file : {pattern : Pattern} {parts : List Part} {whole text rest : List ℕ} {s : Substitution} → (Contains whole 0 → ⊥) → EndsIn whole text → Flags pattern parts text s rest
+pub flags_file : {pattern : Pattern} {parts : List Part} {whole text rest : List ℕ} {s : Substitution} → (Contains whole 0 → ⊥) → EndsIn whole text
+    → Flags pattern parts text s rest
     → AllByRecursion IsName (option_to_list s.file) × (names_size (option_to_list s.file) + length rest ≤ length text)
 flags_file zeros h (p.none e) = (tt, omega (arith, tail_length (ends_tail e)))
 flags_file zeros h (p.file {b = b} e n) = ((name_is zeros (tail_behind h refl) n, tt), omega (arith, name_size n))
 flags_file zeros h (p.global e f g) = let more = flags_file zeros (tail_behind h refl) f in (more.0, omega (arith, more.1))
 flags_file zeros h (p.print e f g) = let more = flags_file zeros (tail_behind h refl) f in (more.0, omega (arith, more.1))
-flags_file zeros h (p.number n f g) = let more = flags_file zeros (tail_tail h (number_tail n)) f in (more.0, omega (arith, more.1, tail_length (number_tail n)))
+flags_file zeros h (p.number n f g) = let more = flags_file zeros (tail_tail h (number_tail n)) f in
+    (more.0, omega (arith, more.1, tail_length (number_tail n)))
 
 -- ---- Verbs
 
@@ -110,7 +121,11 @@ pub record IsCheap (v : Verb) (text rest : List ℕ) : Type 0 where
 
 -- a verb without names and replacements
 plain : {v : Verb} {text rest : List ℕ} → read_names v ≡ [] → write_names v ≡ [] → IsReplacement v → length rest ≤ length text → IsCheap v text rest
-plain e f r l = record { bounded = record { reads = rw e tt; writes = rw f tt; one_read = rw e (omega arith); one_write = rw f (omega arith); replacement = r }; cost = rw (e, f) (omega (arith, l)) }
+plain e f r l =
+    record {
+      bounded = record { reads = rw e tt; writes = rw f tt; one_read = rw e (omega arith); one_write = rw f (omega arith); replacement = r };
+      cost = rw (e, f) (omega (arith, l));
+    }
 
 simple_cheap : {bytes text rest : List ℕ} {v : Verb} → Simple bytes v → length rest ≤ length text → IsCheap v text rest
 simple_cheap w.line_number l = plain refl refl tt l
@@ -165,7 +180,10 @@ module _ {whole : List ℕ} (few : length whole ≤ 1048576) (zeros : Contains w
           writes = file.0;
           one_read = omega arith;
           one_write = one_file s.file;
-          replacement = (rw (flags_parts f) (omega (arith, replacement_size z, tail_length behind, few)), rw (flags_parts f) (All-from_recursion IsPart _ (replacement_parts z)));
+          replacement = (
+            rw (flags_parts f) (omega (arith, replacement_size z, tail_length behind, few)),
+            rw (flags_parts f) (All-from_recursion IsPart _ (replacement_parts z)),
+          );
         };
         cost = omega (arith, file.1, tail_length (expression_tail x), tail_length (replacement_tail z));
       }

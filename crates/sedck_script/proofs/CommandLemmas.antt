@@ -25,7 +25,8 @@ pub record AreParts (a : Address) (marks begins : List ℕ) (b : Address) (n : B
   pub negated : n ≡ list_any (λ x. eqb x 33) marks
   pub verbs : VerbText begins v rest
 
-pub command_parts : {text r marks begins rest : List ℕ} {a b : Address} {n : Bool} {v : WrittenVerb} → IsOnlyAddress text a r → Longest is_mark r marks begins → CommandText text b n v rest → AreParts a marks begins b n v rest
+pub command_parts : {text r marks begins rest : List ℕ} {a b : Address} {n : Bool} {v : WrittenVerb} → IsOnlyAddress text a r
+    → Longest is_mark r marks begins → CommandText text b n v rest → AreParts a marks begins b n v rest
 command_parts {b = b} {v = v} only l c =
     let one = only b c.behind c.marks c.begins _ v c.addresses c.run c.verbs in
     let same = longest_one (longest_along one.1 c.run) l in

@@ -12,7 +12,8 @@ some_append : (xs ys : List Tree) → has_some (xs ++ ys) ≡ (has_some xs || ha
 some_append [] ys = refl
 some_append (x ∷ xs) ys = refl
 
-both : (c : Command) (cs : List Command) → expressions (c ∷ cs) ≡ (flat_map pattern_expressions (address_patterns c.address) ++ flat_map pattern_expressions (verb_patterns c.verb)) ++ expressions cs
+both : (c : Command) (cs : List Command) → expressions (c ∷ cs) ≡
+    (flat_map pattern_expressions (address_patterns c.address) ++ flat_map pattern_expressions (verb_patterns c.verb)) ++ expressions cs
 both c cs =
     flat_map-append pattern_expressions (address_patterns c.address ++ verb_patterns c.verb) (patterns cs)
     ∙ ap (λ t. t ++ expressions cs) (flat_map-append pattern_expressions (address_patterns c.address) (verb_patterns c.verb))
@@ -22,4 +23,6 @@ any_has_some [] = refl
 any_has_some (c ∷ cs) =
     let d = command_of c in
     ap (λ b. command_has_some d || b) (any_has_some cs)
-    ∙ sym (ap has_some (both d (map command_of cs)) ∙ some_append _ (expressions (map command_of cs)) ∙ ap (λ b. b || has_some (expressions (map command_of cs))) (some_append (flat_map pattern_expressions (address_patterns d.address)) (flat_map pattern_expressions (verb_patterns d.verb))))
+    ∙ sym (ap has_some (both d (map command_of cs)) ∙ some_append _ (expressions (map command_of cs))
+    ∙ ap (λ b. b || has_some (expressions (map command_of cs)))
+    (some_append (flat_map pattern_expressions (address_patterns d.address)) (flat_map pattern_expressions (verb_patterns d.verb))))

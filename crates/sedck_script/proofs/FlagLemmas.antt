@@ -12,17 +12,20 @@ use Rattle.sedck_script.proofs.Heads.{heads}
 use Rattle.sedck_script.proofs.PartsOne.{no_end, ends_no_number, ends_first, number_no_byte, digit_no_end, number_one}
 
 -- no flag begins with this byte
-pub no_flag_by : {q : Pattern} {ps : List Part} {b : ℕ} {text r : List ℕ} {s : Substitution} → b ≢ 103 → b ≢ 112 → b ≢ 119 → is_digit b ≡ false → is_blank b ≡ false → is_ending b ≡ false → Flags q ps (b ∷ text) s r → ⊥
+pub no_flag_by : {q : Pattern} {ps : List Part} {b : ℕ} {text r : List ℕ} {s : Substitution} → b ≢ 103 → b ≢ 112 → b ≢ 119 → is_digit b ≡ false
+    → is_blank b ≡ false → is_ending b ≡ false → Flags q ps (b ∷ text) s r → ⊥
 no_flag_by {b = b} f g h i j k (p.none e) = both_ways (is_blank b || is_ending b) (or_from (is_blank b) (is_ending b) j k) (ends_first e)
 no_flag_by f g h i j k (p.file e n) = h (heads e)
 no_flag_by f g h i j k (p.global e x y) = f (heads e)
 no_flag_by f g h i j k (p.print e x y) = g (heads e)
 no_flag_by f g h i j k (p.number a x y) = number_no_byte refl i a
 
-pub no_flag : {q : Pattern} {ps : List Part} {b : ℕ} {text behind r : List ℕ} {s : Substitution} → text ≡ b ∷ behind → b ≢ 103 → b ≢ 112 → b ≢ 119 → is_digit b ≡ false → is_blank b ≡ false → is_ending b ≡ false → Flags q ps text s r → ⊥
+pub no_flag : {q : Pattern} {ps : List Part} {b : ℕ} {text behind r : List ℕ} {s : Substitution} → text ≡ b ∷ behind → b ≢ 103 → b ≢ 112 → b ≢ 119
+    → is_digit b ≡ false → is_blank b ≡ false → is_ending b ≡ false → Flags q ps text s r → ⊥
 no_flag {q} {ps} {r = r} {s = s} e f g h i j k x = no_flag_by f g h i j k (subst (λ t. Flags q ps t s r) e x)
 
-file_inside : {q : Pattern} {ps : List Part} {b : ℕ} {text r : List ℕ} {s : Substitution} → b ≡ 119 → ((name rest : List ℕ) → Name text name rest → ⊥) → Flags q ps (b ∷ text) s r → ⊥
+file_inside : {q : Pattern} {ps : List Part} {b : ℕ} {text r : List ℕ} {s : Substitution} → b ≡ 119 → ((name rest : List ℕ) → Name text name rest → ⊥)
+    → Flags q ps (b ∷ text) s r → ⊥
 file_inside h n (p.none e) = no_end h refl e
 file_inside h n (p.file e m) = n _ _ m
 file_inside h n (p.global e x y) = omega (arith, heads e)
@@ -30,10 +33,12 @@ file_inside h n (p.print e x y) = omega (arith, heads e)
 file_inside h n (p.number a x y) = number_no_byte h refl a
 
 -- a `w` without a name
-pub no_file : {q : Pattern} {ps : List Part} {b : ℕ} {text behind r : List ℕ} {s : Substitution} → text ≡ b ∷ behind → b ≡ 119 → ((name rest : List ℕ) → Name behind name rest → ⊥) → Flags q ps text s r → ⊥
+pub no_file : {q : Pattern} {ps : List Part} {b : ℕ} {text behind r : List ℕ} {s : Substitution} → text ≡ b ∷ behind → b ≡ 119
+    → ((name rest : List ℕ) → Name behind name rest → ⊥) → Flags q ps text s r → ⊥
 no_file {q} {ps} {r = r} {s = s} e h n x = file_inside h n (subst (λ t. Flags q ps t s r) e x)
 
-number_inside : {q : Pattern} {ps : List Part} {b : ℕ} {text r : List ℕ} {s : Substitution} → is_digit b ≡ true → ((n : ℕ) (rest : List ℕ) → Number (b ∷ text) n rest → ⊥) → Flags q ps (b ∷ text) s r → ⊥
+number_inside : {q : Pattern} {ps : List Part} {b : ℕ} {text r : List ℕ} {s : Substitution} → is_digit b ≡ true
+    → ((n : ℕ) (rest : List ℕ) → Number (b ∷ text) n rest → ⊥) → Flags q ps (b ∷ text) s r → ⊥
 number_inside {b = b} h n (p.none e) = digit_no_end b h (ends_first e)
 number_inside h n (p.file e m) = false≢true (ap is_digit (sym (heads e)) ∙ h)
 number_inside h n (p.global e x y) = false≢true (ap is_digit (sym (heads e)) ∙ h)
@@ -41,10 +46,12 @@ number_inside h n (p.print e x y) = false≢true (ap is_digit (sym (heads e)) �
 number_inside h n (p.number a x y) = n _ _ a
 
 -- digits that are no number
-pub no_number : {q : Pattern} {ps : List Part} {b : ℕ} {text behind r : List ℕ} {s : Substitution} → text ≡ b ∷ behind → is_digit b ≡ true → ((n : ℕ) (rest : List ℕ) → Number text n rest → ⊥) → Flags q ps text s r → ⊥
+pub no_number : {q : Pattern} {ps : List Part} {b : ℕ} {text behind r : List ℕ} {s : Substitution} → text ≡ b ∷ behind → is_digit b ≡ true
+    → ((n : ℕ) (rest : List ℕ) → Number text n rest → ⊥) → Flags q ps text s r → ⊥
 no_number {q} {ps} {r = r} {s = s} e h n x = number_inside h (λ m rest a. n m rest (subst (λ t. Number t m rest) (sym e) a)) (subst (λ t. Flags q ps t s r) e x)
 
-no_end_inside : {q : Pattern} {ps : List Part} {b : ℕ} {behind r : List ℕ} {s : Substitution} → b ≢ 103 → b ≢ 112 → b ≢ 119 → is_digit b ≡ false → ((rest : List ℕ) → Ends (b ∷ behind) rest → ⊥) → Flags q ps (b ∷ behind) s r → ⊥
+no_end_inside : {q : Pattern} {ps : List Part} {b : ℕ} {behind r : List ℕ} {s : Substitution} → b ≢ 103 → b ≢ 112 → b ≢ 119 → is_digit b ≡ false
+    → ((rest : List ℕ) → Ends (b ∷ behind) rest → ⊥) → Flags q ps (b ∷ behind) s r → ⊥
 no_end_inside f g h i n (p.none e) = n _ e
 no_end_inside f g h i n (p.file e m) = h (heads e)
 no_end_inside f g h i n (p.global e x y) = f (heads e)
@@ -52,8 +59,10 @@ no_end_inside f g h i n (p.print e x y) = g (heads e)
 no_end_inside f g h i n (p.number a x y) = number_no_byte refl i a
 
 -- no end, and no flag
-pub no_flags_end : {q : Pattern} {ps : List Part} {b : ℕ} {text behind r : List ℕ} {s : Substitution} → text ≡ b ∷ behind → b ≢ 103 → b ≢ 112 → b ≢ 119 → is_digit b ≡ false → ((rest : List ℕ) → Ends text rest → ⊥) → Flags q ps text s r → ⊥
-no_flags_end {q} {ps} {r = r} {s = s} e f g h i n x = no_end_inside f g h i (λ rest a. n rest (subst (λ t. Ends t rest) (sym e) a)) (subst (λ t. Flags q ps t s r) e x)
+pub no_flags_end : {q : Pattern} {ps : List Part} {b : ℕ} {text behind r : List ℕ} {s : Substitution} → text ≡ b ∷ behind → b ≢ 103 → b ≢ 112
+    → b ≢ 119 → is_digit b ≡ false → ((rest : List ℕ) → Ends text rest → ⊥) → Flags q ps text s r → ⊥
+no_flags_end {q} {ps} {r = r} {s = s} e f g h i n x =
+    no_end_inside f g h i (λ rest a. n rest (subst (λ t. Ends t rest) (sym e) a)) (subst (λ t. Flags q ps t s r) e x)
 
 -- what has been seen may not stand among the others
 pub record Fits (global print : Bool) (nth : Option ℕ) (others : Substitution) : Type 0 where
@@ -72,8 +81,10 @@ joined global print nth others = record others { global = global || others.globa
 -- These flags have been read, and rest is left.
 pub record FlagsPassed (whole text : List ℕ) (global print : Bool) (nth : Option ℕ) (rest : List ℕ) : Type 0 where
   pub tail : EndsIn whole rest
-  pub sound : (q : Pattern) (ps : List Part) (others : Substitution) (r : List ℕ) → Flags q ps rest others r → Fits global print nth others → Flags q ps text (joined global print nth others) r
-  pub only : (q : Pattern) (ps : List Part) (s : Substitution) (r : List ℕ) → Flags q ps text s r → (others : Substitution) × Flags q ps rest others r × Fits global print nth others
+  pub sound : (q : Pattern) (ps : List Part) (others : Substitution) (r : List ℕ) → Flags q ps rest others r → Fits global print nth others
+      → Flags q ps text (joined global print nth others) r
+  pub only : (q : Pattern) (ps : List Part) (s : Substitution) (r : List ℕ) → Flags q ps text s r
+      → (others : Substitution) × Flags q ps rest others r × Fits global print nth others
 
 -- the flags behind a `g`, a `p` or a number
 record BehindGlobal (q : Pattern) (ps : List Part) (behind r : List ℕ) (s : Substitution) : Type 0 where
@@ -94,21 +105,24 @@ record BehindNumber (q : Pattern) (ps : List Part) (n : ℕ) (behind r : List �
   none : others.nth ≡ None
   is : s ≡ record others { nth = Some n }
 
-global_inside : {q : Pattern} {ps : List Part} {b : ℕ} {behind r : List ℕ} {s : Substitution} → b ≡ 103 → Flags q ps (b ∷ behind) s r → BehindGlobal q ps behind r s
+global_inside : {q : Pattern} {ps : List Part} {b : ℕ} {behind r : List ℕ} {s : Substitution} → b ≡ 103 → Flags q ps (b ∷ behind) s r
+    → BehindGlobal q ps behind r s
 global_inside h (p.none e) = absurd (no_end h refl e)
 global_inside h (p.file e m) = absurd (omega (arith, heads e))
 global_inside h (p.global {others = o} e x y) = record { others = o; flags = x; none = y; is = refl }
 global_inside h (p.print e x y) = absurd (omega (arith, heads e))
 global_inside h (p.number a x y) = absurd (number_no_byte h refl a)
 
-print_inside : {q : Pattern} {ps : List Part} {b : ℕ} {behind r : List ℕ} {s : Substitution} → b ≡ 112 → Flags q ps (b ∷ behind) s r → BehindPrint q ps behind r s
+print_inside : {q : Pattern} {ps : List Part} {b : ℕ} {behind r : List ℕ} {s : Substitution} → b ≡ 112 → Flags q ps (b ∷ behind) s r
+    → BehindPrint q ps behind r s
 print_inside h (p.none e) = absurd (no_end h refl e)
 print_inside h (p.file e m) = absurd (omega (arith, heads e))
 print_inside h (p.global e x y) = absurd (omega (arith, heads e))
 print_inside h (p.print {others = o} e x y) = record { others = o; flags = x; none = y; is = refl }
 print_inside h (p.number a x y) = absurd (number_no_byte h refl a)
 
-nth_inside : {q : Pattern} {ps : List Part} {n : ℕ} {text behind r : List ℕ} {s : Substitution} → Number text n behind → Flags q ps text s r → BehindNumber q ps n behind r s
+nth_inside : {q : Pattern} {ps : List Part} {n : ℕ} {text behind r : List ℕ} {s : Substitution} → Number text n behind → Flags q ps text s r
+    → BehindNumber q ps n behind r s
 nth_inside a (p.none e) = absurd (ends_no_number e a)
 nth_inside a (p.file e m) = absurd (number_no_byte (heads e) refl a)
 nth_inside a (p.global e x y) = absurd (number_no_byte (heads e) refl a)
@@ -120,7 +134,8 @@ nth_inside {q} {ps} {r = r} a (p.number {others = o} b x y) =
 along : {q : Pattern} {ps : List Part} {text behind r : List ℕ} {s : Substitution} → text ≡ behind → Flags q ps text s r → Flags q ps behind s r
 along {q} {ps} {r = r} {s = s} e x = subst (λ t. Flags q ps t s r) e x
 
-pub flags_global : {whole text rest behind : List ℕ} {print : Bool} {nth : Option ℕ} → FlagsPassed whole text false print nth rest → rest ≡ 103 ∷ behind → FlagsPassed whole text true print nth behind
+pub flags_global : {whole text rest behind : List ℕ} {print : Bool} {nth : Option ℕ} → FlagsPassed whole text false print nth rest
+    → rest ≡ 103 ∷ behind → FlagsPassed whole text true print nth behind
 flags_global {print = print} {nth = nth} h e = record {
   tail = tail_behind h.tail e;
   sound = λ q ps o r x f.
@@ -139,7 +154,8 @@ flags_global {print = print} {nth = nth} h e = record {
       );
 }
 
-pub flags_print : {whole text rest behind : List ℕ} {global : Bool} {nth : Option ℕ} → FlagsPassed whole text global false nth rest → rest ≡ 112 ∷ behind → FlagsPassed whole text global true nth behind
+pub flags_print : {whole text rest behind : List ℕ} {global : Bool} {nth : Option ℕ} → FlagsPassed whole text global false nth rest
+    → rest ≡ 112 ∷ behind → FlagsPassed whole text global true nth behind
 flags_print {global = global} {nth = nth} h e = record {
   tail = tail_behind h.tail e;
   sound = λ q ps o r x f.
@@ -158,7 +174,8 @@ flags_print {global = global} {nth = nth} h e = record {
       );
 }
 
-pub flags_nth : {whole text rest behind : List ℕ} {global print : Bool} {n : ℕ} → FlagsPassed whole text global print None rest → Number rest n behind → FlagsPassed whole text global print (Some n) behind
+pub flags_nth : {whole text rest behind : List ℕ} {global print : Bool} {n : ℕ} → FlagsPassed whole text global print None rest → Number rest n behind
+    → FlagsPassed whole text global print (Some n) behind
 flags_nth {global = global} {print = print} {n = n} h a = record {
   tail = tail_tail h.tail (number_tail a);
   sound = λ q ps o r x f.
@@ -186,19 +203,22 @@ none_of (Some k) h = absurd (false≢true (sym h))
 none_of None h = refl
 
 -- a flag that has been seen
-pub global_twice : {whole text rest behind : List ℕ} {global print : Bool} {nth : Option ℕ} → FlagsPassed whole text global print nth rest → global ≡ true → rest ≡ 103 ∷ behind → (q : Pattern) (ps : List Part) (s : Substitution) (r : List ℕ) → Flags q ps text s r → ⊥
+pub global_twice : {whole text rest behind : List ℕ} {global print : Bool} {nth : Option ℕ} → FlagsPassed whole text global print nth rest
+    → global ≡ true → rest ≡ 103 ∷ behind → (q : Pattern) (ps : List Part) (s : Substitution) (r : List ℕ) → Flags q ps text s r → ⊥
 global_twice h g e q ps s r x =
     let one = h.only q ps s r x in
     let two = global_inside refl (along e one.1) in
     false≢true (sym (one.2.globals g) ∙ ap (λ t. t.global) two.is)
 
-pub print_twice : {whole text rest behind : List ℕ} {global print : Bool} {nth : Option ℕ} → FlagsPassed whole text global print nth rest → print ≡ true → rest ≡ 112 ∷ behind → (q : Pattern) (ps : List Part) (s : Substitution) (r : List ℕ) → Flags q ps text s r → ⊥
+pub print_twice : {whole text rest behind : List ℕ} {global print : Bool} {nth : Option ℕ} → FlagsPassed whole text global print nth rest
+    → print ≡ true → rest ≡ 112 ∷ behind → (q : Pattern) (ps : List Part) (s : Substitution) (r : List ℕ) → Flags q ps text s r → ⊥
 print_twice h g e q ps s r x =
     let one = h.only q ps s r x in
     let two = print_inside refl (along e one.1) in
     false≢true (sym (one.2.prints g) ∙ ap (λ t. t.print) two.is)
 
-pub nth_twice : {whole text rest behind : List ℕ} {global print : Bool} {nth : Option ℕ} {n : ℕ} → FlagsPassed whole text global print nth rest → is_some nth ≡ true → Number rest n behind → (q : Pattern) (ps : List Part) (s : Substitution) (r : List ℕ) → Flags q ps text s r → ⊥
+pub nth_twice : {whole text rest behind : List ℕ} {global print : Bool} {nth : Option ℕ} {n : ℕ} → FlagsPassed whole text global print nth rest
+    → is_some nth ≡ true → Number rest n behind → (q : Pattern) (ps : List Part) (s : Substitution) (r : List ℕ) → Flags q ps text s r → ⊥
 nth_twice {nth = nth} h g a q ps s r x =
     let one = h.only q ps s r x in
     let two = nth_inside a one.1 in
@@ -212,12 +232,16 @@ nth_none (Some n) = refl
 nth_none None = refl
 
 -- at the end of the flags
-pub flags_end : {whole text rest behind : List ℕ} {global print : Bool} {nth : Option ℕ} → FlagsPassed whole text global print nth rest → Ends rest behind → (q : Pattern) (ps : List Part) → Flags q ps text (record { pattern = q; parts = ps; global = global; print = print; nth = nth; file = None }) behind
+pub flags_end : {whole text rest behind : List ℕ} {global print : Bool} {nth : Option ℕ} → FlagsPassed whole text global print nth rest
+    → Ends rest behind → (q : Pattern) (ps : List Part)
+    → Flags q ps text (record { pattern = q; parts = ps; global = global; print = print; nth = nth; file = None }) behind
 flags_end {text = text} {behind = behind} {global = global} {print = print} {nth = nth} h e q ps =
     let x = h.sound q ps _ behind (p.none e) (record { globals = λ g. refl; prints = λ g. refl; numbers = λ n g. refl }) in
     rw (or-false global, or-false print, nth_none nth) at x
 
-pub flags_file : {whole text rest behind after : List ℕ} {global print : Bool} {nth : Option ℕ} (name : List ℕ) → FlagsPassed whole text global print nth rest → rest ≡ 119 ∷ behind → Name behind name after → (q : Pattern) (ps : List Part) → Flags q ps text (record { pattern = q; parts = ps; global = global; print = print; nth = nth; file = Some name }) after
+pub flags_file : {whole text rest behind after : List ℕ} {global print : Bool} {nth : Option ℕ} (name : List ℕ)
+    → FlagsPassed whole text global print nth rest → rest ≡ 119 ∷ behind → Name behind name after → (q : Pattern) (ps : List Part)
+    → Flags q ps text (record { pattern = q; parts = ps; global = global; print = print; nth = nth; file = Some name }) after
 flags_file {text = text} {after = after} {global = global} {print = print} {nth = nth} name h e m q ps =
     let x = h.sound q ps _ after (along (sym e) (p.file refl m)) (record { globals = λ g. refl; prints = λ g. refl; numbers = λ n g. refl }) in
     rw (or-false global, or-false print, nth_none nth) at x

@@ -45,7 +45,9 @@ label_cases true e = inl (refl, e)
 label_cases false e = inr (refl, e)
 
 module _ {S : Type 0} (old new : HashMap (Bor (List ℕ)) ℕ S) (items : List Item) (h : HasLabels old items) where
-  pub labels_label : (name : List ℕ) → label_place old name ≡ None → ((q : List ℕ) → label_place new q ≡ cond (bytes_eq name q) (Some (length items)) (label_place old q)) → HasLabels new (items ++ Written NoAddress false (Known (Label name)) ∷ [])
+  pub labels_label : (name : List ℕ) → label_place old name ≡ None
+      → ((q : List ℕ) → label_place new q ≡ cond (bytes_eq name q) (Some (length items)) (label_place old q))
+      → HasLabels new (items ++ Written NoAddress false (Known (Label name)) ∷ [])
   labels_label name none n = record {
     at = λ q i g. elim (label_cases (bytes_eq name q) (n q)) [
       | inl k ↦ (
@@ -69,7 +71,8 @@ module _ {S : Type 0} (old new : HashMap (Bor (List ℕ)) ℕ S) (items : List I
     ];
   }
 
-  pub labels_other : (x : Item) → ((q : List ℕ) → x ≡ Written NoAddress false (Known (Label q)) → ⊥) → ((q : List ℕ) → label_place new q ≡ label_place old q) → HasLabels new (items ++ x ∷ [])
+  pub labels_other : (x : Item) → ((q : List ℕ) → x ≡ Written NoAddress false (Known (Label q)) → ⊥)
+      → ((q : List ℕ) → label_place new q ≡ label_place old q) → HasLabels new (items ++ x ∷ [])
   labels_other x other n = record {
     at = λ q i g. get_front items _ i _ (h.at q i (sym (n q) ∙ g));
     found = λ q i g. n q ∙ elim (get_push items x i _ g) [ inl k ↦ h.found q i k | inr k ↦ absurd (other q k.1) ];

@@ -54,7 +54,8 @@ turned : (a b : List ℕ) {o : Ordering} → slice_cmp nat_cmp a b ≡ o → sli
 turned a b e = nat_list_cmp_total.antisymm b a ∙ ap ordering_reverse e
 
 -- a name goes behind those that are before it, unless it is there
-pub with_name_at : (xs : List (List ℕ)) (name : List ℕ) (i : ℕ) → i ≤ length xs → ((k : ℕ) (d : List ℕ) → k < i → is_lt (slice_cmp nat_cmp (get_or xs k d) name) ≡ true)
+pub with_name_at : (xs : List (List ℕ)) (name : List ℕ) (i : ℕ) → i ≤ length xs
+    → ((k : ℕ) (d : List ℕ) → k < i → is_lt (slice_cmp nat_cmp (get_or xs k d) name) ≡ true)
     → ((d : List ℕ) → i < length xs → slice_cmp nat_cmp (get_or xs i d) name ≡ Greater) → with_name name xs ≡ insert xs i name
 with_name_at [] name zero le before behind = refl
 with_name_at [] name (suc i) le before behind = absurd (omega arith)
@@ -63,7 +64,8 @@ with_name_at (x ∷ xs) name (suc i) le before behind =
     ap (λ o. placed o name x xs (with_name name xs)) (turned x name (is_less _ (before 0 [] (omega arith))))
     ∙ ap (λ t. x ∷ t) (with_name_at xs name i (omega arith) (λ k d lt. before (suc k) d (omega arith)) (λ d lt. behind d (omega arith)))
 
-pub with_name_there : (xs : List (List ℕ)) (name : List ℕ) (i : ℕ) → ((k : ℕ) (d : List ℕ) → k < i → is_lt (slice_cmp nat_cmp (get_or xs k d) name) ≡ true) → i < length xs
+pub with_name_there : (xs : List (List ℕ)) (name : List ℕ) (i : ℕ)
+    → ((k : ℕ) (d : List ℕ) → k < i → is_lt (slice_cmp nat_cmp (get_or xs k d) name) ≡ true) → i < length xs
     → ((d : List ℕ) → slice_cmp nat_cmp (get_or xs i d) name ≡ Equal) → with_name name xs ≡ xs
 with_name_there [] name i before lt here = absurd (omega arith)
 with_name_there (x ∷ xs) name zero before lt here = ap (λ o. placed o name x xs (with_name name xs)) (turned x name (here []))
@@ -90,7 +92,8 @@ abbrev pub AreBefore : List (Bor (List ℕ)) → Bor (List ℕ) → ℕ → Type
 AreBefore xs name i = (k : ℕ) (d : Bor (List ℕ)) → k < i → is_lt (slice_cmp nat_cmp (get_or xs k d).now name.now) ≡ true
 
 -- a name that is there is not added
-pub name_there : (xs : List (Bor (List ℕ))) (name other : Bor (List ℕ)) (i : ℕ) → AreBefore xs name i → i < length xs → other ≡ get_or xs i other → bytes_eq other.now name.now ≡ true
+pub name_there : (xs : List (Bor (List ℕ))) (name other : Bor (List ℕ)) (i : ℕ) → AreBefore xs name i → i < length xs → other ≡ get_or xs i other
+    → bytes_eq other.now name.now ≡ true
     → map (λ n. n.now) xs ≡ with_name name.now (map (λ n. n.now) xs)
 name_there xs name other i before lt at same =
     let equal : slice_cmp nat_cmp other.now name.now ≡ Equal = is_equal _ (is_eq-slice_cmp other.now name.now ∙ same) in
@@ -115,7 +118,8 @@ name_new xs name i before le behind =
     map_insert xs i name ∙ sym (with_name_at (map (λ n. n.now) xs) name.now i (omega (arith, map_length xs))
     (λ k d lt. ap (λ n. is_lt (slice_cmp nat_cmp n name.now)) (get_mapped xs k d name (omega arith)) ∙ before k name lt)
     (λ d lt. let both = behind (omega (arith, map_length xs)) in
-    ap (λ n. slice_cmp nat_cmp n name.now) (get_mapped xs i d name (omega (arith, map_length xs))) ∙ is_greater _ both.0 (is_eq-slice_cmp (get_or xs i name).now name.now ∙ both.1)))
+    ap (λ n. slice_cmp nat_cmp n name.now) (get_mapped xs i d name (omega (arith, map_length xs)))
+    ∙ is_greater _ both.0 (is_eq-slice_cmp (get_or xs i name).now name.now ∙ both.1)))
 
 -- ---- The names of commands
 
@@ -124,7 +128,8 @@ any_before None names = refl
 any_before (Some name) names = refl
 
 -- the names from a command on, from those behind it
-pub names_from : (a : Access) (commands : List Command) (i : ℕ) (d : Command) (o : Option (List ℕ)) → i < length commands → option_to_list o ≡ accessed a (verb_of (get_or commands i d).verb)
+pub names_from : (a : Access) (commands : List Command) (i : ℕ) (d : Command) (o : Option (List ℕ)) → i < length commands
+    → option_to_list o ≡ accessed a (verb_of (get_or commands i d).verb)
     → sorted_names (all_accessed a (map command_of (drop i commands))) ≡ with_any o (sorted_names (all_accessed a (map command_of (drop (suc i) commands))))
 names_from a commands i d o lt h =
     ap (λ l. sorted_names (all_accessed a (map command_of l))) (drop-cons commands i d lt)

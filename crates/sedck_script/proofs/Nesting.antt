@@ -15,7 +15,8 @@ resolves_nests (test h r) = resolves_nests r
 resolves_nests (opening h r) = (h, resolves_nests r)
 resolves_nests (closing h r) = resolves_nests r
 
-pub resolves_length : {A cs : List Command} {blocks : List ℕ} {place : ℕ} {items : List Item} → Resolves A blocks place items cs → length cs ≡ length (commands_among items)
+pub resolves_length : {A cs : List Command} {blocks : List ℕ} {place : ℕ} {items : List Item} → Resolves A blocks place items cs
+    → length cs ≡ length (commands_among items)
 resolves_length done = refl
 resolves_length (known r) = ap suc (resolves_length r)
 resolves_length (branch h r) = ap suc (resolves_length r)
@@ -62,14 +63,16 @@ plain_command (Written a n (Known v)) = record { address = a; negated = n; verb 
 plain_command (Written a n v) = record { address = a; negated = n; verb = Branch 0 }
 plain_command Closing = record { address = NoAddress; negated = false; verb = Branch 0 }
 
-label_command : {x : Item} {name : List ℕ} → Some x ≡ Some (Written NoAddress false (Known (Label name))) → plain_command x ≡ record { address = NoAddress; negated = false; verb = Label name }
+label_command : {x : Item} {name : List ℕ} → Some x ≡ Some (Written NoAddress false (Known (Label name)))
+    → plain_command x ≡ record { address = NoAddress; negated = false; verb = Label name }
 label_command e = ap plain_command (some_item e)
 
 no_branch_verb : {t : ℕ} {name : List ℕ} → Branch t ≡ Label name → ⊥
 no_branch_verb e = cc e
 
 -- a label's item becomes the command that defines it
-pub label_defined : {A cs : List Command} {blocks : List ℕ} {place : ℕ} {items : List Item} → Resolves A blocks place items cs → (name : List ℕ) (i : ℕ) → IsLabelOf (commands_among items) name i → Defines cs name i
+pub label_defined : {A cs : List Command} {blocks : List ℕ} {place : ℕ} {items : List Item} → Resolves A blocks place items cs
+    → (name : List ℕ) (i : ℕ) → IsLabelOf (commands_among items) name i → Defines cs name i
 label_defined done name i h = absurd (cc h)
 label_defined (known r) name zero h = ap Some (label_command h)
 label_defined (branch x r) name zero h = absurd (no_branch_verb (ap (λ c. c.verb) (label_command h)))
@@ -85,11 +88,14 @@ abbrev written_some : Option Command → Option Item
 written_some (Some c) = Some (Written c.address c.negated (Known c.verb))
 written_some None = None
 
-same_written : {a b : Address} {n m : Bool} {v w : Verb} → ◌≡◌ {A = Option Command} (Some (record { address = a; negated = n; verb = v })) (Some (record { address = b; negated = m; verb = w })) → ◌≡◌ {A = Option Item} (Some (Written a n (Known v))) (Some (Written b m (Known w)))
+same_written : {a b : Address} {n m : Bool} {v w : Verb}
+    → ◌≡◌ {A = Option Command} (Some (record { address = a; negated = n; verb = v })) (Some (record { address = b; negated = m; verb = w }))
+    → ◌≡◌ {A = Option Item} (Some (Written a n (Known v))) (Some (Written b m (Known w)))
 same_written e = ap written_some e
 
 -- a command that defines a label comes of the label's item
-pub label_written : {A cs : List Command} {blocks : List ℕ} {place : ℕ} {items : List Item} → Resolves A blocks place items cs → (name : List ℕ) (i : ℕ) → Defines cs name i → IsLabelOf (commands_among items) name i
+pub label_written : {A cs : List Command} {blocks : List ℕ} {place : ℕ} {items : List Item} → Resolves A blocks place items cs
+    → (name : List ℕ) (i : ℕ) → Defines cs name i → IsLabelOf (commands_among items) name i
 label_written done name i h = absurd (cc h)
 label_written (known r) name zero h = same_written h
 label_written (branch x r) name zero h = absurd (cc (verbs_same h))
@@ -102,7 +108,8 @@ label_written (opening x r) name (suc i) h = label_written r name i h
 label_written (closing x r) name i h = label_written r name i h
 
 -- the labels of commands are distinct where those of their items stand once, and the other way round
-pub labels_once : {A cs : List Command} {blocks : List ℕ} {place : ℕ} {items : List Item} → Resolves A blocks place items cs → AreLabelsDistinct cs → AreLabelsOnce (commands_among items)
+pub labels_once : {A cs : List Command} {blocks : List ℕ} {place : ℕ} {items : List Item} → Resolves A blocks place items cs → AreLabelsDistinct cs
+    → AreLabelsOnce (commands_among items)
 labels_once r d name i j h k = d name i j (label_defined r name i h) (label_defined r name j k)
 
 -- ---- A list of commands that has the labels of the items

@@ -21,7 +21,9 @@ limit_step : (a v d : ℕ) → v ≡ min a 4294967296 → min (v * 10 + d) 42949
 limit_step a v d e = omega arith
 
 -- one more digit
-pub digits_more : (digits : List ℕ) (i v : ℕ) → i < length digits → list_all is_digit digits ≡ true → v ≡ min (digits_value 10 (take i digits)) 4294967296 → min (v * 10 + (get_or digits i 0 - 48)) 4294967296 ≡ min (digits_value 10 (take (i + 1) digits)) 4294967296
+pub digits_more : (digits : List ℕ) (i v : ℕ) → i < length digits → list_all is_digit digits ≡ true
+    → v ≡ min (digits_value 10 (take i digits)) 4294967296
+    → min (v * 10 + (get_or digits i 0 - 48)) 4294967296 ≡ min (digits_value 10 (take (i + 1) digits)) 4294967296
 digits_more digits i v lt all e =
     let digit = value_of_digit _ (digit_at digits i lt all) in
     let more = digits_value_more 10 digits i lt in

@@ -7,7 +7,8 @@ use Rattle.sedck_script.proofs.Cuts.{longest_one}
 use Rattle.sedck_script.proofs.Heads.{heads}
 use Rattle.std.proofs.lemmas.List.{nil_from_length}
 
-pub name_some : {text blanks begins front rest name r : List ℕ} → Longest is_blank text blanks begins → Longest (λ b. not (is_newline b)) begins front rest → Name text name r → 0 < length front
+pub name_some : {text blanks begins front rest name r : List ℕ} → Longest is_blank text blanks begins
+    → Longest (λ b. not (is_newline b)) begins front rest → Name text name r → 0 < length front
 name_some {front = front} {name = name} {r = r} l m n =
     let same = (longest_one (subst (λ t. Longest (λ b. not (is_newline b)) t name r) (longest_one n.skipped l).1 n.run) m).0 in
     subst (λ t. 0 < length t) same n.some
@@ -20,7 +21,10 @@ pub passed_byte : {text rest behind : List ℕ} {b : ℕ} → LinesPassed text r
 passed_byte {b = b} h e f g = record { sound = λ bytes r x. h.sound (b ∷ bytes) r (subst (λ t. Lines t (b ∷ bytes) r) (sym e) (p.byte f g x)) }
 
 pub passed_pair : {text rest behind after : List ℕ} {a b : ℕ} → LinesPassed text rest → rest ≡ a ∷ behind → behind ≡ b ∷ after → a ≡ 92 → LinesPassed text after
-passed_pair {a = a} {b = b} h e f g = record { sound = λ bytes r x. h.sound (a ∷ b ∷ bytes) r (subst (λ t. Lines t (a ∷ b ∷ bytes) r) (sym (e ∙ ap (λ t. a ∷ t) f)) (p.pair g x)) }
+passed_pair {a = a} {b = b} h e f g = record {
+  sound =
+      λ bytes r x. h.sound (a ∷ b ∷ bytes) r (subst (λ t. Lines t (a ∷ b ∷ bytes) r) (sym (e ∙ ap (λ t. a ∷ t) f)) (p.pair g x));
+}
 
 last_lines : {a : ℕ} {bytes r : List ℕ} → a ≡ 92 → Lines [] bytes r → Lines (a ∷ []) (a ∷ []) r
 last_lines g p.all = p.last g
@@ -28,7 +32,10 @@ last_lines g p.all = p.last g
 pub passed_last : {text rest behind : List ℕ} {a : ℕ} → LinesPassed text rest → rest ≡ a ∷ behind → length behind ≡ 0 → a ≡ 92 → LinesPassed text behind
 passed_last {behind = behind} {a = a} h e f g =
     let none = nil_from_length behind f in
-    record { sound = λ bytes r x. h.sound (a ∷ []) r (subst (λ t. Lines t (a ∷ []) r) (sym (e ∙ ap (λ t. a ∷ t) none)) (last_lines g (subst (λ t. Lines t bytes r) none x))) }
+    record {
+      sound = λ bytes r x. h.sound (a ∷ []) r
+          (subst (λ t. Lines t (a ∷ []) r) (sym (e ∙ ap (λ t. a ∷ t) none)) (last_lines g (subst (λ t. Lines t bytes r) none x)));
+    }
 
 pub passed_end : {text rest : List ℕ} → LinesPassed text rest → length rest ≡ 0 → (bytes : List ℕ) × Lines text bytes rest
 passed_end {rest = rest} h e = let none = nil_from_length rest e in h.sound [] rest (subst (λ t. Lines t [] t) (sym none) p.all)
@@ -39,22 +46,27 @@ passed_line {rest = rest} h e f = h.sound [] rest (subst (λ t. Lines t [] t) (s
 pub given_at_once : {text behind bytes rest : List ℕ} {b : ℕ} → text ≡ b ∷ behind → b ≢ 10 → b ≢ 92 → Lines text bytes rest → GivenText text bytes rest
 given_at_once {bytes = bytes} {rest = rest} e f g x = subst (λ t. GivenText t bytes rest) (sym e) (p.at_once f g (subst (λ t. Lines t bytes rest) e x))
 
-pub given_below : {text behind below bytes rest : List ℕ} {a b : ℕ} → text ≡ a ∷ behind → behind ≡ b ∷ below → a ≡ 92 → b ≡ 10 → Lines below bytes rest → GivenText text bytes rest
+pub given_below : {text behind below bytes rest : List ℕ} {a b : ℕ} → text ≡ a ∷ behind → behind ≡ b ∷ below → a ≡ 92 → b ≡ 10
+    → Lines below bytes rest → GivenText text bytes rest
 given_below {bytes = bytes} {rest = rest} {a = a} e f g h x = subst (λ t. GivenText t bytes rest) (sym (e ∙ ap (λ t. a ∷ t) f)) (p.below g h x)
 
-pub given_behind : {text behind blanks begins more bytes rest : List ℕ} {a b : ℕ} → text ≡ a ∷ behind → a ≡ 92 → Longest is_blank behind blanks begins → begins ≡ b ∷ more → b ≢ 10 → b ≢ 92 → Lines behind bytes rest → GivenText text bytes rest
+pub given_behind : {text behind blanks begins more bytes rest : List ℕ} {a b : ℕ} → text ≡ a ∷ behind → a ≡ 92 → Longest is_blank behind blanks begins
+    → begins ≡ b ∷ more → b ≢ 10 → b ≢ 92 → Lines behind bytes rest → GivenText text bytes rest
 given_behind {behind = behind} {blanks = blanks} {more = more} {bytes = bytes} {rest = rest} {b = b} e g l f h k x =
     subst (λ t. GivenText t bytes rest) (sym e) (p.behind g (blanks, b, more, subst (λ t. Longest is_blank behind blanks t) f l, h, k) x)
 
-same_first : {text blanks begins more m t : List ℕ} {b c : ℕ} → Longest is_blank text blanks begins → begins ≡ b ∷ more → Longest is_blank text m (c ∷ t) → b ≡ c
+same_first : {text blanks begins more m t : List ℕ} {b c : ℕ} → Longest is_blank text blanks begins → begins ≡ b ∷ more
+    → Longest is_blank text m (c ∷ t) → b ≡ c
 same_first l h m = heads (sym h ∙ (longest_one l m).1)
 
-no_given_by : {behind blanks begins more bytes rest : List ℕ} {a b : ℕ} → a ≡ 92 → ((c : ℕ) (t : List ℕ) → behind ≡ c ∷ t → c ≡ 10 → ⊥) → Longest is_blank behind blanks begins → begins ≡ b ∷ more → (b ≡ 10) ⊎ (b ≡ 92) → GivenText (a ∷ behind) bytes rest → ⊥
+no_given_by : {behind blanks begins more bytes rest : List ℕ} {a b : ℕ} → a ≡ 92 → ((c : ℕ) (t : List ℕ) → behind ≡ c ∷ t → c ≡ 10 → ⊥)
+    → Longest is_blank behind blanks begins → begins ≡ b ∷ more → (b ≡ 10) ⊎ (b ≡ 92) → GivenText (a ∷ behind) bytes rest → ⊥
 no_given_by g n l h k (p.below i j y) = n _ _ refl j
 no_given_by g n l h (inl k) (p.behind i j y) = j.4 (sym (same_first l h j.3) ∙ k)
 no_given_by g n l h (inr k) (p.behind i j y) = j.5 (sym (same_first l h j.3) ∙ k)
 no_given_by g n l h k (p.at_once i j y) = j g
 
 -- behind the backslash stands neither a newline nor a byte that begins a text
-pub no_given : {text behind blanks begins more below bytes rest : List ℕ} {a b c : ℕ} → text ≡ a ∷ behind → a ≡ 92 → behind ≡ c ∷ below → c ≢ 10 → Longest is_blank behind blanks begins → begins ≡ b ∷ more → (b ≡ 10) ⊎ (b ≡ 92) → GivenText text bytes rest → ⊥
+pub no_given : {text behind blanks begins more below bytes rest : List ℕ} {a b c : ℕ} → text ≡ a ∷ behind → a ≡ 92 → behind ≡ c ∷ below → c ≢ 10
+    → Longest is_blank behind blanks begins → begins ≡ b ∷ more → (b ≡ 10) ⊎ (b ≡ 92) → GivenText text bytes rest → ⊥
 no_given {bytes = bytes} {rest = rest} e g f n l h k x = no_given_by g (λ d t i j. n (heads (sym f ∙ i) ∙ j)) l h k (subst (λ t. GivenText t bytes rest) e x)

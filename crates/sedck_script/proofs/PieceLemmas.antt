@@ -52,7 +52,8 @@ pub record ExpressionStep (d : ℕ) (text front behind : List ℕ) : Type 0 wher
   pub sound : (e r : List ℕ) → DelimitedExpression d behind e r → DelimitedExpression d text (front ++ e) r
   pub only : (e r : List ℕ) → DelimitedExpression d text e r → (f : List ℕ) × DelimitedExpression d behind f r
 
-pub expression_more : {d : ℕ} {whole text bytes rest front behind : List ℕ} (all : List ℕ) → all ≡ bytes ++ front → ExpressionPassed d whole text bytes rest → EndsIn rest behind → ExpressionStep d rest front behind → ExpressionPassed d whole text all behind
+pub expression_more : {d : ℕ} {whole text bytes rest front behind : List ℕ} (all : List ℕ) → all ≡ bytes ++ front
+    → ExpressionPassed d whole text bytes rest → EndsIn rest behind → ExpressionStep d rest front behind → ExpressionPassed d whole text all behind
 expression_more {bytes = bytes} {front = front} all g h t s = record {
   tail = tail_tail h.tail t;
   sound = λ e r x. rw (g, append_assoc) (h.sound (front ++ e) r (s.sound e r x));
@@ -89,11 +90,13 @@ expression_pair {d} {b} n m h = record {
   only = λ e r x. only_two n refl (subst (λ t. DelimitedExpression d t e r) h.0 x);
 }
 
-pub expression_end : {d : ℕ} {whole text bytes rest behind : List ℕ} → ExpressionPassed d whole text bytes rest → IsPiece d rest piece.End behind → DelimitedExpression d text bytes behind
+pub expression_end : {d : ℕ} {whole text bytes rest behind : List ℕ} → ExpressionPassed d whole text bytes rest → IsPiece d rest piece.End behind
+    → DelimitedExpression d text bytes behind
 expression_end {d} {behind = behind} h e = rw append-nil at (h.sound [] behind (subst (λ t. DelimitedExpression d t [] behind) (sym e) (p.ends refl)))
 
 -- where no piece follows
-pub expression_stuck : {d : ℕ} {whole text bytes rest : List ℕ} → ExpressionPassed d whole text bytes rest → ((x : Piece) (r : List ℕ) → IsPiece d rest x r → ⊥) → (e r : List ℕ) → DelimitedExpression d text e r → ⊥
+pub expression_stuck : {d : ℕ} {whole text bytes rest : List ℕ} → ExpressionPassed d whole text bytes rest
+    → ((x : Piece) (r : List ℕ) → IsPiece d rest x r → ⊥) → (e r : List ℕ) → DelimitedExpression d text e r → ⊥
 expression_stuck h n e r x = let one = h.only e r x in let some = expression_piece one.1 in n some.kind some.rest some.is
 
 no_escaped_line : {d a b : ℕ} {behind e r : List ℕ} → d ≢ 92 → a ≡ 92 → b ≢ d → b ≡ 10 → DelimitedExpression d (a ∷ b ∷ behind) e r → ⊥
@@ -103,7 +106,8 @@ no_escaped_line n m k l (p.escaped f g h x) = k g
 no_escaped_line n m k l (p.pair f g h x) = h l
 
 -- where an escaped newline follows
-pub expression_broken : {d b : ℕ} {whole text bytes rest behind : List ℕ} → d ≢ 92 → ExpressionPassed d whole text bytes rest → IsPiece d rest (piece.Pair b) behind → b ≡ 10 → (e r : List ℕ) → DelimitedExpression d text e r → ⊥
+pub expression_broken : {d b : ℕ} {whole text bytes rest behind : List ℕ} → d ≢ 92 → ExpressionPassed d whole text bytes rest
+    → IsPiece d rest (piece.Pair b) behind → b ≡ 10 → (e r : List ℕ) → DelimitedExpression d text e r → ⊥
 expression_broken {d} n h k l e r x = let one = h.only e r x in no_escaped_line n refl k.1 l (subst (λ t. DelimitedExpression d t one.0 r) k.0 one.1)
 
 -- These bytes of a list have been read, and rest is left.
@@ -117,7 +121,8 @@ pub record ListStep (d : ℕ) (text : List ℕ) (byte : ℕ) (behind : List ℕ)
   pub sound : (e r : List ℕ) → DelimitedList d behind e r → DelimitedList d text (byte ∷ e) r
   pub only : (e r : List ℕ) → DelimitedList d text e r → (f : List ℕ) × DelimitedList d behind f r
 
-pub list_more : {d byte : ℕ} {whole text bytes rest behind : List ℕ} (all : List ℕ) → all ≡ bytes ++ byte ∷ [] → ListPassed d whole text bytes rest → EndsIn rest behind → ListStep d rest byte behind → ListPassed d whole text all behind
+pub list_more : {d byte : ℕ} {whole text bytes rest behind : List ℕ} (all : List ℕ) → all ≡ bytes ++ byte ∷ [] → ListPassed d whole text bytes rest
+    → EndsIn rest behind → ListStep d rest byte behind → ListPassed d whole text all behind
 list_more {byte = byte} {bytes = bytes} all g h t s = record {
   tail = tail_tail h.tail t;
   sound = λ e r x. rw (g, append_assoc) (h.sound (byte ∷ e) r (s.sound e r x));
@@ -169,11 +174,13 @@ list_pair {d} {b} {m} n k h = record {
   only = λ e r x. only_list_two n refl (subst (λ t. DelimitedList d t e r) h.0 x);
 }
 
-pub list_end : {d : ℕ} {whole text bytes rest behind : List ℕ} → ListPassed d whole text bytes rest → IsPiece d rest piece.End behind → DelimitedList d text bytes behind
+pub list_end : {d : ℕ} {whole text bytes rest behind : List ℕ} → ListPassed d whole text bytes rest → IsPiece d rest piece.End behind
+    → DelimitedList d text bytes behind
 list_end {d} {behind = behind} h e = rw append-nil at (h.sound [] behind (subst (λ t. DelimitedList d t [] behind) (sym e) (p.ends refl)))
 
 -- where no piece follows
-pub list_stuck : {d : ℕ} {whole text bytes rest : List ℕ} → d ≢ 92 → ListPassed d whole text bytes rest → ((x : Piece) (r : List ℕ) → IsPiece d rest x r → ⊥) → (e r : List ℕ) → DelimitedList d text e r → ⊥
+pub list_stuck : {d : ℕ} {whole text bytes rest : List ℕ} → d ≢ 92 → ListPassed d whole text bytes rest
+    → ((x : Piece) (r : List ℕ) → IsPiece d rest x r → ⊥) → (e r : List ℕ) → DelimitedList d text e r → ⊥
 list_stuck k h n e r x = let one = h.only e r x in let some = list_piece k one.1 in n some.kind some.rest some.is
 
 no_list_pair : {d a b : ℕ} {behind e r : List ℕ} → d ≢ 92 → a ≡ 92 → b ≢ d → list_escape b ≡ None → DelimitedList d (a ∷ b ∷ behind) e r → ⊥
@@ -184,14 +191,16 @@ no_list_pair n m k l (p.backslashes f g x) = let h = rw g at l in cc
 no_list_pair n m k l (p.line f g h x) = let e = heads h in let i = rw e at l in cc
 
 -- where an escape follows that means nothing
-pub list_broken : {d b : ℕ} {whole text bytes rest behind : List ℕ} → d ≢ 92 → ListPassed d whole text bytes rest → IsPiece d rest (piece.Pair b) behind → list_escape b ≡ None → (e r : List ℕ) → DelimitedList d text e r → ⊥
+pub list_broken : {d b : ℕ} {whole text bytes rest behind : List ℕ} → d ≢ 92 → ListPassed d whole text bytes rest
+    → IsPiece d rest (piece.Pair b) behind → list_escape b ≡ None → (e r : List ℕ) → DelimitedList d text e r → ⊥
 list_broken {d} n h k l e r x = let one = h.only e r x in no_list_pair n refl k.1 l (subst (λ t. DelimitedList d t one.0 r) k.0 one.1)
 
 -- an empty expression, and one that isn't
 pub pattern_none : {d : ℕ} {text bytes rest : List ℕ} → DelimitedExpression d text bytes rest → length bytes ≡ 0 → PatternText d text Previous rest
 pattern_none {d} {text} {bytes} {rest} x e = let none = nil_from_length bytes e in ([], subst (λ t. DelimitedExpression d text t rest) none x, previous)
 
-pub pattern_some : {d : ℕ} {text bytes rest : List ℕ} {tree : Tree} → DelimitedExpression d text bytes rest → 0 < length bytes → Shape bytes tree → PatternText d text (Expression tree) rest
+pub pattern_some : {d : ℕ} {text bytes rest : List ℕ} {tree : Tree} → DelimitedExpression d text bytes rest → 0 < length bytes → Shape bytes tree
+    → PatternText d text (Expression tree) rest
 pattern_some {bytes = bytes} {tree = tree} x some s = (bytes, x, is_expression bytes some s)
   where
     is_expression : (bytes : List ℕ) → 0 < length bytes → Shape bytes tree → IsPattern bytes (Expression tree)
@@ -202,7 +211,8 @@ no_pattern_by : (bytes : List ℕ) (pattern : Pattern) → 0 < length bytes → 
 no_pattern_by bytes pattern some n previous = omega arith
 no_pattern_by bytes pattern some n (expression s) = n _ s
 
-pub no_pattern : {d : ℕ} {text bytes rest r : List ℕ} (pattern : Pattern) → d ≢ 92 → DelimitedExpression d text bytes rest → 0 < length bytes → ((t : Tree) → Shape bytes t → ⊥) → PatternText d text pattern r → ⊥
+pub no_pattern : {d : ℕ} {text bytes rest r : List ℕ} (pattern : Pattern) → d ≢ 92 → DelimitedExpression d text bytes rest → 0 < length bytes
+    → ((t : Tree) → Shape bytes t → ⊥) → PatternText d text pattern r → ⊥
 no_pattern {bytes = bytes} pattern k x some n y = no_pattern_by bytes pattern some n (subst (λ t. IsPattern t pattern) (expression_one k y.1 x).0 y.2)
 
 none_only : (q : Pattern) (bytes : List ℕ) → length bytes ≡ 0 → IsPattern bytes q → q ≡ Previous
@@ -213,8 +223,10 @@ some_only : {tree : Tree} (q : Pattern) (bytes : List ℕ) → 0 < length bytes 
 some_only q bytes some n previous = absurd (omega arith)
 some_only q bytes some n (expression {tree = t} s) = ap Expression (n t s)
 
-pub pattern_none_only : {d : ℕ} {text bytes rest r : List ℕ} (q : Pattern) → d ≢ 92 → DelimitedExpression d text bytes rest → length bytes ≡ 0 → PatternText d text q r → (q ≡ Previous) × (r ≡ rest)
+pub pattern_none_only : {d : ℕ} {text bytes rest r : List ℕ} (q : Pattern) → d ≢ 92 → DelimitedExpression d text bytes rest → length bytes ≡ 0
+    → PatternText d text q r → (q ≡ Previous) × (r ≡ rest)
 pattern_none_only {bytes = bytes} q k x e y = let one = expression_one k y.1 x in (none_only q bytes e (subst (λ t. IsPattern t q) one.0 y.2), one.1)
 
-pub pattern_some_only : {d : ℕ} {text bytes rest r : List ℕ} {tree : Tree} (q : Pattern) → d ≢ 92 → DelimitedExpression d text bytes rest → 0 < length bytes → ((t : Tree) → Shape bytes t → t ≡ tree) → PatternText d text q r → (q ≡ Expression tree) × (r ≡ rest)
+pub pattern_some_only : {d : ℕ} {text bytes rest r : List ℕ} {tree : Tree} (q : Pattern) → d ≢ 92 → DelimitedExpression d text bytes rest
+    → 0 < length bytes → ((t : Tree) → Shape bytes t → t ≡ tree) → PatternText d text q r → (q ≡ Expression tree) × (r ≡ rest)
 pattern_some_only {bytes = bytes} q k x some n y = let one = expression_one k y.1 x in (some_only q bytes some n (subst (λ t. IsPattern t q) one.0 y.2), one.1)

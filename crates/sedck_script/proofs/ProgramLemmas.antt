@@ -24,17 +24,20 @@ use Rattle.sedck_script.proofs.Determined.{expressions_determined}
 -- a text without items spells no program
 pub no_program : {text : List ℕ} → HasNoItems text → (other : Program) → Spells text other → ⊥
 no_program none other s =
-    none s.items s.spelled (omega (arith, resolves_length s.commands.resolved, s.commands.count)) (labels_once s.commands.resolved s.commands.labels) (resolves_nests s.commands.resolved)
+    none s.items s.spelled (omega (arith, resolves_length s.commands.resolved, s.commands.count)) (labels_once s.commands.resolved s.commands.labels)
+    (resolves_nests s.commands.resolved)
 
 -- ---- Labels
 
 module _ {S : Type 0} (labels : HashMap (Bor (List ℕ)) ℕ S) where
-  lost_by : (all : List Command) (label : Option (List ℕ)) (target : ℕ) → LeadsTo all label target → IsLostLabel labels label → (name : List ℕ) × (at : ℕ) × (label_place labels name ≡ None) × Defines all name at
+  lost_by : (all : List Command) (label : Option (List ℕ)) (target : ℕ) → LeadsTo all label target → IsLostLabel labels label
+      → (name : List ℕ) × (at : ℕ) × (label_place labels name ≡ None) × Defines all name at
   lost_by all None target h l = absurd l
   lost_by all (Some name) target h l = (name, target, l, h)
 
   -- a lost label would be defined by a command
-  lost_at : {all cs : List Command} {blocks : List ℕ} {place : ℕ} {items : List Item} (k : ℕ) (d : Item) → Resolves all blocks place items cs → k < length items → IsLostLabel labels (item_label (get_or items k d))
+  lost_at : {all cs : List Command} {blocks : List ℕ} {place : ℕ} {items : List Item} (k : ℕ) (d : Item) → Resolves all blocks place items cs
+      → k < length items → IsLostLabel labels (item_label (get_or items k d))
       → (name : List ℕ) × (at : ℕ) × (label_place labels name ≡ None) × Defines all name at
   lost_at k d done lt l = absurd (omega arith)
   lost_at zero d (known r) lt l = absurd l
@@ -61,12 +64,15 @@ module _ {S : Type 0} (labels : HashMap (Bor (List ℕ)) ℕ S) where
   items_length (x ∷ items) = ap suc (items_length items)
 
   -- where a label is lost, no program is spelled
-  pub no_target : {text : List ℕ} (items : List WrittenItem) → Items text (map item_of items) → HasLabels labels (commands_among (map item_of items)) → Any (λ item. IsLostLabel labels (item_label (item_of item))) items
+  pub no_target : {text : List ℕ} (items : List WrittenItem) → Items text (map item_of items) → HasLabels labels (commands_among (map item_of items))
+      → Any (λ item. IsLostLabel labels (item_label (item_of item))) items
       → (other : Program) → Spells text other → ⊥
   no_target items x h any other s =
       let same : s.items ≡ map item_of items = items_one expressions_determined s.spelled x in
-      let r : Resolves other.commands [] 0 (map item_of items) other.commands = subst (λ t. Resolves other.commands [] 0 t other.commands) same s.commands.resolved in
-      let lost = lost_at any.0 (item_of any.1) r (omega (arith, any.2, items_length items)) (subst (λ i. IsLostLabel labels (item_label i)) (sym (get_item items any.0 any.1 any.2)) (rw any.3 any.4)) in
+      let r : Resolves other.commands [] 0 (map item_of items) other.commands =
+      subst (λ t. Resolves other.commands [] 0 t other.commands) same s.commands.resolved in
+      let lost = lost_at any.0 (item_of any.1) r (omega (arith, any.2, items_length items))
+      (subst (λ i. IsLostLabel labels (item_label i)) (sym (get_item items any.0 any.1 any.2)) (rw any.3 any.4)) in
       none_some lost.2 (h.found lost.0 lost.1 (label_written r lost.0 lost.1 lost.3))
 
   pub distinct : {items : List Item} {cs : List Command} → HasLabels labels (commands_among items) → Resolves cs [] 0 items cs → AreLabelsDistinct cs
@@ -77,7 +83,8 @@ module _ {S : Type 0} (labels : HashMap (Bor (List ℕ)) ℕ S) where
 
 -- ---- Expressions
 
-resolved_patterns : {all cs : List Command} {blocks : List ℕ} {place : ℕ} {items : List Item} → Resolves all blocks place items cs → patterns cs ≡ item_patterns items
+resolved_patterns : {all cs : List Command} {blocks : List ℕ} {place : ℕ} {items : List Item} → Resolves all blocks place items cs
+    → patterns cs ≡ item_patterns items
 resolved_patterns done = refl
 resolved_patterns (known {address = a} {verb = v} r) = ap (λ t. (address_patterns a ++ verb_patterns v) ++ t) (resolved_patterns r)
 resolved_patterns (branch {address = a} h r) = ap (λ t. (address_patterns a ++ []) ++ t) (resolved_patterns r)
@@ -88,7 +95,8 @@ resolved_patterns (closing h r) = resolved_patterns r
 contains_previous : (ps : List Pattern) → Contains ps Previous → has_previous ps ≡ true
 contains_previous [] h = absurd (omega (arith, h.1))
 contains_previous (Previous ∷ ps) h = refl
-contains_previous (Expression t ∷ ps) h = elim (Contains-cons_cases (Expression t) ps Previous h) [ inl e ↦ absurd (cc e) | inr more ↦ contains_previous ps more ]
+contains_previous (Expression t ∷ ps) h =
+    elim (Contains-cons_cases (Expression t) ps Previous h) [ inl e ↦ absurd (cc e) | inr more ↦ contains_previous ps more ]
 
 previous_contained : (ps : List Pattern) → has_previous ps ≡ true → Contains ps Previous
 previous_contained [] h = absurd (false≢true h)
@@ -104,16 +112,20 @@ none_empty [] h = refl
 none_empty (t ∷ ts) h = absurd (false≢true (sym h))
 
 -- an empty expression without another one
-pub no_expression : {text : List ℕ} {items : List Item} {cs : List Command} → Items text items → Resolves cs [] 0 items cs → has_previous (item_patterns items) ≡ true → has_some (expressions cs) ≡ false
+pub no_expression : {text : List ℕ} {items : List Item} {cs : List Command} → Items text items → Resolves cs [] 0 items cs
+    → has_previous (item_patterns items) ≡ true → has_some (expressions cs) ≡ false
     → (other : Program) → Spells text other → ⊥
 no_expression {items = items} {cs = cs} x r h none other s =
     let same : s.items ≡ items = items_one expressions_determined s.spelled x in
-    let commands : cs ≡ other.commands = commands_one r (subst (λ t. Resolves other.commands [] 0 t other.commands) same s.commands.resolved) s.commands.labels in
+    let commands : cs ≡ other.commands = commands_one r
+    (subst (λ t. Resolves other.commands [] 0 t other.commands) same s.commands.resolved) s.commands.labels in
     let previous : Contains (patterns cs) Previous = previous_contained (patterns cs) (ap has_previous (resolved_patterns r) ∙ h) in
-    s.commands.expression (subst (λ c. Contains (patterns c) Previous) commands previous) (subst (λ c. expressions c ≡ []) commands (none_empty (expressions cs) none))
+    s.commands.expression (subst (λ c. Contains (patterns c) Previous) commands previous)
+    (subst (λ c. expressions c ≡ []) commands (none_empty (expressions cs) none))
 
 -- the items are these commands, where each empty expression has another one
-pub are_commands : {S : Type 0} (labels : HashMap (Bor (List ℕ)) ℕ S) {items : List Item} {cs : List Command} → HasLabels labels (commands_among items) → Resolves cs [] 0 items cs → length (commands_among items) ≤ 4095
+pub are_commands : {S : Type 0} (labels : HashMap (Bor (List ℕ)) ℕ S) {items : List Item} {cs : List Command}
+    → HasLabels labels (commands_among items) → Resolves cs [] 0 items cs → length (commands_among items) ≤ 4095
     → (has_previous (item_patterns items) ≡ true → has_some (expressions cs) ≡ true) → AreCommands items cs
 are_commands labels {cs = cs} h r few other = record {
   resolved = r;

@@ -31,7 +31,8 @@ no_more : {test : ℕ → Bool} {text front rest : List ℕ} → Longest test te
 no_more l = record { cut = refl; passes = refl; stops = l.stops }
 
 -- separators before what begins without one
-skipped : {text separators begins none starts : List ℕ} → Longest is_separator text separators begins → Longest is_separator begins none starts → Longest is_separator text separators starts
+skipped : {text separators begins none starts : List ℕ} → Longest is_separator text separators begins → Longest is_separator begins none starts
+    → Longest is_separator text separators starts
 skipped {text} {separators} l m = subst (λ t. Longest is_separator text separators t) (sym (longest_one m (no_more l)).1) l
 
 items_back : {text separators begins : List ℕ} {items : List Item} → Longest is_separator text separators begins → Items begins items → Items text items
@@ -40,7 +41,8 @@ items_back l (w.comment m e k x) = w.comment (skipped l m) e k x
 items_back l (w.closing m e f x) = w.closing (skipped l m) e f x
 items_back l (w.command m c x) = w.command (skipped l m) c x
 
-begun : {text separators begins none starts : List ℕ} → Longest is_separator text separators begins → Longest is_separator text none starts → Longest is_separator begins [] starts
+begun : {text separators begins none starts : List ℕ} → Longest is_separator text separators begins → Longest is_separator text none starts
+    → Longest is_separator begins [] starts
 begun {begins = begins} l m = subst (λ t. Longest is_separator begins [] t) (longest_one l m).1 (no_more l)
 
 items_forth : {text separators begins : List ℕ} {items : List Item} → Longest is_separator text separators begins → Items text items → Items begins items
@@ -49,7 +51,8 @@ items_forth l (w.comment m e k x) = w.comment (begun l m) e k x
 items_forth l (w.closing m e f x) = w.closing (begun l m) e f x
 items_forth l (w.command m c x) = w.command (begun l m) c x
 
-pub front_skip : {text rest separators begins : List ℕ} {items : List Item} {depth : ℕ} → IsFront text items depth rest → Longest is_separator rest separators begins → IsFront text items depth begins
+pub front_skip : {text rest separators begins : List ℕ} {items : List Item} {depth : ℕ} → IsFront text items depth rest
+    → Longest is_separator rest separators begins → IsFront text items depth begins
 front_skip f l = record {
   tail = tail_tail f.tail (tail_cut l);
   sound = λ more h. f.sound more (items_back l h);
@@ -63,7 +66,8 @@ front_skip f l = record {
 at_front : {b : ℕ} {text rest : List ℕ} → text ≡ b ∷ rest → is_separator b ≡ false → Longest is_separator text [] (b ∷ rest)
 at_front {b} e n = record { cut = e; passes = refl; stops = rw n refl }
 
-comment_step : {b : ℕ} {text behind line rest : List ℕ} {all : List Item} → text ≡ b ∷ behind → b ≡ 35 → Longest (λ c. not (is_newline c)) behind line rest → Items text all → Items rest all
+comment_step : {b : ℕ} {text behind line rest : List ℕ} {all : List Item} → text ≡ b ∷ behind → b ≡ 35
+    → Longest (λ c. not (is_newline c)) behind line rest → Items text all → Items rest all
 comment_step e h k (w.nothing m) = empty_is_not expressions_determined (longest_one m (at_front e (rw h refl))).1
 comment_step e h k (w.comment m i n x) =
     let same = tails (longest_one m (at_front e (rw h refl))).1 in items_along (longest_one (longest_along same n) k).1 x
@@ -71,16 +75,19 @@ comment_step e h k (w.closing m i f x) = absurd (omega (arith, heads (longest_on
 comment_step e h k (w.command m c x) = no_command_other expressions_determined (longest_one m (at_front e (rw h refl))).1 (inl h) c
 
 -- what begins with a `}` goes on with its end
-pub closing_first : {b : ℕ} {text behind : List ℕ} {all : List Item} → text ≡ b ∷ behind → b ≡ 125 → Items text all → (more : List Item) × (rest : List ℕ) × (all ≡ Closing ∷ more) × Ends behind rest × Items rest more
+pub closing_first : {b : ℕ} {text behind : List ℕ} {all : List Item} → text ≡ b ∷ behind → b ≡ 125 → Items text all
+    → (more : List Item) × (rest : List ℕ) × (all ≡ Closing ∷ more) × Ends behind rest × Items rest more
 closing_first e h (w.nothing m) = empty_is_not expressions_determined (longest_one m (at_front e (rw h refl))).1
 closing_first e h (w.comment m i n x) = absurd (omega (arith, heads (longest_one m (at_front e (rw h refl))).1, h, i))
 closing_first e h (w.closing {rest = rest} {items = more} m i f x) = (more, rest, refl, ends_along (tails (longest_one m (at_front e (rw h refl))).1) f, x)
 closing_first e h (w.command m c x) = no_command_other expressions_determined (longest_one m (at_front e (rw h refl))).1 (inr h) c
 
-closing_step : {b : ℕ} {text behind rest : List ℕ} {all : List Item} → text ≡ b ∷ behind → b ≡ 125 → Ends behind rest → Items text all → (more : List Item) × (all ≡ Closing ∷ more) × Items rest more
+closing_step : {b : ℕ} {text behind rest : List ℕ} {all : List Item} → text ≡ b ∷ behind → b ≡ 125 → Ends behind rest → Items text all
+    → (more : List Item) × (all ≡ Closing ∷ more) × Items rest more
 closing_step e h k x = let one = closing_first e h x in (one.0, one.2, items_along (ends_one one.3 k) one.4)
 
-pub front_comment : {b : ℕ} {text begins behind line rest : List ℕ} {items : List Item} {depth : ℕ} → IsFront text items depth begins → begins ≡ b ∷ behind → b ≡ 35 → Longest (λ c. not (is_newline c)) behind line rest → IsFront text items depth rest
+pub front_comment : {b : ℕ} {text begins behind line rest : List ℕ} {items : List Item} {depth : ℕ} → IsFront text items depth begins
+    → begins ≡ b ∷ behind → b ≡ 35 → Longest (λ c. not (is_newline c)) behind line rest → IsFront text items depth rest
 front_comment {b = b} f e h k = record {
   tail = tail_tail f.tail (tail_tail (b ∷ [], e) (tail_cut k));
   sound = λ more x. f.sound more (w.comment (at_front e (rw h refl)) h k x);
@@ -89,7 +96,8 @@ front_comment {b = b} f e h k = record {
   nested = f.nested;
 }
 
-pub front_closing : {b depth : ℕ} {text begins behind rest : List ℕ} {items : List Item} → IsFront text items (suc depth) begins → begins ≡ b ∷ behind → b ≡ 125 → Ends behind rest → IsFront text (items ++ Closing ∷ []) depth rest
+pub front_closing : {b depth : ℕ} {text begins behind rest : List ℕ} {items : List Item} → IsFront text items (suc depth) begins → begins ≡ b ∷ behind
+    → b ≡ 125 → Ends behind rest → IsFront text (items ++ Closing ∷ []) depth rest
 front_closing {b} {items = items} f e h k = record {
   tail = tail_tail f.tail (tail_tail (b ∷ [], e) (tail_cut k.run));
   sound = λ more x. rw append_assoc (f.sound (Closing ∷ more) (w.closing (at_front e (rw h refl)) h k x));
@@ -104,14 +112,16 @@ front_closing {b} {items = items} f e h k = record {
 -- ---- Refusals
 
 -- a `}` without a block
-pub front_unopened : {b : ℕ} {text begins behind : List ℕ} {items : List Item} {depth : ℕ} → IsFront text items depth begins → begins ≡ b ∷ behind → b ≡ 125 → depth ≡ 0 → HasNoItems text
+pub front_unopened : {b : ℕ} {text begins behind : List ℕ} {items : List Item} {depth : ℕ} → IsFront text items depth begins → begins ≡ b ∷ behind
+    → b ≡ 125 → depth ≡ 0 → HasNoItems text
 front_unopened {items = items} {depth = depth} f e h none all x few once nests =
     let one = f.only all x in
     let step = closing_first e h one.2 in
     subst (λ d. Nests (Closing ∷ step.0) d) none (subst (λ t. Nests t depth) step.2 (f.nested one.0 (subst (λ t. Nests t 0) one.1 nests)))
 
 -- a `}` without its end
-pub front_unended : {b : ℕ} {text begins behind : List ℕ} {items : List Item} {depth : ℕ} → IsFront text items depth begins → begins ≡ b ∷ behind → b ≡ 125 → ((rest : List ℕ) → Ends behind rest → ⊥) → HasNoItems text
+pub front_unended : {b : ℕ} {text begins behind : List ℕ} {items : List Item} {depth : ℕ} → IsFront text items depth begins → begins ≡ b ∷ behind
+    → b ≡ 125 → ((rest : List ℕ) → Ends behind rest → ⊥) → HasNoItems text
 front_unended f e h none all x few once nests = let step = closing_first e h (f.only all x).2 in none step.1 step.3
 
 -- ---- Commands
@@ -122,11 +132,13 @@ command_tail c = tail_tail (address_tail c.addresses) (tail_tail (tail_cut c.run
 pub command_shorter : {text rest : List ℕ} {a : Address} {n : Bool} {v : WrittenVerb} → CommandText text a n v rest → length rest < length text
 command_shorter c = omega (arith, tail_length (address_tail c.addresses), tail_length (tail_cut c.run), verb_text_shorter c.verbs)
 
-label_item : {a : Address} {n : Bool} {name : List ℕ} (v : WrittenVerb) → v ≡ Known (Label name) → Takes v a n → Written a n v ≡ Written NoAddress false (Known (Label name))
+label_item : {a : Address} {n : Bool} {name : List ℕ} (v : WrittenVerb) → v ≡ Known (Label name) → Takes v a n
+    → Written a n v ≡ Written NoAddress false (Known (Label name))
 label_item {a} {n} v e t = let x = subst (λ u. Takes u a n) e t in cc (x.0, x.1, e)
 
 -- a label that stands there already
-twice : (items more all : List Item) (name : List ℕ) (i : ℕ) → IsLabelOf items name i → all ≡ items ++ Written NoAddress false (Known (Label name)) ∷ more → AreLabelsOnce all → ⊥
+twice : (items more all : List Item) (name : List ℕ) (i : ℕ) → IsLabelOf items name i
+    → all ≡ items ++ Written NoAddress false (Known (Label name)) ∷ more → AreLabelsOnce all → ⊥
 twice items more all name i here e once =
     let first : IsLabelOf all name i = rw e (get_front items _ i _ here) in
     let second : IsLabelOf all name (length items) = rw e (get_seam items more (Written NoAddress false (Known (Label name)))) in
@@ -134,13 +146,16 @@ twice items more all name i here e once =
 
 -- what begins neither a comment nor the end of a block goes on with a command, where it goes on
 pub command_first : {text : List ℕ} {all : List Item} → BeginsCommand text → Items text all
-    → (a : Address) × (n : Bool) × (v : WrittenVerb) × (rest : List ℕ) × (more : List Item) × (all ≡ Written a n v ∷ more) × CommandText text a n v rest × Items rest more
+    → (a : Address) × (n : Bool) × (v : WrittenVerb) × (rest : List ℕ) × (more : List Item) × (all ≡ Written a n v ∷ more)
+    × CommandText text a n v rest × Items rest more
 command_first k (w.nothing m) = empty_is_not expressions_determined (longest_one m (at_front k.2 k.3)).1
 command_first k (w.comment m i n x) = absurd (k.4 (heads (sym (longest_one m (at_front k.2 k.3)).1) ∙ i))
 command_first k (w.closing m i f x) = absurd (k.5 (heads (sym (longest_one m (at_front k.2 k.3)).1) ∙ i))
-command_first k (w.command {rest = r} {address = a} {negated = n} {verb = v} {items = more} m c x) = (a, n, v, r, more, refl, command_along ((longest_one m (at_front k.2 k.3)).1 ∙ sym k.2) c, x)
+command_first k (w.command {rest = r} {address = a} {negated = n} {verb = v} {items = more} m c x) =
+    (a, n, v, r, more, refl, command_along ((longest_one m (at_front k.2 k.3)).1 ∙ sym k.2) c, x)
 
-command_step : {text rest : List ℕ} {all : List Item} {a : Address} {n : Bool} {v : WrittenVerb} → BeginsCommand text → CommandText text a n v rest → Items text all
+command_step : {text rest : List ℕ} {all : List Item} {a : Address} {n : Bool} {v : WrittenVerb} → BeginsCommand text → CommandText text a n v rest
+    → Items text all
     → (more : List Item) × (all ≡ Written a n v ∷ more) × Items rest more
 command_step k c x =
     let first = command_first k x in
@@ -157,34 +172,49 @@ less_deep Opens depth deep P h x = subst P (sym h.0) x.1
 less_deep Closes depth deep P h x = absurd h
 less_deep Stays depth deep P h x = subst P (sym h) x
 
-pub front_command : {depth deep : ℕ} {text begins rest : List ℕ} {items : List Item} {a : Address} {n : Bool} {v : WrittenVerb} → IsFront text items depth begins → BeginsCommand begins → CommandText begins a n v rest
+pub front_command : {depth deep : ℕ} {text begins rest : List ℕ} {items : List Item} {a : Address} {n : Bool} {v : WrittenVerb}
+    → IsFront text items depth begins → BeginsCommand begins → CommandText begins a n v rest
     → Deeper (verb_turn v) depth deep → IsFront text (items ++ Written a n v ∷ []) deep rest
 front_command {depth} {deep} {begins = begins} {items = items} {a = a} {n = n} {v = v} f k c d = record {
   tail = tail_tail f.tail (command_tail c);
-  sound = λ more x. rw append_assoc (f.sound (Written a n v ∷ more) (w.command (subst (λ t. Longest is_separator begins [] t) (sym k.2) (at_front k.2 k.3)) c x));
+  sound = λ more x. rw append_assoc (f.sound (Written a n v ∷ more)
+      (w.command (subst (λ t. Longest is_separator begins [] t) (sym k.2) (at_front k.2 k.3)) c x));
   only = λ all x.
       let one = f.only all x in
       let step = command_step k c one.2 in
       (step.0, one.1 ∙ ap (λ t. items ++ t) step.1 ∙ sym (append_assoc items (Written a n v ∷ []) step.0), step.2);
   nests = λ more x. rw append_assoc (f.nests (Written a n v ∷ more) (deeper (verb_turn v) depth deep (Nests more) d x));
-  nested = λ more x. less_deep (verb_turn v) depth deep (Nests more) d (f.nested (Written a n v ∷ more) (subst (λ t. Nests t 0) (append_assoc items (Written a n v ∷ []) more) x));
+  nested = λ more x. less_deep (verb_turn v) depth deep (Nests more) d
+      (f.nested (Written a n v ∷ more) (subst (λ t. Nests t 0) (append_assoc items (Written a n v ∷ []) more) x));
 }
 
 too_deep : (v : WrittenVerb) (depth : ℕ) (P : ℕ → Type 0) → v ≡ Opening → 64 ≤ depth → Turned (verb_turn v) P depth → ⊥
 too_deep v depth P e h t = let x = subst (λ u. Turned (verb_turn u) P depth) e t in omega (arith, x.0)
 
 -- a command that may not stand there
-pub front_refused : {S : Type 0} {text begins : List ℕ} {items : List Item} {depth count : ℕ} (labels : HashMap (Bor (List ℕ)) ℕ S) → IsFront text items depth begins → BeginsCommand begins → HasLabels labels (commands_among items) → count ≡ length (commands_among items)
-    → ((a : Address) (n : Bool) (v : WrittenVerb) (rest : List ℕ) → CommandText begins a n v rest → DefinesKnown labels v ⊎ IsBeyond depth count v) → HasNoItems text
+pub front_refused : {S : Type 0} {text begins : List ℕ} {items : List Item} {depth count : ℕ} (labels : HashMap (Bor (List ℕ)) ℕ S)
+    → IsFront text items depth begins → BeginsCommand begins → HasLabels labels (commands_among items) → count ≡ length (commands_among items)
+    → ((a : Address) (n : Bool) (v : WrittenVerb) (rest : List ℕ) → CommandText begins a n v rest → DefinesKnown labels v ⊎ IsBeyond depth count v)
+    → HasNoItems text
 front_refused {items = items} {depth = depth} {count = count} labels f k h e none all x few once nests =
     let one = f.only all x in
     let first = command_first k one.2 in
     let cut : all ≡ items ++ Written first.0 first.1 first.2 ∷ first.4 = one.1 ∙ ap (λ t. items ++ t) first.5 in
-    let among : commands_among all ≡ commands_among items ++ Written first.0 first.1 first.2 ∷ commands_among first.4 = ap commands_among cut ∙ among_append items (Written first.0 first.1 first.2 ∷ first.4) in
+    let among : commands_among all ≡ commands_among items ++ Written first.0 first.1 first.2 ∷ commands_among first.4 = ap commands_among cut
+    ∙ among_append items (Written first.0 first.1 first.2 ∷ first.4) in
     elim (none first.0 first.1 first.2 first.3 first.6) [
-      | inl known ↦ twice (commands_among items) (commands_among first.4) (commands_among all) known.0 known.1 (h.at known.0 known.1 known.3) (among ∙ ap (λ y. commands_among items ++ y ∷ commands_among first.4) (label_item first.2 known.2 first.6.taken)) once
-      | inr (inl deep) ↦ too_deep first.2 depth (Nests first.4) deep.0 deep.1 (subst (λ t. Nests t depth) first.5 (f.nested one.0 (subst (λ t. Nests t 0) one.1 nests)))
-      | inr (inr many) ↦ omega (arith, e, many, few, ap length among, length-append (commands_among items) (Written first.0 first.1 first.2 ∷ commands_among first.4))
+      | inl known ↦ twice (commands_among items) (commands_among first.4) (commands_among all) known.0 known.1 (h.at known.0 known.1 known.3)
+          (among ∙ ap (λ y. commands_among items ++ y ∷ commands_among first.4) (label_item first.2 known.2 first.6.taken)) once
+      | inr (inl deep) ↦ too_deep first.2 depth (Nests first.4) deep.0 deep.1
+          (subst (λ t. Nests t depth) first.5 (f.nested one.0 (subst (λ t. Nests t 0) one.1 nests)))
+      | inr (inr many) ↦ omega (
+        arith,
+        e,
+        many,
+        few,
+        ap length among,
+        length-append (commands_among items) (Written first.0 first.1 first.2 ∷ commands_among first.4),
+      )
     ]
 
 opening_last : {text rest : List ℕ} {v : WrittenVerb} → v ≡ Opening → VerbText text v rest → text ≡ 123 ∷ rest
@@ -209,7 +239,8 @@ stands_at whole front rest place e p =
     rw (at, e) (stands_behind front rest 123)
 
 -- the `{` of a block stands right before what follows it
-pub brace_stands : {whole text rest : List ℕ} {a : Address} {n : Bool} {v : WrittenVerb} (place : ℕ) → EndsIn whole text → CommandText text a n v rest → place ≡ length whole - length rest - 1 → v ≡ Opening → slice_get whole place ≡ Some 123
+pub brace_stands : {whole text rest : List ℕ} {a : Address} {n : Bool} {v : WrittenVerb} (place : ℕ) → EndsIn whole text → CommandText text a n v rest
+    → place ≡ length whole - length rest - 1 → v ≡ Opening → slice_get whole place ≡ Some 123
 brace_stands {whole} {rest = rest} place h c p e =
     let tail : EndsIn whole c.begins = tail_tail h (tail_tail (address_tail c.addresses) (tail_cut c.run)) in
     stands_at whole tail.0 rest place (tail.1 ∙ ap (λ t. tail.0 ++ t) (opening_last e c.verbs)) p
@@ -217,7 +248,8 @@ brace_stands {whole} {rest = rest} place h c p e =
 -- ---- Progress
 
 -- the same is known where another rest is left
-pub progress_at : {text old new : List ℕ} {progress : Progress} → IsProgress text old progress → IsFront text (map item_of progress.items.items) (length progress.open_blocks.items) new → IsProgress text new progress
+pub progress_at : {text old new : List ℕ} {progress : Progress} → IsProgress text old progress
+    → IsFront text (map item_of progress.items.items) (length progress.open_blocks.items) new → IsProgress text new progress
 progress_at p f = record { front = f; labels = p.labels; count = p.count; few = p.few; within = p.within; opened = p.opened; empty = p.empty }
 
 no_length : {X : Type 0} (xs : List X) → length xs ≡ 0 → xs ≡ []
@@ -225,7 +257,8 @@ no_length [] e = refl
 no_length (x ∷ xs) e = absurd (omega arith)
 
 -- where nothing but separators is left, the items are read
-pub front_done : {text rest separators begins : List ℕ} {items : List Item} {depth : ℕ} → IsFront text items depth rest → Longest is_separator rest separators begins → length begins ≡ 0 → Items text items
+pub front_done : {text rest separators begins : List ℕ} {items : List Item} {depth : ℕ} → IsFront text items depth rest
+    → Longest is_separator rest separators begins → length begins ≡ 0 → Items text items
 front_done {text} {rest} {separators} {begins} {items} f l e =
     subst (λ t. Items text t) (append-nil items) (f.sound [] (w.nothing (subst (λ t. Longest is_separator rest separators t) (no_length begins e) l)))
 
@@ -236,7 +269,8 @@ items_end l (w.closing m i f x) = empty_is_not expressions_determined (longest_o
 items_end l (w.command m c x) = no_command_end expressions_determined (longest_one m l).1 c
 
 -- where blocks are open at the end
-pub front_unclosed : {text rest separators begins : List ℕ} {items : List Item} {depth : ℕ} → IsFront text items depth rest → Longest is_separator rest separators begins → length begins ≡ 0 → 0 < depth → HasNoItems text
+pub front_unclosed : {text rest separators begins : List ℕ} {items : List Item} {depth : ℕ} → IsFront text items depth rest
+    → Longest is_separator rest separators begins → length begins ≡ 0 → 0 < depth → HasNoItems text
 front_unclosed {rest = rest} {separators = separators} {begins = begins} {depth = depth} f l e some all x few once nests =
     let one = f.only all x in
     let none : one.0 ≡ [] = items_end (subst (λ t. Longest is_separator rest separators t) (no_length begins e) l) one.2 in

@@ -47,7 +47,8 @@ one_is_least tree n least = record {
         ] below is
 
 -- the least of two lists of expressions
-pub both_are_least : (xs ys : List Tree) (m n : ℕ) → IsLeastSize (SomeHasLength xs) m → IsLeastSize (SomeHasLength ys) n → IsLeastSize (SomeHasLength (xs ++ ys)) (min m n)
+pub both_are_least : (xs ys : List Tree) (m n : ℕ) → IsLeastSize (SomeHasLength xs) m → IsLeastSize (SomeHasLength ys) n
+    → IsLeastSize (SomeHasLength (xs ++ ys)) (min m n)
 both_are_least xs ys m n one two = record {
   floor = λ k (tree, inside, has). at_least k tree has (Contains-append_cases xs ys tree inside);
   met = λ below. some below (cases_lt m n);
@@ -80,9 +81,11 @@ no_patterns _ not = refl
 -- ---- One command more
 
 patterns-push : (cs : List Command) (c : Command) → patterns (cs ++ c ∷ []) ≡ patterns cs ++ (address_patterns c.address ++ verb_patterns c.verb)
-patterns-push cs c = flat_map-append (λ d. address_patterns d.address ++ verb_patterns d.verb) cs (c ∷ []) ∙ ap (λ ps. patterns cs ++ ps) (append-nil (address_patterns c.address ++ verb_patterns c.verb))
+patterns-push cs c = flat_map-append (λ d. address_patterns d.address ++ verb_patterns d.verb) cs (c ∷ [])
+    ∙ ap (λ ps. patterns cs ++ ps) (append-nil (address_patterns c.address ++ verb_patterns c.verb))
 
-expressions-push : (cs : List Command) (c : Command) → expressions (cs ++ c ∷ []) ≡ expressions cs ++ (trees_of (address_patterns c.address) ++ trees_of (verb_patterns c.verb))
+expressions-push : (cs : List Command) (c : Command)
+    → expressions (cs ++ c ∷ []) ≡ expressions cs ++ (trees_of (address_patterns c.address) ++ trees_of (verb_patterns c.verb))
 expressions-push cs c =
     ap trees_of (patterns-push cs c) ∙ trees_of-append (patterns cs) (address_patterns c.address ++ verb_patterns c.verb)
     ∙ ap (λ trees. expressions cs ++ trees) (trees_of-append (address_patterns c.address) (verb_patterns c.verb))
@@ -95,9 +98,11 @@ pub command_more : (commands : List Coded) (at : ℕ) (c : Coded) (shortest a v 
 command_more commands at c shortest a v below is before address verb =
     let more : map command_of (take (at + 1) commands) ≡ map command_of (take at commands) ++ command_of c ∷ [] =
     map_more command_of commands at c below ∙ ap (λ d. map command_of (take at commands) ++ command_of d ∷ []) (sym is) in
-    let all : expressions (map command_of (take (at + 1) commands)) ≡ expressions (map command_of (take at commands)) ++ (trees_of (address_patterns (command_of c).address) ++ trees_of (verb_patterns (command_of c).verb)) =
+    let all : expressions (map command_of (take (at + 1) commands)) ≡ expressions (map command_of (take at commands)) ++
+    (trees_of (address_patterns (command_of c).address) ++ trees_of (verb_patterns (command_of c).verb)) =
     ap expressions more ∙ expressions-push (map command_of (take at commands)) (command_of c) in
     let same : min (min shortest a) v ≡ min shortest (min a v) = omega arith in
     let of_command = both_are_least (trees_of (address_patterns (command_of c).address)) (trees_of (verb_patterns (command_of c).verb)) a v address verb in
-    let of_all = both_are_least (expressions (map command_of (take at commands))) (trees_of (address_patterns (command_of c).address) ++ trees_of (verb_patterns (command_of c).verb)) shortest (min a v) before of_command in
+    let of_all = both_are_least (expressions (map command_of (take at commands)))
+    (trees_of (address_patterns (command_of c).address) ++ trees_of (verb_patterns (command_of c).verb)) shortest (min a v) before of_command in
     least_of_same _ _ _ _ all same of_all

@@ -42,14 +42,16 @@ IsBoundedItem (Written a n (TestTo l)) = Unit {0}
 IsBoundedItem (Written a n Opening) = Unit {0}
 IsBoundedItem Closing = Unit {0}
 
-written_cheap : (text rest : List ℕ) (a : Address) (n : Bool) (v : WrittenVerb) → IsCheapWritten v text rest → IsBoundedItem (Written a n v) × (item_cost (Written a n v) + length rest ≤ length text)
+written_cheap : (text rest : List ℕ) (a : Address) (n : Bool) (v : WrittenVerb) → IsCheapWritten v text rest
+    → IsBoundedItem (Written a n v) × (item_cost (Written a n v) + length rest ≤ length text)
 written_cheap text rest a n (Known v) h = (h.bounded, h.cost)
 written_cheap text rest a n (BranchTo l) h = (tt, omega arith)
 written_cheap text rest a n (TestTo l) h = (tt, omega arith)
 written_cheap text rest a n Opening h = (tt, omega arith)
 
 module _ {whole : List ℕ} (few : length whole ≤ 1048576) (zeros : Contains whole 0 → ⊥) where
-  items_cheap : {text : List ℕ} {items : List Item} → EndsIn whole text → Items text items → AllByRecursion IsBoundedItem items × (items_cost items ≤ length text)
+  items_cheap : {text : List ℕ} {items : List Item} → EndsIn whole text → Items text items
+      → AllByRecursion IsBoundedItem items × (items_cost items ≤ length text)
   items_cheap h (w.nothing l) = (tt, omega arith)
   items_cheap h (w.comment l e k x) =
       let tail = tail_tail (tail_behind (tail_cut l) refl) (tail_cut k) in
@@ -86,7 +88,8 @@ commands_cheap (closing k r) h = let more = commands_cheap r h.1 in (more.0, ome
 size_cons : (name : List ℕ) (names : List (List ℕ)) → names_size (name ∷ names) ≡ length name + 1 + names_size names
 size_cons name names = sum_by-cons (λ n. length n + 1) name names
 
-placed_size : (o : Ordering) (name first : List ℕ) (names others : List (List ℕ)) → names_size others ≤ length name + 1 + names_size names → names_size (placed o name first names others) ≤ length name + 1 + names_size (first ∷ names)
+placed_size : (o : Ordering) (name first : List ℕ) (names others : List (List ℕ)) → names_size others ≤ length name + 1 + names_size names
+    → names_size (placed o name first names others) ≤ length name + 1 + names_size (first ∷ names)
 placed_size Less name first names others h = omega (arith, size_cons name (first ∷ names))
 placed_size Equal name first names others h = omega arith
 placed_size Greater name first names others h = omega (arith, size_cons first others, size_cons first names)
@@ -99,7 +102,8 @@ sorted_size : (names : List (List ℕ)) → names_size (sorted_names names) ≤ 
 sorted_size [] = omega arith
 sorted_size (name ∷ names) = omega (arith, with_size name (sorted_names names), sorted_size names, size_cons name names)
 
-placed_length : (o : Ordering) (name first : List ℕ) (names others : List (List ℕ)) → length others ≤ suc (length names) → length (placed o name first names others) ≤ suc (suc (length names))
+placed_length : (o : Ordering) (name first : List ℕ) (names others : List (List ℕ)) → length others ≤ suc (length names)
+    → length (placed o name first names others) ≤ suc (suc (length names))
 placed_length Less name first names others h = omega arith
 placed_length Equal name first names others h = omega arith
 placed_length Greater name first names others h = omega arith
@@ -135,14 +139,22 @@ costs (c ∷ cs) = omega (arith, size_append (read_names c.verb) (all_reads cs),
 
 reads_bounded : (cs : List Command) → AllByRecursion (λ c. IsBounded c.verb) cs → AllByRecursion IsName (all_reads cs) × (length (all_reads cs) ≤ length cs)
 reads_bounded [] h = (tt, omega arith)
-reads_bounded (c ∷ cs) h = let more = reads_bounded cs h.1 in (all_append (read_names c.verb) (all_reads cs) h.0.reads more.0, omega (arith, h.0.one_read, more.1, length-append (read_names c.verb) (all_reads cs)))
+reads_bounded (c ∷ cs) h = let more = reads_bounded cs h.1 in
+    (all_append (read_names c.verb) (all_reads cs) h.0.reads more.0, omega (arith, h.0.one_read, more.1, length-append (read_names c.verb) (all_reads cs)))
 
 writes_bounded : (cs : List Command) → AllByRecursion (λ c. IsBounded c.verb) cs → AllByRecursion IsName (all_writes cs) × (length (all_writes cs) ≤ length cs)
 writes_bounded [] h = (tt, omega arith)
-writes_bounded (c ∷ cs) h = let more = writes_bounded cs h.1 in (all_append (write_names c.verb) (all_writes cs) h.0.writes more.0, omega (arith, h.0.one_write, more.1, length-append (write_names c.verb) (all_writes cs)))
+writes_bounded (c ∷ cs) h = let more = writes_bounded cs h.1 in (
+  all_append (write_names c.verb) (all_writes cs) h.0.writes more.0,
+  omega (arith, h.0.one_write, more.1, length-append (write_names c.verb) (all_writes cs)),
+)
 
 are_names : (names : List (List ℕ)) → AllByRecursion IsName names → length names ≤ 4095 → AreNames (sorted_names names)
-are_names names h l = record { each = All-from_recursion IsName _ (sorted_all names h); rising = sorted_names-rise names; count = omega (arith, sorted_length names, l) }
+are_names names h l = record {
+  each = All-from_recursion IsName _ (sorted_all names h);
+  rising = sorted_names-rise names;
+  count = omega (arith, sorted_length names, l);
+}
 
 all_replacements : (cs : List Command) → AllByRecursion (λ c. IsBounded c.verb) cs → AllByRecursion (λ c. IsReplacement c.verb) cs
 all_replacements [] h = tt

@@ -45,7 +45,8 @@ no_place None h = refl
 no_place (Some i) h = absurd (h i refl)
 
 -- the labels after one more command
-pub labels_noted : {S : Type 0} (old new : HashMap (Bor (List ℕ)) ℕ S) (xs : List Item) (end : ℕ) (a : Address) (n : Bool) (v : WrittenCode) → HasLabels old xs → IsWrittenWithin end v → Takes (written_verb v) a n
+pub labels_noted : {S : Type 0} (old new : HashMap (Bor (List ℕ)) ℕ S) (xs : List Item) (end : ℕ) (a : Address) (n : Bool) (v : WrittenCode)
+    → HasLabels old xs → IsWrittenWithin end v → Takes (written_verb v) a n
     → (DefinesKnown old (written_verb v) → ⊥) → NotesLabel old new (length xs) v → HasLabels new (xs ++ Written a n (written_verb v) ∷ [])
 labels_noted old new xs end a n (code.Known v) h w t f k = labels_other old new xs h _ (λ q e. w q (known_same e)) k
 labels_noted old new xs end a n (code.Label name place) h w t f k =
@@ -68,7 +69,8 @@ AreOpen text places = All (λ place. StandsAt text place brace) places
 open_push : (text xs : List ℕ) (x : ℕ) → AreOpen text xs → StandsAt text x brace → AreOpen text (xs ++ x ∷ [])
 open_push text xs x h k = All-push (λ place. StandsAt text place brace) xs x h k
 
-pub blocks_noted : (v : WrittenVerb) (text old new : List ℕ) (place : ℕ) → NotesBlock (verb_turn v) old new place → (v ≡ Opening → length old < 64) → (v ≡ Opening → StandsAt text place brace) → AreOpen text old
+pub blocks_noted : (v : WrittenVerb) (text old new : List ℕ) (place : ℕ) → NotesBlock (verb_turn v) old new place → (v ≡ Opening → length old < 64)
+    → (v ≡ Opening → StandsAt text place brace) → AreOpen text old
     → Deeper (verb_turn v) (length old) (length new) × AreOpen text new
 blocks_noted (Known v) text old new place k few at o = (ap length k, subst (AreOpen text) (sym k) o)
 blocks_noted (BranchTo l) text old new place k few at o = (ap length k, subst (AreOpen text) (sym k) o)

@@ -105,7 +105,8 @@ verb_takes (w.change h l g) = (_, _, refl, tail_tail (tail_cut l) (given_tail g)
 verb_takes (w.insert h l g) = (_, _, refl, tail_tail (tail_cut l) (given_tail g))
 verb_takes (w.read h n) = (_, _, refl, name_tail n)
 verb_takes (w.write h n) = (_, _, refl, name_tail n)
-verb_takes (w.substitute {delimiter = d} h t x y z g f) = (_, _, refl, tail_cons d (tail_tail (expression_tail x) (tail_tail (replacement_tail z) (flags_tail f))))
+verb_takes (w.substitute {delimiter = d} h t x y z g f) =
+    (_, _, refl, tail_cons d (tail_tail (expression_tail x) (tail_tail (replacement_tail z) (flags_tail f))))
 verb_takes (w.transliterate {delimiter = d} h t x y l e) = (_, _, refl, tail_cons d (tail_tail (list_tail x) (tail_tail (list_tail y) (ends_tail e))))
 
 pub verb_text_tail : {text rest : List ℕ} {v : WrittenVerb} → VerbText text v rest → EndsIn text rest
@@ -119,7 +120,8 @@ take_front [] rest n e = rw e (refl, refl)
 take_front (b ∷ front) rest n e = let t = take_front front rest (length front) refl in rw e (ap (λ u. b ∷ u) t.0, t.1)
 
 -- a text split behind its lines
-pub lines_parts : {text bytes rest : List ℕ} (f r : List ℕ) (n : ℕ) → Lines text bytes rest → n ≡ length text - length rest → f ≡ take n text → r ≡ drop n text → Lines text f r
+pub lines_parts : {text bytes rest : List ℕ} (f r : List ℕ) (n : ℕ) → Lines text bytes rest → n ≡ length text - length rest → f ≡ take n text
+    → r ≡ drop n text → Lines text f r
 lines_parts {text} {bytes} {rest} f r n x e g h =
     let cut = lines_cut x in
     let at : n ≡ length bytes = omega (arith, e, ap length cut, length-append bytes rest) in

@@ -18,8 +18,15 @@ pub record IsVerbByte (b : ℕ) (v : WrittenVerb) : Type 0 where
   pub opening : v ≡ Opening → b ≡ 123
 
 -- a verb that takes any addresses and opens no block
-any_addresses : {v : WrittenVerb} (b : ℕ) → is_in b verb_bytes ≡ true → ((a : Address) (n : Bool) → takes b a n ≡ true) → ((a : Address) (n : Bool) → Takes v a n) → eqb b 123 ≡ false → (v ≡ Opening → ⊥) → IsVerbByte b v
-any_addresses b k t u f g = record { known = k; takes_so = λ a n h. u a n; taken_so = λ a n h. t a n; opens = λ e. absurd (false≢true (sym f ∙ eq-eqb b 123 e)); opening = λ e. absurd (g e) }
+any_addresses : {v : WrittenVerb} (b : ℕ) → is_in b verb_bytes ≡ true → ((a : Address) (n : Bool) → takes b a n ≡ true)
+    → ((a : Address) (n : Bool) → Takes v a n) → eqb b 123 ≡ false → (v ≡ Opening → ⊥) → IsVerbByte b v
+any_addresses b k t u f g = record {
+  known = k;
+  takes_so = λ a n h. u a n;
+  taken_so = λ a n h. t a n;
+  opens = λ e. absurd (false≢true (sym f ∙ eq-eqb b 123 e));
+  opening = λ e. absurd (g e);
+}
 
 no_opening : {v : Verb} → Known v ≡ Opening → ⊥
 no_opening e = cc e
@@ -54,15 +61,29 @@ simple_byte w.next_append = any_addresses 78 refl (λ a n. refl) (λ a n. tt) re
 simple_byte w.print = any_addresses 112 refl (λ a n. refl) (λ a n. tt) refl no_opening
 simple_byte w.print_first_line = any_addresses 80 refl (λ a n. refl) (λ a n. tt) refl no_opening
 simple_byte w.exchange = any_addresses 120 refl (λ a n. refl) (λ a n. tt) refl no_opening
-simple_byte w.quit = record { known = refl; takes_so = λ a n h. not_two a h; taken_so = λ a n h. is_not_two a h; opens = λ e. absurd (omega arith); opening = λ e. absurd (no_opening e) }
+simple_byte w.quit = record {
+  known = refl;
+  takes_so = λ a n h. not_two a h;
+  taken_so = λ a n h. is_not_two a h;
+  opens = λ e. absurd (omega arith);
+  opening = λ e. absurd (no_opening e);
+}
 
 along : {b c : ℕ} {v : WrittenVerb} → b ≡ c → IsVerbByte c v → IsVerbByte b v
 along {v = v} e h = subst (λ x. IsVerbByte x v) (sym e) h
 
 pub byte_of : {b : ℕ} {t text rest : List ℕ} {v : WrittenVerb} → t ≡ b ∷ text → VerbText t v rest → IsVerbByte b v
 byte_of e (w.simple x f) = along (sym (heads e)) (simple_byte x)
-byte_of e (w.label h l n f) = along (sym (heads e) ∙ h) (record { known = refl; takes_so = λ a n h. none_is a n h; taken_so = λ a n h. rw (h.0, h.1) refl; opens = λ e. absurd (omega arith); opening = λ e. absurd (no_opening e) })
-byte_of e (w.opening h) = along (sym (heads e) ∙ h) (record { known = refl; takes_so = λ a n h. tt; taken_so = λ a n h. refl; opens = λ e. refl; opening = λ e. refl })
+byte_of e (w.label h l n f) = along (sym (heads e) ∙ h)
+    (record {
+      known = refl;
+      takes_so = λ a n h. none_is a n h;
+      taken_so = λ a n h. rw (h.0, h.1) refl;
+      opens = λ e. absurd (omega arith);
+      opening = λ e. absurd (no_opening e);
+    })
+byte_of e (w.opening h) = along (sym (heads e) ∙ h)
+    (record { known = refl; takes_so = λ a n h. tt; taken_so = λ a n h. refl; opens = λ e. refl; opening = λ e. refl })
 byte_of e (w.branch h l n f) = along (sym (heads e) ∙ heads h) (any_addresses 98 refl (λ a n. refl) (λ a n. tt) refl (λ e. cc e))
 byte_of e (w.branch_to_end h n f) = along (sym (heads e) ∙ heads h) (any_addresses 98 refl (λ a n. refl) (λ a n. tt) refl (λ e. cc e))
 byte_of e (w.test h l n f) = along (sym (heads e) ∙ heads h) (any_addresses 116 refl (λ a n. refl) (λ a n. tt) refl (λ e. cc e))

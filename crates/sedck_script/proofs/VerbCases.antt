@@ -60,10 +60,12 @@ pub byte_along : {b c : ℕ} {text rest : List ℕ} {verb : WrittenVerb} → b �
 byte_along {text = text} {rest = rest} {verb = verb} e x = subst (λ k. VerbText (k ∷ text) verb rest) e x
 
 given_inside : (b : ℕ) {text rest : List ℕ} {verb : WrittenVerb} → one_of "aci" b ≡ true → VerbText (b ∷ text) verb rest → GivenInside text rest
-given_inside b h x = elim (aci_cases b h) [ inl e ↦ append_at (byte_along e x) | inr g ↦ elim g [ inl e ↦ change_at (byte_along e x) | inr e ↦ insert_at (byte_along e x) ] ]
+given_inside b h x =
+    elim (aci_cases b h) [ inl e ↦ append_at (byte_along e x) | inr g ↦ elim g [ inl e ↦ change_at (byte_along e x) | inr e ↦ insert_at (byte_along e x) ] ]
 
 -- a verb with a text, where none is given
-pub no_text : (b : ℕ) {text blanks begins : List ℕ} → one_of "aci" b ≡ true → Longest is_blank text blanks begins → ((bytes r : List ℕ) → GivenText begins bytes r → ⊥) → (verb : WrittenVerb) (rest : List ℕ) → VerbText (b ∷ text) verb rest → ⊥
+pub no_text : (b : ℕ) {text blanks begins : List ℕ} → one_of "aci" b ≡ true → Longest is_blank text blanks begins
+    → ((bytes r : List ℕ) → GivenText begins bytes r → ⊥) → (verb : WrittenVerb) (rest : List ℕ) → VerbText (b ∷ text) verb rest → ⊥
 no_text b h l n verb rest x =
     let i = given_inside b h x in
     n i.bytes rest (subst (λ t. GivenText t i.bytes rest) (longest_one i.skipped l).1 i.given)
@@ -77,14 +79,16 @@ write_at (w.write {name = n} h x) = (n, x)
 write_at x = absurd (differ 119 (class_of x) refl (begins x))
 
 -- a verb with a file, where no name stands
-pub no_name : (b : ℕ) {text : List ℕ} → one_of "rw" b ≡ true → ((name r : List ℕ) → Name text name r → ⊥) → (verb : WrittenVerb) (rest : List ℕ) → VerbText (b ∷ text) verb rest → ⊥
+pub no_name : (b : ℕ) {text : List ℕ} → one_of "rw" b ≡ true → ((name r : List ℕ) → Name text name r → ⊥) → (verb : WrittenVerb) (rest : List ℕ)
+    → VerbText (b ∷ text) verb rest → ⊥
 no_name b h n verb rest x = elim (cases_Bool (eqb b 114)) [
   | inl e ↦ (let i = read_at (byte_along (eqb-true b 114 e) x) in n i.0 rest i.1)
   | inr e ↦ (let i = write_at (byte_along (write_byte b h (λ f. both_ways _ e (eq-eqb b 114 f))) x) in n i.0 rest i.1)
 ]
 
 -- a verb that takes nothing, and doesn't end
-pub simple_no_end : {b : ℕ} {text : List ℕ} {simple : Verb} → Simple (b ∷ []) simple → ((r : List ℕ) → Ends text r → ⊥) → (verb : WrittenVerb) (rest : List ℕ) → VerbText (b ∷ text) verb rest → ⊥
+pub simple_no_end : {b : ℕ} {text : List ℕ} {simple : Verb} → Simple (b ∷ []) simple → ((r : List ℕ) → Ends text r → ⊥)
+    → (verb : WrittenVerb) (rest : List ℕ) → VerbText (b ∷ text) verb rest → ⊥
 simple_no_end s n verb rest (w.simple x e) = n rest e
 simple_no_end s n verb rest x = differ 0 (class_of x) refl (sym (simple_class s) ∙ begins x)
 
@@ -96,10 +100,12 @@ any_all test c (k ∷ ks) h e = elim (or_cases (eqb k c) (is_in c ks) e) [
   | inr f ↦ any_all test c ks (and_parts (test k) (list_all test ks) h).1 f
 ]
 
-pub unknown_byte : (b : ℕ) → one_of "aci" b ≡ false → one_of "rw" b ≡ false → b ≢ 115 → b ≢ 121 → one_of "=dDgGhHlnNpPqx" b ≡ false → one_of ":bt{}#" b ≡ false → is_in b verb_bytes ≡ false
+pub unknown_byte : (b : ℕ) → one_of "aci" b ≡ false → one_of "rw" b ≡ false → b ≢ 115 → b ≢ 121 → one_of "=dDgGhHlnNpPqx" b ≡ false
+    → one_of ":bt{}#" b ≡ false → is_in b verb_bytes ≡ false
 unknown_byte b h i j k l m =
     false_from_ne_true _ (λ e. both_ways _
-    (or_from (one_of "aci" b) _ h (or_from (one_of "rw" b) _ i (or_from (eqb b 115) _ (ne_eqb b 115 j) (or_from (eqb b 121) _ (ne_eqb b 121 k) (or_from (one_of "=dDgGhHlnNpPqx" b) (one_of ":bt{}#" b) l m)))))
+    (or_from (one_of "aci" b) _ h (or_from (one_of "rw" b) _ i
+    (or_from (eqb b 115) _ (ne_eqb b 115 j) (or_from (eqb b 121) _ (ne_eqb b 121 k) (or_from (one_of "=dDgGhHlnNpPqx" b) (one_of ":bt{}#" b) l m)))))
     (any_all (λ c. one_of "aci" c || (one_of "rw" c || (eqb c 115 || (eqb c 121 || (one_of "=dDgGhHlnNpPqx" c || one_of ":bt{}#" c))))) b verb_bytes refl e))
 
 record LabelInside (text : List ℕ) (verb : WrittenVerb) (rest : List ℕ) : Type 0 where
@@ -114,14 +120,17 @@ label_at : {text rest : List ℕ} {verb : WrittenVerb} → VerbText (58 ∷ text
 label_at (w.label {name = n} {behind = b} h l k e) = record { name = n; behind = b; label = l; brace = k; ends = e; is = refl }
 label_at x = absurd (differ 58 (class_of x) refl (begins x))
 
-pub no_definition_at : {text : List ℕ} → ((name behind rest : List ℕ) → LabelText text name behind → IsNoBrace behind → Ends behind rest → ⊥) → (verb : WrittenVerb) (rest : List ℕ) → VerbText (58 ∷ text) verb rest → ⊥
+pub no_definition_at : {text : List ℕ} → ((name behind rest : List ℕ) → LabelText text name behind → IsNoBrace behind → Ends behind rest → ⊥)
+    → (verb : WrittenVerb) (rest : List ℕ) → VerbText (58 ∷ text) verb rest → ⊥
 no_definition_at n verb rest x = let i = label_at x in n i.name i.behind rest i.label i.brace i.ends
 
-pub no_definition_end : {text name behind : List ℕ} → LabelText text name behind → ((rest : List ℕ) → Ends behind rest → ⊥) → (verb : WrittenVerb) (rest : List ℕ) → VerbText (58 ∷ text) verb rest → ⊥
+pub no_definition_end : {text name behind : List ℕ} → LabelText text name behind → ((rest : List ℕ) → Ends behind rest → ⊥)
+    → (verb : WrittenVerb) (rest : List ℕ) → VerbText (58 ∷ text) verb rest → ⊥
 no_definition_end l n verb rest x = let i = label_at x in n rest (subst (λ t. Ends t rest) (label_one i.label l).1 i.ends)
 
 -- a label that is there already
-pub defines_known : {S : Type 0} (labels : HashMap (Bor (List ℕ)) ℕ S) {text name behind : List ℕ} → LabelText text name behind → is_some (label_place labels name) ≡ true → (verb : WrittenVerb) (rest : List ℕ) → VerbText (58 ∷ text) verb rest → DefinesKnown labels verb
+pub defines_known : {S : Type 0} (labels : HashMap (Bor (List ℕ)) ℕ S) {text name behind : List ℕ} → LabelText text name behind
+    → is_some (label_place labels name) ≡ true → (verb : WrittenVerb) (rest : List ℕ) → VerbText (58 ∷ text) verb rest → DefinesKnown labels verb
 defines_known labels l some verb rest x =
     let i = label_at x in
     let same = (label_one i.label l).0 in
@@ -147,12 +156,16 @@ test_at (w.test_to_end h k e) = (None, (k, e))
 test_at x = absurd (differ 116 (class_of x) refl (begins x))
 
 -- a `b` or a `t`, behind which no label stands
-pub no_jump : {b : ℕ} {text : List ℕ} → (b ≡ 98) ⊎ (b ≡ 116) → ((label : Option (List ℕ)) (rest : List ℕ) → BranchText text label rest → ⊥) → (verb : WrittenVerb) (rest : List ℕ) → VerbText (b ∷ text) verb rest → ⊥
-no_jump h n verb rest x = elim h [ inl e ↦ (let i = branch_at (byte_along e x) in n i.0 rest i.1) | inr e ↦ (let i = test_at (byte_along e x) in n i.0 rest i.1) ]
+pub no_jump : {b : ℕ} {text : List ℕ} → (b ≡ 98) ⊎ (b ≡ 116) → ((label : Option (List ℕ)) (rest : List ℕ) → BranchText text label rest → ⊥)
+    → (verb : WrittenVerb) (rest : List ℕ) → VerbText (b ∷ text) verb rest → ⊥
+no_jump h n verb rest x =
+    elim h [ inl e ↦ (let i = branch_at (byte_along e x) in n i.0 rest i.1) | inr e ↦ (let i = test_at (byte_along e x) in n i.0 rest i.1) ]
 
-pub verb_behind : {b c : ℕ} {text behind rest : List ℕ} {verb : WrittenVerb} → text ≡ b ∷ behind → b ≡ c → VerbText text verb rest → VerbText (c ∷ behind) verb rest
+pub verb_behind : {b c : ℕ} {text behind rest : List ℕ} {verb : WrittenVerb} → text ≡ b ∷ behind → b ≡ c → VerbText text verb rest
+    → VerbText (c ∷ behind) verb rest
 verb_behind {rest = rest} {verb = verb} e h x = byte_along h (subst (λ t. VerbText t verb rest) e x)
 
 -- a verb from its byte and what stands behind it
-pub verb_here : {b c : ℕ} {text behind rest : List ℕ} {verb : WrittenVerb} → text ≡ b ∷ behind → b ≡ c → VerbText (c ∷ behind) verb rest → VerbText text verb rest
+pub verb_here : {b c : ℕ} {text behind rest : List ℕ} {verb : WrittenVerb} → text ≡ b ∷ behind → b ≡ c → VerbText (c ∷ behind) verb rest
+    → VerbText text verb rest
 verb_here {behind = behind} {rest = rest} {verb = verb} e h x = subst (λ t. VerbText t verb rest) (sym (e ∙ ap (λ k. k ∷ behind) h)) x

@@ -91,6 +91,17 @@ fn note_block(open_blocks: &mut Vec<usize>, verb: &Written, place: usize) -> Res
     Ok(())
 }
 
+fn push_command<'a>(
+    items: &mut Vec<WrittenItem<'a>>,
+    command: WrittenCommand<'a>,
+) -> Result<(), ScriptFault>
+    ensures ok { OnOk result (items.new.items ≡ items.old.items ++ WrittenItem.Command command.entry ∷ []) }
+    ensures memory { IfErr result (λ fault. fault ≡ ScriptFault.OutOfMemory) }
+{
+    items.push(WrittenItem::Command(command))?;
+    Ok(())
+}
+
 /// Adds a command and the place of its first empty expression. A `{` that it ends with stands at the place.
 fn note_command<'a>(
     progress: &mut Progress<'a>,
@@ -110,8 +121,7 @@ fn note_command<'a>(
     note_block(&mut progress.open_blocks, &command.verb, place)?;
     progress.empty = progress.empty.or(empty);
     progress.count += 1;
-    progress.items.push(WrittenItem::Command(command))?;
-    Ok(())
+    push_command(&mut progress.items, command)
 }
 
 /// Reads the command at the front with its end.

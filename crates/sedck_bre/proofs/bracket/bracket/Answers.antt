@@ -14,32 +14,39 @@ use Rattle.sedck_bre.proofs.bracket.bracket.Goals as goal
 abbrev viewed : ByteSet × Bor (List ℕ) → List ℕ × List ℕ
 viewed x = (x.0.0, x.1.now)
 
-gives_tail : (whole text : List ℕ) (r : Result (ByteSet × Bor (List ℕ)) ReFault) → IsTail whole text → Gives viewed r (bracket_at text) → IfOk r (λ x. IsTail whole x.1.now)
+gives_tail : (whole text : List ℕ) (r : Result (ByteSet × Bor (List ℕ)) ReFault) → IsTail whole text → Gives viewed r (bracket_at text)
+    → IfOk r (λ x. IsTail whole x.1.now)
 gives_tail whole text (Ok x) tail h = bracket_tail whole text x.0.0 x.1.now tail h
 gives_tail whole text (Err e) tail h = tt
 
 pub returns-then-begins_with_caret-clause-value : goal.returns-then-begins_with_caret-clause-value
 returns-then-begins_with_caret-clause-value c =
     let inside = ap inside_at (sym c.behind_first-inside.ensures.value) in
-    let is = bracket_is c.args.text.now c.requires.opens ∙ inside ∙ inside_complement c.behind_first-inside.result.now (sym c.begins_with_caret.ensures.value ∙ c.if-begins_with_caret.true) ∙ ap (set_at true) (sym c.behind_first.ensures.value) in
+    let is = bracket_is c.args.text.now c.requires.opens ∙ inside
+    ∙ inside_complement c.behind_first-inside.result.now (sym c.begins_with_caret.ensures.value ∙ c.if-begins_with_caret.true)
+    ∙ ap (set_at true) (sym c.behind_first.ensures.value) in
     subst (Gives viewed c.whole_set.result) (sym is) c.whole_set.ensures.value
 
 pub returns-then-begins_with_caret-clause-tail : goal.returns-then-begins_with_caret-clause-tail
 returns-then-begins_with_caret-clause-tail c =
     let inside = ap inside_at (sym c.behind_first-inside.ensures.value) in
-    let is = bracket_is c.args.text.now c.requires.opens ∙ inside ∙ inside_complement c.behind_first-inside.result.now (sym c.begins_with_caret.ensures.value ∙ c.if-begins_with_caret.true) ∙ ap (set_at true) (sym c.behind_first.ensures.value) in
+    let is = bracket_is c.args.text.now c.requires.opens ∙ inside
+    ∙ inside_complement c.behind_first-inside.result.now (sym c.begins_with_caret.ensures.value ∙ c.if-begins_with_caret.true)
+    ∙ ap (set_at true) (sym c.behind_first.ensures.value) in
     gives_tail c.args.whole.now c.args.text.now c.whole_set.result c.requires.tail (subst (Gives viewed c.whole_set.result) (sym is) c.whole_set.ensures.value)
 
 pub returns-else-begins_with_caret-clause-value : goal.returns-else-begins_with_caret-clause-value
 returns-else-begins_with_caret-clause-value c =
     let r = c.whole_set-else-begins_with_caret.result in
     let inside = ap inside_at (sym c.behind_first-inside.ensures.value) in
-    let is = bracket_is c.args.text.now c.requires.opens ∙ inside ∙ inside_plain c.behind_first-inside.result.now (sym c.begins_with_caret.ensures.value ∙ c.if-begins_with_caret.false) in
+    let is = bracket_is c.args.text.now c.requires.opens ∙ inside
+    ∙ inside_plain c.behind_first-inside.result.now (sym c.begins_with_caret.ensures.value ∙ c.if-begins_with_caret.false) in
     subst (Gives viewed r) (sym is) c.whole_set-else-begins_with_caret.ensures.value
 
 pub returns-else-begins_with_caret-clause-tail : goal.returns-else-begins_with_caret-clause-tail
 returns-else-begins_with_caret-clause-tail c =
     let r = c.whole_set-else-begins_with_caret.result in
     let inside = ap inside_at (sym c.behind_first-inside.ensures.value) in
-    let is = bracket_is c.args.text.now c.requires.opens ∙ inside ∙ inside_plain c.behind_first-inside.result.now (sym c.begins_with_caret.ensures.value ∙ c.if-begins_with_caret.false) in
+    let is = bracket_is c.args.text.now c.requires.opens ∙ inside
+    ∙ inside_plain c.behind_first-inside.result.now (sym c.begins_with_caret.ensures.value ∙ c.if-begins_with_caret.false) in
     gives_tail c.args.whole.now c.args.text.now r c.requires.tail (subst (Gives viewed r) (sym is) c.whole_set-else-begins_with_caret.ensures.value)

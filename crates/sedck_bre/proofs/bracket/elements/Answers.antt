@@ -17,20 +17,24 @@ elements-preserved c =
       shorter = omega (arith, less, c.elements.invariant.shorter);
       front = front ++ e ∷ [];
       just = just_push c.union-set.result.0 front e (c.union-set.ensures (is_of front) (λ b. in_element b e) c.elements.invariant.just c.members.ensures);
-      reads = sym (elements_go front c.elements.first c.elements.rest.now e c.in-Ok.after.now (sym c.is_over.ensures.value ∙ c.elements-test.true) c.in-Ok.ensures) ∙ c.elements.invariant.reads;
+      reads = sym (elements_go front c.elements.first c.elements.rest.now e c.in-Ok.after.now
+          (sym c.is_over.ensures.value ∙ c.elements-test.true) c.in-Ok.ensures) ∙ c.elements.invariant.reads;
     }
 
 pub returns-in-Err-Unclosed-clause-value : goal.returns-in-Err-Unclosed-clause-value
 returns-in-Err-Unclosed-clause-value c =
-    sym c.elements.invariant.reads ∙ elements_fail c.elements.invariant.front c.elements.first c.elements.rest.now (sym c.is_over.ensures.value ∙ c.elements-test.true) c.in-Err-Unclosed.ensures
+    sym c.elements.invariant.reads ∙ elements_fail c.elements.invariant.front c.elements.first c.elements.rest.now
+    (sym c.is_over.ensures.value ∙ c.elements-test.true) c.in-Err-Unclosed.ensures
 
 pub returns-in-Err-Bad-clause-value : goal.returns-in-Err-Bad-clause-value
 returns-in-Err-Bad-clause-value c =
-    sym c.elements.invariant.reads ∙ elements_fail c.elements.invariant.front c.elements.first c.elements.rest.now (sym c.is_over.ensures.value ∙ c.elements-test.true) c.in-Err-Bad.ensures
+    sym c.elements.invariant.reads ∙ elements_fail c.elements.invariant.front c.elements.first c.elements.rest.now
+    (sym c.is_over.ensures.value ∙ c.elements-test.true) c.in-Err-Bad.ensures
 
 pub returns-clause-value : goal.returns-clause-value
 returns-clause-value c = (
   c.elements.invariant.front,
-  sym c.elements.invariant.reads ∙ elements_end c.elements.invariant.front c.elements.first c.elements.rest.now (sym c.is_over.ensures.value ∙ c.elements-test.false) ∙ ap (λ r. Some (c.elements.invariant.front, r)) (sym c.behind_first.ensures.value),
+  sym c.elements.invariant.reads ∙ elements_end c.elements.invariant.front c.elements.first c.elements.rest.now
+      (sym c.is_over.ensures.value ∙ c.elements-test.false) ∙ ap (λ r. Some (c.elements.invariant.front, r)) (sym c.behind_first.ensures.value),
   c.elements.invariant.just,
 )

@@ -25,7 +25,8 @@ invariant-list-items l = record {
   opened : l.groups.opened ≡ l.fn.groups.opened + length (groups_in (sequence l.items.items));
   closed : (closed : List ℕ) → ClosedIs l.fn.groups.closed closed → ClosedIs l.groups.closed (closed ++ groups_in (sequence l.items.items));
   reads : (closed : List ℕ) → ClosedIs l.fn.groups.closed closed →
-      with_front (map tree l.items.items) (items_of full (level_of l.inside) (place_of l.place) l.deep l.groups.opened (closed ++ groups_in (sequence l.items.items)) l.rest)
+      with_front (map tree l.items.items) (items_of full (level_of l.inside) (place_of l.place) l.deep l.groups.opened
+      (closed ++ groups_in (sequence l.items.items)) l.rest)
       ≡ items_of full (level_of l.inside) shape.First l.deep l.fn.groups.opened closed l.text;
 }
 

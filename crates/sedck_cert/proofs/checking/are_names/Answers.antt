@@ -26,14 +26,16 @@ pub returns-then-not-is_name : goal.returns-then-not-is_name
 returns-then-not-is_name c =
     let below : c.loop-index.index < length c.args.names.now = omega arith in
     let within : c.loop-index.index < length c.args.listed.now = omega arith in
-    let both = both_at c.args.names.now c.args.listed.now c.loop-index.index c.index-listed-index.result _ c.as_slice.result.now below within c.index-listed-index.is c.as_slice.ensures.value in
+    let both = both_at c.args.names.now c.args.listed.now c.loop-index.index c.index-listed-index.result _ c.as_slice.result.now below within
+    c.index-listed-index.is c.as_slice.ensures.value in
     (λ e. cc, λ same. c.if-not-is_name.ensures.1 (sym both.0 ∙ ap (λ l. get_or l c.loop-index.index []) same ∙ both.1))
 
 pub loop-index-preserved : goal.loop-index-preserved
 loop-index-preserved c =
     let below : c.loop-index.index < length c.args.names.now = omega arith in
     let within : c.loop-index.index < length c.args.listed.now = omega arith in
-    let both = both_at c.args.names.now c.args.listed.now c.loop-index.index c.index-listed-index.result _ c.as_slice.result.now below within c.index-listed-index.is c.as_slice.ensures.value in
+    let both = both_at c.args.names.now c.args.listed.now c.loop-index.index c.index-listed-index.result _ c.as_slice.result.now below within
+    c.index-listed-index.is c.as_slice.ensures.value in
     below_more _ _ c.loop-index.invariant (both.0 ∙ c.is_name.ensures.0 c.if-not-is_name.false ∙ sym both.1)
 
 pub returns : goal.returns

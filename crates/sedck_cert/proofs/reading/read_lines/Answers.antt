@@ -68,5 +68,6 @@ returns-clause-read c =
           (names-few _ c.in_ok-writes.ensures.count) c.in_ok-reads.ensures.within c.in_ok-reads.ensures.read c.in_ok-writes.ensures.read;
       is_text = whole_text c.args.text.now c.in_ok-commands.commands c.in_ok-ranks.ranks.items (names_of c.in_ok-reads.reads.items)
           (names_of c.in_ok-writes.writes.items) c.in_ok-reads.size c.in_ok-writes.field-0-1
-          c.new-lines.ensures.rest c.in_ok-header.ensures.read c.in_ok-commands.ensures.read.1 c.in_ok-ranks.ensures.read c.in_ok-reads.ensures.read c.in_ok-writes.ensures.read c.in_ok-ending.ensures.read c.in_ok-ending.ensures.last;
+          c.new-lines.ensures.rest c.in_ok-header.ensures.read c.in_ok-commands.ensures.read.1 c.in_ok-ranks.ensures.read c.in_ok-reads.ensures.read
+          c.in_ok-writes.ensures.read c.in_ok-ending.ensures.read c.in_ok-ending.ensures.last;
     })

@@ -13,8 +13,10 @@ returns-in_err-write_number-clause-begun g t c = on_err c.from_residual.result _
 
 pub returns-clause-written : goal.returns-clause-written
 returns-clause-written g t c =
-    written_more c.write_all-2.result _ _ _ c.args.number c.if-number-lt10.false c.ranges.number.fits c.in_ok-write_number.ensures.written c.write_all-2.ensures.written
+    written_more c.write_all-2.result _ _ _ c.args.number c.if-number-lt10.false c.ranges.number.fits c.in_ok-write_number.ensures.written
+    c.write_all-2.ensures.written
 
 pub returns-clause-begun : goal.returns-clause-begun
 returns-clause-begun g t c =
-    begun_more c.write_all-2.result _ _ _ c.args.number c.if-number-lt10.false c.ranges.number.fits c.in_ok-write_number.ensures.written c.write_all-2.ensures.begun
+    begun_more c.write_all-2.result _ _ _ c.args.number c.if-number-lt10.false c.ranges.number.fits c.in_ok-write_number.ensures.written
+    c.write_all-2.ensures.begun

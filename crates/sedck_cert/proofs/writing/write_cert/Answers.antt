@@ -13,7 +13,8 @@ write_nodes-requires g c = few_ranks c.args.cert.now _ c.ranks.ensures.certifica
 pub returns-in_err-write_nodes-clause-begun : goal.returns-in_err-write_nodes-clause-begun
 returns-in_err-write_nodes-clause-begun g c = on_err c.from_residual-in_err-write_nodes.result _
     (begins_at _ _ _ _ _ _ _
-    (pieces_at c.args.cert.now _ _ _ _ c.commands.ensures c.ranks.ensures.ranks refl refl) c.in_ok-write_head.ensures.written c.in_err-write_nodes.ensures.begun)
+    (pieces_at c.args.cert.now _ _ _ _ c.commands.ensures c.ranks.ensures.ranks refl refl) c.in_ok-write_head.ensures.written
+    c.in_err-write_nodes.ensures.begun)
 
 pub write_files-requires-clause-few : goal.write_files-requires-clause-few
 write_files-requires-clause-few g c = few_names c.reads.result.now _ c.ranks.ensures.certificate.reads c.reads.ensures
@@ -24,7 +25,8 @@ write_files-requires-clause-fewer g c = few_names c.writes.result.now _ c.ranks.
 pub returns-in_err-write_files-clause-begun : goal.returns-in_err-write_files-clause-begun
 returns-in_err-write_files-clause-begun g c = on_err c.from_residual-in_err-write_files.result _
     (begins_third _ _ _ _ _ _ _ _ _
-    (pieces_at c.args.cert.now _ _ _ _ c.commands.ensures c.ranks.ensures.ranks c.reads.ensures c.writes.ensures) c.in_ok-write_head.ensures.written c.in_ok-write_nodes.ensures.written c.in_err-write_files.ensures.begun)
+    (pieces_at c.args.cert.now _ _ _ _ c.commands.ensures c.ranks.ensures.ranks c.reads.ensures c.writes.ensures) c.in_ok-write_head.ensures.written
+    c.in_ok-write_nodes.ensures.written c.in_err-write_files.ensures.begun)
 
 pub returns-clause-written : goal.returns-clause-written
 returns-clause-written g c = written_fourth c.write_line.result _ _ _ _ _ _ _ _ _ _

@@ -43,4 +43,5 @@ returns-in-Err-clause-refused c =
 
 pub returns-in_ok-accepted_report-in-Accepted-clause-report : goal.returns-in_ok-accepted_report-in-Accepted-clause-report
 returns-in_ok-accepted_report-in-Accepted-clause-report c =
-    reported c.args.script.now c.args.certificate.now _ _ c.args.verdict _ c.in_ok-script-in-Accepted.ensures.only c.in-Ok.ensures.only c.in-Accepted.is c.in_ok-accepted_report-in-Accepted.ensures
+    reported c.args.script.now c.args.certificate.now _ _ c.args.verdict _ c.in_ok-script-in-Accepted.ensures.only c.in-Ok.ensures.only
+    c.in-Accepted.is c.in_ok-accepted_report-in-Accepted.ensures

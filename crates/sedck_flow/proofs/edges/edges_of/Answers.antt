@@ -9,13 +9,15 @@ pub command_edges-list-requires-clause-target : goal.command_edges-list-requires
 command_edges-list-requires-clause-target c =
     let read = c.in-Some.ensures.lookup in
     has_target c.args.script.now c.commands.ensures.script c.args.node.at (command_of c.in-Some.command.now)
-    (read_command c.args.script.now c.commands.result.now c.from.result c.args.node.at c.in-Some.command.now c.commands.ensures.commands c.from.ensures read.3.0 read.1)
+    (read_command c.args.script.now c.commands.result.now c.from.result c.args.node.at c.in-Some.command.now c.commands.ensures.commands
+    c.from.ensures read.3.0 read.1)
 
 pub command_edges-list-requires-clause-replacement : goal.command_edges-list-requires-clause-replacement
 command_edges-list-requires-clause-replacement c =
     let read = c.in-Some.ensures.lookup in
     has_replacement c.args.script.now c.commands.ensures.script c.args.node.at (command_of c.in-Some.command.now)
-    (read_command c.args.script.now c.commands.result.now c.from.result c.args.node.at c.in-Some.command.now c.commands.ensures.commands c.from.ensures read.3.0 read.1)
+    (read_command c.args.script.now c.commands.result.now c.from.result c.args.node.at c.in-Some.command.now c.commands.ensures.commands
+    c.from.ensures read.3.0 read.1)
 
 pub returns-clause-edges : goal.returns-clause-edges
 returns-clause-edges c =
@@ -24,7 +26,8 @@ returns-clause-edges c =
           let read = w.in-Some.ensures.lookup in
           rw w.list-is
           (at_command c.args.script.now c.args.node (command_of w.in-Some.command.now) w.command_edges-list.result
-          (read_command c.args.script.now c.commands.result.now c.from.result c.args.node.at w.in-Some.command.now c.commands.ensures.commands c.from.ensures read.3.0 read.1) w.command_edges-list.ensures.edges)
+          (read_command c.args.script.now c.commands.result.now c.from.result c.args.node.at w.in-Some.command.now c.commands.ensures.commands
+          c.from.ensures read.3.0 read.1) w.command_edges-list.ensures.edges)
       | in-None w ↦
           let read = w.in-None.ensures.lookup in
           rw w.list-is

@@ -49,5 +49,6 @@ pub returns-in_default-clause-edges : goal.returns-in_default-clause-edges
 returns-in_default-clause-edges c =
     let d = c.in_default in
     other_verb c.args.script.now
-    (address_of c.args.command.now.address) c.args.command.now.verb c.args.from _ d.not-Branch d.not-Test d.not-Change d.not-Substitute d.not-Delete d.not-DeleteFirstLine d.not-Get d.not-GetAppend d.not-Next d.not-NextAppend d.not-Quit d.not-Exchange
+    (address_of c.args.command.now.address) c.args.command.now.verb c.args.from _ d.not-Branch d.not-Test d.not-Change d.not-Substitute d.not-Delete
+    d.not-DeleteFirstLine d.not-Get d.not-GetAppend d.not-Next d.not-NextAppend d.not-Quit d.not-Exchange
     (rw c.next-onward.ensures at c.single-in_default.ensures.edges)

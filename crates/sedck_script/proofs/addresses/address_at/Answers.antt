@@ -5,7 +5,8 @@ use Rattle.sedck_script.proofs.AddressOnly.{only_none, only_one, only_two, two_r
 use Rattle.sedck_script.proofs.addresses.address_at.Goals as goal
 
 pub returns-in_err-from-clause-refused : goal.returns-in_err-from-clause-refused
-returns-in_err-from-clause-refused c = if_err_from _ c.from_residual.result _ c.from_residual.ensures.1 (λ memory. no_first c.in_err-from.ensures.begins (c.in_err-from.ensures.refused memory))
+returns-in_err-from-clause-refused c = if_err_from _ c.from_residual.result _ c.from_residual.ensures.1
+    (λ memory. no_first c.in_err-from.ensures.begins (c.in_err-from.ensures.refused memory))
 
 pub returns-in_default-clause-read : goal.returns-in_default-clause-read
 returns-in_default-clause-read c = none

@@ -7,4 +7,5 @@ pub context-requires-clause-tail : goal.context-requires-clause-tail
 context-requires-clause-tail c = tail_behind c.requires.tail c.in-Some.ensures.cases.0
 
 pub returns-clause-refused : goal.returns-clause-refused
-returns-clause-refused c = if_err_more c.context.result (λ fault h memory p rest x. h memory p rest (custom_delimiter c.in-Some.ensures.cases.0 x).1) c.context.ensures.refused
+returns-clause-refused c = if_err_more c.context.result
+    (λ fault h memory p rest x. h memory p rest (custom_delimiter c.in-Some.ensures.cases.0 x).1) c.context.ensures.refused

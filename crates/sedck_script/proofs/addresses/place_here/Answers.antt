@@ -15,16 +15,19 @@ pub returns-then-first-eq47-clause-read : goal.returns-then-first-eq47-clause-re
 returns-then-first-eq47-clause-read c = if_ok_more c.context.result (λ x h. slash_text c.requires.first c.if-first-eq47.true h) c.context.ensures.read
 
 pub returns-then-first-eq47-clause-refused : goal.returns-then-first-eq47-clause-refused
-returns-then-first-eq47-clause-refused c = if_err_more c.context.result (λ fault h memory p rest x. h memory p rest (slash_only c.requires.first c.if-first-eq47.true x)) c.context.ensures.refused
+returns-then-first-eq47-clause-refused c = if_err_more c.context.result
+    (λ fault h memory p rest x. h memory p rest (slash_only c.requires.first c.if-first-eq47.true x)) c.context.ensures.refused
 
 pub custom_context-requires-clause-tail : goal.custom_context-requires-clause-tail
 custom_context-requires-clause-tail c = tail_behind c.requires.tail c.requires.first
 
 pub returns-then-first-eq92-clause-read : goal.returns-then-first-eq92-clause-read
-returns-then-first-eq92-clause-read c = if_ok_more c.custom_context.result (λ x h. custom_text c.requires.first c.if-first-eq92.true h) c.custom_context.ensures.read
+returns-then-first-eq92-clause-read c = if_ok_more c.custom_context.result
+    (λ x h. custom_text c.requires.first c.if-first-eq92.true h) c.custom_context.ensures.read
 
 pub returns-then-first-eq92-clause-refused : goal.returns-then-first-eq92-clause-refused
-returns-then-first-eq92-clause-refused c = if_err_more c.custom_context.result (λ fault h memory p rest x. h memory p rest (custom_only c.requires.first c.if-first-eq92.true x)) c.custom_context.ensures.refused
+returns-then-first-eq92-clause-refused c = if_err_more c.custom_context.result
+    (λ fault h memory p rest x. h memory p rest (custom_only c.requires.first c.if-first-eq92.true x)) c.custom_context.ensures.refused
 
 pub returns-in-Some-clause-read : goal.returns-in-Some-clause-read
 returns-in-Some-clause-read c = line c.in-Some.ensures.read

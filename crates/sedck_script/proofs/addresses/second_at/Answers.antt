@@ -8,13 +8,18 @@ place_at-requires c = record { tail = comma_tail c.requires.tail c.in-Some.ensur
 
 pub returns-in_err-found-clause-refused : goal.returns-in_err-found-clause-refused
 returns-in_err-found-clause-refused c =
-    if_err_from _ c.from_residual.result _ c.from_residual.ensures.1 (λ memory. (c.in-Some.second.now, c.in-Some.ensures.some, c.in_err-found.ensures.refused memory))
+    if_err_from _ c.from_residual.result _ c.from_residual.ensures.1
+    (λ memory. (c.in-Some.second.now, c.in-Some.ensures.some, c.in_err-found.ensures.refused memory))
 
 pub overflow_sub-result : goal.overflow_sub-result
 overflow_sub-result c = tail_length (comma_tail c.requires.tail c.in-Some.ensures.some)
 
 pub returns-in_default-2-clause-refused : goal.returns-in_default-2-clause-refused
-returns-in_default-2-clause-refused c = λ memory. (c.in-Some.second.now, c.in-Some.ensures.some, λ u t x. no_place (none_found c.in-Some.second.now c.in_default-2.is c.in_ok-found.ensures.none) x)
+returns-in_default-2-clause-refused c = λ memory. (
+  c.in-Some.second.now,
+  c.in-Some.ensures.some,
+  λ u t x. no_place (none_found c.in-Some.second.now c.in_default-2.is c.in_ok-found.ensures.none) x,
+)
 
 pub returns-clause-read : goal.returns-clause-read
 returns-clause-read c = (c.in-Some.second.now, c.in-Some.ensures.some, place_found c.in-Some-2.is c.in_ok-found.ensures.read)

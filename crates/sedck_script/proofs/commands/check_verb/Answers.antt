@@ -9,20 +9,30 @@ use Rattle.sedck_script.proofs.commands.check_verb.Goals.{else-verb-eq123-via-th
 use Rattle.sedck_script.proofs.commands.check_verb.Goals as goal
 
 pub returns-then-not-is_verb-clause-refused : goal.returns-then-not-is_verb-clause-refused
-returns-then-not-is_verb-clause-refused c = λ verb rest x t. absurd (false≢true (sym c.if-not-is_verb.true ∙ c.is_verb.ensures ∙ (byte_of c.in-Some.ensures.cases.0 x).known))
+returns-then-not-is_verb-clause-refused c = λ verb rest x t. absurd
+    (false≢true (sym c.if-not-is_verb.true ∙ c.is_verb.ensures ∙ (byte_of c.in-Some.ensures.cases.0 x).known))
 
 pub returns-then-not-is_verb-clause-placed : goal.returns-then-not-is_verb-clause-placed
-returns-then-not-is_verb-clause-placed c =
-    (omega arith, λ b at. ap (λ x. is_in x verb_bytes) (same_byte at (stands_at_tail c.requires.tail c.in-Some.ensures.cases.0)) ∙ sym c.is_verb.ensures ∙ c.if-not-is_verb.true)
+returns-then-not-is_verb-clause-placed c = (
+  omega arith,
+  λ b at. ap (λ x. is_in x verb_bytes) (same_byte at (stands_at_tail c.requires.tail c.in-Some.ensures.cases.0))
+      ∙ sym c.is_verb.ensures ∙ c.if-not-is_verb.true,
+)
 
 pub returns-then-not-takes-clause-refused : goal.returns-then-not-takes-clause-refused
-returns-then-not-takes-clause-refused c = λ verb rest x t. absurd (false≢true (sym c.if-not-takes.true ∙ c.takes.ensures ∙ (byte_of c.in-Some.ensures.cases.0 x).taken_so _ _ t))
+returns-then-not-takes-clause-refused c = λ verb rest x t. absurd
+    (false≢true (sym c.if-not-takes.true ∙ c.takes.ensures ∙ (byte_of c.in-Some.ensures.cases.0 x).taken_so _ _ t))
 
 pub returns-then-not-takes-clause-placed : goal.returns-then-not-takes-clause-placed
-returns-then-not-takes-clause-placed c = (_, stands_at_tail c.requires.tail c.in-Some.ensures.cases.0, not_taken c.in-Some.verb.now (address_of c.args.address.now) c.args.negated (sym c.takes.ensures ∙ c.if-not-takes.true))
+returns-then-not-takes-clause-placed c = (
+  _,
+  stands_at_tail c.requires.tail c.in-Some.ensures.cases.0,
+  not_taken c.in-Some.verb.now (address_of c.args.address.now) c.args.negated (sym c.takes.ensures ∙ c.if-not-takes.true),
+)
 
 pub returns-then-count-ge-COMMAND_LIMIT-clause-placed : goal.returns-then-count-ge-COMMAND_LIMIT-clause-placed
-returns-then-count-ge-COMMAND_LIMIT-clause-placed c = (_, stands_at_tail c.requires.tail c.in-Some.ensures.cases.0, sym c.is_verb.ensures ∙ c.if-not-is_verb.false)
+returns-then-count-ge-COMMAND_LIMIT-clause-placed c =
+    (_, stands_at_tail c.requires.tail c.in-Some.ensures.cases.0, sym c.is_verb.ensures ∙ c.if-not-is_verb.false)
 
 pub returns-then-depth-ge-DEPTH_LIMIT-clause-refused : goal.returns-then-depth-ge-DEPTH_LIMIT-clause-refused
 returns-then-depth-ge-DEPTH_LIMIT-clause-refused c = λ verb rest x t. inl ((byte_of c.in-Some.ensures.cases.0 x).opens c.if-verb-eq123.true, omega arith)

@@ -10,7 +10,8 @@ use Rattle.sedck_script.proofs.commands.command_at.Goals as goal
 
 pub returns-in_err-address-clause-refused : goal.returns-in_err-address-clause-refused
 returns-in_err-address-clause-refused c =
-    if_err_from _ c.from_residual.result _ c.from_residual.ensures.1 (λ memory given negated verb rest x. absurd (c.in_err-address.ensures.refused memory given negated verb rest x))
+    if_err_from _ c.from_residual.result _ c.from_residual.ensures.1
+    (λ memory given negated verb rest x. absurd (c.in_err-address.ensures.refused memory given negated verb rest x))
 
 pub allowed_verb-requires : goal.allowed_verb-requires
 allowed_verb-requires c = record { tail = tail_tail c.requires.tail (tail_tail (address_tail c.in_ok-address.ensures.read) (tail_cut c.split_marks.ensures)) }
@@ -18,12 +19,15 @@ allowed_verb-requires c = record { tail = tail_tail c.requires.tail (tail_tail (
 pub returns-in_err-verb-clause-refused : goal.returns-in_err-verb-clause-refused
 returns-in_err-verb-clause-refused c =
     if_err_from _ c.from_residual-in_err-verb.result _ c.from_residual-in_err-verb.ensures.1
-    (λ memory given negated verb rest x. let parts = command_parts c.in_ok-address.ensures.only c.split_marks.ensures x in c.in_err-verb.ensures.refused memory verb rest parts.verbs (takes_along verb parts.address (parts.negated ∙ sym c.contains-negated.ensures.value) x.taken))
+    (λ memory given negated verb rest x. let parts = command_parts c.in_ok-address.ensures.only c.split_marks.ensures x in
+    c.in_err-verb.ensures.refused memory verb rest parts.verbs (takes_along verb parts.address (parts.negated ∙ sym c.contains-negated.ensures.value) x.taken))
 
 pub overflow_sub-whole : goal.overflow_sub-whole
-overflow_sub-whole c = omega (arith, tail_length (tail_tail c.requires.tail (tail_tail (address_tail c.in_ok-address.ensures.read) (tail_cut c.split_marks.ensures))))
+overflow_sub-whole c =
+    omega (arith, tail_length (tail_tail c.requires.tail (tail_tail (address_tail c.in_ok-address.ensures.read) (tail_cut c.split_marks.ensures))))
 
 pub returns-clause-empty : goal.returns-clause-empty
 returns-clause-empty c =
-    rw c.or-empty.ensures (empty_append (length c.args.whole.now) (address_patterns (address_of c.in_ok-address.address)) (written_patterns (written_verb c.in_ok-verb.verb)) c.in_ok-address.empty c.empty_verb.result
+    rw c.or-empty.ensures (empty_append (length c.args.whole.now) (address_patterns (address_of c.in_ok-address.address))
+    (written_patterns (written_verb c.in_ok-verb.verb)) c.in_ok-address.empty c.empty_verb.result
     c.in_ok-address.ensures.empty (c.empty_verb.ensures (length c.args.whole.now) (omega arith)))

@@ -6,13 +6,16 @@ use Rattle.sedck_script.proofs.PieceLemmas.{piece_tail, expression_more, express
 use Rattle.sedck_script.proofs.delimited.delimited_expression.Goals as goal
 
 pub returns-in_err-piece-clause-refused : goal.returns-in_err-piece-clause-refused
-returns-in_err-piece-clause-refused c = if_err_each _ c.from_residual.result (λ fault memory. expression_stuck c.loop-bytes.invariant c.in_err-piece.ensures.refused)
+returns-in_err-piece-clause-refused c = if_err_each _ c.from_residual.result
+    (λ fault memory. expression_stuck c.loop-bytes.invariant c.in_err-piece.ensures.refused)
 
 pub returns-in-End-clause-read : goal.returns-in-End-clause-read
-returns-in-End-clause-read c = expression_end c.loop-bytes.invariant (subst (λ x. IsPiece c.args.delimiter c.loop-bytes.rest.now x c.in_ok-piece.behind.now) c.in-End.is c.in_ok-piece.ensures.read)
+returns-in-End-clause-read c = expression_end c.loop-bytes.invariant
+    (subst (λ x. IsPiece c.args.delimiter c.loop-bytes.rest.now x c.in_ok-piece.behind.now) c.in-End.is c.in_ok-piece.ensures.read)
 
 pub returns-then-b-eq10-clause-refused : goal.returns-then-b-eq10-clause-refused
-returns-then-b-eq10-clause-refused c = λ memory. expression_broken (no_backslash c.requires.delimiter) c.loop-bytes.invariant (subst (λ x. IsPiece c.args.delimiter c.loop-bytes.rest.now x c.in_ok-piece.behind.now) c.in-Pair.is c.in_ok-piece.ensures.read) c.if-b-eq10.true
+returns-then-b-eq10-clause-refused c = λ memory. expression_broken (no_backslash c.requires.delimiter) c.loop-bytes.invariant
+    (subst (λ x. IsPiece c.args.delimiter c.loop-bytes.rest.now x c.in_ok-piece.behind.now) c.in-Pair.is c.in_ok-piece.ensures.read) c.if-b-eq10.true
 
 pub loop-bytes-preserved-in_ok-push-in-Byte : goal.loop-bytes-preserved-in_ok-push-in-Byte
 loop-bytes-preserved-in_ok-push-in-Byte c =
@@ -22,9 +25,12 @@ loop-bytes-preserved-in_ok-push-in-Byte c =
 pub loop-bytes-preserved-in_ok-push-in-Escaped : goal.loop-bytes-preserved-in_ok-push-in-Escaped
 loop-bytes-preserved-in_ok-push-in-Escaped c =
     expression_more _ c.in_ok-push-in-Escaped.ensures.items c.loop-bytes.invariant (piece_tail _ _ _ _ c.in_ok-piece.ensures.read)
-    (expression_escaped (no_backslash c.requires.delimiter) (subst (λ x. IsPiece c.args.delimiter c.loop-bytes.rest.now x c.in_ok-piece.behind.now) c.in-Escaped.is c.in_ok-piece.ensures.read))
+    (expression_escaped (no_backslash c.requires.delimiter)
+    (subst (λ x. IsPiece c.args.delimiter c.loop-bytes.rest.now x c.in_ok-piece.behind.now) c.in-Escaped.is c.in_ok-piece.ensures.read))
 
 pub loop-bytes-preserved : goal.loop-bytes-preserved
 loop-bytes-preserved c =
-    expression_more _ (c.in_ok-push-in-Pair-2.ensures.items ∙ ap (λ t. t ++ c.in-Pair.b ∷ []) c.in_ok-push-in-Pair.ensures.items ∙ append_assoc c.loop-bytes.bytes.items (92 ∷ []) (c.in-Pair.b ∷ [])) c.loop-bytes.invariant (piece_tail _ _ _ _ c.in_ok-piece.ensures.read)
-    (expression_pair (no_backslash c.requires.delimiter) c.if-b-eq10.false (subst (λ x. IsPiece c.args.delimiter c.loop-bytes.rest.now x c.in_ok-piece.behind.now) c.in-Pair.is c.in_ok-piece.ensures.read))
+    expression_more _ (c.in_ok-push-in-Pair-2.ensures.items ∙ ap (λ t. t ++ c.in-Pair.b ∷ []) c.in_ok-push-in-Pair.ensures.items
+    ∙ append_assoc c.loop-bytes.bytes.items (92 ∷ []) (c.in-Pair.b ∷ [])) c.loop-bytes.invariant (piece_tail _ _ _ _ c.in_ok-piece.ensures.read)
+    (expression_pair (no_backslash c.requires.delimiter) c.if-b-eq10.false
+    (subst (λ x. IsPiece c.args.delimiter c.loop-bytes.rest.now x c.in_ok-piece.behind.now) c.in-Pair.is c.in_ok-piece.ensures.read))

@@ -8,16 +8,20 @@ pub returns-then-is_empty-clause-read : goal.returns-then-is_empty-clause-read
 returns-then-is_empty-clause-read c = pattern_none c.in_ok-bytes.ensures.read (grind (arith, c.if-is_empty.ensures))
 
 pub returns-in-Ok-clause-read : goal.returns-in-Ok-clause-read
-returns-in-Ok-clause-read c = pattern_some c.in_ok-bytes.ensures.read (grind (arith, c.if-is_empty.ensures)) (subst (λ t. Shape t c.in-Ok.expression) c.deref.ensures.value c.in-Ok.ensures.shape)
+returns-in-Ok-clause-read c = pattern_some c.in_ok-bytes.ensures.read (grind (arith, c.if-is_empty.ensures))
+    (subst (λ t. Shape t c.in-Ok.expression) c.deref.ensures.value c.in-Ok.ensures.shape)
 
 pub returns-clause-refused : goal.returns-clause-refused
 returns-clause-refused c = λ memory p rest.
     let none = c.in-Err.ensures.refused (c.expression_fault.ensures.memory memory) in
-    no_pattern p (no_backslash c.requires.delimiter) c.in_ok-bytes.ensures.read (grind (arith, c.if-is_empty.ensures)) (λ t s. none t (subst (λ u. Shape u t) (sym c.deref.ensures.value) s))
+    no_pattern p (no_backslash c.requires.delimiter) c.in_ok-bytes.ensures.read (grind (arith, c.if-is_empty.ensures))
+    (λ t s. none t (subst (λ u. Shape u t) (sym c.deref.ensures.value) s))
 
 pub returns-then-is_empty-clause-only : goal.returns-then-is_empty-clause-only
-returns-then-is_empty-clause-only c = λ p rest x. pattern_none_only p (no_backslash c.requires.delimiter) c.in_ok-bytes.ensures.read (grind (arith, c.if-is_empty.ensures)) x
+returns-then-is_empty-clause-only c = λ p rest x. pattern_none_only p (no_backslash c.requires.delimiter) c.in_ok-bytes.ensures.read
+    (grind (arith, c.if-is_empty.ensures)) x
 
 pub returns-in-Ok-clause-only : goal.returns-in-Ok-clause-only
 returns-in-Ok-clause-only c = λ p rest x.
-    pattern_some_only p (no_backslash c.requires.delimiter) c.in_ok-bytes.ensures.read (grind (arith, c.if-is_empty.ensures)) (λ t s. c.in-Ok.ensures.only t (subst (λ u. Shape u t) (sym c.deref.ensures.value) s)) x
+    pattern_some_only p (no_backslash c.requires.delimiter) c.in_ok-bytes.ensures.read (grind (arith, c.if-is_empty.ensures))
+    (λ t s. c.in-Ok.ensures.only t (subst (λ u. Shape u t) (sym c.deref.ensures.value) s)) x

@@ -11,12 +11,15 @@ pub returns-in_default-name-clause-placed : goal.returns-in_default-name-clause-
 returns-in_default-name-clause-placed c = (_, stands_at_tail c.requires c.in-Some.ensures.cases.0, rw c.if-first-eq119.true refl)
 
 pub returns-in_default-number-clause-refused : goal.returns-in_default-number-clause-refused
-returns-in_default-number-clause-refused c = λ q ps s r x. no_number c.in-Some.ensures.cases.0 (sym c.is_digit.ensures ∙ c.if-is_digit.true) c.in_default-number.ensures.none x
+returns-in_default-number-clause-refused c = λ q ps s r x. no_number c.in-Some.ensures.cases.0
+    (sym c.is_digit.ensures ∙ c.if-is_digit.true) c.in_default-number.ensures.none x
 
 pub returns-then-not-is_ending-clause-refused : goal.returns-then-not-is_ending-clause-refused
 returns-then-not-is_ending-clause-refused c = λ q ps s r x.
-    no_flag c.in-Some.ensures.cases.0 c.if-first-eq103.false c.if-first-eq112.false c.if-first-eq119.false (sym c.is_digit.ensures ∙ c.if-is_digit.false) (sym c.is_blank.ensures ∙ c.if-not-is_blank.true) (sym c.is_ending.ensures ∙ c.if-not-is_ending.true) x
+    no_flag c.in-Some.ensures.cases.0 c.if-first-eq103.false c.if-first-eq112.false c.if-first-eq119.false
+    (sym c.is_digit.ensures ∙ c.if-is_digit.false) (sym c.is_blank.ensures ∙ c.if-not-is_blank.true) (sym c.is_ending.ensures ∙ c.if-not-is_ending.true) x
 
 pub returns-in_err-rest-clause-refused : goal.returns-in_err-rest-clause-refused
 returns-in_err-rest-clause-refused c = if_err_always c.from_residual.result (λ q ps s r x.
-    no_flags_end c.in-Some.ensures.cases.0 c.if-first-eq103.false c.if-first-eq112.false c.if-first-eq119.false (sym c.is_digit.ensures ∙ c.if-is_digit.false) c.in_err-rest.ensures.refused x)
+    no_flags_end c.in-Some.ensures.cases.0 c.if-first-eq103.false c.if-first-eq112.false c.if-first-eq119.false
+    (sym c.is_digit.ensures ∙ c.if-is_digit.false) c.in_err-rest.ensures.refused x)

@@ -15,11 +15,15 @@ use Rattle.sedck_script.proofs.items.add_command.Goals as goal
 
 pub returns-in_err-command-clause-refused : goal.returns-in_err-command-clause-refused
 returns-in_err-command-clause-refused c =
-    if_err_from _ c.from_residual.result _ c.from_residual.ensures.1 (λ memory. front_refused c.args.progress.now.labels c.requires.progress.front c.requires.begins c.requires.progress.labels c.requires.progress.count
-    (λ a n v rest x. subst (λ d. DefinesKnown c.args.progress.now.labels v ⊎ IsBeyond d c.args.progress.now.count v) (omega (arith, c.len.ensures)) (c.in_err-command.ensures.refused memory a n v rest x)))
+    if_err_from _ c.from_residual.result _ c.from_residual.ensures.1
+    (λ memory. front_refused c.args.progress.now.labels c.requires.progress.front c.requires.begins c.requires.progress.labels c.requires.progress.count
+    (λ a n v rest x. subst (λ d. DefinesKnown c.args.progress.now.labels v ⊎ IsBeyond d c.args.progress.now.count v) (omega (arith, c.len.ensures))
+    (c.in_err-command.ensures.refused memory a n v rest x)))
 
 pub returns-in_err-note_command-clause-refused : goal.returns-in_err-note_command-clause-refused
-returns-in_err-note_command-clause-refused c = if_err_from _ c.from_residual-in_err-note_command.result _ c.from_residual-in_err-note_command.ensures.1 (λ memory. absurd (memory c.in_err-note_command.ensures.memory))
+returns-in_err-note_command-clause-refused c =
+    if_err_from _ c.from_residual-in_err-note_command.result _ c.from_residual-in_err-note_command.ensures.1
+    (λ memory. absurd (memory c.in_err-note_command.ensures.memory))
 
 pub overflow_sub-place : goal.overflow_sub-place
 overflow_sub-place c = omega (arith, tail_length c.requires.progress.front.tail, command_shorter c.in_ok-command.ensures.read)
@@ -35,18 +39,30 @@ returns-clause-progress c =
     let old = c.args.progress.now in
     let command = c.in_ok-command.command in
     let items = ap (map item_of) c.in_ok-note_command.ensures.items ∙ map_push item_of old.items.items _ in
-    let noted = blocks_noted (written_verb command.verb) c.args.text.now old.open_blocks.items c.note_command.new.progress.open_blocks.items _ c.in_ok-note_command.ensures.opened
+    let noted = blocks_noted
+    (written_verb command.verb) c.args.text.now old.open_blocks.items c.note_command.new.progress.open_blocks.items _ c.in_ok-note_command.ensures.opened
     (λ e. subst (λ d. d < 64) (omega (arith, c.len.ensures)) (c.in_ok-command.ensures.shallow e))
     (λ e. brace_stands _ c.requires.progress.front.tail c.in_ok-command.ensures.read refl e) c.requires.progress.opened in
     record {
       front = rw items (front_command c.requires.progress.front c.requires.begins c.in_ok-command.ensures.read noted.0);
-      labels = rw (items, among_append) (labels_noted old.labels c.note_command.new.progress.labels (commands_among (map item_of old.items.items)) (length c.args.text.now) (address_of command.address) command.negated command.verb
+      labels = rw (items, among_append) (labels_noted old.labels c.note_command.new.progress.labels (commands_among (map item_of old.items.items))
+          (length c.args.text.now) (address_of command.address) command.negated command.verb
           c.requires.progress.labels c.in_ok-command.ensures.within c.in_ok-command.ensures.read.taken c.in_ok-command.ensures.fresh
           (subst (λ k. NotesLabel old.labels c.note_command.new.progress.labels k command.verb) c.requires.progress.count c.in_ok-note_command.ensures.labels));
-      count = rw (items, among_append) (omega (arith, c.requires.progress.count, c.in_ok-note_command.ensures.count, length-append (commands_among (map item_of old.items.items)) (Written (address_of command.address) command.negated (written_verb command.verb) ∷ [])));
+      count = rw (items, among_append)
+          (omega (
+            arith,
+            c.requires.progress.count,
+            c.in_ok-note_command.ensures.count,
+            length-append (commands_among (map item_of old.items.items))
+                (Written (address_of command.address) command.negated (written_verb command.verb) ∷ []),
+          ));
       few = omega (arith, c.in_ok-command.ensures.few, c.in_ok-note_command.ensures.count);
-      within = rw c.in_ok-note_command.ensures.items (All-push (IsItemWithin (length c.args.text.now)) _ _ c.requires.progress.within c.in_ok-command.ensures.within);
+      within = rw c.in_ok-note_command.ensures.items (All-push
+          (IsItemWithin (length c.args.text.now)) _ _ c.requires.progress.within c.in_ok-command.ensures.within);
       opened = noted.1;
-      empty = rw (items, patterns_push, c.in_ok-note_command.ensures.empty) (empty_append (length c.args.text.now) (item_patterns (map item_of old.items.items)) (patterns_of (Written (address_of command.address) command.negated (written_verb command.verb))) old.empty c.in_ok-command.empty
+      empty = rw (items, patterns_push, c.in_ok-note_command.ensures.empty)
+          (empty_append (length c.args.text.now) (item_patterns (map item_of old.items.items))
+          (patterns_of (Written (address_of command.address) command.negated (written_verb command.verb))) old.empty c.in_ok-command.empty
           c.requires.progress.empty c.in_ok-command.ensures.empty);
     }

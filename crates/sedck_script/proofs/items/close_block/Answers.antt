@@ -22,18 +22,24 @@ pub end_of_command-requires : goal.end_of_command-requires
 end_of_command-requires c = record { tail = tail_behind c.requires.progress.front.tail c.requires.begins }
 
 pub returns-in_err-rest-clause-refused : goal.returns-in_err-rest-clause-refused
-returns-in_err-rest-clause-refused c = if_err_from _ c.from_residual.result _ c.from_residual.ensures.1 (λ memory. front_unended c.requires.progress.front c.requires.begins refl c.in_err-rest.ensures.refused)
+returns-in_err-rest-clause-refused c = if_err_from _ c.from_residual.result _ c.from_residual.ensures.1
+    (λ memory. front_unended c.requires.progress.front c.requires.begins refl c.in_err-rest.ensures.refused)
 
 pub returns-clause-progress : goal.returns-clause-progress
 returns-clause-progress c =
     let items = ap (map item_of) c.in_ok-push.ensures.items ∙ map_push item_of c.args.progress.now.items.items _ in
-    let deep : length c.args.progress.now.open_blocks.items ≡ suc (length c.pop.new.self.items) = omega (arith, ap length c.in-Some.ensures.items, length-append {A = ℕ}) in
+    let deep : length c.args.progress.now.open_blocks.items ≡ suc (length c.pop.new.self.items) =
+    omega (arith, ap length c.in-Some.ensures.items, length-append {A = ℕ}) in
     record {
-      front = rw items (front_closing (subst (λ d. IsFront c.args.text.now (map item_of c.args.progress.now.items.items) d c.args.begins.now) deep c.requires.progress.front) c.requires.begins refl c.in_ok-rest.ensures.read);
+      front = rw items
+          (front_closing
+          (subst (λ d. IsFront c.args.text.now
+          (map item_of c.args.progress.now.items.items) d c.args.begins.now) deep c.requires.progress.front) c.requires.begins refl c.in_ok-rest.ensures.read);
       labels = rw (items, among_closing) c.requires.progress.labels;
       count = rw (items, among_closing) c.requires.progress.count;
       few = c.requires.progress.few;
       within = rw c.in_ok-push.ensures.items (All-push (IsItemWithin (length c.args.text.now)) _ _ c.requires.progress.within tt);
-      opened = opened_front c.args.text.now _ _ (subst (λ xs. All (λ place. StandsAt c.args.text.now place brace) xs) c.in-Some.ensures.items c.requires.progress.opened);
+      opened = opened_front c.args.text.now _ _ (subst
+          (λ xs. All (λ place. StandsAt c.args.text.now place brace) xs) c.in-Some.ensures.items c.requires.progress.opened);
       empty = rw (items, patterns_closing) c.requires.progress.empty;
     }

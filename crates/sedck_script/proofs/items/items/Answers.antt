@@ -6,7 +6,8 @@ pub next_item-requires-clause-progress : goal.next_item-requires-clause-progress
 next_item-requires-clause-progress c = progress_at c.loop-first.invariant (front_skip c.loop-first.invariant.front c.split_separators.ensures)
 
 pub returns-in-Some-last-clause-refused : goal.returns-in-Some-last-clause-refused
-returns-in-Some-last-clause-refused c = λ memory. front_unclosed c.loop-first.invariant.front c.split_separators.ensures (grind (arith, c.in_default.ensures.cases)) (omega (arith, c.in-Some-last.ensures.item.3.0, ap length c.deref.ensures.value))
+returns-in-Some-last-clause-refused c = λ memory. front_unclosed c.loop-first.invariant.front c.split_separators.ensures
+    (grind (arith, c.in_default.ensures.cases)) (omega (arith, c.in-Some-last.ensures.item.3.0, ap length c.deref.ensures.value))
 
 pub returns-clause-read : goal.returns-clause-read
 returns-clause-read c = front_done c.loop-first.invariant.front c.split_separators.ensures (grind (arith, c.in_default.ensures.cases))

@@ -5,7 +5,8 @@ use Rattle.sedck_script.proofs.labels.check_no_label.Goals as goal
 use Rattle.sedck_script.proofs.labels.check_no_label.Goals.{else-next-eq35-via-then-next-eq35+else-begins-text, else-next-eq35-via-else-next-eq35}
 
 pub returns-then-not-is_ending-clause-refused : goal.returns-then-not-is_ending-clause-refused
-returns-then-not-is_ending-clause-refused c = λ rest n e. no_end c.requires.blanks.1 c.in-len1-up.len_at_least (sym c.is_ending.ensures ∙ c.if-not-is_ending.true) e
+returns-then-not-is_ending-clause-refused c = λ rest n e. no_end c.requires.blanks.1 c.in-len1-up.len_at_least
+    (sym c.is_ending.ensures ∙ c.if-not-is_ending.true) e
 
 pub returns-else-next-eq35-clause-allowed : goal.returns-else-next-eq35-clause-allowed
 returns-else-next-eq35-clause-allowed c =

@@ -7,4 +7,6 @@ pub returns-then-is_empty-clause-refused : goal.returns-then-is_empty-clause-ref
 returns-then-is_empty-clause-refused c = λ name behind rest l n e. no_label_there c.label_parts-place.ensures.parts (grind (arith, c.if-is_empty.ensures)) l
 
 pub returns-in_err-check_behind_definition-clause-refused : goal.returns-in_err-check_behind_definition-clause-refused
-returns-in_err-check_behind_definition-clause-refused c = if_err_always c.from_residual.result (λ name behind rest l n e. no_definition c.label_parts-place.ensures.parts c.in_err-check_behind_definition.ensures.refused l n e)
+returns-in_err-check_behind_definition-clause-refused c =
+    if_err_always c.from_residual.result
+    (λ name behind rest l n e. no_definition c.label_parts-place.ensures.parts c.in_err-check_behind_definition.ensures.refused l n e)

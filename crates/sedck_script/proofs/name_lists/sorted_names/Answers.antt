@@ -12,11 +12,13 @@ use Rattle.sedck_script.proofs.name_lists.sorted_names.Goals as goal
 pub loop-place-init : goal.loop-place-init
 loop-place-init c = record {
   within = omega arith;
-  sorted = ap (map (λ n. n.now)) c.new-names.ensures.items ∙ sym (ap (λ l. sorted_names (all_accessed c.args.access (map command_of l))) (drop-length c.args.commands.now));
+  sorted = ap (map (λ n. n.now)) c.new-names.ensures.items
+      ∙ sym (ap (λ l. sorted_names (all_accessed c.args.access (map command_of l))) (drop-length c.args.commands.now));
 }
 
 pub insert_any-requires : goal.insert_any-requires
-insert_any-requires c = subst AreRising (sym c.loop-place.invariant.sorted) (sorted_names-rise (all_accessed c.args.access (map command_of (drop c.loop-place.place c.args.commands.now))))
+insert_any-requires c = subst AreRising (sym c.loop-place.invariant.sorted)
+    (sorted_names-rise (all_accessed c.args.access (map command_of (drop c.loop-place.place c.args.commands.now))))
 
 pub loop-place-preserved : goal.loop-place-preserved
 loop-place-preserved c =
@@ -24,8 +26,10 @@ loop-place-preserved c =
     record {
       within = omega arith;
       sorted = c.in_ok-insert_any.ensures.ok
-          ∙ ap (with_any (option_copied c.name_of.result)) (c.loop-place.invariant.sorted ∙ ap (λ i. sorted_names (all_accessed c.args.access (map command_of (drop i c.args.commands.now)))) same)
-          ∙ sym (names_from c.args.access c.args.commands.now (c.loop-place.place - 1) c.index-commands-place.result (option_copied c.name_of.result) (omega arith) (c.name_of.ensures ∙ ap (λ (k : Command). accessed c.args.access (verb_of k.verb)) c.index-commands-place.is));
+          ∙ ap (with_any (option_copied c.name_of.result))
+          (c.loop-place.invariant.sorted ∙ ap (λ i. sorted_names (all_accessed c.args.access (map command_of (drop i c.args.commands.now)))) same)
+          ∙ sym (names_from c.args.access c.args.commands.now (c.loop-place.place - 1) c.index-commands-place.result (option_copied c.name_of.result)
+          (omega arith) (c.name_of.ensures ∙ ap (λ (k : Command). accessed c.args.access (verb_of k.verb)) c.index-commands-place.is));
     }
 
 pub returns-clause-sorted : goal.returns-clause-sorted

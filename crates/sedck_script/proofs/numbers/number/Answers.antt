@@ -9,5 +9,6 @@ returns-then-is_empty-clause-none c = λ n rest a.
     elim c.then-is_empty.branch [
       | then-is_empty-via-then-is_empty w ↦ grind (arith, w.if-is_empty.ensures, d.some)
       | then-is_empty-via-else-is_empty+then-value-eq0 w ↦ omega (arith, d.positive, c.value_of-value.ensures, w.if-value-eq0.true)
-      | then-is_empty-via-else-is_empty+else-value-eq0+then-value-eq-NUMBER_LIMIT w ↦ omega (arith, d.fits, c.value_of-value.ensures, w.if-value-eq-NUMBER_LIMIT.true)
+      | then-is_empty-via-else-is_empty+else-value-eq0+then-value-eq-NUMBER_LIMIT w ↦ omega
+          (arith, d.fits, c.value_of-value.ensures, w.if-value-eq-NUMBER_LIMIT.true)
     ]

@@ -12,32 +12,38 @@ use Rattle.sedck_script.specs.ExpressionReading.{has_some}
 use Rattle.sedck_script.proofs.parsing.commands.Goals as goal
 
 pub returns-in_err-items-clause-refused : goal.returns-in_err-items-clause-refused
-returns-in_err-items-clause-refused c = if_err_from _ c.from_residual.result _ c.from_residual.ensures.1 (λ memory. no_program (c.in_err-items.ensures.refused memory))
+returns-in_err-items-clause-refused c = if_err_from _ c.from_residual.result _ c.from_residual.ensures.1
+    (λ memory. no_program (c.in_err-items.ensures.refused memory))
 
 pub returns-in_err-commands-clause-refused : goal.returns-in_err-commands-clause-refused
 returns-in_err-commands-clause-refused c =
     if_err_from _ c.from_residual-in_err-commands.result _ c.from_residual-in_err-commands.ensures.1
-    (λ memory. no_target c.in_ok-items.field-0.labels c.in_ok-items.field-0.items.items c.in_ok-items.ensures.read c.in_ok-items.ensures.progress.1.labels (c.in_err-commands.ensures.lost memory))
+    (λ memory. no_target c.in_ok-items.field-0.labels c.in_ok-items.field-0.items.items c.in_ok-items.ensures.read
+    c.in_ok-items.ensures.progress.1.labels (c.in_err-commands.ensures.lost memory))
 
 pub returns-in_err-commands-clause-placed : goal.returns-in_err-commands-clause-placed
 returns-in_err-commands-clause-placed c =
-    if_err_from _ c.from_residual-in_err-commands.result _ c.from_residual-in_err-commands.ensures.1 (c.in_err-commands.ensures.placed c.args.text.now c.in_ok-items.ensures.progress.1.within)
+    if_err_from _ c.from_residual-in_err-commands.result _ c.from_residual-in_err-commands.ensures.1
+    (c.in_err-commands.ensures.placed c.args.text.now c.in_ok-items.ensures.progress.1.within)
 
-previous : (text : List ℕ) (ps : List Pattern) {o : Option ℕ} {place : ℕ} → o ≡ Some place → IsEmptyAt (length text) ps o → IsEmptyAt (length text) ps (Some place)
+previous : (text : List ℕ) (ps : List Pattern) {o : Option ℕ} {place : ℕ} → o ≡ Some place → IsEmptyAt (length text) ps o
+    → IsEmptyAt (length text) ps (Some place)
 previous text ps e h = subst (IsEmptyAt (length text) ps) e h
 
 pub returns-in_err-check_previous-clause-refused : goal.returns-in_err-check_previous-clause-refused
 returns-in_err-check_previous-clause-refused c =
     if_err_from _ c.from_residual-in_err-check_previous.result _ c.from_residual-in_err-check_previous.ensures.1
     (λ memory. no_expression c.in_ok-items.ensures.read c.in_ok-commands.ensures.resolved
-    (previous c.args.text.now (item_patterns (map item_of c.in_ok-items.field-0.items.items)) c.in_err-check_previous.ensures.fault.1 c.in_ok-items.ensures.progress.1.empty).0
+    (previous c.args.text.now
+    (item_patterns (map item_of c.in_ok-items.field-0.items.items)) c.in_err-check_previous.ensures.fault.1 c.in_ok-items.ensures.progress.1.empty).0
     (ap (λ v. has_some (expressions (map command_of v))) (sym c.deref.ensures.value) ∙ c.in_err-check_previous.ensures.none))
 
 pub returns-in_err-check_previous-clause-placed : goal.returns-in_err-check_previous-clause-placed
 returns-in_err-check_previous-clause-placed c =
     let fault = c.in_err-check_previous.ensures.fault in
     if_err_from _ c.from_residual-in_err-check_previous.result _ c.from_residual-in_err-check_previous.ensures.1
-    (subst (λ f. IsPlaced c.args.text.now f) (sym fault.2) (previous c.args.text.now (item_patterns (map item_of c.in_ok-items.field-0.items.items)) fault.1 c.in_ok-items.ensures.progress.1.empty).1)
+    (subst (λ f. IsPlaced c.args.text.now f) (sym fault.2)
+    (previous c.args.text.now (item_patterns (map item_of c.in_ok-items.field-0.items.items)) fault.1 c.in_ok-items.ensures.progress.1.empty).1)
 
 none_previous : (text : List ℕ) (ps : List Pattern) (o : Option ℕ) → IsEmptyAt (length text) ps o → has_previous ps ≡ true → (place : ℕ) × (o ≡ Some place)
 none_previous text ps None h k = absurd (both_ways (has_previous ps) h k)
@@ -47,7 +53,10 @@ pub returns-clause-read : goal.returns-clause-read
 returns-clause-read c = (
   map item_of c.in_ok-items.field-0.items.items,
   c.in_ok-items.ensures.read,
-  are_commands c.in_ok-items.field-0.labels c.in_ok-items.ensures.progress.1.labels c.in_ok-commands.ensures.resolved (omega (arith, c.in_ok-items.ensures.progress.1.few, c.in_ok-items.ensures.progress.1.count))
-      (λ h. let some = none_previous c.args.text.now (item_patterns (map item_of c.in_ok-items.field-0.items.items)) c.in_ok-items.field-0.empty c.in_ok-items.ensures.progress.1.empty h in
+  are_commands c.in_ok-items.field-0.labels c.in_ok-items.ensures.progress.1.labels c.in_ok-commands.ensures.resolved
+      (omega (arith, c.in_ok-items.ensures.progress.1.few, c.in_ok-items.ensures.progress.1.count))
+      (λ h. let some =
+      none_previous c.args.text.now
+      (item_patterns (map item_of c.in_ok-items.field-0.items.items)) c.in_ok-items.field-0.empty c.in_ok-items.ensures.progress.1.empty h in
       ap (λ v. has_some (expressions (map command_of v))) (sym c.deref.ensures.value) ∙ c.in_ok-check_previous.ensures.found some.0 some.1),
 )

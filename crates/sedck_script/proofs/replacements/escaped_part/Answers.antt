@@ -11,8 +11,11 @@ pub returns-then-b-eq116-clause-read : goal.returns-then-b-eq116-clause-read
 returns-then-b-eq116-clause-read c = (tabulator (ap (λ b. b ∷ []) c.if-b-eq116.true), tt)
 
 pub returns-then-not-is_digit-clause-read : goal.returns-then-not-is_digit-clause-read
-returns-then-not-is_digit-clause-read c =
-    (subst (λ t. EscapedPart c.args.b (Text t)) (sym c.requires) (other (sym c.is_letter.ensures ∙ c.if-is_letter.false) (sym c.is_digit.ensures ∙ c.if-not-is_digit.true)), tt)
+returns-then-not-is_digit-clause-read c = (
+  subst (λ t. EscapedPart c.args.b (Text t)) (sym c.requires)
+      (other (sym c.is_letter.ensures ∙ c.if-is_letter.false) (sym c.is_digit.ensures ∙ c.if-not-is_digit.true)),
+  tt,
+)
 
 pub returns-clause-read : goal.returns-clause-read
 returns-clause-read c =

@@ -12,9 +12,12 @@ returns-in_err-part-clause-refused c = if_err_each _ c.from_residual.result (λ 
 
 pub returns-in_default-clause-read : goal.returns-in_default-clause-read
 returns-in_default-clause-read c =
-    parts_end c.loop-parts.invariant (subst (λ x. IsNextPart c.args.delimiter c.args.greatest c.loop-parts.rest.now (option_map part_of x) c.in_ok-part.behind.now) c.in_default.is c.in_ok-part.ensures.read)
+    parts_end c.loop-parts.invariant
+    (subst (λ x. IsNextPart c.args.delimiter c.args.greatest c.loop-parts.rest.now
+    (option_map part_of x) c.in_ok-part.behind.now) c.in_default.is c.in_ok-part.ensures.read)
 
 pub loop-parts-preserved : goal.loop-parts-preserved
 loop-parts-preserved c =
     parts_more _ (ap (map part_of) c.in_ok-push.ensures.items ∙ map_push part_of c.loop-parts.parts.items _) c.loop-parts.invariant
-    (subst (λ x. IsNextPart c.args.delimiter c.args.greatest c.loop-parts.rest.now (option_map part_of x) c.in_ok-part.behind.now) c.in-Some.is c.in_ok-part.ensures.read)
+    (subst (λ x. IsNextPart c.args.delimiter c.args.greatest c.loop-parts.rest.now
+    (option_map part_of x) c.in_ok-part.behind.now) c.in-Some.is c.in_ok-part.ensures.read)

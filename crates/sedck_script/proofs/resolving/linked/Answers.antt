@@ -6,12 +6,14 @@ use Rattle.sedck_script.proofs.Outcomes.{if_err_from, if_err_more}
 use Rattle.sedck_script.proofs.resolving.linked.Goals as goal
 
 pub resolve-requires-clause-known : goal.resolve-requires-clause-known
-resolve-requires-clause-known c = subst (λ items. All (λ item. IsKnownLabel c.args.labels.now (item_label (item_of item))) items) c.deref.ensures.value c.in_ok-check_targets.ensures.known
+resolve-requires-clause-known c =
+    subst (λ items. All (λ item. IsKnownLabel c.args.labels.now (item_label (item_of item))) items) c.deref.ensures.value c.in_ok-check_targets.ensures.known
 
 pub returns-in_err-check_targets-clause-lost : goal.returns-in_err-check_targets-clause-lost
 returns-in_err-check_targets-clause-lost c =
     if_err_from _ c.from_residual.result _ c.from_residual.ensures.1
-    (λ memory. subst (λ items. Any (λ item. IsLostLabel c.args.labels.now (item_label (item_of item))) items) c.deref.ensures.value c.in_err-check_targets.ensures.lost)
+    (λ memory. subst
+    (λ items. Any (λ item. IsLostLabel c.args.labels.now (item_label (item_of item))) items) c.deref.ensures.value c.in_err-check_targets.ensures.lost)
 
 pub returns-in_err-check_targets-clause-placed : goal.returns-in_err-check_targets-clause-placed
 returns-in_err-check_targets-clause-placed c =

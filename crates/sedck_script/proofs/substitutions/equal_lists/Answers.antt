@@ -19,7 +19,13 @@ returns-in_err-to-clause-refused c =
 
 pub returns-then-len-clause-refused : goal.returns-then-len-clause-refused
 returns-then-len-clause-refused c = λ memory.
-    unequal_lists (no_backslash c.requires.delimiter) c.in_ok-from.ensures.read c.in_ok-to.ensures.read (λ e. omega (arith, c.in_ok-from.from.ok.0, c.in_ok-to.to.ok.0))
+    unequal_lists (no_backslash c.requires.delimiter) c.in_ok-from.ensures.read c.in_ok-to.ensures.read
+    (λ e. omega (arith, c.in_ok-from.from.ok.0, c.in_ok-to.to.ok.0))
 
 pub returns-clause-read : goal.returns-clause-read
-returns-clause-read c = record { behind = c.in_ok-from.behind.now; first = c.in_ok-from.ensures.read; second = c.in_ok-to.ensures.read; equal = omega (arith, c.in_ok-from.from.ok.0, c.in_ok-to.to.ok.0) }
+returns-clause-read c = record {
+  behind = c.in_ok-from.behind.now;
+  first = c.in_ok-from.ensures.read;
+  second = c.in_ok-to.ensures.read;
+  equal = omega (arith, c.in_ok-from.from.ok.0, c.in_ok-to.to.ok.0);
+}

@@ -20,14 +20,20 @@ replacement-requires-clause-tail c = tail_tail (tail_behind c.requires.tail c.in
 pub returns-in_err-parts-clause-refused : goal.returns-in_err-parts-clause-refused
 returns-in_err-parts-clause-refused c =
     if_err_from _ c.from_residual-in_err-parts.result _ c.from_residual-in_err-parts.ensures.1
-    (λ memory. substitute_no_parts _ (pattern_of c.in_ok-pattern.pattern) c.in_ok-delimiter.ensures.read.0 c.in_ok-pattern.ensures.only c.greatest_group-greatest.ensures (c.in_err-parts.ensures.refused memory))
+    (λ memory. substitute_no_parts _
+    (pattern_of c.in_ok-pattern.pattern) c.in_ok-delimiter.ensures.read.0 c.in_ok-pattern.ensures.only c.greatest_group-greatest.ensures
+    (c.in_err-parts.ensures.refused memory))
 
 pub flags-requires : goal.flags-requires
-flags-requires c = tail_tail (tail_tail (tail_behind c.requires.tail c.in_ok-delimiter.ensures.read.0) (expression_tail c.in_ok-pattern.ensures.read.1)) (replacement_tail c.in_ok-parts.ensures.read)
+flags-requires c =
+    tail_tail (tail_tail (tail_behind c.requires.tail c.in_ok-delimiter.ensures.read.0) (expression_tail c.in_ok-pattern.ensures.read.1))
+    (replacement_tail c.in_ok-parts.ensures.read)
 
 pub returns-in_err-seen-clause-refused : goal.returns-in_err-seen-clause-refused
 returns-in_err-seen-clause-refused c = if_err_each _ c.from_residual-in_err-seen.result (λ fault memory.
-    substitute_no_flags (pattern_of c.in_ok-pattern.pattern) (no_backslash c.in_ok-delimiter.ensures.read.1) c.in_ok-delimiter.ensures.read.0 c.in_ok-pattern.ensures.only c.in_ok-parts.ensures.read c.in_err-seen.ensures.refused)
+    substitute_no_flags (pattern_of c.in_ok-pattern.pattern)
+    (no_backslash c.in_ok-delimiter.ensures.read.1) c.in_ok-delimiter.ensures.read.0 c.in_ok-pattern.ensures.only c.in_ok-parts.ensures.read
+    c.in_err-seen.ensures.refused)
 
 pub returns-clause-read : goal.returns-clause-read
 returns-clause-read c =

@@ -17,7 +17,8 @@ end_of_command-requires c = record { tail = tail_tail (tail_behind c.requires.ta
 
 pub returns-in_err-rest-clause-refused : goal.returns-in_err-rest-clause-refused
 returns-in_err-rest-clause-refused c = if_err_each _ c.from_residual-in_err-rest.result (λ fault memory.
-    transliterate_no_end (no_backslash c.in_ok-delimiter.ensures.read.1) c.in_ok-delimiter.ensures.read.0 c.in_ok-from.ensures.read c.in_err-rest.ensures.refused)
+    transliterate_no_end
+    (no_backslash c.in_ok-delimiter.ensures.read.1) c.in_ok-delimiter.ensures.read.0 c.in_ok-from.ensures.read c.in_err-rest.ensures.refused)
 
 pub returns-clause-read : goal.returns-clause-read
 returns-clause-read c = transliterate_read c.in_ok-delimiter.ensures.read.0 c.in_ok-delimiter.ensures.read.1 c.in_ok-from.ensures.read c.in_ok-rest.ensures.read

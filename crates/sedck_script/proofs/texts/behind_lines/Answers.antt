@@ -5,10 +5,12 @@ pub returns-then-first-eq10 : goal.returns-then-first-eq10
 returns-then-first-eq10 c = passed_line c.loop-first.invariant c.in-Some.ensures.cases.0 c.if-first-eq10.true
 
 pub loop-first-preserved-in-Some-split_first : goal.loop-first-preserved-in-Some-split_first
-loop-first-preserved-in-Some-split_first c = passed_pair c.loop-first.invariant c.in-Some.ensures.cases.0 c.in-Some-split_first.ensures.cases.0 c.if-first-eq92.true
+loop-first-preserved-in-Some-split_first c =
+    passed_pair c.loop-first.invariant c.in-Some.ensures.cases.0 c.in-Some-split_first.ensures.cases.0 c.if-first-eq92.true
 
 pub loop-first-preserved-in_default-split_first : goal.loop-first-preserved-in_default-split_first
-loop-first-preserved-in_default-split_first c = passed_last c.loop-first.invariant c.in-Some.ensures.cases.0 c.in_default-split_first.ensures.cases c.if-first-eq92.true
+loop-first-preserved-in_default-split_first c =
+    passed_last c.loop-first.invariant c.in-Some.ensures.cases.0 c.in_default-split_first.ensures.cases c.if-first-eq92.true
 
 pub loop-first-preserved : goal.loop-first-preserved
 loop-first-preserved c = passed_byte c.loop-first.invariant c.in-Some.ensures.cases.0 c.if-first-eq10.false c.if-first-eq92.false

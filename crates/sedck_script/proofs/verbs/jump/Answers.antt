@@ -12,4 +12,5 @@ returns-then-verb-eq98-clause-read c = byte_along (sym c.if-verb-eq98.true) (bra
 
 pub returns-else-verb-eq98-clause-read : goal.returns-else-verb-eq98-clause-read
 returns-else-verb-eq98-clause-read c =
-    byte_along (elim c.requires.verb [ inl e ↦ absurd (c.if-verb-eq98.false e) | inr e ↦ sym e ]) (test_read (option_copied c.in_ok-label.label) c.in_ok-label.ensures.read)
+    byte_along (elim c.requires.verb [ inl e ↦ absurd (c.if-verb-eq98.false e) | inr e ↦ sym e ])
+    (test_read (option_copied c.in_ok-label.label) c.in_ok-label.ensures.read)

@@ -13,4 +13,5 @@ pub returns-then-verb-eq99-clause-read : goal.returns-then-verb-eq99-clause-read
 returns-then-verb-eq99-clause-read c = change (ap (λ b. b ∷ []) c.if-verb-eq99.true) c.split_blanks.ensures c.in-Some.ensures.read
 
 pub returns-clause-read : goal.returns-clause-read
-returns-clause-read c = insert (ap (λ b. b ∷ []) (insert_byte c.args.verb c.requires c.if-verb-eq97.false c.if-verb-eq99.false)) c.split_blanks.ensures c.in-Some.ensures.read
+returns-clause-read c =
+    insert (ap (λ b. b ∷ []) (insert_byte c.args.verb c.requires c.if-verb-eq97.false c.if-verb-eq99.false)) c.split_blanks.ensures c.in-Some.ensures.read

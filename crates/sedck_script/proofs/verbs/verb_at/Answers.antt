@@ -24,4 +24,5 @@ pub returns-then-first-eq58-clause-read : goal.returns-then-first-eq58-clause-re
 returns-then-first-eq58-clause-read c = if_ok_more c.definition.result (λ x. verb_here c.in-Some.ensures.cases.0 c.if-first-eq58.true) c.definition.ensures.read
 
 pub returns-then-first-eq58-clause-refused : goal.returns-then-first-eq58-clause-refused
-returns-then-first-eq58-clause-refused c = if_err_more c.definition.result (λ fault n memory verb rest x. n verb rest (verb_behind c.in-Some.ensures.cases.0 c.if-first-eq58.true x)) c.definition.ensures.refused
+returns-then-first-eq58-clause-refused c = if_err_more c.definition.result
+    (λ fault n memory verb rest x. n verb rest (verb_behind c.in-Some.ensures.cases.0 c.if-first-eq58.true x)) c.definition.ensures.refused

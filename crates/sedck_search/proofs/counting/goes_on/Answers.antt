@@ -11,7 +11,8 @@ use Rattle.sedck_search.proofs.counting.goes_on.Goals as goal
 pub has-requires : goal.has-requires
 has-requires c =
     let p = c.args.script.now in
-    let gone = gone_next p c.args.node c.loop-edge.yielded c.loop-edge.edge-iterator c.next.new.self c.in-Some.edge c.in-Some.ensures.steps c.loop-edge.invariant in
+    let gone = gone_next p c.args.node c.loop-edge.yielded c.loop-edge.edge-iterator c.next.new.self c.in-Some.edge c.in-Some.ensures.steps
+    c.loop-edge.invariant in
     omega (
       arith,
       c.index-to.ensures,
@@ -22,7 +23,8 @@ has-requires c =
 pub bounds-counts-to : goal.bounds-counts-to
 bounds-counts-to c =
     let p = c.args.script.now in
-    let gone = gone_next p c.args.node c.loop-edge.yielded c.loop-edge.edge-iterator c.next.new.self c.in-Some.edge c.in-Some.ensures.steps c.loop-edge.invariant in
+    let gone = gone_next p c.args.node c.loop-edge.yielded c.loop-edge.edge-iterator c.next.new.self c.in-Some.edge c.in-Some.ensures.steps
+    c.loop-edge.invariant in
     omega (
       arith,
       c.index-to.ensures,

@@ -5,7 +5,8 @@ use Rattle.sedck_search.proofs.counting.leads_to_count.Goals as goal
 pub bounds-counts-index : goal.bounds-counts-index
 bounds-counts-index c =
     let p = c.args.script.now in
-    let gone = gone_next p c.args.node c.loop-edge.yielded c.loop-edge.edge-iterator c.next.new.self c.in-Some.edge c.in-Some.ensures.steps c.loop-edge.invariant in
+    let gone = gone_next p c.args.node c.loop-edge.yielded c.loop-edge.edge-iterator c.next.new.self c.in-Some.edge c.in-Some.ensures.steps
+    c.loop-edge.invariant in
     omega (
       arith,
       c.index.ensures,

@@ -41,4 +41,5 @@ returns-clause-marks c =
     let inv = c.loop-index.invariant in
     let end : c.loop-index.index ≡ node_count (length c.args.script.now.commands) =
     omega (arith, count, c.loop-index-test.false, c.loop-index.auto.index-end) in
-    marked c.args.script.now c.new-row.result c.spread.new.row c.loop-index.marks.items c.new-row.ensures.nodes c.spread.ensures.closed c.spread.ensures.grown (inv.long ∙ end) (λ i below. inv.entries i (omega (arith, below, inv.long)))
+    marked c.args.script.now c.new-row.result c.spread.new.row c.loop-index.marks.items c.new-row.ensures.nodes c.spread.ensures.closed
+    c.spread.ensures.grown (inv.long ∙ end) (λ i below. inv.entries i (omega (arith, below, inv.long)))

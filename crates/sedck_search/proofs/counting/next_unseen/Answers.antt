@@ -5,7 +5,8 @@ use Rattle.sedck_search.proofs.counting.next_unseen.Goals as goal
 pub bounds-counts-to : goal.bounds-counts-to
 bounds-counts-to c =
     let p = c.args.script.now in
-    let gone = gone_next p c.args.node c.loop-edge.yielded c.loop-edge.edge-iterator c.next.new.self c.in-Some.edge c.in-Some.ensures.steps c.loop-edge.invariant in
+    let gone = gone_next p c.args.node c.loop-edge.yielded c.loop-edge.edge-iterator c.next.new.self c.in-Some.edge c.in-Some.ensures.steps
+    c.loop-edge.invariant in
     omega (
       arith,
       c.index-to.ensures,

@@ -16,7 +16,8 @@ pub returns-in-Some : goal.returns-in-Some
 returns-in-Some c =
     let p = c.args.script.now in
     let first = subst (λ counts. IsFirstClosing p Keep counts c.in-Some.edge) c.deref.ensures.value c.in-Some.ensures in
-    idle_loop p c.in_ok-seconds.ensures.script c.in_ok-seconds.seconds.items c.in_ok-seconds.ensures.counts c.in-Some.edge first c.in_ok-loop_from.field-0 c.in_ok-loop_from.ensures
+    idle_loop p c.in_ok-seconds.ensures.script c.in_ok-seconds.seconds.items c.in_ok-seconds.ensures.counts c.in-Some.edge first
+    c.in_ok-loop_from.field-0 c.in_ok-loop_from.ensures
 
 pub loop_from-requires-in-Some-first_closing-clause-closing : goal.loop_from-requires-in-Some-first_closing-clause-closing
 loop_from-requires-in-Some-first_closing-clause-closing c =
@@ -29,7 +30,8 @@ returns-in-Some-first_closing c =
     let p = c.args.script.now in
     let none = subst (λ counts. (e : Edge) → ¬ Closes p Keep counts e) c.deref.ensures.value c.in_default.ensures in
     let first = subst (λ counts. IsFirstClosing p Grow counts c.in-Some-first_closing.edge) c.deref-2.ensures.value c.in-Some-first_closing.ensures in
-    growing_loop p c.in_ok-seconds.ensures.script c.in_ok-seconds.seconds.items c.in_ok-seconds.ensures.counts none c.in_ok-firsts.firsts.items c.in_ok-firsts.ensures.counts c.in-Some-first_closing.edge first c.in_ok-loop_from-2.field-0 c.in_ok-loop_from-2.ensures
+    growing_loop p c.in_ok-seconds.ensures.script c.in_ok-seconds.seconds.items c.in_ok-seconds.ensures.counts none c.in_ok-firsts.firsts.items
+    c.in_ok-firsts.ensures.counts c.in-Some-first_closing.edge first c.in_ok-loop_from-2.field-0 c.in_ok-loop_from-2.ensures
 
 pub certificate-requires-clause-idle : goal.certificate-requires-clause-idle
 certificate-requires-clause-idle c =

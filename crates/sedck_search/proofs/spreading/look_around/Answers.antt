@@ -33,7 +33,8 @@ loop-edge-preserved-then-follows c =
           (λ f held followed. c.meet-first.ensures.spread.kept f.to (held followed)) (λ _. c.meet-first.ensures.met);
       frontier = c.meet-first.ensures.frontier;
       spread = met_then
-          (IsFollowedFrom p c.args.along node) c.args.row.now c.args.waiting.now c.loop-edge.row c.loop-edge.waiting c.meet-first.new.row c.meet-first.new.waiting c.args.first c.loop-edge.first c.meet-first.result
+          (IsFollowedFrom p c.args.along node) c.args.row.now c.args.waiting.now c.loop-edge.row c.loop-edge.waiting c.meet-first.new.row
+          c.meet-first.new.waiting c.args.first c.loop-edge.first c.meet-first.result
           c.loop-edge.invariant.spread
           (met_among (λ n. n ≡ e.to) (IsFollowedFrom p c.args.along node) (λ n same. subst (IsFollowedFrom p c.args.along node) (sym same) from_node)
           c.loop-edge.row c.loop-edge.waiting c.meet-first.new.row c.meet-first.new.waiting c.loop-edge.first c.meet-first.result c.meet-first.ensures.spread);

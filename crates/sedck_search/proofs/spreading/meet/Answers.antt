@@ -17,7 +17,8 @@ returns-clause-spread c =
 pub returns-clause-frontier : goal.returns-clause-frontier
 returns-clause-frontier c =
     let is : c.index-index.result ≡ node_index c.args.node = c.index-index.ensures in
-    frontier_new c.args.node c.args.row.now c.args.waiting.now c.insert.new.self c.insert-2.new.self c.requires.frontier c.insert.ensures.row c.insert-2.ensures.row
+    frontier_new c.args.node c.args.row.now c.args.waiting.now c.insert.new.self c.insert-2.new.self c.requires.frontier c.insert.ensures.row
+    c.insert-2.ensures.row
     (ap (has c.args.row.now) (sym is) ∙ sym c.if-has.ensures.value)
     (subst (λ i. HasChanged c.args.row.now c.insert.new.self i true) is c.insert.ensures.changed)
     (subst (λ i. HasChanged c.args.waiting.now c.insert-2.new.self i true) is c.insert-2.ensures.changed)

@@ -20,7 +20,8 @@ meet-first-requires-clause-frontier c = record {
 
 pub loop-index-init : goal.loop-index-init
 loop-index-init c =
-    spreading_begins c.args.script.now c.args.along c.args.node c.args.row.now c.meet-first.new.row c.new-waiting.result c.meet-first.new.waiting c.index.result c.meet-first.result
+    spreading_begins c.args.script.now c.args.along c.args.node c.args.row.now c.meet-first.new.row c.new-waiting.result c.meet-first.new.waiting
+    c.index.result c.meet-first.result
     c.requires.closed c.new-waiting.ensures.nodes c.meet-first.ensures.frontier c.meet-first.ensures.spread c.meet-first.ensures.met
 
 -- the node that is looked at waited
@@ -42,25 +43,30 @@ look_around-first-requires-clause-frontier c =
 pub loop-index-smaller : goal.loop-index-smaller
 loop-index-smaller c =
     let is : node_index c.nth.result ≡ c.in-Some.index = c.nth.ensures in
-    spreading_shrinks c.args.script.now c.args.along c.args.node c.args.row.now c.loop-index.row c.loop-index.waiting c.remove.new.self c.look_around-first.new.row c.look_around-first.new.waiting c.loop-index.first c.look_around-first.result c.nth.result
+    spreading_shrinks c.args.script.now c.args.along c.args.node c.args.row.now c.loop-index.row c.loop-index.waiting c.remove.new.self
+    c.look_around-first.new.row c.look_around-first.new.waiting c.loop-index.first c.look_around-first.result c.nth.result
     c.loop-index.invariant (ap (has c.loop-index.waiting) is ∙ c.in-Some.ensures.2) (λ k least less. c.in-Some.ensures.3 k least (omega (arith, less, is)))
     (subst (λ i. HasChanged c.loop-index.waiting c.remove.new.self i false) (sym is) c.remove.ensures.changed) c.look_around-first.ensures.frontier
     (subst (λ i. HasMet
-    (IsFollowedFrom c.args.script.now c.args.along c.nth.result) c.loop-index.row c.remove.new.self c.look_around-first.new.row c.look_around-first.new.waiting i c.look_around-first.result) (sym is) c.look_around-first.ensures.spread)
+    (IsFollowedFrom c.args.script.now c.args.along c.nth.result) c.loop-index.row c.remove.new.self c.look_around-first.new.row
+    c.look_around-first.new.waiting i c.look_around-first.result) (sym is) c.look_around-first.ensures.spread)
     c.look_around-first.ensures.met c.remove.ensures.row
 
 pub loop-index-preserved : goal.loop-index-preserved
 loop-index-preserved c =
     let is : node_index c.nth.result ≡ c.in-Some.index = c.nth.ensures in
-    spreading_goes_on c.args.script.now c.args.along c.args.node c.args.row.now c.loop-index.row c.loop-index.waiting c.remove.new.self c.look_around-first.new.row c.look_around-first.new.waiting c.loop-index.first c.look_around-first.result c.nth.result
+    spreading_goes_on c.args.script.now c.args.along c.args.node c.args.row.now c.loop-index.row c.loop-index.waiting c.remove.new.self
+    c.look_around-first.new.row c.look_around-first.new.waiting c.loop-index.first c.look_around-first.result c.nth.result
     c.loop-index.invariant (ap (has c.loop-index.waiting) is ∙ c.in-Some.ensures.2) (λ k least less. c.in-Some.ensures.3 k least (omega (arith, less, is)))
     (subst (λ i. HasChanged c.loop-index.waiting c.remove.new.self i false) (sym is) c.remove.ensures.changed) c.look_around-first.ensures.frontier
     (subst (λ i. HasMet
-    (IsFollowedFrom c.args.script.now c.args.along c.nth.result) c.loop-index.row c.remove.new.self c.look_around-first.new.row c.look_around-first.new.waiting i c.look_around-first.result) (sym is) c.look_around-first.ensures.spread)
+    (IsFollowedFrom c.args.script.now c.args.along c.nth.result) c.loop-index.row c.remove.new.self c.look_around-first.new.row
+    c.look_around-first.new.waiting i c.look_around-first.result) (sym is) c.look_around-first.ensures.spread)
     c.look_around-first.ensures.met
 
 -- none waits any more
 pub returns : goal.returns
 returns c =
-    let ends = spreading_ends c.args.script.now c.args.along c.args.node c.args.row.now c.loop-index.row c.loop-index.waiting c.loop-index.first c.loop-index.invariant c.in_default.ensures in
+    let ends = spreading_ends c.args.script.now c.args.along c.args.node c.args.row.now c.loop-index.row c.loop-index.waiting c.loop-index.first
+    c.loop-index.invariant c.in_default.ensures in
     record { closed = ends.0; grown = ends.1 }

@@ -9,7 +9,8 @@ use Rattle.sedck_search.proofs.walking.first_closing_from.Goals as goal
 pub bounds-counts-index-then-is_of : goal.bounds-counts-index-then-is_of
 bounds-counts-index-then-is_of c =
     let p = c.args.script.now in
-    let gone = gone_next p c.args.node c.loop-edge.yielded c.loop-edge.edge-iterator c.next.new.self c.in-Some.edge c.in-Some.ensures.steps c.loop-edge.invariant in
+    let gone = gone_next p c.args.node c.loop-edge.yielded c.loop-edge.edge-iterator c.next.new.self c.in-Some.edge c.in-Some.ensures.steps
+    c.loop-edge.invariant in
     omega (
       arith,
       c.index-then-is_of.ensures,
@@ -69,4 +70,5 @@ loop-edge-preserved c =
     ])
 
 pub returns : goal.returns
-returns c = λ e closes leaves. gone_end c.args.script.now c.args.node c.loop-edge.yielded c.loop-edge.edge-iterator c.in-None.ensures.steps.0 c.loop-edge.invariant e (closes.is_edge, leaves) closes
+returns c = λ e closes leaves. gone_end c.args.script.now c.args.node c.loop-edge.yielded c.loop-edge.edge-iterator c.in-None.ensures.steps.0
+    c.loop-edge.invariant e (closes.is_edge, leaves) closes

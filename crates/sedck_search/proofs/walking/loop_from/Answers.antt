@@ -61,7 +61,9 @@ loop-step-preserved c =
       way = inv.way;
       walking = subst₂ (λ n k. IsWalking p c.way_back-along.result ways inv.first n k e.to (c.loop-step.step + 1)
           (c.index-way.result.now - (c.loop-step.step + 1))) (sym c.in_ok-push-4.ensures.items) (sym c.in_ok-push-5.ensures.items)
-          (walking_goes_on p c.requires.script c.way_back-along.result ways inv.first c.loop-step.nodes.items c.loop-step.kinds.items c.loop-step.at c.loop-step.step (c.index-way.result.now - c.loop-step.step) (c.index-way.result.now - (c.loop-step.step + 1)) e inv.walking c.edge_on-edge.ensures.followed c.edge_on-edge.ensures.leaves has);
+          (walking_goes_on p c.requires.script c.way_back-along.result ways inv.first c.loop-step.nodes.items c.loop-step.kinds.items c.loop-step.at
+          c.loop-step.step (c.index-way.result.now - c.loop-step.step)
+          (c.index-way.result.now - (c.loop-step.step + 1)) e inv.walking c.edge_on-edge.ensures.followed c.edge_on-edge.ensures.leaves has);
     }
 
 -- the way is gone
@@ -73,7 +75,8 @@ returns c =
     let none : c.index-way.result.now - c.loop-step.step ≡ 0 = omega (arith, c.loop-step-test.false) in
     let gone : c.loop-step.step ≡ inv.near.way = omega (arith, c.loop-step-test.false, c.loop-step.auto.step-end, inv.way) in
     let walking =
-    subst₂ (λ a l. IsWalking p a ways inv.first c.loop-step.nodes.items c.loop-step.kinds.items c.loop-step.at c.loop-step.step l) c.way_back-along.ensures none inv.walking in
+    subst₂ (λ a l. IsWalking p a ways inv.first c.loop-step.nodes.items c.loop-step.kinds.items c.loop-step.at c.loop-step.step l)
+    c.way_back-along.ensures none inv.walking in
     shortest_loop p c.requires.script c.args.form c.args.closing inv.first ways c.loop-step.nodes.items c.loop-step.kinds.items c.loop-step.at c.loop-step.step
     (record { nodes = c.loop-step.nodes; kinds = c.loop-step.kinds; form = c.args.form })
     (subst (λ a. AreWays p a c.args.closing.from ways) c.way_back-along.ensures c.in_ok-ways.ensures) c.requires.closing inv.near walking gone refl refl refl

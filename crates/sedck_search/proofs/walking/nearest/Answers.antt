@@ -34,7 +34,8 @@ pub bounds-ways-index : goal.bounds-ways-index
 bounds-ways-index c =
     let p = c.args.script.now in
     let from = c.args.closing.from in
-    let gone = gone_next p from c.loop-edge.yielded c.loop-edge.edge-iterator c.next.new.self c.in-Some.edge c.in-Some.ensures.steps c.loop-edge.invariant.edges in
+    let gone = gone_next p from c.loop-edge.yielded c.loop-edge.edge-iterator c.next.new.self c.in-Some.edge c.in-Some.ensures.steps
+    c.loop-edge.invariant.edges in
     omega (
       arith,
       c.index.ensures,
@@ -59,7 +60,8 @@ offset_bounds-ways-index-then-is_of c =
 
 pub bounds-ways-index-then-is_of : goal.bounds-ways-index-then-is_of
 bounds-ways-index-then-is_of c =
-    nearest_place c.args.script.now c.requires.script c.args.ways.now c.requires.long c.loop-edge.nearest c.loop-edge.invariant.is_edge c.index-then-is_of.result c.index-then-is_of.ensures
+    nearest_place c.args.script.now c.requires.script c.args.ways.now c.requires.long c.loop-edge.nearest c.loop-edge.invariant.is_edge
+    c.index-then-is_of.result c.index-then-is_of.ensures
 
 -- this edge is nearer
 pub loop-edge-preserved-then-ways-index : goal.loop-edge-preserved-then-ways-index
@@ -126,5 +128,6 @@ returns c =
       leaves = inv.leaves;
       way = inv.way;
       has_way = inv.has_way;
-      nearest = λ f flow kind leaves other has. gone_end c.args.script.now c.args.closing.from c.loop-edge.yielded c.loop-edge.edge-iterator c.in-None.ensures.steps.0 inv.edges f (flow, leaves) kind other has;
+      nearest = λ f flow kind leaves other has. gone_end c.args.script.now c.args.closing.from c.loop-edge.yielded c.loop-edge.edge-iterator
+          c.in-None.ensures.steps.0 inv.edges f (flow, leaves) kind other has;
     }

@@ -7,7 +7,8 @@ use Rattle.sedck_search.proofs.ways.edge_on.Goals as goal
 pub bounds-ways-index : goal.bounds-ways-index
 bounds-ways-index c =
     let p = c.args.script.now in
-    let gone = gone_next p c.args.node c.loop-edge.yielded c.loop-edge.edge-iterator c.next.new.self c.in-Some.edge c.in-Some.ensures.steps c.loop-edge.invariant in
+    let gone = gone_next p c.args.node c.loop-edge.yielded c.loop-edge.edge-iterator c.next.new.self c.in-Some.edge c.in-Some.ensures.steps
+    c.loop-edge.invariant in
     omega (
       arith,
       c.index.ensures,
@@ -18,19 +19,22 @@ bounds-ways-index c =
 pub returns-then-ways-index-clause-followed : goal.returns-then-ways-index-clause-followed
 returns-then-ways-index-clause-followed c =
     let p = c.args.script.now in
-    let gone = gone_next p c.args.node c.loop-edge.yielded c.loop-edge.edge-iterator c.next.new.self c.in-Some.edge c.in-Some.ensures.steps c.loop-edge.invariant in
+    let gone = gone_next p c.args.node c.loop-edge.yielded c.loop-edge.edge-iterator c.next.new.self c.in-Some.edge c.in-Some.ensures.steps
+    c.loop-edge.invariant in
     ((edge_coming p c.args.node c.loop-edge.yielded c.next.new.self c.in-Some.edge gone).0, c.follows.ensures.0 c.if-follows.true)
 
 pub returns-then-ways-index-clause-leaves : goal.returns-then-ways-index-clause-leaves
 returns-then-ways-index-clause-leaves c =
     let p = c.args.script.now in
-    let gone = gone_next p c.args.node c.loop-edge.yielded c.loop-edge.edge-iterator c.next.new.self c.in-Some.edge c.in-Some.ensures.steps c.loop-edge.invariant in
+    let gone = gone_next p c.args.node c.loop-edge.yielded c.loop-edge.edge-iterator c.next.new.self c.in-Some.edge c.in-Some.ensures.steps
+    c.loop-edge.invariant in
     (edge_coming p c.args.node c.loop-edge.yielded c.next.new.self c.in-Some.edge gone).1
 
 pub returns-then-ways-index-clause-way : goal.returns-then-ways-index-clause-way
 returns-then-ways-index-clause-way c =
     let p = c.args.script.now in
-    let gone = gone_next p c.args.node c.loop-edge.yielded c.loop-edge.edge-iterator c.next.new.self c.in-Some.edge c.in-Some.ensures.steps c.loop-edge.invariant in
+    let gone = gone_next p c.args.node c.loop-edge.yielded c.loop-edge.edge-iterator c.next.new.self c.in-Some.edge c.in-Some.ensures.steps
+    c.loop-edge.invariant in
     let below : c.index.result < length c.args.ways.now =
     omega (
       arith,
@@ -44,7 +48,8 @@ returns-then-ways-index-clause-way c =
 pub loop-edge-preserved : goal.loop-edge-preserved
 loop-edge-preserved c =
     let p = c.args.script.now in
-    let gone = gone_next p c.args.node c.loop-edge.yielded c.loop-edge.edge-iterator c.next.new.self c.in-Some.edge c.in-Some.ensures.steps c.loop-edge.invariant in
+    let gone = gone_next p c.args.node c.loop-edge.yielded c.loop-edge.edge-iterator c.next.new.self c.in-Some.edge c.in-Some.ensures.steps
+    c.loop-edge.invariant in
     gone_over_more p c.args.node c.loop-edge.yielded c.next.new.self c.in-Some.edge gone (λ f h. h) (λ followed has. elim c.else-follows.branch [
       | else-follows-via-then-follows+else-ways-index w ↦ w.if-ways-index.false
           (entry_of c.args.ways.now c.in-Some.edge.to w.index.result c.args.way w.index.ensures has)

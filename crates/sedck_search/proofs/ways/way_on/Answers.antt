@@ -7,7 +7,8 @@ use Rattle.sedck_search.proofs.ways.way_on.Goals as goal
 pub bounds-ways-index : goal.bounds-ways-index
 bounds-ways-index c =
     let p = c.args.script.now in
-    let gone = gone_next p c.args.node c.loop-edge.yielded c.loop-edge.edge-iterator c.next.new.self c.in-Some.edge c.in-Some.ensures.steps c.loop-edge.invariant.edges in
+    let gone = gone_next p c.args.node c.loop-edge.yielded c.loop-edge.edge-iterator c.next.new.self c.in-Some.edge c.in-Some.ensures.steps
+    c.loop-edge.invariant.edges in
     omega (
       arith,
       c.index.ensures,
@@ -52,7 +53,8 @@ loop-edge-preserved-then-follows c =
 pub loop-edge-preserved : goal.loop-edge-preserved
 loop-edge-preserved c =
     let p = c.args.script.now in
-    let gone = gone_next p c.args.node c.loop-edge.yielded c.loop-edge.edge-iterator c.next.new.self c.in-Some.edge c.in-Some.ensures.steps c.loop-edge.invariant.edges in
+    let gone = gone_next p c.args.node c.loop-edge.yielded c.loop-edge.edge-iterator c.next.new.self c.in-Some.edge c.in-Some.ensures.steps
+    c.loop-edge.invariant.edges in
     record {
       edges = gone_over_more p c.args.node c.loop-edge.yielded c.next.new.self c.in-Some.edge gone (λ f held. held)
           (λ followed after h. absurd (true≢false (sym (c.follows.ensures.1 followed) ∙ c.if-follows.false)));

@@ -33,7 +33,8 @@ loop-before-preserved c =
     let left = c.from-count.result - (length c.loop-before.names.items + 1) in
     rw c.in_ok-push.ensures.items (
       leads_name _ c.args.files c.from-count.result
-          (one_before c.loop-before.before) c.loop-before.size _ c.loop-before.names.items c.in_ok-from_slice.field-0 c.in_ok-name.name.now below c.in_ok-from_slice.ensures.items c.loop-before.invariant.0 (c.in_ok-name.ensures.read c.args.files left),
+          (one_before c.loop-before.before) c.loop-before.size _ c.loop-before.names.items c.in_ok-from_slice.field-0 c.in_ok-name.name.now below
+          c.in_ok-from_slice.ensures.items c.loop-before.invariant.0 (c.in_ok-name.ensures.read c.args.files left),
       grind (arith, common_steps),
       omega (arith, c.in_ok-name.ensures.within),
     )

@@ -15,7 +15,8 @@ loop-at-init c = first_none c.self.inside.words c.args.self.now c.args.from c.se
 
 pub returns-then-word-ne0-2 : goal.returns-then-word-ne0-2
 returns-then-word-ne0-2 c =
-    later_next c.self.inside.words c.args.self.now c.args.from c.loop-at.at c.self.view_is c.self.invariant c.loop-at-test.true c.loop-at.auto.at c.loop-at.invariant c.if-word-ne0-2.true
+    later_next c.self.inside.words c.args.self.now c.args.from c.loop-at.at c.self.view_is c.self.invariant c.loop-at-test.true c.loop-at.auto.at
+    c.loop-at.invariant c.if-word-ne0-2.true
 
 pub loop-at-preserved : goal.loop-at-preserved
 loop-at-preserved c =
