@@ -1,10 +1,6 @@
 //! Certificates as tables: what is read, what is refused and at which line, the limits, and what is written.
-mod limits;
-mod read;
+pub mod read;
 mod refused;
-
-use sedck_cert::read_cert;
-use std::alloc::Global;
 
 /// The certificate of an endless script of three commands.
 const ENDLESS: &[u8] =
@@ -13,11 +9,3 @@ const ENDLESS: &[u8] =
 /// One with six names, of odd bytes, that are read.
 const NAMED: &[u8] =
     b"sedck 1\ncommands 6\n0 0 9 9\n0 1 -\n1 0 8 8\n1 1 -\n2 0 7 7\n2 1 -\n3 0 6 6\n3 1 -\n4 0 5 5\n4 1 -\n5 0 4 4\n5 1 -\n6 0 3 3\n6 1 -\nread 6\nZ\na\na b \na;b}\nend\n\xe9\nwrite 0\nend\n";
-
-/// The number of the fault and its line. Zeros stand for a text that is read.
-fn fault_of(alloc: Global, text: &[u8]) -> (u8, usize) {
-    match read_cert(alloc, text) {
-        Ok(_) => (0, 0),
-        Err(fault) => (fault.number(), fault.line().unwrap_or(0)),
-    }
-}

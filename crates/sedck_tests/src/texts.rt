@@ -1,27 +1,77 @@
-//! Long texts, made of short ones.
-use std::alloc::{AllocError, Global};
-use std::test::Fail;
+//! Long texts, made of short ones, and what is told of texts that are read.
+use std::alloc::Global;
+use std::process::Abort;
 
 /// A part of a text, and how many times it stands there.
 pub type Part = (&'static [u8], usize);
 
 /// The parts one after another, each so many times.
-pub fn repeated(alloc: Global, parts: &[Part]) -> Result<Vec<u8>, AllocError> {
+pub fn repeated(rt: &impl Abort, alloc: Global, parts: &[Part]) -> Vec<u8> {
     let mut text = Vec::new(alloc);
     for (part, times) in parts {
         for _ in 0..*times {
-            text.extend_from_slice(*part)?;
+            text.extend_from_slice(*part).expect(rt, "memory");
         }
     }
-    Ok(text)
+    text
 }
 
 /// So many copies of the piece, each with its number, from the first on, in place of `@`.
-pub fn numbered(alloc: Global, piece: &str, first: u16, count: u16) -> Result<String, Fail> {
+pub fn numbered(rt: &impl Abort, alloc: Global, piece: &str, first: u16, count: u16) -> String {
     let mut text = String::new(alloc);
     for at in 0..u32::from(count) {
-        let number = format!(in alloc; "{}", u32::from(first) + at)?;
-        text.push_str(&piece.replace(alloc, "@", &number)?)?;
+        let number = format!(in alloc; "{}", u32::from(first) + at).expect(rt, "memory");
+        let copy = piece.replace(alloc, "@", &number).expect(rt, "memory");
+        text.push_str(&copy).expect(rt, "memory");
     }
-    Ok(text)
+    text
+}
+
+/// What a text is to be.
+pub enum Kind {
+    Expression,
+    Script,
+    Certificate,
+}
+
+/// The number and the place of the fault, or its line in a certificate; zeros for a text that is read.
+pub fn fault_of(alloc: Global, kind: &Kind, text: &[u8]) -> (u8, usize) {
+    let (number, place) = match kind {
+        Kind::Expression => match sedck_bre::parse(alloc, text) {
+            Ok(_) => return (0, 0),
+            Err(fault) => (fault.number(), fault.place()),
+        },
+        Kind::Script => match sedck_script::parse(alloc, text) {
+            Ok(_) => return (0, 0),
+            Err(fault) => (fault.number(), fault.place()),
+        },
+        Kind::Certificate => match sedck_cert::read_cert(alloc, text) {
+            Ok(_) => return (0, 0),
+            Err(fault) => (fault.number(), fault.line()),
+        },
+    };
+    (number, place.unwrap_or(usize::MAX))
+}
+
+/// A text, and the number and the place of its fault; zeros for a text that is read.
+pub type Row = (&'static [u8], u8, usize);
+
+pub fn have_faults(rt: &impl Abort, alloc: Global, kind: &Kind, rows: &[Row]) {
+    for (text, number, place) in rows {
+        assert_eq!(rt; fault_of(alloc, kind, text), (*number, *place), "{text:?}");
+    }
+}
+
+/// The parts of a text, and the number and the place of its fault; zeros for a text that is read.
+pub type LongRow = (&'static [Part], u8, usize);
+
+pub fn long_texts_have_faults(rt: &impl Abort, alloc: Global, kind: &Kind, rows: &[LongRow]) {
+    for (parts, number, place) in rows {
+        let text = repeated(rt, alloc, *parts);
+        assert_eq!(rt;
+            fault_of(alloc, kind, &text),
+            (*number, *place),
+            "{parts:?}"
+        );
+    }
 }

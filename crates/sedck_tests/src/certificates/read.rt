@@ -1,9 +1,29 @@
 //! Certificates that are read, written or made, and the words of faults.
 use super::{ENDLESS, NAMED};
+use crate::texts::numbered;
 use sedck_cert::streams::FromWrite;
 use sedck_cert::{Cert, CertFault, read_cert, write_cert};
-use std::alloc::{AllocError, Global};
-use std::test::Fail;
+use std::alloc::Global;
+use std::process::Abort;
+
+/// The certificate of the text, which is written as it was read.
+fn read(rt: &impl Abort, alloc: Global, text: &[u8]) -> Cert {
+    let Ok(cert) = read_cert(alloc, text) else {
+        panic!(rt; "refused: {text:?}");
+    };
+    let mut out = FromWrite::new(Vec::new(alloc));
+    assert!(rt; write_cert(&cert, &mut out).is_ok());
+    assert_eq!(rt; out.into_inner().as_slice(), text);
+    cert
+}
+
+/// Whether the names are these.
+pub fn are_names(rt: &impl Abort, names: &[Vec<u8>], wanted: &[&[u8]]) {
+    assert_eq!(rt; names.len(), wanted.len(), "{wanted:?}");
+    for (name, wanted) in names.iter().zip(wanted) {
+        assert_eq!(rt; name.as_slice(), *wanted);
+    }
+}
 
 /// The ranks of the endless script.
 static RANKS: [Option<(u16, u16)>; 8] = [
@@ -17,44 +37,30 @@ static RANKS: [Option<(u16, u16)>; 8] = [
     None,
 ];
 
-#[test]
-fn reads_endless(rt: HostRuntime) {
-    match read_cert(rt.alloc(), ENDLESS) {
-        Ok(cert) => {
-            assert_eq!(rt;
-                (cert.commands(), cert.reads().len(), cert.writes().len()),
-                (3, 0, 0)
-            );
-            assert_eq!(rt; cert.ranks(), RANKS.as_slice());
-        }
-        Err(_) => panic!(rt; "refused"),
-    }
-}
-
 static NAMES: [&'static [u8]; 6] = [b"Z", b"a", b"a b ", b"a;b}", b"end", b"\xe9"];
 
 #[test]
-fn reads_names(rt: HostRuntime) {
-    match read_cert(rt.alloc(), NAMED) {
-        Ok(cert) => {
-            assert_eq!(rt; (cert.reads().len(), cert.writes().len()), (6, 0));
-            for (name, wanted) in cert.reads().iter().zip(&NAMES) {
-                assert_eq!(rt; name.as_slice(), *wanted);
-            }
-        }
-        Err(_) => panic!(rt; "refused"),
-    }
+fn reads(rt: HostRuntime) {
+    let cert = read(&rt, rt.alloc(), ENDLESS);
+    assert_eq!(rt; cert.commands(), 3);
+    assert_eq!(rt; cert.ranks(), RANKS.as_slice());
+    are_names(&rt, cert.reads(), &[]);
+    are_names(&rt, cert.writes(), &[]);
+    let cert = read(&rt, rt.alloc(), NAMED);
+    are_names(&rt, cert.reads(), &NAMES);
+    are_names(&rt, cert.writes(), &[]);
 }
 
+/// As many names as a list may have, and as many nodes.
 #[test]
-fn writes_what_was_read(rt: HostRuntime) -> Result<(), Fail> {
-    for text in [ENDLESS, NAMED] {
-        let cert = read_cert(rt.alloc(), text)?;
-        let mut out = FromWrite::new(Vec::new(rt.alloc()));
-        assert!(rt; write_cert(&cert, &mut out).is_ok());
-        assert_eq!(rt; out.into_inner().as_slice(), text);
-    }
-    Ok(())
+fn reads_the_most(rt: HostRuntime) {
+    let nodes = numbered(&rt, rt.alloc(), "@ 0 @ @\n@ 1 -\n", 0, 4096);
+    let names = numbered(&rt, rt.alloc(), "@\n", 1000, 4095);
+    let text = format!(in rt.alloc();
+        "sedck 1\ncommands 4095\n{nodes}read 4095\n{names}write 4095\n{names}end\n"
+    );
+    let cert = read(&rt, rt.alloc(), text.expect(&rt, "memory").as_bytes());
+    assert_eq!(rt; (cert.ranks().len(), cert.writes().len()), (8192, 4095));
 }
 
 static FAULTS: [(CertFault, &'static str); 6] = [
@@ -75,37 +81,40 @@ static FAULTS: [(CertFault, &'static str); 6] = [
     (CertFault::OutOfMemory, "fault 6 out-of-memory"),
 ];
 
-#[test]
-fn prints_faults(rt: HostRuntime) -> Result<(), Fail> {
-    for (fault, text) in &FAULTS {
-        let printed = format!(in rt.alloc(); "{fault}")?;
-        assert_eq!(rt; printed.as_str(), *text);
-    }
-    Ok(())
-}
-
 /// Whether there is a certificate with so many nodes and these names to read.
-fn is_made(alloc: Global, commands: u16, nodes: u16, names: &[&[u8]]) -> Result<bool, AllocError> {
+fn is_made(rt: &impl Abort, alloc: Global, commands: u16, nodes: u16, names: &[&[u8]]) -> bool {
     let mut ranks = Vec::new(alloc);
     for _ in 0..nodes {
-        ranks.push(None)?;
+        ranks.push(None).expect(rt, "memory");
     }
     let mut reads = Vec::new(alloc);
     for name in names {
-        reads.push(Vec::from_slice(alloc, *name)?)?;
+        reads
+            .push(Vec::from_slice(alloc, *name).expect(rt, "memory"))
+            .expect(rt, "memory");
     }
-    Ok(Cert::new(commands, ranks, reads, Vec::new(alloc)).is_some())
+    Cert::new(commands, ranks, reads, Vec::new(alloc)).is_some()
 }
 
+/// The number of commands and of nodes, the names to read, and whether there is such a certificate.
+static MADE: [(u16, u16, &'static [&'static [u8]], bool); 7] = [
+    (0, 2, &[], true),
+    (0, 1, &[], false),
+    (1, 2, &[], false),
+    (4096, 8194, &[], false),
+    (0, 2, &[b"a", b"b"], true),
+    (0, 2, &[b"a", b"a"], false),
+    (0, 2, &[b"a\0"], false),
+];
+
 #[test]
-fn makes_certificates(rt: HostRuntime) -> Result<(), Fail> {
-    let alloc = rt.alloc();
-    assert!(rt; is_made(alloc, 0, 2, &[])?);
-    assert!(rt; !is_made(alloc, 0, 1, &[])?);
-    assert!(rt; !is_made(alloc, 1, 2, &[])?);
-    assert!(rt; !is_made(alloc, 4096, 8194, &[])?);
-    assert!(rt; is_made(alloc, 0, 2, &[b"a", b"b"])?);
-    assert!(rt; !is_made(alloc, 0, 2, &[b"a", b"a"])?);
-    assert!(rt; !is_made(alloc, 0, 2, &[b"a\0"])?);
-    Ok(())
+fn faults_and_makes(rt: HostRuntime) {
+    for (fault, text) in &FAULTS {
+        let printed = format!(in rt.alloc(); "{fault}").expect(&rt, "memory");
+        assert_eq!(rt; printed.as_str(), *text);
+    }
+    for (commands, nodes, names, wanted) in &MADE {
+        let made = is_made(&rt, rt.alloc(), *commands, *nodes, *names);
+        assert_eq!(rt; made, *wanted, "{commands} {nodes} {names:?}");
+    }
 }

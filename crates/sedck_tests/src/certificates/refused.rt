@@ -1,51 +1,19 @@
 //! Texts that are no certificates: the number of the fault and its line.
-use super::{ENDLESS, NAMED, fault_of};
+use super::{ENDLESS, NAMED};
+use crate::texts::{Kind, LongRow, fault_of, long_texts_have_faults};
 use bstr::ByteSlice;
-use std::alloc::{AllocError, Global};
+use std::alloc::Global;
 use std::process::Abort;
-
-/// The first and the last size that has a fault, its number, and its line.
-static CUTS: [(usize, usize, u8, usize); 13] = [
-    (0, 7, 1, 1),
-    (8, 18, 2, 2),
-    (19, 26, 3, 3),
-    (27, 32, 3, 4),
-    (33, 40, 3, 5),
-    (41, 46, 3, 6),
-    (47, 54, 3, 7),
-    (55, 60, 3, 8),
-    (61, 66, 3, 9),
-    (67, 72, 3, 10),
-    (73, 79, 4, 11),
-    (80, 87, 4, 12),
-    (88, 91, 5, 13),
-];
-
-#[test]
-fn refuses_cut_texts(rt: HostRuntime) {
-    assert_eq!(rt; ENDLESS.len(), 92);
-    for (size, _) in ENDLESS.iter().enumerate() {
-        for (first, last, number, line) in &CUTS {
-            if *first <= size && size <= *last {
-                assert_eq!(rt;
-                    fault_of(rt.alloc(), &ENDLESS[..size]),
-                    (*number, *line),
-                    "cut to {size}"
-                );
-            }
-        }
-    }
-}
 
 /// A part of a text, what stands in its place, and the number and the line of the fault; zeros for none.
 type Row = (&'static [u8], &'static [u8], u8, usize);
 
-fn refused(rt: &impl Abort, alloc: Global, text: &[u8], rows: &[Row]) -> Result<(), AllocError> {
+fn changed_have_faults(rt: &impl Abort, alloc: Global, text: &[u8], rows: &[Row]) {
     for (old, new, number, line) in rows {
-        let text = text.replace(alloc, *old, *new)?;
-        assert_eq!(rt; fault_of(alloc, &text), (*number, *line), "{new:?}");
+        let text = text.replace(alloc, *old, *new).expect(rt, "memory");
+        let fault = fault_of(alloc, &Kind::Certificate, &text);
+        assert_eq!(rt; fault, (*number, *line), "{new:?}");
     }
-    Ok(())
 }
 
 static CHANGED: [Row; 23] = [
@@ -74,11 +42,6 @@ static CHANGED: [Row; 23] = [
     (b"end\n", b"end", 5, 13),
 ];
 
-#[test]
-fn refuses_changed_texts(rt: HostRuntime) -> Result<(), AllocError> {
-    refused(&rt, rt.alloc(), ENDLESS, &CHANGED)
-}
-
 static CHANGED_NAMES: [Row; 15] = [
     (b"read 6\n", b"read 06\n", 4, 17),
     (b"read 6\n", b"read 5\n", 4, 23),
@@ -97,11 +60,6 @@ static CHANGED_NAMES: [Row; 15] = [
     (b"write 0\n", b"write 1\n", 5, 26),
 ];
 
-#[test]
-fn refuses_changed_names(rt: HostRuntime) -> Result<(), AllocError> {
-    refused(&rt, rt.alloc(), NAMED, &CHANGED_NAMES)
-}
-
 /// The certificate of the script without commands.
 const EMPTY: &[u8] = b"sedck 1\ncommands 0\n0 0 1 1\n0 1 -\nread 0\nwrite 0\nend\n";
 
@@ -119,6 +77,105 @@ static NUMBERS: [Row; 10] = [
 ];
 
 #[test]
-fn limits_of_numbers(rt: HostRuntime) -> Result<(), AllocError> {
-    refused(&rt, rt.alloc(), EMPTY, &NUMBERS)
+fn changed_texts(rt: HostRuntime) {
+    changed_have_faults(&rt, rt.alloc(), ENDLESS, &CHANGED);
+    changed_have_faults(&rt, rt.alloc(), NAMED, &CHANGED_NAMES);
+    changed_have_faults(&rt, rt.alloc(), EMPTY, &NUMBERS);
+}
+
+/// The first and the last size that has a fault, its number, and its line.
+static CUTS: [(usize, usize, u8, usize); 13] = [
+    (0, 7, 1, 1),
+    (8, 18, 2, 2),
+    (19, 26, 3, 3),
+    (27, 32, 3, 4),
+    (33, 40, 3, 5),
+    (41, 46, 3, 6),
+    (47, 54, 3, 7),
+    (55, 60, 3, 8),
+    (61, 66, 3, 9),
+    (67, 72, 3, 10),
+    (73, 79, 4, 11),
+    (80, 87, 4, 12),
+    (88, 91, 5, 13),
+];
+
+/// What stands before the lists where there is no command, and the line of the names that are read.
+const HEAD: &[u8] = b"sedck 1\ncommands 0\n0 0 1 1\n0 1 -\nread 1\n";
+
+/// The line of the names that are written.
+const WRITE: &[u8] = b"\nwrite 1\n";
+
+const END: &[u8] = b"\nend\n";
+
+/// A long name read, and a long name written.
+static NAMES: [LongRow; 5] = [
+    (
+        &[
+            (HEAD, 1),
+            (b"n", 524_287),
+            (WRITE, 1),
+            (b"n", 524_287),
+            (END, 1),
+        ],
+        0,
+        0,
+    ),
+    (
+        &[
+            (HEAD, 1),
+            (b"n", 524_287),
+            (WRITE, 1),
+            (b"n", 524_288),
+            (END, 1),
+        ],
+        4,
+        8,
+    ),
+    (
+        &[
+            (HEAD, 1),
+            (b"n", 524_288),
+            (WRITE, 1),
+            (b"n", 524_287),
+            (END, 1),
+        ],
+        4,
+        8,
+    ),
+    (
+        &[
+            (HEAD, 1),
+            (b"n", 1_048_573),
+            (WRITE, 1),
+            (b"n", 1),
+            (END, 1),
+        ],
+        0,
+        0,
+    ),
+    (
+        &[
+            (HEAD, 1),
+            (b"n", 1_048_576),
+            (WRITE, 1),
+            (b"n", 1),
+            (END, 1),
+        ],
+        4,
+        6,
+    ),
+];
+
+#[test]
+fn cut_and_long_texts(rt: HostRuntime) {
+    assert_eq!(rt; ENDLESS.len(), 92);
+    for (first, last, number, line) in &CUTS {
+        assert!(rt; *last < ENDLESS.len());
+        for size in *first..*last + 1 {
+            let fault = fault_of(rt.alloc(), &Kind::Certificate, &ENDLESS[..size]);
+            assert_eq!(rt; fault, (*number, *line), "cut to {size}");
+        }
+    }
+    long_texts_have_faults(&rt, rt.alloc(), &Kind::Certificate, &NAMES);
 }

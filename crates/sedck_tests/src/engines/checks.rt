@@ -1,27 +1,19 @@
 //! What the engines tell and write.
-use super::runs::{Engine, is_answered};
+use super::runs::{Engine, NEVER, is_answered};
 use super::{ACCEPTED, EMPTY_CERTIFICATE, LOOP, LOOP_CERTIFICATE, LOOP_GRAPH};
 use std::alloc::Global;
 use std::process::Abort;
-use std::test::Fail;
 
 /// The texts of a script and a certificate, and what is told and written.
 type Row = (&'static str, &'static str, &'static str, &'static str);
 
-fn are_answered(rt: &impl Abort, alloc: Global, engine: Engine, rows: &[Row]) -> Result<(), Fail> {
+fn are_answered(rt: &impl Abort, alloc: Global, engine: &Engine, rows: &[Row]) {
     for (script, certificate, told, report) in rows {
         for piece in [1, 7, 100_000] {
-            is_answered(
-                rt,
-                alloc,
-                engine,
-                (*script, *certificate),
-                piece,
-                (*told, *report),
-            )?;
+            let (texts, answer) = ((*script, *certificate), (*told, *report));
+            is_answered(rt, alloc, engine, texts, piece, &NEVER, answer);
         }
     }
-    Ok(())
 }
 
 /// A certificate for the script `:a`, `b a`.
@@ -45,11 +37,6 @@ static VERDICTS: [Row; 4] = [
     (LOOP, EMPTY_CERTIFICATE, "no", "rejected 1 wrong-count\n"),
 ];
 
-#[test]
-fn verdicts(rt: HostRuntime) -> Result<(), Fail> {
-    are_answered(&rt, rt.alloc(), Engine::Check, &VERDICTS)
-}
-
 static NAMES: [Row; 8] = [
     ("", "", "yes", "read 0\nwrite 0\n"),
     (LOOP, "", "yes", "read 0\nwrite 0\n"),
@@ -65,11 +52,6 @@ static NAMES: [Row; 8] = [
     ("w same\nr same", "", "yes", "read 1\nsame\nwrite 1\nsame\n"),
     ("b z", "", "script fault 15 unknown-label at 2", ""),
 ];
-
-#[test]
-fn names(rt: HostRuntime) -> Result<(), Fail> {
-    are_answered(&rt, rt.alloc(), Engine::Files, &NAMES)
-}
 
 static GRAPHS: [Row; 9] = [
     (
@@ -118,11 +100,6 @@ static GRAPHS: [Row; 9] = [
     ("b z", "", "script fault 15 unknown-label at 2", ""),
 ];
 
-#[test]
-fn graphs(rt: HostRuntime) -> Result<(), Fail> {
-    are_answered(&rt, rt.alloc(), Engine::Graph, &GRAPHS)
-}
-
 /// A script and its fault.
 static REFUSED: [(&'static str, &'static str); 7] = [
     ("k", "script fault 3 unknown-command at 0"),
@@ -135,14 +112,16 @@ static REFUSED: [(&'static str, &'static str); 7] = [
 ];
 
 #[test]
-fn refused_scripts(rt: HostRuntime) -> Result<(), Fail> {
+fn answers(rt: HostRuntime) {
+    are_answered(&rt, rt.alloc(), &Engine::Check, &VERDICTS);
+    are_answered(&rt, rt.alloc(), &Engine::Files, &NAMES);
+    are_answered(&rt, rt.alloc(), &Engine::Graph, &GRAPHS);
     for (script, fault) in &REFUSED {
         for certificate in [LOOP_CERTIFICATE, "x", ""] {
-            let texts = (*script, certificate);
-            is_answered(&rt, rt.alloc(), Engine::Check, texts, 5, (*fault, ""))?;
+            let row = (*script, certificate, *fault, "");
+            are_answered(&rt, rt.alloc(), &Engine::Check, &[row]);
         }
     }
-    Ok(())
 }
 
 /// A part of the loop's certificate, what stands in its place, and what is told and written.
@@ -174,47 +153,46 @@ static CHANGED: [Row; 5] = [
     ),
 ];
 
-#[test]
-fn changed_certificates(rt: HostRuntime) -> Result<(), Fail> {
-    for (old, new, told, report) in &CHANGED {
-        let certificate = LOOP_CERTIFICATE.replace(rt.alloc(), *old, *new)?;
-        let texts = (LOOP, certificate.as_str());
-        is_answered(&rt, rt.alloc(), Engine::Check, texts, 64, (*told, *report))?;
-    }
-    Ok(())
-}
-
-/// The first length that has this fault, the fault, and its line.
-static CUT: [(usize, &'static str, usize); 13] = [
-    (0, "1 bad-header", 1),
-    (8, "2 bad-count", 2),
-    (19, "3 bad-node", 3),
-    (27, "3 bad-node", 4),
-    (33, "3 bad-node", 5),
-    (41, "3 bad-node", 6),
-    (47, "3 bad-node", 7),
-    (55, "3 bad-node", 8),
-    (61, "3 bad-node", 9),
-    (67, "3 bad-node", 10),
-    (73, "4 bad-names", 11),
-    (80, "4 bad-names", 12),
-    (88, "5 bad-end", 13),
+/// The first length that has this fault, the one behind the last, and what is told.
+static CUT: [(usize, usize, &'static str); 13] = [
+    (0, 8, "certificate fault 1 bad-header at line 1"),
+    (8, 19, "certificate fault 2 bad-count at line 2"),
+    (19, 27, "certificate fault 3 bad-node at line 3"),
+    (27, 33, "certificate fault 3 bad-node at line 4"),
+    (33, 41, "certificate fault 3 bad-node at line 5"),
+    (41, 47, "certificate fault 3 bad-node at line 6"),
+    (47, 55, "certificate fault 3 bad-node at line 7"),
+    (55, 61, "certificate fault 3 bad-node at line 8"),
+    (61, 67, "certificate fault 3 bad-node at line 9"),
+    (67, 73, "certificate fault 3 bad-node at line 10"),
+    (73, 80, "certificate fault 4 bad-names at line 11"),
+    (80, 88, "certificate fault 4 bad-names at line 12"),
+    (88, 92, "certificate fault 5 bad-end at line 13"),
 ];
 
 #[test]
-fn cut_certificates(rt: HostRuntime) -> Result<(), Fail> {
-    for length in 0..92 {
-        let cut = LOOP_CERTIFICATE.get(..length).ok_or("too long")?;
-        let (_, name, line) = CUT.iter().rfind(|row| row.0 <= length).ok_or("no row")?;
-        let fault = format!(in rt.alloc(); "certificate fault {name} at line {line}")?;
-        is_answered(
-            &rt,
-            rt.alloc(),
-            Engine::Check,
-            (LOOP, cut),
-            64,
-            (&fault, ""),
-        )?;
+fn certificates(rt: HostRuntime) {
+    for (old, new, told, report) in &CHANGED {
+        let certificate = LOOP_CERTIFICATE
+            .replace(rt.alloc(), *old, *new)
+            .expect(&rt, "memory");
+        let (texts, answer) = ((LOOP, certificate.as_str()), (*told, *report));
+        is_answered(&rt, rt.alloc(), &Engine::Check, texts, 64, &NEVER, answer);
     }
-    Ok(())
+    for (first, end, told) in &CUT {
+        for length in *first..*end {
+            let Some(cut) = LOOP_CERTIFICATE.get(..length) else {
+                panic!(rt; "no beginning of {length} bytes");
+            };
+            is_answered(
+                &rt,
+                rt.alloc(),
+                &Engine::Check,
+                (LOOP, cut),
+                64,
+                &NEVER,
+                (*told, ""),
+            );
+        }
+    }
 }

@@ -1,8 +1,7 @@
 //! Streams that fail, and texts that are too long.
-use super::fakes::{Given, Kept};
-use super::runs::{Engine, cannot_read, cannot_write, told};
+use super::runs::{Engine, is_answered};
 use super::{ACCEPTED, AMPLE, LOOP, LOOP_CERTIFICATE};
-use std::test::Fail;
+use crate::texts::repeated;
 
 /// The engine, a script, where its reads and the certificate's fail, and what is told.
 static SOURCES: [(Engine, &'static str, (usize, usize), &'static str); 14] = [
@@ -22,16 +21,6 @@ static SOURCES: [(Engine, &'static str, (usize, usize), &'static str); 14] = [
     (Engine::Graph, LOOP, (8, AMPLE), "cannot read script"),
 ];
 
-#[test]
-fn failing_sources(rt: HostRuntime) -> Result<(), Fail> {
-    assert_eq!(rt; LOOP.len(), 8);
-    for (engine, script, ends, fault) in &SOURCES {
-        let texts = (*script, LOOP_CERTIFICATE);
-        cannot_read(&rt, rt.alloc(), *engine, texts, *ends, fault)?;
-    }
-    Ok(())
-}
-
 /// The engine, a script, a certificate, and the report.
 static SINKS: [(Engine, &'static str, &'static str, &'static str); 3] = [
     (Engine::Check, LOOP, LOOP_CERTIFICATE, ACCEPTED),
@@ -45,14 +34,29 @@ static SINKS: [(Engine, &'static str, &'static str, &'static str); 3] = [
 ];
 
 #[test]
-fn failing_sinks(rt: HostRuntime) -> Result<(), Fail> {
+fn failing_streams(rt: HostRuntime) {
+    assert_eq!(rt; LOOP.len(), 8);
+    for (engine, script, ends, fault) in &SOURCES {
+        let (texts, ends) = ((*script, LOOP_CERTIFICATE), (ends.0, ends.1, AMPLE));
+        is_answered(&rt, rt.alloc(), engine, texts, 2, &ends, (*fault, ""));
+    }
     for (engine, script, certificate, report) in &SINKS {
         for room in 0..report.len() {
-            let front = report.as_bytes().get(..room).ok_or("too long")?;
-            cannot_write(&rt, rt.alloc(), *engine, (*script, *certificate), front)?;
+            let Some(front) = report.get(..room) else {
+                panic!(rt; "no beginning of {room} bytes");
+            };
+            let (texts, ends) = ((*script, *certificate), (AMPLE, AMPLE, room));
+            is_answered(
+                &rt,
+                rt.alloc(),
+                engine,
+                texts,
+                4,
+                &ends,
+                ("cannot write", front),
+            );
         }
     }
-    Ok(())
 }
 
 /// Whether the long text is the certificate's, how much is given of the script and of the certificate before reads fail,
@@ -76,25 +80,24 @@ static LIMITS: [(bool, usize, usize, &'static str); 5] = [
 ];
 
 #[test]
-fn limits(rt: HostRuntime) -> Result<(), Fail> {
-    let long = vec![in rt.alloc(); b'\n'; 1_400_000]?;
+fn limits(rt: HostRuntime) {
+    let long = repeated(&rt, rt.alloc(), &[(b"\n", 1_400_000)]);
+    let long = String::from_utf8(long).expect(&rt, "text");
     for (is_certificate, script_end, certificate_end, fault) in &LIMITS {
-        let (script, certificate): (&[u8], &[u8]) = if *is_certificate {
-            (&[], &long)
+        let texts = if *is_certificate {
+            ("", long.as_str())
         } else {
-            (&long, &[])
+            (long.as_str(), "")
         };
-        let mut script = Given::new(script, 100_000, *script_end);
-        let mut certificate = Given::new(certificate, 100_000, *certificate_end);
-        let mut out = Kept::new(rt.alloc(), 1, 0);
-        let told = told(
+        let ends = (*script_end, *certificate_end, 0);
+        is_answered(
+            &rt,
             rt.alloc(),
-            Engine::Check,
-            &mut script,
-            &mut certificate,
-            &mut out,
-        )?;
-        assert_eq!(rt; told.as_str(), *fault, "{script_end} {certificate_end}");
+            &Engine::Check,
+            texts,
+            100_000,
+            &ends,
+            (*fault, ""),
+        );
     }
-    Ok(())
 }

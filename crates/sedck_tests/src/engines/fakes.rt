@@ -3,26 +3,14 @@
 ghost use Rattle.std.specs.Prelude.{None};
 
 use sedck_cert::streams::{Failed, Sink, Source};
-use std::alloc::Global;
 
 /// Gives its text in pieces, and fails once so much was given.
 #[derive(Drop)]
 pub struct Given<'a> {
-    text: &'a [u8],
-    piece: usize,
-    before_failure: usize,
-    failed: bool,
-}
-
-impl<'a> Given<'a> {
-    pub fn new(text: &'a [u8], piece: usize, before_failure: usize) -> Given<'a> {
-        Given {
-            text,
-            piece,
-            before_failure,
-            failed: false,
-        }
-    }
+    pub text: &'a [u8],
+    pub piece: usize,
+    pub before_failure: usize,
+    pub failed: bool,
 }
 
 impl Source for Given<'_> {
@@ -55,25 +43,10 @@ impl Source for Given<'_> {
 /// Keeps what is written, in pieces, and fails once so much was written.
 #[derive(Drop)]
 pub struct Kept {
-    bytes: Vec<u8>,
-    piece: usize,
-    room: usize,
-    failed: bool,
-}
-
-impl Kept {
-    pub fn new(alloc: Global, piece: usize, room: usize) -> Kept {
-        Kept {
-            bytes: Vec::new(alloc),
-            piece,
-            room,
-            failed: false,
-        }
-    }
-
-    pub fn into_bytes(self) -> Vec<u8> {
-        self.bytes
-    }
+    pub bytes: Vec<u8>,
+    pub piece: usize,
+    pub room: usize,
+    pub failed: bool,
 }
 
 impl Sink for Kept {

@@ -2,7 +2,8 @@
 use super::fakes::Kept;
 use super::{ACCEPTED, AMPLE, EMPTY_CERTIFICATE, LOOP, LOOP_CERTIFICATE, LOOP_GRAPH};
 use sedck_cli::program;
-use std::test::Fail;
+use std::process::Abort;
+use std::rt::{Env, Files};
 use std::{env, fs, process};
 
 const USAGE: &str =
@@ -17,41 +18,60 @@ static FILES: [(&'static str, &'static str); 5] = [
     ("wrong", "x"),
 ];
 
-/// Makes a folder of the test's own, with files that the words of a row may name.
-pub fn folder(rt: &HostRuntime, test: &str) -> Result<String, Fail> {
-    let alloc = rt.alloc();
-    let temp = env::temp_dir(rt)?;
-    let id = process::id(rt.process());
-    let folder = format!(in alloc; "{}/sedck-{id}-{test}", temp.display())?;
-    fs::create_dir(rt, &folder)?;
-    for (name, text) in &FILES {
-        fs::write(rt, format!(in alloc; "{folder}/{name}")?, *text)?;
-    }
-    Ok(folder)
+pub fn write_file(rt: &(impl Files + AllocGlobal + Abort), folder: &str, name: &str, text: &str) {
+    let path = format!(in rt.alloc(); "{folder}/{name}").expect(rt, "memory");
+    fs::write(rt, path, text).expect(rt, "a file");
 }
 
-/// Runs the program on the words, of which each behind `@` is a file of the folder. Gives the status and both outputs.
-pub fn run(
-    rt: &HostRuntime,
+/// Makes a folder of the test's own, with files that the words of a row may name.
+pub fn folder(rt: &(impl Files + Env + AllocGlobal + Abort), id: u32, test: &str) -> String {
+    let temp = env::temp_dir(rt).expect(rt, "memory");
+    let folder = format!(in rt.alloc(); "{}/sedck-{id}-{test}", temp.display());
+    let folder = folder.expect(rt, "memory");
+    fs::create_dir(rt, &folder).expect(rt, "a folder");
+    for (name, text) in &FILES {
+        write_file(rt, &folder, *name, *text);
+    }
+    folder
+}
+
+/// Runs the program on the words, of which each behind `@` is a file of the folder. Whether it gives the status and
+/// prints the text, and writes the fault, or its front where there is no room on standard error.
+pub fn is_run(
+    rt: &(impl Files + AllocGlobal + Abort),
     folder: &str,
     words: &str,
     room: usize,
-) -> Result<(u8, String, String), Fail> {
+    answer: (u8, &str, &str),
+) {
     let alloc = rt.alloc();
     let mut all = Vec::new(alloc);
     for word in words.split_whitespace() {
         let word = match word.strip_prefix('@') {
-            Some(name) => format!(in alloc; "{folder}/{name}")?,
-            None => String::from_str(alloc, word)?,
+            Some(name) => format!(in alloc; "{folder}/{name}").expect(rt, "memory"),
+            None => String::from_str(alloc, word).expect(rt, "memory"),
         };
-        all.push(word)?;
+        all.push(word).expect(rt, "memory");
     }
-    let mut out = Kept::new(alloc, 5, AMPLE);
-    let mut err = Kept::new(alloc, 5, room);
+    let mut out = Kept {
+        bytes: Vec::new(alloc),
+        piece: 5,
+        room: AMPLE,
+        failed: false,
+    };
+    let mut err = Kept {
+        bytes: Vec::new(alloc),
+        piece: 5,
+        room,
+        failed: false,
+    };
     let status = program(rt, &all, &mut out, &mut err);
-    let out = String::from_utf8(out.into_bytes())?;
-    let err = String::from_utf8(err.into_bytes())?;
-    Ok((status, out, err))
+    let (wanted, printed, fault) = answer;
+    assert_eq!(rt; status, wanted, "{words}");
+    assert_eq!(rt; out.bytes.as_slice(), printed.as_bytes(), "{words}");
+    let is_front = fault.as_bytes().starts_with(&err.bytes)
+        && (room < AMPLE || fault.len() == err.bytes.len());
+    assert!(rt; is_front, "{words}: {:?}", err.bytes);
 }
 
 /// Words that get the usage line.
@@ -81,19 +101,6 @@ static WORDS: [&'static str; 24] = [
     "check @script @certificate -V",
     "check @nowhere -",
 ];
-
-#[test]
-fn words(rt: HostRuntime) -> Result<(), Fail> {
-    let folder = folder(&rt, "words")?;
-    for words in &WORDS {
-        let (status, out, err) = run(&rt, &folder, words, AMPLE)?;
-        assert_eq!(rt; status, 3, "{words}");
-        assert_eq!(rt; err.as_str(), USAGE, "{words}");
-        assert!(rt; out.is_empty(), "{words}");
-    }
-    fs::remove_dir_all(&rt, &folder)?;
-    Ok(())
-}
 
 /// Words, the status, what is printed, and what stands on standard error.
 type Row = (&'static str, u8, &'static str, &'static str);
@@ -178,17 +185,15 @@ static ROWS: [Row; 21] = [
 ];
 
 #[test]
-fn files(rt: HostRuntime) -> Result<(), Fail> {
-    let folder = folder(&rt, "files")?;
+fn programs(rt: HostRuntime) {
+    let folder = folder(&rt, process::id(rt.process()), "programs");
+    for words in &WORDS {
+        is_run(&rt, &folder, words, AMPLE, (3, "", USAGE));
+    }
     for (words, status, out, err) in &ROWS {
         for room in [0, 7, AMPLE] {
-            let (told, reported, fault) = run(&rt, &folder, words, room)?;
-            assert_eq!(rt; (told, reported.as_str()), (*status, *out), "{words}");
-            let is_front = err.starts_with(fault.as_str())
-                && (room < AMPLE || fault.len() == err.len());
-            assert!(rt; is_front, "{words}: {fault}");
+            is_run(&rt, &folder, words, room, (*status, *out, *err));
         }
     }
-    fs::remove_dir_all(&rt, &folder)?;
-    Ok(())
+    fs::remove_dir_all(&rt, &folder).expect(&rt, "the folder");
 }

@@ -1,5 +1,5 @@
 //! The members of bracket lists, byte by byte, and the bytes of escapes.
-use super::refusal;
+use crate::texts::{Kind, fault_of};
 use sedck_bre::{Bre, parse};
 use std::alloc::Global;
 use std::process::Abort;
@@ -17,10 +17,12 @@ fn has_members(alloc: Global, text: &[u8], ranges: &[(u8, u8)], complement: bool
     };
     let words = set.0;
     for byte in 0..=255u8 {
-        let listed = ranges
-            .iter()
-            .any(|(first, last)| *first <= byte && byte <= *last);
-        let wanted = listed != complement;
+        let mut wanted = complement;
+        for (first, last) in ranges {
+            if *first <= byte && byte <= *last {
+                wanted = !complement;
+            }
+        }
         let word = words[usize::from(byte / 64)];
         if ((word >> (byte % 64)) & 1 == 1) != wanted {
             return false;
@@ -64,11 +66,6 @@ static CLASSES: [Row; 12] = [
     (b"[[:print:]]", &[(32, 126)], false),
     (b"[[:cntrl:]]", &[(0, 31), (127, 127)], false),
 ];
-
-#[test]
-fn classes(rt: HostRuntime) {
-    have_members(&rt, rt.alloc(), &CLASSES);
-}
 
 static LISTS: [Row; 32] = [
     (b"[]]", &[(b']', b']')], false),
@@ -116,7 +113,8 @@ static LISTS: [Row; 32] = [
 ];
 
 #[test]
-fn bracket_lists(rt: HostRuntime) {
+fn members(rt: HostRuntime) {
+    have_members(&rt, rt.alloc(), &CLASSES);
     have_members(&rt, rt.alloc(), &LISTS);
 }
 
@@ -134,30 +132,20 @@ fn is_byte(alloc: Global, text: &[u8], byte: u8) -> bool {
     }
 }
 
+/// Escapes of bytes that mean themselves, the refused ones, and bytes without meaning.
 #[test]
-fn escapes(rt: HostRuntime) {
+fn bytes(rt: HostRuntime) {
     for byte in b".[\\*^$]/-\"&,;:!@#%=~_ " {
-        let text = [b'\\', *byte];
-        assert!(rt; is_byte(rt.alloc(), &text, *byte), "{byte}");
+        assert!(rt; is_byte(rt.alloc(), &[b'\\', *byte], *byte), "{byte}");
     }
     assert!(rt; is_byte(rt.alloc(), b"\\n", 10));
     assert!(rt; is_byte(rt.alloc(), b"\\t", 9));
-}
-
-#[test]
-fn other_escapes_are_refused(rt: HostRuntime) {
     let known = b".[\\*^$]/-\"&,;:!@#%=~_ nt(){123456789";
     for byte in 0..=255u8 {
         if !known.contains(&byte) {
-            let text = [b'a', b'\\', byte];
-            assert_eq!(rt; refusal(rt.alloc(), &text), Some((2, Some(1))), "{byte}");
+            let fault = fault_of(rt.alloc(), &Kind::Expression, &[b'a', b'\\', byte]);
+            assert_eq!(rt; fault, (2, 1), "{byte}");
         }
-    }
-}
-
-#[test]
-fn bytes_without_meaning(rt: HostRuntime) {
-    for byte in 0..=255u8 {
         if !b".[\\^$".contains(&byte) {
             assert!(rt; is_byte(rt.alloc(), &[byte], byte), "{byte}");
         }

@@ -1,18 +1,27 @@
-//! The least lengths of worked expressions, and texts that are read.
-use super::{least_of_text, refusal};
+//! The least lengths of worked expressions, the numbers of groups, the limits, and texts that are read.
+use crate::texts::{Kind, LongRow, Row, have_faults, long_texts_have_faults, repeated};
+use sedck_bre::{ReFault, parse};
 use std::alloc::Global;
 use std::process::Abort;
 
-/// A text, and the least length of what it matches.
-type Row = (&'static [u8], u32);
+/// A text, and the least length of what it matches or the number of its groups.
+type Numbered<'a> = (&'a [u8], u32);
 
-fn have_least(rt: &impl Abort, alloc: Global, rows: &[Row]) {
-    for (text, least) in rows {
-        assert_eq!(rt; least_of_text(alloc, text), Some(*least), "{text:?}");
+fn have_numbers(rt: &impl Abort, alloc: Global, of_groups: bool, rows: &[Numbered<'_>]) {
+    for (text, wanted) in rows {
+        let Ok(expression) = parse(alloc, *text) else {
+            panic!(rt; "refused: {text:?}");
+        };
+        let number = if of_groups {
+            u32::from(expression.groups())
+        } else {
+            expression.least()
+        };
+        assert_eq!(rt; number, *wanted, "{text:?}");
     }
 }
 
-static WORKED: [Row; 14] = [
+static WORKED: [Numbered<'static>; 14] = [
     (b"\\(ab\\)\\{2,3\\}c*\\1", 6),
     (b"\\(ab\\)*\\1", 0),
     (b"\\(^a\\)", 1),
@@ -32,12 +41,7 @@ static WORKED: [Row; 14] = [
     ),
 ];
 
-#[test]
-fn least_of_worked_expressions(rt: HostRuntime) {
-    have_least(&rt, rt.alloc(), &WORKED);
-}
-
-static LENGTHS: [Row; 69] = [
+static LENGTHS: [Numbered<'static>; 69] = [
     (b"\\(\\(a\\{255\\}\\)\\{255\\}\\)\\{1\\}", 65025),
     (b"^", 0),
     (b"$", 0),
@@ -109,83 +113,124 @@ static LENGTHS: [Row; 69] = [
     (b"a\\{255\\}b\\{255\\}c\\{255\\}", 765),
 ];
 
-#[test]
-fn least_lengths(rt: HostRuntime) {
-    have_least(&rt, rt.alloc(), &LENGTHS);
-}
-
-static READ: [&'static [u8]; 66] = [
-    b"\\.\\[\\\\\\*\\^\\$\\n\\t",
-    b"\\]\\-\\\"\\&\\,\\;\\:\\!\\@\\#\\%\\=\\~\\_\\ ",
-    b"{}()+?|",
-    b"\xff\x80",
-    b"**",
-    b"^**",
-    b"^*a",
-    b"\\(*a\\)",
-    b"\\(^*\\)",
-    b"\\(**\\)",
-    b"a^b$c",
-    b"a^*",
-    b"a$*b",
-    b"^^",
-    b"$$",
-    b"\\($*\\)",
-    b"*\\{2\\}",
-    b"a\\{0\\}",
-    b"a\\{0,0\\}",
-    b"a\\{255,\\}",
-    b"a\\{002,00000003\\}",
-    b"a\\{0255\\}",
-    b"\\(\\(a\\)\\2\\)\\1\\2",
-    b"\\(\\)*",
-    b"\\(a*\\)*",
-    b"\\(a*\\)\\{2\\}",
-    b"\\(a\\{2\\}\\)*",
-    b"[]]",
-    b"[^]]",
-    b"[]a]",
-    b"[a-]",
-    b"[-a]",
-    b"[^-a]",
-    b"[-]",
-    b"[--a]",
-    b"[+--]",
-    b"[]-a]",
-    b"[a-c-]",
-    b"[[:alpha:]-]",
-    b"[[...]]",
-    b"[[.].]]",
-    b"[[.-.]-a]",
-    b"[[=]=]]",
-    b"[[=a=]b]",
-    b"[[.a.]-c]",
-    b"[a-[.c.]]",
-    b"[\\n-a]",
-    b"[\\\\-a]",
-    b"[\\n]",
-    b"[\\\\n]",
-    b"[\\]",
-    b"[\\t]",
-    b"[a\\]",
-    b"[[a]",
-    b"[a[]",
-    b"[[.a.][:digit:][=b=]]",
-    b"[^\x01-\xff]",
-    b"[a-a]",
-    b"[.]",
-    b"[=]",
-    b"[:]",
-    b"[:alpha:]",
-    b"[$]",
-    b"[*]",
-    b"[^^]",
-    b"[\\*]",
+static GROUPS: [Numbered<'static>; 5] = [
+    (b"", 0),
+    (b"a", 0),
+    (b"\\(a\\)", 1),
+    (b"\\(\\(a\\)b\\)\\(c\\)", 3),
+    (b"\\(a\\)\\{0\\}", 1),
 ];
 
 #[test]
-fn read_texts(rt: HostRuntime) {
-    for text in &READ {
-        assert_eq!(rt; refusal(rt.alloc(), text), None, "{text:?}");
+fn numbers(rt: HostRuntime) {
+    have_numbers(&rt, rt.alloc(), false, &WORKED);
+    have_numbers(&rt, rt.alloc(), false, &LENGTHS);
+    have_numbers(&rt, rt.alloc(), true, &GROUPS);
+    let most = repeated(&rt, rt.alloc(), &[(b"\\(\\)", 99)]);
+    have_numbers(&rt, rt.alloc(), true, &[(most.as_slice(), 99)]);
+}
+
+static READ: [Row; 66] = [
+    (b"\\.\\[\\\\\\*\\^\\$\\n\\t", 0, 0),
+    (b"\\]\\-\\\"\\&\\,\\;\\:\\!\\@\\#\\%\\=\\~\\_\\ ", 0, 0),
+    (b"{}()+?|", 0, 0),
+    (b"\xff\x80", 0, 0),
+    (b"**", 0, 0),
+    (b"^**", 0, 0),
+    (b"^*a", 0, 0),
+    (b"\\(*a\\)", 0, 0),
+    (b"\\(^*\\)", 0, 0),
+    (b"\\(**\\)", 0, 0),
+    (b"a^b$c", 0, 0),
+    (b"a^*", 0, 0),
+    (b"a$*b", 0, 0),
+    (b"^^", 0, 0),
+    (b"$$", 0, 0),
+    (b"\\($*\\)", 0, 0),
+    (b"*\\{2\\}", 0, 0),
+    (b"a\\{0\\}", 0, 0),
+    (b"a\\{0,0\\}", 0, 0),
+    (b"a\\{255,\\}", 0, 0),
+    (b"a\\{002,00000003\\}", 0, 0),
+    (b"a\\{0255\\}", 0, 0),
+    (b"\\(\\(a\\)\\2\\)\\1\\2", 0, 0),
+    (b"\\(\\)*", 0, 0),
+    (b"\\(a*\\)*", 0, 0),
+    (b"\\(a*\\)\\{2\\}", 0, 0),
+    (b"\\(a\\{2\\}\\)*", 0, 0),
+    (b"[]]", 0, 0),
+    (b"[^]]", 0, 0),
+    (b"[]a]", 0, 0),
+    (b"[a-]", 0, 0),
+    (b"[-a]", 0, 0),
+    (b"[^-a]", 0, 0),
+    (b"[-]", 0, 0),
+    (b"[--a]", 0, 0),
+    (b"[+--]", 0, 0),
+    (b"[]-a]", 0, 0),
+    (b"[a-c-]", 0, 0),
+    (b"[[:alpha:]-]", 0, 0),
+    (b"[[...]]", 0, 0),
+    (b"[[.].]]", 0, 0),
+    (b"[[.-.]-a]", 0, 0),
+    (b"[[=]=]]", 0, 0),
+    (b"[[=a=]b]", 0, 0),
+    (b"[[.a.]-c]", 0, 0),
+    (b"[a-[.c.]]", 0, 0),
+    (b"[\\n-a]", 0, 0),
+    (b"[\\\\-a]", 0, 0),
+    (b"[\\n]", 0, 0),
+    (b"[\\\\n]", 0, 0),
+    (b"[\\]", 0, 0),
+    (b"[\\t]", 0, 0),
+    (b"[a\\]", 0, 0),
+    (b"[[a]", 0, 0),
+    (b"[a[]", 0, 0),
+    (b"[[.a.][:digit:][=b=]]", 0, 0),
+    (b"[^\x01-\xff]", 0, 0),
+    (b"[a-a]", 0, 0),
+    (b"[.]", 0, 0),
+    (b"[=]", 0, 0),
+    (b"[:]", 0, 0),
+    (b"[:alpha:]", 0, 0),
+    (b"[$]", 0, 0),
+    (b"[*]", 0, 0),
+    (b"[^^]", 0, 0),
+    (b"[\\*]", 0, 0),
+];
+
+static INTERVALS: [Row; 8] = [
+    (b"a\\{255\\}", 0, 0),
+    (b"a\\{256\\}", 8, 1),
+    (b"a\\{255,\\}", 0, 0),
+    (b"a\\{256,\\}", 8, 1),
+    (b"a\\{0,255\\}", 0, 0),
+    (b"a\\{0,256\\}", 8, 1),
+    (b"a\\{0000000000000000000000000255\\}", 0, 0),
+    (b"a\\{18446744073709551617\\}", 8, 1),
+];
+
+static LIMITS: [LongRow; 5] = [
+    (&[(b"\\(\\)", 99)], 0, 0),
+    (&[(b"\\(\\)", 100)], 13, 396),
+    (&[(b"\\(", 32), (b"\\)", 32)], 0, 0),
+    (&[(b"\\(", 33), (b"\\)", 33)], 12, 64),
+    // too deep and too many
+    (&[(b"\\(\\)", 67), (b"\\(", 33)], 12, 332),
+];
+
+#[test]
+fn read(rt: HostRuntime) {
+    have_faults(&rt, rt.alloc(), &Kind::Expression, &READ);
+    have_faults(&rt, rt.alloc(), &Kind::Expression, &INTERVALS);
+    long_texts_have_faults(&rt, rt.alloc(), &Kind::Expression, &LIMITS);
+    // a refused growth is the only other answer
+    match parse(rt.alloc(), b"\\(a*b\\{2,3\\}\\)[^x]\\1c*") {
+        Ok(expression) => assert_eq!(rt; expression.groups(), 1),
+        Err(fault) => {
+            assert_eq!(rt; fault, ReFault::OutOfMemory);
+            assert_eq!(rt; fault.number(), 14);
+            assert_eq!(rt; fault.place(), None);
+        }
     }
 }

@@ -1,20 +1,5 @@
 //! Texts that are no expressions: the number and the place of the fault.
-use super::refusal;
-use std::alloc::Global;
-use std::process::Abort;
-
-/// A text, and the number and the place of its fault.
-type Row = (&'static [u8], u8, usize);
-
-fn refused(rt: &impl Abort, alloc: Global, rows: &[Row]) {
-    for (text, number, place) in rows {
-        assert_eq!(rt;
-            refusal(alloc, text),
-            Some((*number, Some(*place))),
-            "{text:?}"
-        );
-    }
-}
+use crate::texts::{Kind, Row, have_faults};
 
 static STRUCTURE: [Row; 74] = [
     (b"a\\", 1, 1),
@@ -93,11 +78,6 @@ static STRUCTURE: [Row; 74] = [
     (b"\\(a\\)\\{2\\}\\9", 11, 10),
 ];
 
-#[test]
-fn refused_structure(rt: HostRuntime) {
-    refused(&rt, rt.alloc(), &STRUCTURE);
-}
-
 static BRACKETS: [Row; 37] = [
     (b"[z-a]", 4, 1),
     (b"[a", 3, 0),
@@ -138,11 +118,6 @@ static BRACKETS: [Row; 37] = [
     (b"ab[^\x01-\xff[:cntrl:]]", 5, 2),
 ];
 
-#[test]
-fn refused_brackets(rt: HostRuntime) {
-    refused(&rt, rt.alloc(), &BRACKETS);
-}
-
 static SEVERAL: [Row; 15] = [
     (b"[a-", 3, 0),
     (b"[a-c-", 3, 0),
@@ -162,6 +137,12 @@ static SEVERAL: [Row; 15] = [
 ];
 
 #[test]
-fn first_of_several_faults(rt: HostRuntime) {
-    refused(&rt, rt.alloc(), &SEVERAL);
+fn refused(rt: HostRuntime) {
+    for rows in [
+        STRUCTURE.as_slice(),
+        BRACKETS.as_slice(),
+        SEVERAL.as_slice(),
+    ] {
+        have_faults(&rt, rt.alloc(), &Kind::Expression, rows);
+    }
 }

@@ -1,16 +1,5 @@
-//! Texts that are no scripts: which fault comes first, and where.
-use super::fault_of;
-use std::alloc::Global;
-use std::process::Abort;
-
-/// A text, and the number and the place of its fault.
-type Row = (&'static [u8], u8, usize);
-
-fn refused(rt: &impl Abort, alloc: Global, rows: &[Row]) {
-    for (text, number, place) in rows {
-        assert_eq!(rt; fault_of(alloc, text), (*number, Some(*place)), "{text:?}");
-    }
-}
+//! Texts that are no scripts: which fault comes first, and where; the limits, and every beginning of a script.
+use crate::texts::{Kind, LongRow, Row, fault_of, have_faults, long_texts_have_faults};
 
 static SCRIPTS: [Row; 54] = [
     (b"p\0", 2, 1),
@@ -69,11 +58,6 @@ static SCRIPTS: [Row; 54] = [
     (b"s|a\\|b|c|", 22, 3),
 ];
 
-#[test]
-fn refused_scripts(rt: HostRuntime) {
-    refused(&rt, rt.alloc(), &SCRIPTS);
-}
-
 static VERBS: [Row; 11] = [
     (b"!", 3, 1),
     (b"p x", 20, 2),
@@ -87,11 +71,6 @@ static VERBS: [Row; 11] = [
     (b"a\\ \\x", 11, 0),
     (b"c\\\\x", 11, 0),
 ];
-
-#[test]
-fn refused_verbs(rt: HostRuntime) {
-    refused(&rt, rt.alloc(), &VERBS);
-}
 
 static LABELS: [Row; 12] = [
     (b":  ", 13, 3),
@@ -108,11 +87,6 @@ static LABELS: [Row; 12] = [
     (b"b a x", 20, 4),
 ];
 
-#[test]
-fn refused_labels(rt: HostRuntime) {
-    refused(&rt, rt.alloc(), &LABELS);
-}
-
 static LISTS: [Row; 11] = [
     (b"y", 7, 0),
     (b"y\nab\n", 7, 0),
@@ -126,11 +100,6 @@ static LISTS: [Row; 11] = [
     (b"yna\\nnbn", 22, 3),
     (b"y|a\\|b|c|", 22, 3),
 ];
-
-#[test]
-fn refused_lists(rt: HostRuntime) {
-    refused(&rt, rt.alloc(), &LISTS);
-}
 
 static REPLACEMENTS: [Row; 12] = [
     (b"s", 7, 0),
@@ -147,11 +116,6 @@ static REPLACEMENTS: [Row; 12] = [
     (b"sn\\na", 22, 2),
 ];
 
-#[test]
-fn refused_replacements(rt: HostRuntime) {
-    refused(&rt, rt.alloc(), &REPLACEMENTS);
-}
-
 static FLAGS: [Row; 10] = [
     (b"s//x/I", 9, 5),
     (b"s//x/ g", 20, 6),
@@ -165,11 +129,6 @@ static FLAGS: [Row; 10] = [
     (b"s//x/gw \n", 12, 6),
 ];
 
-#[test]
-fn refused_flags(rt: HostRuntime) {
-    refused(&rt, rt.alloc(), &FLAGS);
-}
-
 static EXPRESSIONS: [Row; 5] = [
     (b"s/\\(a\\)/\\1\\2/", 8, 10),
     (b"s/a**/b/", 6, 2),
@@ -178,7 +137,29 @@ static EXPRESSIONS: [Row; 5] = [
     (b"s|a\\|b", 22, 3),
 ];
 
+static LIMITS: [LongRow; 6] = [
+    (&[(b"{", 64), (b"}", 64)], 0, 0),
+    (&[(b"{", 65), (b"}", 64)], 18, 64),
+    (&[(b"p\n", 4095)], 0, 0),
+    (&[(b"p\n", 4095), (b"p", 1)], 19, 8190),
+    (&[(b"\n", 1_048_576)], 0, 0),
+    (&[(b"\n", 1_048_576), (b"\0", 1)], 1, 1_048_576),
+];
+
 #[test]
-fn refused_expressions(rt: HostRuntime) {
-    refused(&rt, rt.alloc(), &EXPRESSIONS);
+fn refused(rt: HostRuntime) {
+    have_faults(&rt, rt.alloc(), &Kind::Script, &SCRIPTS);
+    have_faults(&rt, rt.alloc(), &Kind::Script, &VERBS);
+    have_faults(&rt, rt.alloc(), &Kind::Script, &LABELS);
+    have_faults(&rt, rt.alloc(), &Kind::Script, &LISTS);
+    have_faults(&rt, rt.alloc(), &Kind::Script, &REPLACEMENTS);
+    have_faults(&rt, rt.alloc(), &Kind::Script, &FLAGS);
+    have_faults(&rt, rt.alloc(), &Kind::Script, &EXPRESSIONS);
+    long_texts_have_faults(&rt, rt.alloc(), &Kind::Script, &LIMITS);
+    // every beginning of a script
+    let text = b"1!{s/a\\(b\\)*/\\1&/2gw out\n};:x\ny/ab/cd/;tx;a\\\ntext\\\nmore\n$!N;/^a*$/,3D";
+    for end in 0..text.len() {
+        let (number, place) = fault_of(rt.alloc(), &Kind::Script, &text[..end]);
+        assert!(rt; number < 23 && place <= end, "cut to {end}");
+    }
 }

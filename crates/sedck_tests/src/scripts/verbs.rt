@@ -1,72 +1,40 @@
 //! Verbs with what they take.
-use sedck_script::{Command, Part, Verb, parse};
+use sedck_script::{Part, Verb, parse};
 use std::alloc::Global;
 use std::process::Abort;
 
-fn letter_of(verb: &Verb) -> u8 {
+/// A command's letter, the text or the name that it takes, and where it leads to, beside the next command.
+type Word<'a> = (u8, &'a [u8], usize);
+
+type Words = &'static [Word<'static>];
+
+fn word_of<'a>(verb: &Verb<'a>) -> Word<'a> {
     match verb {
-        Verb::Label(_) => b':',
-        Verb::Branch(_) => b'b',
-        Verb::Test(_) => b't',
-        Verb::Block(_) => b'{',
-        Verb::Append(_) => b'a',
-        Verb::Change(_) => b'c',
-        Verb::Insert(_) => b'i',
-        Verb::Read(_) => b'r',
-        Verb::Write(_) => b'w',
-        Verb::Next => b'n',
-        Verb::Print => b'p',
-        Verb::Quit => b'q',
-        Verb::Exchange => b'x',
-        _ => b'?',
-    }
-}
-
-/// The text or the name that a verb takes.
-fn taken<'a>(verb: &Verb<'a>) -> &'a [u8] {
-    match verb {
-        Verb::Label(name) => *name,
-        Verb::Append(text) => *text,
-        Verb::Change(text) => *text,
-        Verb::Insert(text) => *text,
-        Verb::Read(name) => *name,
-        Verb::Write(name) => *name,
-        _ => b"",
-    }
-}
-
-/// Where a verb leads to, beside the next command.
-fn target(verb: &Verb) -> usize {
-    match verb {
-        Verb::Branch(at) => *at,
-        Verb::Test(at) => *at,
-        Verb::Block(at) => *at,
-        _ => 0,
-    }
-}
-
-/// A command's letter, what it takes, and where it leads to.
-type Word = (u8, &'static [u8], usize);
-
-type Words = &'static [Word];
-
-fn has_word(verb: &Verb, word: &Word) -> bool {
-    let (letter, text, at) = *word;
-    letter_of(verb) == letter && taken(verb) == text && target(verb) == at
-}
-
-fn are_words(rt: &impl Abort, text: &[u8], commands: &[Command], words: Words) {
-    assert_eq!(rt; commands.len(), words.len(), "{text:?}");
-    for (command, word) in commands.iter().zip(words) {
-        assert!(rt; has_word(&command.verb, word), "{text:?}");
+        Verb::Label(name) => (b':', *name, 0),
+        Verb::Branch(at) => (b'b', b"", *at),
+        Verb::Test(at) => (b't', b"", *at),
+        Verb::Block(at) => (b'{', b"", *at),
+        Verb::Append(text) => (b'a', *text, 0),
+        Verb::Change(text) => (b'c', *text, 0),
+        Verb::Insert(text) => (b'i', *text, 0),
+        Verb::Read(name) => (b'r', *name, 0),
+        Verb::Write(name) => (b'w', *name, 0),
+        Verb::Next => (b'n', b"", 0),
+        Verb::Print => (b'p', b"", 0),
+        Verb::Quit => (b'q', b"", 0),
+        Verb::Exchange => (b'x', b"", 0),
+        _ => (b'?', b"", 0),
     }
 }
 
 fn have_words(rt: &impl Abort, alloc: Global, rows: &[(&'static [u8], Words)]) {
     for (text, words) in rows {
-        match parse(alloc, text) {
-            Ok(script) => are_words(rt, text, script.commands(), words),
-            Err(_) => panic!(rt; "refused: {text:?}"),
+        let Ok(script) = parse(alloc, text) else {
+            panic!(rt; "refused: {text:?}");
+        };
+        assert_eq!(rt; script.commands().len(), words.len(), "{text:?}");
+        for (command, word) in script.commands().iter().zip(*words) {
+            assert_eq!(rt; word_of(&command.verb), *word, "{text:?}");
         }
     }
 }
@@ -82,22 +50,12 @@ static TEXTS: [(&'static [u8], Words); 8] = [
     (b"c x\\\\\np", &[(b'c', b"x\\\\", 0), (b'p', b"", 0)]),
 ];
 
-#[test]
-fn texts(rt: HostRuntime) {
-    have_words(&rt, rt.alloc(), &TEXTS);
-}
-
 static NAMES: [(&'static [u8], Words); 4] = [
     (b"w f;p", &[(b'w', b"f;p", 0)]),
     (b"r  a b \nq", &[(b'r', b"a b ", 0), (b'q', b"", 0)]),
     (b": _a.-9 ;p", &[(b':', b"_a.-9", 0), (b'p', b"", 0)]),
     (b":a #c", &[(b':', b"a", 0)]),
 ];
-
-#[test]
-fn names(rt: HostRuntime) {
-    have_words(&rt, rt.alloc(), &NAMES);
-}
 
 static BRANCHES: [(&'static [u8], Words); 12] = [
     (
@@ -133,18 +91,10 @@ static BRANCHES: [(&'static [u8], Words); 12] = [
 ];
 
 #[test]
-fn branches(rt: HostRuntime) {
+fn words(rt: HostRuntime) {
+    have_words(&rt, rt.alloc(), &TEXTS);
+    have_words(&rt, rt.alloc(), &NAMES);
     have_words(&rt, rt.alloc(), &BRANCHES);
-}
-
-fn has_lists(commands: &[Command], at: usize, first: &[u8], second: &[u8]) -> bool {
-    let Some(command) = commands.get(at) else {
-        return false;
-    };
-    match &command.verb {
-        Verb::Transliterate(from, to) => from.as_slice() == first && to.as_slice() == second,
-        _ => false,
-    }
 }
 
 /// A text, the number of its commands, the place of the `y` among them, and its lists.
@@ -158,40 +108,31 @@ static LISTS: [(&'static [u8], usize, usize, &'static [u8], &'static [u8]); 4] =
 #[test]
 fn lists(rt: HostRuntime) {
     for (text, count, at, from, to) in &LISTS {
-        match parse(rt.alloc(), text) {
-            Ok(script) => {
-                assert_eq!(rt; script.commands().len(), *count, "{text:?}");
-                assert!(rt; has_lists(script.commands(), *at, from, to), "{text:?}");
+        let Ok(script) = parse(rt.alloc(), text) else {
+            panic!(rt; "refused: {text:?}");
+        };
+        let commands = script.commands();
+        assert!(rt; commands.len() == *count && *at < *count, "{text:?}");
+        match &commands[*at].verb {
+            Verb::Transliterate(first, second) => {
+                assert_eq!(rt; first.as_slice(), *from, "{text:?}");
+                assert_eq!(rt; second.as_slice(), *to, "{text:?}");
             }
-            Err(_) => panic!(rt; "refused: {text:?}"),
+            _ => panic!(rt; "another verb: {text:?}"),
         }
     }
 }
 
-/// A letter for each part, and the bytes of its text.
-fn part_word<'a>(part: &Part<'a>) -> (u8, &'a [u8]) {
-    match part {
+/// Whether the part has this letter and this text.
+fn is_part(part: &Part, word: &(u8, &[u8])) -> bool {
+    let (letter, text): (u8, &[u8]) = match part {
         Part::Text(text) => (b't', *text),
         Part::Newline => (b'n', b""),
         Part::Tab => (b'b', b""),
         Part::Whole => (b'w', b""),
         Part::Group(_) => (b'g', b""),
-    }
-}
-
-/// How many of the parts are these words, and how many there are.
-fn parts_like(verb: &Verb, words: &[(u8, &[u8])]) -> (usize, usize) {
-    match verb {
-        Verb::Substitute(substitution) => {
-            let parts = &substitution.parts;
-            let like = parts
-                .iter()
-                .zip(words)
-                .filter(|(part, word)| part_word(part) == **word);
-            (like.count(), parts.len())
-        }
-        _ => (0, 0),
-    }
+    };
+    letter == word.0 && text == word.1
 }
 
 static PARTS: [(u8, &'static [u8]); 10] = [
@@ -214,27 +155,20 @@ fn parts(rt: HostRuntime) {
     let Ok(script) = parse(rt.alloc(), text) else {
         panic!(rt; "refused");
     };
-    let commands = script.commands();
-    assert_eq!(rt; commands.len(), 2);
-    assert_eq!(rt; parts_like(&commands[0].verb, &PARTS), (10, 10));
+    assert_eq!(rt; script.commands().len(), 2);
+    match &script.commands()[0].verb {
+        Verb::Substitute(s) => {
+            assert_eq!(rt; s.parts.len(), PARTS.len());
+            for (part, word) in s.parts.iter().zip(&PARTS) {
+                assert!(rt; is_part(part, word), "{word:?}");
+            }
+        }
+        _ => panic!(rt; "another verb"),
+    }
 }
 
 /// Whether all are substituted, whether lines are printed, which one is substituted, and the file.
 type Flags = (bool, bool, Option<u32>, Option<&'static [u8]>);
-
-fn has_flags(commands: &[Command], at: usize, flags: &Flags) -> bool {
-    let Some(command) = commands.get(at) else {
-        return false;
-    };
-    let (global, print, nth, file) = *flags;
-    match &command.verb {
-        Verb::Substitute(s) => s.global == global
-            && s.print == print
-            && s.nth == nth
-            && s.file == file,
-        _ => false,
-    }
-}
 
 /// A text, the number of its commands, the place of the `s` among them, and its flags.
 static FLAGS: [(&'static [u8], usize, usize, Flags); 5] = [
@@ -263,12 +197,16 @@ static FLAGS: [(&'static [u8], usize, usize, Flags); 5] = [
 #[test]
 fn flags(rt: HostRuntime) {
     for (text, count, at, flags) in &FLAGS {
-        match parse(rt.alloc(), text) {
-            Ok(script) => {
-                assert_eq!(rt; script.commands().len(), *count, "{text:?}");
-                assert!(rt; has_flags(script.commands(), *at, flags), "{text:?}");
+        let Ok(script) = parse(rt.alloc(), text) else {
+            panic!(rt; "refused: {text:?}");
+        };
+        let commands = script.commands();
+        assert!(rt; commands.len() == *count && *at < *count, "{text:?}");
+        match &commands[*at].verb {
+            Verb::Substitute(s) => {
+                assert_eq!(rt; (s.global, s.print, s.nth, s.file), *flags, "{text:?}");
             }
-            Err(_) => panic!(rt; "refused: {text:?}"),
+            _ => panic!(rt; "another verb: {text:?}"),
         }
     }
 }

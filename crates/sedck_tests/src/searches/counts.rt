@@ -12,15 +12,25 @@ static FULL: [(usize, u64); 7] = [
     (128, 8192),
 ];
 
+/// The words 1, 3, 7 and so on have 1, 2, 3 bits and so on: a number of words, and their bits.
+static GROWING: [(usize, u64); 6] = [(1, 1), (7, 28), (8, 36), (9, 45), (64, 2080), (128, 2080)];
+
 #[test]
-fn counts_of_no_bit_and_of_all(rt: HostRuntime) {
+fn counts_of_many_bits(rt: HostRuntime) {
     let clear = [0; 128];
     let full = [u64::MAX; 128];
     for (length, bits) in &FULL {
-        let (length, bits) = (*length, *bits);
-        assert!(rt; length <= 128);
-        assert_eq!(rt; count_bits(&clear[..length]), 0, "clear, {length}");
-        assert_eq!(rt; count_bits(&full[..length]), bits, "full, {length}");
+        assert!(rt; *length <= 128);
+        assert_eq!(rt; count_bits(&clear[..*length]), 0, "clear, {length}");
+        assert_eq!(rt; count_bits(&full[..*length]), *bits, "full, {length}");
+    }
+    let mut words = [0; 128];
+    for at in 0..64 {
+        words[at] = u64::MAX >> (63 - at);
+    }
+    for (length, bits) in &GROWING {
+        assert!(rt; *length <= 128);
+        assert_eq!(rt; count_bits(&words[..*length]), *bits, "{length}");
     }
 }
 
@@ -54,20 +64,5 @@ fn counts_of_one_bit(rt: HostRuntime) {
             assert_eq!(rt; count_bits(&words[..length]), 1, "{length}, {at}, {bit}");
             assert_eq!(rt; count_bits(&words[..at]), 0, "{length}, {at}, {bit}");
         }
-    }
-}
-
-/// The words 1, 3, 7 and so on have 1, 2, 3 bits and so on: a number of words, and their bits.
-static GROWING: [(usize, u64); 6] = [(1, 1), (7, 28), (8, 36), (9, 45), (64, 2080), (128, 2080)];
-
-#[test]
-fn counts_of_growing_words(rt: HostRuntime) {
-    let mut words = [0; 128];
-    for at in 0..64 {
-        words[at] = u64::MAX >> (63 - at);
-    }
-    for (length, bits) in &GROWING {
-        assert!(rt; *length <= 128);
-        assert_eq!(rt; count_bits(&words[..*length]), *bits, "{length}");
     }
 }

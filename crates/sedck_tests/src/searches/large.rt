@@ -2,83 +2,73 @@
 use super::is_told;
 use crate::texts::numbered;
 use std::alloc::Global;
-use std::test::Fail;
-
-/// As many commands as a script may have, one behind the other.
-#[test]
-fn most_commands(rt: HostRuntime) -> Result<(), Fail> {
-    let text = numbered(rt.alloc(), "p\n", 0, 4095)?;
-    let mut ranks = String::new(rt.alloc());
-    for at in 0u32..4096 {
-        let count = 4096 - at;
-        writeln!(ranks, "{at} 0 {count} {count}")?;
-    }
-    is_told(&rt, rt.alloc(), text.as_bytes(), &ranks)
-}
+use std::process::Abort;
 
 /// The ranks of loops one behind the other, each of which ends, since it shortens the pattern space.
-fn ranks_of_loops(alloc: Global) -> Result<String, Fail> {
+fn ranks_of_loops(rt: &impl Abort, alloc: Global) -> String {
     let mut ranks = String::new(alloc);
     for turn in 0u32..1300 {
         // the nodes of a loop, and from its last one on those of the loops behind it and the end
         let (firsts, seconds) = (4 * (1300 - turn) + 1, 3 * (1300 - turn) + 1);
         let (label, place, test) = (3 * turn, 3 * turn + 1, 3 * turn + 2);
-        writeln!(
+        let written = writeln!(
             ranks,
-            "{label} 0 {firsts} {seconds}\n{place} 0 {firsts} {}",
-            seconds - 1
-        )?;
-        let (behind, next) = (firsts - 3, seconds - 2);
-        writeln!(
-            ranks,
-            "{test} 0 {behind} {next}\n{test} 1 {firsts} {}",
+            "{label} 0 {firsts} {seconds}\n{place} 0 {firsts} {}\n{test} 0 {} {}\n{test} 1 {firsts} {}",
+            seconds - 1,
+            firsts - 3,
+            seconds - 2,
             seconds + 1
-        )?;
+        );
+        written.expect(rt, "memory");
     }
-    ranks.push_str("3900 0 1 1\n")?;
-    Ok(ranks)
+    ranks.push_str("3900 0 1 1\n").expect(rt, "memory");
+    ranks
 }
 
+/// As many commands as a script may have, one behind the other, and more than a thousand loops that end.
 #[test]
-fn thousands_of_loops(rt: HostRuntime) -> Result<(), Fail> {
-    let text = numbered(rt.alloc(), ":a@\ns/x//\nta@\n", 0, 1300)?;
-    let ranks = ranks_of_loops(rt.alloc())?;
-    is_told(&rt, rt.alloc(), text.as_bytes(), &ranks)
+fn ranks(rt: HostRuntime) {
+    let text = numbered(&rt, rt.alloc(), "p\n", 0, 4095);
+    let mut ranks = String::new(rt.alloc());
+    for at in 0u32..4096 {
+        let count = 4096 - at;
+        writeln!(ranks, "{at} 0 {count} {count}").expect(&rt, "memory");
+    }
+    is_told(&rt, rt.alloc(), text.as_bytes(), &ranks);
+    let text = numbered(&rt, rt.alloc(), ":a@\ns/x//\nta@\n", 0, 1300);
+    let ranks = ranks_of_loops(&rt, rt.alloc());
+    is_told(&rt, rt.alloc(), text.as_bytes(), &ranks);
 }
 
-/// Idle loops one behind the other, of which the first is told.
-#[test]
-fn thousands_of_idle_loops(rt: HostRuntime) -> Result<(), Fail> {
-    let mut text = String::from_str(rt.alloc(), "p\ns/x//\n")?;
-    text.push_str(&numbered(rt.alloc(), ":a@\n/x/ba@\n", 0, 2046)?)?;
-    is_told(
-        &rt,
-        rt.alloc(),
-        text.as_bytes(),
+/// What stands before a piece, the piece, its copies, what stands behind them, and the loop that is told: the first of
+/// many idle loops one behind the other, the first of many growing ones, and a loop that goes over all commands.
+static LOOPS: [(&'static str, &'static str, u16, &'static str, &'static str); 3] = [
+    (
+        "p\ns/x//\n",
+        ":a@\n/x/ba@\n",
+        2046,
+        "",
         "idle\n2 0 keep\n3 0 keep\n2 0\n",
-    )
-}
-
-/// Growing loops one behind the other, of which the first is told.
-#[test]
-fn thousands_of_growing_loops(rt: HostRuntime) -> Result<(), Fail> {
-    let text = numbered(rt.alloc(), ":a@\ns/x/xx/\nta@\n", 0, 1300)?;
-    is_told(
-        &rt,
-        rt.alloc(),
-        text.as_bytes(),
+    ),
+    (
+        "",
+        ":a@\ns/x/xx/\nta@\n",
+        1300,
+        "",
         "growing\n1 0 grow\n2 1 keep\n0 0 keep\n1 0\n",
-    )
-}
+    ),
+    (":a\n", "p\n", 4093, "ba\n", ""),
+];
 
-/// One idle loop that goes over all commands.
 #[test]
-fn longest_loop(rt: HostRuntime) -> Result<(), Fail> {
-    let mut text = String::from_str(rt.alloc(), ":a\n")?;
-    text.push_str(&numbered(rt.alloc(), "p\n", 0, 4093)?)?;
-    text.push_str("ba\n")?;
-    let mut lines = String::from_str(rt.alloc(), "idle\n")?;
-    lines.push_str(&numbered(rt.alloc(), "@ 0 keep\n", 0, 4095)?)?;
-    lines.push_str("0 0\n")?;
-    is_told(&rt, rt.alloc(), text.as_bytes(), &lines)
+fn loops(rt: HostRuntime) {
+    // of the loop over all commands
+    let lines = numbered(&rt, rt.alloc(), "@ 0 keep\n", 0, 4095);
+    let all = format!(in rt.alloc(); "idle\n{lines}0 0\n").expect(&rt, "memory");
+    for (before, piece, count, behind, told) in &LOOPS {
+        let copies = numbered(&rt, rt.alloc(), *piece, 0, *count);
+        let text = format!(in rt.alloc(); "{before}{copies}{behind}").expect(&rt, "memory");
+        let told = if told.is_empty() { all.as_str() } else { *told };
+        is_told(&rt, rt.alloc(), text.as_bytes(), told);
+    }
 }

@@ -1,6 +1,5 @@
 //! Scripts with loops that no ranks allow.
 use super::{Row, are_told};
-use std::test::Fail;
 
 static LOOPS: [Row; 16] = [
     (b":a;b a", "idle\n0 0 keep\n1 0 keep\n0 0\n"),
@@ -56,11 +55,6 @@ static LOOPS: [Row; 16] = [
     (b"s/x//;:a;/x/ba", "idle\n1 0 keep\n2 0 keep\n1 0\n"),
 ];
 
-#[test]
-fn loops(rt: HostRuntime) -> Result<(), Fail> {
-    are_told(&rt, rt.alloc(), &LOOPS)
-}
-
 /// Of equally short loops the first by its edges, and those by the place, the flag and the kind.
 static EQUALLY_SHORT: [Row; 6] = [
     // the next place is before that of the branch
@@ -96,6 +90,7 @@ static EQUALLY_SHORT: [Row; 6] = [
 ];
 
 #[test]
-fn equally_short_loops(rt: HostRuntime) -> Result<(), Fail> {
-    are_told(&rt, rt.alloc(), &EQUALLY_SHORT)
+fn loops(rt: HostRuntime) {
+    are_told(&rt, rt.alloc(), &LOOPS);
+    are_told(&rt, rt.alloc(), &EQUALLY_SHORT);
 }

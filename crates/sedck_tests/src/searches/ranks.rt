@@ -1,9 +1,8 @@
 //! Scripts with ranks.
 use super::{Row, are_told};
+use crate::certificates::read::are_names;
 use sedck_script::parse;
 use sedck_search::{Found, search};
-use std::alloc::{AllocError, Global};
-use std::test::Fail;
 
 /// Each node with its two ranks; all other nodes have none.
 static RANKS: [Row; 15] = [
@@ -34,51 +33,29 @@ static RANKS: [Row; 15] = [
     (b"d;:a;s/x*/y/;ta", "0 0 1 1\n"),
 ];
 
-#[test]
-fn ranks(rt: HostRuntime) -> Result<(), Fail> {
-    are_told(&rt, rt.alloc(), &RANKS)
-}
-
-/// The names with a newline each.
-fn lines(alloc: Global, names: &[Vec<u8>]) -> Result<Vec<u8>, AllocError> {
-    let mut lines = Vec::new(alloc);
-    for name in names {
-        lines.extend_from_slice(name)?;
-        lines.push(b'\n')?;
-    }
-    Ok(lines)
-}
+type Names = &'static [&'static [u8]];
 
 /// A text and its names, those read and those written: those of the whole text, each once.
-static NAMES: [(&'static [u8], &'static [u8], &'static [u8]); 4] = [
-    (b"", b"", b""),
-    (b"s/a/b/w out.txt\nq\nw log", b"", b"log\nout.txt\n"),
-    (b"r x\nr x", b"x\n", b""),
-    (b"r b\nw c\nr a\nw c", b"a\nb\n", b"c\n"),
+static NAMES: [(&'static [u8], Names, Names); 4] = [
+    (b"", &[], &[]),
+    (b"s/a/b/w out.txt\nq\nw log", &[], &[b"log", b"out.txt"]),
+    (b"r x\nr x", &[b"x"], &[]),
+    (b"r b\nw c\nr a\nw c", &[b"a", b"b"], &[b"c"]),
 ];
 
 #[test]
-fn names(rt: HostRuntime) -> Result<(), Fail> {
+fn ranks(rt: HostRuntime) {
+    are_told(&rt, rt.alloc(), &RANKS);
     for (text, reads, writes) in &NAMES {
-        let script = parse(rt.alloc(), text).ok().ok_or("refused")?;
-        let Found::Ranks(cert) = search(rt.alloc(), &script)? else {
-            return Err("a loop".into());
+        let Ok(script) = parse(rt.alloc(), text) else {
+            panic!(rt; "refused: {text:?}");
         };
-        assert_eq!(rt;
-            usize::from(cert.commands()),
-            script.commands().len(),
-            "{text:?}"
-        );
-        assert_eq!(rt;
-            lines(rt.alloc(), cert.reads())?.as_slice(),
-            *reads,
-            "{text:?}"
-        );
-        assert_eq!(rt;
-            lines(rt.alloc(), cert.writes())?.as_slice(),
-            *writes,
-            "{text:?}"
-        );
+        let Found::Ranks(cert) = search(rt.alloc(), &script).expect(&rt, "memory") else {
+            panic!(rt; "a loop: {text:?}");
+        };
+        let commands = usize::from(cert.commands());
+        assert_eq!(rt; commands, script.commands().len(), "{text:?}");
+        are_names(&rt, cert.reads(), *reads);
+        are_names(&rt, cert.writes(), *writes);
     }
-    Ok(())
 }
