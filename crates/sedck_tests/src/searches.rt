@@ -4,10 +4,10 @@ mod large;
 mod loops;
 mod ranks;
 
+use crate::texts::script_of;
 use bstr::ByteSlice;
 use sedck_cert::{Cert, Verdict, check};
 use sedck_flow::Node;
-use sedck_script::parse;
 use sedck_search::{Form, Found, Walk, search};
 use std::alloc::Global;
 use std::process::Abort;
@@ -42,9 +42,7 @@ fn loop_of(rt: &impl Abort, alloc: Global, walk: &Walk) -> String {
 
 /// Whether these lines are told of the script: one for each node with ranks, or those of the loop.
 fn is_told(rt: &impl Abort, alloc: Global, text: &[u8], lines: &str) {
-    let Ok(script) = parse(alloc, text) else {
-        panic!(rt; "refused: {text:?}");
-    };
+    let script = script_of(rt, alloc, text);
     let told = match search(alloc, &script).expect(rt, "memory") {
         Found::Ranks(cert) => {
             assert!(rt;

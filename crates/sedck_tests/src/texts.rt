@@ -1,4 +1,5 @@
 //! Long texts, made of short ones, and what is told of texts that are read.
+use sedck_script::Script;
 use std::alloc::Global;
 use std::process::Abort;
 
@@ -25,6 +26,19 @@ pub fn numbered(rt: &impl Abort, alloc: Global, piece: &str, first: u16, count: 
         text.push_str(&copy).expect(rt, "memory");
     }
     text
+}
+
+/// Stops the test where this doesn't hold of the row. A function, since each message is proved where it is written.
+pub fn require(rt: &impl Abort, holds: bool, row: &[u8]) {
+    assert!(rt; holds, "{row:?}");
+}
+
+/// The script that the text spells.
+pub fn script_of<'a>(rt: &impl Abort, alloc: Global, text: &'a [u8]) -> Script<'a> {
+    match sedck_script::parse(alloc, text) {
+        Ok(script) => script,
+        Err(fault) => panic!(rt; "{fault}: {text:?}"),
+    }
 }
 
 /// What a text is to be.

@@ -1,6 +1,6 @@
 //! Certificates that are read, written or made, and the words of faults.
 use super::{ENDLESS, NAMED};
-use crate::texts::numbered;
+use crate::texts::{numbered, require};
 use sedck_cert::streams::FromWrite;
 use sedck_cert::{Cert, CertFault, read_cert, write_cert};
 use std::alloc::Global;
@@ -19,9 +19,9 @@ fn read(rt: &impl Abort, alloc: Global, text: &[u8]) -> Cert {
 
 /// Whether the names are these.
 pub fn are_names(rt: &impl Abort, names: &[Vec<u8>], wanted: &[&[u8]]) {
-    assert_eq!(rt; names.len(), wanted.len(), "{wanted:?}");
+    require(rt, names.len() == wanted.len(), b"another number of names");
     for (name, wanted) in names.iter().zip(wanted) {
-        assert_eq!(rt; name.as_slice(), *wanted);
+        require(rt, name.as_slice() == *wanted, *wanted);
     }
 }
 

@@ -1,5 +1,6 @@
 //! Verbs with what they take.
-use sedck_script::{Part, Verb, parse};
+use crate::texts::{require, script_of};
+use sedck_script::{Part, Verb};
 use std::alloc::Global;
 use std::process::Abort;
 
@@ -29,12 +30,10 @@ fn word_of<'a>(verb: &Verb<'a>) -> Word<'a> {
 
 fn have_words(rt: &impl Abort, alloc: Global, rows: &[(&'static [u8], Words)]) {
     for (text, words) in rows {
-        let Ok(script) = parse(alloc, text) else {
-            panic!(rt; "refused: {text:?}");
-        };
-        assert_eq!(rt; script.commands().len(), words.len(), "{text:?}");
+        let script = script_of(rt, alloc, text);
+        require(rt, script.commands().len() == words.len(), text);
         for (command, word) in script.commands().iter().zip(*words) {
-            assert_eq!(rt; word_of(&command.verb), *word, "{text:?}");
+            require(rt, word_of(&command.verb) == *word, text);
         }
     }
 }
@@ -108,17 +107,15 @@ static LISTS: [(&'static [u8], usize, usize, &'static [u8], &'static [u8]); 4] =
 #[test]
 fn lists(rt: HostRuntime) {
     for (text, count, at, from, to) in &LISTS {
-        let Ok(script) = parse(rt.alloc(), text) else {
-            panic!(rt; "refused: {text:?}");
-        };
+        let script = script_of(&rt, rt.alloc(), text);
         let commands = script.commands();
-        assert!(rt; commands.len() == *count && *at < *count, "{text:?}");
+        assert!(rt; commands.len() == *count && *at < *count);
         match &commands[*at].verb {
             Verb::Transliterate(first, second) => {
-                assert_eq!(rt; first.as_slice(), *from, "{text:?}");
-                assert_eq!(rt; second.as_slice(), *to, "{text:?}");
+                require(&rt, first.as_slice() == *from, text);
+                require(&rt, second.as_slice() == *to, text);
             }
-            _ => panic!(rt; "another verb: {text:?}"),
+            _ => require(&rt, false, text),
         }
     }
 }
@@ -152,18 +149,16 @@ static PARTS: [(u8, &'static [u8]); 10] = [
 fn parts(rt: HostRuntime) {
     // the last line has the expression that the empty one needs
     let text = b"s,,x.\\n\\t&\\1\\&\\\\\\,y\\\n,\n/a/p";
-    let Ok(script) = parse(rt.alloc(), text) else {
-        panic!(rt; "refused");
-    };
-    assert_eq!(rt; script.commands().len(), 2);
+    let script = script_of(&rt, rt.alloc(), text);
+    assert!(rt; script.commands().len() == 2);
     match &script.commands()[0].verb {
         Verb::Substitute(s) => {
-            assert_eq!(rt; s.parts.len(), PARTS.len());
+            require(&rt, s.parts.len() == PARTS.len(), text);
             for (part, word) in s.parts.iter().zip(&PARTS) {
-                assert!(rt; is_part(part, word), "{word:?}");
+                require(&rt, is_part(part, word), word.1);
             }
         }
-        _ => panic!(rt; "another verb"),
+        _ => require(&rt, false, text),
     }
 }
 
@@ -197,16 +192,14 @@ static FLAGS: [(&'static [u8], usize, usize, Flags); 5] = [
 #[test]
 fn flags(rt: HostRuntime) {
     for (text, count, at, flags) in &FLAGS {
-        let Ok(script) = parse(rt.alloc(), text) else {
-            panic!(rt; "refused: {text:?}");
-        };
+        let script = script_of(&rt, rt.alloc(), text);
         let commands = script.commands();
-        assert!(rt; commands.len() == *count && *at < *count, "{text:?}");
+        assert!(rt; commands.len() == *count && *at < *count);
         match &commands[*at].verb {
             Verb::Substitute(s) => {
-                assert_eq!(rt; (s.global, s.print, s.nth, s.file), *flags, "{text:?}");
+                require(&rt, (s.global, s.print, s.nth, s.file) == *flags, text);
             }
-            _ => panic!(rt; "another verb: {text:?}"),
+            _ => require(&rt, false, text),
         }
     }
 }

@@ -1,5 +1,11 @@
 //! Counts of bits against plain arithmetic.
 use sedck_search::rows::count_bits;
+use std::process::Abort;
+
+fn have_bits(rt: &impl Abort, words: &[u64], bits: u64) {
+    assert!(rt; words.len() <= 128);
+    assert_eq!(rt; count_bits(words), bits, "{words:?}");
+}
 
 /// A number of words, and the bits of so many full words.
 static FULL: [(usize, u64); 7] = [
@@ -21,8 +27,8 @@ fn counts_of_many_bits(rt: HostRuntime) {
     let full = [u64::MAX; 128];
     for (length, bits) in &FULL {
         assert!(rt; *length <= 128);
-        assert_eq!(rt; count_bits(&clear[..*length]), 0, "clear, {length}");
-        assert_eq!(rt; count_bits(&full[..*length]), *bits, "full, {length}");
+        have_bits(&rt, &clear[..*length], 0);
+        have_bits(&rt, &full[..*length], *bits);
     }
     let mut words = [0; 128];
     for at in 0..64 {
@@ -30,7 +36,7 @@ fn counts_of_many_bits(rt: HostRuntime) {
     }
     for (length, bits) in &GROWING {
         assert!(rt; *length <= 128);
-        assert_eq!(rt; count_bits(&words[..*length]), *bits, "{length}");
+        have_bits(&rt, &words[..*length], *bits);
     }
 }
 
@@ -61,8 +67,8 @@ fn counts_of_one_bit(rt: HostRuntime) {
         for bit in [0, 1, 31, 32, 63] {
             let mut words = [0; 128];
             words[at] = 1 << bit;
-            assert_eq!(rt; count_bits(&words[..length]), 1, "{length}, {at}, {bit}");
-            assert_eq!(rt; count_bits(&words[..at]), 0, "{length}, {at}, {bit}");
+            have_bits(&rt, &words[..length], 1);
+            have_bits(&rt, &words[..at], 0);
         }
     }
 }

@@ -1,8 +1,11 @@
 //! Scripts with ranks.
 use super::{Row, are_told};
 use crate::certificates::read::are_names;
-use sedck_script::parse;
+use crate::texts::{require, script_of};
+use sedck_cert::Cert;
 use sedck_search::{Found, search};
+use std::alloc::Global;
+use std::process::Abort;
 
 /// Each node with its two ranks; all other nodes have none.
 static RANKS: [Row; 15] = [
@@ -43,18 +46,22 @@ static NAMES: [(&'static [u8], Names, Names); 4] = [
     (b"r b\nw c\nr a\nw c", &[b"a", b"b"], &[b"c"]),
 ];
 
+/// The certificate that is found for the script, with its number of commands.
+fn cert_of(rt: &impl Abort, alloc: Global, text: &[u8]) -> Cert {
+    let script = script_of(rt, alloc, text);
+    let Found::Ranks(cert) = search(alloc, &script).expect(rt, "memory") else {
+        panic!(rt; "a loop");
+    };
+    let commands = usize::from(cert.commands());
+    require(rt, commands == script.commands().len(), text);
+    cert
+}
+
 #[test]
 fn ranks(rt: HostRuntime) {
     are_told(&rt, rt.alloc(), &RANKS);
     for (text, reads, writes) in &NAMES {
-        let Ok(script) = parse(rt.alloc(), text) else {
-            panic!(rt; "refused: {text:?}");
-        };
-        let Found::Ranks(cert) = search(rt.alloc(), &script).expect(&rt, "memory") else {
-            panic!(rt; "a loop: {text:?}");
-        };
-        let commands = usize::from(cert.commands());
-        assert_eq!(rt; commands, script.commands().len(), "{text:?}");
+        let cert = cert_of(&rt, rt.alloc(), text);
         are_names(&rt, cert.reads(), *reads);
         are_names(&rt, cert.writes(), *writes);
     }
