@@ -22,8 +22,10 @@ itself_again c next h = go (c == 91) (c == 92) refl refl
         let parts = plain_open next free in
         rw (e, parts.0, parts.1) refl
     go false true e f =
-        let free : begins
-        "n\\" next ≡ false = not-true (begins "n\\" next) (sym (ap (λ x. cond x (not (begins ":.=" next)) (cond (c == 92) (not (begins "n\\" next)) true)) e ∙ ap (λ x. cond x (not (begins "n\\" next)) true) f) ∙ h) in
+        let free : begins "n\\" next ≡ false =
+        not-true (begins "n\\" next)
+        (sym (ap (λ x. cond x (not (begins ":.=" next)) (cond (c == 92) (not (begins "n\\" next)) true)) e
+        ∙ ap (λ x. cond x (not (begins "n\\" next)) true) f) ∙ h) in
         let parts = plain_back next free in
         rw (e, f, parts.0, parts.1) refl
     go false false e f = rw (e, f) refl

@@ -24,8 +24,7 @@ backslash-requires c =
     let some : 0 < length c.args.text.now = omega arith in
     record {
       tail = tail_rest c.args.whole.now c.args.text.now 1 c.requires.tail;
-      start = subst
-          (λ p. StandsAt c.args.whole.now p
-          "\\") (sym c.place_in-start.ensures.value) (stands_at c.args.whole.now c.args.text.now "\\" c.requires.tail (begins_first "\\" c.args.text.now some (rw byte refl)));
+      start = subst (λ p. StandsAt c.args.whole.now p "\\") (sym c.place_in-start.ensures.value)
+          (stands_at c.args.whole.now c.args.text.now "\\" c.requires.tail (begins_first "\\" c.args.text.now some (rw byte refl)));
       other = no_group c.args.text.now byte c.requires.other;
     }
