@@ -10,7 +10,7 @@ all: build
 
 # `rt run` proves and builds the crates below the program where they have changed, then the program, and runs it once.
 build:
-	@echo "Proving and building sedck (a first build proves everything and takes a quarter of an hour) ..."
+	@echo "Proving and building sedck (a first build proves everything: some 25 processor minutes) ..."
 	cd crates/sedck && $(RT) run -- check ../../examples/$(EXAMPLE).sed ../../examples/$(EXAMPLE).cert > /dev/null
 	@mkdir -p build
 	@cp crates/sedck/out/sedck build/sedck.new && mv build/sedck.new build/sedck
@@ -21,7 +21,7 @@ demo: build
 	build/sedck check examples/$(EXAMPLE).sed examples/$(EXAMPLE).cert
 
 test:
-	@echo "Running the gate: every proof from nothing, the must-fail edits, the tests and the program (some three quarters of an hour) ..."
+	@echo "Running the gate: every proof from nothing, the must-fail edits, the tests and the program (some 100 processor minutes) ..."
 	$(RT) ci
 	@mkdir -p build
 	@cp crates/sedck/out/sedck build/sedck.new && mv build/sedck.new build/sedck
