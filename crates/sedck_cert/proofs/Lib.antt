@@ -18,3 +18,4 @@ pub mod CheckingLemmas
 pub mod BoundingLemmas
 pub mod SameNames
 pub mod Streaming
+pub mod TextLength

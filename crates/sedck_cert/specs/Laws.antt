@@ -4,7 +4,8 @@ use Rattle.sedck_script.specs.Invariant.{AreWellFormed}
 use Rattle.sedck_script.specs.Program.{Program}
 use Rattle.sedck_script.specs.Names.{reads, writes}
 use Rattle.sedck_flow.specs.Run.{State, Event, Run, NamesForReading, NamesForWriting}
-use Rattle.sedck_cert.specs.Certificate.{Certificate}
+use Rattle.sedck_cert.specs.Certificate.{Certificate, IsCertificate}
+use Rattle.sedck_cert.specs.Text.{certificate_text}
 use Rattle.sedck_cert.specs.Ranked.{IsRanked, IsSteady, ListsNames}
 use Rattle.sedck_cert.specs.StepLimit.{greatest_first, greatest_second, step_limit}
 use Rattle.sedck_flow.specs.Spaces.{bytes_of}
@@ -26,3 +27,7 @@ steady_limit c lines = (greatest_second c.ranks + 1) * (bytes_of lines + (greate
 abbrev pub SteadyRunsAreCounted : Type 0
 SteadyRunsAreCounted = (p : Program) → AreWellFormed p → (c : Certificate) → IsSteady p c
     → (lines : List (List ℕ)) (steps : List (Event × State)) → Run p lines steps → length steps ≤ steady_limit c lines
+
+-- no certificate has a longer text
+abbrev pub TextsAreLimited : Type 0
+TextsAreLimited = (c : Certificate) → IsCertificate c → length (certificate_text c) ≤ 1202051

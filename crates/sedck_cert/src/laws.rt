@@ -1,6 +1,6 @@
 //! What is proved of certificates and runs alone. The functions do nothing: their contracts are the laws.
 
-ghost use Rattle.sedck_cert.specs.Laws.{NamesAreListed, RanksBoundRuns, SteadyRunsAreCounted};
+ghost use Rattle.sedck_cert.specs.Laws.{NamesAreListed, RanksBoundRuns, SteadyRunsAreCounted, TextsAreLimited};
 
 /// The sorted names of a script are a list of just the names that its commands name.
 pub fn names_are_listed()
@@ -15,4 +15,9 @@ pub fn ranks_bound_runs()
 /// No run of a steady script has more steps than its limit, which grows with the input's bytes and lines alone.
 pub fn steady_runs_are_counted()
     ensures { SteadyRunsAreCounted }
+{}
+
+/// No certificate's text has more than 1,202,051 bytes.
+pub fn texts_are_limited()
+    ensures { TextsAreLimited }
 {}
