@@ -2,3 +2,4 @@ pub mod Inputs
 pub mod Answering
 pub mod Ending
 pub mod GraphLines
+pub mod LineParts

@@ -12,3 +12,5 @@ pub mod Engines
 pub mod Faults
 pub mod Statuses
 pub mod Requests
+pub mod Lines
+pub mod Places

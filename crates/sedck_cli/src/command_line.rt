@@ -1,29 +1,27 @@
 //! The program `sedck` for the words of its command line.
 
-ghost use Rattle.std.specs.Prelude.{◌≡◌, ◌⊎◌, ◌<◌, ◌≤◌, true, Ok, Err, IfOk, IfErr};
+ghost use Rattle.std.specs.Prelude.{◌≡◌, ◌⊎◌, ◌<◌, ◌≤◌, true, false, Ok, Err, IfOk, IfErr};
 ghost use Rattle.std.specs.Io.KnownBytes.{Keeps, Appends};
 ghost use Rattle.sedck_cli.specs.Statuses.{status_of, asked, asked_of_script, Check, Files as TheFiles, Graph, Rank, Nothing, Reports, BreaksOff, Leaves, IsOfWords, begins_with_hyphen, has_option};
+ghost use Rattle.sedck_cli.specs.Lines.{refusal_line, SaysRefusal};
 ghost use Rattle.sedck_cli.specs.Requests.{request_asks, asked_by};
 ghost use Rattle.sedck_cli.specs.declared.command_line.Refusal.TheVariants.{Run};
 ghost use Rattle.sedck_cli.specs.declared.answer.RunFault.TheVariants as fault;
 
 use crate::answer::{Input, Outcome, RunFault};
 use crate::engines::{run_check, run_files, run_graph, run_rank};
+use crate::refusal_line::write_refusal;
 use clap::error::ErrorKind;
 use clap::{Arg, Command};
-use sedck_cert::streams::{FromRead, Sink, write_all};
+use sedck_cert::streams::{FromRead, Sink};
 use std::alloc::{AllocError, Global};
-use std::fmt::Write;
+use std::fs;
 use std::fs::Files;
-use std::{fmt, fs};
-use thiserror::Error;
 
 /// Why the program answers neither yes nor no.
-#[derive(Clone, Copy, Debug, Drop, Error)]
+#[derive(Clone, Copy, Debug, Drop)]
 pub enum Refusal {
-    #[error("usage: sedck rank SCRIPT, check SCRIPT CERT, files SCRIPT, graph SCRIPT")]
     Usage,
-    #[error("{0}")]
     Run(RunFault),
 }
 
@@ -58,29 +56,15 @@ impl Refusal {
         }
     }
 
-    /// Tells the refusal in one line, and answers the exit status, which is the same where the line can't be written.
+    /// Writes the refusal in one line, and answers the exit status, which is the same where the line can't be written.
     /// It takes no memory.
     pub fn tell<E: Sink>(self, err: &mut E) -> u8
-        ensures { result ≡ status_of self }
+        ensures status { result ≡ status_of self }
+        // The line stands there, unless a write has failed.
+        ensures line { E.has_failed err.new ≡ false → Appends (E.taken err.old) (E.taken err.new) (refusal_line self) }
     {
-        let mut line = Line(err);
-        let _ = writeln!(line, "sedck: {self}");
+        let _ = write_refusal(err, self);
         self.status()
-    }
-}
-
-/// A sink that takes text.
-#[derive(Drop)]
-struct Line<'a, E>(&'a mut E);
-
-impl<E: Sink> Write for Line<'_, E> {
-    ghost write_str_gives = { λ before text after. Appends (E.taken before.0.now) (E.taken after.0.now) text };
-
-    fn write_str(&mut self, text: &str) -> fmt::Result {
-        match write_all(self.0, text.as_bytes()) {
-            Ok(()) => Ok(()),
-            Err(_) => Err(fmt::Error),
-        }
     }
 }
 
@@ -104,7 +88,7 @@ enum Request<'a> {
 /// The whole program for the words after its name, and its exit status: 0 for yes, 1 for no, 2 where the script or the
 /// certificate is refused, 3 for words of no form, 4 where a stream fails or memory runs out.
 ///
-/// What it makes of its words, and what it tells of a refusal, is shown by tests.
+/// Which words `clap` takes, and which files are opened, is shown by tests.
 pub fn program<R: Files + AllocGlobal, W: Sink, E: Sink>(
     rt: &R,
     words: &[String],
@@ -121,6 +105,9 @@ pub fn program<R: Files + AllocGlobal, W: Sink, E: Sink>(
     // A refusal writes nothing, but where writing fails.
     ensures refused { 1 < result → result < 4 → Keeps (W.taken out.old) (W.taken out.new) }
     ensures failed { result ≡ 4 → Keeps (W.taken out.old) (W.taken out.new) ⊎ BreaksOff (asked words.now) (W.taken out.old) (W.taken out.new) }
+    // Its line stands on standard error, unless a write of it has failed.
+    ensures told { 1 < result → E.has_failed err.new ≡ false → SaysRefusal result (E.taken err.old) (E.taken err.new) }
+    ensures silent { result < 2 → Keeps (E.taken err.old) (E.taken err.new) }
 {
     match answer(rt, words, out) {
         Ok(Outcome::Yes) => 0,

@@ -6,6 +6,7 @@ mod command_line;
 mod engines;
 mod input;
 mod rank;
+mod refusal_line;
 mod report;
 
 pub use answer::{Input, Outcome, RunFault};

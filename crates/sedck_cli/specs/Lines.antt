@@ -1,0 +1,27 @@
+-- What a refusal says.
+use Rattle.std.specs.Prelude.{◌≡◌, ℕ, List, ◌++◌, Option, codes}
+use Rattle.std.specs.Io.KnownBytes.{Appends}
+use Rattle.sedck_script.specs.FaultWords.{fault_words}
+use Rattle.sedck_cert.specs.FaultText.{fault_text}
+use Rattle.sedck_cert.specs.Text.{line}
+use Rattle.sedck_cli.specs.declared.answer.RunFault.TheVariants as fault
+use Rattle.sedck_cli.specs.declared.command_line.Refusal.{Refusal}
+use Rattle.sedck_cli.specs.declared.command_line.Refusal.TheVariants.{Usage, Run}
+use Rattle.sedck_cli.specs.Reports.{input_text}
+use Rattle.sedck_cli.specs.Statuses.{status_of}
+
+abbrev pub refusal_words : Refusal → List ℕ
+refusal_words Usage = codes "usage: sedck rank SCRIPT, check SCRIPT CERT, files SCRIPT, graph SCRIPT"
+refusal_words (Run (fault.Script why)) = codes "script " ++ fault_words why
+refusal_words (Run (fault.Certificate why)) = codes "certificate " ++ fault_text why
+refusal_words (Run (fault.Read input)) = codes "cannot read " ++ input_text input
+refusal_words (Run fault.Write) = codes "cannot write"
+refusal_words (Run fault.OutOfMemory) = codes "out of memory"
+
+-- the line on standard error
+abbrev pub refusal_line : Refusal → List ℕ
+refusal_line refusal = line (codes "sedck: " ++ refusal_words refusal)
+
+-- the line of a refusal with this status was written
+abbrev pub SaysRefusal : ℕ → Option (List ℕ) → Option (List ℕ) → Type 0
+SaysRefusal status before after = (refusal : Refusal) × (status_of refusal ≡ status) × Appends before after (refusal_line refusal)
