@@ -7,6 +7,8 @@ abbrev pub bit_count : List ℕ → ℕ
 bit_count [] = 0
 bit_count (word ∷ words) = count_ones word + bit_count words
 
+-- ---- Only private contracts and proofs cite what follows.
+
 -- whether the row has the node; no node lies behind its words
 unfoldable pub has : List ℕ → ℕ → Bool
 has words node = bit_at (slice_index words (node / 64)) (node % 64) == 1
