@@ -9,7 +9,7 @@ use Rattle.sedck_script.specs.Program.{Pattern, Address, NoAddress, One, Two, ad
 use Rattle.sedck_script.specs.Items.{WrittenVerb, Known, BranchTo, TestTo, Opening, VerbText, Takes, Item, Written, Closing, Items}
 use Rattle.sedck_script.specs.Faults.{StandsAt}
 use Rattle.sedck_script.specs.Reading.{EndsIn, HasLabels, AreLabelsOnce, label_place}
-use Rattle.sedck_script.specs.ItemReading.{Turn, Opens, Closes, Stays, item_of, commands_among, Nests, IsItemWithin}
+use Rattle.sedck_script.specs.ItemReading.{Turn, Opens, Closes, Stays, item_of, commands_among, Nests, IsItemAt}
 use Rattle.sedck_script.specs.AddressReading.{IsEmptyAt}
 use Rattle.sedck_script.specs.declared.items.Progress.{Progress}
 use Rattle.sedck_script.specs.declared.verbs.Written.{Written as WrittenCode}
@@ -74,9 +74,9 @@ pub record IsProgress (text rest : List ℕ) (progress : Progress) : Type 0 wher
   pub labels : HasLabels progress.labels (commands_among (map item_of progress.items.items))
   pub count : progress.count ≡ length (commands_among (map item_of progress.items.items))
   pub few : progress.count ≤ 4095
-  pub within : All (IsItemWithin (length text)) progress.items.items
+  pub label_places : All (IsItemAt text) progress.items.items
   pub opened : All (λ place. StandsAt text place brace) progress.open_blocks.items
-  pub empty : IsEmptyAt (length text) (item_patterns (map item_of progress.items.items)) progress.empty
+  pub empty : IsEmptyAt text (item_patterns (map item_of progress.items.items)) progress.empty
 
 -- the text has no items that close each block and are within the limits, and whose labels stand once
 abbrev pub HasNoItems : List ℕ → Type 0

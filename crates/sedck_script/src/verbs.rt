@@ -7,7 +7,7 @@ ghost use Rattle.sedck_script.specs.Items.{WrittenVerb, Known, Simple, VerbText,
 ghost use Rattle.sedck_script.specs.Faults.{IsPlaced, StandsAt, verb_bytes};
 ghost use Rattle.sedck_script.specs.Reading.{EndsIn};
 ghost use Rattle.sedck_script.specs.View.{verb_of};
-ghost use Rattle.sedck_script.specs.VerbReading.{written_verb, IsWrittenWithin, DefinesKnown};
+ghost use Rattle.sedck_script.specs.VerbReading.{written_verb, IsWrittenAt, DefinesKnown};
 
 use crate::bytes::split_blanks;
 use crate::ends::end_of_command;
@@ -169,10 +169,10 @@ fn definition<'a>(
     labels: &IndexMap<&'a [u8], usize>,
     text: &'a [u8],
 ) -> Result<(Written<'a>, &'a [u8]), ScriptFault>
-    requires { EndsIn whole.now text.now }
+    requires { EndsIn whole.now (58 ∷ text.now) }
     ensures read { IfOk result (λ x. VerbText (58 ∷ text.now) (written_verb x.0) x.1.now) }
     ensures fresh { IfOk result (λ x. DefinesKnown labels.now (written_verb x.0) → ⊥) }
-    ensures within { IfOk result (λ x. IsWrittenWithin (length whole.now) x.0) }
+    ensures label { IfOk result (λ x. IsWrittenAt whole.now x.0) }
     ensures refused { IfErr result (λ fault. (verb : WrittenVerb) (rest : List ℕ) → VerbText (58 ∷ text.now) verb rest → DefinesKnown labels.now verb) }
     ensures placed { IfErr result (λ fault. IsPlaced whole.now fault) }
 {
@@ -186,11 +186,11 @@ fn definition<'a>(
 
 /// What a `b` or a `t` takes, and the rest of the script from its end on.
 fn jump<'a>(whole: &[u8], verb: u8, text: &'a [u8]) -> Result<(Written<'a>, &'a [u8]), ScriptFault>
-    requires tail { EndsIn whole.now text.now }
+    requires tail { EndsIn whole.now (verb ∷ text.now) }
     requires verb { (verb ≡ 98) ⊎ (verb ≡ 116) }
     ensures read { IfOk result (λ x. VerbText (verb ∷ text.now) (written_verb x.0) x.1.now) }
     ensures no_label { IfOk result (λ x. (name : List ℕ) → written_verb x.0 ≢ Known (clean.Label name)) }
-    ensures within { IfOk result (λ x. IsWrittenWithin (length whole.now) x.0) }
+    ensures label { IfOk result (λ x. IsWrittenAt whole.now x.0) }
     ensures refused { IfErr result (λ fault. (written : WrittenVerb) (rest : List ℕ) → VerbText (verb ∷ text.now) written rest → ⊥) }
     ensures placed { IfErr result (λ fault. IsPlaced whole.now fault) }
 {
@@ -216,7 +216,7 @@ pub fn verb_at<'a>(
     requires verb { IsNoBrace text.now }
     ensures read { IfOk result (λ x. VerbText text.now (written_verb x.0) x.1.now) }
     ensures fresh { IfOk result (λ x. DefinesKnown labels.now (written_verb x.0) → ⊥) }
-    ensures within { IfOk result (λ x. IsWrittenWithin (length whole.now) x.0) }
+    ensures label { IfOk result (λ x. IsWrittenAt whole.now x.0) }
     ensures refused { IfErr result (λ fault. fault ≢ ScriptFault.OutOfMemory → (verb : WrittenVerb) (rest : List ℕ) → VerbText text.now verb rest → DefinesKnown labels.now verb) }
     ensures placed { IfErr result (λ fault. IsPlaced whole.now fault) }
 {
