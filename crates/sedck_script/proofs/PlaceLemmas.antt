@@ -10,15 +10,15 @@ use Rattle.sedck_bre.specs.Faults.{IsOfText}
 use Rattle.sedck_bre.specs.Faults as expressions
 use Rattle.sedck_bre.specs.declared.fault.ReFault.{ReFault}
 use Rattle.sedck_script.specs.Cuts.{is_blank, is_digit, is_ending, is_label_byte, is_delimiter, IsEmptyOr, Longest}
-use Rattle.sedck_script.specs.Program.{Pattern, Previous, Expression, Verb, verb_patterns}
-use Rattle.sedck_script.specs.Parts.{Number, DelimitedExpression, IsPattern}
+use Rattle.sedck_script.specs.Program.{Address, Pattern, Previous, Expression, Verb, verb_patterns}
+use Rattle.sedck_script.specs.Parts.{Number, DelimitedExpression, IsPattern, AddressText}
 use Rattle.sedck_script.specs.Parts as p
 use Rattle.sedck_script.specs.Items.{WrittenVerb, Simple, VerbText}
 use Rattle.sedck_script.specs.Items as w
-use Rattle.sedck_script.specs.Faults.{StandsAt, StandsWhere, EndsOrFails, is_extra, begins_address, IsNoNumber, IsNoSecondAddress, IsRefusedExpression, FollowsLabel, IsEmptyExpression}
+use Rattle.sedck_script.specs.Faults.{BeginsCommand, IsVerbDue, StandsAt, StandsWhere, EndsOrFails, is_extra, begins_address, IsNoNumber, IsNoSecondAddress, IsRefusedExpression, FollowsLabel, IsEmptyExpression}
 use Rattle.sedck_script.specs.Reading.{EndsIn}
 use Rattle.sedck_script.specs.PieceReading.{PatternText}
-use Rattle.sedck_script.specs.AddressReading.{IsBehindComma, BeginsNoPlace, has_previous}
+use Rattle.sedck_script.specs.AddressReading.{is_mark, IsBehindComma, BeginsNoPlace, has_previous}
 use Rattle.sedck_script.specs.LabelReading.{IsBehindVerb, IsBehindLabel}
 use Rattle.sedck_script.specs.Progress.{written_patterns}
 use Rattle.sedck_script.proofs.Tails.{tail_tail, tail_cut, tail_behind, tail_length, stands_at_tail, take_front}
@@ -40,6 +40,20 @@ ends_or_fails {whole} {text = []} test h n =
     (omega arith, λ b at. absurd (omega (arith, slice_get_within whole (length whole - 0) b at)))
 ends_or_fails {whole} {text = c ∷ text} test h n =
     (omega arith, λ b at. ap test (same_byte at (stands_at_tail h refl)) ∙ not-true (test c) n)
+
+-- where a command begins, its verb is due behind its addresses, blanks and `!`
+pub verb_due : {whole text behind marks begins : List ℕ} {address : Address} → EndsIn whole text → BeginsCommand text → AddressText text address behind
+    → Longest is_mark behind marks begins → EndsIn whole begins → IsVerbDue whole (length whole - length begins)
+unfolding IsVerbDue
+verb_due {whole} {text} {behind} {marks} {address = address} h b a l k = (
+  length whole - length text,
+  address,
+  behind,
+  marks,
+  subst BeginsCommand (sym (cut_at h).1) b,
+  subst (λ t. AddressText t address behind) (sym (cut_at h).1) a,
+  subst (λ t. Longest is_mark behind marks t) (sym (cut_at k).1) l,
+)
 
 -- ---- Addresses
 

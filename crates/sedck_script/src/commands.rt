@@ -7,7 +7,7 @@ ghost use Rattle.sedck_script.specs.Cuts.{bang, Longest};
 ghost use Rattle.sedck_script.specs.Program as clean;
 ghost use Rattle.sedck_script.specs.Program.{address_patterns};
 ghost use Rattle.sedck_script.specs.Items.{WrittenVerb, Opening, VerbText, Takes, IsNoBrace, CommandText};
-ghost use Rattle.sedck_script.specs.Faults.{IsEmptyExpression, IsPlaced, verb_bytes};
+ghost use Rattle.sedck_script.specs.Faults.{BeginsCommand, IsVerbDue, IsEmptyExpression, IsPlaced, verb_bytes};
 ghost use Rattle.sedck_script.specs.Reading.{EndsIn};
 ghost use Rattle.sedck_script.specs.VerbReading.{written_verb, IsWrittenAt, DefinesKnown};
 ghost use Rattle.sedck_script.specs.AddressReading.{is_mark, has_previous, IsEmptyAt};
@@ -65,6 +65,7 @@ fn check_verb(
     text: &[u8],
 ) -> Result<(), ScriptFault>
     requires tail { EndsIn whole.now text.now }
+    requires due { IsVerbDue whole.now (length whole.now - length text.now) }
     ensures allowed { OnOk result (AreAllowed (address_of address.now) negated depth count text.now) }
     ensures brace { OnOk result (IsNoBrace text.now) }
     ensures refused { IfErr result (λ fault. (verb : WrittenVerb) (rest : List ℕ) → VerbText text.now verb rest → Takes verb (address_of address.now) negated → IsBeyond depth count verb) }
@@ -113,6 +114,7 @@ fn allowed_verb<'a>(
     text: &'a [u8],
 ) -> Result<(Written<'a>, &'a [u8]), ScriptFault>
     requires tail { EndsIn whole.now text.now }
+    requires due { IsVerbDue whole.now (length whole.now - length text.now) }
     ensures read { IfOk result (λ x. VerbText text.now (written_verb x.0) x.1.now) }
     ensures taken { IfOk result (λ x. Takes (written_verb x.0) (address_of address.now) negated) }
     ensures fresh { IfOk result (λ x. DefinesKnown labels.now (written_verb x.0) → ⊥) }
@@ -136,6 +138,7 @@ pub fn command_at<'a>(
     text: &'a [u8],
 ) -> Result<(WrittenCommand<'a>, Option<usize>, &'a [u8]), ScriptFault>
     requires tail { EndsIn whole.now text.now }
+    requires begins { BeginsCommand text.now }
     ensures read { IfOk result (λ x. CommandText text.now (address_of x.0.address) x.0.negated (written_verb x.0.verb) x.2.now) }
     ensures fresh { IfOk result (λ x. DefinesKnown labels.now (written_verb x.0.verb) → ⊥) }
     ensures shallow { IfOk result (λ x. written_verb x.0.verb ≡ Opening → depth < 64) }

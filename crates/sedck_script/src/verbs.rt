@@ -1,10 +1,10 @@
 //! Verbs with what they take.
 
-ghost use Rattle.std.specs.Prelude.{◌≡◌, ◌≢◌, ◌⊎◌, ℕ, List, [], ◌∷◌, false, length, IsTrue, IfOk, IfErr, IfSome, IfNone};
+ghost use Rattle.std.specs.Prelude.{◌≡◌, ◌≢◌, ◌⊎◌, ◌-◌, ℕ, List, [], ◌∷◌, false, length, IsTrue, IfOk, IfErr, IfSome, IfNone};
 ghost use Rattle.sedck_bre.specs.Text.{is_in, one_of};
 ghost use Rattle.sedck_script.specs.Program as clean;
 ghost use Rattle.sedck_script.specs.Items.{WrittenVerb, Known, Simple, VerbText, IsNoBrace};
-ghost use Rattle.sedck_script.specs.Faults.{IsPlaced, StandsAt, verb_bytes};
+ghost use Rattle.sedck_script.specs.Faults.{IsVerbDue, IsPlaced, StandsAt, verb_bytes};
 ghost use Rattle.sedck_script.specs.Reading.{EndsIn};
 ghost use Rattle.sedck_script.specs.View.{verb_of};
 ghost use Rattle.sedck_script.specs.VerbReading.{written_verb, IsWrittenAt, DefinesKnown};
@@ -120,6 +120,7 @@ fn simple_command<'a>(
     requires tail { EndsIn whole.now text.now }
     requires other { one_of "=dDgGhHlnNpPqx" verb ≡ false → is_in verb verb_bytes ≡ false }
     requires stands { StandsAt whole.now place verb }
+    requires due { IsVerbDue whole.now place }
     ensures read { IfOk result (λ x. VerbText (verb ∷ text.now) (Known (verb_of x.0)) x.1.now) }
     ensures plain { IfOk result (λ x. (name : List ℕ) → verb_of x.0 ≢ clean.Label name) }
     ensures refused { IfErr result (λ fault. (written : WrittenVerb) (rest : List ℕ) → VerbText (verb ∷ text.now) written rest → ⊥) }
@@ -143,6 +144,7 @@ fn known_verb<'a>(
     requires tail { EndsIn whole.now text.now }
     requires verb { one_of ":bt{}#" verb ≡ false }
     requires stands { StandsAt whole.now place verb }
+    requires due { IsVerbDue whole.now place }
     ensures read { IfOk result (λ x. VerbText (verb ∷ text.now) (Known (verb_of x.0)) x.1.now) }
     ensures plain { IfOk result (λ x. (name : List ℕ) → verb_of x.0 ≢ clean.Label name) }
     ensures refused { IfErr result (λ fault. fault ≢ ScriptFault.OutOfMemory → (written : WrittenVerb) (rest : List ℕ) → VerbText (verb ∷ text.now) written rest → ⊥) }
@@ -213,6 +215,7 @@ pub fn verb_at<'a>(
     text: &'a [u8],
 ) -> Result<(Written<'a>, &'a [u8]), ScriptFault>
     requires tail { EndsIn whole.now text.now }
+    requires due { IsVerbDue whole.now (length whole.now - length text.now) }
     requires verb { IsNoBrace text.now }
     ensures read { IfOk result (λ x. VerbText text.now (written_verb x.0) x.1.now) }
     ensures fresh { IfOk result (λ x. DefinesKnown labels.now (written_verb x.0) → ⊥) }
