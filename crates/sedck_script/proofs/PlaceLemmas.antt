@@ -1,6 +1,6 @@
 -- What stands at the place of an end of the text.
-use Rattle.std.proofs.Common.{◌≡◌, ℕ, ◌<◌, ◌-◌, Bool, true, not, ◌||◌, List, [], ◌∷◌, ◌++◌, length, take, drop, refl, ap, sym, ◌∙◌, subst, append_assoc, length-append, arith}
-use Rattle.std.specs.Prelude.{IsTrue}
+use Rattle.std.proofs.Common.{◌≡◌, ℕ, zero, suc, ◌<◌, ◌-◌, Bool, true, not, ◌||◌, List, [], ◌∷◌, ◌++◌, length, take, drop, refl, ap, sym, ◌∙◌, subst, append_assoc, length-append, arith}
+use Rattle.std.specs.Prelude.{slice_get, IsTrue}
 use Rattle.std.specs.List.{list_all}
 use Rattle.std.proofs.lemmas.Bool.{false≢true, false_from_ne_true, not_from_false, not-true, and_parts}
 use Rattle.std.proofs.lemmas.Option.{slice_get_within}
@@ -15,7 +15,7 @@ use Rattle.sedck_script.specs.Parts.{Number, DelimitedExpression, IsPattern, Add
 use Rattle.sedck_script.specs.Parts as p
 use Rattle.sedck_script.specs.Items.{WrittenVerb, Simple, VerbText}
 use Rattle.sedck_script.specs.Items as w
-use Rattle.sedck_script.specs.Faults.{BeginsCommand, IsVerbDue, StandsAt, StandsWhere, EndsOrFails, is_extra, begins_address, IsNoNumber, IsNoSecondAddress, IsRefusedExpression, FollowsLabel, IsEmptyExpression}
+use Rattle.sedck_script.specs.Faults.{BeginsCommand, IsVerbDue, StandsAt, StandsWhere, EndsOrFails, is_extra, begins_address, IsNoNumber, IsNoSecondAddress, IsRefusedExpression, FollowsLabel, IsLabelHere, IsEmptyExpression}
 use Rattle.sedck_script.specs.Reading.{EndsIn}
 use Rattle.sedck_script.specs.PieceReading.{PatternText}
 use Rattle.sedck_script.specs.AddressReading.{is_mark, IsBehindComma, BeginsNoPlace, has_previous}
@@ -190,7 +190,17 @@ pub no_label_place : {whole behind : List ℕ} → IsBehindLabel whole behind
 no_label_place h = (h.follows, ends_or_fails is_label_byte h.tail h.stops)
 
 pub label_begins : {whole text blanks begins name behind : List ℕ} → EndsIn whole text → Longest is_blank text blanks begins
-    → Longest is_label_byte begins name behind → 0 < length name → StandsWhere is_label_byte whole (length whole - length begins)
-label_begins {name = []} h l m some = absurd (omega arith)
-label_begins {name = b ∷ name} h l m some =
-    (b, stands_at_tail (tail_tail h (tail_cut l)) m.cut, (and_parts (is_label_byte b) (list_all is_label_byte name) m.passes).0)
+    → Longest is_label_byte begins name behind → 0 < length name → IsLabelHere whole (length whole - length begins) name
+label_begins {name = name} {behind = behind} h l m some =
+    (behind, subst (λ t. Longest is_label_byte t name behind) (sym (cut_at (tail_tail h (tail_cut l))).1) m, some)
+
+get_behind : (text : List ℕ) (place : ℕ) → slice_get text place ≡ slice_get (drop place text) 0
+get_behind [] zero = refl
+get_behind [] (suc place) = refl
+get_behind (b ∷ text) zero = refl
+get_behind (b ∷ text) (suc place) = get_behind text place
+
+pub label_stands : (text : List ℕ) (place : ℕ) {name : List ℕ} → IsLabelHere text place name → StandsWhere is_label_byte text place
+label_stands text place {name = []} (rest, l, some) = absurd (omega arith)
+label_stands text place {name = b ∷ name} (rest, l, some) =
+    (b, get_behind text place ∙ ap (λ t. slice_get t 0) l.cut, (and_parts (is_label_byte b) (list_all is_label_byte name) l.passes).0)

@@ -51,7 +51,7 @@ abbrev pub Nests : List Item → ℕ → Type 0
 Nests [] depth = depth ≡ 0
 Nests (item ∷ items) depth = Turned (turn_of item) (Nests items) depth
 
--- at the place of an item's label stands its first byte
+-- an item's label begins at its place
 abbrev pub IsItemAt : List ℕ → WrittenItem → Type 0
 IsItemAt text (code.Command c) = IsWrittenAt text c.verb
 IsItemAt text code.Closing = Unit {0}

@@ -18,7 +18,7 @@ written_verb (code.BranchTo label place) = BranchTo (option_copied label)
 written_verb (code.TestTo label place) = TestTo (option_copied label)
 written_verb code.Opening = Opening
 
--- A known verb is no label, and at the place of a label stands its first byte.
+-- A known verb is no label, and a label begins at its place.
 abbrev pub IsWrittenAt : List ℕ → Written → Type 0
 IsWrittenAt text (code.Known verb) = (name : List ℕ) → verb_of verb ≡ Label name → ⊥
 IsWrittenAt text (code.Label name place) = IsLabelPlace text place (Some name.now)

@@ -4,7 +4,7 @@ ghost use Rattle.std.specs.Prelude.{◌≡◌, ◌<◌, ◌+◌, ℕ, List, Opti
 ghost use Rattle.sedck_script.specs.Cuts.{is_blank, is_ending, is_label_byte, Longest};
 ghost use Rattle.sedck_script.specs.Parts.{Ends, LabelText};
 ghost use Rattle.sedck_script.specs.Items.{IsNoComment, IsNoBrace};
-ghost use Rattle.sedck_script.specs.Faults.{StandsWhere, IsPlaced};
+ghost use Rattle.sedck_script.specs.Faults.{IsLabelHere, IsPlaced};
 ghost use Rattle.sedck_script.specs.Reading.{IsLabelAt, IsLabelPlace};
 ghost use Rattle.sedck_script.specs.LabelReading.{BranchText, IsBehindVerb, IsBehindLabel};
 
@@ -25,7 +25,7 @@ fn label_parts<'a>(whole: &[u8], text: &'a [u8]) -> (&'a [u8], usize, &'a [u8])
     ensures parts { IsLabelAt text.now result.0.now result.2.now }
     ensures behind { IsBehindLabel whole.now result.2.now }
     ensures place { result.1 + length result.0.now + length result.2.now ≡ length whole.now }
-    ensures label { 0 < length result.0.now → StandsWhere is_label_byte whole.now result.1 }
+    ensures label { 0 < length result.0.now → IsLabelHere whole.now result.1 result.0.now }
 {
     let (_, begins) = split_blanks(text);
     let (name, behind) = split_label(begins);
@@ -56,7 +56,7 @@ pub fn defined_label<'a>(
 ) -> Result<(&'a [u8], usize, &'a [u8]), ScriptFault>
     requires { IsBehindVerb whole.now text.now }
     ensures read { IfOk result (λ x. LabelText text.now x.0.now x.2.now × IsNoBrace x.2.now) }
-    ensures label { IfOk result (λ x. StandsWhere is_label_byte whole.now x.1) }
+    ensures label { IfOk result (λ x. IsLabelHere whole.now x.1 x.0.now) }
     ensures refused { IfErr result (λ fault. (name : List ℕ) (behind : List ℕ) (rest : List ℕ) → LabelText text.now name behind → IsNoBrace behind → Ends behind rest → ⊥) }
     ensures placed { IfErr result (λ fault. IsPlaced whole.now fault) }
 {

@@ -1,9 +1,9 @@
-use Rattle.std.proofs.Common.{refl, ◌≡◌, ◌∙◌, ℕ, List, Option, Some, None, true, map, sym, subst, ap, arith}
+use Rattle.std.proofs.Common.{refl, inl, inr, ◌≡◌, ◌∙◌, ℕ, List, Option, Some, None, true, map, sym, subst, ap, arith}
 use Rattle.std.proofs.lemmas.Bool.{both_ways}
 use Rattle.sedck_script.specs.Faults.{IsPlaced}
 use Rattle.sedck_script.specs.ItemReading.{item_of}
 use Rattle.sedck_script.proofs.Outcomes.{if_err_from}
-use Rattle.sedck_script.proofs.ProgramLemmas.{no_program, no_target, no_expression, are_commands}
+use Rattle.sedck_script.proofs.ProgramLemmas.{no_program, undefined_label, no_target, no_expression, are_commands}
 use Rattle.sedck_script.specs.Program.{Pattern, expressions}
 use Rattle.sedck_script.specs.View.{command_of}
 use Rattle.sedck_script.specs.AddressReading.{has_previous, IsEmptyAt}
@@ -24,7 +24,11 @@ returns-in_err-commands-clause-refused c =
 pub returns-in_err-commands-clause-placed : goal.returns-in_err-commands-clause-placed
 returns-in_err-commands-clause-placed c =
     if_err_from _ c.from_residual-in_err-commands.result _ c.from_residual-in_err-commands.ensures.1
-    (c.in_err-commands.ensures.placed c.args.text.now c.in_ok-items.ensures.progress.1.label_places)
+    (elim (c.in_err-commands.ensures.placed c.args.text.now c.in_ok-items.ensures.progress.1.label_places) [
+      | inl memory ↦ subst (IsPlaced c.args.text.now) (sym memory) tt
+      | inr lost ↦ subst (IsPlaced c.args.text.now) (sym lost.2) (undefined_label c.in_ok-items.field-0.labels _ lost.0 lost.1
+          c.in_ok-items.ensures.read c.in_ok-items.ensures.progress.1.labels lost.3 lost.4)
+    ])
 
 previous : (text : List ℕ) (ps : List Pattern) {o : Option ℕ} {place : ℕ} → o ≡ Some place → IsEmptyAt text ps o
     → IsEmptyAt text ps (Some place)
