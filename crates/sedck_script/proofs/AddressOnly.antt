@@ -16,11 +16,10 @@ use Rattle.std.specs.Prelude.{IfSome, IfNone}
 use Rattle.std.specs.Borrow.{Bor}
 use Rattle.sedck_script.specs.View.{place_of}
 use Rattle.sedck_script.specs.declared.script.Place.{Place as CodePlace}
-use Rattle.sedck_bre.proofs.Whole.{one_tree}
 use Rattle.sedck_script.proofs.Heads.{heads, tails}
 
 one_place : {text r s : List ℕ} {q u : Place} → PlaceText text q r → PlaceText text u s → (q ≡ u) × (r ≡ s)
-one_place x y = place_one one_tree x y
+one_place x y = place_one x y
 
 begins_no : {b : ℕ} {more text : List ℕ} → text ≡ b ∷ more → begins_address b ≡ true → BeginsNoPlace text → ⊥
 begins_no {b} e h n = both_ways (begins_address b) (not-true (begins_address b) (subst (λ t. BeginsNoPlace t) e n)) h

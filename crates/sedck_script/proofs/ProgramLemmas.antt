@@ -20,7 +20,6 @@ use Rattle.sedck_script.proofs.Nesting.{resolves_nests, resolves_length, label_w
 use Rattle.sedck_script.proofs.SortedNames.{Contains-cons_cases, Contains-cons_more}
 use Rattle.sedck_script.proofs.ItemsOne.{items_one}
 use Rattle.sedck_script.proofs.ResolvesOne.{commands_one}
-use Rattle.sedck_bre.proofs.Whole.{one_tree}
 
 -- a text without items spells no program
 pub no_program : {text : List ℕ} → HasNoItems text → (other : Program) → Spells text other → ⊥
@@ -81,7 +80,7 @@ module _ {S : Type 0} (labels : HashMap (Bor (List ℕ)) ℕ S) where
       → Any (λ item. IsLostLabel labels (item_label (item_of item))) items
       → (other : Program) → Spells text other → ⊥
   no_target items x h any other s =
-      let same : s.items ≡ map item_of items = items_one one_tree s.spelled x in
+      let same : s.items ≡ map item_of items = items_one s.spelled x in
       let r : Resolves other.commands [] 0 (map item_of items) other.commands =
       subst (λ t. Resolves other.commands [] 0 t other.commands) same s.commands.resolved in
       let lost = lost_at any.0 (item_of any.1) r (omega (arith, any.2, items_length items))
@@ -95,7 +94,7 @@ module _ {S : Type 0} (labels : HashMap (Bor (List ℕ)) ℕ S) where
     name,
     here,
     λ others y has.
-        let found = among_has items name (subst (λ t. Contains t (Written NoAddress false (Known (Label name)))) (items_one one_tree y x) has) in
+        let found = among_has items name (subst (λ t. Contains t (Written NoAddress false (Known (Label name)))) (items_one y x) has) in
         none_some none (h.found name found.0 found.1),
   )
 
@@ -140,7 +139,7 @@ pub no_expression : {text : List ℕ} {items : List Item} {cs : List Command} �
     → has_previous (item_patterns items) ≡ true → has_some (expressions cs) ≡ false
     → (other : Program) → Spells text other → ⊥
 no_expression {items = items} {cs = cs} x r h none other s =
-    let same : s.items ≡ items = items_one one_tree s.spelled x in
+    let same : s.items ≡ items = items_one s.spelled x in
     let commands : cs ≡ other.commands = commands_one r
     (subst (λ t. Resolves other.commands [] 0 t other.commands) same s.commands.resolved) s.commands.labels in
     let previous : Contains (patterns cs) Previous = previous_contained (patterns cs) (ap has_previous (resolved_patterns r) ∙ h) in
