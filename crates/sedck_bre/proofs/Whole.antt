@@ -7,7 +7,8 @@ use Rattle.sedck_bre.specs.Reading.{◌>>=◌, items_of, whole, read}
 use Rattle.sedck_bre.specs.FullReading.{full}
 use Rattle.sedck_bre.specs.Gives.{ClosedIs}
 use Rattle.sedck_bre.proofs.Sound.{read_sound}
-use Rattle.sedck_bre.proofs.Again.{read_again}
+use Rattle.sedck_bre.specs.Laws.{TextsHaveOneTree}
+use Rattle.sedck_bre.proofs.Again.{read_again, one_shape}
 use Rattle.sedck_bre.proofs.Loop.{full_takes, full_reads}
 
 pub read-items : (text : List ℕ) → read full text ≡ (items_of full Whole First 0 0 [] text >>= whole)
@@ -36,6 +37,9 @@ only_of text t e u h = same (sym (read_again full full_reads text u h) ∙ e)
   where
     same : Some u ≡ Some t → u ≡ t
     same s = cc
+
+pub one_tree : TextsHaveOneTree
+one_tree = one_shape full full_reads
 
 pub none_of : (text : List ℕ) → read full text ≡ None → (u : Tree) → Shape text u → ⊥
 none_of text e u h = same (sym (read_again full full_reads text u h) ∙ e)

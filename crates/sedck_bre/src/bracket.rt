@@ -1,6 +1,6 @@
 //! Bracket lists: from the bracket to the set of their members.
 
-ghost use Rattle.std.specs.Prelude.{◌≡◌, ◌<◌, ◌≤◌, ◌&&◌, not, length, drop, IsTrue, IfOk, IfErr, MatchResult, None, ℕ, Bool, true};
+ghost use Rattle.std.specs.Prelude.{◌≡◌, ◌<◌, ◌≤◌, ◌&&◌, not, length, drop, IsTrue, IfOk, IfErr, MatchResult, Err, None, ℕ, Bool, true};
 ghost use Rattle.sedck_bre.specs.Text.{begins};
 ghost use Rattle.sedck_bre.specs.BracketReading.{ranges, no_range, range_end_at, byte_or_range_at, whole_class_at, equivalents_at, last_dash_at, element_at, bracket_at};
 ghost use Rattle.sedck_bre.specs.FullReading.{IsTail};
@@ -52,7 +52,8 @@ fn range_to(first: u8, text: &[u8]) -> Result<(Element, &[u8]), Flaw>
 
 /// A byte or a range.
 fn byte_or_range(text: &[u8]) -> Result<(Element, &[u8]), Flaw>
-    ensures { Reads (λ x. (element_of x.0, x.1.now)) result (byte_or_range_at text.now) }
+    ensures read { Reads (λ x. (element_of x.0, x.1.now)) result (byte_or_range_at text.now) }
+    ensures ended { length text.now ≡ 0 → result ≡ Err Flaw.Unclosed }
 {
     let (first, rest) = byte(text)?;
     if begins_range(rest) {
@@ -129,7 +130,8 @@ fn last_dash(text: &[u8]) -> Result<(Element, &[u8]), Flaw>
 
 /// The element at the front, and what follows it.
 fn next_element(first: bool, text: &[u8]) -> Result<(Element, &[u8]), Flaw>
-    ensures { Reads (λ x. (element_of x.0, x.1.now)) result (element_at first text.now) }
+    ensures read { Reads (λ x. (element_of x.0, x.1.now)) result (element_at first text.now) }
+    ensures ended { length text.now ≡ 0 → result ≡ Err Flaw.Unclosed }
 {
     if opens_class(text) {
         return whole_class(&text[2..]);

@@ -1,6 +1,6 @@
 //! The bytes, symbols and classes of bracket lists.
 
-ghost use Rattle.std.specs.Prelude.{◌≡◌};
+ghost use Rattle.std.specs.Prelude.{◌≡◌, length, Err};
 ghost use Rattle.std.specs.Option.{option_map};
 ghost use Rattle.sedck_bre.specs.BracketReading.{classes, class_from, symbol_at, opened_at, escaped_at, byte_at};
 ghost use Rattle.sedck_bre.specs.BracketCode.{class_of, element_of, behind_name, Reads};
@@ -81,7 +81,8 @@ pub(crate) fn symbol(mark: u8, text: &[u8]) -> Result<(u8, &[u8]), Flaw>
 
 /// A byte: itself, `\n`, `\\` or `[.c.]`.
 pub(crate) fn byte(text: &[u8]) -> Result<(u8, &[u8]), Flaw>
-    ensures { Reads (λ x. (x.0, x.1.now)) result (byte_at text.now) }
+    ensures read { Reads (λ x. (x.0, x.1.now)) result (byte_at text.now) }
+    ensures ended { length text.now ≡ 0 → result ≡ Err Flaw.Unclosed }
 {
     match text {
         [] => Err(Flaw::Unclosed),

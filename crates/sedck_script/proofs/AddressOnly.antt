@@ -6,7 +6,7 @@ use Rattle.sedck_script.specs.Program.{Place, Address, NoAddress, One, Two}
 use Rattle.sedck_script.specs.Parts.{PlaceText, AddressText}
 use Rattle.sedck_script.specs.Parts as p
 use Rattle.sedck_script.specs.Items.{WrittenVerb, VerbText}
-use Rattle.sedck_script.specs.AddressReading.{begins_place, is_mark, BeginsPlace, BeginsNoPlace, IsOnlyAddress, IsNoCommand, IsBehindComma, HasNoComma, IsSecond}
+use Rattle.sedck_script.specs.AddressReading.{begins_address, is_mark, BeginsPlace, BeginsNoPlace, IsOnlyAddress, IsNoCommand, IsBehindComma, HasNoComma, IsSecond}
 use Rattle.sedck_script.proofs.Cuts.{longest_one}
 use Rattle.sedck_script.proofs.ItemsOne.{place_first, place_other, place_no_mark, no_verb_here, no_place_here, no_comma_here, longest_along, place_along, place_one, pair_of}
 use Rattle.sedck_script.specs.Reading.{EndsIn}
@@ -16,14 +16,13 @@ use Rattle.std.specs.Prelude.{IfSome, IfNone}
 use Rattle.std.specs.Borrow.{Bor}
 use Rattle.sedck_script.specs.View.{place_of}
 use Rattle.sedck_script.specs.declared.script.Place.{Place as CodePlace}
-use Rattle.sedck_script.proofs.Determined.{expressions_determined}
 use Rattle.sedck_script.proofs.Heads.{heads, tails}
 
 one_place : {text r s : List ℕ} {q u : Place} → PlaceText text q r → PlaceText text u s → (q ≡ u) × (r ≡ s)
-one_place x y = place_one expressions_determined x y
+one_place x y = place_one x y
 
-begins_no : {b : ℕ} {more text : List ℕ} → text ≡ b ∷ more → begins_place b ≡ true → BeginsNoPlace text → ⊥
-begins_no {b} e h n = both_ways (begins_place b) (not-true (begins_place b) (subst (λ t. BeginsNoPlace t) e n)) h
+begins_no : {b : ℕ} {more text : List ℕ} → text ≡ b ∷ more → begins_address b ≡ true → BeginsNoPlace text → ⊥
+begins_no {b} e h n = both_ways (begins_address b) (not-true (begins_address b) (subst (λ t. BeginsNoPlace t) e n)) h
 
 pub no_place : {text r : List ℕ} {q : Place} → BeginsNoPlace text → PlaceText text q r → ⊥
 no_place n x = let f = place_first x in begins_no f.2 f.3 n

@@ -42,7 +42,8 @@ previous_append [] qs = refl
 previous_append (Previous ∷ ps) qs = refl
 previous_append (Expression tree ∷ ps) qs = previous_append ps qs
 
-pub empty_append : (end : ℕ) (ps qs : List Pattern) (o u : Option ℕ) → IsEmptyAt end ps o → IsEmptyAt end qs u → IsEmptyAt end (ps ++ qs) (option_or o u)
-empty_append end ps qs None None h k = previous_append ps qs ∙ rw (h, k) refl
-empty_append end ps qs None (Some q) h k = (previous_append ps qs ∙ rw (h, k.0) refl, k.1)
-empty_append end ps qs (Some p) u h k = (previous_append ps qs ∙ rw h.0 refl, h.1)
+pub empty_append : (text : List ℕ) (ps qs : List Pattern) (o u : Option ℕ) → IsEmptyAt text ps o → IsEmptyAt text qs u
+    → IsEmptyAt text (ps ++ qs) (option_or o u)
+empty_append text ps qs None None h k = previous_append ps qs ∙ rw (h, k) refl
+empty_append text ps qs None (Some q) h k = (previous_append ps qs ∙ rw (h, k.0) refl, k.1)
+empty_append text ps qs (Some p) u h k = (previous_append ps qs ∙ rw h.0 refl, h.1)

@@ -22,7 +22,6 @@ pub mod Outcomes
 pub mod PartsOne
 pub mod WholeOne
 pub mod ItemsOne
-pub mod Determined
 pub mod AddressOnly
 pub mod VerbBytes
 pub mod CommandLemmas
@@ -36,3 +35,4 @@ pub mod NameLemmas
 pub mod Bounds
 pub mod SpelledScript
 pub mod ShortestLemmas
+pub mod PlaceLemmas

@@ -1,14 +1,15 @@
 -- Which programs a text spells, by its items.
 use Rattle.std.proofs.Common.{◌≡◌, ◌≢◌, ℕ, zero, suc, ◌<◌, ◌≤◌, true, false, List, [], ◌∷◌, ◌++◌, length, map, get_or, Option, Some, None, Contains, refl, ap, sym, ◌∙◌, subst, inl, inr, arith}
-use Rattle.std.specs.Prelude.{Any}
+use Rattle.std.specs.Prelude.{Any, slice_get}
 use Rattle.std.proofs.lemmas.Bool.{false≢true}
 use Rattle.std.specs.Borrow.{Bor}
 use Rattle.std.specs.HashMap.{HashMap}
 use Rattle.sedck_bre.specs.Tree.{Tree}
-use Rattle.sedck_script.specs.Program.{Pattern, Previous, Expression, Command, Program, address_patterns, verb_patterns, patterns, expressions}
-use Rattle.sedck_script.specs.Items.{Item, Items}
+use Rattle.sedck_script.specs.Program.{Pattern, Previous, Expression, NoAddress, Label, Command, Program, address_patterns, verb_patterns, patterns, expressions}
+use Rattle.sedck_script.specs.Items.{Known, Item, Written, Closing, Items}
 use Rattle.sedck_script.specs.Resolution.{Defines, AreLabelsDistinct, LeadsTo, Resolves, done, known, branch, test, opening, closing}
 use Rattle.sedck_script.specs.Spelling.{Spells, AreCommands}
+use Rattle.sedck_script.specs.Faults.{IsLabelHere, IsUndefinedLabel}
 use Rattle.sedck_script.specs.Reading.{label_place, HasLabels}
 use Rattle.sedck_script.specs.ItemReading.{item_of, commands_among, item_label, IsLostLabel}
 use Rattle.sedck_script.specs.AddressReading.{has_previous}
@@ -19,7 +20,6 @@ use Rattle.sedck_script.proofs.Nesting.{resolves_nests, resolves_length, label_w
 use Rattle.sedck_script.proofs.SortedNames.{Contains-cons_cases, Contains-cons_more}
 use Rattle.sedck_script.proofs.ItemsOne.{items_one}
 use Rattle.sedck_script.proofs.ResolvesOne.{commands_one}
-use Rattle.sedck_script.proofs.Determined.{expressions_determined}
 
 -- a text without items spells no program
 pub no_program : {text : List ℕ} → HasNoItems text → (other : Program) → Spells text other → ⊥
@@ -28,6 +28,18 @@ no_program none other s =
     (resolves_nests s.commands.resolved)
 
 -- ---- Labels
+
+among_has : (items : List Item) (name : List ℕ) → Contains items (Written NoAddress false (Known (Label name)))
+    → (i : ℕ) × (slice_get (commands_among items) i ≡ Some (Written NoAddress false (Known (Label name))))
+among_has [] name h = absurd (omega (arith, h.1))
+among_has (Written a n v ∷ items) name h = elim (Contains-cons_cases (Written a n v) items _ h) [
+  | inl e ↦ (zero, ap Some e)
+  | inr more ↦ let later = among_has items name more in (suc later.0, later.1)
+]
+among_has (Closing ∷ items) name h = elim (Contains-cons_cases Closing items _ h) [
+  | inl e ↦ absurd (cc e)
+  | inr more ↦ among_has items name more
+]
 
 module _ {S : Type 0} (labels : HashMap (Bor (List ℕ)) ℕ S) where
   lost_by : (all : List Command) (label : Option (List ℕ)) (target : ℕ) → LeadsTo all label target → IsLostLabel labels label
@@ -68,12 +80,23 @@ module _ {S : Type 0} (labels : HashMap (Bor (List ℕ)) ℕ S) where
       → Any (λ item. IsLostLabel labels (item_label (item_of item))) items
       → (other : Program) → Spells text other → ⊥
   no_target items x h any other s =
-      let same : s.items ≡ map item_of items = items_one expressions_determined s.spelled x in
+      let same : s.items ≡ map item_of items = items_one s.spelled x in
       let r : Resolves other.commands [] 0 (map item_of items) other.commands =
       subst (λ t. Resolves other.commands [] 0 t other.commands) same s.commands.resolved in
       let lost = lost_at any.0 (item_of any.1) r (omega (arith, any.2, items_length items))
       (subst (λ i. IsLostLabel labels (item_label i)) (sym (get_item items any.0 any.1 any.2)) (rw any.3 any.4)) in
       none_some lost.2 (h.found lost.0 lost.1 (label_written r lost.0 lost.1 lost.3))
+
+  -- a label that the map of the items lacks is defined by none of them
+  pub undefined_label : {text : List ℕ} (items : List Item) (place : ℕ) (name : List ℕ) → Items text items → HasLabels labels (commands_among items)
+      → IsLabelHere text place name → label_place labels name ≡ None → IsUndefinedLabel text place
+  undefined_label items place name x h here none = (
+    name,
+    here,
+    λ others y has.
+        let found = among_has items name (subst (λ t. Contains t (Written NoAddress false (Known (Label name)))) (items_one y x) has) in
+        none_some none (h.found name found.0 found.1),
+  )
 
   pub distinct : {items : List Item} {cs : List Command} → HasLabels labels (commands_among items) → Resolves cs [] 0 items cs → AreLabelsDistinct cs
   distinct h r name i j d e = some_place (sym (h.found name i (label_written r name i d)) ∙ h.found name j (label_written r name j e))
@@ -116,7 +139,7 @@ pub no_expression : {text : List ℕ} {items : List Item} {cs : List Command} �
     → has_previous (item_patterns items) ≡ true → has_some (expressions cs) ≡ false
     → (other : Program) → Spells text other → ⊥
 no_expression {items = items} {cs = cs} x r h none other s =
-    let same : s.items ≡ items = items_one expressions_determined s.spelled x in
+    let same : s.items ≡ items = items_one s.spelled x in
     let commands : cs ≡ other.commands = commands_one r
     (subst (λ t. Resolves other.commands [] 0 t other.commands) same s.commands.resolved) s.commands.labels in
     let previous : Contains (patterns cs) Previous = previous_contained (patterns cs) (ap has_previous (resolved_patterns r) ∙ h) in

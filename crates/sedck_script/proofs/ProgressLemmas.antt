@@ -22,7 +22,6 @@ use Rattle.sedck_script.proofs.PartsOne.{ends_one}
 use Rattle.sedck_script.proofs.CommandLemmas.{address_tail}
 use Rattle.sedck_script.proofs.StateLemmas.{among_append, Deeper}
 use Rattle.sedck_script.proofs.ItemsOne.{longest_along, ends_along, items_along, command_along, command_one, no_command_other, no_command_end, empty_is_not}
-use Rattle.sedck_script.proofs.Determined.{expressions_determined}
 
 -- ---- Separators
 
@@ -68,19 +67,19 @@ at_front {b} e n = record { cut = e; passes = refl; stops = rw n refl }
 
 comment_step : {b : ℕ} {text behind line rest : List ℕ} {all : List Item} → text ≡ b ∷ behind → b ≡ 35
     → Longest (λ c. not (is_newline c)) behind line rest → Items text all → Items rest all
-comment_step e h k (w.nothing m) = empty_is_not expressions_determined (longest_one m (at_front e (rw h refl))).1
+comment_step e h k (w.nothing m) = empty_is_not (longest_one m (at_front e (rw h refl))).1
 comment_step e h k (w.comment m i n x) =
     let same = tails (longest_one m (at_front e (rw h refl))).1 in items_along (longest_one (longest_along same n) k).1 x
 comment_step e h k (w.closing m i f x) = absurd (omega (arith, heads (longest_one m (at_front e (rw h refl))).1, h, i))
-comment_step e h k (w.command m c x) = no_command_other expressions_determined (longest_one m (at_front e (rw h refl))).1 (inl h) c
+comment_step e h k (w.command m c x) = no_command_other (longest_one m (at_front e (rw h refl))).1 (inl h) c
 
 -- what begins with a `}` goes on with its end
 pub closing_first : {b : ℕ} {text behind : List ℕ} {all : List Item} → text ≡ b ∷ behind → b ≡ 125 → Items text all
     → (more : List Item) × (rest : List ℕ) × (all ≡ Closing ∷ more) × Ends behind rest × Items rest more
-closing_first e h (w.nothing m) = empty_is_not expressions_determined (longest_one m (at_front e (rw h refl))).1
+closing_first e h (w.nothing m) = empty_is_not (longest_one m (at_front e (rw h refl))).1
 closing_first e h (w.comment m i n x) = absurd (omega (arith, heads (longest_one m (at_front e (rw h refl))).1, h, i))
 closing_first e h (w.closing {rest = rest} {items = more} m i f x) = (more, rest, refl, ends_along (tails (longest_one m (at_front e (rw h refl))).1) f, x)
-closing_first e h (w.command m c x) = no_command_other expressions_determined (longest_one m (at_front e (rw h refl))).1 (inr h) c
+closing_first e h (w.command m c x) = no_command_other (longest_one m (at_front e (rw h refl))).1 (inr h) c
 
 closing_step : {b : ℕ} {text behind rest : List ℕ} {all : List Item} → text ≡ b ∷ behind → b ≡ 125 → Ends behind rest → Items text all
     → (more : List Item) × (all ≡ Closing ∷ more) × Items rest more
@@ -148,7 +147,7 @@ twice items more all name i here e once =
 pub command_first : {text : List ℕ} {all : List Item} → BeginsCommand text → Items text all
     → (a : Address) × (n : Bool) × (v : WrittenVerb) × (rest : List ℕ) × (more : List Item) × (all ≡ Written a n v ∷ more)
     × CommandText text a n v rest × Items rest more
-command_first k (w.nothing m) = empty_is_not expressions_determined (longest_one m (at_front k.2 k.3)).1
+command_first k (w.nothing m) = empty_is_not (longest_one m (at_front k.2 k.3)).1
 command_first k (w.comment m i n x) = absurd (k.4 (heads (sym (longest_one m (at_front k.2 k.3)).1) ∙ i))
 command_first k (w.closing m i f x) = absurd (k.5 (heads (sym (longest_one m (at_front k.2 k.3)).1) ∙ i))
 command_first k (w.command {rest = r} {address = a} {negated = n} {verb = v} {items = more} m c x) =
@@ -159,7 +158,7 @@ command_step : {text rest : List ℕ} {all : List Item} {a : Address} {n : Bool}
     → (more : List Item) × (all ≡ Written a n v ∷ more) × Items rest more
 command_step k c x =
     let first = command_first k x in
-    let one = command_one expressions_determined first.6 c in
+    let one = command_one first.6 c in
     (first.4, first.5 ∙ ap (λ y. y ∷ first.4) one.0, items_along one.1 first.7)
 
 deeper : (t : Turn) (depth deep : ℕ) (P : ℕ → Type 0) → Deeper t depth deep → P deep → Turned t P depth
@@ -250,7 +249,7 @@ brace_stands {whole} {rest = rest} place h c p e =
 -- the same is known where another rest is left
 pub progress_at : {text old new : List ℕ} {progress : Progress} → IsProgress text old progress
     → IsFront text (map item_of progress.items.items) (length progress.open_blocks.items) new → IsProgress text new progress
-progress_at p f = record { front = f; labels = p.labels; count = p.count; few = p.few; within = p.within; opened = p.opened; empty = p.empty }
+progress_at p f = record { front = f; labels = p.labels; count = p.count; few = p.few; label_places = p.label_places; opened = p.opened; empty = p.empty }
 
 no_length : {X : Type 0} (xs : List X) → length xs ≡ 0 → xs ≡ []
 no_length [] e = refl
@@ -264,9 +263,9 @@ front_done {text} {rest} {separators} {begins} {items} f l e =
 
 items_end : {text separators : List ℕ} {all : List Item} → Longest is_separator text separators [] → Items text all → all ≡ []
 items_end l (w.nothing m) = refl
-items_end l (w.comment m i n x) = empty_is_not expressions_determined (longest_one l m).1
-items_end l (w.closing m i f x) = empty_is_not expressions_determined (longest_one l m).1
-items_end l (w.command m c x) = no_command_end expressions_determined (longest_one m l).1 c
+items_end l (w.comment m i n x) = empty_is_not (longest_one l m).1
+items_end l (w.closing m i f x) = empty_is_not (longest_one l m).1
+items_end l (w.command m c x) = no_command_end (longest_one m l).1 c
 
 -- where blocks are open at the end
 pub front_unclosed : {text rest separators begins : List ℕ} {items : List Item} {depth : ℕ} → IsFront text items depth rest

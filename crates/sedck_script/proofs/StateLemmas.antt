@@ -12,7 +12,7 @@ use Rattle.std.specs.Borrow.{Bor}
 use Rattle.std.specs.HashMap.{HashMap}
 use Rattle.std.proofs.lemmas.List.Elements.{All-push}
 use Rattle.sedck_script.specs.Reading.{HasLabels, label_place}
-use Rattle.sedck_script.specs.VerbReading.{written_verb, IsWrittenWithin, DefinesKnown}
+use Rattle.sedck_script.specs.VerbReading.{written_verb, IsWrittenAt, DefinesKnown}
 use Rattle.sedck_script.specs.declared.verbs.Written.{Written as WrittenCode}
 use Rattle.sedck_script.specs.declared.verbs.Written.TheVariants as code
 use Rattle.sedck_script.proofs.LabelPlaces.{labels_label, labels_other}
@@ -45,15 +45,15 @@ no_place None h = refl
 no_place (Some i) h = absurd (h i refl)
 
 -- the labels after one more command
-pub labels_noted : {S : Type 0} (old new : HashMap (Bor (List ℕ)) ℕ S) (xs : List Item) (end : ℕ) (a : Address) (n : Bool) (v : WrittenCode)
-    → HasLabels old xs → IsWrittenWithin end v → Takes (written_verb v) a n
+pub labels_noted : {S : Type 0} (old new : HashMap (Bor (List ℕ)) ℕ S) (xs : List Item) (text : List ℕ) (a : Address) (n : Bool) (v : WrittenCode)
+    → HasLabels old xs → IsWrittenAt text v → Takes (written_verb v) a n
     → (DefinesKnown old (written_verb v) → ⊥) → NotesLabel old new (length xs) v → HasLabels new (xs ++ Written a n (written_verb v) ∷ [])
-labels_noted old new xs end a n (code.Known v) h w t f k = labels_other old new xs h _ (λ q e. w q (known_same e)) k
-labels_noted old new xs end a n (code.Label name place) h w t f k =
+labels_noted old new xs text a n (code.Known v) h w t f k = labels_other old new xs h _ (λ q e. w q (known_same e)) k
+labels_noted old new xs text a n (code.Label name place) h w t f k =
     rw (t.0, t.1) (labels_label old new xs h name.now (no_place (label_place old name.now) (λ i e. f (name.now, i, refl, e))) k)
-labels_noted old new xs end a n (code.BranchTo l place) h w t f k = labels_other old new xs h _ (λ q e. absurd (cc e)) k
-labels_noted old new xs end a n (code.TestTo l place) h w t f k = labels_other old new xs h _ (λ q e. absurd (cc e)) k
-labels_noted old new xs end a n code.Opening h w t f k = labels_other old new xs h _ (λ q e. absurd (cc e)) k
+labels_noted old new xs text a n (code.BranchTo l place) h w t f k = labels_other old new xs h _ (λ q e. absurd (cc e)) k
+labels_noted old new xs text a n (code.TestTo l place) h w t f k = labels_other old new xs h _ (λ q e. absurd (cc e)) k
+labels_noted old new xs text a n code.Opening h w t f k = labels_other old new xs h _ (λ q e. absurd (cc e)) k
 
 -- ---- Blocks
 

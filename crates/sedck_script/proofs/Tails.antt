@@ -115,7 +115,7 @@ verb_text_tail {rest = rest} x = let t = verb_takes x in subst (λ u. EndsIn u r
 pub verb_text_shorter : {text rest : List ℕ} {v : WrittenVerb} → VerbText text v rest → length rest < length text
 verb_text_shorter x = let t = verb_takes x in omega (arith, ap length t.2, tail_length t.3)
 
-take_front : (front rest : List ℕ) (n : ℕ) → n ≡ length front → (take n (front ++ rest) ≡ front) × (drop n (front ++ rest) ≡ rest)
+pub take_front : (front rest : List ℕ) (n : ℕ) → n ≡ length front → (take n (front ++ rest) ≡ front) × (drop n (front ++ rest) ≡ rest)
 take_front [] rest n e = rw e (refl, refl)
 take_front (b ∷ front) rest n e = let t = take_front front rest (length front) refl in rw e (ap (λ u. b ∷ u) t.0, t.1)
 

@@ -1,15 +1,12 @@
 -- What the readers of addresses say of what they read. Only private contracts cite it.
-use Rattle.std.specs.Prelude.{◌≡◌, ℕ, ◌≤◌, Bool, true, false, not, ◌||◌, ◌==◌, List, [], ◌∷◌, Option, Some, None, IsTrue}
-use Rattle.sedck_bre.specs.Text.{one_of}
-use Rattle.sedck_script.specs.Cuts.{bang, is_blank, is_digit, is_delimiter, IsEmptyOr, Longest}
+use Rattle.std.specs.Prelude.{◌≡◌, ℕ, Bool, true, false, not, ◌||◌, ◌==◌, List, [], ◌∷◌, Option, Some, None, IsTrue}
+use Rattle.sedck_script.specs.Cuts.{bang, is_blank, is_delimiter, IsEmptyOr, Longest}
+pub use Rattle.sedck_script.specs.Faults.{begins_address}
+use Rattle.sedck_script.specs.Faults.{IsEmptyExpression}
 use Rattle.sedck_script.specs.Program.{Pattern, Previous, Expression, Place, Context, Address}
 use Rattle.sedck_script.specs.Parts.{PlaceText, AddressText}
 use Rattle.sedck_script.specs.Items.{WrittenVerb, VerbText, CommandText}
 use Rattle.sedck_script.specs.PieceReading.{PatternText}
-
--- a byte that begins an address
-abbrev pub begins_place : ℕ → Bool
-begins_place b = is_digit b || one_of "$/\\" b
 
 -- what may stand between the addresses and the verb
 abbrev pub is_mark : ℕ → Bool
@@ -21,10 +18,10 @@ has_previous [] = false
 has_previous (Previous ∷ patterns) = true
 has_previous (Expression tree ∷ patterns) = has_previous patterns
 
--- There is a place where one of the patterns is empty, and it lies up to the end.
-abbrev pub IsEmptyAt : ℕ → List Pattern → Option ℕ → Type 0
-IsEmptyAt end patterns None = has_previous patterns ≡ false
-IsEmptyAt end patterns (Some place) = (has_previous patterns ≡ true) × (place ≤ end)
+-- There is a place where one of the patterns is empty, and an empty expression of the text ends there.
+abbrev pub IsEmptyAt : List ℕ → List Pattern → Option ℕ → Type 0
+IsEmptyAt text patterns None = has_previous patterns ≡ false
+IsEmptyAt text patterns (Some place) = (has_previous patterns ≡ true) × IsEmptyExpression text place
 
 -- an address between delimiters, behind the opening one
 abbrev pub ContextText : ℕ → List ℕ → Place → List ℕ → Type 0
@@ -36,11 +33,11 @@ CustomText text place rest = (delimiter : ℕ) × (behind : List ℕ) × (text �
 
 -- the text begins with a byte of an address
 abbrev pub BeginsPlace : List ℕ → Type 0
-BeginsPlace text = (b : ℕ) × (more : List ℕ) × (text ≡ b ∷ more) × (begins_place b ≡ true)
+BeginsPlace text = (b : ℕ) × (more : List ℕ) × (text ≡ b ∷ more) × (begins_address b ≡ true)
 
 -- the text begins with no byte of an address
 abbrev pub BeginsNoPlace : List ℕ → Type 0
-BeginsNoPlace text = IsEmptyOr (λ b. not (begins_place b)) text
+BeginsNoPlace text = IsEmptyOr (λ b. not (begins_address b)) text
 
 -- each command of the text has this address, and this is what stands behind it
 abbrev pub IsOnlyAddress : List ℕ → Address → List ℕ → Type 0

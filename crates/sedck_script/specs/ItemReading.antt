@@ -6,7 +6,7 @@ use Rattle.sedck_script.specs.Program.{Verb, Branch, Test, Block, Command}
 use Rattle.sedck_script.specs.Items.{WrittenVerb, Known, BranchTo, TestTo, Opening, Item, Written, Closing}
 use Rattle.sedck_script.specs.View.{address_of}
 use Rattle.sedck_script.specs.Reading.{label_place}
-use Rattle.sedck_script.specs.VerbReading.{written_verb, IsWrittenWithin}
+use Rattle.sedck_script.specs.VerbReading.{written_verb, IsWrittenAt}
 use Rattle.sedck_script.specs.declared.written.WrittenCommand.{WrittenCommand}
 use Rattle.sedck_script.specs.declared.written.WrittenItem.{WrittenItem}
 use Rattle.sedck_script.specs.declared.written.WrittenItem.TheVariants as code
@@ -51,10 +51,10 @@ abbrev pub Nests : List Item → ℕ → Type 0
 Nests [] depth = depth ≡ 0
 Nests (item ∷ items) depth = Turned (turn_of item) (Nests items) depth
 
--- the place of an item's label lies in the text
-abbrev pub IsItemWithin : ℕ → WrittenItem → Type 0
-IsItemWithin end (code.Command c) = IsWrittenWithin end c.verb
-IsItemWithin end code.Closing = Unit {0}
+-- an item's label begins at its place
+abbrev pub IsItemAt : List ℕ → WrittenItem → Type 0
+IsItemAt text (code.Command c) = IsWrittenAt text c.verb
+IsItemAt text code.Closing = Unit {0}
 
 -- ---- Labels
 

@@ -1,15 +1,16 @@
 -- How far the items of a script have been read. Only private contracts cite it.
-use Rattle.std.specs.Prelude.{◌≡◌, ◌≢◌, ℕ, ◌<◌, ◌≤◌, Bool, true, false, not, ◌&&◌, ◌==◌, if◌then◌else◌, List, [], ◌∷◌, ◌++◌, length, map, flat_map, All, ◌⊎◌, Some}
+use Rattle.std.specs.Prelude.{◌≡◌, ℕ, ◌<◌, ◌≤◌, Bool, true, false, not, ◌&&◌, ◌==◌, if◌then◌else◌, List, [], ◌∷◌, ◌++◌, length, map, flat_map, All, ◌⊎◌, Some}
 use Rattle.std.specs.Str.{bytes_eq}
 use Rattle.std.specs.Borrow.{Bor}
 use Rattle.std.specs.HashMap.{HashMap}
 use Rattle.sedck_bre.specs.Text.{one_of}
-use Rattle.sedck_script.specs.Cuts.{colon, brace, hash, closing_brace, is_separator}
+use Rattle.sedck_script.specs.Cuts.{colon, brace}
 use Rattle.sedck_script.specs.Program.{Pattern, Address, NoAddress, One, Two, address_patterns, verb_patterns}
 use Rattle.sedck_script.specs.Items.{WrittenVerb, Known, BranchTo, TestTo, Opening, VerbText, Takes, Item, Written, Closing, Items}
 use Rattle.sedck_script.specs.Faults.{StandsAt}
+pub use Rattle.sedck_script.specs.Faults.{BeginsCommand}
 use Rattle.sedck_script.specs.Reading.{EndsIn, HasLabels, AreLabelsOnce, label_place}
-use Rattle.sedck_script.specs.ItemReading.{Turn, Opens, Closes, Stays, item_of, commands_among, Nests, IsItemWithin}
+use Rattle.sedck_script.specs.ItemReading.{Turn, Opens, Closes, Stays, item_of, commands_among, Nests, IsItemAt}
 use Rattle.sedck_script.specs.AddressReading.{IsEmptyAt}
 use Rattle.sedck_script.specs.declared.items.Progress.{Progress}
 use Rattle.sedck_script.specs.declared.verbs.Written.{Written as WrittenCode}
@@ -74,19 +75,15 @@ pub record IsProgress (text rest : List ℕ) (progress : Progress) : Type 0 wher
   pub labels : HasLabels progress.labels (commands_among (map item_of progress.items.items))
   pub count : progress.count ≡ length (commands_among (map item_of progress.items.items))
   pub few : progress.count ≤ 4095
-  pub within : All (IsItemWithin (length text)) progress.items.items
+  pub label_places : All (IsItemAt text) progress.items.items
   pub opened : All (λ place. StandsAt text place brace) progress.open_blocks.items
-  pub empty : IsEmptyAt (length text) (item_patterns (map item_of progress.items.items)) progress.empty
+  pub empty : IsEmptyAt text (item_patterns (map item_of progress.items.items)) progress.empty
 
 -- the text has no items that close each block and are within the limits, and whose labels stand once
 abbrev pub HasNoItems : List ℕ → Type 0
 HasNoItems text = (items : List Item) → Items text items → length (commands_among items) ≤ 4095 → AreLabelsOnce (commands_among items) → Nests items 0 → ⊥
 
 -- ---- One more command
-
--- the text begins with what begins neither a comment nor the end of a block, and with no separator
-abbrev pub BeginsCommand : List ℕ → Type 0
-BeginsCommand text = (b : ℕ) × (behind : List ℕ) × (text ≡ b ∷ behind) × (is_separator b ≡ false) × (b ≢ hash) × (b ≢ closing_brace)
 
 -- new has what old has, and at this place the label that the verb defines
 abbrev pub NotesLabel : {S : Type 0} → HashMap (Bor (List ℕ)) ℕ S → HashMap (Bor (List ℕ)) ℕ S → ℕ → WrittenCode → Type 0

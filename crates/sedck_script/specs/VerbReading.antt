@@ -1,12 +1,12 @@
 -- What the readers of verbs say of what they read. Only private contracts cite it.
-use Rattle.std.specs.Prelude.{◌≡◌, ℕ, ◌≤◌, List, length, Some, option_copied}
+use Rattle.std.specs.Prelude.{◌≡◌, ℕ, List, length, Some, option_copied}
 use Rattle.std.specs.Borrow.{Bor}
 use Rattle.std.specs.HashMap.{HashMap}
 use Rattle.sedck_script.specs.Program.{Label}
 use Rattle.sedck_script.specs.Parts.{DelimitedList}
 use Rattle.sedck_script.specs.Items.{WrittenVerb, Known, BranchTo, TestTo, Opening}
 use Rattle.sedck_script.specs.View.{verb_of}
-use Rattle.sedck_script.specs.Reading.{label_place}
+use Rattle.sedck_script.specs.Reading.{label_place, IsLabelPlace}
 use Rattle.sedck_script.specs.declared.verbs.Written.{Written}
 use Rattle.sedck_script.specs.declared.verbs.Written.TheVariants as code
 
@@ -18,13 +18,13 @@ written_verb (code.BranchTo label place) = BranchTo (option_copied label)
 written_verb (code.TestTo label place) = TestTo (option_copied label)
 written_verb code.Opening = Opening
 
--- A known verb is no label, and the place of a label's first byte lies in the text.
-abbrev pub IsWrittenWithin : ℕ → Written → Type 0
-IsWrittenWithin end (code.Known verb) = (name : List ℕ) → verb_of verb ≡ Label name → ⊥
-IsWrittenWithin end (code.Label name place) = place ≤ end
-IsWrittenWithin end (code.BranchTo label place) = place ≤ end
-IsWrittenWithin end (code.TestTo label place) = place ≤ end
-IsWrittenWithin end code.Opening = Unit {0}
+-- A known verb is no label, and a label begins at its place.
+abbrev pub IsWrittenAt : List ℕ → Written → Type 0
+IsWrittenAt text (code.Known verb) = (name : List ℕ) → verb_of verb ≡ Label name → ⊥
+IsWrittenAt text (code.Label name place) = IsLabelPlace text place (Some name.now)
+IsWrittenAt text (code.BranchTo label place) = IsLabelPlace text place (option_copied label)
+IsWrittenAt text (code.TestTo label place) = IsLabelPlace text place (option_copied label)
+IsWrittenAt text code.Opening = Unit {0}
 
 -- two lists behind the delimiter of a `y`, equally long
 pub record AreLists (delimiter : ℕ) (text from to rest : List ℕ) : Type 0 where

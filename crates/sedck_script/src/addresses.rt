@@ -5,9 +5,9 @@ ghost use Rattle.sedck_script.specs.Cuts.{is_delimiter};
 ghost use Rattle.sedck_script.specs.Program as clean;
 ghost use Rattle.sedck_script.specs.Program.{place_patterns, address_patterns};
 ghost use Rattle.sedck_script.specs.Parts.{PlaceText, AddressText};
-ghost use Rattle.sedck_script.specs.Faults.{IsPlaced};
+ghost use Rattle.sedck_script.specs.Faults.{StandsWhere, begins_part, IsPlaced};
 ghost use Rattle.sedck_script.specs.Reading.{EndsIn};
-ghost use Rattle.sedck_script.specs.AddressReading.{begins_place, IsEmptyAt, ContextText, CustomText, BeginsPlace, BeginsNoPlace, IsOnlyAddress, IsNoCommand, IsBehindComma, HasNoComma, IsSecond, BeginsNoSecond};
+ghost use Rattle.sedck_script.specs.AddressReading.{begins_address, IsEmptyAt, ContextText, CustomText, BeginsPlace, BeginsNoPlace, IsOnlyAddress, IsNoCommand, IsBehindComma, HasNoComma, IsSecond, BeginsNoSecond};
 ghost use Rattle.sedck_script.specs.View as view;
 
 use crate::bytes::{is_delimiter, is_digit, split_blanks};
@@ -18,8 +18,8 @@ use crate::script::{Address, Pattern, Place};
 use std::alloc::Global;
 
 /// Whether an address begins with the byte.
-fn begins_place(b: u8) -> bool
-    ensures { result ≡ begins_place b }
+fn begins_address(b: u8) -> bool
+    ensures { result ≡ begins_address b }
 {
     is_digit(b) || b"$/\\".contains(&b)
 }
@@ -34,10 +34,10 @@ fn context<'a>(
     text: &'a [u8],
 ) -> Result<(Place, Option<usize>, &'a [u8]), ScriptFault>
     requires delimiter { IsTrue (is_delimiter delimiter) }
-    requires tail { EndsIn whole.now text.now }
-    requires opened { opening ≤ length whole.now }
+    requires opened { EndsIn whole.now (delimiter ∷ text.now) }
+    requires begun { StandsWhere begins_part whole.now opening }
     ensures read { IfOk result (λ x. ContextText delimiter text.now (view.place_of x.0) x.2.now) }
-    ensures empty { IfOk result (λ x. IsEmptyAt (length whole.now) (place_patterns (view.place_of x.0)) x.1) }
+    ensures empty { IfOk result (λ x. IsEmptyAt whole.now (place_patterns (view.place_of x.0)) x.1) }
     ensures refused { IfErr result (λ fault. fault ≢ ScriptFault.OutOfMemory → (p : clean.Place) (rest : List ℕ) → ContextText delimiter text.now p rest → ⊥) }
     ensures placed { IfErr result (λ fault. IsPlaced whole.now fault) }
 {
@@ -57,9 +57,9 @@ fn custom_context<'a>(
     text: &'a [u8],
 ) -> Result<(Place, Option<usize>, &'a [u8]), ScriptFault>
     requires tail { EndsIn whole.now text.now }
-    requires opened { opening ≤ length whole.now }
+    requires begun { StandsWhere begins_part whole.now opening }
     ensures read { IfOk result (λ x. CustomText text.now (view.place_of x.0) x.2.now) }
-    ensures empty { IfOk result (λ x. IsEmptyAt (length whole.now) (place_patterns (view.place_of x.0)) x.1) }
+    ensures empty { IfOk result (λ x. IsEmptyAt whole.now (place_patterns (view.place_of x.0)) x.1) }
     ensures refused { IfErr result (λ fault. fault ≢ ScriptFault.OutOfMemory → (p : clean.Place) (rest : List ℕ) → CustomText text.now p rest → ⊥) }
     ensures placed { IfErr result (λ fault. IsPlaced whole.now fault) }
 {
@@ -82,9 +82,9 @@ fn place_here<'a>(
 ) -> Result<(Place, Option<usize>, &'a [u8]), ScriptFault>
     requires tail { EndsIn whole.now text.now }
     requires first { text.now ≡ first ∷ behind.now }
-    requires begins { IsTrue (begins_place first) }
+    requires begins { IsTrue (begins_address first) }
     ensures read { IfOk result (λ x. PlaceText text.now (view.place_of x.0) x.2.now) }
-    ensures empty { IfOk result (λ x. IsEmptyAt (length whole.now) (place_patterns (view.place_of x.0)) x.1) }
+    ensures empty { IfOk result (λ x. IsEmptyAt whole.now (place_patterns (view.place_of x.0)) x.1) }
     ensures refused { IfErr result (λ fault. fault ≢ ScriptFault.OutOfMemory → (p : clean.Place) (rest : List ℕ) → PlaceText text.now p rest → ⊥) }
     ensures placed { IfErr result (λ fault. IsPlaced whole.now fault) }
 {
@@ -112,7 +112,7 @@ fn place_at<'a>(
 ) -> Result<Option<(Place, Option<usize>, &'a [u8])>, ScriptFault>
     requires tail { EndsIn whole.now text.now }
     ensures read { IfOk result (λ x. IfSome x (λ y. PlaceText text.now (view.place_of y.0) y.2.now)) }
-    ensures empty { IfOk result (λ x. IfSome x (λ y. IsEmptyAt (length whole.now) (place_patterns (view.place_of y.0)) y.1)) }
+    ensures empty { IfOk result (λ x. IfSome x (λ y. IsEmptyAt whole.now (place_patterns (view.place_of y.0)) y.1)) }
     ensures none { IfOk result (λ x. IfNone x (BeginsNoPlace text.now)) }
     ensures begins { IfErr result (λ fault. BeginsPlace text.now) }
     ensures refused { IfErr result (λ fault. fault ≢ ScriptFault.OutOfMemory → (p : clean.Place) (rest : List ℕ) → PlaceText text.now p rest → ⊥) }
@@ -121,7 +121,7 @@ fn place_at<'a>(
     let Some((first, behind)) = text.split_first() else {
         return Ok(None);
     };
-    if !begins_place(*first) {
+    if !begins_address(*first) {
         return Ok(None);
     }
     let found = place_here(alloc, whole, *first, text, behind)?;
@@ -152,7 +152,7 @@ fn second_at<'a>(
 ) -> Result<Option<(Place, Option<usize>, &'a [u8])>, ScriptFault>
     requires tail { EndsIn whole.now text.now }
     ensures read { IfOk result (λ x. IfSome x (λ y. IsSecond text.now (view.place_of y.0) y.2.now)) }
-    ensures empty { IfOk result (λ x. IfSome x (λ y. IsEmptyAt (length whole.now) (place_patterns (view.place_of y.0)) y.1)) }
+    ensures empty { IfOk result (λ x. IfSome x (λ y. IsEmptyAt whole.now (place_patterns (view.place_of y.0)) y.1)) }
     ensures none { IfOk result (λ x. IfNone x (HasNoComma text.now)) }
     ensures refused { IfErr result (λ fault. fault ≢ ScriptFault.OutOfMemory → BeginsNoSecond text.now) }
     ensures placed { IfErr result (λ fault. IsPlaced whole.now fault) }
@@ -177,7 +177,7 @@ pub fn address_at<'a>(
     requires tail { EndsIn whole.now text.now }
     ensures read { IfOk result (λ x. AddressText text.now (view.address_of x.0) x.2.now) }
     ensures only { IfOk result (λ x. IsOnlyAddress text.now (view.address_of x.0) x.2.now) }
-    ensures empty { IfOk result (λ x. IsEmptyAt (length whole.now) (address_patterns (view.address_of x.0)) x.1) }
+    ensures empty { IfOk result (λ x. IsEmptyAt whole.now (address_patterns (view.address_of x.0)) x.1) }
     ensures refused { IfErr result (λ fault. fault ≢ ScriptFault.OutOfMemory → IsNoCommand text.now) }
     ensures placed { IfErr result (λ fault. IsPlaced whole.now fault) }
 {

@@ -1,16 +1,16 @@
 //! Commands as they are written.
 
-ghost use Rattle.std.specs.Prelude.{◌≡◌, ◌≢◌, ◌≤◌, ◌<◌, ◌++◌, ◌==◌, ◌⊎◌, ◌-◌, ℕ, List, Bool, length, IfOk, IfErr, OnOk, OnErr};
+ghost use Rattle.std.specs.Prelude.{◌≡◌, ◌≢◌, ◌≤◌, ◌<◌, ◌++◌, ◌==◌, ◌⊎◌, ◌-◌, ℕ, List, Bool, true, length, IfOk, IfErr, OnOk, OnErr};
 ghost use Rattle.std.specs.List.{list_any};
 ghost use Rattle.sedck_bre.specs.Text.{is_in};
 ghost use Rattle.sedck_script.specs.Cuts.{bang, Longest};
 ghost use Rattle.sedck_script.specs.Program as clean;
 ghost use Rattle.sedck_script.specs.Program.{address_patterns};
 ghost use Rattle.sedck_script.specs.Items.{WrittenVerb, Opening, VerbText, Takes, IsNoBrace, CommandText};
-ghost use Rattle.sedck_script.specs.Faults.{IsPlaced, verb_bytes};
+ghost use Rattle.sedck_script.specs.Faults.{BeginsCommand, IsVerbDue, IsEmptyExpression, IsPlaced, verb_bytes};
 ghost use Rattle.sedck_script.specs.Reading.{EndsIn};
-ghost use Rattle.sedck_script.specs.VerbReading.{written_verb, IsWrittenWithin, DefinesKnown};
-ghost use Rattle.sedck_script.specs.AddressReading.{is_mark, IsEmptyAt};
+ghost use Rattle.sedck_script.specs.VerbReading.{written_verb, IsWrittenAt, DefinesKnown};
+ghost use Rattle.sedck_script.specs.AddressReading.{is_mark, has_previous, IsEmptyAt};
 ghost use Rattle.sedck_script.specs.Progress.{takes, written_patterns, IsBeyond, AreAllowed};
 ghost use Rattle.sedck_script.specs.View.{address_of};
 
@@ -65,6 +65,7 @@ fn check_verb(
     text: &[u8],
 ) -> Result<(), ScriptFault>
     requires tail { EndsIn whole.now text.now }
+    requires due { IsVerbDue whole.now (length whole.now - length text.now) }
     ensures allowed { OnOk result (AreAllowed (address_of address.now) negated depth count text.now) }
     ensures brace { OnOk result (IsNoBrace text.now) }
     ensures refused { IfErr result (λ fault. (verb : WrittenVerb) (rest : List ℕ) → VerbText text.now verb rest → Takes verb (address_of address.now) negated → IsBeyond depth count verb) }
@@ -91,7 +92,7 @@ fn check_verb(
 
 /// Where the verb has an empty expression, the place behind its delimiter.
 fn empty_verb(verb: &Written, behind: usize) -> Option<usize>
-    ensures { (end : ℕ) → behind ≤ end → IsEmptyAt end (written_patterns (written_verb verb.now)) result }
+    ensures { (text : List ℕ) → (has_previous (written_patterns (written_verb verb.now)) ≡ true → IsEmptyExpression text behind) → IsEmptyAt text (written_patterns (written_verb verb.now)) result }
 {
     if let Written::Known(Verb::Substitute(substitution)) = verb {
         if let Pattern::Previous = substitution.pattern {
@@ -113,12 +114,13 @@ fn allowed_verb<'a>(
     text: &'a [u8],
 ) -> Result<(Written<'a>, &'a [u8]), ScriptFault>
     requires tail { EndsIn whole.now text.now }
+    requires due { IsVerbDue whole.now (length whole.now - length text.now) }
     ensures read { IfOk result (λ x. VerbText text.now (written_verb x.0) x.1.now) }
     ensures taken { IfOk result (λ x. Takes (written_verb x.0) (address_of address.now) negated) }
     ensures fresh { IfOk result (λ x. DefinesKnown labels.now (written_verb x.0) → ⊥) }
     ensures shallow { IfOk result (λ x. written_verb x.0 ≡ Opening → depth < 64) }
     ensures few { IfOk result (λ x. count < 4095) }
-    ensures within { IfOk result (λ x. IsWrittenWithin (length whole.now) x.0) }
+    ensures label { IfOk result (λ x. IsWrittenAt whole.now x.0) }
     ensures refused { IfErr result (λ fault. fault ≢ ScriptFault.OutOfMemory → (verb : WrittenVerb) (rest : List ℕ) → VerbText text.now verb rest → Takes verb (address_of address.now) negated → DefinesKnown labels.now verb ⊎ IsBeyond depth count verb) }
     ensures placed { IfErr result (λ fault. IsPlaced whole.now fault) }
 {
@@ -136,12 +138,13 @@ pub fn command_at<'a>(
     text: &'a [u8],
 ) -> Result<(WrittenCommand<'a>, Option<usize>, &'a [u8]), ScriptFault>
     requires tail { EndsIn whole.now text.now }
+    requires begins { BeginsCommand text.now }
     ensures read { IfOk result (λ x. CommandText text.now (address_of x.0.address) x.0.negated (written_verb x.0.verb) x.2.now) }
     ensures fresh { IfOk result (λ x. DefinesKnown labels.now (written_verb x.0.verb) → ⊥) }
     ensures shallow { IfOk result (λ x. written_verb x.0.verb ≡ Opening → depth < 64) }
     ensures few { IfOk result (λ x. count < 4095) }
-    ensures within { IfOk result (λ x. IsWrittenWithin (length whole.now) x.0.verb) }
-    ensures empty { IfOk result (λ x. IsEmptyAt (length whole.now) (address_patterns (address_of x.0.address) ++ written_patterns (written_verb x.0.verb)) x.1) }
+    ensures label { IfOk result (λ x. IsWrittenAt whole.now x.0.verb) }
+    ensures empty { IfOk result (λ x. IsEmptyAt whole.now (address_patterns (address_of x.0.address) ++ written_patterns (written_verb x.0.verb)) x.1) }
     ensures refused { IfErr result (λ fault. fault ≢ ScriptFault.OutOfMemory → (given : clean.Address) (negated : Bool) (verb : WrittenVerb) (rest : List ℕ) → CommandText text.now given negated verb rest → DefinesKnown labels.now verb ⊎ IsBeyond depth count verb) }
     ensures placed { IfErr result (λ fault. IsPlaced whole.now fault) }
 {

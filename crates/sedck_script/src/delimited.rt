@@ -1,10 +1,10 @@
 //! Parts between delimiters.
 
-ghost use Rattle.std.specs.Prelude.{◌≡◌, ◌≢◌, ◌≤◌, ◌<◌, ℕ, List, length, IsTrue, IfOk, IfErr};
+ghost use Rattle.std.specs.Prelude.{◌≡◌, ◌≢◌, ◌<◌, ◌∷◌, ℕ, List, IsTrue, IfOk, IfErr};
 ghost use Rattle.sedck_bre.specs.Faults.{IsOfText};
 ghost use Rattle.sedck_script.specs.Cuts.{is_delimiter};
 ghost use Rattle.sedck_script.specs.Parts.{DelimitedExpression, DelimitedList};
-ghost use Rattle.sedck_script.specs.Faults.{IsPlaced};
+ghost use Rattle.sedck_script.specs.Faults.{StandsWhere, begins_part, IsRefusedExpression, IsPlaced};
 ghost use Rattle.sedck_script.specs.Reading.{EndsIn};
 ghost use Rattle.sedck_script.specs.Program as clean;
 ghost use Rattle.sedck_script.specs.View.{pattern_of};
@@ -39,7 +39,7 @@ pub fn piece_at<'a>(
 ) -> Result<(Piece, &'a [u8]), ScriptFault>
     requires delimiter { IsTrue (is_delimiter delimiter) }
     requires tail { EndsIn whole.now text.now }
-    requires opened { opening ≤ length whole.now }
+    requires begun { StandsWhere begins_part whole.now opening }
     ensures read { IfOk result (λ x. IsPiece delimiter text.now x.0 x.1.now) }
     ensures refused { IfErr result (λ fault. (piece : Piece) (rest : List ℕ) → IsPiece delimiter text.now piece rest → ⊥) }
     ensures placed { IfErr result (λ fault. IsPlaced whole.now fault) }
@@ -93,7 +93,7 @@ fn delimited_expression<'a>(
 ) -> Result<(Vec<u8>, &'a [u8]), ScriptFault>
     requires delimiter { IsTrue (is_delimiter delimiter) }
     requires tail { EndsIn whole.now text.now }
-    requires opened { opening ≤ length whole.now }
+    requires begun { StandsWhere begins_part whole.now opening }
     ensures read { IfOk result (λ x. DelimitedExpression delimiter text.now x.0.items x.1.now) }
     ensures refused { IfErr result (λ fault. fault ≢ ScriptFault.OutOfMemory → (expression : List ℕ) (rest : List ℕ) → DelimitedExpression delimiter text.now expression rest → ⊥) }
     ensures placed { IfErr result (λ fault. IsPlaced whole.now fault) }
@@ -121,7 +121,7 @@ fn delimited_expression<'a>(
 /// The fault of an expression that begins at the place.
 fn expression_fault(place: usize, fault: ReFault) -> ScriptFault
     ensures memory { result ≢ ScriptFault.OutOfMemory → IsOfText fault }
-    ensures placed { (text : List ℕ) → place ≤ length text → IsPlaced text result }
+    ensures placed { (text : List ℕ) → (IsOfText fault → IsRefusedExpression text place fault) → IsPlaced text result }
 {
     match fault {
         ReFault::OutOfMemory => ScriptFault::OutOfMemory,
@@ -138,8 +138,8 @@ pub fn pattern<'a>(
     text: &'a [u8],
 ) -> Result<(Pattern, &'a [u8]), ScriptFault>
     requires delimiter { IsTrue (is_delimiter delimiter) }
-    requires tail { EndsIn whole.now text.now }
-    requires opened { opening ≤ length whole.now }
+    requires opened { EndsIn whole.now (delimiter ∷ text.now) }
+    requires begun { StandsWhere begins_part whole.now opening }
     ensures read { IfOk result (λ x. PatternText delimiter text.now (pattern_of x.0) x.1.now) }
     ensures only { IfOk result (λ x. (p : clean.Pattern) (rest : List ℕ) → PatternText delimiter text.now p rest → (p ≡ pattern_of x.0) × (rest ≡ x.1.now)) }
     ensures refused { IfErr result (λ fault. fault ≢ ScriptFault.OutOfMemory → (p : clean.Pattern) (rest : List ℕ) → PatternText delimiter text.now p rest → ⊥) }
@@ -165,7 +165,7 @@ pub fn delimited_list<'a>(
 ) -> Result<(Vec<u8>, &'a [u8]), ScriptFault>
     requires delimiter { IsTrue (is_delimiter delimiter) }
     requires tail { EndsIn whole.now text.now }
-    requires opened { opening ≤ length whole.now }
+    requires begun { StandsWhere begins_part whole.now opening }
     ensures read { IfOk result (λ x. DelimitedList delimiter text.now x.0.items x.1.now) }
     ensures refused { IfErr result (λ fault. fault ≢ ScriptFault.OutOfMemory → (bytes : List ℕ) (rest : List ℕ) → DelimitedList delimiter text.now bytes rest → ⊥) }
     ensures placed { IfErr result (λ fault. IsPlaced whole.now fault) }

@@ -1,12 +1,12 @@
 //! Labels behind `:`, `b` and `t`.
 
-ghost use Rattle.std.specs.Prelude.{◌≡◌, ◌≤◌, ◌<◌, ℕ, List, Option, length, option_copied, IfOk, IfErr, OnOk};
+ghost use Rattle.std.specs.Prelude.{◌≡◌, ◌<◌, ◌+◌, ℕ, List, Option, length, option_copied, IfOk, IfErr, OnOk};
 ghost use Rattle.sedck_script.specs.Cuts.{is_blank, is_ending, is_label_byte, Longest};
 ghost use Rattle.sedck_script.specs.Parts.{Ends, LabelText};
 ghost use Rattle.sedck_script.specs.Items.{IsNoComment, IsNoBrace};
-ghost use Rattle.sedck_script.specs.Faults.{IsPlaced};
-ghost use Rattle.sedck_script.specs.Reading.{EndsIn, IsLabelAt};
-ghost use Rattle.sedck_script.specs.LabelReading.{BranchText};
+ghost use Rattle.sedck_script.specs.Faults.{IsLabelHere, IsPlaced};
+ghost use Rattle.sedck_script.specs.Reading.{IsLabelAt, IsLabelPlace};
+ghost use Rattle.sedck_script.specs.LabelReading.{BranchText, IsBehindVerb, IsBehindLabel};
 
 use crate::bytes::{is_ending, is_spacing, label_len, split_blanks};
 use crate::ends::end_of_command;
@@ -21,10 +21,11 @@ fn split_label(text: &[u8]) -> (&[u8], &[u8])
 
 /// The bytes of a label behind blanks, their place, and what stands behind them. There may be none.
 fn label_parts<'a>(whole: &[u8], text: &'a [u8]) -> (&'a [u8], usize, &'a [u8])
-    requires { EndsIn whole.now text.now }
+    requires { IsBehindVerb whole.now text.now }
     ensures parts { IsLabelAt text.now result.0.now result.2.now }
-    ensures tail { EndsIn whole.now result.2.now }
-    ensures within { result.1 ≤ length whole.now }
+    ensures behind { IsBehindLabel whole.now result.2.now }
+    ensures place { result.1 + length result.0.now + length result.2.now ≡ length whole.now }
+    ensures label { 0 < length result.0.now → IsLabelHere whole.now result.1 result.0.now }
 {
     let (_, begins) = split_blanks(text);
     let (name, behind) = split_label(begins);
@@ -33,7 +34,7 @@ fn label_parts<'a>(whole: &[u8], text: &'a [u8]) -> (&'a [u8], usize, &'a [u8])
 
 /// Whether a label that is defined may end here.
 fn check_behind_definition(whole: &[u8], behind: &[u8]) -> Result<(), ScriptFault>
-    requires { EndsIn whole.now behind.now }
+    requires { IsBehindLabel whole.now behind.now }
     ensures allowed { OnOk result (IsNoBrace behind.now) }
     ensures refused { IfErr result (λ fault. (rest : List ℕ) → IsNoBrace behind.now → Ends behind.now rest → ⊥) }
     ensures placed { IfErr result (λ fault. IsPlaced whole.now fault) }
@@ -53,9 +54,9 @@ pub fn defined_label<'a>(
     whole: &[u8],
     text: &'a [u8],
 ) -> Result<(&'a [u8], usize, &'a [u8]), ScriptFault>
-    requires { EndsIn whole.now text.now }
+    requires { IsBehindVerb whole.now text.now }
     ensures read { IfOk result (λ x. LabelText text.now x.0.now x.2.now × IsNoBrace x.2.now) }
-    ensures within { IfOk result (λ x. x.1 ≤ length whole.now) }
+    ensures label { IfOk result (λ x. IsLabelHere whole.now x.1 x.0.now) }
     ensures refused { IfErr result (λ fault. (name : List ℕ) (behind : List ℕ) (rest : List ℕ) → LabelText text.now name behind → IsNoBrace behind → Ends behind rest → ⊥) }
     ensures placed { IfErr result (λ fault. IsPlaced whole.now fault) }
 {
@@ -69,7 +70,7 @@ pub fn defined_label<'a>(
 
 /// Whether the label of a branch may end here.
 fn check_behind_label(whole: &[u8], behind: &[u8]) -> Result<(), ScriptFault>
-    requires { EndsIn whole.now behind.now }
+    requires { IsBehindLabel whole.now behind.now }
     ensures allowed { OnOk result (IsNoComment behind.now) }
     ensures refused { IfErr result (λ fault. (rest : List ℕ) → IsNoComment behind.now → Ends behind.now rest → ⊥) }
     ensures placed { IfErr result (λ fault. IsPlaced whole.now fault) }
@@ -86,7 +87,7 @@ fn check_behind_label(whole: &[u8], behind: &[u8]) -> Result<(), ScriptFault>
 
 /// Whether a branch without a label ends here, behind its blanks. A comment needs one of them.
 fn check_no_label(whole: &[u8], text: &[u8], begins: &[u8]) -> Result<(), ScriptFault>
-    requires tail { EndsIn whole.now begins.now }
+    requires behind { IsBehindLabel whole.now begins.now }
     requires blanks { (blanks : List ℕ) × Longest is_blank text.now blanks begins.now }
     ensures allowed { OnOk result (IsNoComment text.now × Ends text.now begins.now) }
     ensures refused { IfErr result (λ fault. (rest : List ℕ) → IsNoComment text.now → Ends text.now rest → ⊥) }
@@ -109,9 +110,9 @@ pub fn branch_label<'a>(
     whole: &[u8],
     text: &'a [u8],
 ) -> Result<(Option<&'a [u8]>, usize, &'a [u8]), ScriptFault>
-    requires { EndsIn whole.now text.now }
+    requires { IsBehindVerb whole.now text.now }
     ensures read { IfOk result (λ x. BranchText text.now (option_copied x.0) x.2.now) }
-    ensures within { IfOk result (λ x. x.1 ≤ length whole.now) }
+    ensures label { IfOk result (λ x. IsLabelPlace whole.now x.1 (option_copied x.0)) }
     ensures refused { IfErr result (λ fault. (label : Option (List ℕ)) (rest : List ℕ) → BranchText text.now label rest → ⊥) }
     ensures placed { IfErr result (λ fault. IsPlaced whole.now fault) }
 {

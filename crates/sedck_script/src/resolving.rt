@@ -1,12 +1,12 @@
 //! From items to commands: the places that branches, tests and blocks lead to.
 
-ghost use Rattle.std.specs.Prelude.{◌≡◌, ◌≢◌, ◌≤◌, ℕ, List, [], IfNone, IfSome, Some, None, length, map, All, Any, IfOk, IfErr, OnOk, OnErr, option_copied};
+ghost use Rattle.std.specs.Prelude.{◌≡◌, ◌≢◌, ◌⊎◌, ℕ, List, [], IfNone, IfSome, Some, None, length, map, All, Any, IfOk, IfErr, OnOk, OnErr, option_copied};
 ghost use Rattle.sedck_script.specs.View as view;
-ghost use Rattle.sedck_script.specs.Faults.{IsPlaced};
+ghost use Rattle.sedck_script.specs.Faults.{IsLabelHere};
 ghost use Rattle.sedck_script.specs.Resolution.{Resolves};
 ghost use Rattle.sedck_script.specs.Reading.{HasLabels, IsUnknownLabel};
-ghost use Rattle.sedck_script.specs.VerbReading.{written_verb, IsWrittenWithin};
-ghost use Rattle.sedck_script.specs.ItemReading.{item_of, commands_among, Nests, verb_turn, TakesTarget, IsItemWithin, IsKnownLabel, IsLostLabel, label_of, item_label, target_of, resolved_command};
+ghost use Rattle.sedck_script.specs.VerbReading.{written_verb, IsWrittenAt};
+ghost use Rattle.sedck_script.specs.ItemReading.{item_of, commands_among, Nests, verb_turn, TakesTarget, IsItemAt, IsKnownLabel, IsLostLabel, label_of, item_label, target_of, resolved_command};
 
 use crate::fault::ScriptFault;
 use crate::label_places::place_of;
@@ -68,7 +68,7 @@ fn block_target(verb: &Written, targets: &mut Vec<usize>, end: usize) -> usize
 fn label_of<'a>(item: &WrittenItem<'a>) -> Option<(&'a [u8], usize)>
     ensures none { IfNone result (item_label (item_of item.now) ≡ None) }
     ensures some { IfSome result (λ x. item_label (item_of item.now) ≡ Some x.0.now) }
-    ensures within { IfSome result (λ x. (end : ℕ) → IsItemWithin end item.now → x.1 ≤ end) }
+    ensures label { IfSome result (λ x. (text : List ℕ) → IsItemAt text item.now → IsLabelHere text x.1 x.0.now) }
 {
     let WrittenItem::Command(command) = item else {
         return None;
@@ -84,7 +84,7 @@ fn label_of<'a>(item: &WrittenItem<'a>) -> Option<(&'a [u8], usize)>
 fn check_target(item: &WrittenItem, labels: &IndexMap<&[u8], usize>) -> Result<(), ScriptFault>
     ensures known { OnOk result (IsKnownLabel labels.now (item_label (item_of item.now))) }
     ensures lost { OnErr result (IsLostLabel labels.now (item_label (item_of item.now))) }
-    ensures placed { IfErr result (λ fault. (end : ℕ) → IsItemWithin end item.now → IsUnknownLabel end fault) }
+    ensures placed { IfErr result (λ fault. (text : List ℕ) → IsItemAt text item.now → IsUnknownLabel labels.now text fault) }
 {
     if let Some((name, place)) = label_of(item) {
         if place_of(labels, name).is_none() {
@@ -98,7 +98,7 @@ fn check_target(item: &WrittenItem, labels: &IndexMap<&[u8], usize>) -> Result<(
 fn check_targets(items: &[WrittenItem], labels: &IndexMap<&[u8], usize>) -> Result<(), ScriptFault>
     ensures known { OnOk result (All (λ item. IsKnownLabel labels.now (item_label (item_of item))) items.now) }
     ensures lost { OnErr result (Any (λ item. IsLostLabel labels.now (item_label (item_of item))) items.now) }
-    ensures placed { IfErr result (λ fault. (end : ℕ) → All (IsItemWithin end) items.now → IsUnknownLabel end fault) }
+    ensures placed { IfErr result (λ fault. (text : List ℕ) → All (IsItemAt text) items.now → IsUnknownLabel labels.now text fault) }
 {
     for item in items {
         check_target(item, labels)?;
@@ -118,7 +118,7 @@ pub fn linked<'a>(
     requires end { end ≡ length (commands_among (map item_of items.items)) }
     ensures resolved { IfOk result (λ v. Resolves (map view.command_of v.items) [] 0 (map item_of items.entry.items) (map view.command_of v.items)) }
     ensures lost { IfErr result (λ fault. fault ≢ ScriptFault.OutOfMemory → Any (λ item. IsLostLabel labels.now (item_label (item_of item))) items.entry.items) }
-    ensures placed { IfErr result (λ fault. (text : List ℕ) → All (IsItemWithin (length text)) items.entry.items → IsPlaced text fault) }
+    ensures placed { IfErr result (λ fault. (text : List ℕ) → All (IsItemAt text) items.entry.items → (fault ≡ ScriptFault.OutOfMemory) ⊎ IsUnknownLabel labels.now text fault) }
 {
     check_targets(&items, labels)?;
     resolve(alloc, items, end, labels)

@@ -4,7 +4,7 @@ ghost use Rattle.std.specs.Prelude.{◌≡◌, ◌≢◌, ◌≤◌, ℕ, List, 
 ghost use Rattle.sedck_script.specs.Cuts.{is_delimiter};
 ghost use Rattle.sedck_script.specs.Program as clean;
 ghost use Rattle.sedck_script.specs.Items.{WrittenVerb, Known, VerbText};
-ghost use Rattle.sedck_script.specs.Faults.{IsPlaced};
+ghost use Rattle.sedck_script.specs.Faults.{StandsAt, StandsWhere, begins_part, IsPlaced};
 ghost use Rattle.sedck_script.specs.Reading.{EndsIn};
 ghost use Rattle.sedck_script.specs.VerbReading.{AreLists};
 ghost use Rattle.sedck_script.specs.View.{verb_of};
@@ -22,7 +22,7 @@ use std::alloc::Global;
 fn opening_delimiter<'a>(opening: usize, text: &'a [u8]) -> Result<(u8, &'a [u8]), ScriptFault>
     ensures read { IfOk result (λ x. (text.now ≡ x.0 ∷ x.1.now) × IsTrue (is_delimiter x.0)) }
     ensures refused { IfErr result (λ fault. (delimiter : ℕ) (rest : List ℕ) → text.now ≡ delimiter ∷ rest → IsTrue (is_delimiter delimiter) → ⊥) }
-    ensures placed { IfErr result (λ fault. (whole : List ℕ) → opening ≤ length whole → IsPlaced whole fault) }
+    ensures placed { IfErr result (λ fault. (whole : List ℕ) → StandsWhere begins_part whole opening → IsPlaced whole fault) }
 {
     let unterminated = ScriptFault::Unterminated { place: opening };
     let Some((delimiter, behind)) = text.split_first() else {
@@ -42,7 +42,7 @@ pub fn substitution<'a>(
     text: &'a [u8],
 ) -> Result<(Verb<'a>, &'a [u8]), ScriptFault>
     requires tail { EndsIn whole.now text.now }
-    requires within { place ≤ length whole.now }
+    requires stands { StandsAt whole.now place 115 }
     ensures read { IfOk result (λ x. VerbText (115 ∷ text.now) (Known (verb_of x.0)) x.1.now) }
     ensures plain { IfOk result (λ x. (name : List ℕ) → verb_of x.0 ≢ clean.Label name) }
     ensures refused { IfErr result (λ fault. fault ≢ ScriptFault.OutOfMemory → (verb : WrittenVerb) (rest : List ℕ) → VerbText (115 ∷ text.now) verb rest → ⊥) }
@@ -74,7 +74,7 @@ fn equal_lists<'a>(
 ) -> Result<(Vec<u8>, Vec<u8>, &'a [u8]), ScriptFault>
     requires delimiter { IsTrue (is_delimiter delimiter) }
     requires tail { EndsIn whole.now text.now }
-    requires within { place ≤ length whole.now }
+    requires stands { StandsAt whole.now place 121 }
     ensures read { IfOk result (λ x. AreLists delimiter text.now x.0.items x.1.items x.2.now) }
     ensures refused { IfErr result (λ fault. fault ≢ ScriptFault.OutOfMemory → (from to rest : List ℕ) → AreLists delimiter text.now from to rest → ⊥) }
     ensures placed { IfErr result (λ fault. IsPlaced whole.now fault) }
@@ -95,7 +95,7 @@ pub fn transliteration<'a>(
     text: &'a [u8],
 ) -> Result<(Verb<'a>, &'a [u8]), ScriptFault>
     requires tail { EndsIn whole.now text.now }
-    requires within { place ≤ length whole.now }
+    requires stands { StandsAt whole.now place 121 }
     ensures read { IfOk result (λ x. VerbText (121 ∷ text.now) (Known (verb_of x.0)) x.1.now) }
     ensures plain { IfOk result (λ x. (name : List ℕ) → verb_of x.0 ≢ clean.Label name) }
     ensures refused { IfErr result (λ fault. fault ≢ ScriptFault.OutOfMemory → (verb : WrittenVerb) (rest : List ℕ) → VerbText (121 ∷ text.now) verb rest → ⊥) }

@@ -1,13 +1,13 @@
 //! Verbs with what they take.
 
-ghost use Rattle.std.specs.Prelude.{◌≡◌, ◌≢◌, ◌⊎◌, ℕ, List, [], ◌∷◌, false, length, IsTrue, IfOk, IfErr, IfSome, IfNone};
+ghost use Rattle.std.specs.Prelude.{◌≡◌, ◌≢◌, ◌⊎◌, ◌-◌, ℕ, List, [], ◌∷◌, false, length, IsTrue, IfOk, IfErr, IfSome, IfNone};
 ghost use Rattle.sedck_bre.specs.Text.{is_in, one_of};
 ghost use Rattle.sedck_script.specs.Program as clean;
 ghost use Rattle.sedck_script.specs.Items.{WrittenVerb, Known, Simple, VerbText, IsNoBrace};
-ghost use Rattle.sedck_script.specs.Faults.{IsPlaced, StandsAt, verb_bytes};
+ghost use Rattle.sedck_script.specs.Faults.{IsVerbDue, IsPlaced, StandsAt, verb_bytes};
 ghost use Rattle.sedck_script.specs.Reading.{EndsIn};
 ghost use Rattle.sedck_script.specs.View.{verb_of};
-ghost use Rattle.sedck_script.specs.VerbReading.{written_verb, IsWrittenWithin, DefinesKnown};
+ghost use Rattle.sedck_script.specs.VerbReading.{written_verb, IsWrittenAt, DefinesKnown};
 
 use crate::bytes::split_blanks;
 use crate::ends::end_of_command;
@@ -120,6 +120,7 @@ fn simple_command<'a>(
     requires tail { EndsIn whole.now text.now }
     requires other { one_of "=dDgGhHlnNpPqx" verb ≡ false → is_in verb verb_bytes ≡ false }
     requires stands { StandsAt whole.now place verb }
+    requires due { IsVerbDue whole.now place }
     ensures read { IfOk result (λ x. VerbText (verb ∷ text.now) (Known (verb_of x.0)) x.1.now) }
     ensures plain { IfOk result (λ x. (name : List ℕ) → verb_of x.0 ≢ clean.Label name) }
     ensures refused { IfErr result (λ fault. (written : WrittenVerb) (rest : List ℕ) → VerbText (verb ∷ text.now) written rest → ⊥) }
@@ -143,6 +144,7 @@ fn known_verb<'a>(
     requires tail { EndsIn whole.now text.now }
     requires verb { one_of ":bt{}#" verb ≡ false }
     requires stands { StandsAt whole.now place verb }
+    requires due { IsVerbDue whole.now place }
     ensures read { IfOk result (λ x. VerbText (verb ∷ text.now) (Known (verb_of x.0)) x.1.now) }
     ensures plain { IfOk result (λ x. (name : List ℕ) → verb_of x.0 ≢ clean.Label name) }
     ensures refused { IfErr result (λ fault. fault ≢ ScriptFault.OutOfMemory → (written : WrittenVerb) (rest : List ℕ) → VerbText (verb ∷ text.now) written rest → ⊥) }
@@ -169,10 +171,10 @@ fn definition<'a>(
     labels: &IndexMap<&'a [u8], usize>,
     text: &'a [u8],
 ) -> Result<(Written<'a>, &'a [u8]), ScriptFault>
-    requires { EndsIn whole.now text.now }
+    requires { EndsIn whole.now (58 ∷ text.now) }
     ensures read { IfOk result (λ x. VerbText (58 ∷ text.now) (written_verb x.0) x.1.now) }
     ensures fresh { IfOk result (λ x. DefinesKnown labels.now (written_verb x.0) → ⊥) }
-    ensures within { IfOk result (λ x. IsWrittenWithin (length whole.now) x.0) }
+    ensures label { IfOk result (λ x. IsWrittenAt whole.now x.0) }
     ensures refused { IfErr result (λ fault. (verb : WrittenVerb) (rest : List ℕ) → VerbText (58 ∷ text.now) verb rest → DefinesKnown labels.now verb) }
     ensures placed { IfErr result (λ fault. IsPlaced whole.now fault) }
 {
@@ -186,11 +188,11 @@ fn definition<'a>(
 
 /// What a `b` or a `t` takes, and the rest of the script from its end on.
 fn jump<'a>(whole: &[u8], verb: u8, text: &'a [u8]) -> Result<(Written<'a>, &'a [u8]), ScriptFault>
-    requires tail { EndsIn whole.now text.now }
+    requires tail { EndsIn whole.now (verb ∷ text.now) }
     requires verb { (verb ≡ 98) ⊎ (verb ≡ 116) }
     ensures read { IfOk result (λ x. VerbText (verb ∷ text.now) (written_verb x.0) x.1.now) }
     ensures no_label { IfOk result (λ x. (name : List ℕ) → written_verb x.0 ≢ Known (clean.Label name)) }
-    ensures within { IfOk result (λ x. IsWrittenWithin (length whole.now) x.0) }
+    ensures label { IfOk result (λ x. IsWrittenAt whole.now x.0) }
     ensures refused { IfErr result (λ fault. (written : WrittenVerb) (rest : List ℕ) → VerbText (verb ∷ text.now) written rest → ⊥) }
     ensures placed { IfErr result (λ fault. IsPlaced whole.now fault) }
 {
@@ -213,10 +215,11 @@ pub fn verb_at<'a>(
     text: &'a [u8],
 ) -> Result<(Written<'a>, &'a [u8]), ScriptFault>
     requires tail { EndsIn whole.now text.now }
+    requires due { IsVerbDue whole.now (length whole.now - length text.now) }
     requires verb { IsNoBrace text.now }
     ensures read { IfOk result (λ x. VerbText text.now (written_verb x.0) x.1.now) }
     ensures fresh { IfOk result (λ x. DefinesKnown labels.now (written_verb x.0) → ⊥) }
-    ensures within { IfOk result (λ x. IsWrittenWithin (length whole.now) x.0) }
+    ensures label { IfOk result (λ x. IsWrittenAt whole.now x.0) }
     ensures refused { IfErr result (λ fault. fault ≢ ScriptFault.OutOfMemory → (verb : WrittenVerb) (rest : List ℕ) → VerbText text.now verb rest → DefinesKnown labels.now verb) }
     ensures placed { IfErr result (λ fault. IsPlaced whole.now fault) }
 {

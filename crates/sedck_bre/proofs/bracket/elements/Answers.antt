@@ -6,30 +6,30 @@ use Rattle.sedck_bre.proofs.BracketLoop.{just_push}
 use Rattle.sedck_bre.proofs.bracket.elements.Goals as goal
 
 pub elements-smaller : goal.elements-smaller
-elements-smaller c = read_shorter c.elements.first c.elements.rest.now (element_of c.in-Ok.element) c.in-Ok.after.now c.in-Ok.ensures
+elements-smaller c = read_shorter c.elements.first c.elements.rest.now (element_of c.in-Ok.element) c.in-Ok.after.now c.in-Ok.ensures.read
 
 pub elements-preserved : goal.elements-preserved
 elements-preserved c =
     let front = c.elements.invariant.front in
     let e = element_of c.in-Ok.element in
-    let less = read_shorter c.elements.first c.elements.rest.now e c.in-Ok.after.now c.in-Ok.ensures in
+    let less = read_shorter c.elements.first c.elements.rest.now e c.in-Ok.after.now c.in-Ok.ensures.read in
     record {
       shorter = omega (arith, less, c.elements.invariant.shorter);
       front = front ++ e ∷ [];
       just = just_push c.union-set.result.0 front e (c.union-set.ensures (is_of front) (λ b. in_element b e) c.elements.invariant.just c.members.ensures);
       reads = sym (elements_go front c.elements.first c.elements.rest.now e c.in-Ok.after.now
-          (sym c.is_over.ensures.value ∙ c.elements-test.true) c.in-Ok.ensures) ∙ c.elements.invariant.reads;
+          (sym c.is_over.ensures.value ∙ c.elements-test.true) c.in-Ok.ensures.read) ∙ c.elements.invariant.reads;
     }
 
 pub returns-in-Err-Unclosed-clause-value : goal.returns-in-Err-Unclosed-clause-value
 returns-in-Err-Unclosed-clause-value c =
     sym c.elements.invariant.reads ∙ elements_fail c.elements.invariant.front c.elements.first c.elements.rest.now
-    (sym c.is_over.ensures.value ∙ c.elements-test.true) c.in-Err-Unclosed.ensures
+    (sym c.is_over.ensures.value ∙ c.elements-test.true) c.in-Err-Unclosed.ensures.read
 
 pub returns-in-Err-Bad-clause-value : goal.returns-in-Err-Bad-clause-value
 returns-in-Err-Bad-clause-value c =
     sym c.elements.invariant.reads ∙ elements_fail c.elements.invariant.front c.elements.first c.elements.rest.now
-    (sym c.is_over.ensures.value ∙ c.elements-test.true) c.in-Err-Bad.ensures
+    (sym c.is_over.ensures.value ∙ c.elements-test.true) c.in-Err-Bad.ensures.read
 
 pub returns-clause-value : goal.returns-clause-value
 returns-clause-value c = (

@@ -1,10 +1,11 @@
+use Rattle.std.proofs.Common.{subst}
+use Rattle.sedck_script.specs.Reading.{EndsIn}
 use Rattle.sedck_script.proofs.Outcomes.{if_err_more}
-use Rattle.sedck_script.proofs.Tails.{tail_behind}
 use Rattle.sedck_script.proofs.AddressLemmas.{custom_delimiter}
 use Rattle.sedck_script.proofs.addresses.custom_context.Goals as goal
 
-pub context-requires-clause-tail : goal.context-requires-clause-tail
-context-requires-clause-tail c = tail_behind c.requires.tail c.in-Some.ensures.cases.0
+pub context-requires-clause-opened : goal.context-requires-clause-opened
+context-requires-clause-opened c = subst (EndsIn c.args.whole.now) c.in-Some.ensures.cases.0 c.requires.tail
 
 pub returns-clause-refused : goal.returns-clause-refused
 returns-clause-refused c = if_err_more c.context.result

@@ -1,15 +1,24 @@
-use Rattle.std.proofs.Common.{arith}
+use Rattle.std.proofs.Common.{◌∷◌, refl, ap, ◌∙◌, subst, inl, arith}
+use Rattle.sedck_script.specs.Reading.{EndsIn}
+use Rattle.sedck_script.proofs.PlaceLemmas.{no_number_place}
 use Rattle.sedck_script.specs.Parts.{line}
 use Rattle.sedck_script.proofs.Outcomes.{if_ok_more, if_err_more}
-use Rattle.sedck_script.proofs.Tails.{tail_behind}
+use Rattle.sedck_script.proofs.Tails.{tail_behind, stands_at_tail}
 use Rattle.sedck_script.proofs.AddressLemmas.{last_text, slash_text, slash_only, custom_text, custom_only, no_line}
 use Rattle.sedck_script.proofs.addresses.place_here.Goals as goal
 
 pub returns-then-first-eq36-clause-read : goal.returns-then-first-eq36-clause-read
 returns-then-first-eq36-clause-read c = last_text c.requires.first c.if-first-eq36.true
 
-pub context-requires-clause-tail : goal.context-requires-clause-tail
-context-requires-clause-tail c = tail_behind c.requires.tail c.requires.first
+pub context-requires-clause-opened : goal.context-requires-clause-opened
+context-requires-clause-opened c =
+    subst (EndsIn c.args.whole.now) (c.requires.first ∙ ap (λ b. b ∷ c.args.behind.now) c.if-first-eq47.true) c.requires.tail
+
+pub context-requires-clause-begun : goal.context-requires-clause-begun
+context-requires-clause-begun c = (_, stands_at_tail c.requires.tail c.requires.first, rw c.if-first-eq47.true refl)
+
+pub custom_context-requires-clause-begun : goal.custom_context-requires-clause-begun
+custom_context-requires-clause-begun c = (_, stands_at_tail c.requires.tail c.requires.first, rw c.if-first-eq92.true refl)
 
 pub returns-then-first-eq47-clause-read : goal.returns-then-first-eq47-clause-read
 returns-then-first-eq47-clause-read c = if_ok_more c.context.result (λ x h. slash_text c.requires.first c.if-first-eq47.true h) c.context.ensures.read
@@ -34,3 +43,7 @@ returns-in-Some-clause-read c = line c.in-Some.ensures.read
 
 pub returns-in-None-clause-refused : goal.returns-in-None-clause-refused
 returns-in-None-clause-refused c = λ memory p rest x. no_line c.requires.first (λ e. omega arith) (λ e. omega arith) (λ e. omega arith) c.in-None.ensures.none x
+
+pub returns-in-None-clause-placed : goal.returns-in-None-clause-placed
+returns-in-None-clause-placed c = inl (no_number_place c.requires.tail c.requires.first c.requires.begins
+    (λ e. omega arith) (λ e. omega arith) (λ e. omega arith) c.in-None.ensures.none)

@@ -1,5 +1,7 @@
+use Rattle.std.proofs.Common.{inr}
 use Rattle.sedck_script.proofs.Outcomes.{if_err_from}
 use Rattle.sedck_script.proofs.Tails.{tail_length}
+use Rattle.sedck_script.proofs.PlaceLemmas.{no_second_place}
 use Rattle.sedck_script.proofs.AddressOnly.{comma_tail, no_place, none_found, place_found}
 use Rattle.sedck_script.proofs.addresses.second_at.Goals as goal
 
@@ -23,3 +25,7 @@ returns-in_default-2-clause-refused c = λ memory. (
 
 pub returns-clause-read : goal.returns-clause-read
 returns-clause-read c = (c.in-Some.second.now, c.in-Some.ensures.some, place_found c.in-Some-2.is c.in_ok-found.ensures.read)
+
+pub returns-in_default-2-clause-placed : goal.returns-in_default-2-clause-placed
+returns-in_default-2-clause-placed c = inr (no_second_place c.requires.tail c.in-Some.ensures.some
+    (none_found c.in-Some.second.now c.in_default-2.is c.in_ok-found.ensures.none))

@@ -14,9 +14,12 @@ returns-then-not-is_verb-clause-refused c = λ verb rest x t. absurd
 
 pub returns-then-not-is_verb-clause-placed : goal.returns-then-not-is_verb-clause-placed
 returns-then-not-is_verb-clause-placed c = (
-  omega arith,
-  λ b at. ap (λ x. is_in x verb_bytes) (same_byte at (stands_at_tail c.requires.tail c.in-Some.ensures.cases.0))
-      ∙ sym c.is_verb.ensures ∙ c.if-not-is_verb.true,
+  c.requires.due,
+  (
+    omega arith,
+    λ b at. ap (λ x. is_in x verb_bytes) (same_byte at (stands_at_tail c.requires.tail c.in-Some.ensures.cases.0))
+        ∙ sym c.is_verb.ensures ∙ c.if-not-is_verb.true,
+  ),
 )
 
 pub returns-then-not-takes-clause-refused : goal.returns-then-not-takes-clause-refused

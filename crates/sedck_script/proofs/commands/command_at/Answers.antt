@@ -1,10 +1,11 @@
-use Rattle.std.proofs.Common.{length, sym, ◌∙◌, arith}
+use Rattle.std.proofs.Common.{sym, ◌∙◌, arith}
 use Rattle.sedck_script.specs.Program.{address_patterns}
 use Rattle.sedck_script.specs.View.{address_of}
 use Rattle.sedck_script.specs.VerbReading.{written_verb}
 use Rattle.sedck_script.specs.Progress.{written_patterns}
 use Rattle.sedck_script.proofs.Outcomes.{if_err_from}
 use Rattle.sedck_script.proofs.Tails.{tail_cut, tail_tail, tail_length}
+use Rattle.sedck_script.proofs.PlaceLemmas.{verb_due, empty_verb_place}
 use Rattle.sedck_script.proofs.CommandLemmas.{address_tail, command_parts, empty_append, takes_along}
 use Rattle.sedck_script.proofs.commands.command_at.Goals as goal
 
@@ -13,8 +14,13 @@ returns-in_err-address-clause-refused c =
     if_err_from _ c.from_residual.result _ c.from_residual.ensures.1
     (λ memory given negated verb rest x. absurd (c.in_err-address.ensures.refused memory given negated verb rest x))
 
-pub allowed_verb-requires : goal.allowed_verb-requires
-allowed_verb-requires c = record { tail = tail_tail c.requires.tail (tail_tail (address_tail c.in_ok-address.ensures.read) (tail_cut c.split_marks.ensures)) }
+pub allowed_verb-requires-clause-tail : goal.allowed_verb-requires-clause-tail
+allowed_verb-requires-clause-tail c =
+    tail_tail c.requires.tail (tail_tail (address_tail c.in_ok-address.ensures.read) (tail_cut c.split_marks.ensures))
+
+pub allowed_verb-requires-clause-due : goal.allowed_verb-requires-clause-due
+allowed_verb-requires-clause-due c = verb_due c.requires.tail c.requires.begins c.in_ok-address.ensures.read c.split_marks.ensures
+    (tail_tail c.requires.tail (tail_tail (address_tail c.in_ok-address.ensures.read) (tail_cut c.split_marks.ensures)))
 
 pub returns-in_err-verb-clause-refused : goal.returns-in_err-verb-clause-refused
 returns-in_err-verb-clause-refused c =
@@ -28,6 +34,7 @@ overflow_sub-whole c =
 
 pub returns-clause-empty : goal.returns-clause-empty
 returns-clause-empty c =
-    rw c.or-empty.ensures (empty_append (length c.args.whole.now) (address_patterns (address_of c.in_ok-address.address))
+    rw c.or-empty.ensures (empty_append c.args.whole.now (address_patterns (address_of c.in_ok-address.address))
     (written_patterns (written_verb c.in_ok-verb.verb)) c.in_ok-address.empty c.empty_verb.result
-    c.in_ok-address.ensures.empty (c.empty_verb.ensures (length c.args.whole.now) (omega arith)))
+    c.in_ok-address.ensures.empty (c.empty_verb.ensures c.args.whole.now (empty_verb_place _
+    (tail_tail c.requires.tail (tail_tail (address_tail c.in_ok-address.ensures.read) (tail_cut c.split_marks.ensures))) c.in_ok-verb.ensures.read (omega arith))))

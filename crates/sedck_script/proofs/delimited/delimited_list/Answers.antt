@@ -1,5 +1,6 @@
-use Rattle.std.proofs.Common.{◌≡◌, None, ap, sym, subst}
+use Rattle.std.proofs.Common.{◌≡◌, None, refl, ap, sym, subst}
 use Rattle.sedck_script.specs.PieceReading.{IsPiece, list_escape}
+use Rattle.sedck_script.proofs.Tails.{stands_at_tail}
 use Rattle.sedck_script.proofs.Outcomes.{if_err_each}
 use Rattle.sedck_script.proofs.WholeOne.{no_backslash}
 use Rattle.sedck_script.proofs.PieceLemmas.{piece_tail, list_more, list_byte, list_escaped, list_pair, list_end, list_stuck, list_broken}
@@ -40,3 +41,8 @@ loop-bytes-preserved c =
     list_more _ c.in_ok-push-in-Pair.ensures.items c.loop-bytes.invariant (piece_tail _ _ _ _ c.in_ok-piece.ensures.read)
     (list_pair (no_backslash c.requires.delimiter) (sym c.in-Some.ensures)
     (subst (λ x. IsPiece c.args.delimiter c.loop-bytes.rest.now x c.in_ok-piece.behind.now) c.in-Pair.is c.in_ok-piece.ensures.read))
+
+pub returns-in_default-clause-placed : goal.returns-in_default-clause-placed
+returns-in_default-clause-placed c =
+    let pair = subst (λ x. IsPiece c.args.delimiter c.loop-bytes.rest.now x c.in_ok-piece.behind.now) c.in-Pair.is c.in_ok-piece.ensures.read in
+    (92, stands_at_tail c.loop-bytes.invariant.tail pair.0, refl)

@@ -1,5 +1,8 @@
-use Rattle.std.proofs.Common.{sym, subst, arith}
+use Rattle.std.proofs.Common.{refl, sym, subst, arith}
 use Rattle.sedck_bre.specs.Shape.{Shape}
+use Rattle.sedck_bre.specs.Faults.{IsPlaced}
+use Rattle.sedck_script.proofs.Tails.{tail_behind}
+use Rattle.sedck_script.proofs.PlaceLemmas.{refused_expression}
 use Rattle.sedck_script.proofs.WholeOne.{no_backslash}
 use Rattle.sedck_script.proofs.PieceLemmas.{pattern_none, pattern_some, pattern_none_only, pattern_some_only, no_pattern}
 use Rattle.sedck_script.proofs.delimited.pattern.Goals as goal
@@ -25,3 +28,12 @@ pub returns-in-Ok-clause-only : goal.returns-in-Ok-clause-only
 returns-in-Ok-clause-only c = λ p rest x.
     pattern_some_only p (no_backslash c.requires.delimiter) c.in_ok-bytes.ensures.read (grind (arith, c.if-is_empty.ensures))
     (λ t s. c.in-Ok.ensures.only t (subst (λ u. Shape u t) (sym c.deref.ensures.value) s)) x
+
+pub delimited_expression-requires-clause-tail : goal.delimited_expression-requires-clause-tail
+delimited_expression-requires-clause-tail c = tail_behind c.requires.opened refl
+
+pub returns-clause-placed : goal.returns-clause-placed
+returns-clause-placed c = c.expression_fault.ensures.placed c.args.whole.now (λ of_text.
+    refused_expression c.requires.opened c.requires.delimiter c.in_ok-bytes.ensures.read of_text
+    (subst (λ t. IsPlaced t c.in-Err.fault) c.deref.ensures.value c.in-Err.ensures.place)
+    (λ t s. c.in-Err.ensures.refused of_text t (subst (λ u. Shape u t) (sym c.deref.ensures.value) s)))

@@ -1,6 +1,7 @@
 use Rattle.std.proofs.Common.{refl, ◌∙◌, sym}
 use Rattle.sedck_script.proofs.Outcomes.{if_err_always}
 use Rattle.sedck_script.proofs.Tails.{stands_at_tail}
+use Rattle.sedck_script.proofs.PlaceLemmas.{extra_digit}
 use Rattle.sedck_script.proofs.FlagLemmas.{no_flag, no_file, no_number, no_flags_end}
 use Rattle.sedck_script.proofs.flags.flag_at.Goals as goal
 
@@ -23,3 +24,14 @@ pub returns-in_err-rest-clause-refused : goal.returns-in_err-rest-clause-refused
 returns-in_err-rest-clause-refused c = if_err_always c.from_residual.result (λ q ps s r x.
     no_flags_end c.in-Some.ensures.cases.0 c.if-first-eq103.false c.if-first-eq112.false c.if-first-eq119.false
     (sym c.is_digit.ensures ∙ c.if-is_digit.false) c.in_err-rest.ensures.refused x)
+
+pub returns-in_default-number-clause-placed : goal.returns-in_default-number-clause-placed
+returns-in_default-number-clause-placed c =
+    (_, stands_at_tail c.requires c.in-Some.ensures.cases.0, extra_digit c.in-Some.first.now (sym c.is_digit.ensures ∙ c.if-is_digit.true))
+
+pub returns-then-not-is_ending-clause-placed : goal.returns-then-not-is_ending-clause-placed
+returns-then-not-is_ending-clause-placed c = (
+  _,
+  stands_at_tail c.requires c.in-Some.ensures.cases.0,
+  rw (sym c.is_blank.ensures ∙ c.if-not-is_blank.true, sym c.is_ending.ensures ∙ c.if-not-is_ending.true) refl,
+)

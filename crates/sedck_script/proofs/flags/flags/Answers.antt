@@ -1,5 +1,7 @@
-use Rattle.std.proofs.Common.{◌∙◌, sym, subst}
+use Rattle.std.proofs.Common.{refl, ◌∙◌, sym, subst}
 use Rattle.sedck_script.specs.FlagReading.{IsFlag}
+use Rattle.sedck_script.proofs.Tails.{stands_at_tail}
+use Rattle.sedck_script.proofs.PlaceLemmas.{extra_number}
 use Rattle.sedck_script.proofs.FlagLemmas.{FlagsPassed, flags_global, flags_print, flags_nth, global_twice, print_twice, nth_twice, none_of, flags_end, flags_file}
 use Rattle.sedck_script.proofs.flags.flags.Goals as goal
 
@@ -43,3 +45,21 @@ loop-flag-preserved c =
     flags_nth (subst (λ n. FlagsPassed c.args.whole.now c.args.text.now c.loop-flag.seen.global c.loop-flag.seen.print n c.loop-flag.rest.now)
     (none_of _ (sym c.is_some.ensures ∙ c.if-is_some.false)) c.loop-flag.invariant)
     (subst (λ x. IsFlag c.loop-flag.rest.now x c.in_ok-flag.behind.now) c.in-Nth.is c.in_ok-flag.ensures.read)
+
+pub returns-then-seen-clause-placed : goal.returns-then-seen-clause-placed
+returns-then-seen-clause-placed c = (
+  103,
+  stands_at_tail c.loop-flag.invariant.tail (subst (λ x. IsFlag c.loop-flag.rest.now x c.in_ok-flag.behind.now) c.in-Global.is c.in_ok-flag.ensures.read),
+  refl,
+)
+
+pub returns-then-seen-2-clause-placed : goal.returns-then-seen-2-clause-placed
+returns-then-seen-2-clause-placed c = (
+  112,
+  stands_at_tail c.loop-flag.invariant.tail (subst (λ x. IsFlag c.loop-flag.rest.now x c.in_ok-flag.behind.now) c.in-Print.is c.in_ok-flag.ensures.read),
+  refl,
+)
+
+pub returns-then-is_some-clause-placed : goal.returns-then-is_some-clause-placed
+returns-then-is_some-clause-placed c =
+    extra_number c.loop-flag.invariant.tail (subst (λ x. IsFlag c.loop-flag.rest.now x c.in_ok-flag.behind.now) c.in-Nth.is c.in_ok-flag.ensures.read)

@@ -1,10 +1,10 @@
-use Rattle.std.proofs.Common.{◌⊎◌, ◌<◌, ◌∷◌, [], length, map, refl, ap, ◌∙◌, subst, length-append, arith}
+use Rattle.std.proofs.Common.{◌⊎◌, ◌<◌, ◌∷◌, [], map, refl, ap, ◌∙◌, subst, length-append, arith}
 use Rattle.std.proofs.lemmas.List.{map_push}
 use Rattle.std.proofs.lemmas.List.Elements.{All-push}
 use Rattle.sedck_script.specs.Items.{Written}
 use Rattle.sedck_script.specs.View.{address_of}
 use Rattle.sedck_script.specs.VerbReading.{written_verb, DefinesKnown}
-use Rattle.sedck_script.specs.ItemReading.{item_of, commands_among, IsItemWithin}
+use Rattle.sedck_script.specs.ItemReading.{item_of, commands_among, IsItemAt}
 use Rattle.sedck_script.specs.Progress.{IsBeyond, NotesLabel, patterns_of, item_patterns}
 use Rattle.sedck_script.proofs.Outcomes.{if_err_from}
 use Rattle.sedck_script.proofs.Tails.{tail_length}
@@ -46,8 +46,8 @@ returns-clause-progress c =
     record {
       front = rw items (front_command c.requires.progress.front c.requires.begins c.in_ok-command.ensures.read noted.0);
       labels = rw (items, among_append) (labels_noted old.labels c.note_command.new.progress.labels (commands_among (map item_of old.items.items))
-          (length c.args.text.now) (address_of command.address) command.negated command.verb
-          c.requires.progress.labels c.in_ok-command.ensures.within c.in_ok-command.ensures.read.taken c.in_ok-command.ensures.fresh
+          c.args.text.now (address_of command.address) command.negated command.verb
+          c.requires.progress.labels c.in_ok-command.ensures.label c.in_ok-command.ensures.read.taken c.in_ok-command.ensures.fresh
           (subst (λ k. NotesLabel old.labels c.note_command.new.progress.labels k command.verb) c.requires.progress.count c.in_ok-note_command.ensures.labels));
       count = rw (items, among_append)
           (omega (
@@ -58,11 +58,10 @@ returns-clause-progress c =
                 (Written (address_of command.address) command.negated (written_verb command.verb) ∷ []),
           ));
       few = omega (arith, c.in_ok-command.ensures.few, c.in_ok-note_command.ensures.count);
-      within = rw c.in_ok-note_command.ensures.items (All-push
-          (IsItemWithin (length c.args.text.now)) _ _ c.requires.progress.within c.in_ok-command.ensures.within);
+      label_places = rw c.in_ok-note_command.ensures.items (All-push (IsItemAt c.args.text.now) _ _ c.requires.progress.label_places c.in_ok-command.ensures.label);
       opened = noted.1;
       empty = rw (items, patterns_push, c.in_ok-note_command.ensures.empty)
-          (empty_append (length c.args.text.now) (item_patterns (map item_of old.items.items))
+          (empty_append c.args.text.now (item_patterns (map item_of old.items.items))
           (patterns_of (Written (address_of command.address) command.negated (written_verb command.verb))) old.empty c.in_ok-command.empty
           c.requires.progress.empty c.in_ok-command.ensures.empty);
     }

@@ -4,7 +4,7 @@ use Rattle.std.proofs.lemmas.List.{map_push}
 use Rattle.std.proofs.lemmas.List.Elements.{All-push}
 use Rattle.sedck_script.specs.Faults.{StandsAt}
 use Rattle.sedck_script.specs.Cuts.{brace}
-use Rattle.sedck_script.specs.ItemReading.{item_of, IsItemWithin}
+use Rattle.sedck_script.specs.ItemReading.{item_of, IsItemAt}
 use Rattle.sedck_script.specs.Progress.{IsFront}
 use Rattle.sedck_script.proofs.Outcomes.{if_err_from}
 use Rattle.sedck_script.proofs.Tails.{tail_behind, stands_at_tail}
@@ -38,7 +38,7 @@ returns-clause-progress c =
       labels = rw (items, among_closing) c.requires.progress.labels;
       count = rw (items, among_closing) c.requires.progress.count;
       few = c.requires.progress.few;
-      within = rw c.in_ok-push.ensures.items (All-push (IsItemWithin (length c.args.text.now)) _ _ c.requires.progress.within tt);
+      label_places = rw c.in_ok-push.ensures.items (All-push (IsItemAt c.args.text.now) _ _ c.requires.progress.label_places tt);
       opened = opened_front c.args.text.now _ _ (subst
           (λ xs. All (λ place. StandsAt c.args.text.now place brace) xs) c.in-Some.ensures.items c.requires.progress.opened);
       empty = rw (items, patterns_closing) c.requires.progress.empty;

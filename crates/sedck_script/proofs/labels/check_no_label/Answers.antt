@@ -1,5 +1,6 @@
 use Rattle.std.proofs.Common.{◌∙◌, sym}
 use Rattle.sedck_script.proofs.Ending.{no_end}
+use Rattle.sedck_script.proofs.PlaceLemmas.{no_label_place}
 use Rattle.sedck_script.proofs.LabelLemmas.{end_without_label}
 use Rattle.sedck_script.proofs.labels.check_no_label.Goals as goal
 use Rattle.sedck_script.proofs.labels.check_no_label.Goals.{else-next-eq35-via-then-next-eq35+else-begins-text, else-next-eq35-via-else-next-eq35}
@@ -15,3 +16,9 @@ returns-else-next-eq35-clause-allowed c =
       | else-next-eq35-via-then-next-eq35+else-begins-text w ↦ absurd (w.if-begins-text.false n)
       | else-next-eq35-via-else-next-eq35 w ↦ w.if-next-eq35.false
     ])
+
+pub returns-then-not-is_ending-clause-placed : goal.returns-then-not-is_ending-clause-placed
+returns-then-not-is_ending-clause-placed c = no_label_place c.requires.behind
+
+pub returns-then-begins-text-clause-placed : goal.returns-then-begins-text-clause-placed
+returns-then-begins-text-clause-placed c = no_label_place c.requires.behind

@@ -1,5 +1,8 @@
-use Rattle.std.proofs.Common.{arith}
+use Rattle.std.proofs.Common.{◌≡◌, ℕ, ◌+◌, ◌-◌, sym, subst, arith}
+use Rattle.sedck_script.specs.Faults.{IsPlaced}
+use Rattle.sedck_script.specs.declared.fault.ScriptFault.TheVariants.{BadLabel}
 use Rattle.sedck_script.proofs.Outcomes.{if_err_always}
+use Rattle.sedck_script.proofs.PlaceLemmas.{no_label_place}
 use Rattle.sedck_script.proofs.LabelLemmas.{no_label_there, no_definition}
 use Rattle.sedck_script.proofs.labels.defined_label.Goals as goal
 
@@ -10,3 +13,11 @@ pub returns-in_err-check_behind_definition-clause-refused : goal.returns-in_err-
 returns-in_err-check_behind_definition-clause-refused c =
     if_err_always c.from_residual.result
     (λ name behind rest l n e. no_definition c.label_parts-place.ensures.parts c.in_err-check_behind_definition.ensures.refused l n e)
+
+pub returns-then-is_empty-clause-placed : goal.returns-then-is_empty-clause-placed
+returns-then-is_empty-clause-placed c =
+    subst (λ p. IsPlaced c.args.whole.now (BadLabel p)) (sym (missing _ _ _ _ c.label_parts-place.ensures.place (grind (arith, c.if-is_empty.ensures))))
+    (no_label_place c.label_parts-place.ensures.behind)
+  where
+    missing : (place name behind whole : ℕ) → place + name + behind ≡ whole → name ≡ 0 → place ≡ whole - behind
+    missing place name behind whole e none = omega arith

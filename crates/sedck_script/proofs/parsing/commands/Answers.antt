@@ -1,9 +1,9 @@
-use Rattle.std.proofs.Common.{refl, ◌≡◌, ◌∙◌, ℕ, List, Option, Some, None, true, map, length, sym, subst, ap, arith}
+use Rattle.std.proofs.Common.{refl, inl, inr, ◌≡◌, ◌∙◌, ℕ, List, Option, Some, None, true, map, sym, subst, ap, arith}
 use Rattle.std.proofs.lemmas.Bool.{both_ways}
 use Rattle.sedck_script.specs.Faults.{IsPlaced}
 use Rattle.sedck_script.specs.ItemReading.{item_of}
 use Rattle.sedck_script.proofs.Outcomes.{if_err_from}
-use Rattle.sedck_script.proofs.ProgramLemmas.{no_program, no_target, no_expression, are_commands}
+use Rattle.sedck_script.proofs.ProgramLemmas.{no_program, undefined_label, no_target, no_expression, are_commands}
 use Rattle.sedck_script.specs.Program.{Pattern, expressions}
 use Rattle.sedck_script.specs.View.{command_of}
 use Rattle.sedck_script.specs.AddressReading.{has_previous, IsEmptyAt}
@@ -24,11 +24,15 @@ returns-in_err-commands-clause-refused c =
 pub returns-in_err-commands-clause-placed : goal.returns-in_err-commands-clause-placed
 returns-in_err-commands-clause-placed c =
     if_err_from _ c.from_residual-in_err-commands.result _ c.from_residual-in_err-commands.ensures.1
-    (c.in_err-commands.ensures.placed c.args.text.now c.in_ok-items.ensures.progress.1.within)
+    (elim (c.in_err-commands.ensures.placed c.args.text.now c.in_ok-items.ensures.progress.1.label_places) [
+      | inl memory ↦ subst (IsPlaced c.args.text.now) (sym memory) tt
+      | inr lost ↦ subst (IsPlaced c.args.text.now) (sym lost.2) (undefined_label c.in_ok-items.field-0.labels _ lost.0 lost.1
+          c.in_ok-items.ensures.read c.in_ok-items.ensures.progress.1.labels lost.3 lost.4)
+    ])
 
-previous : (text : List ℕ) (ps : List Pattern) {o : Option ℕ} {place : ℕ} → o ≡ Some place → IsEmptyAt (length text) ps o
-    → IsEmptyAt (length text) ps (Some place)
-previous text ps e h = subst (IsEmptyAt (length text) ps) e h
+previous : (text : List ℕ) (ps : List Pattern) {o : Option ℕ} {place : ℕ} → o ≡ Some place → IsEmptyAt text ps o
+    → IsEmptyAt text ps (Some place)
+previous text ps e h = subst (IsEmptyAt text ps) e h
 
 pub returns-in_err-check_previous-clause-refused : goal.returns-in_err-check_previous-clause-refused
 returns-in_err-check_previous-clause-refused c =
@@ -45,7 +49,7 @@ returns-in_err-check_previous-clause-placed c =
     (subst (λ f. IsPlaced c.args.text.now f) (sym fault.2)
     (previous c.args.text.now (item_patterns (map item_of c.in_ok-items.field-0.items.items)) fault.1 c.in_ok-items.ensures.progress.1.empty).1)
 
-none_previous : (text : List ℕ) (ps : List Pattern) (o : Option ℕ) → IsEmptyAt (length text) ps o → has_previous ps ≡ true → (place : ℕ) × (o ≡ Some place)
+none_previous : (text : List ℕ) (ps : List Pattern) (o : Option ℕ) → IsEmptyAt text ps o → has_previous ps ≡ true → (place : ℕ) × (o ≡ Some place)
 none_previous text ps None h k = absurd (both_ways (has_previous ps) h k)
 none_previous text ps (Some place) h k = (place, refl)
 

@@ -4,7 +4,6 @@ use Rattle.sedck_script.specs.NameReading.{all_accessed}
 use Rattle.sedck_script.specs.View.{program_from, command_of}
 use Rattle.sedck_script.specs.Spelling.{Spells}
 use Rattle.sedck_script.specs.declared.name_lists.Access.TheVariants.{Read, Write}
-use Rattle.sedck_script.proofs.Determined.{expressions_determined}
 use Rattle.sedck_script.proofs.ItemsOne.{whole_one}
 use Rattle.sedck_script.proofs.SpelledScript.{spelled_script}
 use Rattle.sedck_script.proofs.parsing.parse.Goals as goal
@@ -35,7 +34,7 @@ returns-clause-spelled c = subst (λ p. Spells c.args.text.now p) (sym c.new.ens
 })
 
 pub returns-clause-only : goal.returns-clause-only
-returns-clause-only c = λ other s. whole_one expressions_determined s (subst (λ p. Spells c.args.text.now p) (sym c.new.ensures) (record {
+returns-clause-only c = λ other s. whole_one s (subst (λ p. Spells c.args.text.now p) (sym c.new.ensures) (record {
   allowed = c.in_ok-check_text.ensures.allowed;
   items = c.in_ok-commands.ensures.read.0;
   spelled = c.in_ok-commands.ensures.read.1;

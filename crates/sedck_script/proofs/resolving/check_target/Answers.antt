@@ -1,5 +1,12 @@
-use Rattle.std.proofs.Common.{refl}
+use Rattle.std.proofs.Common.{refl, sym, ◌∙◌}
+use Rattle.sedck_script.proofs.FlagLemmas.{none_of}
 use Rattle.sedck_script.proofs.resolving.check_target.Goals as goal
 
 pub returns-then-is_none-clause-placed : goal.returns-then-is_none-clause-placed
-returns-then-is_none-clause-placed c = λ end w. (c.in-Some.place, refl, c.in-Some.ensures.within end w)
+returns-then-is_none-clause-placed c = λ text at. (
+  c.in-Some.place,
+  c.in-Some.name.now,
+  refl,
+  c.in-Some.ensures.label text at,
+  sym c.place_of.ensures ∙ none_of _ c.if-is_none.ensures,
+)

@@ -1,7 +1,6 @@
-use Rattle.std.proofs.Common.{length, sym, subst}
+use Rattle.std.proofs.Common.{inl, inr, sym, subst}
 use Rattle.std.specs.Prelude.{All, Any}
-use Rattle.sedck_script.specs.Faults.{IsPlaced}
-use Rattle.sedck_script.specs.ItemReading.{item_of, item_label, IsLostLabel, IsKnownLabel, IsItemWithin}
+use Rattle.sedck_script.specs.ItemReading.{item_of, item_label, IsLostLabel, IsKnownLabel, IsItemAt}
 use Rattle.sedck_script.proofs.Outcomes.{if_err_from, if_err_more}
 use Rattle.sedck_script.proofs.resolving.linked.Goals as goal
 
@@ -18,12 +17,10 @@ returns-in_err-check_targets-clause-lost c =
 pub returns-in_err-check_targets-clause-placed : goal.returns-in_err-check_targets-clause-placed
 returns-in_err-check_targets-clause-placed c =
     if_err_from _ c.from_residual.result _ c.from_residual.ensures.1
-    (λ text within.
-    let p = c.in_err-check_targets.ensures.placed (length text) (subst (λ items. All (IsItemWithin (length text)) items) (sym c.deref.ensures.value) within) in
-    subst (λ f. IsPlaced text f) (sym p.1) p.2)
+    (λ text places. inr (c.in_err-check_targets.ensures.placed text (subst (λ items. All (IsItemAt text) items) (sym c.deref.ensures.value) places)))
 
 pub returns-clause-lost : goal.returns-clause-lost
 returns-clause-lost c = if_err_more c.resolve.result (λ fault is memory. absurd (memory is)) c.resolve.ensures.memory
 
 pub returns-clause-placed : goal.returns-clause-placed
-returns-clause-placed c = if_err_more c.resolve.result (λ fault is text within. subst (λ f. IsPlaced text f) (sym is) tt) c.resolve.ensures.memory
+returns-clause-placed c = if_err_more c.resolve.result (λ fault is text within. inl is) c.resolve.ensures.memory

@@ -1,4 +1,5 @@
-use Rattle.std.proofs.Common.{◌≤◌, subst}
+use Rattle.std.proofs.Common.{◌≤◌, refl, subst}
+use Rattle.sedck_script.specs.Reading.{EndsIn}
 use Rattle.sedck_script.specs.View.{pattern_of}
 use Rattle.sedck_script.proofs.Tails.{tail_tail, tail_behind, expression_tail, replacement_tail}
 use Rattle.sedck_script.proofs.Outcomes.{if_err_each, if_err_from}
@@ -6,8 +7,12 @@ use Rattle.sedck_script.proofs.WholeOne.{no_backslash}
 use Rattle.sedck_script.proofs.VerbLemmas.{substitute_read, substitute_no_pattern, substitute_no_parts, substitute_no_flags}
 use Rattle.sedck_script.proofs.substitutions.substitution.Goals as goal
 
-pub pattern-requires-clause-tail : goal.pattern-requires-clause-tail
-pattern-requires-clause-tail c = tail_behind c.requires.tail c.in_ok-delimiter.ensures.read.0
+pub returns-in_err-delimiter-clause-placed : goal.returns-in_err-delimiter-clause-placed
+returns-in_err-delimiter-clause-placed c = if_err_from _ c.from_residual.result _ c.from_residual.ensures.1
+    (c.in_err-delimiter.ensures.placed c.args.whole.now (115, c.requires.stands, refl))
+
+pub pattern-requires-clause-opened : goal.pattern-requires-clause-opened
+pattern-requires-clause-opened c = subst (EndsIn c.args.whole.now) c.in_ok-delimiter.ensures.read.0 c.requires.tail
 
 pub returns-in_err-pattern-clause-refused : goal.returns-in_err-pattern-clause-refused
 returns-in_err-pattern-clause-refused c =

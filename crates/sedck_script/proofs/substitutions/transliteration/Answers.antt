@@ -1,3 +1,4 @@
+use Rattle.std.proofs.Common.{refl}
 use Rattle.sedck_script.proofs.Tails.{tail_tail, tail_behind}
 use Rattle.sedck_script.proofs.Outcomes.{if_err_each, if_err_from}
 use Rattle.sedck_script.proofs.WholeOne.{no_backslash}
@@ -22,3 +23,7 @@ returns-in_err-rest-clause-refused c = if_err_each _ c.from_residual-in_err-rest
 
 pub returns-clause-read : goal.returns-clause-read
 returns-clause-read c = transliterate_read c.in_ok-delimiter.ensures.read.0 c.in_ok-delimiter.ensures.read.1 c.in_ok-from.ensures.read c.in_ok-rest.ensures.read
+
+pub returns-in_err-delimiter-clause-placed : goal.returns-in_err-delimiter-clause-placed
+returns-in_err-delimiter-clause-placed c = if_err_from _ c.from_residual.result _ c.from_residual.ensures.1
+    (c.in_err-delimiter.ensures.placed c.args.whole.now (121, c.requires.stands, refl))

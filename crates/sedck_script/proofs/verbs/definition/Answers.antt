@@ -1,6 +1,7 @@
 use Rattle.std.proofs.Common.{refl, ◌∙◌, ap, sym, is_some}
 use Rattle.sedck_script.specs.Items.{label}
-use Rattle.sedck_script.proofs.Tails.{tail_tail, label_text_tail}
+use Rattle.sedck_script.proofs.Tails.{tail_behind, tail_tail, label_text_tail}
+use Rattle.sedck_script.proofs.PlaceLemmas.{label_stands}
 use Rattle.sedck_script.proofs.Outcomes.{if_err_always}
 use Rattle.sedck_script.proofs.VerbCases.{no_definition_at, no_definition_end, defines_known}
 use Rattle.sedck_script.proofs.verbs.definition.Goals as goal
@@ -13,7 +14,7 @@ returns-then-is_some-clause-refused c = defines_known c.args.labels.now c.in_ok-
     (ap is_some (sym c.place_of.ensures) ∙ sym c.is_some.ensures ∙ c.if-is_some.true)
 
 pub end_of_command-requires : goal.end_of_command-requires
-end_of_command-requires c = record { tail = tail_tail c.requires (label_text_tail c.in_ok-name.ensures.read.0) }
+end_of_command-requires c = record { tail = tail_tail (tail_behind c.requires refl) (label_text_tail c.in_ok-name.ensures.read.0) }
 
 pub returns-in_err-rest-clause-refused : goal.returns-in_err-rest-clause-refused
 returns-in_err-rest-clause-refused c = if_err_always c.from_residual-in_err-rest.result
@@ -21,3 +22,6 @@ returns-in_err-rest-clause-refused c = if_err_always c.from_residual-in_err-rest
 
 pub returns-clause-read : goal.returns-clause-read
 returns-clause-read c = label refl c.in_ok-name.ensures.read.0 c.in_ok-name.ensures.read.1 c.in_ok-rest.ensures.read
+
+pub returns-then-is_some-clause-placed : goal.returns-then-is_some-clause-placed
+returns-then-is_some-clause-placed c = label_stands c.args.whole.now c.in_ok-name.place c.in_ok-name.ensures.label

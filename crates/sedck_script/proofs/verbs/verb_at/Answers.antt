@@ -1,4 +1,5 @@
-use Rattle.std.proofs.Common.{refl}
+use Rattle.std.proofs.Common.{◌∷◌, refl, ap, ◌∙◌, subst}
+use Rattle.sedck_script.specs.Reading.{EndsIn}
 use Rattle.sedck_script.specs.Items.{opening}
 use Rattle.sedck_script.proofs.Tails.{tail_behind, stands_at_tail}
 use Rattle.sedck_script.proofs.VerbCases.{verb_here, verb_behind}
@@ -6,13 +7,14 @@ use Rattle.sedck_script.proofs.Outcomes.{if_ok_more, if_err_more}
 use Rattle.sedck_script.proofs.verbs.verb_at.Goals as goal
 
 pub definition-requires : goal.definition-requires
-definition-requires c = tail_behind c.requires.tail c.in-Some.ensures.cases.0
+definition-requires c =
+    subst (EndsIn c.args.whole.now) (c.in-Some.ensures.cases.0 ∙ ap (λ b. b ∷ c.in-Some.behind.now) c.if-first-eq58.true) c.requires.tail
 
 pub returns-then-first-eq123-clause-read : goal.returns-then-first-eq123-clause-read
 returns-then-first-eq123-clause-read c = verb_here c.in-Some.ensures.cases.0 c.if-first-eq123.true (opening refl)
 
 pub jump-requires-clause-tail : goal.jump-requires-clause-tail
-jump-requires-clause-tail c = tail_behind c.requires.tail c.in-Some.ensures.cases.0
+jump-requires-clause-tail c = subst (EndsIn c.args.whole.now) c.in-Some.ensures.cases.0 c.requires.tail
 
 pub known_verb-requires-clause-tail : goal.known_verb-requires-clause-tail
 known_verb-requires-clause-tail c = tail_behind c.requires.tail c.in-Some.ensures.cases.0
