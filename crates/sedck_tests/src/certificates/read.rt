@@ -1,6 +1,6 @@
 //! Certificates that are read, written or made, and the words of faults.
 use super::{ENDLESS, NAMED};
-use crate::texts::{numbered, require};
+use crate::texts::{Kind, fault_of, numbered, repeated, require};
 use sedck_cert::streams::FromWrite;
 use sedck_cert::{Cert, CertFault, read_cert, write_cert};
 use std::alloc::Global;
@@ -51,16 +51,34 @@ fn reads(rt: HostRuntime) {
     are_names(&rt, cert.writes(), &[]);
 }
 
-/// As many names as a list may have, and as many nodes.
+/// How many bytes the last name has beside its number, and the number and the line of the fault; zeros for none.
+static LONGEST: [(usize, u8, usize); 2] = [(1_007_626, 0, 0), (1_007_627, 4, 16_386)];
+
+/// The longest certificate, with the most nodes, the greatest ranks, and the most names, as long as they may be together.
 #[test]
 fn reads_the_most(rt: HostRuntime) {
-    let nodes = numbered(&rt, rt.alloc(), "@ 0 @ @\n@ 1 -\n", 0, 4096);
-    let names = numbered(&rt, rt.alloc(), "@\n", 1000, 4095);
-    let text = format!(in rt.alloc();
-        "sedck 1\ncommands 4095\n{nodes}read 4095\n{names}write 4095\n{names}end\n"
+    let nodes = numbered(
+        &rt,
+        rt.alloc(),
+        "@ 0 65535 65535\n@ 1 65535 65535\n",
+        0,
+        4096,
     );
-    let cert = read(&rt, rt.alloc(), text.expect(&rt, "memory").as_bytes());
-    assert_eq!(rt; (cert.ranks().len(), cert.writes().len()), (8192, 4095));
+    let names = numbered(&rt, rt.alloc(), "@\n", 1000, 4094);
+    for (length, number, line) in &LONGEST {
+        let tail = repeated(&rt, rt.alloc(), &[(b"n", *length)]);
+        let tail = String::from_utf8(tail).expect(&rt, "text");
+        let text = format!(in rt.alloc();
+            "sedck 1\ncommands 4095\n{nodes}read 4095\n{names}5094\nwrite 4095\n{names}5094{tail}\nend\n"
+        );
+        let text = text.expect(&rt, "memory");
+        let fault = fault_of(rt.alloc(), &Kind::Certificate, text.as_bytes());
+        assert_eq!(rt; fault, (*number, *line));
+        assert_eq!(rt; text.len() == 1_202_051, *number == 0);
+        if *number == 0 {
+            read(&rt, rt.alloc(), text.as_bytes());
+        }
+    }
 }
 
 static FAULTS: [(CertFault, &'static str); 6] = [

@@ -1,17 +1,23 @@
-//! Streams that fail, and texts that are too long.
-use super::runs::{Engine, is_answered};
+//! Streams that fail or never end, and texts that are too long.
+use super::fakes::{Endless, sink_with};
+use super::runs::{Engine, is_answered, is_answered_over_std, outcome};
 use super::{ACCEPTED, AMPLE, LOOP, LOOP_CERTIFICATE};
 use crate::texts::repeated;
+use std::alloc::Global;
+use std::io::ErrorKind;
+use std::process::Abort;
 
-/// The engine, a script, where its reads and the certificate's fail, and what is told.
-static SOURCES: [(Engine, &'static str, (usize, usize), &'static str); 14] = [
+/// The engine, a script, after how many bytes its reads and the certificate's fail, and what is told.
+static SOURCES: [(Engine, &'static str, (usize, usize), &'static str); 19] = [
     (Engine::Check, LOOP, (0, AMPLE), "cannot read script"),
     (Engine::Check, LOOP, (3, AMPLE), "cannot read script"),
     (Engine::Check, LOOP, (8, AMPLE), "cannot read script"),
     (Engine::Check, LOOP, (3, 3), "cannot read script"),
+    (Engine::Check, LOOP, (0, 0), "cannot read script"),
     (Engine::Check, "b z", (3, AMPLE), "cannot read script"),
     (Engine::Check, LOOP, (AMPLE, 0), "cannot read certificate"),
     (Engine::Check, LOOP, (AMPLE, 91), "cannot read certificate"),
+    (Engine::Check, "b z", (AMPLE, 1), "cannot read certificate"),
     (Engine::Check, "b z", (AMPLE, 5), "cannot read certificate"),
     (Engine::Files, LOOP, (0, AMPLE), "cannot read script"),
     (Engine::Files, LOOP, (3, AMPLE), "cannot read script"),
@@ -19,42 +25,81 @@ static SOURCES: [(Engine, &'static str, (usize, usize), &'static str); 14] = [
     (Engine::Graph, LOOP, (0, AMPLE), "cannot read script"),
     (Engine::Graph, LOOP, (3, AMPLE), "cannot read script"),
     (Engine::Graph, LOOP, (8, AMPLE), "cannot read script"),
+    (Engine::Rank, LOOP, (0, AMPLE), "cannot read script"),
+    (Engine::Rank, "b z", (3, AMPLE), "cannot read script"),
+    (Engine::Rank, LOOP, (8, AMPLE), "cannot read script"),
 ];
 
-/// The engine, a script, a certificate, and the report.
-static SINKS: [(Engine, &'static str, &'static str, &'static str); 3] = [
-    (Engine::Check, LOOP, LOOP_CERTIFICATE, ACCEPTED),
-    (Engine::Files, "#", "", "read 0\nwrite 0\n"),
+/// The engine, a script, and the report; the certificate is the loop's.
+static SINKS: [(Engine, &'static str, &'static str); 5] = [
+    (Engine::Check, LOOP, ACCEPTED),
+    (Engine::Files, "#", "read 0\nwrite 0\n"),
     (
         Engine::Graph,
         "#",
-        "",
         "commands 0\n0 0 0 0 consume\n0 1 0 0 consume\n",
+    ),
+    (Engine::Rank, LOOP, LOOP_CERTIFICATE),
+    (
+        Engine::Rank,
+        ":a\nb a",
+        "loop idle\n0 0 keep\n1 0 keep\n0 0\n",
     ),
 ];
 
+/// How a call of std fails.
+static KINDS: [ErrorKind; 12] = [
+    ErrorKind::Interrupted,
+    ErrorKind::WouldBlock,
+    ErrorKind::TimedOut,
+    ErrorKind::BrokenPipe,
+    ErrorKind::ConnectionReset,
+    ErrorKind::PermissionDenied,
+    ErrorKind::IsADirectory,
+    ErrorKind::StorageFull,
+    ErrorKind::WriteZero,
+    ErrorKind::UnexpectedEof,
+    ErrorKind::OutOfMemory,
+    ErrorKind::Other,
+];
+
 #[test]
-fn failing_streams(rt: HostRuntime) {
+fn failing_sources(rt: HostRuntime) {
     assert_eq!(rt; LOOP.len(), 8);
     for (engine, script, ends, fault) in &SOURCES {
         let (texts, ends) = ((*script, LOOP_CERTIFICATE), (ends.0, ends.1, AMPLE));
-        is_answered(&rt, rt.alloc(), engine, texts, 2, &ends, (*fault, ""));
+        for piece in [1, 2] {
+            is_answered(&rt, rt.alloc(), engine, texts, piece, &ends, (*fault, ""));
+        }
+        for kind in &KINDS {
+            let kind = Some(*kind);
+            is_answered_over_std(&rt, rt.alloc(), engine, texts, &ends, kind, (*fault, ""));
+        }
     }
-    for (engine, script, certificate, report) in &SINKS {
+}
+
+/// Whether the write behind the front of the report is told to have failed, and nothing more went out.
+fn fails_behind(rt: &impl Abort, alloc: Global, engine: &Engine, script: &str, front: &str) {
+    let (texts, ends) = ((script, LOOP_CERTIFICATE), (AMPLE, AMPLE, front.len()));
+    let answer = ("cannot write", front);
+    for piece in [1, 4] {
+        is_answered(rt, alloc, engine, texts, piece, &ends, answer);
+    }
+    is_answered_over_std(rt, alloc, engine, texts, &ends, None, answer);
+    for kind in &KINDS {
+        is_answered_over_std(rt, alloc, engine, texts, &ends, Some(*kind), answer);
+    }
+}
+
+#[test]
+fn failing_sinks(rt: HostRuntime) {
+    assert_eq!(rt; LOOP_CERTIFICATE.len(), 92);
+    for (engine, script, report) in &SINKS {
         for room in 0..report.len() {
             let Some(front) = report.get(..room) else {
                 panic!(rt; "no beginning of {room} bytes");
             };
-            let (texts, ends) = ((*script, *certificate), (AMPLE, AMPLE, room));
-            is_answered(
-                &rt,
-                rt.alloc(),
-                engine,
-                texts,
-                4,
-                &ends,
-                ("cannot write", front),
-            );
+            fails_behind(&rt, rt.alloc(), engine, *script, front);
         }
     }
 }
@@ -99,5 +144,35 @@ fn limits(rt: HostRuntime) {
             &ends,
             (*fault, ""),
         );
+    }
+}
+
+/// The engine, the byte that the script's reader gives for ever, and what is told.
+static ENDLESS: [(Engine, u8, &'static str); 6] = [
+    (Engine::Check, b'\n', "script fault 1 too-long at 1048576"),
+    (Engine::Check, b' ', "script fault 1 too-long at 1048576"),
+    (Engine::Files, b'\n', "script fault 1 too-long at 1048576"),
+    (Engine::Graph, b' ', "script fault 1 too-long at 1048576"),
+    (Engine::Rank, b'\n', "script fault 1 too-long at 1048576"),
+    (Engine::Rank, b'\0', "script fault 1 too-long at 1048576"),
+];
+
+/// A script and a certificate that never end.
+#[test]
+fn endless_sources(rt: HostRuntime) {
+    for (engine, byte, fault) in &ENDLESS {
+        let mut script = Endless { byte: *byte };
+        let mut certificate = Endless { byte: b'\n' };
+        let mut out = sink_with(rt.alloc(), 1, AMPLE);
+        let told = outcome(
+            &rt,
+            rt.alloc(),
+            engine,
+            &mut script,
+            &mut certificate,
+            &mut out,
+        );
+        assert_eq!(rt; told.as_str(), *fault);
+        assert!(rt; out.bytes.is_empty());
     }
 }
