@@ -47,17 +47,45 @@ static SINKS: [(Engine, &'static str, &'static str); 5] = [
     ),
 ];
 
-/// How a call of std fails.
-static KINDS: [ErrorKind; 12] = [
-    ErrorKind::Interrupted,
-    ErrorKind::WouldBlock,
-    ErrorKind::TimedOut,
-    ErrorKind::BrokenPipe,
-    ErrorKind::ConnectionReset,
+/// How a call of std may fail.
+static KINDS: [ErrorKind; 40] = [
+    ErrorKind::NotFound,
     ErrorKind::PermissionDenied,
+    ErrorKind::ConnectionRefused,
+    ErrorKind::ConnectionReset,
+    ErrorKind::HostUnreachable,
+    ErrorKind::NetworkUnreachable,
+    ErrorKind::ConnectionAborted,
+    ErrorKind::NotConnected,
+    ErrorKind::AddrInUse,
+    ErrorKind::AddrNotAvailable,
+    ErrorKind::NetworkDown,
+    ErrorKind::BrokenPipe,
+    ErrorKind::AlreadyExists,
+    ErrorKind::WouldBlock,
+    ErrorKind::NotADirectory,
     ErrorKind::IsADirectory,
-    ErrorKind::StorageFull,
+    ErrorKind::DirectoryNotEmpty,
+    ErrorKind::ReadOnlyFilesystem,
+    ErrorKind::FilesystemLoop,
+    ErrorKind::StaleNetworkFileHandle,
+    ErrorKind::InvalidInput,
+    ErrorKind::InvalidData,
+    ErrorKind::TimedOut,
     ErrorKind::WriteZero,
+    ErrorKind::StorageFull,
+    ErrorKind::NotSeekable,
+    ErrorKind::QuotaExceeded,
+    ErrorKind::FileTooLarge,
+    ErrorKind::ResourceBusy,
+    ErrorKind::ExecutableFileBusy,
+    ErrorKind::Deadlock,
+    ErrorKind::CrossesDevices,
+    ErrorKind::TooManyLinks,
+    ErrorKind::InvalidFilename,
+    ErrorKind::ArgumentListTooLong,
+    ErrorKind::Interrupted,
+    ErrorKind::Unsupported,
     ErrorKind::UnexpectedEof,
     ErrorKind::OutOfMemory,
     ErrorKind::Other,
@@ -85,9 +113,9 @@ fn fails_behind(rt: &impl Abort, alloc: Global, engine: &Engine, script: &str, f
     for piece in [1, 4] {
         is_answered(rt, alloc, engine, texts, piece, &ends, answer);
     }
-    is_answered_over_std(rt, alloc, engine, texts, &ends, None, answer);
-    for kind in &KINDS {
-        is_answered_over_std(rt, alloc, engine, texts, &ends, Some(*kind), answer);
+    // a call that takes no byte, and one that is interrupted
+    for kind in [None, Some(ErrorKind::Interrupted)] {
+        is_answered_over_std(rt, alloc, engine, texts, &ends, kind, answer);
     }
 }
 
@@ -100,6 +128,11 @@ fn failing_sinks(rt: HostRuntime) {
                 panic!(rt; "no beginning of {room} bytes");
             };
             fails_behind(&rt, rt.alloc(), engine, *script, front);
+        }
+        for kind in &KINDS {
+            let (texts, ends, kind) = ((*script, LOOP_CERTIFICATE), (AMPLE, AMPLE, 0), Some(*kind));
+            let answer = ("cannot write", "");
+            is_answered_over_std(&rt, rt.alloc(), engine, texts, &ends, kind, answer);
         }
     }
 }
