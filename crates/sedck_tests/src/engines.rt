@@ -1,7 +1,7 @@
 //! What no clause says of the program: printed lines, statuses, streams that fail, and that calls succeed at all.
 mod checks;
 mod failures;
-mod fakes;
+pub mod fakes;
 mod judgements;
 mod known;
 mod printed;

@@ -1,9 +1,11 @@
 //! Certificates that are read, written or made, and the words of faults.
 use super::{ENDLESS, NAMED};
+use crate::engines::fakes::{Writer, sink_with};
 use crate::texts::{Kind, fault_of, numbered, repeated, require};
-use sedck_cert::streams::FromWrite;
+use sedck_cert::streams::{FromWrite, Sink};
 use sedck_cert::{Cert, CertFault, read_cert, write_cert};
 use std::alloc::Global;
+use std::io::ErrorKind;
 use std::process::Abort;
 
 /// The certificate of the text, which is written as it was read.
@@ -15,6 +17,21 @@ fn read(rt: &impl Abort, alloc: Global, text: &[u8]) -> Cert {
     assert!(rt; write_cert(&cert, &mut out).is_ok());
     assert_eq!(rt; out.into_inner().as_slice(), text);
     cert
+}
+
+/// Whether the write behind each front of the text, which is the certificate's, is told to have failed, and nothing more
+/// was written, where each write takes one byte. A failing write takes none, or is interrupted.
+fn fails_behind_each_front(rt: &impl Abort, alloc: Global, cert: &Cert, text: &[u8]) {
+    for kind in [None, Some(ErrorKind::Interrupted)] {
+        for room in 0..text.len() {
+            let sink = sink_with(alloc, 1, room);
+            let mut out = FromWrite::new(Writer { sink, kind });
+            let is_told = write_cert(cert, &mut out).is_err() && out.failed();
+            require(rt, is_told, text);
+            let written = out.into_inner().sink.bytes;
+            require(rt, written.as_slice() == &text[..room], text);
+        }
+    }
 }
 
 /// Whether the names are these.
@@ -46,7 +63,9 @@ fn reads(rt: HostRuntime) {
     assert_eq!(rt; cert.ranks(), RANKS.as_slice());
     are_names(&rt, cert.reads(), &[]);
     are_names(&rt, cert.writes(), &[]);
+    fails_behind_each_front(&rt, rt.alloc(), &cert, ENDLESS);
     let cert = read(&rt, rt.alloc(), NAMED);
+    fails_behind_each_front(&rt, rt.alloc(), &cert, NAMED);
     are_names(&rt, cert.reads(), &NAMES);
     are_names(&rt, cert.writes(), &[]);
 }
