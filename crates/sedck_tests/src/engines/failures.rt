@@ -1,33 +1,22 @@
 //! Streams that fail or never end, and texts that are too long.
 use super::fakes::{Endless, sink_with};
-use super::runs::{Engine, is_answered, is_answered_over_std, outcome};
+use super::runs::{Ends, Engine, is_answered, is_answered_over_std, outcome};
 use super::{ACCEPTED, AMPLE, LOOP, LOOP_CERTIFICATE};
 use crate::texts::repeated;
 use std::alloc::Global;
 use std::io::ErrorKind;
 use std::process::Abort;
 
-/// The engine, a script, after how many bytes its reads and the certificate's fail, and what is told.
-static SOURCES: [(Engine, &'static str, (usize, usize), &'static str); 19] = [
-    (Engine::Check, LOOP, (0, AMPLE), "cannot read script"),
-    (Engine::Check, LOOP, (3, AMPLE), "cannot read script"),
-    (Engine::Check, LOOP, (8, AMPLE), "cannot read script"),
-    (Engine::Check, LOOP, (3, 3), "cannot read script"),
-    (Engine::Check, LOOP, (0, 0), "cannot read script"),
-    (Engine::Check, "b z", (3, AMPLE), "cannot read script"),
-    (Engine::Check, LOOP, (AMPLE, 0), "cannot read certificate"),
-    (Engine::Check, LOOP, (AMPLE, 91), "cannot read certificate"),
-    (Engine::Check, "b z", (AMPLE, 1), "cannot read certificate"),
-    (Engine::Check, "b z", (AMPLE, 5), "cannot read certificate"),
-    (Engine::Files, LOOP, (0, AMPLE), "cannot read script"),
-    (Engine::Files, LOOP, (3, AMPLE), "cannot read script"),
-    (Engine::Files, LOOP, (8, AMPLE), "cannot read script"),
-    (Engine::Graph, LOOP, (0, AMPLE), "cannot read script"),
-    (Engine::Graph, LOOP, (3, AMPLE), "cannot read script"),
-    (Engine::Graph, LOOP, (8, AMPLE), "cannot read script"),
-    (Engine::Rank, LOOP, (0, AMPLE), "cannot read script"),
-    (Engine::Rank, "b z", (3, AMPLE), "cannot read script"),
-    (Engine::Rank, LOOP, (8, AMPLE), "cannot read script"),
+/// The engine, a script, whether the certificate's reads fail and not the script's, and how many bytes there are to read.
+static SOURCES: [(Engine, &'static str, bool, usize); 8] = [
+    (Engine::Check, LOOP, false, 8),
+    (Engine::Check, "b z", false, 3),
+    (Engine::Check, LOOP, true, 92),
+    (Engine::Check, "b z", true, 92),
+    (Engine::Files, LOOP, false, 8),
+    (Engine::Graph, LOOP, false, 8),
+    (Engine::Rank, LOOP, false, 8),
+    (Engine::Rank, "b z", false, 3),
 ];
 
 /// The engine, a script, and the report; the certificate is the loop's.
@@ -91,17 +80,40 @@ static KINDS: [ErrorKind; 40] = [
     ErrorKind::Other,
 ];
 
+/// Whether the failed read is told, and nothing is written.
+fn fails_at(
+    rt: &impl Abort,
+    alloc: Global,
+    engine: &Engine,
+    script: &str,
+    ends: &Ends,
+    fault: &str,
+) {
+    let (texts, answer) = ((script, LOOP_CERTIFICATE), (fault, ""));
+    for piece in [1, 2] {
+        is_answered(rt, alloc, engine, texts, piece, ends, answer);
+    }
+    let kind = Some(ErrorKind::Interrupted);
+    is_answered_over_std(rt, alloc, engine, texts, ends, kind, answer);
+}
+
 #[test]
 fn failing_sources(rt: HostRuntime) {
-    assert_eq!(rt; LOOP.len(), 8);
-    for (engine, script, ends, fault) in &SOURCES {
-        let (texts, ends) = ((*script, LOOP_CERTIFICATE), (ends.0, ends.1, AMPLE));
-        for piece in [1, 2] {
-            is_answered(&rt, rt.alloc(), engine, texts, piece, &ends, (*fault, ""));
+    assert_eq!(rt; (LOOP.len(), LOOP_CERTIFICATE.len()), (8, 92));
+    for (engine, script, is_certificate, length) in &SOURCES {
+        for before in 0..*length + 1 {
+            // where the script's reads fail, the certificate's would fail at once
+            let (ends, fault) = if *is_certificate {
+                ((AMPLE, before, AMPLE), "cannot read certificate")
+            } else {
+                ((before, 0, AMPLE), "cannot read script")
+            };
+            fails_at(&rt, rt.alloc(), engine, *script, &ends, fault);
         }
         for kind in &KINDS {
-            let kind = Some(*kind);
-            is_answered_over_std(&rt, rt.alloc(), engine, texts, &ends, kind, (*fault, ""));
+            let (texts, kind) = ((*script, LOOP_CERTIFICATE), Some(*kind));
+            let answer = ("cannot read script", "");
+            is_answered_over_std(&rt, rt.alloc(), engine, texts, &(1, AMPLE, 0), kind, answer);
         }
     }
 }
