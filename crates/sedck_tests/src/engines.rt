@@ -1,8 +1,10 @@
 //! What no clause says of the program: printed lines, statuses, streams that fail, and that calls succeed at all.
-mod bounds;
 mod checks;
 mod failures;
-mod fakes;
+pub mod fakes;
+mod judgements;
+mod known;
+mod printed;
 mod programs;
 mod runs;
 

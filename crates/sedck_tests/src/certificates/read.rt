@@ -1,9 +1,11 @@
 //! Certificates that are read, written or made, and the words of faults.
 use super::{ENDLESS, NAMED};
-use crate::texts::{numbered, require};
-use sedck_cert::streams::FromWrite;
+use crate::engines::fakes::{Writer, sink_with};
+use crate::texts::{Kind, fault_of, numbered, repeated, require};
+use sedck_cert::streams::{FromWrite, Sink};
 use sedck_cert::{Cert, CertFault, read_cert, write_cert};
 use std::alloc::Global;
+use std::io::ErrorKind;
 use std::process::Abort;
 
 /// The certificate of the text, which is written as it was read.
@@ -15,6 +17,21 @@ fn read(rt: &impl Abort, alloc: Global, text: &[u8]) -> Cert {
     assert!(rt; write_cert(&cert, &mut out).is_ok());
     assert_eq!(rt; out.into_inner().as_slice(), text);
     cert
+}
+
+/// Whether the write behind each front of the text, which is the certificate's, is told to have failed, and nothing more
+/// was written, where each write takes one byte. A failing write takes none, or is interrupted.
+fn fails_behind_each_front(rt: &impl Abort, alloc: Global, cert: &Cert, text: &[u8]) {
+    for kind in [None, Some(ErrorKind::Interrupted)] {
+        for room in 0..text.len() {
+            let sink = sink_with(alloc, 1, room);
+            let mut out = FromWrite::new(Writer { sink, kind });
+            let is_told = write_cert(cert, &mut out).is_err() && out.failed();
+            require(rt, is_told, text);
+            let written = out.into_inner().sink.bytes;
+            require(rt, written.as_slice() == &text[..room], text);
+        }
+    }
 }
 
 /// Whether the names are these.
@@ -46,21 +63,41 @@ fn reads(rt: HostRuntime) {
     assert_eq!(rt; cert.ranks(), RANKS.as_slice());
     are_names(&rt, cert.reads(), &[]);
     are_names(&rt, cert.writes(), &[]);
+    fails_behind_each_front(&rt, rt.alloc(), &cert, ENDLESS);
     let cert = read(&rt, rt.alloc(), NAMED);
+    fails_behind_each_front(&rt, rt.alloc(), &cert, NAMED);
     are_names(&rt, cert.reads(), &NAMES);
     are_names(&rt, cert.writes(), &[]);
 }
 
-/// As many names as a list may have, and as many nodes.
+/// How many bytes the last name has beside its number, and the number and the line of the fault; zeros for none.
+static LONGEST: [(usize, u8, usize); 2] = [(1_007_626, 0, 0), (1_007_627, 4, 16_386)];
+
+/// The longest certificate, with the most nodes, the greatest ranks, and the most names, as long as they may be together.
 #[test]
 fn reads_the_most(rt: HostRuntime) {
-    let nodes = numbered(&rt, rt.alloc(), "@ 0 @ @\n@ 1 -\n", 0, 4096);
-    let names = numbered(&rt, rt.alloc(), "@\n", 1000, 4095);
-    let text = format!(in rt.alloc();
-        "sedck 1\ncommands 4095\n{nodes}read 4095\n{names}write 4095\n{names}end\n"
+    let nodes = numbered(
+        &rt,
+        rt.alloc(),
+        "@ 0 65535 65535\n@ 1 65535 65535\n",
+        0,
+        4096,
     );
-    let cert = read(&rt, rt.alloc(), text.expect(&rt, "memory").as_bytes());
-    assert_eq!(rt; (cert.ranks().len(), cert.writes().len()), (8192, 4095));
+    let names = numbered(&rt, rt.alloc(), "@\n", 1000, 4094);
+    for (length, number, line) in &LONGEST {
+        let tail = repeated(&rt, rt.alloc(), &[(b"n", *length)]);
+        let tail = String::from_utf8(tail).expect(&rt, "text");
+        let text = format!(in rt.alloc();
+            "sedck 1\ncommands 4095\n{nodes}read 4095\n{names}5094\nwrite 4095\n{names}5094{tail}\nend\n"
+        );
+        let text = text.expect(&rt, "memory");
+        let fault = fault_of(rt.alloc(), &Kind::Certificate, text.as_bytes());
+        assert_eq!(rt; fault, (*number, *line));
+        assert_eq!(rt; text.len() == 1_202_051, *number == 0);
+        if *number == 0 {
+            read(&rt, rt.alloc(), text.as_bytes());
+        }
+    }
 }
 
 static FAULTS: [(CertFault, &'static str); 6] = [

@@ -16,7 +16,9 @@ fn changed_have_faults(rt: &impl Abort, alloc: Global, text: &[u8], rows: &[Row]
     }
 }
 
-static CHANGED: [Row; 23] = [
+static CHANGED: [Row; 25] = [
+    (b"0 0 2 2\n0 1 -\n", b"0 1 -\n0 0 2 2\n", 3, 3),
+    (b"sedck 1\n", b"sedck 1\r\n", 1, 1),
     (b"0 0 2 2\n", b"0 0 02 2\n", 3, 3),
     (b"0 0 2 2\n", b"0 0 2 02\n", 3, 3),
     (b"0 0 2 2\n", b"0 0  2 2\n", 3, 3),
@@ -63,7 +65,11 @@ static CHANGED_NAMES: [Row; 15] = [
 /// The certificate of the script without commands.
 const EMPTY: &[u8] = b"sedck 1\ncommands 0\n0 0 1 1\n0 1 -\nread 0\nwrite 0\nend\n";
 
-static NUMBERS: [Row; 10] = [
+static NUMBERS: [Row; 13] = [
+    (b"write 0\n", b"write 2\nb\na\n", 4, 8),
+    (b"write 0\n", b"write 2\na\na\n", 4, 8),
+    // the last line is a name here
+    (b"write 0\n", b"write 2\na\n", 5, 9),
     (b"commands 0\n", b"commands 4096\n", 2, 2),
     (b"commands 0\n", b"commands 18446744073709551616\n", 2, 2),
     (b"commands 0\n", b"commands 4095\n", 3, 5),
@@ -108,8 +114,13 @@ const WRITE: &[u8] = b"\nwrite 1\n";
 
 const END: &[u8] = b"\nend\n";
 
-/// A long name read, and a long name written.
-static NAMES: [LongRow; 5] = [
+/// What stands before a name that is written, where none is read.
+const WRITES: &[u8] = b"sedck 1\ncommands 0\n0 0 1 1\n0 1 -\nread 0\nwrite 1\n";
+
+/// A long name written, and long names in both lists.
+static NAMES: [LongRow; 7] = [
+    (&[(WRITES, 1), (b"n", 1_048_575), (END, 1)], 0, 0),
+    (&[(WRITES, 1), (b"n", 1_048_576), (END, 1)], 4, 7),
     (
         &[
             (HEAD, 1),

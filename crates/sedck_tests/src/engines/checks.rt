@@ -100,6 +100,19 @@ static GRAPHS: [Row; 9] = [
     ("b z", "", "script fault 15 unknown-label at 2", ""),
 ];
 
+static RANKS: [Row; 5] = [
+    ("", "", "yes", EMPTY_CERTIFICATE),
+    (LOOP, "", "yes", LOOP_CERTIFICATE),
+    (":a\nb a", "", "no", "loop idle\n0 0 keep\n1 0 keep\n0 0\n"),
+    (
+        ":a\ns/x/xx/\nta",
+        "",
+        "no",
+        "loop growing\n1 0 grow\n2 1 keep\n0 0 keep\n1 0\n",
+    ),
+    ("b z", "", "script fault 15 unknown-label at 2", ""),
+];
+
 /// A script and its fault.
 static REFUSED: [(&'static str, &'static str); 7] = [
     ("k", "script fault 3 unknown-command at 0"),
@@ -116,6 +129,7 @@ fn answers(rt: HostRuntime) {
     are_answered(&rt, rt.alloc(), &Engine::Check, &VERDICTS);
     are_answered(&rt, rt.alloc(), &Engine::Files, &NAMES);
     are_answered(&rt, rt.alloc(), &Engine::Graph, &GRAPHS);
+    are_answered(&rt, rt.alloc(), &Engine::Rank, &RANKS);
     for (script, fault) in &REFUSED {
         for certificate in [LOOP_CERTIFICATE, "x", ""] {
             let row = (*script, certificate, *fault, "");

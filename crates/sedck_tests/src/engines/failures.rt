@@ -1,60 +1,150 @@
-//! Streams that fail, and texts that are too long.
-use super::runs::{Engine, is_answered};
+//! Streams that fail or never end, and texts that are too long.
+use super::fakes::{Endless, sink_with};
+use super::runs::{Ends, Engine, is_answered, is_answered_over_std, outcome};
 use super::{ACCEPTED, AMPLE, LOOP, LOOP_CERTIFICATE};
 use crate::texts::repeated;
+use std::alloc::Global;
+use std::io::ErrorKind;
+use std::process::Abort;
 
-/// The engine, a script, where its reads and the certificate's fail, and what is told.
-static SOURCES: [(Engine, &'static str, (usize, usize), &'static str); 14] = [
-    (Engine::Check, LOOP, (0, AMPLE), "cannot read script"),
-    (Engine::Check, LOOP, (3, AMPLE), "cannot read script"),
-    (Engine::Check, LOOP, (8, AMPLE), "cannot read script"),
-    (Engine::Check, LOOP, (3, 3), "cannot read script"),
-    (Engine::Check, "b z", (3, AMPLE), "cannot read script"),
-    (Engine::Check, LOOP, (AMPLE, 0), "cannot read certificate"),
-    (Engine::Check, LOOP, (AMPLE, 91), "cannot read certificate"),
-    (Engine::Check, "b z", (AMPLE, 5), "cannot read certificate"),
-    (Engine::Files, LOOP, (0, AMPLE), "cannot read script"),
-    (Engine::Files, LOOP, (3, AMPLE), "cannot read script"),
-    (Engine::Files, LOOP, (8, AMPLE), "cannot read script"),
-    (Engine::Graph, LOOP, (0, AMPLE), "cannot read script"),
-    (Engine::Graph, LOOP, (3, AMPLE), "cannot read script"),
-    (Engine::Graph, LOOP, (8, AMPLE), "cannot read script"),
+/// The engine, a script, whether the certificate's reads fail and not the script's, and how many bytes there are to read.
+static SOURCES: [(Engine, &'static str, bool, usize); 8] = [
+    (Engine::Check, LOOP, false, 8),
+    (Engine::Check, "b z", false, 3),
+    (Engine::Check, LOOP, true, 92),
+    (Engine::Check, "b z", true, 92),
+    (Engine::Files, LOOP, false, 8),
+    (Engine::Graph, LOOP, false, 8),
+    (Engine::Rank, LOOP, false, 8),
+    (Engine::Rank, "b z", false, 3),
 ];
 
-/// The engine, a script, a certificate, and the report.
-static SINKS: [(Engine, &'static str, &'static str, &'static str); 3] = [
-    (Engine::Check, LOOP, LOOP_CERTIFICATE, ACCEPTED),
-    (Engine::Files, "#", "", "read 0\nwrite 0\n"),
+/// The engine, a script, and the report; the certificate is the loop's.
+static SINKS: [(Engine, &'static str, &'static str); 5] = [
+    (Engine::Check, LOOP, ACCEPTED),
+    (Engine::Files, "#", "read 0\nwrite 0\n"),
     (
         Engine::Graph,
         "#",
-        "",
         "commands 0\n0 0 0 0 consume\n0 1 0 0 consume\n",
+    ),
+    (Engine::Rank, LOOP, LOOP_CERTIFICATE),
+    (
+        Engine::Rank,
+        ":a\nb a",
+        "loop idle\n0 0 keep\n1 0 keep\n0 0\n",
     ),
 ];
 
-#[test]
-fn failing_streams(rt: HostRuntime) {
-    assert_eq!(rt; LOOP.len(), 8);
-    for (engine, script, ends, fault) in &SOURCES {
-        let (texts, ends) = ((*script, LOOP_CERTIFICATE), (ends.0, ends.1, AMPLE));
-        is_answered(&rt, rt.alloc(), engine, texts, 2, &ends, (*fault, ""));
+/// How a call of std may fail.
+static KINDS: [ErrorKind; 40] = [
+    ErrorKind::NotFound,
+    ErrorKind::PermissionDenied,
+    ErrorKind::ConnectionRefused,
+    ErrorKind::ConnectionReset,
+    ErrorKind::HostUnreachable,
+    ErrorKind::NetworkUnreachable,
+    ErrorKind::ConnectionAborted,
+    ErrorKind::NotConnected,
+    ErrorKind::AddrInUse,
+    ErrorKind::AddrNotAvailable,
+    ErrorKind::NetworkDown,
+    ErrorKind::BrokenPipe,
+    ErrorKind::AlreadyExists,
+    ErrorKind::WouldBlock,
+    ErrorKind::NotADirectory,
+    ErrorKind::IsADirectory,
+    ErrorKind::DirectoryNotEmpty,
+    ErrorKind::ReadOnlyFilesystem,
+    ErrorKind::FilesystemLoop,
+    ErrorKind::StaleNetworkFileHandle,
+    ErrorKind::InvalidInput,
+    ErrorKind::InvalidData,
+    ErrorKind::TimedOut,
+    ErrorKind::WriteZero,
+    ErrorKind::StorageFull,
+    ErrorKind::NotSeekable,
+    ErrorKind::QuotaExceeded,
+    ErrorKind::FileTooLarge,
+    ErrorKind::ResourceBusy,
+    ErrorKind::ExecutableFileBusy,
+    ErrorKind::Deadlock,
+    ErrorKind::CrossesDevices,
+    ErrorKind::TooManyLinks,
+    ErrorKind::InvalidFilename,
+    ErrorKind::ArgumentListTooLong,
+    ErrorKind::Interrupted,
+    ErrorKind::Unsupported,
+    ErrorKind::UnexpectedEof,
+    ErrorKind::OutOfMemory,
+    ErrorKind::Other,
+];
+
+/// Whether the failed read is told, and nothing is written.
+fn fails_at(
+    rt: &impl Abort,
+    alloc: Global,
+    engine: &Engine,
+    script: &str,
+    ends: &Ends,
+    fault: &str,
+) {
+    let (texts, answer) = ((script, LOOP_CERTIFICATE), (fault, ""));
+    for piece in [1, 2] {
+        is_answered(rt, alloc, engine, texts, piece, ends, answer);
     }
-    for (engine, script, certificate, report) in &SINKS {
+    let kind = Some(ErrorKind::Interrupted);
+    is_answered_over_std(rt, alloc, engine, texts, ends, kind, answer);
+}
+
+#[test]
+fn failing_sources(rt: HostRuntime) {
+    assert_eq!(rt; (LOOP.len(), LOOP_CERTIFICATE.len()), (8, 92));
+    for (engine, script, is_certificate, length) in &SOURCES {
+        for before in 0..*length + 1 {
+            // where the script's reads fail, the certificate's would fail at once
+            let (ends, fault) = if *is_certificate {
+                ((AMPLE, before, AMPLE), "cannot read certificate")
+            } else {
+                ((before, 0, AMPLE), "cannot read script")
+            };
+            fails_at(&rt, rt.alloc(), engine, *script, &ends, fault);
+        }
+        for kind in &KINDS {
+            let (texts, kind) = ((*script, LOOP_CERTIFICATE), Some(*kind));
+            let answer = ("cannot read script", "");
+            is_answered_over_std(&rt, rt.alloc(), engine, texts, &(1, AMPLE, 0), kind, answer);
+        }
+    }
+}
+
+/// Whether the write behind the front of the report is told to have failed, and nothing more went out.
+fn fails_behind(rt: &impl Abort, alloc: Global, engine: &Engine, script: &str, front: &str) {
+    let (texts, ends) = ((script, LOOP_CERTIFICATE), (AMPLE, AMPLE, front.len()));
+    let answer = ("cannot write", front);
+    for piece in [1, 4] {
+        is_answered(rt, alloc, engine, texts, piece, &ends, answer);
+    }
+    // a call that takes no byte, and one that is interrupted
+    for kind in [None, Some(ErrorKind::Interrupted)] {
+        is_answered_over_std(rt, alloc, engine, texts, &ends, kind, answer);
+    }
+}
+
+#[test]
+fn failing_sinks(rt: HostRuntime) {
+    assert_eq!(rt; LOOP_CERTIFICATE.len(), 92);
+    for (engine, script, report) in &SINKS {
         for room in 0..report.len() {
             let Some(front) = report.get(..room) else {
                 panic!(rt; "no beginning of {room} bytes");
             };
-            let (texts, ends) = ((*script, *certificate), (AMPLE, AMPLE, room));
-            is_answered(
-                &rt,
-                rt.alloc(),
-                engine,
-                texts,
-                4,
-                &ends,
-                ("cannot write", front),
-            );
+            fails_behind(&rt, rt.alloc(), engine, *script, front);
+        }
+        for kind in &KINDS {
+            let (texts, ends, kind) = ((*script, LOOP_CERTIFICATE), (AMPLE, AMPLE, 0), Some(*kind));
+            let answer = ("cannot write", "");
+            is_answered_over_std(&rt, rt.alloc(), engine, texts, &ends, kind, answer);
         }
     }
 }
@@ -99,5 +189,35 @@ fn limits(rt: HostRuntime) {
             &ends,
             (*fault, ""),
         );
+    }
+}
+
+/// The engine, the byte that the script's reader gives for ever, and what is told.
+static ENDLESS: [(Engine, u8, &'static str); 6] = [
+    (Engine::Check, b'\n', "script fault 1 too-long at 1048576"),
+    (Engine::Check, b' ', "script fault 1 too-long at 1048576"),
+    (Engine::Files, b'\n', "script fault 1 too-long at 1048576"),
+    (Engine::Graph, b' ', "script fault 1 too-long at 1048576"),
+    (Engine::Rank, b'\n', "script fault 1 too-long at 1048576"),
+    (Engine::Rank, b'\0', "script fault 1 too-long at 1048576"),
+];
+
+/// A script and a certificate that never end.
+#[test]
+fn endless_sources(rt: HostRuntime) {
+    for (engine, byte, fault) in &ENDLESS {
+        let mut script = Endless { byte: *byte };
+        let mut certificate = Endless { byte: b'\n' };
+        let mut out = sink_with(rt.alloc(), 1, AMPLE);
+        let told = outcome(
+            &rt,
+            rt.alloc(),
+            engine,
+            &mut script,
+            &mut certificate,
+            &mut out,
+        );
+        assert_eq!(rt; told.as_str(), *fault);
+        assert!(rt; out.bytes.is_empty());
     }
 }

@@ -1,8 +1,11 @@
-//! Sources and sinks that fail when they are told to.
+//! Sources and sinks, and readers and writers of std, that fail when they are told to.
 
-ghost use Rattle.std.specs.Prelude.{None};
+ghost use Rattle.std.specs.Prelude.{None, false};
 
 use sedck_cert::streams::{Failed, Sink, Source};
+use std::alloc::Global;
+use std::io;
+use std::io::{ErrorKind, Read, Write};
 
 /// Gives its text in pieces, and fails once so much was given.
 #[derive(Drop)]
@@ -11,6 +14,15 @@ pub struct Given<'a> {
     pub piece: usize,
     pub before_failure: usize,
     pub failed: bool,
+}
+
+pub fn source_of(text: &[u8], piece: usize, before_failure: usize) -> Given<'_> {
+    Given {
+        text,
+        piece,
+        before_failure,
+        failed: false,
+    }
 }
 
 impl Source for Given<'_> {
@@ -40,6 +52,43 @@ impl Source for Given<'_> {
     }
 }
 
+/// Gives one byte for ever.
+#[derive(Drop)]
+pub struct Endless {
+    pub byte: u8,
+}
+
+impl Source for Endless {
+    ghost left = { λ _. None };
+
+    ghost has_failed = { λ _. false };
+
+    fn read(&mut self, buf: &mut [u8]) -> Result<usize, Failed> {
+        buf.fill(self.byte);
+        Ok(buf.len())
+    }
+
+    fn failed(&self) -> bool {
+        false
+    }
+}
+
+/// A reader of std that gives what the source gives, and fails with an error of the kind.
+#[derive(Drop)]
+pub struct Reader<'a> {
+    pub source: Given<'a>,
+    pub kind: ErrorKind,
+}
+
+impl Read for Reader<'_> {
+    fn read(&mut self, buf: &mut [u8]) -> io::Result<usize> {
+        match self.source.read(buf) {
+            Ok(count) => Ok(count),
+            Err(_) => Err(io::Error::from(self.kind)),
+        }
+    }
+}
+
 /// Keeps what is written, in pieces, and fails once so much was written.
 #[derive(Drop)]
 pub struct Kept {
@@ -47,6 +96,15 @@ pub struct Kept {
     pub piece: usize,
     pub room: usize,
     pub failed: bool,
+}
+
+pub fn sink_with(alloc: Global, piece: usize, room: usize) -> Kept {
+    Kept {
+        bytes: Vec::new(alloc),
+        piece,
+        room,
+        failed: false,
+    }
 }
 
 impl Sink for Kept {
@@ -68,5 +126,26 @@ impl Sink for Kept {
 
     fn failed(&self) -> bool {
         self.failed
+    }
+}
+
+/// A writer of std that takes what the sink takes, and fails with an error of the kind, or takes no byte where there is none.
+#[derive(Drop)]
+pub struct Writer {
+    pub sink: Kept,
+    pub kind: Option<ErrorKind>,
+}
+
+impl Write for Writer {
+    fn write(&mut self, bytes: &[u8]) -> io::Result<usize> {
+        match (self.sink.write(bytes), self.kind) {
+            (Ok(count), _) => Ok(count),
+            (Err(_), Some(kind)) => Err(io::Error::from(kind)),
+            (Err(_), None) => Ok(0),
+        }
+    }
+
+    fn flush(&mut self) -> io::Result<()> {
+        Ok(())
     }
 }

@@ -1,5 +1,5 @@
 //! `program` over files.
-use super::fakes::Kept;
+use super::fakes::sink_with;
 use super::{ACCEPTED, AMPLE, EMPTY_CERTIFICATE, LOOP, LOOP_CERTIFICATE, LOOP_GRAPH};
 use sedck_cli::program;
 use std::process::Abort;
@@ -53,18 +53,8 @@ pub fn is_run(
         };
         all.push(word).expect(rt, "memory");
     }
-    let mut out = Kept {
-        bytes: Vec::new(alloc),
-        piece: 5,
-        room: AMPLE,
-        failed: false,
-    };
-    let mut err = Kept {
-        bytes: Vec::new(alloc),
-        piece: 5,
-        room,
-        failed: false,
-    };
+    let mut out = sink_with(alloc, 5, AMPLE);
+    let mut err = sink_with(alloc, 5, room);
     let status = program(rt, &all, &mut out, &mut err);
     let (wanted, printed, fault) = answer;
     assert_eq!(rt; status, wanted, "{words}");

@@ -1,15 +1,18 @@
 //! Runs of the engines over streams in memory.
 use super::AMPLE;
-use super::fakes::{Given, Kept};
-use sedck_cli::{Outcome, run_check, run_files, run_graph};
+use super::fakes::{Reader, Writer, sink_with, source_of};
+use sedck_cert::streams::{FromRead, FromWrite, Sink, Source};
+use sedck_cli::{Outcome, run_check, run_files, run_graph, run_rank};
 use std::alloc::Global;
+use std::io::ErrorKind;
 use std::process::Abort;
 
-/// Which engine runs. The last two read no certificate.
+/// Which engine runs. The last three read no certificate.
 pub enum Engine {
     Check,
     Files,
     Graph,
+    Rank,
 }
 
 /// After how many bytes the reads of the script fail, those of the certificate, and the writes.
@@ -19,18 +22,19 @@ pub type Ends = (usize, usize, usize);
 pub const NEVER: Ends = (AMPLE, AMPLE, AMPLE);
 
 /// The outcome in a word, or the fault as it is printed.
-fn outcome(
+pub fn outcome<R: Source, C: Source, W: Sink>(
     rt: &impl Abort,
     alloc: Global,
     engine: &Engine,
-    script: &mut Given<'_>,
-    certificate: &mut Given<'_>,
-    out: &mut Kept,
+    script: &mut R,
+    certificate: &mut C,
+    out: &mut W,
 ) -> String {
     let answer = match engine {
         Engine::Check => run_check(alloc, script, certificate, out),
         Engine::Files => run_files(alloc, script, out),
         Engine::Graph => run_graph(alloc, script, out),
+        Engine::Rank => run_rank(alloc, script, out),
     };
     let (word, fault) = match answer {
         Ok(Outcome::Yes) => ("yes", None),
@@ -41,6 +45,21 @@ fn outcome(
         Some(fault) => format!(in alloc; "{fault}").expect(rt, "memory"),
         None => String::from_str(alloc, word).expect(rt, "memory"),
     }
+}
+
+/// Whether these are the words that are told and the bytes that went out, and whether just the stream that failed is told.
+fn require_answer(
+    rt: &impl Abort,
+    script: &str,
+    told: (&str, &[u8]),
+    failed: (bool, bool),
+    answer: (&str, &str),
+) {
+    assert_eq!(rt; told.0, answer.0, "{script}");
+    assert_eq!(rt; told.1, answer.1.as_bytes(), "{script}");
+    let holds = failed.0 == told.0.starts_with("cannot read")
+        && failed.1 == told.0.starts_with("cannot write");
+    assert!(rt; holds, "{script}: {failed:?}");
 }
 
 /// Whether a run over a script and a certificate, read and written in pieces, is told so and writes the report, and
@@ -54,37 +73,39 @@ pub fn is_answered(
     ends: &Ends,
     answer: (&str, &str),
 ) {
-    let mut script = Given {
-        text: texts.0.as_bytes(),
-        piece,
-        before_failure: ends.0,
-        failed: false,
-    };
-    let mut certificate = Given {
-        text: texts.1.as_bytes(),
-        piece,
-        before_failure: ends.1,
-        failed: false,
-    };
-    let mut out = Kept {
-        bytes: Vec::new(alloc),
-        piece,
-        room: ends.2,
-        failed: false,
-    };
+    let mut script = source_of(texts.0.as_bytes(), piece, ends.0);
+    let mut certificate = source_of(texts.1.as_bytes(), piece, ends.1);
+    let mut out = sink_with(alloc, piece, ends.2);
     let told = outcome(rt, alloc, engine, &mut script, &mut certificate, &mut out);
-    assert_eq!(rt; told.as_str(), answer.0, "{} {piece} {ends:?}", texts.0);
-    assert_eq!(rt;
-        out.bytes.as_slice(),
-        answer.1.as_bytes(),
-        "{} {piece} {ends:?}",
-        texts.0
-    );
-    let unread = script.failed || certificate.failed;
-    assert_eq!(rt; unread, told.starts_with("cannot read"), "{told} {ends:?}");
-    assert_eq!(rt;
-        out.failed,
-        told.starts_with("cannot write"),
-        "{told} {ends:?}"
-    );
+    let failed = (script.failed || certificate.failed, out.failed);
+    require_answer(rt, texts.0, (&told, &out.bytes), failed, answer);
+}
+
+/// The same over readers and writers of std, which fail with errors of this kind; where there is none, writes take no byte.
+pub fn is_answered_over_std(
+    rt: &impl Abort,
+    alloc: Global,
+    engine: &Engine,
+    texts: (&str, &str),
+    ends: &Ends,
+    kind: Option<ErrorKind>,
+    answer: (&str, &str),
+) {
+    let read_kind = kind.unwrap_or(ErrorKind::Interrupted);
+    let mut script = FromRead::new(Reader {
+        source: source_of(texts.0.as_bytes(), 1, ends.0),
+        kind: read_kind,
+    });
+    let mut certificate = FromRead::new(Reader {
+        source: source_of(texts.1.as_bytes(), 1, ends.1),
+        kind: read_kind,
+    });
+    let mut out = FromWrite::new(Writer {
+        sink: sink_with(alloc, 1, ends.2),
+        kind,
+    });
+    let told = outcome(rt, alloc, engine, &mut script, &mut certificate, &mut out);
+    let failed = (script.failed() || certificate.failed(), out.failed());
+    let bytes = out.into_inner().sink.bytes;
+    require_answer(rt, texts.0, (&told, &bytes), failed, answer);
 }

@@ -1,5 +1,10 @@
 //! Texts that are no scripts: which fault comes first, and where; the limits, and every beginning of a script.
-use crate::texts::{Kind, LongRow, Row, fault_of, have_faults, long_texts_have_faults};
+use crate::texts::{
+    Kind, LongRow, Part, Row, fault_of, have_faults, long_texts_have_faults, repeated,
+};
+use sedck_script::{ScriptFault, parse};
+use std::alloc::Global;
+use std::process::Abort;
 
 static SCRIPTS: [Row; 54] = [
     (b"p\0", 2, 1),
@@ -137,13 +142,112 @@ static EXPRESSIONS: [Row; 5] = [
     (b"s|a\\|b", 22, 3),
 ];
 
-static LIMITS: [LongRow; 6] = [
+/// Scripts that end too early.
+static CUT: [Row; 4] = [
+    (b":a;$", 3, 4),
+    (b":a;$!", 3, 5),
+    (b":a;$!{N;b", 17, 5),
+    (b":a;$!{N;ba};s/\\n/ ", 7, 12),
+];
+
+/// The greatest numbers, and those beyond them.
+static NUMBERS: [Row; 9] = [
+    (b"4294967295p", 0, 0),
+    (b"4294967296p", 4, 0),
+    (b"1,4294967295p", 0, 0),
+    (b"1,4294967296p", 4, 2),
+    (b"1p", 0, 0),
+    (b"s/a/b/4294967295", 0, 0),
+    (b"s/a/b/4294967296", 9, 6),
+    (b"s/a/b/1", 0, 0),
+    (b"s/a/b/0", 9, 6),
+];
+
+/// How many commands and blocks there may be, and the nesting and the groups of an expression.
+static LIMITS: [LongRow; 13] = [
     (&[(b"{", 64), (b"}", 64)], 0, 0),
     (&[(b"{", 65), (b"}", 64)], 18, 64),
+    (&[(b"{", 65)], 18, 64),
     (&[(b"p\n", 4095)], 0, 0),
     (&[(b"p\n", 4095), (b"p", 1)], 19, 8190),
+    // ends of blocks and comments are no commands
+    (&[(b"{p}\n", 2047), (b"p\n", 1), (b"#\n", 9)], 0, 0),
+    (&[(b"{p}\n", 2047), (b"p\n", 2)], 19, 8190),
+    // one command too many, which is at the greatest depth, and too deep
+    (&[(b"p\n", 4032), (b"{", 65)], 19, 8127),
+    (&[(b"p\n", 4031), (b"{", 65)], 18, 8126),
+    (&[(b"/", 1), (b"\\(", 32), (b"\\)", 32), (b"/p", 1)], 0, 0),
+    (&[(b"/", 1), (b"\\(\\)", 99), (b"/p", 1)], 0, 0),
+    (&[(b"/a\\{255\\}/p", 1)], 0, 0),
+    (&[(b"/", 1), (b"a\\{255\\}", 9), (b"/p", 1)], 0, 0),
+];
+
+/// The longest texts, each of one part, and longer ones.
+static LONGEST: [LongRow; 9] = [
     (&[(b"\n", 1_048_576)], 0, 0),
+    (&[(b"\n", 1_048_577)], 1, 1_048_576),
     (&[(b"\n", 1_048_576), (b"\0", 1)], 1, 1_048_576),
+    (&[(b":", 1), (b"a", 1_048_575)], 0, 0),
+    (&[(b":", 1), (b"a", 1_048_576)], 1, 1_048_576),
+    (&[(b"w", 1), (b"f", 1_048_575)], 0, 0),
+    (&[(b"a", 1_048_576)], 0, 0),
+    (&[(b"/", 1), (b"a", 1_048_573), (b"/p", 1)], 0, 0),
+    (&[(b"s/a/", 1), (b"&", 1_048_571), (b"/", 1)], 0, 0),
+];
+
+/// The parts of a script, where an expression that is refused begins in it, and the number and the place of its fault.
+type InnerRow = (&'static [Part], usize, u8, usize);
+
+static INNER: [InnerRow; 21] = [
+    (&[(b"s/[/]/x/", 1)], 2, 3, 0),
+    (&[(b"s/a\\+/b/", 1)], 2, 2, 1),
+    (&[(b"/a**/p", 1)], 1, 10, 2),
+    (&[(b"/a\\{256\\}/p", 1)], 1, 8, 1),
+    (
+        &[(b"/", 1), (b"\\(", 33), (b"\\)", 33), (b"/p", 1)],
+        1,
+        12,
+        64,
+    ),
+    (&[(b"/", 1), (b"\\(\\)", 100), (b"/p", 1)], 1, 13, 396),
+    (&[(b"/\\{2\\}/p", 1)], 1, 9, 0),
+    (&[(b"/a\\{2/p", 1)], 1, 8, 1),
+    (&[(b"/a*\\{2\\}/p", 1)], 1, 10, 2),
+    (&[(b"/\\1/p", 1)], 1, 11, 0),
+    (&[(b"s/\\(a\\1\\)/b/", 1)], 2, 11, 3),
+    (&[(b"s/[z-a]/b/", 1)], 2, 4, 1),
+    (&[(b"s/[a-c-e]/b/", 1)], 2, 4, 4),
+    (&[(b"s/[^[:cntrl:]\x01-\xff]/b/", 1)], 2, 5, 0),
+    (&[(b"s/\\(a/b/", 1)], 2, 6, 0),
+    (&[(b"s/a\\)/b/", 1)], 2, 7, 1),
+    // behind other commands, and as the second address
+    (&[(b"p\n", 4000), (b"1,/a\\{2/p", 1)], 8003, 8, 1),
+    (&[(b"/a/,/b**/p", 1)], 5, 10, 2),
+    // an escaped delimiter is one byte of the expression
+    (&[(b"s,a\\,\\+,b,", 1)], 2, 2, 2),
+    (&[(b"s,\\,a**,b,", 1)], 2, 10, 3),
+    (&[(b"p;\\x\\x\\(xp", 1)], 4, 6, 1),
+];
+
+/// Whether the fault in the script is that its expression is refused, there and for this.
+fn has_inner_fault(rt: &impl Abort, alloc: Global, row: &InnerRow) {
+    let (parts, place, number, inner) = row;
+    let text = repeated(rt, alloc, *parts);
+    match parse(alloc, &text) {
+        Err(ScriptFault::BadExpression { place: at, fault }) => {
+            let told = (at, fault.number(), fault.place());
+            assert_eq!(rt; told, (*place, *number, Some(*inner)), "{parts:?}");
+        }
+        _ => panic!(rt; "no expression is refused: {parts:?}"),
+    }
+}
+
+/// Scripts of which every beginning is read.
+static WHOLE: [&'static [u8]; 4] = [
+    b":a;$!{N;ba};s/\\n/ /g",
+    b"s/a/b/w out.txt\nq\nw log",
+    b":a;s/\\(.*\\)  \\(.*\\)/\\1 \\2/;ta",
+    b"1!{s/a\\(b\\)*/\\1&/2gw out\n};:x\ny/ab/cd/;tx;a\\\ntext\\\nmore\n$!N;/^a*$/,3D",
 ];
 
 #[test]
@@ -155,11 +259,17 @@ fn refused(rt: HostRuntime) {
     have_faults(&rt, rt.alloc(), &Kind::Script, &REPLACEMENTS);
     have_faults(&rt, rt.alloc(), &Kind::Script, &FLAGS);
     have_faults(&rt, rt.alloc(), &Kind::Script, &EXPRESSIONS);
+    have_faults(&rt, rt.alloc(), &Kind::Script, &CUT);
+    have_faults(&rt, rt.alloc(), &Kind::Script, &NUMBERS);
     long_texts_have_faults(&rt, rt.alloc(), &Kind::Script, &LIMITS);
-    // every beginning of a script
-    let text = b"1!{s/a\\(b\\)*/\\1&/2gw out\n};:x\ny/ab/cd/;tx;a\\\ntext\\\nmore\n$!N;/^a*$/,3D";
-    for end in 0..text.len() {
-        let (number, place) = fault_of(rt.alloc(), &Kind::Script, &text[..end]);
-        assert!(rt; number < 23 && place <= end, "cut to {end}");
+    long_texts_have_faults(&rt, rt.alloc(), &Kind::Script, &LONGEST);
+    for row in &INNER {
+        has_inner_fault(&rt, rt.alloc(), row);
+    }
+    for text in &WHOLE {
+        for end in 0..text.len() {
+            let (number, place) = fault_of(rt.alloc(), &Kind::Script, &text[..end]);
+            assert!(rt; number < 23 && place <= end, "cut to {end}: {text:?}");
+        }
     }
 }

@@ -21,6 +21,8 @@ fn word_of<'a>(verb: &Verb<'a>) -> Word<'a> {
         Verb::Read(name) => (b'r', *name, 0),
         Verb::Write(name) => (b'w', *name, 0),
         Verb::Next => (b'n', b"", 0),
+        Verb::NextAppend => (b'N', b"", 0),
+        Verb::Substitute(_) => (b's', b"", 0),
         Verb::Print => (b'p', b"", 0),
         Verb::Quit => (b'q', b"", 0),
         Verb::Exchange => (b'x', b"", 0),
@@ -56,7 +58,18 @@ static NAMES: [(&'static [u8], Words); 4] = [
     (b":a #c", &[(b':', b"a", 0)]),
 ];
 
-static BRANCHES: [(&'static [u8], Words); 12] = [
+static BRANCHES: [(&'static [u8], Words); 13] = [
+    // the block leads behind its end, the branch to its label
+    (
+        b":a;$!{N;ba};s/\\n/ /g",
+        &[
+            (b':', b"a", 0),
+            (b'{', b"", 4),
+            (b'N', b"", 0),
+            (b'b', b"", 0),
+            (b's', b"", 0),
+        ],
+    ),
     (
         b"{p;b a\n};t;:a",
         &[
