@@ -1,8 +1,7 @@
 -- How one line is read or refused, and lines after lines.
-use Rattle.std.proofs.Common.{◌≡◌, ℕ, ◌+◌, List, [], ◌∷◌, ◌++◌, Contains, ◌≤◌, decimal, Option, Some, None, MatchOption, IfErr, Result, Ok, Err, append_assoc, append-nil, refl, sym, ◌∙◌, ap, subst, arith}
+use Rattle.std.proofs.Common.{◌≡◌, ℕ, ◌+◌, List, [], ◌∷◌, ◌++◌, Contains, ◌≤◌, decimal, Option, Some, None, MatchOption, IfErr, append_assoc, append-nil, refl, sym, ◌∙◌, ap, subst, arith}
 use Rattle.std.proofs.Common.{length-append}
 use Rattle.std.specs.Option.{ok_or}
-use Rattle.std.specs.Result.{IsErrAnd}
 use Rattle.sedck_cert.specs.Text.{line}
 use Rattle.sedck_cert.specs.Faults.{Due, IsDue, AreDue, IsWrong, IsRefused, fault_at, joined_lines}
 use Rattle.sedck_cert.specs.Cuts.{IsCut}

@@ -1,5 +1,5 @@
 -- The lines of a certificate are its text, and are what is due.
-use Rattle.std.proofs.Common.{◌≡◌, ℕ, zero, suc, ◌+◌, ◌-◌, ◌*◌, ◌<◌, ◌≤◌, ◌^◌, ◌==◌, List, [], ◌∷◌, ◌++◌, length, decimal, codes, Option, append_assoc, append-nil, refl, sym, ◌∙◌, ap, subst, subst₂, inl, inr, arith}
+use Rattle.std.proofs.Common.{◌≡◌, ℕ, zero, suc, ◌+◌, ◌-◌, ◌<◌, ◌≤◌, ◌^◌, ◌==◌, List, [], ◌∷◌, ◌++◌, length, decimal, codes, Option, append_assoc, append-nil, refl, sym, ◌∙◌, ap, subst, subst₂, inl, inr, arith}
 use Rattle.std.specs.List.{AllByRecursion, list_all}
 use Rattle.std.proofs.lemmas.Bool.{and_parts, ltb-true}
 use Rattle.std.proofs.lemmas.List.Sums.{sum_by-cons}
@@ -7,7 +7,6 @@ use Rattle.std.proofs.Common.{true, nat_lt, ◌/◌, ◌%◌, Some, None}
 use Rattle.std.proofs.lemmas.List.Elements.{recursion_from_All, All-from_recursion, Contains-append_cases}
 use Rattle.std.proofs.lemmas.List.Kept.{AllPairs-cons}
 use Rattle.std.proofs.lemmas.Fmt.{decimal_injective}
-use Rattle.std.proofs.lemmas.Cmp.{nat_list_cmp_total}
 use Rattle.std.proofs.lemmas.List.{append_cancel_left}
 use Rattle.sedck_script.specs.Names.{IsName, IsBefore, AreRising, AreNames, names_size}
 use Rattle.sedck_flow.specs.Nodes.{nth_node, node_count}

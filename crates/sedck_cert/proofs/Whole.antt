@@ -1,5 +1,5 @@
 -- The parts of a certificate, read one after another.
-use Rattle.std.proofs.Common.{◌≡◌, ◌⊎◌, inl, inr, ℕ, suc, ◌+◌, ◌-◌, ◌*◌, ◌≤◌, List, [], ◌∷◌, ◌++◌, length, decimal, codes, Option, Some, cond, All, count_by, Result, Ok, Err, IfOk, IfErr, IfSome, ◌==◌, append_assoc, append-nil, refl, sym, ◌∙◌, ap, arith}
+use Rattle.std.proofs.Common.{◌≡◌, ◌⊎◌, inl, inr, ℕ, suc, ◌+◌, ◌-◌, ◌≤◌, List, [], ◌∷◌, ◌++◌, length, decimal, codes, Option, Some, cond, All, count_by, Result, Ok, Err, IfOk, IfErr, IfSome, ◌==◌, append_assoc, append-nil, refl, sym, ◌∙◌, ap, arith}
 use Rattle.std.proofs.lemmas.List.Sums.{sum_by-append}
 use Rattle.sedck_flow.specs.Nodes.{node_count}
 use Rattle.sedck_script.specs.Names.{names_size}

@@ -1,6 +1,6 @@
 -- What is taken, piece after piece.
-use Rattle.std.proofs.Common.{◌≡◌, ℕ, ◌+◌, ◌<◌, ◌≤◌, ◌/◌, ◌%◌, ◌^◌, List, [], ◌∷◌, ◌++◌, decimal, Option, Some, None, Result, Ok, Err, OnOk, OnErr, append_assoc, append-nil, sym, ◌∙◌, ap, subst, arith}
-use Rattle.std.specs.Io.KnownBytes.{Appends, Keeps}
+use Rattle.std.proofs.Common.{◌≡◌, ℕ, ◌+◌, ◌<◌, ◌≤◌, ◌/◌, ◌%◌, ◌^◌, List, [], ◌∷◌, ◌++◌, decimal, Option, Some, None, Result, Ok, Err, OnOk, OnErr, append_assoc, sym, ◌∙◌, ap, subst}
+use Rattle.std.specs.Io.KnownBytes.{Appends}
 use Rattle.std.proofs.lemmas.Fmt.{decimal_digit, decimal_step}
 use Rattle.sedck_cert.specs.Streams.{AppendsFront}
 
@@ -43,18 +43,18 @@ pub begun_digit : {E : Type 0} (r : Result (Unit {0}) E) (a b : Option (List ℕ
     → OnErr r (AppendsFront a b (decimal n))
 begun_digit r a b n small h = subst (λ t. OnErr r (AppendsFront a b t)) (sym (decimal_digit n small)) h
 
-pub written_more : {E : Type 0} (r : Result (Unit {0}) E) (a b c : Option (List ℕ)) (n : ℕ) → 10 ≤ n → n < 2 ^ 16 → Appends a b (decimal (n / 10))
+pub written_more : {E : Type 0} (r : Result (Unit {0}) E) (a b c : Option (List ℕ)) (n : ℕ) → 10 ≤ n → n < 2 ^ 64 → Appends a b (decimal (n / 10))
     → OnOk r (Appends b c ((48 + n % 10) ∷ [])) → OnOk r (Appends a c (decimal n))
 written_more r a b c n more small h k = on_ok_then r (Appends b c ((48 + n % 10) ∷ [])) (Appends a c (decimal n)) k
-    (λ last. subst (Appends a c) (sym (decimal-more n more (omega arith))) (appends_join a b c (decimal (n / 10)) ((48 + n % 10) ∷ []) h last))
+    (λ last. subst (Appends a c) (sym (decimal-more n more small)) (appends_join a b c (decimal (n / 10)) ((48 + n % 10) ∷ []) h last))
 
-pub begun_more : {E : Type 0} (r : Result (Unit {0}) E) (a b c : Option (List ℕ)) (n : ℕ) → 10 ≤ n → n < 2 ^ 16 → Appends a b (decimal (n / 10))
+pub begun_more : {E : Type 0} (r : Result (Unit {0}) E) (a b c : Option (List ℕ)) (n : ℕ) → 10 ≤ n → n < 2 ^ 64 → Appends a b (decimal (n / 10))
     → OnErr r (AppendsFront b c ((48 + n % 10) ∷ [])) → OnErr r (AppendsFront a c (decimal n))
 begun_more r a b c n more small h k = on_err_then r (AppendsFront b c ((48 + n % 10) ∷ [])) (AppendsFront a c (decimal n)) k
-    (λ last. subst (AppendsFront a c) (sym (decimal-more n more (omega arith))) (begins_later a b c (decimal (n / 10)) ((48 + n % 10) ∷ []) h last))
+    (λ last. subst (AppendsFront a c) (sym (decimal-more n more small)) (begins_later a b c (decimal (n / 10)) ((48 + n % 10) ∷ []) h last))
 
-pub begins_digits : (a b : Option (List ℕ)) (n : ℕ) → 10 ≤ n → n < 2 ^ 16 → AppendsFront a b (decimal (n / 10)) → AppendsFront a b (decimal n)
-begins_digits a b n more small h = subst (AppendsFront a b) (sym (decimal-more n more (omega arith)))
+pub begins_digits : (a b : Option (List ℕ)) (n : ℕ) → 10 ≤ n → n < 2 ^ 64 → AppendsFront a b (decimal (n / 10)) → AppendsFront a b (decimal n)
+begins_digits a b n more small h = subst (AppendsFront a b) (sym (decimal-more n more small))
     (begins_longer a b (decimal (n / 10)) ((48 + n % 10) ∷ []) h)
 
 -- the middle piece of a text

@@ -3,9 +3,10 @@
 ghost use Rattle.std.specs.Prelude.{◌≡◌, ◌↔◌, ◌≤◌, length, IsTrue, IsSome, IfSome};
 ghost use Rattle.sedck_script.specs.Invariant.{AreWellFormed};
 ghost use Rattle.sedck_flow.specs.Flow.{Flow, FlowFrom};
-ghost use Rattle.sedck_cert.specs.Ranked.{IsSteady, NeverGrows};
+ghost use Rattle.sedck_cert.specs.Ranked.{Accepts, IsSteady, NeverGrows};
 ghost use Rattle.sedck_cert.specs.StepLimit.{greatest_first, greatest_second};
 ghost use Rattle.sedck_cert.specs.Bounds.{IsBoundOf, BoundsRuns};
+ghost use Rattle.sedck_cert.specs.Headline.{IsLimit};
 
 use crate::certificate::Cert;
 use crate::checking::{Verdict, check, ranks_of};
@@ -22,9 +23,17 @@ pub fn bound(script: &Script, cert: &Cert) -> Option<Bound>
     // No run has more steps.
     ensures counted { IfSome result (BoundsRuns script.now) }
 {
-    let Verdict::Accepted = check(script, cert) else {
-        return None;
-    };
+    match check(script, cert) {
+        Verdict::Accepted => limit(script, cert),
+        Verdict::Rejected(_) => None,
+    }
+}
+
+/// The limit on the steps of a script for which the certificate is accepted.
+pub(crate) fn limit(script: &Script, cert: &Cert) -> Option<Bound>
+    requires { Accepts script.now cert.now }
+    ensures { IsLimit script.now cert.now result }
+{
     if !never_grows(script, cert) {
         return None;
     }

@@ -16,5 +16,5 @@ pub use certificate::Cert;
 pub use checking::{Rejection, Verdict, check};
 pub use limits::Bound;
 pub use reading::{CertFault, read_cert};
-pub use verifying::{Fault, verify};
+pub use verifying::{Fault, Judged, judge, verify};
 pub use writing::write_cert;

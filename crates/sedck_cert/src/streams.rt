@@ -1,6 +1,6 @@
 //! What is read from and written to, with failures that stay told.
 
-ghost use Rattle.std.specs.Prelude.{◌≡◌, ◌<◌, ◌≤◌, ℕ, List, length, Option, Bool, IfOk, OnOk, OnErr, false};
+ghost use Rattle.std.specs.Prelude.{◌≡◌, ◌<◌, ◌≤◌, ℕ, List, length, Option, Bool, IfOk, OnOk, OnErr, false, decimal};
 ghost use Rattle.std.specs.Io.KnownBytes.{ReadConsumes, WriteAppends, Appends};
 ghost use Rattle.sedck_cert.specs.Streams.{TellsFailure, AppendsFront};
 
@@ -62,6 +62,19 @@ pub fn write_all<W: Sink>(out: &mut W, bytes: &[u8]) -> Result<(), Failed>
         rest = &rest[count..];
     }
     Ok(())
+}
+
+/// Writes the decimal of the number. It takes no memory.
+pub fn write_decimal<W: Sink>(out: &mut W, number: usize) -> Result<(), Failed>
+    ensures written { OnOk result (Appends (W.taken out.old) (W.taken out.new) (decimal number)) }
+    ensures begun { OnErr result (AppendsFront (W.taken out.old) (W.taken out.new) (decimal number)) }
+    ensures failure { TellsFailure result (W.has_failed out.old) (W.has_failed out.new) }
+{
+    if number < 10 {
+        return write_all(out, &[b'0' + number as u8]);
+    }
+    write_decimal(out, number / 10)?;
+    write_all(out, &[b'0' + (number % 10) as u8])
 }
 
 /// A source over a reader of std.

@@ -1,10 +1,14 @@
 //! From two texts to the verdict.
 
-ghost use Rattle.sedck_cert.specs.Headline.{Stand, IsSafe, IsAccepted, IsAnswered, IsWantOfMemory, SaysWhy};
+ghost use Rattle.std.specs.Prelude.{◌≡◌, IfOk};
+ghost use Rattle.sedck_cert.specs.Headline.{Stand, IsSafe, IsAccepted, IsAnswered, IsWantOfMemory, IsJudged, IsLimit, IsVerdict, SaysWhy, TellsFault, verdict_of};
 
+use crate::bounding::limit;
+use crate::certificate::Cert;
 use crate::checking::{Verdict, check};
+use crate::limits::Bound;
 use crate::reading::{CertFault, read_cert};
-use sedck_script::ScriptFault;
+use sedck_script::{Script, ScriptFault};
 use std::alloc::Global;
 
 /// Why a script and a certificate can't be judged.
@@ -12,6 +16,58 @@ use std::alloc::Global;
 pub enum Fault {
     Script(ScriptFault),
     Certificate(CertFault),
+}
+
+/// A script and a certificate that were judged, the verdict, and the limit on the steps of the script's runs, where it
+/// has one.
+#[derive(Drop)]
+pub struct Judged<'a> {
+    pub script: Script<'a>,
+    pub cert: Cert,
+    pub verdict: Verdict,
+    pub bound: Option<Bound>,
+}
+
+/// Judges a certificate's text for a script's text, and keeps what was read. Each text is read once.
+///
+/// Where the verdict is `Accepted`, the script's runs end: for every finite list of input lines
+/// there is a number of steps that no run of the script exceeds. And every file that a run creates,
+/// writes or reads by a command stands in the certificate's lists.
+pub fn judge<'a>(alloc: Global, script: &'a [u8], certificate: &[u8]) -> Result<Judged<'a>, Fault>
+    ensures promise { IsAccepted (verdict_of result) → Stand script.now certificate.now IsSafe }
+    ensures answer { (¬ IsWantOfMemory (verdict_of result)) → IsAnswered script.now certificate.now (verdict_of result) }
+    ensures told { TellsFault script.now certificate.now (verdict_of result) }
+    ensures judged { IfOk result (IsJudged script.now certificate.now) }
+{
+    let script = match sedck_script::parse(alloc, script) {
+        Ok(script) => script,
+        Err(fault) => return Err(Fault::Script(fault)),
+    };
+    let cert = match read_cert(alloc, certificate) {
+        Ok(cert) => cert,
+        Err(fault) => return Err(Fault::Certificate(fault)),
+    };
+    Ok(with_verdict(script, cert))
+}
+
+/// The script and the certificate with their verdict.
+fn with_verdict<'a>(script: Script<'a>, cert: Cert) -> Judged<'a>
+    ensures script { result.script ≡ script.entry }
+    ensures cert { result.cert ≡ cert }
+    ensures verdict { IsVerdict script.entry cert result.verdict }
+    ensures limit { IsLimit script.entry cert result.bound }
+{
+    let verdict = check(&script, &cert);
+    let bound = match verdict {
+        Verdict::Accepted => limit(&script, &cert),
+        Verdict::Rejected(_) => None,
+    };
+    Judged {
+        script,
+        cert,
+        verdict,
+        bound,
+    }
 }
 
 /// Judges a certificate's text for a script's text.
@@ -23,14 +79,10 @@ pub fn verify(alloc: Global, script: &[u8], certificate: &[u8]) -> Result<Verdic
     ensures promise { IsAccepted result → Stand script.now certificate.now IsSafe }
     ensures answer { (¬ IsWantOfMemory result) → IsAnswered script.now certificate.now result }
     ensures why { SaysWhy script.now certificate.now result }
+    ensures told { TellsFault script.now certificate.now result }
 {
-    let script = match sedck_script::parse(alloc, script) {
-        Ok(script) => script,
-        Err(fault) => return Err(Fault::Script(fault)),
-    };
-    let cert = match read_cert(alloc, certificate) {
-        Ok(cert) => cert,
-        Err(fault) => return Err(Fault::Certificate(fault)),
-    };
-    Ok(check(&script, &cert))
+    match judge(alloc, script, certificate) {
+        Ok(judged) => Ok(judged.verdict),
+        Err(fault) => Err(fault),
+    }
 }

@@ -7,7 +7,7 @@ ghost use Rattle.sedck_cert.specs.Text.{line, ranks_text, node_text, node_lines,
 ghost use Rattle.sedck_cert.specs.View.{names_of};
 
 use crate::certificate::Cert;
-use crate::streams::{Failed, Sink, write_all};
+use crate::streams::{Failed, Sink, write_all, write_decimal};
 use sedck_flow::Node;
 
 /// Writes the certificate's text. It takes no memory.
@@ -24,26 +24,13 @@ pub fn write_cert<W: Sink>(cert: &Cert, out: &mut W) -> Result<(), Failed>
     write_line(out, b"end")
 }
 
-/// Writes the decimal of the number.
-fn write_number<W: Sink>(out: &mut W, number: u16) -> Result<(), Failed>
-    ensures written { OnOk result (Appends (W.taken out.old) (W.taken out.new) (decimal number)) }
-    ensures begun { OnErr result (AppendsFront (W.taken out.old) (W.taken out.new) (decimal number)) }
-    ensures failure { TellsFailure result (W.has_failed out.old) (W.has_failed out.new) }
-{
-    if number < 10 {
-        return write_all(out, &[b'0' + number as u8]);
-    }
-    write_number(out, number / 10)?;
-    write_all(out, &[b'0' + (number % 10) as u8])
-}
-
 /// Writes the decimal of the number, and a byte behind it.
 fn write_field<W: Sink>(out: &mut W, number: u16, end: u8) -> Result<(), Failed>
     ensures written { OnOk result (Appends (W.taken out.old) (W.taken out.new) (decimal number ++ end ∷ [])) }
     ensures begun { OnErr result (AppendsFront (W.taken out.old) (W.taken out.new) (decimal number ++ end ∷ [])) }
     ensures failure { TellsFailure result (W.has_failed out.old) (W.has_failed out.new) }
 {
-    write_number(out, number)?;
+    write_decimal(out, usize::from(number))?;
     write_all(out, &[end])
 }
 

@@ -1,4 +1,4 @@
-use Rattle.std.proofs.Common.{◌-◌, ◌≡◌, ◌⊎◌, inr, ◌+◌, ◌*◌, subst, sym}
+use Rattle.std.proofs.Common.{◌-◌, ◌≡◌, ◌⊎◌, inr, subst, sym}
 use Rattle.sedck_flow.specs.Nodes.{node_count}
 use Rattle.sedck_cert.specs.View.{names_of}
 use Rattle.sedck_cert.specs.Faults.{Count, Node, Names, Last, IsFaultOf}

@@ -1,4 +1,4 @@
-use Rattle.std.proofs.Common.{◌≡◌, ◌+◌, ◌*◌, ◌-◌, length, All}
+use Rattle.std.proofs.Common.{◌≡◌, ◌-◌, length, All}
 use Rattle.sedck_flow.specs.Nodes.{node_count}
 use Rattle.sedck_cert.specs.Certificate.{AreWithin}
 use Rattle.sedck_cert.specs.Faults.{Node}
