@@ -48,23 +48,33 @@ READING_RANKS = certificate(1, {"0 0": "2 2", "1 0": "1 1"}, reads=("x",))
 UNNAMED_RANKS = certificate(1, {"0 0": "2 2", "1 0": "1 1"})
 assert len(NEXT_LINE_RANKS) == 92 and len(WRITING_RANKS) == 104
 
+NO_NAMES = "read 0\nwrite 0\n"
+WRITTEN_NAMES = "read 0\nwrite 2\nlog\nout.txt\n"
+READ_NAMES = "read 1\nx\nwrite 0\n"
+
+# script, its certificate, the line of the bound, the commands, the parts of a replacement with the groups and the least length of
+# its expression, and the names
 RANKED = [
-    # script, certificate, the line of the bound, names read, names written
-    (NEXT_LINE, NEXT_LINE_RANKS, "bound 4 20 4\n", "read 0\nwrite 0\n"),
-    (SHORTENING, SHORTENING_RANKS, "bound 6 42 6\n", "read 0\nwrite 0\n"),
-    (JOINING, JOINING_RANKS, "bound 8 72 8\n", "read 0\nwrite 0\n"),
-    (HOLDING, HOLDING_RANKS, "", "read 0\nwrite 0\n"),
-    (WRITING, WRITING_RANKS, "bound 4 20 4\n", "read 0\nwrite 2\nlog\nout.txt\n"),
+    (NEXT_LINE, NEXT_LINE_RANKS, "bound 4 20 4\n", "commands 3\n", NO_NAMES),
+    (SHORTENING, SHORTENING_RANKS, "bound 6 42 6\n", "commands 3\nparts 0 groups 0 least 1\n", NO_NAMES),
+    (JOINING, JOINING_RANKS, "bound 8 72 8\n", "commands 5\nparts 1 groups 0 least 1\n", NO_NAMES),
+    (HOLDING, HOLDING_RANKS, "", "commands 5\nparts 0 groups 0 least 1\n", NO_NAMES),
+    (WRITING, WRITING_RANKS, "bound 4 20 4\n", "commands 3\nparts 1 groups 0 least 1\n", WRITTEN_NAMES),
+    (READING, READING_RANKS, "bound 3 12 3\n", "commands 1\n", READ_NAMES),
 ]
 
-READ_SCRIPTS = [
-    (NEXT_LINE, "commands 3\nread 0\nwrite 0\n"),
-    (SHORTENING, "commands 3\nparts 0 groups 0 least 1\nread 0\nwrite 0\n"),
-    (JOINING, "commands 5\nparts 1 groups 0 least 1\nread 0\nwrite 0\n"),
-    (HOLDING, "commands 5\nparts 0 groups 0 least 1\nread 0\nwrite 0\n"),
-    (WRITING, "commands 3\nparts 1 groups 0 least 1\nread 0\nwrite 2\nlog\nout.txt\n"),
-    (MOVING, "commands 3\nparts 3 groups 2 least 2\nread 0\nwrite 0\n"),
-]
+# every part of a script that takes memory: escaped delimiters, sets, intervals, lists of bytes, blocks, and each name once
+PARTS = """#n
+/[ab]/,\\,c\\{2\\},y/a\\/b/cde/
+s,x\\,y\\(z\\),&\\1\\n\\t-,2w f
+r g
+r f
+1!{p
+r g
+}
+b
+"""
+READ_PARTS = "commands 8\nparts 5 groups 1 least 4\nread 2\nf\ng\nwrite 1\nf\n"
 
 REFUSED_SCRIPTS = [
     ("s/[/]/x/", "fault 6 bad-expression at 2: expression fault 3 unclosed-bracket at 0"),
@@ -151,27 +161,29 @@ def calls():
     """Each call as its words, the expected answer and the names for out of memory."""
     for text, answer in EXPRESSIONS:
         yield ["expression", text], answer + "\n", OF_EXPRESSION
-    for text, answer in READ_SCRIPTS:
-        yield ["script", text], answer, OF_SCRIPT
+    yield ["script", MOVING], "commands 3\nparts 3 groups 2 least 2\nread 0\nwrite 0\n", OF_SCRIPT
+    yield ["script", PARTS], READ_PARTS, OF_SCRIPT
     for text, fault in REFUSED_SCRIPTS:
         yield ["script", text], fault + "\n", OF_SCRIPT
-        yield ["verify", text, NEXT_LINE_RANKS], f"script {fault}\n", OF_TEXTS
+        for call in ("verify", "judge"):
+            yield [call, text, NEXT_LINE_RANKS], f"script {fault}\n", OF_TEXTS
         yield ["check", text, NEXT_LINE_RANKS], f"script {fault}\n", OF_ENGINE
         for engine in ("files", "graph", "rank"):
             yield [engine, text], f"script {fault}\n", OF_ENGINE
     for text in (NEXT_LINE_RANKS, WRITING_RANKS, READING_RANKS, UNNAMED_RANKS):
         yield ["certificate", text], text, OF_CERTIFICATE
-    for script, text, bound, names in RANKED:
+    for script, text, bound, commands, names in RANKED:
+        yield ["script", script], f"{commands}{names}", OF_SCRIPT
         yield ["verify", script, text], "accepted\n", OF_TEXTS
+        yield ["judge", script, text], f"accepted\n{bound}{commands}{names}{text}", OF_TEXTS
         yield ["search", script], text, OF_SEARCH
         yield ["check", script, text], f"accepted\n{bound}{names}yes\n", OF_ENGINE
         yield ["files", script], f"{names}yes\n", OF_ENGINE
         yield ["rank", script], f"{text}yes\n", OF_ENGINE
     for script, graph in GRAPHS:
         yield ["graph", script], f"{graph}yes\n", OF_ENGINE
-    yield ["verify", READING, READING_RANKS], "accepted\n", OF_TEXTS
     yield ["verify", READING, UNNAMED_RANKS], "reads-differ\n", OF_TEXTS
-    yield ["check", READING, READING_RANKS], "accepted\nbound 3 12 3\nread 1\nx\nwrite 0\nyes\n", OF_ENGINE
+    yield ["judge", READING, UNNAMED_RANKS], f"reads-differ\ncommands 1\n{READ_NAMES}{UNNAMED_RANKS}", OF_TEXTS
     yield ["check", READING, UNNAMED_RANKS], "rejected 5 reads-differ\nno\n", OF_ENGINE
     yield ["files", MOVING], "read 0\nwrite 0\nyes\n", OF_ENGINE
     yield ["search", MOVING], "growing\n1 0\n2 1\n0 0\n1 0\ngrow\nkeep\nkeep\n", OF_SEARCH

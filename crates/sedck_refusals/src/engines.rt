@@ -1,7 +1,7 @@
 //! Verdicts, searches, and the reports of the engines.
-use crate::readers::tell_certificate;
+use crate::readers::{tell_certificate, tell_script};
 use sedck_cert::streams::{FromRead, FromWrite};
-use sedck_cert::{Fault, Rejection, Verdict, verify};
+use sedck_cert::{Bound, Fault, Judged, Rejection, Verdict, judge, verify};
 use sedck_cli::{Outcome, RunFault, run_check, run_files, run_graph, run_rank};
 use sedck_search::{Form, Found, Walk, search};
 use std::alloc::Global;
@@ -14,10 +14,48 @@ pub fn verdict(
     certificate: &[u8],
 ) -> io::Result<()> {
     match verify(rt.alloc(), script, certificate) {
-        Ok(Verdict::Accepted) => println!(rt; "accepted"),
-        Ok(Verdict::Rejected(why)) => tell_rejection(rt, why),
-        Err(Fault::Script(fault)) => println!(rt; "script {fault}"),
-        Err(Fault::Certificate(fault)) => println!(rt; "certificate {fault}"),
+        Ok(verdict) => tell_verdict(rt, verdict),
+        Err(fault) => tell_fault(rt, fault),
+    }
+}
+
+/// The verdict, its limit, and what it is about.
+pub fn judgement(
+    rt: &(impl Print + AllocGlobal),
+    script: &[u8],
+    certificate: &[u8],
+) -> io::Result<()> {
+    match judge(rt.alloc(), script, certificate) {
+        Ok(judged) => tell_judgement(rt, &judged),
+        Err(fault) => tell_fault(rt, fault),
+    }
+}
+
+fn tell_judgement(rt: &impl Print, judged: &Judged) -> io::Result<()> {
+    tell_verdict(rt, judged.verdict)?;
+    if let Some(bound) = judged.bound {
+        let Bound {
+            per_byte,
+            per_line,
+            fixed,
+        } = bound;
+        println!(rt; "bound {per_byte} {per_line} {fixed}")?;
+    }
+    tell_script(rt, &judged.script)?;
+    tell_certificate(rt, &judged.cert)
+}
+
+fn tell_fault(rt: &impl Print, fault: Fault) -> io::Result<()> {
+    match fault {
+        Fault::Script(fault) => println!(rt; "script {fault}"),
+        Fault::Certificate(fault) => println!(rt; "certificate {fault}"),
+    }
+}
+
+fn tell_verdict(rt: &impl Print, verdict: Verdict) -> io::Result<()> {
+    match verdict {
+        Verdict::Accepted => println!(rt; "accepted"),
+        Verdict::Rejected(why) => tell_rejection(rt, why),
     }
 }
 

@@ -51,6 +51,7 @@ fn answer(
         "expression" => readers::expression(rt, script),
         "script" => readers::script(rt, script),
         "certificate" => readers::certificate(rt, script),
+        "judge" => engines::judgement(rt, script, certificate),
         "verify" => engines::verdict(rt, script, certificate),
         "search" => engines::found(rt, script),
         _ => engines::report(rt, call, script, certificate),

@@ -24,7 +24,7 @@ pub fn script(rt: &(impl Print + AllocGlobal), text: &[u8]) -> io::Result<()> {
     }
 }
 
-fn tell_script(rt: &impl Print, script: &Script) -> io::Result<()> {
+pub fn tell_script(rt: &impl Print, script: &Script) -> io::Result<()> {
     let count = script.commands().len();
     println!(rt; "commands {count}")?;
     for command in script.commands() {
