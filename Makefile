@@ -28,18 +28,18 @@ test: build/refuse.so
 	@echo "Checking the examples with the program that the gate built ..."
 	sh examples/check.sh
 	@echo "Refusing each request for memory in turn, and writing reports to streams that take none ..."
-	python3 tests/refusals.py crates/sedck_refusals/out/sedck_refusals build/refuse.so
+	python3 tests/refusals.py crates/sedck_refusals/out/sedck_refusals build/sedck build/refuse.so
 	sh tests/streams.sh build/sedck
 
 examples: build
 	@echo "Checking the examples: answers, certificates, and what the documents show ..."
 	sh examples/check.sh
 
-# The program that makes a call twice, and the library that refuses one of its requests for memory.
-refusals: build/refuse.so
+# `sedck_refusals` makes one call twice; the library refuses one request for memory of the program that it is loaded into.
+refusals: build build/refuse.so
 	@echo "Refusing each request for memory in turn ..."
 	cd crates/sedck_refusals && $(RT) run -- files '#' > /dev/null
-	python3 tests/refusals.py crates/sedck_refusals/out/sedck_refusals build/refuse.so
+	python3 tests/refusals.py crates/sedck_refusals/out/sedck_refusals build/sedck build/refuse.so
 
 build/refuse.so: tests/refuse.c
 	@mkdir -p build

@@ -1,16 +1,18 @@
-"""Refuses each request for memory of a call in turn: the first, the second, and so on, until a run of the call meets no refusal.
+"""Refuses each request for memory in turn: the first, the second, and so on, until a run meets no refusal.
 
-usage: refusals.py PROGRAM SHIM
+usage: refusals.py CALLS SEDCK SHIM
 
-PROGRAM is crates/sedck_refusals as built, which makes one call twice and prints both answers; SHIM is refuse.c as built. The
-first answer must be out of memory alone, by the name that the call has for it, or the expected one; the second, with ample
-memory, the expected one. The expected answers are worked out by hand from the rules of docs/GRAMMAR.md and docs/FORMATS.md.
+CALLS is crates/sedck_refusals as built, which makes one call twice and prints both answers; SEDCK is the program itself; SHIM is
+refuse.c as built. The first answer of a call must be out of memory alone, by the name that the call has for it, or the expected
+one; the second, with ample memory, the expected one. SEDCK must end with status 4, its line for out of memory and no report, or
+as expected. What is expected is worked out by hand from the rules of docs/GRAMMAR.md and docs/FORMATS.md.
 """
 
 import concurrent.futures
 import os
 import subprocess
 import sys
+import tempfile
 
 # ---- Scripts, certificates and reports
 
@@ -190,6 +192,30 @@ def calls():
     yield ["rank", MOVING], f"{LOOP}no\n", OF_ENGINE
 
 
+# ---- The program, by its words, the texts of its files, and the status, the report and the line on standard error expected
+
+
+def programs():
+    """Each run of the program."""
+    for script, text, bound, _, names in RANKED:
+        files = {"script": script, "certificate": text}
+        yield ["check", "script", "certificate"], files, (0, f"accepted\n{bound}{names}", "")
+        yield ["files", "script"], files, (0, names, "")
+        yield ["rank", "script"], files, (0, text, "")
+    for script, graph in GRAPHS:
+        yield ["graph", "script"], {"script": script}, (0, graph, "")
+    yield ["rank", "script"], {"script": MOVING}, (1, LOOP, "")
+    files = {"script": READING, "certificate": UNNAMED_RANKS}
+    yield ["check", "script", "certificate"], files, (1, "rejected 5 reads-differ\n", "")
+    for script, fault in REFUSED_SCRIPTS:
+        yield ["rank", "script"], {"script": script}, (2, "", f"sedck: script {fault}\n")
+    files = {"script": NEXT_LINE, "certificate": NEXT_LINE_RANKS + "\n"}
+    yield ["check", "script", "certificate"], files, (2, "", "sedck: certificate fault 5 bad-end at line 14\n")
+    usage = "sedck: usage: sedck rank SCRIPT, check SCRIPT CERT, files SCRIPT, graph SCRIPT\n"
+    yield ["check", "script"], {"script": NEXT_LINE}, (3, "", usage)
+    yield ["rank", "script"], {}, (4, "", "sedck: cannot read script\n")
+
+
 # ---- The runs
 
 REFUSED = "refused\n"
@@ -200,19 +226,19 @@ class Wrong(Exception):
     """A run that isn't as it must be."""
 
 
-def run(program, shim, words, request):
-    """What a run with this request refused prints on both streams, in order, and its status. No request is refused by 0."""
-    surroundings = {**os.environ, "LD_PRELOAD": os.path.abspath(shim), "REFUSE": str(request)}
+def run(program, shim, words, request, folder=".", errors=subprocess.STDOUT):
+    """What a run with this request refused prints, on both streams in order unless they are apart, and its status. Request 0 is none."""
     done = subprocess.run(
-        [program, *words],
-        env=surroundings,
+        [os.path.abspath(program), *words],
+        cwd=folder,
+        env={**os.environ, "LD_PRELOAD": os.path.abspath(shim), "REFUSE": str(request)},
         stdin=subprocess.DEVNULL,
         stdout=subprocess.PIPE,
-        stderr=subprocess.STDOUT,
+        stderr=errors,
         timeout=60,
         check=False,
     )
-    return done.stdout.decode(), done.returncode
+    return done.returncode, done.stdout.decode(), (done.stderr or b"").decode()
 
 
 def parts(told):
@@ -242,53 +268,77 @@ def judged(told, status, expected, names):
     return DURING, first in names
 
 
-def refuse_in_turn(program, shim, words, expected, names):
-    """How many requests were refused before the call, how many in it, and how many of these were answered by out of memory."""
+def call_in_turn(program, shim, words, expected, names):
+    """How many requests were refused in the call, and how many of these were answered by out of memory."""
     refused = {BEFORE: 0, DURING: 0}
     answered = 0
     request = 0
     while True:
-        told, status = run(program, shim, words, request)
+        status, told, _ = run(program, shim, words, request)
         try:
             where, out_of_memory = judged(told, status, expected, names)
             if request == 0 and (where != NEVER or REFUSED in told):
                 raise Wrong("a refusal without a request for one")
             if where == BEFORE and refused[DURING]:
                 raise Wrong("a refusal before the call behind one in it")
+            if where == NEVER and request > 0 and refused[BEFORE] == 0:
+                raise Wrong("no request was refused before the call, where there are some")
         except Wrong as wrong:
-            raise Wrong(f"{words!r}, request {request}: {wrong}; status {status}, told {told!r}") from None
+            raise Wrong(f"request {request}: {wrong}; status {status}, told {told!r}") from None
         if where == NEVER and request > 0:
-            return refused[BEFORE], refused[DURING], answered
+            return refused[DURING], answered
         if where != NEVER:
             refused[where] += 1
             answered += where == DURING and out_of_memory
         request += 1
 
 
+def program_in_turn(program, shim, words, files, expected):
+    """How many requests were refused in all, and how many of these were answered by out of memory."""
+    answered = 0
+    request = 0
+    with tempfile.TemporaryDirectory() as folder:
+        for name, text in files.items():
+            with open(os.path.join(folder, name), "w", encoding="ascii", newline="\n") as file:
+                file.write(text)
+        while True:
+            status, report, errors = run(program, shim, words, request, folder, subprocess.PIPE)
+            is_refused = errors.startswith(REFUSED)
+            told = (status, report, errors.removeprefix(REFUSED))
+            if is_refused and told == (4, "", "sedck: out of memory\n"):
+                answered += 1
+            elif told != expected or is_refused and request == 0:
+                raise Wrong(f"request {request}: status {status}, reported {report!r}, told {errors!r}")
+            if request > 0 and not is_refused:
+                return request - 1, answered
+            request += 1
+
+
 def main():
-    program, shim = sys.argv[1:]
-    table = list(calls())
-    total, answered_by_call, failures = 0, {}, 0
+    made, sedck, shim = sys.argv[1:]
+    jobs = []
     with concurrent.futures.ThreadPoolExecutor(os.cpu_count()) as pool:
-        jobs = [pool.submit(refuse_in_turn, program, shim, *row) for row in table]
-        for (words, _, _), job in zip(table, jobs):
-            try:
-                before, during, answered = job.result()
-            except Wrong as wrong:
-                failures += 1
-                print(f"FAILED: {wrong}", flush=True)
-                continue
-            total += during
-            answered_by_call[words[0]] = answered_by_call.get(words[0], 0) + answered
-            print(f"{during:4} requests refused, {answered:4} answered by out of memory: {words[0]} {words[1]!r}", flush=True)
-            if before == 0:
-                failures += 1
-                print(f"FAILED: {words!r}: no request for the words was refused", flush=True)
-    for call, answered in answered_by_call.items():
+        for words, expected, names in calls():
+            jobs.append((words[0], words[1], pool.submit(call_in_turn, made, shim, words, expected, names)))
+        for words, files, expected in programs():
+            job = pool.submit(program_in_turn, sedck, shim, words, files, expected)
+            jobs.append((f"sedck {words[0]}", files.get("script", ""), job))
+    total, failures, answered_by_kind = 0, 0, {}
+    for kind, text, job in jobs:
+        try:
+            refused, answered = job.result()
+        except Wrong as wrong:
+            failures += 1
+            print(f"FAILED: {kind} {text!r}: {wrong}")
+            continue
+        total += refused
+        answered_by_kind[kind] = answered_by_kind.get(kind, 0) + answered
+        print(f"{refused:4} requests refused, {answered:4} answered by out of memory: {kind} {text!r}")
+    for kind, answered in answered_by_kind.items():
         if answered == 0:
             failures += 1
-            print(f"FAILED: {call}: never out of memory", flush=True)
-    print(f"{len(table)} calls, {total} requests refused in them, {failures} failures")
+            print(f"FAILED: {kind}: never out of memory")
+    print(f"{len(jobs)} calls, {total} requests refused in them, {failures} failures")
     sys.exit(1 if failures else 0)
 
 
