@@ -1,27 +1,31 @@
--- From the answer of `verify` to what an engine answers.
-use Rattle.std.proofs.Common.{◌≡◌, ◌≢◌, ◌≤◌, ℕ, length, take, Bool, List, Option, Some, None, IfSome, Result, Ok, Err, refl, subst, sym, ap}
+-- From what was read to what an engine answers.
+use Rattle.std.proofs.Common.{◌≡◌, ◌≢◌, ◌⊎◌, ◌<◌, ◌≤◌, ℕ, length, take, Bool, List, Option, Some, None, IfSome, Result, Ok, Err, refl, subst, sym, ap, ◌∙◌, ◌++◌, codes, arith, inl, inr}
 use Rattle.std.proofs.KnownBytes.{Keeps-refl}
-use Rattle.std.proofs.lemmas.List.{take_all}
+use Rattle.std.proofs.lemmas.Bool.{cases_lt}
+use Rattle.std.proofs.lemmas.List.{take_all, length-take}
 use Rattle.std.specs.Result.{IsErrAnd}
 use Rattle.sedck_script.specs.Program.{Program}
 use Rattle.sedck_script.specs.Spelling.{Spells}
+use Rattle.sedck_script.specs.Faults.{IsPlaced}
 use Rattle.sedck_script.specs.declared.fault.ScriptFault.{ScriptFault}
 use Rattle.sedck_script.specs.declared.fault.ScriptFault.TheVariants as script
 use Rattle.sedck_cert.specs.Certificate.{Certificate}
-use Rattle.sedck_cert.specs.Text.{IsTextOf}
-use Rattle.sedck_cert.specs.Headline.{SpellsOnly, Stand, IsAnswered, IsWantOfMemory, SaysWhy}
-use Rattle.sedck_cert.specs.declared.checking.Verdict.{Verdict}
-use Rattle.sedck_cert.specs.declared.checking.Verdict.TheVariants.{Accepted, Rejected}
-use Rattle.sedck_cert.specs.declared.reading.CertFault.TheVariants as cert
+use Rattle.sedck_cert.specs.Text.{IsTextOf, line, files_text}
+use Rattle.sedck_cert.specs.Faults.{IsFaultOf}
+use Rattle.sedck_cert.specs.Headline.{SpellsOnly, IsTextOfOnly, IsAnswered, IsWantOfMemory, IsScriptFaultOf, TellsFault, IsLimit, IsJudged}
+use Rattle.sedck_cert.specs.declared.checking.Verdict.TheVariants.{Accepted}
+use Rattle.sedck_cert.specs.declared.limits.Bound.{Bound}
+use Rattle.sedck_cert.specs.declared.verifying.Judged.{Judged}
 use Rattle.sedck_cert.specs.declared.verifying.Fault.{Fault}
 use Rattle.sedck_cert.specs.declared.verifying.Fault.TheVariants as below
+use Rattle.sedck_cert.specs.declared.reading.CertFault.{CertFault}
+use Rattle.sedck_cert.specs.declared.reading.CertFault.TheVariants as cert
+use Rattle.sedck_cert.proofs.TextLength.{text_length, front_is_whole}
 use Rattle.sedck_cli.specs.declared.answer.Outcome.{Outcome}
 use Rattle.sedck_cli.specs.declared.answer.Outcome.TheVariants.{Yes}
-use Rattle.sedck_cli.specs.declared.answer.RunFault.{RunFault}
-use Rattle.sedck_cli.specs.declared.answer.RunFault.TheVariants as fault
-use Rattle.sedck_cli.specs.Engines.{script_read, certificate_read, verdict_outcome, ChecksTo, SpellsNone, EngineAnswers, OfKnown, OfScript, CertificateAnswers, RanksTo, found_outcome}
-use Rattle.sedck_cli.specs.Faults.{run_fault, script_fault, IsRefusal}
-use Rattle.sedck_cli.specs.Reports.{IsVerdict, IsCheckReport, IsRankReport}
+use Rattle.sedck_cli.specs.Engines.{verdict_outcome, ChecksTo, EngineAnswers, OfBytes, OfScript, IsRefusedScript, IsRefusedCertificate, RanksTo, found_outcome}
+use Rattle.sedck_cli.specs.Faults.{run_fault, script_fault}
+use Rattle.sedck_cli.specs.Reports.{IsCheckReport, IsBoundLine, IsRankReport, bound_line}
 use Rattle.sedck_search.specs.declared.answer.Found.{Found}
 
 -- an error that is this one
@@ -29,14 +33,7 @@ pub err_is : {T E : Type 0} (r : Result T E) (e : E) → IsErrAnd r (λ x. x ≡
 err_is (Ok x) e is = absurd is
 err_is (Err x) e is = ap Err is
 
--- want of memory aside, a fault of `verify` tells truly of the texts
-pub refusal : (text bytes : List ℕ) (why : Fault) → ((¬ IsWantOfMemory (Err why)) → IsAnswered text bytes (Err why)) → IsRefusal text bytes (run_fault why)
-refusal text bytes (below.Script script.OutOfMemory) answer = tt
-refusal text bytes (below.Certificate cert.OutOfMemory) answer = tt
-refusal text bytes (below.Script why) answer = (λ is. cc, (answer (λ want. want)).script_fault.0 tt)
-refusal text bytes (below.Certificate why) answer =
-    let both = (answer (λ want. want)).certificate_fault.0 tt in
-    (λ is. cc, both.0, both.1)
+-- ---- What was read
 
 -- the text is what was read of these bytes, where they are known
 pub record IsRead (limit : ℕ) (known : Option (List ℕ)) (text : List ℕ) : Type 0 where
@@ -48,130 +45,158 @@ pub is_read : (limit : ℕ) (known : Option (List ℕ)) (text items : List ℕ) 
     → length items ≤ limit → IsRead limit known text
 is_read limit known text items same front within = subst (IsRead limit known) (sym same) (record { front = front; within = within })
 
-spells_none : (known : Option (List ℕ)) (text : List ℕ) → IfSome known (λ t. text ≡ script_read t) → ((p : Program) → ¬ Spells text p) → SpellsNone known
-spells_none None text is none = tt
-spells_none (Some t) text is none = λ p spelled. none p (subst (λ l. Spells l p) (sym is) spelled)
+-- what holds of all bytes of which the text was read
+pub of_bytes : (limit : ℕ) (known : Option (List ℕ)) (text : List ℕ) (Holds : List ℕ → Type 0) → IsRead limit known text
+    → ((whole : List ℕ) → text ≡ take limit whole → Holds whole) → OfBytes known Holds
+of_bytes limit None text Holds is holds = (text, holds text (sym (take_all limit text is.within)))
+of_bytes limit (Some whole) text Holds is holds = holds whole is.front
 
--- nothing was written
-pub refused_report : (known : Option (List ℕ)) (script_failed out_failed : Bool) (out : Option (List ℕ)) (IsReport : Outcome → List ℕ → Type 0)
-    (text bytes : List ℕ) (why : RunFault) → IsRead 1048577 known text → IsRefusal text bytes why
-    → EngineAnswers (record { script = known; script_failed = script_failed; out_before = out; out_after = out; out_failed = out_failed }) IsReport (Err why)
-refused_report known script_failed out_failed out IsReport text bytes (fault.Script why) is refused =
-    (Keeps-refl out, refused.0, spells_none known text is.front refused.1)
-refused_report known script_failed out_failed out IsReport text bytes (fault.Certificate why) is refused = (Keeps-refl out, refused.0)
-refused_report known script_failed out_failed out IsReport text bytes (fault.Read input) is refused = absurd refused
-refused_report known script_failed out_failed out IsReport text bytes fault.Write is refused = absurd refused
-refused_report known script_failed out_failed out IsReport text bytes fault.OutOfMemory is refused = Keeps-refl out
+-- a front that isn't longer than a script may be is the whole
+whole_script : (whole text : List ℕ) → text ≡ take 1048577 whole → length text ≤ 1048576 → text ≡ whole
+whole_script whole text is fits = is ∙ take_all 1048577 whole (omega (arith, length-take 1048577 whole, ap length is))
 
-some_script : (known : Option (List ℕ)) (text : List ℕ) → IfSome known (λ t. text ≡ script_read t) → ((p : Program) × Spells text p)
-    → IfSome known (λ t. (p : Program) × Spells (script_read t) p)
-some_script None text is some = tt
-some_script (Some t) text is some = (some.0, subst (λ l. Spells l some.0) is some.1)
+-- and one that is longer is the front of longer bytes
+long_script : (whole text : List ℕ) → text ≡ take 1048577 whole → 1048576 < length text → 1048576 < length whole
+long_script whole text is long = omega (arith, length-take 1048577 whole, ap length is)
 
-no_certificate : (known : Option (List ℕ)) (bytes : List ℕ) → IfSome known (λ b. bytes ≡ certificate_read b) → ((c : Certificate) → ¬ IsTextOf bytes c)
-    → IfSome known (λ b. (c : Certificate) → ¬ IsTextOf (certificate_read b) c)
-no_certificate None bytes is none = tt
-no_certificate (Some b) bytes is none = λ c written. none c (subst (λ l. IsTextOf l c) (sym is) written)
+pub spells_whole : (whole text : List ℕ) (p : Program) → text ≡ take 1048577 whole → SpellsOnly text p → SpellsOnly whole p
+spells_whole whole text p is spelled = subst (λ l. SpellsOnly l p) (whole_script whole text is spelled.spells.allowed.fits) spelled
 
--- when the certificate is refused
-pub refused_certificate : (script cert : Option (List ℕ)) (failed : Bool) (text bytes : List ℕ) (why : RunFault)
-    → IsRead 1048577 script text → IsRead 1310721 cert bytes → IsRefusal text bytes why → CertificateAnswers script cert failed (Err why)
-refused_certificate script cert failed text bytes (fault.Script why) is_script is_cert refused = tt
-refused_certificate script cert failed text bytes (fault.Certificate why) is_script is_cert refused =
-    (some_script script text is_script.front refused.1, no_certificate cert bytes is_cert.front refused.2)
-refused_certificate script cert failed text bytes (fault.Read input) is_script is_cert refused = absurd refused
-refused_certificate script cert failed text bytes fault.Write is_script is_cert refused = tt
-refused_certificate script cert failed text bytes fault.OutOfMemory is_script is_cert refused = tt
-
--- the script and the certificate for which the verdict holds
-verdict_stand : (text bytes : List ℕ) (verdict : Verdict) → ((¬ IsWantOfMemory (Ok verdict)) → IsAnswered text bytes (Ok verdict))
-    → SaysWhy text bytes (Ok verdict)
-    → Stand text bytes (λ p c. IsVerdict p c verdict)
-verdict_stand text bytes Accepted answer says = (answer (λ want. want)).accepted.0 refl
-verdict_stand text bytes (Rejected why) answer says = says
-
--- the report of the texts that were read
-pub judged : (text bytes : List ℕ) (verdict : Verdict) (report : List ℕ) → ((¬ IsWantOfMemory (Ok verdict)) → IsAnswered text bytes (Ok verdict))
-    → SaysWhy text bytes (Ok verdict)
-    → ((p : Program) (c : Certificate) → Spells text p → IsTextOf bytes c → IsCheckReport p c verdict report)
-    → Stand text bytes (λ p c. IsVerdict p c verdict × IsCheckReport p c verdict report)
-judged text bytes verdict report answer says reported =
-    let s = verdict_stand text bytes verdict answer says in
+-- the text of a script, or one that is too long
+refused_whole : (whole text : List ℕ) (why : ScriptFault) → text ≡ take 1048577 whole → IsRefusedScript text why
+    → (1048576 < length text) ⊎ (length text ≤ 1048576) → IsRefusedScript whole why
+refused_whole whole text why is refused (inr fits) = subst (λ l. IsRefusedScript l why) (whole_script whole text is fits) refused
+refused_whole whole text why is refused (inl long) =
+    let longer = long_script whole text is long in
+    let too_long = refused.is_fault.too_long long in
     record {
-      program = s.program;
-      spelled = s.spelled;
-      cert = s.cert;
-      written = s.written;
-      holds = (s.holds, reported s.program s.cert s.spelled.spells s.written.is_text);
+      is_of_text = refused.is_of_text;
+      none = λ p spelled. absurd (omega (arith, longer, spelled.allowed.fits));
+      is_fault = record {
+        placed = subst (IsPlaced whole) (sym too_long) (refl, longer);
+        too_long = λ _. too_long;
+        zero = λ place fits first. absurd (omega (arith, longer, fits));
+      };
     }
 
-of_texts : (t b text bytes : List ℕ) (verdict : Verdict) (report : List ℕ) → text ≡ script_read t → bytes ≡ certificate_read b
-    → Stand text bytes (λ p c. IsVerdict p c verdict × IsCheckReport p c verdict report) → ChecksTo t b (verdict_outcome verdict) report
-of_texts t b text bytes verdict report is_script is_cert s =
-    let at : List ℕ → List ℕ → Type 0 = λ x y. Stand x y (λ p c. IsVerdict p c verdict × IsCheckReport p c verdict report) in
-    (verdict, refl, subst (λ y. at (script_read t) y) is_cert (subst (λ x. at x bytes) is_script s))
+pub script_refused : (whole text : List ℕ) (why : ScriptFault) → text ≡ take 1048577 whole → IsRefusedScript text why → IsRefusedScript whole why
+script_refused whole text why is refused = refused_whole whole text why is refused (cases_lt 1048576 (length text))
 
--- the same, of the sources' bytes, where they are known
-pub checks_to : (script cert : Option (List ℕ)) (text bytes : List ℕ) (verdict : Verdict) (report : List ℕ)
-    → IsRead 1048577 script text → IsRead 1310721 cert bytes
-    → Stand text bytes (λ p c. IsVerdict p c verdict × IsCheckReport p c verdict report)
-    → OfKnown script (λ t. OfKnown cert (ChecksTo t)) (verdict_outcome verdict) report
-checks_to None None text bytes verdict report is_script is_cert s = (
-  text,
-  (
-    bytes,
-    of_texts text bytes text bytes verdict report (sym (take_all 1048577 text is_script.within))
-        (sym (take_all 1310721 bytes is_cert.within)) s,
-  ),
+text_of_whole : (whole bytes : List ℕ) (c : Certificate) → bytes ≡ take 1310721 whole → IsTextOfOnly bytes c → IsTextOfOnly whole c
+text_of_whole whole bytes c is written =
+    let same = is ∙ front_is_whole whole c (subst (λ l. IsTextOf l c) is written.is_text) in subst (λ l. IsTextOfOnly l c) same written
+
+no_text_of_whole : (whole bytes : List ℕ) → bytes ≡ take 1310721 whole → ((c : Certificate) → ¬ IsTextOf bytes c) → (c : Certificate) → ¬ IsTextOf whole c
+no_text_of_whole whole bytes is none c written =
+    let short = text_length c written.within in
+    let same = is ∙ take_all 1310721 whole (omega (arith, ap length written.is_text, short)) in
+    none c (subst (λ l. IsTextOf l c) (sym same) written)
+
+pub certificate_refused : (whole_text whole_bytes text bytes : List ℕ) (why : CertFault) → text ≡ take 1048577 whole_text → bytes ≡ take 1310721 whole_bytes
+    → why ≢ cert.OutOfMemory → ((p : Program) × Spells text p) → ((c : Certificate) → ¬ IsTextOf bytes c) → IsFaultOf bytes why
+    → IsRefusedCertificate whole_text whole_bytes why
+certificate_refused whole_text whole_bytes text bytes why is_text is_bytes of_text script none is_fault =
+    let p = script.0 in
+    record {
+      is_of_text = of_text;
+      script = (p, subst (λ l. Spells l p) (whole_script whole_text text is_text script.1.allowed.fits) script.1);
+      none = no_text_of_whole whole_bytes bytes is_bytes none;
+      is_fault = subst (λ l. IsFaultOf l why) is_bytes is_fault;
+    }
+
+-- ---- Refusals
+
+-- a script that `parse` refuses
+pub parse_refused : (source out : Option (List ℕ)) (script_failed out_failed : Bool) (IsReport : Outcome → List ℕ → Type 0)
+    (text : List ℕ) (why : ScriptFault) → IsRead 1048577 source text → (why ≢ script.OutOfMemory → (p : Program) → ¬ Spells text p) → IsScriptFaultOf text why
+    → EngineAnswers
+    (record {
+      script = record { bytes = source; failed = script_failed };
+      certificate = None;
+      out = record { before = out; after = out; failed = out_failed };
+    }) IsReport (Err (script_fault why))
+parse_refused source out script_failed out_failed IsReport text script.OutOfMemory is refused told = Keeps-refl out
+parse_refused source out script_failed out_failed IsReport text why is refused told = (
+  Keeps-refl out,
+  of_bytes 1048577 source text (λ t. IsRefusedScript t why) is
+      (λ whole front. script_refused whole text why front (record { is_of_text = λ e. cc; none = refused (λ e. cc); is_fault = told })),
 )
-checks_to None (Some b) text bytes verdict report is_script is_cert s =
-    (text, of_texts text b text bytes verdict report (sym (take_all 1048577 text is_script.within)) is_cert.front s)
-checks_to (Some t) None text bytes verdict report is_script is_cert s =
-    (bytes, of_texts t bytes text bytes verdict report is_script.front (sym (take_all 1310721 bytes is_cert.within)) s)
-checks_to (Some t) (Some b) text bytes verdict report is_script is_cert s = of_texts t b text bytes verdict report is_script.front is_cert.front s
 
--- ---- An engine that reads a script alone
+-- a script or a certificate that `judge` refuses
+pub judge_refused : (source written out : Option (List ℕ)) (script_failed cert_failed out_failed : Bool) (IsReport : Outcome → List ℕ → Type 0)
+    (text bytes : List ℕ) (why : Fault) → IsRead 1048577 source text → IsRead 1310721 written bytes
+    → ((¬ IsWantOfMemory (Err why)) → IsAnswered text bytes (Err why)) → TellsFault text bytes (Err why)
+    → EngineAnswers
+    (record {
+      script = record { bytes = source; failed = script_failed };
+      certificate = Some (record { bytes = written; failed = cert_failed });
+      out = record { before = out; after = out; failed = out_failed };
+    }) IsReport (Err (run_fault why))
+judge_refused source written out script_failed cert_failed out_failed IsReport text bytes (below.Script script.OutOfMemory) is_text is_bytes answer told =
+    Keeps-refl out
+judge_refused source written out script_failed cert_failed out_failed IsReport text bytes (below.Certificate cert.OutOfMemory) is_text is_bytes answer told =
+    Keeps-refl out
+judge_refused source written out script_failed cert_failed out_failed IsReport text bytes (below.Script why) is_text is_bytes answer told = (
+  Keeps-refl out,
+  of_bytes 1048577 source text (λ t. IsRefusedScript t why) is_text
+      (λ whole front. script_refused whole text why front
+      (record { is_of_text = λ e. cc; none = (answer (λ want. want)).script_fault.0 tt; is_fault = told })),
+)
+judge_refused source written out script_failed cert_failed out_failed IsReport text bytes (below.Certificate why) is_text is_bytes answer (inl memory) = cc
+judge_refused source written out script_failed cert_failed out_failed IsReport text bytes (below.Certificate why) is_text is_bytes answer (inr is_fault) =
+    let both = (answer (λ want. want)).certificate_fault.0 tt in (
+      Keeps-refl out,
+      of_bytes 1048577 source text (λ t. OfBytes written (λ b. IsRefusedCertificate t b why)) is_text
+          (λ whole front. of_bytes 1310721 written bytes (λ b. IsRefusedCertificate whole b why) is_bytes
+          (λ whole_bytes cut. certificate_refused whole whole_bytes text bytes why front cut (λ e. cc) both.0 both.1 is_fault)),
+    )
 
--- a refused script, want of memory aside, spells none
-pub script_refusal : (text bytes : List ℕ) (why : ScriptFault) → (why ≢ script.OutOfMemory → (p : Program) → Spells text p → ⊥)
-    → IsRefusal text bytes (script_fault why)
-script_refusal text bytes script.OutOfMemory refused = tt
-script_refusal text bytes why refused = (λ is. cc, refused (λ is. cc))
+-- ---- Reports
 
--- the report of the script that was read, of the source's bytes, where they are known
+-- the line of the limit
+limit_line : (p : Program) (c : Certificate) (bound : Option Bound) → IsLimit p c bound → IsBoundLine p c (bound_line bound)
+limit_line p c None never = inr (never, refl)
+limit_line p c (Some b) limit = inl (limit.0, (b, limit.1, refl))
+
+pub accepted_report : (p : Program) (c : Certificate) (bound : Option Bound) (report : List ℕ) → IsLimit p c bound
+    → report ≡ line (codes "accepted") ++ bound_line bound ++ files_text c.reads c.writes → IsCheckReport p c Accepted report
+accepted_report p c bound report limit is = (bound_line bound, limit_line p c bound limit, is)
+
+-- the report of what was judged, of the sources' bytes, where they are known
+pub checks_to : (script cert : Option (List ℕ)) (text bytes : List ℕ) (judged : Judged) (report : List ℕ) → IsRead 1048577 script text
+    → IsRead 1310721 cert bytes → IsJudged text bytes judged → IsCheckReport judged.script judged.cert judged.verdict report
+    → OfBytes script (λ t. OfBytes cert (λ b. ChecksTo t b (verdict_outcome judged.verdict) report))
+checks_to script cert text bytes judged report is_text is_bytes is reported =
+    of_bytes 1048577 script text (λ t. OfBytes cert (λ b. ChecksTo t b (verdict_outcome judged.verdict) report)) is_text
+    (λ whole front. of_bytes 1310721 cert bytes (λ b. ChecksTo whole b (verdict_outcome judged.verdict) report) is_bytes
+    (λ whole_bytes cut. (
+      judged.verdict,
+      refl,
+      record {
+        program = judged.script;
+        spelled = spells_whole whole text judged.script front is.spelled;
+        cert = judged.cert;
+        written = text_of_whole whole_bytes bytes judged.cert cut is.written;
+        holds = (is.is_verdict, reported);
+      },
+    )))
+
+-- what is reported of the script that was read
+of_script : (whole text : List ℕ) (p : Program) (Holds : Program → Type 0) → text ≡ take 1048577 whole → Spells text p
+    → ((q : Program) → Spells text q → q ≡ p) → Holds p → OfScript whole Holds
+of_script whole text p Holds front spelled only holds =
+    record { program = p; spelled = spells_whole whole text p front (record { spells = spelled; only = only }); holds = holds }
+
 pub lists_to : (IsReport : Program → List ℕ → Type 0) (known : Option (List ℕ)) (text : List ℕ) (p : Program) (report : List ℕ)
     → IsRead 1048577 known text → Spells text p → ((q : Program) → Spells text q → q ≡ p) → IsReport p report
-    → OfKnown known (λ t outcome r. (outcome ≡ Yes) × OfScript t (λ q. IsReport q r)) Yes report
-lists_to IsReport None text p report is spelled only holds = (
-  text,
-  (
-    refl,
-    record {
-      program = p;
-      spelled = subst (λ l. SpellsOnly l p) (sym (take_all 1048577 text is.within)) (record { spells = spelled; only = only });
-      holds = holds;
-    },
-  ),
-)
-lists_to IsReport (Some t) text p report is spelled only holds =
-    (refl, record { program = p; spelled = subst (λ l. SpellsOnly l p) is.front (record { spells = spelled; only = only }); holds = holds })
+    → OfBytes known (λ t. (Yes ≡ Yes) × OfScript t (λ q. IsReport q report))
+lists_to IsReport known text p report is spelled only holds =
+    of_bytes 1048577 known text (λ t. (Yes ≡ Yes) × OfScript t (λ q. IsReport q report)) is
+    (λ whole front. (refl, of_script whole text p (λ q. IsReport q report) front spelled only holds))
 
 -- the report of what the search found
-pub ranks_to : (known : Option (List ℕ)) (text : List ℕ) (p : Program) (found : Found) (report : List ℕ)
-    → IsRead 1048577 known text → Spells text p → ((q : Program) → Spells text q → q ≡ p) → IsRankReport p found report
-    → OfKnown known RanksTo (found_outcome found) report
-ranks_to None text p found report is spelled only holds = (
-  text,
-  (
-    found,
-    refl,
-    record {
-      program = p;
-      spelled =
-          subst (λ l. SpellsOnly l p) (sym (take_all 1048577 text is.within)) (record { spells = spelled; only = only });
-      holds = holds;
-    },
-  ),
-)
-ranks_to (Some t) text p found report is spelled only holds =
-    (found, refl, record { program = p; spelled = subst (λ l. SpellsOnly l p) is.front (record { spells = spelled; only = only }); holds = holds })
+pub ranks_to : (known : Option (List ℕ)) (text : List ℕ) (p : Program) (found : Found) (report : List ℕ) → IsRead 1048577 known text → Spells text p
+    → ((q : Program) → Spells text q → q ≡ p) → IsRankReport p found report → OfBytes known (λ t. RanksTo t (found_outcome found) report)
+ranks_to known text p found report is spelled only holds =
+    of_bytes 1048577 known text (λ t. RanksTo t (found_outcome found) report) is
+    (λ whole front. (found, refl, of_script whole text p (λ q. IsRankReport q found report) front spelled only holds))

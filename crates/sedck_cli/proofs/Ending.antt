@@ -1,54 +1,61 @@
 -- From what an engine answers to the program's status and output.
-use Rattle.std.proofs.Common.{◌⊎◌, ◌<◌, ℕ, Bool, List, Option, Some, None, Err, inl, inr, lit<}
+use Rattle.std.proofs.Common.{◌≡◌, ◌⊎◌, ◌<◌, ℕ, Bool, List, Option, Some, None, Err, refl, inl, inr, lit<, subst}
 use Rattle.std.specs.Io.KnownBytes.{Keeps, Appends}
 use Rattle.sedck_cli.specs.declared.answer.Outcome.{Outcome}
-use Rattle.sedck_cli.specs.declared.answer.Input.TheVariants.{Script, Certificate}
+use Rattle.sedck_cli.specs.declared.answer.Outcome.TheVariants.{No}
+use Rattle.sedck_cli.specs.declared.answer.Input.TheVariants as input
 use Rattle.sedck_cli.specs.declared.answer.RunFault.{RunFault}
 use Rattle.sedck_cli.specs.declared.answer.RunFault.TheVariants as fault
 use Rattle.sedck_cli.specs.declared.command_line.Refusal.{Refusal}
 use Rattle.sedck_cli.specs.declared.command_line.Refusal.TheVariants.{Usage, Run}
-use Rattle.sedck_cli.specs.Engines.{ChecksTo, ListsFilesTo, ListsGraphTo, RanksTo, EngineAnswers, OfKnown}
-use Rattle.sedck_cli.specs.Statuses.{status_of, IsSomeReport, Reports, BreaksOff, Leaves}
+use Rattle.sedck_cli.specs.Engines.{ChecksTo, ListsFilesTo, ListsGraphTo, RanksTo, EngineAnswers, Reading, OfBytes}
+use Rattle.sedck_cli.specs.Statuses.{status_of, Asked, Check, Files, Graph, Rank, Nothing, IsReportFor, Reports, BreaksOff, Leaves, IsFor}
+
+-- ---- Reports of what was asked for
+
+-- what holds of known bytes holds of some
+some_bytes : (known : Option (List ℕ)) (Holds : List ℕ → Type 0) → OfBytes known Holds → (text : List ℕ) × Holds text
+some_bytes None Holds is = is
+some_bytes (Some text) Holds is = (text, is)
 
 -- what an engine calls its report is one
-abbrev pub AreReports : (Outcome → List ℕ → Type 0) → Type 0
-AreReports IsReport = (outcome : Outcome) (report : List ℕ) → IsReport outcome report → IsSomeReport outcome report
+abbrev pub AreReports : Asked → (Outcome → List ℕ → Type 0) → Type 0
+AreReports asked IsReport = (outcome : Outcome) (report : List ℕ) → IsReport outcome report → IsReportFor asked outcome report
 
-pub of_check : (script cert : Option (List ℕ)) → AreReports (OfKnown script (λ text. OfKnown cert (ChecksTo text)))
-of_check None None outcome report is = inl (is.0, is.1.0, is.1.1)
-of_check None (Some b) outcome report is = inl (is.0, b, is.1)
-of_check (Some t) None outcome report is = inl (t, is.0, is.1)
-of_check (Some t) (Some b) outcome report is = inl (t, b, is)
+pub of_check : (script cert : Option (List ℕ))
+    → AreReports Check (λ outcome report. OfBytes script (λ text. OfBytes cert (λ bytes. ChecksTo text bytes outcome report)))
+of_check script cert outcome report is =
+    let one = some_bytes script (λ text. OfBytes cert (λ bytes. ChecksTo text bytes outcome report)) is in
+    let both = some_bytes cert (λ bytes. ChecksTo one.0 bytes outcome report) one.1 in (one.0, both.0, both.1)
 
-pub of_files : (script : Option (List ℕ)) → AreReports (OfKnown script ListsFilesTo)
-of_files None outcome report is = inr (inl is)
-of_files (Some t) outcome report is = inr (inl (t, is))
+pub of_files : (script : Option (List ℕ)) → AreReports Files (λ outcome report. OfBytes script (λ text. ListsFilesTo text outcome report))
+of_files script outcome report is = some_bytes script (λ text. ListsFilesTo text outcome report) is
 
-pub of_graph : (script : Option (List ℕ)) → AreReports (OfKnown script ListsGraphTo)
-of_graph None outcome report is = inr (inr (inl is))
-of_graph (Some t) outcome report is = inr (inr (inl (t, is)))
+pub of_graph : (script : Option (List ℕ)) → AreReports Graph (λ outcome report. OfBytes script (λ text. ListsGraphTo text outcome report))
+of_graph script outcome report is = some_bytes script (λ text. ListsGraphTo text outcome report) is
 
-pub of_rank : (script : Option (List ℕ)) → AreReports (OfKnown script RanksTo)
-of_rank None outcome report is = inr (inr (inr is))
-of_rank (Some t) outcome report is = inr (inr (inr (t, is)))
+pub of_rank : (script : Option (List ℕ)) → AreReports Rank (λ outcome report. OfBytes script (λ text. RanksTo text outcome report))
+of_rank script outcome report is = some_bytes script (λ text. RanksTo text outcome report) is
 
 -- an engine's answer
-pub answered : (IsReport : Outcome → List ℕ → Type 0) (before after : Option (List ℕ)) (outcome : Outcome) → AreReports IsReport
-    → ((report : List ℕ) × IsReport outcome report × Appends before after report) → Reports before after outcome
-answered IsReport before after outcome are is = (is.0, are outcome is.0 is.1, is.2)
+pub answered : (asked : Asked) (IsReport : Outcome → List ℕ → Type 0) (before after : Option (List ℕ)) (outcome : Outcome) → AreReports asked IsReport
+    → ((report : List ℕ) × IsReport outcome report × Appends before after report) → Reports asked before after outcome
+answered asked IsReport before after outcome are is = (is.0, are outcome is.0 is.1, is.2)
 
 -- an engine's fault
-pub stopped : (IsReport : Outcome → List ℕ → Type 0) (script before after : Option (List ℕ)) (script_failed out_failed : Bool) (why : RunFault)
-    → AreReports IsReport
-    → EngineAnswers
-    (record { script = script; script_failed = script_failed; out_before = before; out_after = after; out_failed = out_failed }) IsReport (Err why)
-    → Leaves before after (Err (Run why))
-stopped IsReport script before after script_failed out_failed (fault.Script why) are is = is.0
-stopped IsReport script before after script_failed out_failed (fault.Certificate why) are is = is.0
-stopped IsReport script before after script_failed out_failed (fault.Read Script) are is = is.0
-stopped IsReport script before after script_failed out_failed (fault.Read Certificate) are is = is
-stopped IsReport script before after script_failed out_failed fault.Write are is = (is.1.0, is.1.1, are is.1.0 is.1.1 is.1.3, (is.1.2, is.1.4, is.1.5))
-stopped IsReport script before after script_failed out_failed fault.OutOfMemory are is = is
+pub stopped : (asked : Asked) (IsReport : Outcome → List ℕ → Type 0) (script : Reading) (certificate : Option Reading) (before after : Option (List ℕ))
+    (failed : Bool) (why : RunFault) → ((refusal : Refusal) → IsFor asked refusal) → AreReports asked IsReport
+    → EngineAnswers (record { script = script; certificate = certificate; out = record { before = before; after = after; failed = failed } }) IsReport (Err why)
+    → Leaves asked before after (Err (Run why))
+stopped asked IsReport script certificate before after failed (fault.Script why) any are is = (is.0, any (Run (fault.Script why)))
+stopped asked IsReport script certificate before after failed (fault.Certificate why) any are is = (is.0, any (Run (fault.Certificate why)))
+stopped asked IsReport script certificate before after failed (fault.Read input.Script) any are is = (is.0, any (Run (fault.Read input.Script)))
+stopped asked IsReport script certificate before after failed (fault.Read input.Certificate) any are is =
+    (is.0, any (Run (fault.Read input.Certificate)))
+stopped asked IsReport script certificate before after failed fault.Write any are is = (is.1.0, is.1.1, are is.1.0 is.1.1 is.1.2, is.1.3)
+stopped asked IsReport script certificate before after failed fault.OutOfMemory any are is = (is, any (Run fault.OutOfMemory))
+
+-- ---- Statuses
 
 -- no refusal has the status of an answer
 pub refusal_status : (refusal : Refusal) → 1 < status_of refusal
@@ -60,10 +67,36 @@ refusal_status (Run fault.Write) = lit< tt
 refusal_status (Run fault.OutOfMemory) = lit< tt
 
 -- a refusal leaves nothing, or the front of a report
-pub broken_off : (before after : Option (List ℕ)) (refusal : Refusal) → Leaves before after (Err refusal) → Keeps before after ⊎ BreaksOff before after
-broken_off before after (Run (fault.Script why)) left = inl left
-broken_off before after (Run (fault.Certificate why)) left = inl left
-broken_off before after Usage left = inl left
-broken_off before after (Run (fault.Read input)) left = inl left
-broken_off before after (Run fault.Write) left = inr left
-broken_off before after (Run fault.OutOfMemory) left = inl left
+pub broken_off : (asked : Asked) (before after : Option (List ℕ)) (refusal : Refusal) → Leaves asked before after (Err refusal)
+    → Keeps before after ⊎ BreaksOff asked before after
+broken_off asked before after (Run (fault.Script why)) left = inl left.0
+broken_off asked before after (Run (fault.Certificate why)) left = inl left.0
+broken_off asked before after Usage left = inl left.0
+broken_off asked before after (Run (fault.Read input)) left = inl left.0
+broken_off asked before after (Run fault.Write) left = inr left
+broken_off asked before after (Run fault.OutOfMemory) left = inl left.0
+
+-- only a check and a search may answer no
+pub never_no : (asked : Asked) (before after : Option (List ℕ)) → Reports asked before after No → (asked ≡ Check) ⊎ (asked ≡ Rank)
+never_no Check before after reports = inl refl
+never_no Files before after reports = let yes = reports.1.1.0 in cc
+never_no Graph before after reports = let yes = reports.1.1.0 in cc
+never_no Rank before after reports = inr refl
+never_no Nothing before after reports = absurd reports.1
+
+-- where nothing is asked for, there is no report
+pub no_report : (asked : Asked) (before after : Option (List ℕ)) (outcome : Outcome) → asked ≡ Nothing → Reports asked before after outcome → ⊥
+no_report asked before after outcome is reports = subst (λ a. IsReportFor a outcome reports.0) is reports.1
+
+-- and a refusal has its status
+refused_words : (before after : Option (List ℕ)) (refusal : Refusal) → Leaves Nothing before after (Err refusal) → (status_of refusal ≡ 3) ⊎ (status_of refusal ≡ 4)
+refused_words before after (Run (fault.Script why)) left = absurd left.1
+refused_words before after (Run (fault.Certificate why)) left = absurd left.1
+refused_words before after Usage left = inl refl
+refused_words before after (Run (fault.Read input)) left = absurd left.1
+refused_words before after (Run fault.Write) left = inr refl
+refused_words before after (Run fault.OutOfMemory) left = inr refl
+
+pub of_words : (asked : Asked) (before after : Option (List ℕ)) (refusal : Refusal) → asked ≡ Nothing → Leaves asked before after (Err refusal)
+    → (status_of refusal ≡ 3) ⊎ (status_of refusal ≡ 4)
+of_words asked before after refusal is left = refused_words before after refusal (subst (λ a. Leaves a before after (Err refusal)) is left)

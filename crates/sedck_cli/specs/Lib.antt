@@ -6,9 +6,9 @@ pub use Rattle.sedck_cert.specs.Certificate
 pub use Rattle.sedck_cert.specs.Headline
 pub use Rattle.sedck_search.specs.Found
 pub mod Reports
-pub mod Bounds
 pub mod Graph
 pub mod Rank
 pub mod Engines
 pub mod Faults
 pub mod Statuses
+pub mod Requests

@@ -1,5 +1,5 @@
 -- The reports, as bytes.
-use Rattle.std.specs.Prelude.{◌≡◌, ◌⊎◌, ℕ, List, [], ◌∷◌, ◌++◌, length, decimal, codes}
+use Rattle.std.specs.Prelude.{◌≡◌, ◌⊎◌, ℕ, Option, Some, None, List, [], ◌∷◌, ◌++◌, length, decimal, codes}
 use Rattle.sedck_script.specs.Program.{Program}
 use Rattle.sedck_flow.specs.Run.{NamesForReading, NamesForWriting}
 use Rattle.sedck_flow.specs.Flow.{Flow, ListsEdges}
@@ -15,9 +15,8 @@ use Rattle.sedck_search.specs.declared.answer.Found.TheVariants.{Ranks, Loop}
 use Rattle.sedck_flow.specs.declared.graph.Edge.{Edge}
 use Rattle.sedck_cert.specs.Certificate.{Certificate}
 use Rattle.sedck_cert.specs.Text.{line, files_text, certificate_text}
-use Rattle.sedck_cert.specs.Ranked.{Accepts, IsSteady, ListsNames}
+use Rattle.sedck_cert.specs.Ranked.{IsSteady, ListsNames}
 use Rattle.sedck_cert.specs.Bounds.{IsBoundOf}
-use Rattle.sedck_cert.specs.Rejections.{IsRejection}
 use Rattle.sedck_cert.specs.declared.checking.Rejection.{Rejection}
 use Rattle.sedck_cert.specs.declared.checking.Rejection.TheVariants.{WrongCount, StartUnranked, LeavesRanked, NotLowered, ReadsDiffer, WritesDiffer}
 use Rattle.sedck_cert.specs.declared.limits.Bound.{Bound}
@@ -36,12 +35,13 @@ rejection_words (NotLowered e) = codes "rejected 4 not-lowered " ++ edge_words e
 rejection_words ReadsDiffer = codes "rejected 5 reads-differ"
 rejection_words WritesDiffer = codes "rejected 6 writes-differ"
 
-abbrev pub IsVerdict : Program → Certificate → Verdict → Type 0
-IsVerdict p c Accepted = Accepts p c
-IsVerdict p c (Rejected why) = IsRejection p c why
-
 abbrev pub bound_words : Bound → List ℕ
 bound_words b = codes "bound " ++ decimal b.per_byte ++ codes " " ++ decimal b.per_line ++ codes " " ++ decimal b.fixed
+
+-- the line of a bound, if there is one
+abbrev pub bound_line : Option Bound → List ℕ
+bound_line None = []
+bound_line (Some b) = line (bound_words b)
 
 -- the line of the bound where the certificate is steady, and nothing where it isn't
 abbrev pub IsBoundLine : Program → Certificate → List ℕ → Type 0

@@ -1,6 +1,7 @@
 -- The exit statuses of the program, and what stands on its output at each.
-use Rattle.std.specs.Prelude.{◌==◌, ◌⊎◌, ℕ, Bool, false, List, [], ◌∷◌, Option, Result, Ok, Err, String, string_bytes}
+use Rattle.std.specs.Prelude.{◌==◌, ℕ, Bool, false, List, [], ◌∷◌, Option, Result, Ok, Err, String, string_bytes, codes, if◌then◌else◌}
 use Rattle.std.specs.List.{list_any}
+use Rattle.std.specs.Str.{bytes_eq}
 use Rattle.std.specs.declared.alloc.Global.{Global}
 use Rattle.std.specs.Io.KnownBytes.{Keeps, Appends}
 use Rattle.sedck_cert.specs.Streams.{AppendsFront}
@@ -18,31 +19,64 @@ status_of (Run (fault.Read input)) = 4
 status_of (Run fault.Write) = 4
 status_of (Run fault.OutOfMemory) = 4
 
--- the report of some script and certificate, or of some script, with this outcome
-abbrev pub IsSomeReport : Outcome → List ℕ → Type 0
-IsSomeReport outcome report =
-    ((text bytes : List ℕ) × ChecksTo text bytes outcome report)
-    ⊎ (((text : List ℕ) × ListsFilesTo text outcome report) ⊎ (((text : List ℕ) × ListsGraphTo text outcome report) ⊎ ((text : List ℕ) × RanksTo text outcome report)))
+-- ---- What the words ask for
+
+pub data Asked : Type 0 where
+  Check : Asked
+  Files : Asked
+  Graph : Asked
+  Rank : Asked
+  Nothing : Asked
+
+-- by the name of a subcommand that takes a script alone
+abbrev pub asked_of_script : List ℕ → Asked
+asked_of_script name =
+    if bytes_eq name (codes "files") then Files else if bytes_eq name (codes "graph") then Graph else if bytes_eq name (codes "rank") then Rank else Nothing
+
+-- by the name of a subcommand that takes a script and a certificate
+abbrev pub asked_of_both : List ℕ → Asked
+asked_of_both name = if bytes_eq name (codes "check") then Check else Nothing
+
+-- by the first word and the number of words
+abbrev pub asked : List (String Global) → Asked
+asked (name ∷ script ∷ []) = asked_of_script (string_bytes name)
+asked (name ∷ script ∷ certificate ∷ []) = asked_of_both (string_bytes name)
+asked _ = Nothing
+
+-- ---- What stands on the output
+
+-- a report of what was asked for, on some script or on some script and certificate, with this outcome
+abbrev pub IsReportFor : Asked → Outcome → List ℕ → Type 0
+IsReportFor Check outcome report = (text bytes : List ℕ) × ChecksTo text bytes outcome report
+IsReportFor Files outcome report = (text : List ℕ) × ListsFilesTo text outcome report
+IsReportFor Graph outcome report = (text : List ℕ) × ListsGraphTo text outcome report
+IsReportFor Rank outcome report = (text : List ℕ) × RanksTo text outcome report
+IsReportFor Nothing outcome report = ⊥
 
 -- such a report was written
-abbrev pub Reports : Option (List ℕ) → Option (List ℕ) → Outcome → Type 0
-Reports before after outcome = (report : List ℕ) × IsSomeReport outcome report × Appends before after report
+abbrev pub Reports : Asked → Option (List ℕ) → Option (List ℕ) → Outcome → Type 0
+Reports asked before after outcome = (report : List ℕ) × IsReportFor asked outcome report × Appends before after report
 
 -- only a front of such a report was
-abbrev pub BreaksOff : Option (List ℕ) → Option (List ℕ) → Type 0
-BreaksOff before after = (outcome : Outcome) × (report : List ℕ) × IsSomeReport outcome report × AppendsFront before after report
-
--- what stands on the output after an answer
-abbrev pub Leaves : Option (List ℕ) → Option (List ℕ) → Result Outcome Refusal → Type 0
-Leaves before after (Ok outcome) = Reports before after outcome
-Leaves before after (Err (Run fault.Write)) = BreaksOff before after
-Leaves before after (Err _) = Keeps before after
+abbrev pub BreaksOff : Asked → Option (List ℕ) → Option (List ℕ) → Type 0
+BreaksOff asked before after = (outcome : Outcome) × (report : List ℕ) × IsReportFor asked outcome report × AppendsFront before after report
 
 -- the words are of no form, or memory ran out
 abbrev pub IsOfWords : Refusal → Type 0
 IsOfWords Usage = Unit {0}
 IsOfWords (Run fault.OutOfMemory) = Unit {0}
 IsOfWords (Run _) = ⊥
+
+-- where nothing is asked for, no file is read
+abbrev pub IsFor : Asked → Refusal → Type 0
+IsFor Nothing refusal = IsOfWords refusal
+IsFor _ refusal = Unit {0}
+
+-- what stands on the output after an answer
+abbrev pub Leaves : Asked → Option (List ℕ) → Option (List ℕ) → Result Outcome Refusal → Type 0
+Leaves asked before after (Ok outcome) = Reports asked before after outcome
+Leaves asked before after (Err (Run fault.Write)) = BreaksOff asked before after
+Leaves asked before after (Err refusal) = Keeps before after × IsFor asked refusal
 
 abbrev pub begins_with_hyphen : List ℕ → Bool
 begins_with_hyphen [] = false

@@ -1,8 +1,9 @@
 //! The program `sedck` for the words of its command line.
 
-ghost use Rattle.std.specs.Prelude.{◌≡◌, ◌⊎◌, ◌<◌, ◌≤◌, true, Ok, Err, IfErr};
+ghost use Rattle.std.specs.Prelude.{◌≡◌, ◌⊎◌, ◌<◌, ◌≤◌, true, Ok, Err, IfOk, IfErr};
 ghost use Rattle.std.specs.Io.KnownBytes.{Keeps, Appends};
-ghost use Rattle.sedck_cli.specs.Statuses.{status_of, Reports, BreaksOff, Leaves, IsOfWords, begins_with_hyphen, has_option};
+ghost use Rattle.sedck_cli.specs.Statuses.{status_of, asked, asked_of_script, Check, Files as TheFiles, Graph, Rank, Nothing, Reports, BreaksOff, Leaves, IsOfWords, begins_with_hyphen, has_option};
+ghost use Rattle.sedck_cli.specs.Requests.{request_asks, asked_by};
 ghost use Rattle.sedck_cli.specs.declared.command_line.Refusal.TheVariants.{Run};
 ghost use Rattle.sedck_cli.specs.declared.answer.RunFault.TheVariants as fault;
 
@@ -112,11 +113,14 @@ pub fn program<R: Files + AllocGlobal, W: Sink, E: Sink>(
 ) -> u8
     ensures within { result ≤ 4 }
     ensures option { has_option words.now ≡ true → result ≡ 3 }
-    ensures yes { result ≡ 0 → Reports (W.taken out.old) (W.taken out.new) Outcome.Yes }
-    ensures no { result ≡ 1 → Reports (W.taken out.old) (W.taken out.new) Outcome.No }
+    ensures nothing { asked words.now ≡ Nothing → (result ≡ 3) ⊎ (result ≡ 4) }
+    // The whole report of what was asked for.
+    ensures yes { result ≡ 0 → Reports (asked words.now) (W.taken out.old) (W.taken out.new) Outcome.Yes }
+    ensures no { result ≡ 1 → Reports (asked words.now) (W.taken out.old) (W.taken out.new) Outcome.No }
+    ensures never_no { result ≡ 1 → (asked words.now ≡ Check) ⊎ (asked words.now ≡ Rank) }
     // A refusal writes nothing, but where writing fails.
     ensures refused { 1 < result → result < 4 → Keeps (W.taken out.old) (W.taken out.new) }
-    ensures failed { result ≡ 4 → Keeps (W.taken out.old) (W.taken out.new) ⊎ BreaksOff (W.taken out.old) (W.taken out.new) }
+    ensures failed { result ≡ 4 → Keeps (W.taken out.old) (W.taken out.new) ⊎ BreaksOff (asked words.now) (W.taken out.old) (W.taken out.new) }
 {
     match answer(rt, words, out) {
         Ok(Outcome::Yes) => 0,
@@ -131,7 +135,7 @@ fn answer<R: Files + AllocGlobal, W: Sink>(
     words: &[String],
     out: &mut W,
 ) -> Result<Outcome, Refusal>
-    ensures leaves { Leaves (W.taken out.old) (W.taken out.new) result }
+    ensures leaves { Leaves (asked words.now) (W.taken out.old) (W.taken out.new) result }
     ensures option { has_option words.now ≡ true → result ≡ Err Refusal.Usage }
 {
     match read_words(rt.alloc(), words)? {
@@ -152,7 +156,7 @@ fn check<R: Files + AllocGlobal, W: Sink>(
     certificate: &str,
     out: &mut W,
 ) -> Result<Outcome, Refusal>
-    ensures { Leaves (W.taken out.old) (W.taken out.new) result }
+    ensures { Leaves Check (W.taken out.old) (W.taken out.new) result }
 {
     let mut script = open(rt, script, Input::Script)?;
     let mut certificate = open(rt, certificate, Input::Certificate)?;
@@ -167,7 +171,7 @@ fn files<R: Files + AllocGlobal, W: Sink>(
     script: &str,
     out: &mut W,
 ) -> Result<Outcome, Refusal>
-    ensures { Leaves (W.taken out.old) (W.taken out.new) result }
+    ensures { Leaves TheFiles (W.taken out.old) (W.taken out.new) result }
 {
     let mut script = open(rt, script, Input::Script)?;
     match run_files(rt.alloc(), &mut script, out) {
@@ -181,7 +185,7 @@ fn graph<R: Files + AllocGlobal, W: Sink>(
     script: &str,
     out: &mut W,
 ) -> Result<Outcome, Refusal>
-    ensures { Leaves (W.taken out.old) (W.taken out.new) result }
+    ensures { Leaves Graph (W.taken out.old) (W.taken out.new) result }
 {
     let mut script = open(rt, script, Input::Script)?;
     match run_graph(rt.alloc(), &mut script, out) {
@@ -195,7 +199,7 @@ fn rank<R: Files + AllocGlobal, W: Sink>(
     script: &str,
     out: &mut W,
 ) -> Result<Outcome, Refusal>
-    ensures { Leaves (W.taken out.old) (W.taken out.new) result }
+    ensures { Leaves Rank (W.taken out.old) (W.taken out.new) result }
 {
     let mut script = open(rt, script, Input::Script)?;
     match run_rank(rt.alloc(), &mut script, out) {
@@ -213,32 +217,46 @@ fn open<R: Files>(rt: &R, path: &str, input: Input) -> Result<FromRead<R::File>,
     }
 }
 
-/// Reads the words. There are no options, so any word that begins with a hyphen is refused.
+/// Reads the words. `clap` says whether they have a form; what they then ask for is read from the words themselves, so
+/// that no theorem rests on `clap`. There are no options: any word that begins with a hyphen is refused.
 fn read_words<'a>(alloc: Global, words: &'a [String]) -> Result<Request<'a>, Refusal>
+    ensures asked { IfOk result (λ request. request_asks request ≡ asked words.now) }
     ensures refused { IfErr result IsOfWords }
     ensures option { has_option words.now ≡ true → result ≡ Err Refusal.Usage }
 {
     if holds_option(words) {
         return Err(Refusal::Usage);
     }
-    let matches = command(alloc)?.try_get_matches_from(words)?;
-    let Some((name, files)) = matches.subcommand() else {
-        return Err(Refusal::Usage);
-    };
-    let Some(script) = files.get_str("script") else {
-        return Err(Refusal::Usage);
-    };
+    command(alloc)?.try_get_matches_from(words)?;
+    match request_of(words) {
+        Some(request) => Ok(request),
+        None => Err(Refusal::Usage),
+    }
+}
+
+/// What the words ask for.
+fn request_of<'a>(words: &'a [String]) -> Option<Request<'a>>
+    ensures { asked_by result ≡ asked words.now }
+{
+    match words {
+        [name, script] => script_request(name, script),
+        [name, script, certificate] if name.as_str() == "check" => Some(Request::Check {
+            script,
+            certificate,
+        }),
+        _ => None,
+    }
+}
+
+/// What the name asks for, of a script alone.
+fn script_request<'a>(name: &str, script: &'a str) -> Option<Request<'a>>
+    ensures { asked_by result ≡ asked_of_script name.now }
+{
     match name {
-        "files" => Ok(Request::Files { script }),
-        "graph" => Ok(Request::Graph { script }),
-        "rank" => Ok(Request::Rank { script }),
-        _ => match files.get_str("certificate") {
-            Some(certificate) => Ok(Request::Check {
-                script,
-                certificate,
-            }),
-            None => Err(Refusal::Usage),
-        },
+        "files" => Some(Request::Files { script }),
+        "graph" => Some(Request::Graph { script }),
+        "rank" => Some(Request::Rank { script }),
+        _ => None,
     }
 }
 

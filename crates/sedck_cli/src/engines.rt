@@ -1,14 +1,14 @@
 //! The engines: each reads from sources, and writes one report to a sink.
 
-ghost use Rattle.std.specs.Prelude.{◌≡◌};
-ghost use Rattle.sedck_cli.specs.Engines.{verdict_outcome, ChecksTo, ListsFilesTo, ListsGraphTo, RanksTo, found_outcome, EngineAnswers, OfKnown, CertificateAnswers, ReadsNoCertificate};
+ghost use Rattle.std.specs.Prelude.{◌≡◌, Some, None};
+ghost use Rattle.sedck_cli.specs.Engines.{verdict_outcome, ChecksTo, ListsFilesTo, ListsGraphTo, RanksTo, found_outcome, EngineAnswers, OfBytes};
 
 use crate::answer::{Input, Outcome, RunFault};
 use crate::input::read_whole;
 use crate::rank::rank_report;
 use crate::report::{check_report, files_report, graph_report};
 use sedck_cert::streams::{Sink, Source, write_all};
-use sedck_cert::{Verdict, verify};
+use sedck_cert::{Verdict, judge};
 use sedck_script::parse;
 use sedck_search::{Found, search};
 use std::alloc::Global;
@@ -26,19 +26,22 @@ pub fn run_check<R: Source, C: Source, W: Sink>(
     cert: &mut C,
     out: &mut W,
 ) -> Result<Outcome, RunFault>
-    ensures report { EngineAnswers
-        (record { script = R.left script.old; script_failed = R.has_failed script.new; out_before = W.taken out.old; out_after = W.taken out.new; out_failed = W.has_failed out.new })
-        (OfKnown (R.left script.old) (λ text. OfKnown (C.left cert.old) (ChecksTo text))) result }
-    ensures certificate { CertificateAnswers (R.left script.old) (C.left cert.old) (C.has_failed cert.new) result }
+    ensures { EngineAnswers
+        (record {
+          script = record { bytes = R.left script.old; failed = R.has_failed script.new };
+          certificate = Some (record { bytes = C.left cert.old; failed = C.has_failed cert.new });
+          out = record { before = W.taken out.old; after = W.taken out.new; failed = W.has_failed out.new };
+        })
+        (λ outcome report. OfBytes (R.left script.old) (λ text. OfBytes (C.left cert.old) (λ bytes. ChecksTo text bytes outcome report))) result }
 {
     let text = read_whole(alloc, script, SCRIPT_READ, Input::Script)?;
     let certificate = read_whole(alloc, cert, CERTIFICATE_READ, Input::Certificate)?;
-    let verdict = verify(alloc, &text, &certificate)?;
-    let report = check_report(alloc, verdict, &text, &certificate)?;
+    let judged = judge(alloc, &text, &certificate)?;
+    let report = check_report(alloc, &judged)?;
     let Ok(()) = write_all(out, &report) else {
         return Err(RunFault::Write);
     };
-    Ok(outcome_of(verdict))
+    Ok(outcome_of(judged.verdict))
 }
 
 /// Writes the names of the files that the script reads and writes.
@@ -47,10 +50,13 @@ pub fn run_files<R: Source, W: Sink>(
     script: &mut R,
     out: &mut W,
 ) -> Result<Outcome, RunFault>
-    ensures report { EngineAnswers
-        (record { script = R.left script.old; script_failed = R.has_failed script.new; out_before = W.taken out.old; out_after = W.taken out.new; out_failed = W.has_failed out.new })
-        (OfKnown (R.left script.old) ListsFilesTo) result }
-    ensures no_certificate { ReadsNoCertificate result }
+    ensures { EngineAnswers
+        (record {
+          script = record { bytes = R.left script.old; failed = R.has_failed script.new };
+          certificate = None;
+          out = record { before = W.taken out.old; after = W.taken out.new; failed = W.has_failed out.new };
+        })
+        (λ outcome report. OfBytes (R.left script.old) (λ text. ListsFilesTo text outcome report)) result }
 {
     let text = read_whole(alloc, script, SCRIPT_READ, Input::Script)?;
     let script = parse(alloc, &text)?;
@@ -67,10 +73,13 @@ pub fn run_graph<R: Source, W: Sink>(
     script: &mut R,
     out: &mut W,
 ) -> Result<Outcome, RunFault>
-    ensures report { EngineAnswers
-        (record { script = R.left script.old; script_failed = R.has_failed script.new; out_before = W.taken out.old; out_after = W.taken out.new; out_failed = W.has_failed out.new })
-        (OfKnown (R.left script.old) ListsGraphTo) result }
-    ensures no_certificate { ReadsNoCertificate result }
+    ensures { EngineAnswers
+        (record {
+          script = record { bytes = R.left script.old; failed = R.has_failed script.new };
+          certificate = None;
+          out = record { before = W.taken out.old; after = W.taken out.new; failed = W.has_failed out.new };
+        })
+        (λ outcome report. OfBytes (R.left script.old) (λ text. ListsGraphTo text outcome report)) result }
 {
     let text = read_whole(alloc, script, SCRIPT_READ, Input::Script)?;
     let script = parse(alloc, &text)?;
@@ -87,10 +96,13 @@ pub fn run_rank<R: Source, W: Sink>(
     script: &mut R,
     out: &mut W,
 ) -> Result<Outcome, RunFault>
-    ensures report { EngineAnswers
-        (record { script = R.left script.old; script_failed = R.has_failed script.new; out_before = W.taken out.old; out_after = W.taken out.new; out_failed = W.has_failed out.new })
-        (OfKnown (R.left script.old) RanksTo) result }
-    ensures no_certificate { ReadsNoCertificate result }
+    ensures { EngineAnswers
+        (record {
+          script = record { bytes = R.left script.old; failed = R.has_failed script.new };
+          certificate = None;
+          out = record { before = W.taken out.old; after = W.taken out.new; failed = W.has_failed out.new };
+        })
+        (λ outcome report. OfBytes (R.left script.old) (λ text. RanksTo text outcome report)) result }
 {
     let text = read_whole(alloc, script, SCRIPT_READ, Input::Script)?;
     let script = parse(alloc, &text)?;

@@ -1,68 +1,45 @@
 //! The reports, as bytes.
 
-ghost use Rattle.std.specs.Prelude.{◌≡◌, ◌++◌, IfOk, IfErr, OnOk, ◌<◌, ◌≤◌, length, map, decimal, codes, string_bytes};
-ghost use Rattle.sedck_script.specs.Program.{Program};
-ghost use Rattle.sedck_script.specs.Spelling.{Spells};
-ghost use Rattle.sedck_cert.specs.Certificate.{Certificate};
-ghost use Rattle.sedck_cert.specs.Text.{IsTextOf, line, name_lines, files_text};
+ghost use Rattle.std.specs.Prelude.{◌≡◌, ◌++◌, IfOk, OnOk, ◌<◌, ◌≤◌, length, map, decimal, codes, string_bytes};
+ghost use Rattle.sedck_cert.specs.Headline.{IsLimit};
+ghost use Rattle.sedck_cert.specs.Text.{line, name_lines, files_text};
 ghost use Rattle.sedck_cli.specs.Graph.{AddsEdgesFrom};
-ghost use Rattle.sedck_cli.specs.Reports.{IsCheckReport, IsFilesReport, IsGraphReport, rejection_words};
-ghost use Rattle.sedck_cli.specs.Faults.{IsRefusal};
-ghost use Rattle.sedck_cli.specs.Bounds.{AddsBound};
+ghost use Rattle.sedck_cli.specs.Reports.{IsCheckReport, IsFilesReport, IsGraphReport, rejection_words, bound_line};
 
-use crate::answer::RunFault;
-use sedck_cert::{Bound, Cert, Fault, Rejection, Verdict, bound, read_cert};
+use sedck_cert::{Bound, Cert, Judged, Rejection, Verdict};
 use sedck_flow::{Node, edges_of, node_count};
-use sedck_script::{Script, parse};
+use sedck_script::Script;
 use std::alloc::{AllocError, Global};
 use std::convert::AsSlice;
 
-/// The report on a certificate. For an accepted one, script and certificate are read from their texts once more.
-pub(crate) fn check_report(
-    alloc: Global,
-    verdict: Verdict,
-    script: &[u8],
-    certificate: &[u8],
-) -> Result<Vec<u8>, RunFault>
-    ensures report { IfOk result (λ report. (p : Program) (c : Certificate)
-        → Spells script.now p → IsTextOf certificate.now c → IsCheckReport p c verdict report.items) }
-    ensures refused { IfErr result (IsRefusal script.now certificate.now) }
+/// The report on a certificate that was judged.
+pub(crate) fn check_report(alloc: Global, judged: &Judged) -> Result<Vec<u8>, AllocError>
+    requires { IsLimit judged.now.script judged.now.cert judged.now.bound }
+    ensures { IfOk result (λ report. IsCheckReport judged.now.script judged.now.cert judged.now.verdict report.items) }
 {
-    match verdict {
-        Verdict::Accepted => {
-            let script = parse(alloc, script)?;
-            let cert = match read_cert(alloc, certificate) {
-                Ok(cert) => cert,
-                Err(fault) => return Err(RunFault::from(Fault::Certificate(fault))),
-            };
-            Ok(accepted_report(alloc, &script, &cert)?)
-        }
-        Verdict::Rejected(why) => Ok(rejected_report(alloc, why)?),
+    match judged.verdict {
+        Verdict::Accepted => accepted_report(alloc, judged.bound, &judged.cert),
+        Verdict::Rejected(why) => rejected_report(alloc, why),
     }
 }
 
 /// That the certificate is accepted, with its bound, if it has one, and its names.
-fn accepted_report(alloc: Global, script: &Script, cert: &Cert) -> Result<Vec<u8>, AllocError>
-    ensures { IfOk result (λ report. IsCheckReport script.now cert.now Verdict.Accepted report.items) }
+fn accepted_report(alloc: Global, bound: Option<Bound>, cert: &Cert) -> Result<Vec<u8>, AllocError>
+    ensures { IfOk result (λ report. report.items ≡ line (codes "accepted") ++ bound_line bound ++ files_text cert.now.reads cert.now.writes) }
 {
     let mut report = Vec::new(alloc);
     add_line(&mut report, b"accepted")?;
-    add_bound(alloc, &mut report, script, cert)?;
+    add_bound(alloc, &mut report, bound)?;
     add_names(alloc, &mut report, "read", cert.reads())?;
     add_names(alloc, &mut report, "write", cert.writes())?;
     Ok(report)
 }
 
-/// Adds the line of the bound, where there is one.
-fn add_bound(
-    alloc: Global,
-    report: &mut Vec<u8>,
-    script: &Script,
-    cert: &Cert,
-) -> Result<(), AllocError>
-    ensures { OnOk result (AddsBound script.now cert.now report.old.items report.new.items) }
+/// Adds the line of the bound, if there is one.
+fn add_bound(alloc: Global, report: &mut Vec<u8>, bound: Option<Bound>) -> Result<(), AllocError>
+    ensures { OnOk result (report.new.items ≡ report.old.items ++ bound_line bound) }
 {
-    if let Some(bound) = bound(script, cert) {
+    if let Some(bound) = bound {
         let Bound {
             per_byte,
             per_line,

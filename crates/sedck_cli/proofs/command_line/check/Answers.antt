@@ -1,8 +1,10 @@
 use Rattle.sedck_cli.proofs.Ending.{of_check, answered, stopped}
+use Rattle.sedck_cli.specs.Statuses.{Check}
+use Rattle.std.proofs.Common.{Some}
 use Rattle.sedck_cli.proofs.command_line.check.Goals as goal
 
 pub returns-in-Ok : goal.returns-in-Ok
-returns-in-Ok g c = answered _ _ _ c.in-Ok.outcome (of_check _ _) c.in-Ok.ensures.report
+returns-in-Ok g c = answered Check _ _ _ c.in-Ok.outcome (of_check _ _) c.in-Ok.ensures
 
 pub returns : goal.returns
-returns g c = stopped _ _ _ _ _ _ c.in-Err.fault (of_check _ _) c.in-Err.ensures.report
+returns g c = stopped Check _ _ (Some _) _ _ _ c.in-Err.fault (λ _. tt {0}) (of_check _ _) c.in-Err.ensures

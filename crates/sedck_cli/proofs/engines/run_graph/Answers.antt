@@ -1,19 +1,22 @@
-use Rattle.std.proofs.Common.{[], sym, ◌∙◌}
+use Rattle.std.proofs.Common.{sym, ◌∙◌}
 use Rattle.sedck_cli.specs.declared.answer.Outcome.TheVariants.{Yes}
 use Rattle.sedck_cli.specs.Faults.{script_fault}
 use Rattle.sedck_cli.specs.Reports.{IsGraphReport}
-use Rattle.sedck_cli.proofs.Answering.{err_is, script_refusal, refused_report, lists_to, is_read}
+use Rattle.sedck_cert.proofs.Promise.{script_told}
+use Rattle.sedck_cli.proofs.Answering.{err_is, parse_refused, lists_to, is_read}
 use Rattle.sedck_cli.proofs.engines.run_graph.Goals as goal
 
-pub returns-in_err-script-clause-report : goal.returns-in_err-script-clause-report
-returns-in_err-script-clause-report g c =
+pub returns-in_err-script : goal.returns-in_err-script
+returns-in_err-script g c =
     let is = err_is c.from_residual-in_err-script.result (script_fault c.in_err-script.field-0.0) c.from_residual-in_err-script.ensures.1 in
     let text = is_read 1048577
     (g.R.Source.left c.args.script.now) c.deref.result.now _ c.deref.ensures.value c.in_ok-text.ensures.read c.in_ok-text.ensures.within in
-    rw is (refused_report _ _ _ _ _ c.deref.result.now [] _ text (script_refusal _ [] _ c.in_err-script.ensures.refused))
+    let script = c.in_err-script.ensures in
+    rw is (parse_refused _ _ _ _ _ c.deref.result.now _ text script.refused
+    (script_told c.deref.result.now _ script.placed script.too_long script.zero))
 
-pub returns-in_default-clause-report : goal.returns-in_default-clause-report
-returns-in_default-clause-report g c =
+pub returns-in_default : goal.returns-in_default
+returns-in_default g c =
     let text = is_read 1048577
     (g.R.Source.left c.args.script.now) c.deref.result.now _ c.deref.ensures.value c.in_ok-text.ensures.read c.in_ok-text.ensures.within in
     let front = c.in_default.ensures.begun in (
@@ -21,15 +24,13 @@ returns-in_default-clause-report g c =
       (
         Yes,
         c.in_ok-report.report.items,
-        front.0,
         lists_to IsGraphReport _ _ _ c.in_ok-report.report.items text c.in_ok-script.ensures.spelled c.in_ok-script.ensures.only c.in_ok-report.ensures,
-        (front.1.0, sym c.deref-2.ensures.value ∙ front.1.1),
-        front.2,
+        (front.0, (front.1.0, sym c.deref-2.ensures.value ∙ front.1.1), front.2),
       ),
     )
 
-pub returns-clause-report : goal.returns-clause-report
-returns-clause-report g c =
+pub returns : goal.returns
+returns g c =
     let text = is_read 1048577
     (g.R.Source.left c.args.script.now) c.deref.result.now _ c.deref.ensures.value c.in_ok-text.ensures.read c.in_ok-text.ensures.within in (
       c.in_ok-report.report.items,

@@ -1,8 +1,6 @@
-use Rattle.std.proofs.Common.{◌≡◌, ℕ, List, ◌++◌, refl, ap, ◌∙◌, inl, rules, append_assoc}
+use Rattle.std.proofs.Common.{◌≡◌, ℕ, List, ◌++◌, ap, ◌∙◌, append_assoc}
 use Rattle.std.specs.Prelude.{codes, decimal}
 use Rattle.sedck_cert.specs.Text.{line}
-use Rattle.sedck_cert.specs.Ranked.{IsSteady}
-use Rattle.sedck_cli.specs.Reports.{bound_words}
 use Rattle.sedck_cli.proofs.report.add_bound.Goals as goal
 
 -- the words, whichever way their parts are put together
@@ -12,10 +10,7 @@ spaced a b d = simp append_assoc
 -- the line of the bound
 pub returns-in_ok-add_line : goal.returns-in_ok-add_line
 returns-in_ok-add_line c =
-    let steady : IsSteady c.args.script.now c.args.cert.now = c.in-Some.ensures.steady.0 (search rules) in (
-      line (bound_words c.in-Some.bound),
-      inl (steady, (c.in-Some.bound, c.in-Some.ensures.numbers, refl)),
-      c.in_ok-add_line.ensures ∙ ap (λ t. c.args.report.now.items ++ line t)
-          (c.as_bytes.ensures.value ∙ c.in_ok-words.ensures.ok
-          ∙ spaced (decimal c.in-Some.bound.per_byte) (decimal c.in-Some.bound.per_line) (decimal c.in-Some.bound.fixed)),
-    )
+    rw c.in-Some.is (c.in_ok-add_line.ensures
+    ∙ ap (λ t. c.args.report.now.items ++ line t)
+    (c.as_bytes.ensures.value ∙ c.in_ok-words.ensures.ok
+    ∙ spaced (decimal c.in-Some.bound.per_byte) (decimal c.in-Some.bound.per_line) (decimal c.in-Some.bound.fixed)))
