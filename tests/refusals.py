@@ -21,6 +21,7 @@ SHORTENING = ":a;s/x//;ta"
 JOINING = ":a;$!{N;ba};s/\\n/ /g"
 HOLDING = ":a;H;s/x//;ta;x"
 WRITING = "s/a/b/w out.txt\nq\nw log\n"
+IDLE = ":a;b a"
 MOVING = ":a;s/\\(.*\\)  \\(.*\\)/\\1 \\2/;ta"
 READING = "r x"
 
@@ -112,7 +113,8 @@ EXPRESSIONS = [
     ("a**", "fault 10 double-repeat at 2"),
 ]
 
-LOOP = "loop growing\n1 0 grow\n2 1 keep\n0 0 keep\n1 0\n"
+IDLE_LOOP = "loop idle\n0 0 keep\n1 0 keep\n0 0\n"
+GROWING_LOOP = "loop growing\n1 0 grow\n2 1 keep\n0 0 keep\n1 0\n"
 
 GRAPHS = [
     (
@@ -188,8 +190,10 @@ def calls():
     yield ["judge", READING, UNNAMED_RANKS], f"reads-differ\ncommands 1\n{READ_NAMES}{UNNAMED_RANKS}", OF_TEXTS
     yield ["check", READING, UNNAMED_RANKS], "rejected 5 reads-differ\nno\n", OF_ENGINE
     yield ["files", MOVING], "read 0\nwrite 0\nyes\n", OF_ENGINE
+    yield ["search", IDLE], "idle\n0 0\n1 0\n0 0\nkeep\nkeep\n", OF_SEARCH
+    yield ["rank", IDLE], f"{IDLE_LOOP}no\n", OF_ENGINE
     yield ["search", MOVING], "growing\n1 0\n2 1\n0 0\n1 0\ngrow\nkeep\nkeep\n", OF_SEARCH
-    yield ["rank", MOVING], f"{LOOP}no\n", OF_ENGINE
+    yield ["rank", MOVING], f"{GROWING_LOOP}no\n", OF_ENGINE
 
 
 # ---- The program, by its words, the texts of its files, and the status, the report and the line on standard error expected
@@ -204,7 +208,8 @@ def programs():
         yield ["rank", "script"], files, (0, text, "")
     for script, graph in GRAPHS:
         yield ["graph", "script"], {"script": script}, (0, graph, "")
-    yield ["rank", "script"], {"script": MOVING}, (1, LOOP, "")
+    yield ["rank", "script"], {"script": IDLE}, (1, IDLE_LOOP, "")
+    yield ["rank", "script"], {"script": MOVING}, (1, GROWING_LOOP, "")
     files = {"script": READING, "certificate": UNNAMED_RANKS}
     yield ["check", "script", "certificate"], files, (1, "rejected 5 reads-differ\n", "")
     for script, fault in REFUSED_SCRIPTS:
