@@ -4,7 +4,7 @@ RT ?= rt
 PREFIX ?= /usr/local
 EXAMPLE = next-line-loop
 
-.PHONY: all build demo test examples bench install clean
+.PHONY: all build demo test examples refusals streams bench install clean
 
 all: build
 
@@ -20,17 +20,34 @@ demo: build
 	@echo "Checking examples/$(EXAMPLE).sed with its certificate:"
 	build/sedck check examples/$(EXAMPLE).sed examples/$(EXAMPLE).cert
 
-test:
+test: build/refuse.so
 	@echo "Running the gate: every proof from nothing, the must-fail edits, the tests and the program (some 100 processor minutes) ..."
 	$(RT) ci
 	@mkdir -p build
 	@cp crates/sedck/out/sedck build/sedck.new && mv build/sedck.new build/sedck
 	@echo "Checking the examples with the program that the gate built ..."
 	sh examples/check.sh
+	@echo "Refusing each request for memory in turn, and writing reports to streams that take none ..."
+	python3 tests/refusals.py crates/sedck_refusals/out/sedck_refusals build/sedck build/refuse.so
+	sh tests/streams.sh build/sedck
 
 examples: build
 	@echo "Checking the examples: answers, certificates, and what the documents show ..."
 	sh examples/check.sh
+
+# `sedck_refusals` makes one call twice; the library refuses one request for memory of the program that it is loaded into.
+refusals: build build/refuse.so
+	@echo "Refusing each request for memory in turn ..."
+	cd crates/sedck_refusals && $(RT) run -- files '#' > /dev/null
+	python3 tests/refusals.py crates/sedck_refusals/out/sedck_refusals build/sedck build/refuse.so
+
+build/refuse.so: tests/refuse.c
+	@mkdir -p build
+	$(CC) -O2 -Wall -Wextra -shared -fPIC -o build/refuse.so tests/refuse.c
+
+streams: build
+	@echo "Writing reports to streams that take none ..."
+	sh tests/streams.sh build/sedck
 
 bench: build
 	@echo "Measuring build/sedck (bench/run.py prints the table of docs/BENCH.md) ..."

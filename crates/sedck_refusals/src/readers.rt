@@ -1,0 +1,75 @@
+//! Expressions, scripts and certificates that are read.
+use sedck_cert::streams::FromWrite;
+use sedck_cert::{Cert, read_cert, write_cert};
+use sedck_script::{Pattern, Script, Substitution, Verb};
+use std::io;
+
+/// How many groups the expression has, and the least length of its texts.
+pub fn expression(rt: &(impl Print + AllocGlobal), text: &[u8]) -> io::Result<()> {
+    match sedck_bre::parse(rt.alloc(), text) {
+        Ok(expression) => {
+            let groups = expression.groups();
+            let least = expression.least();
+            println!(rt; "groups {groups} least {least}")
+        }
+        Err(fault) => println!(rt; "{fault}"),
+    }
+}
+
+/// How many commands the script has, its substitutions and its names.
+pub fn script(rt: &(impl Print + AllocGlobal), text: &[u8]) -> io::Result<()> {
+    match sedck_script::parse(rt.alloc(), text) {
+        Ok(script) => tell_script(rt, &script),
+        Err(fault) => println!(rt; "{fault}"),
+    }
+}
+
+pub fn tell_script(rt: &impl Print, script: &Script) -> io::Result<()> {
+    let count = script.commands().len();
+    println!(rt; "commands {count}")?;
+    for command in script.commands() {
+        if let Verb::Substitute(substitution) = &command.verb {
+            tell_substitution(rt, substitution)?;
+        }
+    }
+    tell_names(rt, "read", script.reads())?;
+    tell_names(rt, "write", script.writes())
+}
+
+/// How many parts the replacement has, and how many groups and which least length the expression.
+fn tell_substitution(rt: &impl Print, substitution: &Substitution) -> io::Result<()> {
+    let parts = substitution.parts.len();
+    match &substitution.pattern {
+        Pattern::Previous => println!(rt; "parts {parts}"),
+        Pattern::Expr(expression) => {
+            let groups = expression.groups();
+            let least = expression.least();
+            println!(rt; "parts {parts} groups {groups} least {least}")
+        }
+    }
+}
+
+fn tell_names(rt: &impl Print, word: &str, names: &[&[u8]]) -> io::Result<()> {
+    let count = names.len();
+    println!(rt; "{word} {count}")?;
+    for name in names {
+        rt.write_all(name)?;
+        println!(rt; "")?;
+    }
+    Ok(())
+}
+
+/// The certificate's text.
+pub fn certificate(rt: &(impl Print + AllocGlobal), text: &[u8]) -> io::Result<()> {
+    match read_cert(rt.alloc(), text) {
+        Ok(cert) => tell_certificate(rt, &cert),
+        Err(fault) => println!(rt; "{fault}"),
+    }
+}
+
+pub fn tell_certificate(rt: &impl Print, cert: &Cert) -> io::Result<()> {
+    match write_cert(cert, &mut FromWrite::new(io::writer(rt))) {
+        Ok(()) => Ok(()),
+        Err(_) => println!(rt; "cannot write"),
+    }
+}
