@@ -1,6 +1,6 @@
 //! The program `sedck` for the words of its command line.
 
-ghost use Rattle.std.specs.Prelude.{◌≡◌, ◌⊎◌, ◌<◌, ◌≤◌, true, false, Ok, Err, IfOk, IfErr};
+ghost use Rattle.std.specs.Prelude.{◌≡◌, ◌≢◌, ◌⊎◌, ◌<◌, ◌≤◌, true, false, Ok, Err, IfOk, IfErr};
 ghost use Rattle.std.specs.Io.KnownBytes.{Keeps, Appends};
 ghost use Rattle.sedck_cli.specs.Statuses.{status_of, asked, asked_of_script, Check, Files as TheFiles, Graph, Rank, Nothing, Reports, BreaksOff, Leaves, IsOfWords, begins_with_hyphen, has_option};
 ghost use Rattle.sedck_cli.specs.Lines.{refusal_line, SaysRefusal};
@@ -17,6 +17,7 @@ use sedck_cert::streams::{FromRead, Sink};
 use std::alloc::{AllocError, Global};
 use std::fs;
 use std::fs::Files;
+use std::io::Write;
 
 /// Why the program answers neither yes nor no.
 #[derive(Clone, Copy, Debug, Drop)]
@@ -113,6 +114,23 @@ pub fn program<R: Files + AllocGlobal, W: Sink, E: Sink>(
         Ok(Outcome::Yes) => 0,
         Ok(Outcome::No) => 1,
         Err(refusal) => refusal.tell(err),
+    }
+}
+
+/// The status once the report is flushed. A report that can't be flushed isn't written: then the status is 4, with the
+/// line of a failed write. A refusal's status stays.
+pub fn flushed<W: Write + Drop, E: Sink>(status: u8, mut out: W, err: &mut E) -> u8
+    ensures kept { 1 < status → result ≡ status }
+    ensures within { (result ≡ status) ⊎ (result ≡ 4) }
+    ensures told { result ≢ status → E.has_failed err.new ≡ false → SaysRefusal result (E.taken err.old) (E.taken err.new) }
+    ensures silent { result ≢ 4 → Keeps (E.taken err.old) (E.taken err.new) }
+{
+    if status > 1 {
+        return status;
+    }
+    match out.flush() {
+        Ok(()) => status,
+        Err(_) => Refusal::Run(RunFault::Write).tell(err),
     }
 }
 

@@ -10,5 +10,5 @@ mod refusal_line;
 mod report;
 
 pub use answer::{Input, Outcome, RunFault};
-pub use command_line::{Refusal, program};
+pub use command_line::{Refusal, flushed, program};
 pub use engines::{run_check, run_files, run_graph, run_rank};

@@ -1,10 +1,13 @@
 //! `program` over files.
 use super::fakes::sink_with;
 use super::{ACCEPTED, AMPLE, EMPTY_CERTIFICATE, LOOP, LOOP_CERTIFICATE, LOOP_GRAPH};
-use sedck_cli::program;
+use crate::texts::require;
+use sedck_cert::streams::FromWrite;
+use sedck_cli::{flushed, program};
+use std::io::{ErrorKind, Write};
 use std::process::Abort;
 use std::rt::{Env, Files};
-use std::{env, fs, process};
+use std::{env, fs, io, process};
 
 const USAGE: &str =
     "sedck: usage: sedck rank SCRIPT, check SCRIPT CERT, files SCRIPT, graph SCRIPT\n";
@@ -186,4 +189,42 @@ fn programs(rt: HostRuntime) {
         }
     }
     fs::remove_dir_all(&rt, &folder).expect(&rt, "the folder");
+}
+
+/// Takes every byte, and can't be flushed.
+#[derive(Drop)]
+struct Unflushed;
+
+impl Write for Unflushed {
+    fn write(&mut self, buf: &[u8]) -> io::Result<usize> {
+        Ok(buf.len())
+    }
+
+    fn flush(&mut self) -> io::Result<()> {
+        Err(io::Error::from(ErrorKind::Other))
+    }
+}
+
+/// A status, the one that it becomes where the report can't be flushed, and what stands on standard error.
+static FLUSHES: [(u8, u8, &'static str); 3] = [
+    (0, 4, "sedck: cannot write\n"),
+    (1, 4, "sedck: cannot write\n"),
+    (2, 2, ""),
+];
+
+#[test]
+fn reports_that_cannot_be_flushed(rt: HostRuntime) {
+    for (status, end, line) in &FLUSHES {
+        let mut err = FromWrite::new(Vec::new(rt.alloc()));
+        require(
+            &rt,
+            flushed(*status, Unflushed, &mut err) == *end,
+            &[*status],
+        );
+        require(
+            &rt,
+            err.into_inner().as_slice() == line.as_bytes(),
+            &[*status],
+        );
+    }
 }
