@@ -74,7 +74,7 @@ no_second_place {whole} {text} {second} h c n =
     let all : whole ≡ front ++ second = h.1 ∙ ap (λ t. h.0 ++ t) cut ∙ sym (append_assoc h.0 c.blanks (c.comma ∷ (c.front ++ second)))
     ∙ sym (append_assoc (h.0 ++ c.blanks) (c.comma ∷ c.front) second) in
     let tail : EndsIn whole second = (front, all) in
-    ((h.0 ++ c.blanks, c.front, (cut_at tail).0 ∙ ap (λ b. (h.0 ++ c.blanks) ++ b ∷ c.front) c.is_comma, c.behind.passes), ends_or_fails begins_address tail n)
+    ((h.0 ++ c.blanks, c.front, c.comma, (cut_at tail).0, rw c.is_comma refl, c.behind.passes), ends_or_fails begins_address tail n)
 
 -- ---- Expressions
 
