@@ -1,9 +1,9 @@
 -- What stands at the place of an end of the text.
-use Rattle.std.proofs.Common.{◌≡◌, ℕ, zero, suc, ◌<◌, ◌-◌, Bool, true, not, ◌||◌, List, [], ◌∷◌, ◌++◌, length, take, drop, refl, ap, sym, ◌∙◌, subst, append_assoc, length-append, arith}
-use Rattle.std.specs.Prelude.{slice_get, IsTrue}
-use Rattle.std.specs.List.{list_all}
-use Rattle.std.proofs.lemmas.Bool.{false≢true, false_from_ne_true, not_from_false, not-true, and_parts}
+use Rattle.std.proofs.Common.{◌≡◌, ℕ, ◌<◌, ◌-◌, Bool, true, not, ◌||◌, List, [], ◌∷◌, ◌++◌, length, take, drop, refl, ap, sym, ◌∙◌, subst, append_assoc, length-append, arith}
+use Rattle.std.specs.Prelude.{IsTrue}
+use Rattle.std.proofs.lemmas.Bool.{false≢true, false_from_ne_true, not_from_false, not-true}
 use Rattle.std.proofs.lemmas.Option.{slice_get_within}
+use Rattle.sedck_bre.specs.Text.{one_of}
 use Rattle.sedck_bre.specs.Tree.{Tree}
 use Rattle.sedck_bre.specs.Shape.{Shape}
 use Rattle.sedck_bre.specs.Faults.{IsOfText}
@@ -15,13 +15,13 @@ use Rattle.sedck_script.specs.Parts.{Number, DelimitedExpression, IsPattern, Add
 use Rattle.sedck_script.specs.Parts as p
 use Rattle.sedck_script.specs.Items.{WrittenVerb, Simple, VerbText}
 use Rattle.sedck_script.specs.Items as w
-use Rattle.sedck_script.specs.Faults.{BeginsCommand, IsVerbDue, StandsAt, StandsWhere, EndsOrFails, is_extra, begins_address, IsNoNumber, IsNoSecondAddress, IsRefusedExpression, FollowsLabel, IsLabelHere, IsEmptyExpression}
+use Rattle.sedck_script.specs.Faults.{BeginsCommand, IsVerbDue, StandsAt, StandsWhere, EndsOrFails, is_extra, begins_address, IsNoNumber, IsNoSecondAddress, IsRefusedExpression, FollowsLabel, IsLabelBehind, IsEmptyExpression}
 use Rattle.sedck_script.specs.Reading.{EndsIn}
 use Rattle.sedck_script.specs.PieceReading.{PatternText}
 use Rattle.sedck_script.specs.AddressReading.{is_mark, IsBehindComma, BeginsNoPlace, has_previous}
 use Rattle.sedck_script.specs.LabelReading.{IsBehindVerb, IsBehindLabel}
 use Rattle.sedck_script.specs.Progress.{written_patterns}
-use Rattle.sedck_script.proofs.Tails.{tail_tail, tail_cut, tail_behind, tail_length, stands_at_tail, take_front}
+use Rattle.sedck_script.proofs.Tails.{tail_behind, tail_length, stands_at_tail, take_front}
 use Rattle.sedck_script.proofs.PartsOne.{digit_no_end, number_first}
 use Rattle.sedck_script.proofs.Spelled.{flags_pattern}
 use Rattle.sedck_script.proofs.VerbBytes.{same_byte}
@@ -74,7 +74,7 @@ no_second_place {whole} {text} {second} h c n =
     let all : whole ≡ front ++ second = h.1 ∙ ap (λ t. h.0 ++ t) cut ∙ sym (append_assoc h.0 c.blanks (c.comma ∷ (c.front ++ second)))
     ∙ sym (append_assoc (h.0 ++ c.blanks) (c.comma ∷ c.front) second) in
     let tail : EndsIn whole second = (front, all) in
-    ((h.0 ++ c.blanks, c.front, (cut_at tail).0 ∙ ap (λ b. (h.0 ++ c.blanks) ++ b ∷ c.front) c.is_comma, c.behind.passes), ends_or_fails begins_address tail n)
+    ((h.0 ++ c.blanks, c.front, c.comma, (cut_at tail).0, rw c.is_comma refl, c.behind.passes), ends_or_fails begins_address tail n)
 
 -- ---- Expressions
 
@@ -174,7 +174,7 @@ extra_number h a = let f = number_first a in (f.0, stands_at_tail h f.2, extra_d
 
 -- ---- Labels
 
-pub behind_label : {whole text blanks begins name behind : List ℕ} → IsBehindVerb whole text → Longest is_blank text blanks begins
+pub behind_label : {whole text blanks begins name behind : List ℕ} → IsBehindVerb (one_of ":bt") whole text → Longest is_blank text blanks begins
     → Longest is_label_byte begins name behind → IsBehindLabel whole behind
 behind_label {whole} {text} {blanks} {begins} {name} {behind} v l m =
     let front = v.1.0 in
@@ -189,18 +189,11 @@ pub no_label_place : {whole behind : List ℕ} → IsBehindLabel whole behind
     → FollowsLabel whole (length whole - length behind) × EndsOrFails is_label_byte whole (length whole - length behind)
 no_label_place h = (h.follows, ends_or_fails is_label_byte h.tail h.stops)
 
-pub label_begins : {whole text blanks begins name behind : List ℕ} → EndsIn whole text → Longest is_blank text blanks begins
-    → Longest is_label_byte begins name behind → 0 < length name → IsLabelHere whole (length whole - length begins) name
-label_begins {name = name} {behind = behind} h l m some =
-    (behind, subst (λ t. Longest is_label_byte t name behind) (sym (cut_at (tail_tail h (tail_cut l))).1) m, some)
-
-get_behind : (text : List ℕ) (place : ℕ) → slice_get text place ≡ slice_get (drop place text) 0
-get_behind [] zero = refl
-get_behind [] (suc place) = refl
-get_behind (b ∷ text) zero = refl
-get_behind (b ∷ text) (suc place) = get_behind text place
-
-pub label_stands : (text : List ℕ) (place : ℕ) {name : List ℕ} → IsLabelHere text place name → StandsWhere is_label_byte text place
-label_stands text place {name = []} (rest, l, some) = absurd (omega arith)
-label_stands text place {name = b ∷ name} (rest, l, some) =
-    (b, get_behind text place ∙ ap (λ t. slice_get t 0) l.cut, (and_parts (is_label_byte b) (list_all is_label_byte name) l.passes).0)
+-- a label begins behind its verb and blanks
+pub label_begins : {whole text blanks begins name behind : List ℕ} (test : ℕ → Bool) → IsBehindVerb test whole text → Longest is_blank text blanks begins
+    → Longest is_label_byte begins name behind → 0 < length name → IsLabelBehind test whole (length whole - length begins) name
+label_begins {whole} {blanks = blanks} {begins = begins} {name = name} {behind = behind} test v l m some =
+    let front = v.1.0 in
+    let all : whole ≡ (front ++ v.0 ∷ blanks) ++ begins = v.1.1 ∙ ap (λ t. front ++ v.0 ∷ t) l.cut ∙ sym (append_assoc front (v.0 ∷ blanks) begins) in
+    let cut = cut_at (_, all) in
+    ((front, blanks, v.0, cut.0, v.2, l.passes), behind, subst (λ t. Longest is_label_byte t name behind) (sym cut.1) m, some)

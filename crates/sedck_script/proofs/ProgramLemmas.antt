@@ -4,12 +4,13 @@ use Rattle.std.specs.Prelude.{Any, slice_get}
 use Rattle.std.proofs.lemmas.Bool.{false≢true}
 use Rattle.std.specs.Borrow.{Bor}
 use Rattle.std.specs.HashMap.{HashMap}
+use Rattle.sedck_bre.specs.Text.{one_of}
 use Rattle.sedck_bre.specs.Tree.{Tree}
 use Rattle.sedck_script.specs.Program.{Pattern, Previous, Expression, NoAddress, Label, Command, Program, address_patterns, verb_patterns, patterns, expressions}
 use Rattle.sedck_script.specs.Items.{Known, Item, Written, Closing, Items}
 use Rattle.sedck_script.specs.Resolution.{Defines, AreLabelsDistinct, LeadsTo, Resolves, done, known, branch, test, opening, closing}
 use Rattle.sedck_script.specs.Spelling.{Spells, AreCommands}
-use Rattle.sedck_script.specs.Faults.{IsLabelHere, IsUndefinedLabel}
+use Rattle.sedck_script.specs.Faults.{IsLabelBehind, IsUndefinedLabel}
 use Rattle.sedck_script.specs.Reading.{label_place, HasLabels}
 use Rattle.sedck_script.specs.ItemReading.{item_of, commands_among, item_label, IsLostLabel}
 use Rattle.sedck_script.specs.AddressReading.{has_previous}
@@ -89,7 +90,7 @@ module _ {S : Type 0} (labels : HashMap (Bor (List ℕ)) ℕ S) where
 
   -- a label that the map of the items lacks is defined by none of them
   pub undefined_label : {text : List ℕ} (items : List Item) (place : ℕ) (name : List ℕ) → Items text items → HasLabels labels (commands_among items)
-      → IsLabelHere text place name → label_place labels name ≡ None → IsUndefinedLabel text place
+      → IsLabelBehind (one_of "bt") text place name → label_place labels name ≡ None → IsUndefinedLabel text place
   undefined_label items place name x h here none = (
     name,
     here,

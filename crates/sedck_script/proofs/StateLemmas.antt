@@ -49,7 +49,7 @@ pub labels_noted : {S : Type 0} (old new : HashMap (Bor (List ℕ)) ℕ S) (xs :
     → HasLabels old xs → IsWrittenAt text v → Takes (written_verb v) a n
     → (DefinesKnown old (written_verb v) → ⊥) → NotesLabel old new (length xs) v → HasLabels new (xs ++ Written a n (written_verb v) ∷ [])
 labels_noted old new xs text a n (code.Known v) h w t f k = labels_other old new xs h _ (λ q e. w q (known_same e)) k
-labels_noted old new xs text a n (code.Label name place) h w t f k =
+labels_noted old new xs text a n (code.Label name) h w t f k =
     rw (t.0, t.1) (labels_label old new xs h name.now (no_place (label_place old name.now) (λ i e. f (name.now, i, refl, e))) k)
 labels_noted old new xs text a n (code.BranchTo l place) h w t f k = labels_other old new xs h _ (λ q e. absurd (cc e)) k
 labels_noted old new xs text a n (code.TestTo l place) h w t f k = labels_other old new xs h _ (λ q e. absurd (cc e)) k

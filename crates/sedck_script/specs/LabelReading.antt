@@ -1,6 +1,5 @@
 -- What the readers of labels say of what they read. Only private contracts cite it.
-use Rattle.std.specs.Prelude.{ℕ, ◌-◌, not, List, ◌∷◌, length, Option, Some, None, IsTrue}
-use Rattle.sedck_bre.specs.Text.{one_of}
+use Rattle.std.specs.Prelude.{ℕ, ◌-◌, Bool, not, List, ◌∷◌, length, Option, Some, None, IsTrue}
 use Rattle.sedck_script.specs.Cuts.{is_label_byte, IsEmptyOr}
 use Rattle.sedck_script.specs.Parts.{Ends, LabelText}
 use Rattle.sedck_script.specs.Items.{IsNoComment}
@@ -12,9 +11,9 @@ abbrev pub BranchText : List ℕ → Option (List ℕ) → List ℕ → Type 0
 BranchText text (Some name) rest = (behind : List ℕ) × LabelText text name behind × IsNoComment behind × Ends behind rest
 BranchText text None rest = IsNoComment text × Ends text rest
 
--- the text stands in the whole right behind a verb that takes a label
-abbrev pub IsBehindVerb : List ℕ → List ℕ → Type 0
-IsBehindVerb whole text = (verb : ℕ) × EndsIn whole (verb ∷ text) × IsTrue (one_of ":bt" verb)
+-- the text stands in the whole right behind a verb that passes the test
+abbrev pub IsBehindVerb : (ℕ → Bool) → List ℕ → List ℕ → Type 0
+IsBehindVerb test whole text = (verb : ℕ) × EndsIn whole (verb ∷ text) × IsTrue (test verb)
 
 -- what stands behind a label and its verb in the whole, or behind the verb where the label is missing
 pub record IsBehindLabel (whole text : List ℕ) : Type 0 where

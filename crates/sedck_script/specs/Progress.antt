@@ -87,7 +87,7 @@ HasNoItems text = (items : List Item) → Items text items → length (commands_
 
 -- new has what old has, and at this place the label that the verb defines
 abbrev pub NotesLabel : {S : Type 0} → HashMap (Bor (List ℕ)) ℕ S → HashMap (Bor (List ℕ)) ℕ S → ℕ → WrittenCode → Type 0
-NotesLabel old new place (code.Label name at) = (q : List ℕ) → label_place new q ≡ (if bytes_eq name.now q then Some place else label_place old q)
+NotesLabel old new place (code.Label name) = (q : List ℕ) → label_place new q ≡ (if bytes_eq name.now q then Some place else label_place old q)
 NotesLabel old new place (code.Known verb) = (q : List ℕ) → label_place new q ≡ label_place old q
 NotesLabel old new place (code.BranchTo label at) = (q : List ℕ) → label_place new q ≡ label_place old q
 NotesLabel old new place (code.TestTo label at) = (q : List ℕ) → label_place new q ≡ label_place old q

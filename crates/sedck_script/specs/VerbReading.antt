@@ -10,18 +10,18 @@ use Rattle.sedck_script.specs.Reading.{label_place, IsLabelPlace}
 use Rattle.sedck_script.specs.declared.verbs.Written.{Written}
 use Rattle.sedck_script.specs.declared.verbs.Written.TheVariants as code
 
--- a verb as it is written, without its place
+-- a verb as it is written, without the place of its label
 abbrev pub written_verb : Written → WrittenVerb
 written_verb (code.Known verb) = Known (verb_of verb)
-written_verb (code.Label name place) = Known (Label name.now)
+written_verb (code.Label name) = Known (Label name.now)
 written_verb (code.BranchTo label place) = BranchTo (option_copied label)
 written_verb (code.TestTo label place) = TestTo (option_copied label)
 written_verb code.Opening = Opening
 
--- A known verb is no label, and a label begins at its place.
+-- A known verb is no label, and the label of a branch or a test begins at its place.
 abbrev pub IsWrittenAt : List ℕ → Written → Type 0
 IsWrittenAt text (code.Known verb) = (name : List ℕ) → verb_of verb ≡ Label name → ⊥
-IsWrittenAt text (code.Label name place) = IsLabelPlace text place (Some name.now)
+IsWrittenAt text (code.Label name) = Unit {0}
 IsWrittenAt text (code.BranchTo label place) = IsLabelPlace text place (option_copied label)
 IsWrittenAt text (code.TestTo label place) = IsLabelPlace text place (option_copied label)
 IsWrittenAt text code.Opening = Unit {0}

@@ -74,7 +74,7 @@ fn note_label<'a>(
     ensures ok { OnOk result (NotesLabel labels.old labels.new at verb.now) }
     ensures memory { IfErr result (λ fault. fault ≡ ScriptFault.OutOfMemory) }
 {
-    if let Written::Label { name, place: _ } = verb {
+    if let Written::Label(name) = verb {
         add_label(labels, name, at)?;
     }
     Ok(())

@@ -1,10 +1,11 @@
 //! Labels behind `:`, `b` and `t`.
 
-ghost use Rattle.std.specs.Prelude.{◌≡◌, ◌<◌, ◌+◌, ℕ, List, Option, length, option_copied, IfOk, IfErr, OnOk};
+ghost use Rattle.std.specs.Prelude.{◌≡◌, ◌<◌, ◌+◌, ℕ, Bool, List, Option, length, option_copied, IfOk, IfErr, OnOk};
+ghost use Rattle.sedck_bre.specs.Text.{one_of};
 ghost use Rattle.sedck_script.specs.Cuts.{is_blank, is_ending, is_label_byte, Longest};
 ghost use Rattle.sedck_script.specs.Parts.{Ends, LabelText};
 ghost use Rattle.sedck_script.specs.Items.{IsNoComment, IsNoBrace};
-ghost use Rattle.sedck_script.specs.Faults.{IsLabelHere, IsPlaced};
+ghost use Rattle.sedck_script.specs.Faults.{IsLabelBehind, IsPlaced};
 ghost use Rattle.sedck_script.specs.Reading.{IsLabelAt, IsLabelPlace};
 ghost use Rattle.sedck_script.specs.LabelReading.{BranchText, IsBehindVerb, IsBehindLabel};
 
@@ -21,11 +22,11 @@ fn split_label(text: &[u8]) -> (&[u8], &[u8])
 
 /// The bytes of a label behind blanks, their place, and what stands behind them. There may be none.
 fn label_parts<'a>(whole: &[u8], text: &'a [u8]) -> (&'a [u8], usize, &'a [u8])
-    requires { IsBehindVerb whole.now text.now }
+    requires { IsBehindVerb (one_of ":bt") whole.now text.now }
     ensures parts { IsLabelAt text.now result.0.now result.2.now }
     ensures behind { IsBehindLabel whole.now result.2.now }
     ensures place { result.1 + length result.0.now + length result.2.now ≡ length whole.now }
-    ensures label { 0 < length result.0.now → IsLabelHere whole.now result.1 result.0.now }
+    ensures label { (test : ℕ → Bool) → IsBehindVerb test whole.now text.now → 0 < length result.0.now → IsLabelBehind test whole.now result.1 result.0.now }
 {
     let (_, begins) = split_blanks(text);
     let (name, behind) = split_label(begins);
@@ -54,9 +55,9 @@ pub fn defined_label<'a>(
     whole: &[u8],
     text: &'a [u8],
 ) -> Result<(&'a [u8], usize, &'a [u8]), ScriptFault>
-    requires { IsBehindVerb whole.now text.now }
+    requires { IsBehindVerb (one_of ":") whole.now text.now }
     ensures read { IfOk result (λ x. LabelText text.now x.0.now x.2.now × IsNoBrace x.2.now) }
-    ensures label { IfOk result (λ x. IsLabelHere whole.now x.1 x.0.now) }
+    ensures label { IfOk result (λ x. IsLabelBehind (one_of ":") whole.now x.1 x.0.now) }
     ensures refused { IfErr result (λ fault. (name : List ℕ) (behind : List ℕ) (rest : List ℕ) → LabelText text.now name behind → IsNoBrace behind → Ends behind rest → ⊥) }
     ensures placed { IfErr result (λ fault. IsPlaced whole.now fault) }
 {
@@ -110,7 +111,7 @@ pub fn branch_label<'a>(
     whole: &[u8],
     text: &'a [u8],
 ) -> Result<(Option<&'a [u8]>, usize, &'a [u8]), ScriptFault>
-    requires { IsBehindVerb whole.now text.now }
+    requires { IsBehindVerb (one_of "bt") whole.now text.now }
     ensures read { IfOk result (λ x. BranchText text.now (option_copied x.0) x.2.now) }
     ensures label { IfOk result (λ x. IsLabelPlace whole.now x.1 (option_copied x.0)) }
     ensures refused { IfErr result (λ fault. (label : Option (List ℕ)) (rest : List ℕ) → BranchText text.now label rest → ⊥) }

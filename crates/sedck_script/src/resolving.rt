@@ -2,7 +2,8 @@
 
 ghost use Rattle.std.specs.Prelude.{◌≡◌, ◌≢◌, ◌⊎◌, ℕ, List, [], IfNone, IfSome, Some, None, length, map, All, Any, IfOk, IfErr, OnOk, OnErr, option_copied};
 ghost use Rattle.sedck_script.specs.View as view;
-ghost use Rattle.sedck_script.specs.Faults.{IsLabelHere};
+ghost use Rattle.sedck_bre.specs.Text.{one_of};
+ghost use Rattle.sedck_script.specs.Faults.{IsLabelBehind};
 ghost use Rattle.sedck_script.specs.Resolution.{Resolves};
 ghost use Rattle.sedck_script.specs.Reading.{HasLabels, IsUnknownLabel};
 ghost use Rattle.sedck_script.specs.VerbReading.{written_verb, IsWrittenAt};
@@ -42,7 +43,7 @@ fn command_of<'a>(
     } = command;
     let verb = match verb {
         Written::Known(verb) => verb,
-        Written::Label { name, place: _ } => Verb::Label(name),
+        Written::Label(name) => Verb::Label(name),
         Written::BranchTo { label, place: _ } => Verb::Branch(target_of(labels, end, label)),
         Written::TestTo { label, place: _ } => Verb::Test(target_of(labels, end, label)),
         Written::Opening => Verb::Block(block),
@@ -68,7 +69,7 @@ fn block_target(verb: &Written, targets: &mut Vec<usize>, end: usize) -> usize
 fn label_of<'a>(item: &WrittenItem<'a>) -> Option<(&'a [u8], usize)>
     ensures none { IfNone result (item_label (item_of item.now) ≡ None) }
     ensures some { IfSome result (λ x. item_label (item_of item.now) ≡ Some x.0.now) }
-    ensures label { IfSome result (λ x. (text : List ℕ) → IsItemAt text item.now → IsLabelHere text x.1 x.0.now) }
+    ensures label { IfSome result (λ x. (text : List ℕ) → IsItemAt text item.now → IsLabelBehind (one_of "bt") text x.1 x.0.now) }
 {
     let WrittenItem::Command(command) = item else {
         return None;
@@ -76,7 +77,7 @@ fn label_of<'a>(item: &WrittenItem<'a>) -> Option<(&'a [u8], usize)>
     match &command.verb {
         Written::BranchTo { label, place } => label.map(|name| (name, *place)),
         Written::TestTo { label, place } => label.map(|name| (name, *place)),
-        Written::Known(_) | Written::Label { .. } | Written::Opening => None,
+        Written::Known(_) | Written::Label(_) | Written::Opening => None,
     }
 }
 

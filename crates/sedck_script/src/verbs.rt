@@ -21,14 +21,11 @@ use crate::texts::given_text;
 use indexmap::IndexMap;
 use std::alloc::Global;
 
-/// A verb as it is written, with the place of its label's first byte.
+/// A verb as it is written; a branch and a test with the place of their label's first byte.
 #[derive(Drop)]
 pub enum Written<'a> {
     Known(Verb<'a>),
-    Label {
-        name: &'a [u8],
-        place: usize,
-    },
+    Label(&'a [u8]),
     BranchTo {
         label: Option<&'a [u8]>,
         place: usize,
@@ -183,7 +180,7 @@ fn definition<'a>(
         return Err(ScriptFault::DuplicateLabel { place });
     }
     let rest = end_of_command(whole, behind)?;
-    Ok((Written::Label { name, place }, rest))
+    Ok((Written::Label(name), rest))
 }
 
 /// What a `b` or a `t` takes, and the rest of the script from its end on.

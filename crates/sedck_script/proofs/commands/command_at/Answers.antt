@@ -34,7 +34,7 @@ overflow_sub-whole c =
 
 pub returns-clause-empty : goal.returns-clause-empty
 returns-clause-empty c =
+    let tail = tail_tail c.requires.tail (tail_tail (address_tail c.in_ok-address.ensures.read) (tail_cut c.split_marks.ensures)) in
     rw c.or-empty.ensures (empty_append c.args.whole.now (address_patterns (address_of c.in_ok-address.address))
-    (written_patterns (written_verb c.in_ok-verb.verb)) c.in_ok-address.empty c.empty_verb.result
-    c.in_ok-address.ensures.empty (c.empty_verb.ensures c.args.whole.now (empty_verb_place _
-    (tail_tail c.requires.tail (tail_tail (address_tail c.in_ok-address.ensures.read) (tail_cut c.split_marks.ensures))) c.in_ok-verb.ensures.read (omega arith))))
+    (written_patterns (written_verb c.in_ok-verb.verb)) c.in_ok-address.empty c.empty_verb.result c.in_ok-address.ensures.empty
+    (c.empty_verb.ensures c.args.whole.now (empty_verb_place _ tail c.in_ok-verb.ensures.read (omega arith))))

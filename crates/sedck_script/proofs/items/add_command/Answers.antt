@@ -58,7 +58,8 @@ returns-clause-progress c =
                 (Written (address_of command.address) command.negated (written_verb command.verb) ∷ []),
           ));
       few = omega (arith, c.in_ok-command.ensures.few, c.in_ok-note_command.ensures.count);
-      label_places = rw c.in_ok-note_command.ensures.items (All-push (IsItemAt c.args.text.now) _ _ c.requires.progress.label_places c.in_ok-command.ensures.label);
+      label_places = rw c.in_ok-note_command.ensures.items
+          (All-push (IsItemAt c.args.text.now) _ _ c.requires.progress.label_places c.in_ok-command.ensures.label);
       opened = noted.1;
       empty = rw (items, patterns_push, c.in_ok-note_command.ensures.empty)
           (empty_append c.args.text.now (item_patterns (map item_of old.items.items))

@@ -1,6 +1,7 @@
 use Rattle.std.proofs.Common.{◌≡◌, ℕ, ◌+◌, ◌-◌, sym, subst, arith}
 use Rattle.sedck_script.specs.Faults.{IsPlaced}
 use Rattle.sedck_script.specs.declared.fault.ScriptFault.TheVariants.{BadLabel}
+use Rattle.sedck_bre.specs.Text.{one_of}
 use Rattle.sedck_script.proofs.Outcomes.{if_err_always}
 use Rattle.sedck_script.proofs.PlaceLemmas.{no_label_place}
 use Rattle.sedck_script.proofs.LabelLemmas.{no_label_there, no_definition}
@@ -21,3 +22,6 @@ returns-then-is_empty-clause-placed c =
   where
     missing : (place name behind whole : ℕ) → place + name + behind ≡ whole → name ≡ 0 → place ≡ whole - behind
     missing place name behind whole e none = omega arith
+
+pub returns-clause-label : goal.returns-clause-label
+returns-clause-label c = c.label_parts-place.ensures.label (one_of ":") c.requires (grind (arith, c.if-is_empty.ensures))

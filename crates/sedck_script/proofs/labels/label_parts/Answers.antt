@@ -7,7 +7,7 @@ pub returns-clause-behind : goal.returns-clause-behind
 returns-clause-behind c = behind_label c.requires c.split_blanks.ensures c.split_label.ensures
 
 pub returns-clause-label : goal.returns-clause-label
-returns-clause-label c = λ some. label_begins (tail_behind c.requires.1 refl) c.split_blanks.ensures c.split_label.ensures some
+returns-clause-label c = λ test verb some. label_begins test verb c.split_blanks.ensures c.split_label.ensures some
 
 pub returns-clause-place : goal.returns-clause-place
 returns-clause-place c = omega (

@@ -1,7 +1,6 @@
 use Rattle.std.proofs.Common.{refl, ◌∙◌, ap, sym, is_some}
 use Rattle.sedck_script.specs.Items.{label}
 use Rattle.sedck_script.proofs.Tails.{tail_behind, tail_tail, label_text_tail}
-use Rattle.sedck_script.proofs.PlaceLemmas.{label_stands}
 use Rattle.sedck_script.proofs.Outcomes.{if_err_always}
 use Rattle.sedck_script.proofs.VerbCases.{no_definition_at, no_definition_end, defines_known}
 use Rattle.sedck_script.proofs.verbs.definition.Goals as goal
@@ -22,6 +21,3 @@ returns-in_err-rest-clause-refused c = if_err_always c.from_residual-in_err-rest
 
 pub returns-clause-read : goal.returns-clause-read
 returns-clause-read c = label refl c.in_ok-name.ensures.read.0 c.in_ok-name.ensures.read.1 c.in_ok-rest.ensures.read
-
-pub returns-then-is_some-clause-placed : goal.returns-then-is_some-clause-placed
-returns-then-is_some-clause-placed c = label_stands c.args.whole.now c.in_ok-name.place c.in_ok-name.ensures.label

@@ -15,7 +15,8 @@ returns-in_default-clause-refused c = λ written rest x. absurd (false≢true (s
 pub returns-in_default-clause-placed : goal.returns-in_default-clause-placed
 returns-in_default-clause-placed c =
     let within = slice_get_within c.args.whole.now c.args.place _ c.requires.stands in
-    (c.requires.due, (omega arith, λ b at. subst (λ k. is_in k verb_bytes ≡ false) (same_byte c.requires.stands at) (c.requires.other c.in_default.ensures.none)))
+    let other = c.requires.other c.in_default.ensures.none in
+    (c.requires.due, (omega arith, λ b at. subst (λ k. is_in k verb_bytes ≡ false) (same_byte c.requires.stands at) other))
 
 pub returns-in_err-rest-clause-refused : goal.returns-in_err-rest-clause-refused
 returns-in_err-rest-clause-refused c = if_err_each _ c.from_residual.result (λ fault. simple_no_end c.in-Some.ensures.some c.in_err-rest.ensures.refused)
