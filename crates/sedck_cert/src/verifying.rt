@@ -1,7 +1,7 @@
 //! From two texts to the verdict.
 
 ghost use Rattle.std.specs.Prelude.{◌≡◌, IfOk};
-ghost use Rattle.sedck_cert.specs.Headline.{Stand, IsSafe, IsAccepted, IsAnswered, IsWantOfMemory, IsJudged, IsLimit, IsVerdict, SaysWhy, TellsFault, verdict_of};
+ghost use Rattle.sedck_cert.specs.Headline.{Stand, IsSafe, IsAccepted, IsAnswered, IsWantOfMemory, IsJudged, IsLimit, IsVerdict, SaysWhy, ReportsFault, verdict_of};
 
 use crate::bounding::limit;
 use crate::certificate::Cert;
@@ -36,7 +36,7 @@ pub struct Judged<'a> {
 pub fn judge<'a>(alloc: Global, script: &'a [u8], certificate: &[u8]) -> Result<Judged<'a>, Fault>
     ensures promise { IsAccepted (verdict_of result) → Stand script.now certificate.now IsSafe }
     ensures answer { (¬ IsWantOfMemory (verdict_of result)) → IsAnswered script.now certificate.now (verdict_of result) }
-    ensures told { TellsFault script.now certificate.now (verdict_of result) }
+    ensures reported { ReportsFault script.now certificate.now (verdict_of result) }
     ensures judged { IfOk result (IsJudged script.now certificate.now) }
 {
     let script = match sedck_script::parse(alloc, script) {
@@ -79,7 +79,7 @@ pub fn verify(alloc: Global, script: &[u8], certificate: &[u8]) -> Result<Verdic
     ensures promise { IsAccepted result → Stand script.now certificate.now IsSafe }
     ensures answer { (¬ IsWantOfMemory result) → IsAnswered script.now certificate.now result }
     ensures why { SaysWhy script.now certificate.now result }
-    ensures told { TellsFault script.now certificate.now result }
+    ensures reported { ReportsFault script.now certificate.now result }
 {
     match judge(alloc, script, certificate) {
         Ok(judged) => Ok(judged.verdict),

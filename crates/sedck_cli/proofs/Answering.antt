@@ -12,7 +12,7 @@ use Rattle.sedck_script.specs.declared.fault.ScriptFault.TheVariants as script
 use Rattle.sedck_cert.specs.Certificate.{Certificate}
 use Rattle.sedck_cert.specs.Text.{IsTextOf, line, files_text}
 use Rattle.sedck_cert.specs.Faults.{IsFaultOf}
-use Rattle.sedck_cert.specs.Headline.{SpellsOnly, IsTextOfOnly, IsAnswered, IsWantOfMemory, IsScriptFaultOf, TellsFault, IsLimit, IsJudged}
+use Rattle.sedck_cert.specs.Headline.{SpellsOnly, IsTextOfOnly, IsAnswered, IsWantOfMemory, IsScriptFaultOf, ReportsFault, IsLimit, IsJudged}
 use Rattle.sedck_cert.specs.declared.checking.Verdict.TheVariants.{Accepted}
 use Rattle.sedck_cert.specs.declared.limits.Bound.{Bound}
 use Rattle.sedck_cert.specs.declared.verifying.Judged.{Judged}
@@ -115,32 +115,32 @@ pub parse_refused : (source out : Option (List ℕ)) (script_failed out_failed :
       certificate = None;
       out = record { before = out; after = out; failed = out_failed };
     }) IsReport (Err (script_fault why))
-parse_refused source out script_failed out_failed IsReport text script.OutOfMemory is refused told = Keeps-refl out
-parse_refused source out script_failed out_failed IsReport text why is refused told = (
+parse_refused source out script_failed out_failed IsReport text script.OutOfMemory is refused reported = Keeps-refl out
+parse_refused source out script_failed out_failed IsReport text why is refused reported = (
   Keeps-refl out,
   of_bytes 1048577 source text (λ t. IsRefusedScript t why) is
-      (λ whole front. script_refused whole text why front (record { is_of_text = λ e. cc; none = refused (λ e. cc); is_fault = told })),
+      (λ whole front. script_refused whole text why front (record { is_of_text = λ e. cc; none = refused (λ e. cc); is_fault = reported })),
 )
 
 -- a script or a certificate that `judge` refuses
 pub judge_refused : (source written out : Option (List ℕ)) (script_failed cert_failed out_failed : Bool) (IsReport : Outcome → List ℕ → Type 0)
     (text bytes : List ℕ) (why : Fault) → IsRead 1048577 source text → IsRead 1310721 written bytes
-    → ((¬ IsWantOfMemory (Err why)) → IsAnswered text bytes (Err why)) → TellsFault text bytes (Err why)
+    → ((¬ IsWantOfMemory (Err why)) → IsAnswered text bytes (Err why)) → ReportsFault text bytes (Err why)
     → EngineAnswers
     (record {
       script = record { bytes = source; failed = script_failed };
       certificate = Some (record { bytes = written; failed = cert_failed });
       out = record { before = out; after = out; failed = out_failed };
     }) IsReport (Err (run_fault why))
-judge_refused source written out script_failed cert_failed out_failed IsReport text bytes (below.Script script.OutOfMemory) is_text is_bytes answer told =
+judge_refused source written out script_failed cert_failed out_failed IsReport text bytes (below.Script script.OutOfMemory) is_text is_bytes answer reported =
     Keeps-refl out
-judge_refused source written out script_failed cert_failed out_failed IsReport text bytes (below.Certificate cert.OutOfMemory) is_text is_bytes answer told =
+judge_refused source written out script_failed cert_failed out_failed IsReport text bytes (below.Certificate cert.OutOfMemory) is_text is_bytes answer reported =
     Keeps-refl out
-judge_refused source written out script_failed cert_failed out_failed IsReport text bytes (below.Script why) is_text is_bytes answer told = (
+judge_refused source written out script_failed cert_failed out_failed IsReport text bytes (below.Script why) is_text is_bytes answer reported = (
   Keeps-refl out,
   of_bytes 1048577 source text (λ t. IsRefusedScript t why) is_text
       (λ whole front. script_refused whole text why front
-      (record { is_of_text = λ e. cc; none = (answer (λ want. want)).script_fault.0 tt; is_fault = told })),
+      (record { is_of_text = λ e. cc; none = (answer (λ want. want)).script_fault.0 tt; is_fault = reported })),
 )
 judge_refused source written out script_failed cert_failed out_failed IsReport text bytes (below.Certificate why) is_text is_bytes answer (inl memory) = cc
 judge_refused source written out script_failed cert_failed out_failed IsReport text bytes (below.Certificate why) is_text is_bytes answer (inr is_fault) =

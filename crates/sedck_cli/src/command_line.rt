@@ -107,7 +107,7 @@ pub fn program<R: Files + AllocGlobal, W: Sink, E: Sink>(
     ensures refused { 1 < result → result < 4 → Keeps (W.taken out.old) (W.taken out.new) }
     ensures failed { result ≡ 4 → Keeps (W.taken out.old) (W.taken out.new) ⊎ BreaksOff (asked words.now) (W.taken out.old) (W.taken out.new) }
     // Its line stands on standard error, unless a write of it has failed.
-    ensures told { 1 < result → E.has_failed err.new ≡ false → SaysRefusal result (E.taken err.old) (E.taken err.new) }
+    ensures reported { 1 < result → E.has_failed err.new ≡ false → SaysRefusal result (E.taken err.old) (E.taken err.new) }
     ensures silent { result < 2 → Keeps (E.taken err.old) (E.taken err.new) }
 {
     match answer(rt, words, out) {
@@ -122,7 +122,7 @@ pub fn program<R: Files + AllocGlobal, W: Sink, E: Sink>(
 pub fn flushed<W: Write + Drop, E: Sink>(status: u8, mut out: W, err: &mut E) -> u8
     ensures kept { 1 < status → result ≡ status }
     ensures within { (result ≡ status) ⊎ (result ≡ 4) }
-    ensures told { result ≢ status → E.has_failed err.new ≡ false → SaysRefusal result (E.taken err.old) (E.taken err.new) }
+    ensures reported { result ≢ status → E.has_failed err.new ≡ false → SaysRefusal result (E.taken err.old) (E.taken err.new) }
     ensures silent { result ≢ 4 → Keeps (E.taken err.old) (E.taken err.new) }
 {
     if status > 1 {

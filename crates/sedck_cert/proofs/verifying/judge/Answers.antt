@@ -1,4 +1,4 @@
-use Rattle.sedck_cert.proofs.Promise.{is_judged, promised, answered, no_script, script_told}
+use Rattle.sedck_cert.proofs.Promise.{is_judged, promised, answered, no_script, script_reported}
 use Rattle.sedck_cert.specs.Headline.{IsJudged}
 use Rattle.sedck_cert.proofs.verifying.judge.Goals as goal
 use Rattle.sedck_cert.proofs.verifying.judge.Goals.{After-with_verdict}
@@ -26,6 +26,6 @@ returns-clause-answer c _ = answered c.args.script.now c.args.certificate.now c.
 pub returns-in-Err-clause-answer : goal.returns-in-Err-clause-answer
 returns-in-Err-clause-answer c = no_script c.args.script.now c.args.certificate.now c.in-Err.fault c.in-Err.ensures.refused
 
-pub returns-in-Err-clause-told : goal.returns-in-Err-clause-told
-returns-in-Err-clause-told c =
-    let script = c.in-Err.ensures in script_told c.args.script.now c.in-Err.fault script.placed script.too_long script.zero
+pub returns-in-Err-clause-reported : goal.returns-in-Err-clause-reported
+returns-in-Err-clause-reported c =
+    let script = c.in-Err.ensures in script_reported c.args.script.now c.in-Err.fault script.placed script.too_long script.zero

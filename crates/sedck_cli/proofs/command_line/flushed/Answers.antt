@@ -4,5 +4,5 @@ use Rattle.sedck_cli.specs.declared.command_line.Refusal.TheVariants.{Run}
 use Rattle.sedck_cli.proofs.command_line.flushed.Goals as goal
 
 -- the line of a failed write
-pub returns-clause-told : goal.returns-clause-told
-returns-clause-told g c differs sound = (Run Write, sym c.tell.ensures.status, c.tell.ensures.line sound)
+pub returns-clause-reported : goal.returns-clause-reported
+returns-clause-reported g c differs sound = (Run Write, sym c.tell.ensures.status, c.tell.ensures.line sound)

@@ -12,7 +12,7 @@ returns-in_err-judged g c =
     let bytes = is_read 1310721
     (g.C.Source.left c.args.cert.now) c.deref-2.result.now _ c.deref-2.ensures.value c.in_ok-certificate.ensures.read c.in_ok-certificate.ensures.within in
     let judged = c.in_err-judged.ensures in
-    rw is (judge_refused _ _ _ _ _ _ _ c.deref.result.now c.deref-2.result.now _ text bytes judged.answer judged.told)
+    rw is (judge_refused _ _ _ _ _ _ _ c.deref.result.now c.deref-2.result.now _ text bytes judged.answer judged.reported)
 
 pub returns-in_default : goal.returns-in_default
 returns-in_default g c =

@@ -1,7 +1,7 @@
 use Rattle.std.proofs.Common.{sym, ◌∙◌}
 use Rattle.sedck_cli.specs.Engines.{found_outcome}
 use Rattle.sedck_cli.specs.Faults.{script_fault}
-use Rattle.sedck_cert.proofs.Promise.{script_told}
+use Rattle.sedck_cert.proofs.Promise.{script_reported}
 use Rattle.sedck_cli.proofs.Answering.{err_is, parse_refused, ranks_to, is_read}
 use Rattle.sedck_cli.proofs.engines.run_rank.Goals as goal
 
@@ -12,7 +12,7 @@ returns-in_err-script g c =
     (g.R.Source.left c.args.script.now) c.deref.result.now _ c.deref.ensures.value c.in_ok-text.ensures.read c.in_ok-text.ensures.within in
     let script = c.in_err-script.ensures in
     rw is (parse_refused _ _ _ _ _ c.deref.result.now _ text script.refused
-    (script_told c.deref.result.now _ script.placed script.too_long script.zero))
+    (script_reported c.deref.result.now _ script.placed script.too_long script.zero))
 
 pub returns-in_default : goal.returns-in_default
 returns-in_default g c =
