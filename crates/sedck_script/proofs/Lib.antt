@@ -36,3 +36,4 @@ pub mod Bounds
 pub mod SpelledScript
 pub mod ShortestLemmas
 pub mod PlaceLemmas
+pub mod PlacesWithin

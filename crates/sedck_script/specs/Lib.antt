@@ -15,7 +15,6 @@ pub mod First
 pub mod Names
 pub mod Invariant
 pub mod Shortest
-pub mod Laws
 pub mod View
 pub mod Faults
 pub mod Reading
@@ -29,4 +28,5 @@ pub mod ItemReading
 pub mod Progress
 pub mod ExpressionReading
 pub mod FaultWords
+pub mod Laws
 pub mod NameReading
