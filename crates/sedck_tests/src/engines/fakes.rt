@@ -73,7 +73,8 @@ impl Source for Endless {
     }
 }
 
-/// A reader of std that gives what the source gives, and fails with an error of the kind.
+/// A reader of std that gives what the source gives. Where that fails it fails once with an error of the kind, and then goes
+/// on, so that a read that is tried again would succeed.
 #[derive(Drop)]
 pub struct Reader<'a> {
     pub source: Given<'a>,
@@ -84,7 +85,10 @@ impl Read for Reader<'_> {
     fn read(&mut self, buf: &mut [u8]) -> io::Result<usize> {
         match self.source.read(buf) {
             Ok(count) => Ok(count),
-            Err(_) => Err(io::Error::from(self.kind)),
+            Err(_) => {
+                self.source.before_failure = usize::MAX;
+                Err(io::Error::from(self.kind))
+            }
         }
     }
 }
@@ -129,7 +133,8 @@ impl Sink for Kept {
     }
 }
 
-/// A writer of std that takes what the sink takes, and fails with an error of the kind, or takes no byte where there is none.
+/// A writer of std that takes what the sink takes. Where that fails it fails once with an error of the kind, or takes no
+/// byte where there is none, and then goes on.
 #[derive(Drop)]
 pub struct Writer {
     pub sink: Kept,
@@ -138,10 +143,13 @@ pub struct Writer {
 
 impl Write for Writer {
     fn write(&mut self, bytes: &[u8]) -> io::Result<usize> {
-        match (self.sink.write(bytes), self.kind) {
-            (Ok(count), _) => Ok(count),
-            (Err(_), Some(kind)) => Err(io::Error::from(kind)),
-            (Err(_), None) => Ok(0),
+        if let Ok(count) = self.sink.write(bytes) {
+            return Ok(count);
+        }
+        self.sink.room = usize::MAX;
+        match self.kind {
+            Some(kind) => Err(io::Error::from(kind)),
+            None => Ok(0),
         }
     }
 

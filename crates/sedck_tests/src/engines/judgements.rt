@@ -148,7 +148,7 @@ static GIVEN: [Row; 10] = [
     ),
 ];
 
-/// Certificates that are rejected. Those of the last two would be for several causes.
+/// Certificates that are rejected, the last two for the first of two causes.
 static REJECTED: [Row; 10] = [
     (
         ":a;n;b a",

@@ -81,7 +81,8 @@ pub fn is_answered(
     require_answer(rt, texts.0, (&told, &out.bytes), failed, answer);
 }
 
-/// The same over readers and writers of std, which fail with errors of this kind; where there is none, writes take no byte.
+/// The same over readers and writers of std, one byte a call. Their failing calls answer errors of this kind; where there is
+/// none, a write takes no byte.
 pub fn is_answered_over_std(
     rt: &impl Abort,
     alloc: Global,

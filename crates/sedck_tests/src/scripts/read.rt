@@ -6,7 +6,7 @@ type Names = &'static [&'static [u8]];
 /// A text, the number of its commands, the names read, the names written, and whether it is quiet.
 type Row = (&'static [u8], usize, Names, Names, bool);
 
-static SCRIPTS: [Row; 13] = [
+static SCRIPTS: [Row; 14] = [
     (b"", 0, &[], &[], false),
     (b"#n", 0, &[], &[], true),
     (b"#n\np", 1, &[], &[], true),
@@ -20,6 +20,14 @@ static SCRIPTS: [Row; 13] = [
     (b"q\nr after", 2, &[b"after"], &[], false),
     (b"1!{w x y \n}", 2, &[], &[b"x y "], false),
     (b"s//a/;/b/p", 2, &[], &[], false),
+    // blocks as deep as they may be
+    (
+        b"{{{{{{{{{{{{{{{{{{{{{{{{{{{{{{{{{{{{{{{{{{{{{{{{{{{{{{{{{{{{{{{{}}}}}}}}}}}}}}}}}}}}}}}}}}}}}}}}}}}}}}}}}}}}}}}}}}}}}}}}}}}}}}}}",
+        64,
+        &[],
+        &[],
+        false,
+    ),
 ];
 
 #[test]
