@@ -21,7 +21,7 @@ demo: build
 	build/sedck check examples/$(EXAMPLE).sed examples/$(EXAMPLE).cert
 
 test: build/refuse.so
-	@echo "Running the gate: every proof from nothing, the must-fail edits, the tests and the program (some 100 processor minutes) ..."
+	@echo "Running the gate: every proof from nothing, the must-fail edits, the tests and the program (60 to 110 processor minutes) ..."
 	$(RT) ci
 	@mkdir -p build
 	@cp crates/sedck/out/sedck build/sedck.new && mv build/sedck.new build/sedck
