@@ -16,6 +16,7 @@ mod interval;
 mod item;
 pub mod laws;
 mod least;
+mod outside;
 mod parser;
 mod reader;
 mod sets;
