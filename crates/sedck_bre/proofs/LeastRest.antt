@@ -2,6 +2,8 @@
 use Rattle.std.proofs.Common.{◌≡◌, min, ℕ, ◌+◌, ◌-◌, ◌<◌, ◌≤◌, Bool, true, false, List, [], ◌∷◌, length, refl, sym, ap, subst, ◌∙◌, arith, length-append}
 use Rattle.std.specs.Prelude.{◌==◌, Some, unwrap_or}
 use Rattle.std.proofs.lemmas.Bool.{false≢true}
+use Rattle.std.specs.Int.{bit_at}
+use Rattle.std.proofs.lemmas.Nat.Bits.{bit_at-zero}
 use Rattle.std.proofs.lemmas.Bool.Decides.{nat_tests}
 use Rattle.sedck_bre.specs.Tree.{Tree, Trees, Byte, Any, Set, Start, End, Maybe, Group, Ref, Seq, Repeat, Nil, Then, groups_in, groups_in_all}
 use Rattle.sedck_bre.specs.Match.{Groups, no_groups, text_of, with_text, Match, MatchAll}
@@ -188,5 +190,20 @@ least-alone t bits n none h = record {
       let shortest = h.met l in
       let zero = none-named bits none shortest.1.0 in
       (shortest.0, shortest.1.0, shortest.1.1, omega (arith, shortest.2, zero));
+  capped = h.capped;
+}
+
+-- no bit of 0 is set
+pub none-by-zero : (bits : ℕ) → bits ≡ 0 → (k : ℕ) → names bits k ≡ true → ⊥
+none-by-zero bits zero k named = let clear : bit_at 0 k ≡ 0 = bit_at-zero k in false≢true (rw (zero, clear) at named)
+
+-- the other way round: what is the least rest outside of no group is the least length
+pub least-whole : (t : Tree) (bits n : ℕ) → ((k : ℕ) → names bits k ≡ true → ⊥) → IsLeastSize (HasRest t (named bits)) n → IsLeastSize (HasLength t) n
+least-whole t bits n none h = record {
+  floor = λ m (w, (e, matches), is). let zero = none-named bits none e in h.floor m (w, e, matches, omega (arith, is, zero));
+  met = λ l.
+  let shortest = h.met l in
+  let zero = none-named bits none shortest.1 in
+  (shortest.0, (shortest.1, shortest.2), omega (arith, shortest.3, zero));
   capped = h.capped;
 }

@@ -1,12 +1,11 @@
 //! The groups that are items of an expression, and the least length outside of some of them.
-ghost use Rattle.std.specs.Prelude.{◌≡◌, min};
+ghost use Rattle.std.specs.Prelude.{◌≡◌, map, min};
 ghost use Rattle.std.specs.List.{list_any};
 ghost use Rattle.sedck_bre.specs.Tree.{trees};
 ghost use Rattle.sedck_bre.specs.Lengths.{cap};
 ghost use Rattle.sedck_bre.specs.Rests.{is_group};
 ghost use Rattle.sedck_bre.specs.View.{tree};
 ghost use Rattle.sedck_bre.specs.Bounds.{no_bounds, is_named, outside};
-ghost use Rattle.std.specs.Prelude.{map};
 
 use crate::least::{CAP, least_of};
 use crate::tree::Bre;

@@ -114,7 +114,8 @@ impl Expr {
     /// stands for group k.
     pub fn least_outside(&self, groups: u16) -> u32
         requires { NamesTopGroups self.now groups }
-        ensures { IsLeastSize (HasRest self.now (named groups)) result }
+        ensures least { IsLeastSize (HasRest self.now (named groups)) result }
+        ensures whole { groups ≡ 0 → IsLeastSize (HasLength self.now) result }
     {
         match &self.body {
             Bre::Seq(items) => least_outside_of(items, groups),
