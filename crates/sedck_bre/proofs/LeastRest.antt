@@ -178,7 +178,9 @@ least-outside t ts bits n is f top found =
     of_items : IsWellFormed (Seq ts) → NamesTopGroups (Seq ts) bits → IsLeastSize (HasRest (Seq ts) (named bits)) n
     of_items formed tops = record {
       floor = λ m (w, e, matches, rest). let low = rest-floor bits ts formed.numbered tops w e matches in omega (arith, low, rest, found);
-      met = λ l. let same : outside bits no_bounds ts ≡ n = omega (arith, found, l) in subst (HasRest (Seq ts) (named bits)) same (rest-met bits ts formed tops);
+      met = λ l.
+          let same : outside bits no_bounds ts ≡ n = omega (arith, found, l) in
+          subst (HasRest (Seq ts) (named bits)) same (rest-met bits ts formed tops);
       capped = omega (arith, found);
     }
 
@@ -202,8 +204,8 @@ pub least-whole : (t : Tree) (bits n : ℕ) → ((k : ℕ) → names bits k ≡ 
 least-whole t bits n none h = record {
   floor = λ m (w, (e, matches), is). let zero = none-named bits none e in h.floor m (w, e, matches, omega (arith, is, zero));
   met = λ l.
-  let shortest = h.met l in
-  let zero = none-named bits none shortest.1 in
-  (shortest.0, (shortest.1, shortest.2), omega (arith, shortest.3, zero));
+      let shortest = h.met l in
+      let zero = none-named bits none shortest.1 in
+      (shortest.0, (shortest.1, shortest.2), omega (arith, shortest.3, zero));
   capped = h.capped;
 }

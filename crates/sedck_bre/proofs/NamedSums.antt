@@ -73,7 +73,8 @@ sum_of-split picked f n j (k ∷ ks) h low high p = go (k == j) refl (λ l m. su
         let others = later (omega arith) (omega arith) in
         rw s (omega (arith, others))
 
-item_sum-below : (picked : ℕ → Bool) (f : ℕ → ℕ) (t : Tree) (n j : ℕ) → CountsFrom n (groups_in t) → j < n → item_sum (without j picked) f t ≡ item_sum picked f t
+item_sum-below : (picked : ℕ → Bool) (f : ℕ → ℕ) (t : Tree) (n j : ℕ) → CountsFrom n (groups_in t) → j < n
+    → item_sum (without j picked) f t ≡ item_sum picked f t
 item_sum-below picked f (Group k body) n j h l =
     let first : k ≡ n = h.0 in
     let other : (k == j) ≡ false = grind (arith, nat_tests) in
