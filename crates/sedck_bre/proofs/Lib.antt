@@ -27,3 +27,7 @@ pub mod ClassNames
 pub mod BracketFixed
 pub mod BracketLoop
 pub mod Tails
+pub mod Untouched
+pub mod NamedSums
+pub mod LeastRest
+pub mod TopGroup

@@ -9,6 +9,7 @@ pub mod Brackets
 pub mod Shape
 pub mod Faults
 pub mod Lengths
+pub mod Rests
 pub mod Laws
 pub mod Bounds
 pub mod Reading

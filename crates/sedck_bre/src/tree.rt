@@ -2,8 +2,10 @@ ghost use Rattle.std.specs.Prelude.{◌≡◌};
 ghost use Rattle.sedck_bre.specs.View.{tree};
 ghost use Rattle.sedck_bre.specs.Tree.{group_count};
 ghost use Rattle.sedck_bre.specs.Lengths.{IsLeastSize, HasLength};
+ghost use Rattle.sedck_bre.specs.Rests.{is_top_group, named, NamesTopGroups, HasRest};
 
 use crate::least::least_of;
+use crate::outside::{has_group, least_outside_of};
 use std::marker::Model;
 
 /// A set of bytes: byte b is bit b mod 64 of word b / 64.
@@ -97,5 +99,28 @@ impl Expr {
         // What ties the length to the tree is known once both are read.
         let _ = &self.body;
         self.least
+    }
+    /// Whether the group is an item of the whole expression: in no other group, and not repeated.
+    pub fn top_group(&self, k: u8) -> bool
+        ensures { result ≡ is_top_group self.now k }
+    {
+        match &self.body {
+            Bre::Seq(items) => has_group(items, k),
+            _ => false,
+        }
+    }
+
+    /// The least length of what of a match lies outside of these groups, or 16,777,215 where the least is above it. Bit k
+    /// stands for group k.
+    pub fn least_outside(&self, groups: u16) -> u32
+        requires { NamesTopGroups self.now groups }
+        ensures least { IsLeastSize (HasRest self.now (named groups)) result }
+        ensures whole { groups ≡ 0 → IsLeastSize (HasLength self.now) result }
+    {
+        match &self.body {
+            Bre::Seq(items) => least_outside_of(items, groups),
+            // No group is an item, so none is named.
+            _ => self.least,
+        }
     }
 }

@@ -1,0 +1,11 @@
+use Rattle.std.proofs.Common.{◌≡◌, min, map, take}
+use Rattle.sedck_bre.specs.Tree.{trees}
+use Rattle.sedck_bre.specs.Lengths.{cap}
+use Rattle.sedck_bre.specs.View.{tree, sequence}
+use Rattle.sedck_bre.specs.Bounds.{no_bounds, Holds, after, outside}
+use Rattle.sedck_bre.proofs.outside.least_outside_of.Given as goal
+
+abbrev pub invariant-loop-item : goal.invariant-loop-item
+invariant-loop-item l =
+    (l.total ≡ min (outside l.groups no_bounds (trees (map tree (take l.item-index l.items)))) cap)
+    × Holds l.known (after no_bounds (sequence (take l.item-index l.items)))

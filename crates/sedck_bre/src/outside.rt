@@ -1,0 +1,52 @@
+//! The groups that are items of an expression, and the least length outside of some of them.
+ghost use Rattle.std.specs.Prelude.{◌≡◌, map, min};
+ghost use Rattle.std.specs.List.{list_any};
+ghost use Rattle.sedck_bre.specs.Tree.{trees};
+ghost use Rattle.sedck_bre.specs.Lengths.{cap};
+ghost use Rattle.sedck_bre.specs.Rests.{is_group};
+ghost use Rattle.sedck_bre.specs.View.{tree};
+ghost use Rattle.sedck_bre.specs.Bounds.{no_bounds, is_named, outside};
+
+use crate::least::{CAP, least_of};
+use crate::tree::Bre;
+
+fn is_group(item: &Bre, k: u8) -> bool
+    ensures { result ≡ is_group k (tree item.now) }
+{
+    match item {
+        Bre::Group(j, _) => *j == k,
+        _ => false,
+    }
+}
+
+/// Whether the group is one of the items.
+pub(crate) fn has_group(items: &[Bre], k: u8) -> bool
+    ensures { result ≡ list_any (λ item. is_group k (tree item)) items.now }
+{
+    items.iter().any(|item| is_group(item, k))
+}
+
+/// Whether the item is a group whose bit is set.
+fn is_named(item: &Bre, groups: u16) -> bool
+    ensures { result ≡ is_named groups (tree item.now) }
+{
+    match item {
+        Bre::Group(k, _) => *k < 16 && (groups >> *k) & 1 == 1,
+        _ => false,
+    }
+}
+
+/// The least length of a match of the items that aren't named groups.
+pub(crate) fn least_outside_of(items: &[Bre], groups: u16) -> u32
+    ensures { result ≡ min (outside groups no_bounds (trees (map tree items.now))) cap }
+{
+    let mut known = [0; 256];
+    let mut total: u32 = 0;
+    for item in items {
+        let n = least_of(item, &mut known);
+        if !is_named(item, groups) {
+            total = total.saturating_add(n).min(CAP);
+        }
+    }
+    total
+}
