@@ -10,6 +10,10 @@ pub if_err_more : {A E : Type 0} {P Q : E → Type 0} (r : Result A E) → ((e :
 if_err_more (Ok x) f h = tt
 if_err_more (Err e) f h = f e h
 
+pub if_err_both : {A E : Type 0} {P Q R : E → Type 0} (r : Result A E) → ((e : E) → P e → Q e → R e) → IfErr r P → IfErr r Q → IfErr r R
+if_err_both (Ok x) f h k = tt
+if_err_both (Err e) f h k = f e h k
+
 pub if_some_at : {A : Type 0} (P : A → Type 0) {o : Option A} {x : A} → o ≡ Some x → IfSome o P → P x
 if_some_at P e h = subst (λ o. IfSome o P) e h
 

@@ -1,30 +1,34 @@
 -- What stands at the place of an end of the text.
-use Rattle.std.proofs.Common.{◌≡◌, ℕ, ◌<◌, ◌-◌, Bool, true, not, ◌||◌, List, [], ◌∷◌, ◌++◌, length, take, drop, refl, ap, sym, ◌∙◌, subst, append_assoc, length-append, arith}
+use Rattle.std.proofs.Common.{◌≡◌, ℕ, ◌<◌, ◌-◌, Bool, true, false, not, ◌||◌, List, [], ◌∷◌, ◌++◌, length, take, drop, refl, ap, sym, ◌∙◌, subst, append_assoc, length-append, arith}
 use Rattle.std.specs.Prelude.{IsTrue}
 use Rattle.std.proofs.lemmas.Bool.{false≢true, false_from_ne_true, not_from_false, not-true}
 use Rattle.std.proofs.lemmas.Option.{slice_get_within}
-use Rattle.sedck_bre.specs.Text.{one_of}
+use Rattle.sedck_bre.specs.Text.{is_in, one_of}
 use Rattle.sedck_bre.specs.Tree.{Tree}
 use Rattle.sedck_bre.specs.Shape.{Shape}
 use Rattle.sedck_bre.specs.Faults.{IsOfText}
 use Rattle.sedck_bre.specs.Faults as expressions
 use Rattle.sedck_bre.specs.declared.fault.ReFault.{ReFault}
+use Rattle.sedck_script.specs.declared.fault.ScriptFault.{ScriptFault}
+use Rattle.sedck_script.specs.declared.fault.ScriptFault.TheVariants as fault
 use Rattle.sedck_script.specs.Cuts.{is_blank, is_digit, is_ending, is_label_byte, is_delimiter, IsEmptyOr, Longest}
-use Rattle.sedck_script.specs.Program.{Address, Pattern, Previous, Expression, Verb, verb_patterns}
-use Rattle.sedck_script.specs.Parts.{Number, DelimitedExpression, IsPattern, AddressText}
+use Rattle.sedck_script.specs.Program.{Place, Address, Pattern, Previous, Expression, Verb, verb_patterns}
+use Rattle.sedck_script.specs.Parts.{Number, DelimitedExpression, IsPattern, PlaceText, AddressText}
 use Rattle.sedck_script.specs.Parts as p
 use Rattle.sedck_script.specs.Items.{WrittenVerb, Simple, VerbText}
 use Rattle.sedck_script.specs.Items as w
-use Rattle.sedck_script.specs.Faults.{BeginsCommand, IsVerbDue, StandsAt, StandsWhere, EndsOrFails, is_extra, begins_address, IsNoNumber, IsNoSecondAddress, IsRefusedExpression, FollowsLabel, IsLabelBehind, IsEmptyExpression}
+use Rattle.sedck_script.specs.Faults.{BeginsCommand, IsVerbDue, StandsAt, StandsWhere, EndsOrFails, is_extra, begins_address, IsNoNumber, IsNoSecondAddress, IsRefusedExpression, FollowsLabel, IsLabelBehind, IsEmptyExpression, IsUnread, IsPlaced, verb_bytes}
 use Rattle.sedck_script.specs.Reading.{EndsIn}
-use Rattle.sedck_script.specs.PieceReading.{PatternText}
+use Rattle.sedck_script.specs.PieceReading.{PatternText, IsPartPlaced}
 use Rattle.sedck_script.specs.AddressReading.{is_mark, IsBehindComma, BeginsNoPlace, has_previous}
 use Rattle.sedck_script.specs.LabelReading.{IsBehindVerb, IsBehindLabel}
 use Rattle.sedck_script.specs.Progress.{written_patterns}
 use Rattle.sedck_script.proofs.Tails.{tail_behind, tail_length, stands_at_tail, take_front}
 use Rattle.sedck_script.proofs.PartsOne.{digit_no_end, number_first}
 use Rattle.sedck_script.proofs.Spelled.{flags_pattern}
-use Rattle.sedck_script.proofs.VerbBytes.{same_byte}
+use Rattle.sedck_script.proofs.VerbBytes.{same_byte, byte_of}
+use Rattle.sedck_script.proofs.ItemsOne.{place_first}
+use Rattle.sedck_script.proofs.Heads.{heads}
 
 -- where a tail begins, the text is cut into what stands before it and the tail
 pub cut_at : {whole text : List ℕ} (h : EndsIn whole text) → (take (length whole - length text) whole ≡ h.0) × (drop (length whole - length text) whole ≡ text)
@@ -197,3 +201,48 @@ label_begins {whole} {blanks = blanks} {begins = begins} {name = name} {behind =
     let all : whole ≡ (front ++ v.0 ∷ blanks) ++ begins = v.1.1 ∙ ap (λ t. front ++ v.0 ∷ t) l.cut ∙ sym (append_assoc front (v.0 ∷ blanks) begins) in
     let cut = cut_at (_, all) in
     ((front, blanks, v.0, cut.0, v.2, l.passes), behind, subst (λ t. Longest is_label_byte t name behind) (sym cut.1) m, some)
+
+-- ---- Parts
+
+pub unread_verb : {text : List ℕ} {b : ℕ} (whole : List ℕ) (place : ℕ) → drop place whole ≡ b ∷ text → begins_address b ≡ false
+    → ((verb : WrittenVerb) (rest : List ℕ) → VerbText (b ∷ text) verb rest → ⊥) → IsUnread whole place
+unfolding IsUnread
+unread_verb whole place here other none = (
+  λ address rest x. let first = place_first x in absurd (false≢true (sym other ∙ ap begins_address (heads (sym here ∙ first.2)) ∙ first.3)),
+  λ verb rest x. none verb rest (subst (λ t. VerbText t verb rest) here x),
+)
+
+pub unread_address : {whole text behind : List ℕ} {b : ℕ} → EndsIn whole text → text ≡ b ∷ behind → is_in b verb_bytes ≡ false
+    → ((address : Place) (rest : List ℕ) → PlaceText text address rest → ⊥) → IsUnread whole (length whole - length text)
+unfolding IsUnread
+unread_address h e other none = (
+  λ address rest x. none address rest (subst (λ t. PlaceText t address rest) (cut_at h).1 x),
+  λ verb rest x. absurd (false≢true (sym other ∙ (byte_of ((cut_at h).1 ∙ e) x).known)),
+)
+
+-- the fault of a part, where a missing end is placed too
+pub part_placed : (opening : ℕ) (text : List ℕ) (f : ScriptFault) → IsPartPlaced opening text f
+    → (f ≡ fault.Unterminated opening → IsPlaced text (fault.Unterminated opening)) → IsPlaced text f
+part_placed opening text (fault.Unterminated place) h k = subst (λ p. IsPlaced text (fault.Unterminated p)) (sym h) (k (ap fault.Unterminated h))
+part_placed opening text (fault.TooLong place) h k = h
+part_placed opening text (fault.NulByte place) h k = h
+part_placed opening text (fault.UnknownCommand place) h k = h
+part_placed opening text (fault.BadAddress place) h k = h
+part_placed opening text (fault.TooManyAddresses place) h k = h
+part_placed opening text (fault.BadReplacement place) h k = h
+part_placed opening text (fault.BadFlag place) h k = h
+part_placed opening text (fault.BadTransliteration place) h k = h
+part_placed opening text (fault.MissingText place) h k = h
+part_placed opening text (fault.MissingName place) h k = h
+part_placed opening text (fault.BadLabel place) h k = h
+part_placed opening text (fault.DuplicateLabel place) h k = h
+part_placed opening text (fault.UnknownLabel place) h k = h
+part_placed opening text (fault.UnopenedBlock place) h k = h
+part_placed opening text (fault.UnclosedBlock place) h k = h
+part_placed opening text (fault.TooDeep place) h k = h
+part_placed opening text (fault.TooManyCommands place) h k = h
+part_placed opening text (fault.ExtraText place) h k = h
+part_placed opening text (fault.NoPreviousExpression place) h k = h
+part_placed opening text (fault.EscapedDelimiter place) h k = h
+part_placed opening text (fault.BadExpression place cause) h k = h
+part_placed opening text fault.OutOfMemory h k = h

@@ -40,6 +40,11 @@ pub substitute_read : {d : ℕ} {text opened behind after rest : List ℕ} {q : 
     → VerbText (115 ∷ text) (Known (Substitute s)) rest
 substitute_read {rest = rest} {s = s} e h p z g f = subst (λ t. VerbText (115 ∷ t) (Known (Substitute s)) rest) (sym e) (w.substitute refl h p.1 p.2 z g f)
 
+pub substitute_no_delimiter : {text : List ℕ} → ((d : ℕ) (rest : List ℕ) → text ≡ d ∷ rest → IsTrue (is_delimiter d) → ⊥)
+    → (verb : WrittenVerb) (rest : List ℕ) → VerbText (115 ∷ text) verb rest → ⊥
+substitute_no_delimiter n verb rest (w.substitute h i x p z g k) = n _ _ refl i
+substitute_no_delimiter n verb rest x = differ 115 (class_of x) refl (begins x)
+
 pub substitute_no_pattern : {d : ℕ} {text opened : List ℕ} → text ≡ d ∷ opened → ((p : Pattern) (r : List ℕ) → PatternText d opened p r → ⊥)
     → (verb : WrittenVerb) (rest : List ℕ) → VerbText (115 ∷ text) verb rest → ⊥
 substitute_no_pattern e n verb rest x = let i = substitute_inside e x in n i.pattern i.behind i.patterns
@@ -85,6 +90,11 @@ pub transliterate_read : {d : ℕ} {text opened after from to rest : List ℕ} �
     → AreLists d opened from to after → Ends after rest → VerbText (121 ∷ text) (Known (Transliterate from to)) rest
 transliterate_read {from = from} {to = to} {rest = rest} e h l f =
     subst (λ t. VerbText (121 ∷ t) (Known (Transliterate from to)) rest) (sym e) (w.transliterate refl h l.first l.second l.equal f)
+
+pub transliterate_no_delimiter : {text : List ℕ} → ((d : ℕ) (rest : List ℕ) → text ≡ d ∷ rest → IsTrue (is_delimiter d) → ⊥)
+    → (verb : WrittenVerb) (rest : List ℕ) → VerbText (121 ∷ text) verb rest → ⊥
+transliterate_no_delimiter n verb rest (w.transliterate h i x y l e) = n _ _ refl i
+transliterate_no_delimiter n verb rest x = differ 121 (class_of x) refl (begins x)
 
 pub transliterate_no_lists : {d : ℕ} {text opened : List ℕ} → text ≡ d ∷ opened → ((from to r : List ℕ) → AreLists d opened from to r → ⊥)
     → (verb : WrittenVerb) (rest : List ℕ) → VerbText (121 ∷ text) verb rest → ⊥

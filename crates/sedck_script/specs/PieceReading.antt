@@ -3,6 +3,9 @@ use Rattle.std.specs.Prelude.{◌≡◌, ◌≢◌, ℕ, ◌==◌, List, ◌∷�
 use Rattle.sedck_script.specs.Cuts.{newline, backslash, can_be_escaped}
 use Rattle.sedck_script.specs.Program.{Pattern}
 use Rattle.sedck_script.specs.Parts.{DelimitedExpression, IsPattern}
+use Rattle.sedck_script.specs.Faults.{IsPlaced}
+use Rattle.sedck_script.specs.declared.fault.ScriptFault.{ScriptFault}
+use Rattle.sedck_script.specs.declared.fault.ScriptFault.TheVariants as fault
 use Rattle.sedck_script.specs.declared.delimited.Piece.{Piece}
 use Rattle.sedck_script.specs.declared.delimited.Piece.TheVariants as piece
 
@@ -20,3 +23,8 @@ PatternText delimiter text pattern rest = (expression : List ℕ) × DelimitedEx
 -- what a backslash and this byte mean in a list of `y`
 abbrev pub list_escape : ℕ → Option ℕ
 list_escape b = if b == backslash then Some backslash else if b == 110 then Some newline else None
+
+-- what is known of the fault of a part: one without an end is reported at what opens the part
+abbrev pub IsPartPlaced : ℕ → List ℕ → ScriptFault → Type 0
+IsPartPlaced opening text (fault.Unterminated place) = place ≡ opening
+IsPartPlaced opening text other = IsPlaced text other

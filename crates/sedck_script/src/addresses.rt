@@ -5,8 +5,9 @@ ghost use Rattle.sedck_script.specs.Cuts.{is_delimiter};
 ghost use Rattle.sedck_script.specs.Program as clean;
 ghost use Rattle.sedck_script.specs.Program.{place_patterns, address_patterns};
 ghost use Rattle.sedck_script.specs.Parts.{PlaceText, AddressText};
-ghost use Rattle.sedck_script.specs.Faults.{StandsWhere, begins_part, IsPlaced};
+ghost use Rattle.sedck_script.specs.Faults.{IsPlaced};
 ghost use Rattle.sedck_script.specs.Reading.{EndsIn};
+ghost use Rattle.sedck_script.specs.PieceReading.{IsPartPlaced};
 ghost use Rattle.sedck_script.specs.AddressReading.{begins_address, IsEmptyAt, ContextText, CustomText, BeginsPlace, BeginsNoPlace, IsOnlyAddress, IsNoCommand, IsBehindComma, HasNoComma, IsSecond, BeginsNoSecond};
 ghost use Rattle.sedck_script.specs.View as view;
 
@@ -35,11 +36,10 @@ fn context<'a>(
 ) -> Result<(Place, Option<usize>, &'a [u8]), ScriptFault>
     requires delimiter { IsTrue (is_delimiter delimiter) }
     requires opened { EndsIn whole.now (delimiter ∷ text.now) }
-    requires begun { StandsWhere begins_part whole.now opening }
     ensures read { IfOk result (λ x. ContextText delimiter text.now (view.place_of x.0) x.2.now) }
     ensures empty { IfOk result (λ x. IsEmptyAt whole.now (place_patterns (view.place_of x.0)) x.1) }
     ensures refused { IfErr result (λ fault. fault ≢ ScriptFault.OutOfMemory → (p : clean.Place) (rest : List ℕ) → ContextText delimiter text.now p rest → ⊥) }
-    ensures placed { IfErr result (λ fault. IsPlaced whole.now fault) }
+    ensures placed { IfErr result (λ fault. IsPartPlaced opening whole.now fault) }
 {
     let (pattern, rest) = pattern(alloc, whole, opening, delimiter, text)?;
     let empty = match pattern {
@@ -57,11 +57,10 @@ fn custom_context<'a>(
     text: &'a [u8],
 ) -> Result<(Place, Option<usize>, &'a [u8]), ScriptFault>
     requires tail { EndsIn whole.now text.now }
-    requires begun { StandsWhere begins_part whole.now opening }
     ensures read { IfOk result (λ x. CustomText text.now (view.place_of x.0) x.2.now) }
     ensures empty { IfOk result (λ x. IsEmptyAt whole.now (place_patterns (view.place_of x.0)) x.1) }
     ensures refused { IfErr result (λ fault. fault ≢ ScriptFault.OutOfMemory → (p : clean.Place) (rest : List ℕ) → CustomText text.now p rest → ⊥) }
-    ensures placed { IfErr result (λ fault. IsPlaced whole.now fault) }
+    ensures placed { IfErr result (λ fault. IsPartPlaced opening whole.now fault) }
 {
     let Some((delimiter, behind)) = text.split_first() else {
         return Err(ScriptFault::Unterminated { place: opening });

@@ -4,11 +4,11 @@ ghost use Rattle.std.specs.Prelude.{◌≡◌, ◌≢◌, ◌<◌, ◌∷◌, �
 ghost use Rattle.sedck_bre.specs.Faults.{IsOfText};
 ghost use Rattle.sedck_script.specs.Cuts.{is_delimiter};
 ghost use Rattle.sedck_script.specs.Parts.{DelimitedExpression, DelimitedList};
-ghost use Rattle.sedck_script.specs.Faults.{StandsWhere, begins_part, IsRefusedExpression, IsPlaced};
+ghost use Rattle.sedck_script.specs.Faults.{IsRefusedExpression};
 ghost use Rattle.sedck_script.specs.Reading.{EndsIn};
 ghost use Rattle.sedck_script.specs.Program as clean;
 ghost use Rattle.sedck_script.specs.View.{pattern_of};
-ghost use Rattle.sedck_script.specs.PieceReading.{IsPiece, PatternText, list_escape};
+ghost use Rattle.sedck_script.specs.PieceReading.{IsPiece, PatternText, IsPartPlaced, list_escape};
 ghost use Rattle.sedck_script.specs.declared.delimited.Piece.{Piece};
 
 use crate::bytes::can_be_escaped;
@@ -39,10 +39,9 @@ pub fn piece_at<'a>(
 ) -> Result<(Piece, &'a [u8]), ScriptFault>
     requires delimiter { IsTrue (is_delimiter delimiter) }
     requires tail { EndsIn whole.now text.now }
-    requires begun { StandsWhere begins_part whole.now opening }
     ensures read { IfOk result (λ x. IsPiece delimiter text.now x.0 x.1.now) }
     ensures refused { IfErr result (λ fault. (piece : Piece) (rest : List ℕ) → IsPiece delimiter text.now piece rest → ⊥) }
-    ensures placed { IfErr result (λ fault. IsPlaced whole.now fault) }
+    ensures placed { IfErr result (λ fault. IsPartPlaced opening whole.now fault) }
 {
     let unterminated = ScriptFault::Unterminated { place: opening };
     let Some((first, behind)) = text.split_first() else {
@@ -93,10 +92,9 @@ fn delimited_expression<'a>(
 ) -> Result<(Vec<u8>, &'a [u8]), ScriptFault>
     requires delimiter { IsTrue (is_delimiter delimiter) }
     requires tail { EndsIn whole.now text.now }
-    requires begun { StandsWhere begins_part whole.now opening }
     ensures read { IfOk result (λ x. DelimitedExpression delimiter text.now x.0.items x.1.now) }
     ensures refused { IfErr result (λ fault. fault ≢ ScriptFault.OutOfMemory → (expression : List ℕ) (rest : List ℕ) → DelimitedExpression delimiter text.now expression rest → ⊥) }
-    ensures placed { IfErr result (λ fault. IsPlaced whole.now fault) }
+    ensures placed { IfErr result (λ fault. IsPartPlaced opening whole.now fault) }
 {
     let mut bytes = Vec::new(alloc);
     let mut rest = text;
@@ -121,7 +119,7 @@ fn delimited_expression<'a>(
 /// The fault of an expression that begins at the place.
 fn expression_fault(place: usize, fault: ReFault) -> ScriptFault
     ensures memory { result ≢ ScriptFault.OutOfMemory → IsOfText fault }
-    ensures placed { (text : List ℕ) → (IsOfText fault → IsRefusedExpression text place fault) → IsPlaced text result }
+    ensures placed { (text : List ℕ) (opening : ℕ) → (IsOfText fault → IsRefusedExpression text place fault) → IsPartPlaced opening text result }
 {
     match fault {
         ReFault::OutOfMemory => ScriptFault::OutOfMemory,
@@ -139,11 +137,10 @@ pub fn pattern<'a>(
 ) -> Result<(Pattern, &'a [u8]), ScriptFault>
     requires delimiter { IsTrue (is_delimiter delimiter) }
     requires opened { EndsIn whole.now (delimiter ∷ text.now) }
-    requires begun { StandsWhere begins_part whole.now opening }
     ensures read { IfOk result (λ x. PatternText delimiter text.now (pattern_of x.0) x.1.now) }
     ensures only { IfOk result (λ x. (p : clean.Pattern) (rest : List ℕ) → PatternText delimiter text.now p rest → (p ≡ pattern_of x.0) × (rest ≡ x.1.now)) }
     ensures refused { IfErr result (λ fault. fault ≢ ScriptFault.OutOfMemory → (p : clean.Pattern) (rest : List ℕ) → PatternText delimiter text.now p rest → ⊥) }
-    ensures placed { IfErr result (λ fault. IsPlaced whole.now fault) }
+    ensures placed { IfErr result (λ fault. IsPartPlaced opening whole.now fault) }
 {
     let (bytes, rest) = delimited_expression(alloc, whole, opening, delimiter, text)?;
     if bytes.is_empty() {
@@ -165,10 +162,9 @@ pub fn delimited_list<'a>(
 ) -> Result<(Vec<u8>, &'a [u8]), ScriptFault>
     requires delimiter { IsTrue (is_delimiter delimiter) }
     requires tail { EndsIn whole.now text.now }
-    requires begun { StandsWhere begins_part whole.now opening }
     ensures read { IfOk result (λ x. DelimitedList delimiter text.now x.0.items x.1.now) }
     ensures refused { IfErr result (λ fault. fault ≢ ScriptFault.OutOfMemory → (bytes : List ℕ) (rest : List ℕ) → DelimitedList delimiter text.now bytes rest → ⊥) }
-    ensures placed { IfErr result (λ fault. IsPlaced whole.now fault) }
+    ensures placed { IfErr result (λ fault. IsPartPlaced opening whole.now fault) }
 {
     let mut bytes = Vec::new(alloc);
     let mut rest = text;

@@ -4,9 +4,9 @@ ghost use Rattle.std.specs.Prelude.{◌≡◌, ◌≢◌, ◌≤◌, ◌<◌, �
 ghost use Rattle.sedck_script.specs.Cuts.{is_delimiter, Longest};
 ghost use Rattle.sedck_script.specs.Program as clean;
 ghost use Rattle.sedck_script.specs.Parts.{EscapedPart, Replacement, is_plain, greatest_group};
-ghost use Rattle.sedck_script.specs.Faults.{StandsWhere, begins_part, IsPlaced};
 ghost use Rattle.sedck_script.specs.Reading.{EndsIn};
 ghost use Rattle.sedck_script.specs.View.{pattern_of, part_of};
+ghost use Rattle.sedck_script.specs.PieceReading.{IsPartPlaced};
 ghost use Rattle.sedck_script.specs.ReplacementReading.{IsGroupWithin, HasGroupsUpTo, IsNextPart};
 
 use crate::bytes::{is_digit, is_letter, plain_len};
@@ -66,10 +66,9 @@ fn next_part<'a>(
 ) -> Result<(Option<Part<'a>>, &'a [u8]), ScriptFault>
     requires delimiter { IsTrue (is_delimiter delimiter) }
     requires tail { EndsIn whole.now text.now }
-    requires begun { StandsWhere begins_part whole.now opening }
     ensures read { IfOk result (λ x. IsNextPart delimiter greatest text.now (option_map part_of x.0) x.1.now) }
     ensures refused { IfErr result (λ fault. (parts : List clean.Part) (rest : List ℕ) → Replacement delimiter text.now parts rest → HasGroupsUpTo greatest parts → ⊥) }
-    ensures placed { IfErr result (λ fault. IsPlaced whole.now fault) }
+    ensures placed { IfErr result (λ fault. IsPartPlaced opening whole.now fault) }
 {
     let (piece, behind) = piece_at(whole, opening, delimiter, text)?;
     match piece {
@@ -104,11 +103,10 @@ pub fn replacement<'a>(
 ) -> Result<(Vec<Part<'a>>, &'a [u8]), ScriptFault>
     requires delimiter { IsTrue (is_delimiter delimiter) }
     requires tail { EndsIn whole.now text.now }
-    requires begun { StandsWhere begins_part whole.now opening }
     ensures read { IfOk result (λ x. Replacement delimiter text.now (map part_of x.0.items) x.1.now) }
     ensures groups { IfOk result (λ x. HasGroupsUpTo greatest (map part_of x.0.items)) }
     ensures refused { IfErr result (λ fault. fault ≢ ScriptFault.OutOfMemory → (parts : List clean.Part) (rest : List ℕ) → Replacement delimiter text.now parts rest → HasGroupsUpTo greatest parts → ⊥) }
-    ensures placed { IfErr result (λ fault. IsPlaced whole.now fault) }
+    ensures placed { IfErr result (λ fault. IsPartPlaced opening whole.now fault) }
 {
     let mut parts = Vec::new(alloc);
     let mut rest = text;

@@ -1,10 +1,11 @@
 //! The verbs with delimited parts: `s` and `y`.
 
-ghost use Rattle.std.specs.Prelude.{◌≡◌, ◌≢◌, ◌≤◌, ℕ, List, ◌∷◌, length, IsTrue, IfOk, IfErr};
+ghost use Rattle.std.specs.Prelude.{◌≡◌, ◌≢◌, ◌≤◌, ℕ, List, ◌∷◌, length, drop, IsTrue, IfOk, IfErr};
 ghost use Rattle.sedck_script.specs.Cuts.{is_delimiter};
 ghost use Rattle.sedck_script.specs.Program as clean;
 ghost use Rattle.sedck_script.specs.Items.{WrittenVerb, Known, VerbText};
-ghost use Rattle.sedck_script.specs.Faults.{StandsAt, StandsWhere, begins_part, IsPlaced};
+ghost use Rattle.sedck_script.specs.Faults.{StandsAt, IsPlaced};
+ghost use Rattle.sedck_script.specs.PieceReading.{IsPartPlaced};
 ghost use Rattle.sedck_script.specs.Reading.{EndsIn};
 ghost use Rattle.sedck_script.specs.VerbReading.{AreLists};
 ghost use Rattle.sedck_script.specs.View.{verb_of};
@@ -22,7 +23,7 @@ use std::alloc::Global;
 fn opening_delimiter<'a>(opening: usize, text: &'a [u8]) -> Result<(u8, &'a [u8]), ScriptFault>
     ensures read { IfOk result (λ x. (text.now ≡ x.0 ∷ x.1.now) × IsTrue (is_delimiter x.0)) }
     ensures refused { IfErr result (λ fault. (delimiter : ℕ) (rest : List ℕ) → text.now ≡ delimiter ∷ rest → IsTrue (is_delimiter delimiter) → ⊥) }
-    ensures placed { IfErr result (λ fault. (whole : List ℕ) → StandsWhere begins_part whole opening → IsPlaced whole fault) }
+    ensures placed { IfErr result (λ fault. (whole : List ℕ) → IsPartPlaced opening whole fault) }
 {
     let unterminated = ScriptFault::Unterminated { place: opening };
     let Some((delimiter, behind)) = text.split_first() else {
@@ -43,6 +44,7 @@ pub fn substitution<'a>(
 ) -> Result<(Verb<'a>, &'a [u8]), ScriptFault>
     requires tail { EndsIn whole.now text.now }
     requires stands { StandsAt whole.now place 115 }
+    requires here { drop place whole.now ≡ 115 ∷ text.now }
     ensures read { IfOk result (λ x. VerbText (115 ∷ text.now) (Known (verb_of x.0)) x.1.now) }
     ensures plain { IfOk result (λ x. (name : List ℕ) → verb_of x.0 ≢ clean.Label name) }
     ensures refused { IfErr result (λ fault. fault ≢ ScriptFault.OutOfMemory → (verb : WrittenVerb) (rest : List ℕ) → VerbText (115 ∷ text.now) verb rest → ⊥) }
@@ -77,7 +79,7 @@ fn equal_lists<'a>(
     requires stands { StandsAt whole.now place 121 }
     ensures read { IfOk result (λ x. AreLists delimiter text.now x.0.items x.1.items x.2.now) }
     ensures refused { IfErr result (λ fault. fault ≢ ScriptFault.OutOfMemory → (from to rest : List ℕ) → AreLists delimiter text.now from to rest → ⊥) }
-    ensures placed { IfErr result (λ fault. IsPlaced whole.now fault) }
+    ensures placed { IfErr result (λ fault. IsPartPlaced place whole.now fault) }
 {
     let (from, behind) = delimited_list(alloc, whole, place, delimiter, text)?;
     let (to, rest) = delimited_list(alloc, whole, place, delimiter, behind)?;
@@ -96,6 +98,7 @@ pub fn transliteration<'a>(
 ) -> Result<(Verb<'a>, &'a [u8]), ScriptFault>
     requires tail { EndsIn whole.now text.now }
     requires stands { StandsAt whole.now place 121 }
+    requires here { drop place whole.now ≡ 121 ∷ text.now }
     ensures read { IfOk result (λ x. VerbText (121 ∷ text.now) (Known (verb_of x.0)) x.1.now) }
     ensures plain { IfOk result (λ x. (name : List ℕ) → verb_of x.0 ≢ clean.Label name) }
     ensures refused { IfErr result (λ fault. fault ≢ ScriptFault.OutOfMemory → (verb : WrittenVerb) (rest : List ℕ) → VerbText (121 ∷ text.now) verb rest → ⊥) }

@@ -1,6 +1,6 @@
 //! Verbs with what they take.
 
-ghost use Rattle.std.specs.Prelude.{◌≡◌, ◌≢◌, ◌⊎◌, ◌-◌, ℕ, List, [], ◌∷◌, false, length, IsTrue, IfOk, IfErr, IfSome, IfNone};
+ghost use Rattle.std.specs.Prelude.{◌≡◌, ◌≢◌, ◌⊎◌, ◌-◌, ℕ, List, [], ◌∷◌, false, length, drop, IsTrue, IfOk, IfErr, IfSome, IfNone};
 ghost use Rattle.sedck_bre.specs.Text.{is_in, one_of};
 ghost use Rattle.sedck_script.specs.Program as clean;
 ghost use Rattle.sedck_script.specs.Items.{WrittenVerb, Known, Simple, VerbText, IsNoBrace};
@@ -141,6 +141,7 @@ fn known_verb<'a>(
     requires tail { EndsIn whole.now text.now }
     requires verb { one_of ":bt{}#" verb ≡ false }
     requires stands { StandsAt whole.now place verb }
+    requires here { drop place whole.now ≡ verb ∷ text.now }
     requires due { IsVerbDue whole.now place }
     ensures read { IfOk result (λ x. VerbText (verb ∷ text.now) (Known (verb_of x.0)) x.1.now) }
     ensures plain { IfOk result (λ x. (name : List ℕ) → verb_of x.0 ≢ clean.Label name) }

@@ -19,15 +19,15 @@ fn read(rt: &impl Abort, alloc: Global, text: &[u8]) -> Cert {
     cert
 }
 
-/// Whether the write behind each front of the text, which is the certificate's, is told to have failed, and nothing more
-/// was written, where each write takes one byte. A failing write takes none, or is interrupted.
+/// Whether the write behind each front of the text, which is the certificate's, is reported to have failed, and nothing
+/// more was written, where each write takes one byte. A failing write takes none, or is interrupted.
 fn fails_behind_each_front(rt: &impl Abort, alloc: Global, cert: &Cert, text: &[u8]) {
     for kind in [None, Some(ErrorKind::Interrupted)] {
         for room in 0..text.len() {
             let sink = sink_with(alloc, 1, room);
             let mut out = FromWrite::new(Writer { sink, kind });
-            let is_told = write_cert(cert, &mut out).is_err() && out.failed();
-            require(rt, is_told, text);
+            let is_reported = write_cert(cert, &mut out).is_err() && out.failed();
+            require(rt, is_reported, text);
             let written = out.into_inner().sink.bytes;
             require(rt, written.as_slice() == &text[..room], text);
         }

@@ -80,7 +80,7 @@ static KINDS: [ErrorKind; 40] = [
     ErrorKind::Other,
 ];
 
-/// Whether the failed read is told, and nothing is written.
+/// Whether the failed read is reported, and nothing is written.
 fn fails_at(
     rt: &impl Abort,
     alloc: Global,
@@ -118,7 +118,7 @@ fn failing_sources(rt: HostRuntime) {
     }
 }
 
-/// Whether the write behind the front of the report is told to have failed, and nothing more went out.
+/// Whether the write behind the front of a report is said to have failed, and nothing more went out.
 fn fails_behind(rt: &impl Abort, alloc: Global, engine: &Engine, script: &str, front: &str) {
     let (texts, ends) = ((script, LOOP_CERTIFICATE), (AMPLE, AMPLE, front.len()));
     let answer = ("cannot write", front);
@@ -192,7 +192,7 @@ fn limits(rt: HostRuntime) {
     }
 }
 
-/// The engine, the byte that the script's reader gives for ever, and what is told.
+/// The engine, the byte that the script's reader gives for ever, and the fault.
 static ENDLESS: [(Engine, u8, &'static str); 6] = [
     (Engine::Check, b'\n', "script fault 1 too-long at 1048576"),
     (Engine::Check, b' ', "script fault 1 too-long at 1048576"),
@@ -209,7 +209,7 @@ fn endless_sources(rt: HostRuntime) {
         let mut script = Endless { byte: *byte };
         let mut certificate = Endless { byte: b'\n' };
         let mut out = sink_with(rt.alloc(), 1, AMPLE);
-        let told = outcome(
+        let answer = outcome(
             &rt,
             rt.alloc(),
             engine,
@@ -217,7 +217,7 @@ fn endless_sources(rt: HostRuntime) {
             &mut certificate,
             &mut out,
         );
-        assert_eq!(rt; told.as_str(), *fault);
+        assert_eq!(rt; answer.as_str(), *fault);
         assert!(rt; out.bytes.is_empty());
     }
 }

@@ -238,9 +238,9 @@ fn are_judged(
     is_accepted: bool,
     report: &str,
 ) {
-    let (told, status) = if is_accepted { ("yes", 0) } else { ("no", 1) };
+    let (word, status) = if is_accepted { ("yes", 0) } else { ("no", 1) };
     for piece in [1, 100_000] {
-        let answer = (told, report);
+        let answer = (word, report);
         is_answered(rt, rt.alloc(), &Engine::Check, texts, piece, &NEVER, answer);
     }
     write_file(rt, folder, "script", texts.0);

@@ -47,23 +47,23 @@ pub fn outcome<R: Source, C: Source, W: Sink>(
     }
 }
 
-/// Whether these are the words that are told and the bytes that went out, and whether just the stream that failed is told.
+/// Whether this is reported and these bytes went out, and whether a stream is reported exactly where one failed.
 fn require_answer(
     rt: &impl Abort,
     script: &str,
-    told: (&str, &[u8]),
+    reported: (&str, &[u8]),
     failed: (bool, bool),
     answer: (&str, &str),
 ) {
-    assert_eq!(rt; told.0, answer.0, "{script}");
-    assert_eq!(rt; told.1, answer.1.as_bytes(), "{script}");
-    let holds = failed.0 == told.0.starts_with("cannot read")
-        && failed.1 == told.0.starts_with("cannot write");
+    assert_eq!(rt; reported.0, answer.0, "{script}");
+    assert_eq!(rt; reported.1, answer.1.as_bytes(), "{script}");
+    let holds = failed.0 == reported.0.starts_with("cannot read")
+        && failed.1 == reported.0.starts_with("cannot write");
     assert!(rt; holds, "{script}: {failed:?}");
 }
 
-/// Whether a run over a script and a certificate, read and written in pieces, is told so and writes the report, and
-/// whether a stream that failed is told.
+/// Whether a run over a script and a certificate, read and written in pieces, reports this and writes the report, and
+/// whether a stream that failed is reported.
 pub fn is_answered(
     rt: &impl Abort,
     alloc: Global,
@@ -76,9 +76,9 @@ pub fn is_answered(
     let mut script = source_of(texts.0.as_bytes(), piece, ends.0);
     let mut certificate = source_of(texts.1.as_bytes(), piece, ends.1);
     let mut out = sink_with(alloc, piece, ends.2);
-    let told = outcome(rt, alloc, engine, &mut script, &mut certificate, &mut out);
+    let reported = outcome(rt, alloc, engine, &mut script, &mut certificate, &mut out);
     let failed = (script.failed || certificate.failed, out.failed);
-    require_answer(rt, texts.0, (&told, &out.bytes), failed, answer);
+    require_answer(rt, texts.0, (&reported, &out.bytes), failed, answer);
 }
 
 /// The same over readers and writers of std, one byte a call. Their failing calls answer errors of this kind; where there is
@@ -105,8 +105,8 @@ pub fn is_answered_over_std(
         sink: sink_with(alloc, 1, ends.2),
         kind,
     });
-    let told = outcome(rt, alloc, engine, &mut script, &mut certificate, &mut out);
+    let reported = outcome(rt, alloc, engine, &mut script, &mut certificate, &mut out);
     let failed = (script.failed() || certificate.failed(), out.failed());
     let bytes = out.into_inner().sink.bytes;
-    require_answer(rt, texts.0, (&told, &bytes), failed, answer);
+    require_answer(rt, texts.0, (&reported, &bytes), failed, answer);
 }

@@ -235,8 +235,8 @@ fn has_inner_fault(rt: &impl Abort, alloc: Global, row: &InnerRow) {
     let text = repeated(rt, alloc, *parts);
     match parse(alloc, &text) {
         Err(ScriptFault::BadExpression { place: at, fault }) => {
-            let told = (at, fault.number(), fault.place());
-            assert_eq!(rt; told, (*place, *number, Some(*inner)), "{parts:?}");
+            let found = (at, fault.number(), fault.place());
+            assert_eq!(rt; found, (*place, *number, Some(*inner)), "{parts:?}");
         }
         _ => panic!(rt; "no expression is refused: {parts:?}"),
     }

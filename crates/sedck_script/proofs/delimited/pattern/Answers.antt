@@ -33,7 +33,7 @@ pub delimited_expression-requires-clause-tail : goal.delimited_expression-requir
 delimited_expression-requires-clause-tail c = tail_behind c.requires.opened refl
 
 pub returns-clause-placed : goal.returns-clause-placed
-returns-clause-placed c = c.expression_fault.ensures.placed c.args.whole.now (λ of_text.
+returns-clause-placed c = c.expression_fault.ensures.placed c.args.whole.now c.args.opening (λ of_text.
     refused_expression c.requires.opened c.requires.delimiter c.in_ok-bytes.ensures.read of_text
     (subst (λ t. IsPlaced t c.in-Err.fault) c.deref.ensures.value c.in-Err.ensures.place)
     (λ t s. c.in-Err.ensures.refused of_text t (subst (λ u. Shape u t) (sym c.deref.ensures.value) s)))

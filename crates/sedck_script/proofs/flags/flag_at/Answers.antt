@@ -1,7 +1,8 @@
 use Rattle.std.proofs.Common.{refl, ◌∙◌, sym}
 use Rattle.sedck_script.proofs.Outcomes.{if_err_always}
 use Rattle.sedck_script.proofs.Tails.{stands_at_tail}
-use Rattle.sedck_script.proofs.PlaceLemmas.{extra_digit}
+use Rattle.sedck_script.proofs.PlaceLemmas.{extra_digit, cut_at, unread_verb}
+use Rattle.sedck_script.proofs.VerbCases.{no_name}
 use Rattle.sedck_script.proofs.FlagLemmas.{no_flag, no_file, no_number, no_flags_end}
 use Rattle.sedck_script.proofs.flags.flag_at.Goals as goal
 
@@ -9,7 +10,11 @@ pub returns-in_default-name-clause-refused : goal.returns-in_default-name-clause
 returns-in_default-name-clause-refused c = λ q ps s r x. no_file c.in-Some.ensures.cases.0 c.if-first-eq119.true c.in_default-name.ensures.none x
 
 pub returns-in_default-name-clause-placed : goal.returns-in_default-name-clause-placed
-returns-in_default-name-clause-placed c = (_, stands_at_tail c.requires c.in-Some.ensures.cases.0, rw c.if-first-eq119.true refl)
+returns-in_default-name-clause-placed c = (
+  (_, stands_at_tail c.requires c.in-Some.ensures.cases.0, rw c.if-first-eq119.true refl),
+  unread_verb c.args.whole.now _ ((cut_at c.requires).1 ∙ c.in-Some.ensures.cases.0) (rw c.if-first-eq119.true refl)
+      (no_name c.in-Some.first.now (rw c.if-first-eq119.true refl) c.in_default-name.ensures.none),
+)
 
 pub returns-in_default-number-clause-refused : goal.returns-in_default-number-clause-refused
 returns-in_default-number-clause-refused c = λ q ps s r x. no_number c.in-Some.ensures.cases.0

@@ -3,13 +3,17 @@ use Rattle.sedck_script.specs.Reading.{EndsIn}
 use Rattle.sedck_script.specs.View.{pattern_of}
 use Rattle.sedck_script.proofs.Tails.{tail_tail, tail_behind, expression_tail, replacement_tail}
 use Rattle.sedck_script.proofs.Outcomes.{if_err_each, if_err_from}
+use Rattle.sedck_script.proofs.PlaceLemmas.{part_placed, unread_verb}
 use Rattle.sedck_script.proofs.WholeOne.{no_backslash}
-use Rattle.sedck_script.proofs.VerbLemmas.{substitute_read, substitute_no_pattern, substitute_no_parts, substitute_no_flags}
+use Rattle.sedck_script.proofs.VerbLemmas.{substitute_read, substitute_no_delimiter, substitute_no_pattern, substitute_no_parts, substitute_no_flags}
 use Rattle.sedck_script.proofs.substitutions.substitution.Goals as goal
 
 pub returns-in_err-delimiter-clause-placed : goal.returns-in_err-delimiter-clause-placed
 returns-in_err-delimiter-clause-placed c = if_err_from _ c.from_residual.result _ c.from_residual.ensures.1
-    (c.in_err-delimiter.ensures.placed c.args.whole.now (115, c.requires.stands, refl))
+    (part_placed c.args.place c.args.whole.now _ (c.in_err-delimiter.ensures.placed c.args.whole.now) (λ is. (
+      (115, c.requires.stands, refl),
+      unread_verb c.args.whole.now c.args.place c.requires.here refl (substitute_no_delimiter c.in_err-delimiter.ensures.refused),
+    )))
 
 pub pattern-requires-clause-opened : goal.pattern-requires-clause-opened
 pattern-requires-clause-opened c = subst (EndsIn c.args.whole.now) c.in_ok-delimiter.ensures.read.0 c.requires.tail
@@ -44,3 +48,22 @@ pub returns-clause-read : goal.returns-clause-read
 returns-clause-read c =
     substitute_read c.in_ok-delimiter.ensures.read.0 c.in_ok-delimiter.ensures.read.1 c.in_ok-pattern.ensures.read c.in_ok-parts.ensures.read
     (λ k i. subst (λ m. k ≤ m) c.greatest_group-greatest.ensures (c.in_ok-parts.ensures.groups k i)) (c.in_ok-seen.ensures.read _ _)
+
+pub returns-in_err-pattern-clause-placed : goal.returns-in_err-pattern-clause-placed
+returns-in_err-pattern-clause-placed c =
+    if_err_from _ c.from_residual-in_err-pattern.result _ c.from_residual-in_err-pattern.ensures.1
+    (part_placed c.args.place c.args.whole.now _ c.in_err-pattern.ensures.placed (λ is. (
+      (115, c.requires.stands, refl),
+      unread_verb c.args.whole.now c.args.place c.requires.here refl
+          (substitute_no_pattern c.in_ok-delimiter.ensures.read.0 (c.in_err-pattern.ensures.refused (λ memory. absurd (cc (is, memory))))),
+    )))
+
+pub returns-in_err-parts-clause-placed : goal.returns-in_err-parts-clause-placed
+returns-in_err-parts-clause-placed c =
+    if_err_from _ c.from_residual-in_err-parts.result _ c.from_residual-in_err-parts.ensures.1
+    (part_placed c.args.place c.args.whole.now _ c.in_err-parts.ensures.placed (λ is. (
+      (115, c.requires.stands, refl),
+      unread_verb c.args.whole.now c.args.place c.requires.here refl (substitute_no_parts _
+          (pattern_of c.in_ok-pattern.pattern) c.in_ok-delimiter.ensures.read.0 c.in_ok-pattern.ensures.only c.greatest_group-greatest.ensures
+          (c.in_err-parts.ensures.refused (λ memory. absurd (cc (is, memory))))),
+    )))

@@ -1,8 +1,9 @@
 use Rattle.std.proofs.Common.{refl}
 use Rattle.sedck_script.proofs.Tails.{tail_tail, tail_behind}
 use Rattle.sedck_script.proofs.Outcomes.{if_err_each, if_err_from}
+use Rattle.sedck_script.proofs.PlaceLemmas.{part_placed, unread_verb}
 use Rattle.sedck_script.proofs.WholeOne.{no_backslash}
-use Rattle.sedck_script.proofs.VerbLemmas.{transliterate_read, transliterate_no_lists, transliterate_no_end, lists_tail}
+use Rattle.sedck_script.proofs.VerbLemmas.{transliterate_read, transliterate_no_delimiter, transliterate_no_lists, transliterate_no_end, lists_tail}
 use Rattle.sedck_script.proofs.substitutions.transliteration.Goals as goal
 
 pub equal_lists-requires-clause-tail : goal.equal_lists-requires-clause-tail
@@ -26,4 +27,16 @@ returns-clause-read c = transliterate_read c.in_ok-delimiter.ensures.read.0 c.in
 
 pub returns-in_err-delimiter-clause-placed : goal.returns-in_err-delimiter-clause-placed
 returns-in_err-delimiter-clause-placed c = if_err_from _ c.from_residual.result _ c.from_residual.ensures.1
-    (c.in_err-delimiter.ensures.placed c.args.whole.now (121, c.requires.stands, refl))
+    (part_placed c.args.place c.args.whole.now _ (c.in_err-delimiter.ensures.placed c.args.whole.now) (λ is. (
+      (121, c.requires.stands, refl),
+      unread_verb c.args.whole.now c.args.place c.requires.here refl (transliterate_no_delimiter c.in_err-delimiter.ensures.refused),
+    )))
+
+pub returns-in_err-from-clause-placed : goal.returns-in_err-from-clause-placed
+returns-in_err-from-clause-placed c =
+    if_err_from _ c.from_residual-in_err-from.result _ c.from_residual-in_err-from.ensures.1
+    (part_placed c.args.place c.args.whole.now _ c.in_err-from.ensures.placed (λ is. (
+      (121, c.requires.stands, refl),
+      unread_verb c.args.whole.now c.args.place c.requires.here refl
+          (transliterate_no_lists c.in_ok-delimiter.ensures.read.0 (c.in_err-from.ensures.refused (λ memory. absurd (cc (is, memory))))),
+    )))

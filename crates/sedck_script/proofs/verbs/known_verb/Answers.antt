@@ -1,18 +1,38 @@
-use Rattle.std.proofs.Common.{◌∙◌, sym, subst}
-use Rattle.sedck_script.specs.Faults.{IsPlaced}
-use Rattle.sedck_script.proofs.Outcomes.{if_err_more}
+use Rattle.std.proofs.Common.{◌≡◌, ℕ, true, false, ◌∷◌, ◌∙◌, ap, sym, subst, arith}
+use Rattle.sedck_bre.specs.Text.{one_of}
+use Rattle.sedck_script.specs.Faults.{begins_address, IsPlaced}
+use Rattle.sedck_script.proofs.Outcomes.{if_err_both}
+use Rattle.sedck_script.proofs.PlaceLemmas.{unread_verb}
 use Rattle.sedck_script.proofs.VerbCases.{unknown_byte}
 use Rattle.sedck_script.proofs.verbs.known_verb.Goals as goal
 
+no_address_aci : (b : ℕ) → one_of "aci" b ≡ true → begins_address b ≡ false
+no_address_aci b h = grind (arith, h)
+
+no_address_rw : (b : ℕ) → one_of "rw" b ≡ true → begins_address b ≡ false
+no_address_rw b h = grind (arith, h)
+
 pub returns-then-contains-clause-placed : goal.returns-then-contains-clause-placed
 returns-then-contains-clause-placed c =
-    if_err_more c.text_verb.result (λ fault is. subst (IsPlaced c.args.whole.now) (sym is)
-    (c.args.verb, c.requires.stands, sym c.contains.ensures.value ∙ c.if-contains.true)) c.text_verb.ensures.placed
+    let listed = sym c.contains.ensures.value ∙ c.if-contains.true in
+    if_err_both c.text_verb.result (λ fault is none. subst (IsPlaced c.args.whole.now) (sym is) (
+      (c.args.verb, c.requires.stands, listed),
+      unread_verb c.args.whole.now c.args.place c.requires.here (no_address_aci c.args.verb listed) none,
+    )) c.text_verb.ensures.placed c.text_verb.ensures.refused
 
 pub returns-then-contains-2-clause-placed : goal.returns-then-contains-2-clause-placed
 returns-then-contains-2-clause-placed c =
-    if_err_more c.file_verb.result (λ fault is. subst (IsPlaced c.args.whole.now) (sym is)
-    (c.args.verb, c.requires.stands, sym c.contains-2.ensures.value ∙ c.if-contains-2.true)) c.file_verb.ensures.placed
+    let listed = sym c.contains-2.ensures.value ∙ c.if-contains-2.true in
+    if_err_both c.file_verb.result (λ fault is none. subst (IsPlaced c.args.whole.now) (sym is) (
+      (c.args.verb, c.requires.stands, listed),
+      unread_verb c.args.whole.now c.args.place c.requires.here (no_address_rw c.args.verb listed) none,
+    )) c.file_verb.ensures.placed c.file_verb.ensures.refused
+
+pub substitution-requires-clause-here : goal.substitution-requires-clause-here
+substitution-requires-clause-here c = c.requires.here ∙ ap (λ b. b ∷ c.args.text.now) c.if-verb-eq115.true
+
+pub transliteration-requires-clause-here : goal.transliteration-requires-clause-here
+transliteration-requires-clause-here c = c.requires.here ∙ ap (λ b. b ∷ c.args.text.now) c.if-verb-eq121.true
 
 pub simple_command-requires-clause-other : goal.simple_command-requires-clause-other
 simple_command-requires-clause-other c = λ none.

@@ -2,6 +2,7 @@ use Rattle.std.proofs.Common.{◌∷◌, refl, ap, ◌∙◌, subst}
 use Rattle.sedck_script.specs.Reading.{EndsIn}
 use Rattle.sedck_script.specs.Items.{opening}
 use Rattle.sedck_script.proofs.Tails.{tail_behind, stands_at_tail}
+use Rattle.sedck_script.proofs.PlaceLemmas.{cut_at}
 use Rattle.sedck_script.proofs.VerbCases.{verb_here, verb_behind}
 use Rattle.sedck_script.proofs.Outcomes.{if_ok_more, if_err_more}
 use Rattle.sedck_script.proofs.verbs.verb_at.Goals as goal
@@ -18,6 +19,9 @@ jump-requires-clause-tail c = subst (EndsIn c.args.whole.now) c.in-Some.ensures.
 
 pub known_verb-requires-clause-tail : goal.known_verb-requires-clause-tail
 known_verb-requires-clause-tail c = tail_behind c.requires.tail c.in-Some.ensures.cases.0
+
+pub known_verb-requires-clause-here : goal.known_verb-requires-clause-here
+known_verb-requires-clause-here c = (cut_at c.requires.tail).1 ∙ c.in-Some.ensures.cases.0
 
 pub known_verb-requires-clause-stands : goal.known_verb-requires-clause-stands
 known_verb-requires-clause-stands c = stands_at_tail c.requires.tail c.in-Some.ensures.cases.0
