@@ -24,6 +24,22 @@ use Rattle.sedck_script.specs.Invariant.{IsPart}
 use Rattle.sedck_script.specs.Keeping.{may_keep, kept_with, kept_from}
 use Rattle.sedck_script.specs.References.{HasNoWhole, named_groups, IsNotIn, AreDistinct, AreTopGroups, KeepsGroups}
 
+or_true : (b : Bool) → true ≡ (b || true)
+or_true true = refl
+or_true false = refl
+
+or_false : (b : Bool) → b ≡ (b || false)
+or_false true = refl
+or_false false = refl
+
+or_either : (a b c : Bool) → ((a || b) || c) ≡ (a || (b || c))
+or_either true b c = refl
+or_either false b c = refl
+
+or_none : (a b : Bool) → (a || b) ≡ false → (a ≡ false) × (b ≡ false)
+or_none true b e = absurd (false≢true (sym e))
+or_none false b e = (refl, e)
+
 -- ---- One group more
 
 abbrev pub IsWithin : ℕ → Type 0
@@ -56,17 +72,9 @@ more_named bits k j = go (k == j) refl
         let same : k ≡ j = grind (arith, nat_tests) in
         let here : names (bit_or bits (2 ^ k)) j ≡ true = subst (λ i. names (bit_or bits (2 ^ k)) i ≡ true) same (more_same bits k) in
         rw (s, here) (or_true (names bits j))
-      where
-        or_true : (b : Bool) → true ≡ (b || true)
-        or_true true = refl
-        or_true false = refl
     go false s =
         let other : j ≢ k = λ e. grind (arith, nat_tests, e) in
         rw (s, more_other bits k j other) (or_false (names bits j))
-      where
-        or_false : (b : Bool) → b ≡ (b || false)
-        or_false true = refl
-        or_false false = refl
 
 -- ---- One part more
 
@@ -96,18 +104,6 @@ pub record Keeps (pattern : Pattern) (bits : ℕ) (parts : List Part) (after : �
   pub apart : AreApart bits (named_groups parts)
   pub within : AllByRecursion IsWithin (named_groups parts)
   pub is : (j : ℕ) → names after j ≡ (names bits j || is_in j (named_groups parts))
-
-or_false : (b : Bool) → b ≡ (b || false)
-or_false true = refl
-or_false false = refl
-
-or_either : (a b c : Bool) → ((a || b) || c) ≡ (a || (b || c))
-or_either true b c = refl
-or_either false b c = refl
-
-or_none : (a b : Bool) → (a || b) ≡ false → (a ≡ false) × (b ≡ false)
-or_none true b e = absurd (false≢true (sym e))
-or_none false b e = (refl, e)
 
 -- what is apart from one group more is apart from it
 apart_more : (bits k : ℕ) (ks : List ℕ) → AreApart (bit_or bits (2 ^ k)) ks → IsNotIn k ks × AreApart bits ks

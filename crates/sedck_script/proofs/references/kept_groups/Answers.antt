@@ -8,7 +8,8 @@ kept_with-requires c = coded_part c.args.parts.now c.loop-part.part-index _ c.lo
 
 pub returns-in_err-groups : goal.returns-in_err-groups
 returns-in_err-groups c =
-    c.from_residual.ensures ∙ sym (c.loop-part.invariant ∙ kept_more (pattern_of c.args.pattern.now) c.loop-part.groups c.args.parts.now c.loop-part.part-index _
+    c.from_residual.ensures
+    ∙ sym (c.loop-part.invariant ∙ kept_more (pattern_of c.args.pattern.now) c.loop-part.groups c.args.parts.now c.loop-part.part-index _
     c.loop-part-test.true (sym c.in_err-groups.ensures))
 
 pub loop-part-preserved : goal.loop-part-preserved

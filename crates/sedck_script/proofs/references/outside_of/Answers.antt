@@ -19,11 +19,13 @@ returns-in_err-groups c =
 pub returns-in-Previous : goal.returns-in-Previous
 returns-in-Previous c =
     let parts = map part_of c.args.parts.now in
-    let kept = kept_keeps (pattern_of c.args.pattern.now) 0 parts c.in_ok-groups.groups (recursion_from_All IsPart parts c.requires) (sym c.in_ok-groups.ensures) in
+    let read = recursion_from_All IsPart parts c.requires in
+    let kept = kept_keeps (pattern_of c.args.pattern.now) 0 parts c.in_ok-groups.groups read (sym c.in_ok-groups.ensures) in
     (keeps_groups kept, subst (λ p. IsLeastOutside p (named_groups parts) 0) (sym (ap pattern_of c.in-Previous.is)) tt)
 
 -- what was read of an expression's replacement
-kept_of : {tree : Tree} {bits : ℕ} {pattern : Pattern} {parts : List Part} → pattern ≡ Expression tree → All IsPart parts → Some bits ≡ kept_from pattern (Some 0) parts
+kept_of : {tree : Tree} {bits : ℕ} {pattern : Pattern} {parts : List Part} → pattern ≡ Expression tree → All IsPart parts
+    → Some bits ≡ kept_from pattern (Some 0) parts
     → Keeps (Expression tree) 0 parts bits
 kept_of {bits = bits} {parts = parts} is h read =
     kept_keeps _ 0 parts bits (recursion_from_All IsPart parts h) (subst (λ p. kept_from p (Some 0) parts ≡ Some bits) is (sym read))
