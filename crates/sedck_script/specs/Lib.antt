@@ -4,6 +4,7 @@ pub use Rattle.sedck_bre.specs.Tree
 pub use Rattle.sedck_bre.specs.Match
 pub use Rattle.sedck_bre.specs.WellFormed
 pub use Rattle.sedck_bre.specs.Lengths
+pub use Rattle.sedck_bre.specs.Rests
 pub use Rattle.sedck_bre.specs.Shape
 pub mod Cuts
 pub mod Program
@@ -15,6 +16,8 @@ pub mod First
 pub mod Names
 pub mod Invariant
 pub mod Shortest
+pub mod References
+pub mod ReplacementView
 pub mod View
 pub mod Faults
 pub mod Reading
@@ -23,6 +26,7 @@ pub mod LabelReading
 pub mod PieceReading
 pub mod FlagReading
 pub mod ReplacementReading
+pub mod Keeping
 pub mod AddressReading
 pub mod ItemReading
 pub mod Progress
