@@ -35,5 +35,6 @@ pub mod NameLemmas
 pub mod Bounds
 pub mod SpelledScript
 pub mod ShortestLemmas
+pub mod ReferenceLemmas
 pub mod PlaceLemmas
 pub mod PlacesWithin

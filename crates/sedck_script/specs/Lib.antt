@@ -17,6 +17,7 @@ pub mod Names
 pub mod Invariant
 pub mod Shortest
 pub mod References
+pub mod ReplacementView
 pub mod View
 pub mod Faults
 pub mod Reading
@@ -25,6 +26,7 @@ pub mod LabelReading
 pub mod PieceReading
 pub mod FlagReading
 pub mod ReplacementReading
+pub mod Keeping
 pub mod AddressReading
 pub mod ItemReading
 pub mod Progress

@@ -7,23 +7,16 @@ use Rattle.sedck_script.specs.Program.{expressions}
 use Rattle.sedck_script.specs.Names.{reads, writes}
 use Rattle.sedck_script.specs.Invariant.{IsScript}
 use Rattle.sedck_script.specs.Shortest.{SomeHasLength}
-use Rattle.sedck_script.specs.declared.script.Pattern.{Pattern}
-use Rattle.sedck_script.specs.declared.script.Pattern.TheVariants as pattern
+pub use Rattle.sedck_script.specs.ReplacementView.{pattern_of, part_of}
 use Rattle.sedck_script.specs.declared.script.Place.{Place}
 use Rattle.sedck_script.specs.declared.script.Place.TheVariants as place
 use Rattle.sedck_script.specs.declared.script.Address.{Address}
 use Rattle.sedck_script.specs.declared.script.Address.TheVariants as address
-use Rattle.sedck_script.specs.declared.script.Part.{Part}
-use Rattle.sedck_script.specs.declared.script.Part.TheVariants as part
 use Rattle.sedck_script.specs.declared.script.Substitution.{Substitution}
 use Rattle.sedck_script.specs.declared.script.Verb.{Verb}
 use Rattle.sedck_script.specs.declared.script.Verb.TheVariants as verb
 use Rattle.sedck_script.specs.declared.script.Command.{Command}
 use Rattle.sedck_script.specs.declared.script.Script.TheInside.{Inside}
-
-abbrev pub pattern_of : Pattern → clean.Pattern
-pattern_of pattern.Previous = clean.Previous
-pattern_of (pattern.Expr e) = clean.Expression e
 
 abbrev pub place_of : Place → clean.Place
 place_of (place.Line n) = clean.Line n
@@ -34,13 +27,6 @@ abbrev pub address_of : Address → clean.Address
 address_of address.None = clean.NoAddress
 address_of (address.One p) = clean.One (place_of p)
 address_of (address.Two p q) = clean.Two (place_of p) (place_of q)
-
-abbrev pub part_of : Part → clean.Part
-part_of (part.Text t) = clean.Text t.now
-part_of part.Newline = clean.Newline
-part_of part.Tab = clean.Tab
-part_of part.Whole = clean.Whole
-part_of (part.Group k) = clean.Group k
 
 abbrev pub substitution_of : Substitution → clean.Substitution
 substitution_of s = record {

@@ -9,7 +9,8 @@
 //!   what its expressions match.
 //! - `Command`, `Address`, `Place`, `Pattern`, `Verb`, `Substitution` and `Part`: what a script is made of. Branches,
 //!   tests and blocks hold the place among the commands to which they lead, and texts and names are slices of the text
-//!   that was read.
+//!   that was read. A substitution knows which groups its replacement keeps, by the least length of a match outside of
+//!   them.
 //! - `ScriptFault`: why a text is no script; its number, its name and its place.
 //! - `laws`: what is proved of the grammar alone.
 //!
@@ -32,6 +33,7 @@ mod name_lists;
 mod names;
 mod numbers;
 mod parsing;
+mod references;
 mod replacements;
 mod resolving;
 mod script;

@@ -2,6 +2,8 @@
 
 ghost use Rattle.std.specs.Prelude.{◌≡◌, map};
 ghost use Rattle.sedck_script.specs.Program.{Program};
+ghost use Rattle.sedck_script.specs.ReplacementView.{pattern_of, part_of};
+ghost use Rattle.sedck_script.specs.References.{IsOutside};
 
 use crate::shortest::shortest_of;
 use sedck_bre::Expr;
@@ -44,6 +46,10 @@ pub struct Substitution<'a> {
     pub print: bool,
     pub nth: Option<u32>,
     pub file: Option<&'a [u8]>,
+    /// The least length of a match outside of the groups that the replacement names, where it has no
+    /// `&` and they are different items of the expression. An empty expression has no length here.
+    pub outside: Option<u32>,
+    pub ghost is_outside: { ∥ IsOutside (pattern_of pattern) (map part_of parts.items) outside ∥₁ },
 }
 
 #[derive(Drop)]

@@ -15,6 +15,7 @@ use crate::delimited::{delimited_list, pattern};
 use crate::ends::end_of_command;
 use crate::fault::ScriptFault;
 use crate::flags::flags;
+use crate::references::outside_of;
 use crate::replacements::{greatest_group, replacement};
 use crate::script::{Substitution, Verb};
 use std::alloc::Global;
@@ -55,6 +56,7 @@ pub fn substitution<'a>(
     let greatest = greatest_group(&pattern);
     let (parts, after) = replacement(alloc, whole, place, delimiter, greatest, behind)?;
     let (seen, file, rest) = flags(whole, after)?;
+    let outside = outside_of(&pattern, &parts);
     let substitution = Substitution {
         pattern,
         parts,
@@ -62,6 +64,7 @@ pub fn substitution<'a>(
         print: seen.print,
         nth: seen.nth,
         file,
+        outside,
     };
     Ok((Verb::Substitute(substitution), rest))
 }

@@ -1,11 +1,15 @@
-use Rattle.std.proofs.Common.{◌≤◌, refl, subst}
+use Rattle.std.proofs.Common.{◌≤◌, map, refl, sym, subst}
+use Rattle.std.specs.List.{All}
+use Rattle.std.proofs.lemmas.List.Elements.{All-from_recursion}
 use Rattle.sedck_script.specs.Reading.{EndsIn}
-use Rattle.sedck_script.specs.View.{pattern_of}
+use Rattle.sedck_script.specs.View.{pattern_of, part_of}
+use Rattle.sedck_script.specs.Invariant.{IsPart}
 use Rattle.sedck_script.proofs.Tails.{tail_tail, tail_behind, expression_tail, replacement_tail}
 use Rattle.sedck_script.proofs.Outcomes.{if_err_each, if_err_from}
 use Rattle.sedck_script.proofs.PlaceLemmas.{part_placed, unread_verb}
 use Rattle.sedck_script.proofs.WholeOne.{no_backslash}
 use Rattle.sedck_script.proofs.VerbLemmas.{substitute_read, substitute_no_delimiter, substitute_no_pattern, substitute_no_parts, substitute_no_flags}
+use Rattle.sedck_script.proofs.Bounds.{replacement_parts}
 use Rattle.sedck_script.proofs.substitutions.substitution.Goals as goal
 
 pub returns-in_err-delimiter-clause-placed : goal.returns-in_err-delimiter-clause-placed
@@ -32,6 +36,11 @@ returns-in_err-parts-clause-refused c =
     (λ memory. substitute_no_parts _
     (pattern_of c.in_ok-pattern.pattern) c.in_ok-delimiter.ensures.read.0 c.in_ok-pattern.ensures.only c.greatest_group-greatest.ensures
     (c.in_err-parts.ensures.refused memory))
+
+pub outside_of-outside-requires : goal.outside_of-outside-requires
+outside_of-outside-requires c =
+    subst (λ parts. All IsPart (map part_of parts)) (sym c.deref.ensures.value)
+    (All-from_recursion IsPart (map part_of c.in_ok-parts.parts.items) (replacement_parts c.in_ok-parts.ensures.read))
 
 pub flags-requires : goal.flags-requires
 flags-requires c =
