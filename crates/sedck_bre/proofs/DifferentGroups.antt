@@ -145,11 +145,10 @@ whole_rest : (t : Tree) → IsWellFormed t → ((k : ℕ) → is_top_group t k �
 whole_rest t f none ks top =
     let empty : ks ≡ [] = no_items t ks none top in
     let zero : (e : Groups) → texts_length e ks ≡ 0 = λ e. ap (texts_length e) empty in
-    let shortest = least-met t f in
-    (
+    let shortest = least-met t f in (
       least no_bounds t,
       least-rest t ks (least no_bounds t) (λ w e m. omega (arith, least-floor t w f.numbered (e, m), zero e))
-      (shortest.0, shortest.1.0, shortest.1.1, omega (arith, shortest.2, zero shortest.1.0)),
+          (shortest.0, shortest.1.0, shortest.1.1, omega (arith, shortest.2, zero shortest.1.0)),
     )
 
 pub least_rest_of : (t : Tree) → IsWellFormed t → (ks : List ℕ) → AreDifferentTopGroups t ks → (n : ℕ) × IsLeastRest t ks n

@@ -202,8 +202,8 @@ pub least-whole : (t : Tree) (bits n : ℕ) → ((k : ℕ) → names bits k ≡ 
 least-whole t bits n none h = record {
   floor = λ m (w, (e, matches), is). let zero = none-named bits none e in h.floor m (w, e, matches, omega (arith, is, zero));
   met = λ l.
-  let shortest = h.met l in
-  let zero = none-named bits none shortest.1 in
-  (shortest.0, (shortest.1, shortest.2), omega (arith, shortest.3, zero));
+      let shortest = h.met l in
+      let zero = none-named bits none shortest.1 in
+      (shortest.0, (shortest.1, shortest.2), omega (arith, shortest.3, zero));
   capped = h.capped;
 }
