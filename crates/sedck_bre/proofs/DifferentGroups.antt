@@ -1,10 +1,10 @@
 -- Outside of different groups that are items of the expression, however many there are, a match has a least rest.
-use Rattle.std.proofs.Common.{◌≡◌, ℕ, ◌+◌, ◌<◌, ◌≤◌, Bool, true, false, IsTrue, List, [], ◌∷◌, length, refl, sym, ap, ◌∙◌, arith}
+use Rattle.std.proofs.Common.{◌≡◌, ℕ, ◌+◌, ◌≤◌, Bool, true, false, IsTrue, List, [], ◌∷◌, length, refl, sym, ap, ◌∙◌, arith}
 use Rattle.std.specs.Prelude.{◌==◌, ◌||◌, if◌then◌else◌}
 use Rattle.std.proofs.lemmas.Bool.{false≢true}
 use Rattle.std.proofs.lemmas.Bool.Decides.{nat_tests}
 use Rattle.sedck_bre.specs.Tree.{Tree, Trees, Byte, Any, Set, Start, End, Maybe, Group, Ref, Seq, Repeat, Nil, Then, groups_in, groups_in_all, is_in}
-use Rattle.sedck_bre.specs.Match.{Groups, no_groups, text_of, Match}
+use Rattle.sedck_bre.specs.Match.{Groups, no_groups, Match}
 use Rattle.sedck_bre.specs.WellFormed.{CountsFrom, IsWellFormed}
 use Rattle.sedck_bre.specs.Rests.{is_item, is_top_group, texts_length, HasRest, IsLeastRest}
 use Rattle.sedck_bre.specs.Bounds.{no_bounds, least, after_all, outside_picked}

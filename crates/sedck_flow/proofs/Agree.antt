@@ -1,5 +1,5 @@
 -- The kind of a substitution is its kind by literal parts alone, or that one is Grow.
-use Rattle.std.proofs.Common.{◌≡◌, ◌⊎◌, ℕ, ◌≤◌, ◌<◌, ◌+◌, IsTrue, List, [], ◌∷◌, length, refl, sym, ap, subst, inl, inr, arith}
+use Rattle.std.proofs.Common.{◌≡◌, ◌⊎◌, IsTrue, List, [], ◌∷◌, refl, sym, ap, subst, inl, inr, arith}
 use Rattle.std.proofs.lemmas.Bool.{false≢true}
 use Rattle.sedck_bre.specs.Match.{Groups}
 use Rattle.sedck_bre.specs.Rests.{texts_length}

@@ -1,9 +1,8 @@
 -- The kind of a successful substitution from the least rest of a match.
-use Rattle.std.proofs.Common.{◌≡◌, ◌⊎◌, ℕ, zero, suc, ◌+◌, ◌<◌, ◌≤◌, List, [], ◌∷◌, map, length, get_or, take, refl, sym, ap, ◌∙◌, subst, inl, inr, arith}
+use Rattle.std.proofs.Common.{◌≡◌, ℕ, zero, suc, ◌+◌, ◌<◌, ◌≤◌, List, [], ◌∷◌, map, length, get_or, take, refl, sym, ap, ◌∙◌, subst, inl, inr, arith}
 use Rattle.std.proofs.Math.Logic.{∥∥₁_elim}
 use Rattle.std.proofs.Math.Bridge.{le_prop}
-use Rattle.std.specs.Prelude.{Option, Some, None, MatchOption}
-use Rattle.std.proofs.lemmas.Bool.{cases_lt}
+use Rattle.std.specs.Prelude.{Option, Some, None}
 use Rattle.std.proofs.lemmas.List.{get_or-map, length-map}
 use Rattle.sedck_bre.specs.Tree.{Tree}
 use Rattle.sedck_bre.specs.Match.{Groups, no_groups, Match}
@@ -21,7 +20,7 @@ use Rattle.sedck_flow.specs.Patterns.{StandsFor}
 use Rattle.sedck_flow.specs.Flow.{IsWholeAlone, HasKind}
 use Rattle.sedck_flow.specs.Least.{IsFormed, IsAtMostRests, IsBelowRests, IsLeastOfRests}
 use Rattle.sedck_flow.specs.declared.graph.Kind.TheVariants.{Shorten, Keep, Grow}
-use Rattle.sedck_flow.proofs.References.{Decided, keeps_groups_or_not, different_groups, no_groups_of_previous}
+use Rattle.sedck_flow.proofs.References.{keeps_groups_or_not, different_groups, no_groups_of_previous}
 
 -- ---- The replacement
 

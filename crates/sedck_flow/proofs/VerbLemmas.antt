@@ -1,5 +1,5 @@
 -- The edges that are found for a verb are those that it has.
-use Rattle.std.proofs.Common.{◌≡◌, ◌⊎◌, ◌↔◌, ℕ, suc, Bool, true, false, List, [], refl, sym, ap, ◌∙◌, subst, inl, inr, arith}
+use Rattle.std.proofs.Common.{◌≡◌, ◌⊎◌, ◌↔◌, ℕ, Bool, true, false, List, [], refl, sym, ap, ◌∙◌, subst, inl, inr, arith}
 use Rattle.std.specs.Prelude.{if◌then◌else◌}
 use Rattle.sedck_script.specs.Program.{Address, Two, Verb, Change, DeleteFirstLine, Next, Substitution, Substitute, Test, Program}
 use Rattle.sedck_script.specs.View.{verb_of}
