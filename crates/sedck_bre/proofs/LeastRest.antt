@@ -9,7 +9,7 @@ use Rattle.sedck_bre.specs.Tree.{Tree, Trees, Byte, Any, Set, Start, End, Maybe,
 use Rattle.sedck_bre.specs.Match.{Groups, no_groups, text_of, with_text, Match, MatchAll}
 use Rattle.sedck_bre.specs.WellFormed.{CountsFrom, IsWellFormed}
 use Rattle.sedck_bre.specs.Rests.{names, named, NamesTopGroups, texts_length, HasRest, IsLeastRest}
-use Rattle.sedck_bre.specs.Bounds.{Bounds, no_bounds, least, after, least_all, after_all, own, outside}
+use Rattle.sedck_bre.specs.Bounds.{Bounds, no_bounds, least, after, least_all, after_all, own_beside, outside_picked, outside}
 use Rattle.sedck_bre.specs.Lengths.{cap, IsLeastSize, HasLength}
 use Rattle.sedck_bre.proofs.LeastLemmas.{CountsFrom-left, CountsFrom-right, FreshFrom, after-fresh, after_all-below, with_bound-same}
 use Rattle.sedck_bre.proofs.Floor.{Reaches, floor, floor_all, least-floor}
@@ -22,9 +22,9 @@ abbrev pub lengths : Groups → ℕ → ℕ
 lengths e k = length (text_of e k)
 
 -- the text of a group that is an item is what the item matched
-own_floor : (bits : ℕ) (known : Bounds) (t : Tree) (n : ℕ) (e d e' : Groups) (u : List ℕ) → CountsFrom n (groups_in t) → least known t ≤ length u
-    → Match t e u d → ((k : ℕ) → k < n + length (groups_in t) → e' k ≡ d k) → own bits known t + item_sum (names bits) (lengths e') t ≤ length u
-own_floor bits known (Group k body) n e d e' u h low m same = go (names bits k) refl
+own_floor : (picked : ℕ → Bool) (known : Bounds) (t : Tree) (n : ℕ) (e d e' : Groups) (u : List ℕ) → CountsFrom n (groups_in t) → least known t ≤ length u
+    → Match t e u d → ((k : ℕ) → k < n + length (groups_in t) → e' k ≡ d k) → own_beside picked known t + item_sum picked (lengths e') t ≤ length u
+own_floor picked known (Group k body) n e d e' u h low m same = go (picked k) refl
   where
     text : text_of e' k ≡ u
     text =
@@ -33,63 +33,63 @@ own_floor bits known (Group k body) n e d e' u h low m same = go (names bits k) 
         let put : with_text m.1 k u k ≡ Some u = rw here refl in
         ap (λ o. unwrap_or o []) (same k (omega arith) ∙ ap (λ (g : Groups). g k) m.4 ∙ put)
 
-    go : (b : Bool) → names bits k ≡ b → own bits known (Group k body) + item_sum (names bits) (lengths e') (Group k body) ≤ length u
+    go : (b : Bool) → picked k ≡ b → own_beside picked known (Group k body) + item_sum picked (lengths e') (Group k body) ≤ length u
     go true s = rw s (omega (arith, ap length text))
     go false s = rw s (omega (arith, low))
-own_floor bits known (Byte b) n e d e' u h low m same = omega (arith, low)
-own_floor bits known Any n e d e' u h low m same = omega (arith, low)
-own_floor bits known (Set words) n e d e' u h low m same = omega (arith, low)
-own_floor bits known Start n e d e' u h low m same = omega arith
-own_floor bits known End n e d e' u h low m same = omega arith
-own_floor bits known (Maybe b) n e d e' u h low m same = omega arith
-own_floor bits known (Ref k) n e d e' u h low m same = omega (arith, low)
-own_floor bits known (Seq ts) n e d e' u h low m same = omega (arith, low)
-own_floor bits known (Repeat body l most) n e d e' u h low m same = omega (arith, low)
+own_floor picked known (Byte b) n e d e' u h low m same = omega (arith, low)
+own_floor picked known Any n e d e' u h low m same = omega (arith, low)
+own_floor picked known (Set words) n e d e' u h low m same = omega (arith, low)
+own_floor picked known Start n e d e' u h low m same = omega arith
+own_floor picked known End n e d e' u h low m same = omega arith
+own_floor picked known (Maybe b) n e d e' u h low m same = omega arith
+own_floor picked known (Ref k) n e d e' u h low m same = omega (arith, low)
+own_floor picked known (Seq ts) n e d e' u h low m same = omega (arith, low)
+own_floor picked known (Repeat body l most) n e d e' u h low m same = omega (arith, low)
 
 -- no match has less outside
-pub outside-floor : (bits : ℕ) (ts : Trees) (n : ℕ) (known : Bounds) → CountsFrom n (groups_in_all ts) → FreshFrom n known → (e e' : Groups) (w : List ℕ)
-    → Reaches known e → MatchAll ts e w e' → outside bits known ts + items_sum (names bits) (lengths e') ts ≤ length w
-outside-floor bits Nil n known h f e e' w r m = omega arith
-outside-floor bits (Then t ts) n known h f e e' w r m =
+pub outside-floor : (picked : ℕ → Bool) (ts : Trees) (n : ℕ) (known : Bounds) → CountsFrom n (groups_in_all ts) → FreshFrom n known → (e e' : Groups) (w : List ℕ)
+    → Reaches known e → MatchAll ts e w e' → outside_picked picked known ts + items_sum picked (lengths e') ts ≤ length w
+outside-floor picked Nil n known h f e e' w r m = omega arith
+outside-floor picked (Then t ts) n known h f e e' w r m =
     let u = m.0 in
     let v = m.1 in
     let one = CountsFrom-left n (groups_in t) (groups_in_all ts) h in
     let more = CountsFrom-right n (groups_in t) (groups_in_all ts) h in
     let first = floor t n known one f e m.2 u r m.4 in
-    let mine = own_floor bits known t n e m.2 e' u one first.0 m.4 (λ k l. all_leave ts (n + length (groups_in t)) k more l m.2 v e' m.5) in
-    let others = outside-floor bits ts (n + length (groups_in t)) (after known t) more (after-fresh t n known one f) m.2 e' v first.1 m.5 in
+    let mine = own_floor picked known t n e m.2 e' u one first.0 m.4 (λ k l. all_leave ts (n + length (groups_in t)) k more l m.2 v e' m.5) in
+    let others = outside-floor picked ts (n + length (groups_in t)) (after known t) more (after-fresh t n known one f) m.2 e' v first.1 m.5 in
     omega (arith, ap length m.3, length-append u v, mine, others)
 
-own-split : (bits : ℕ) (known final : Bounds) (t : Tree) (n : ℕ) → CountsFrom n (groups_in t)
-    → ((k : ℕ) → k < n + length (groups_in t) → final k ≡ after known t k) → least known t ≡ own bits known t + item_sum (names bits) final t
-own-split bits known final (Group k body) n h settled = go (names bits k) refl
+own-split : (picked : ℕ → Bool) (known final : Bounds) (t : Tree) (n : ℕ) → CountsFrom n (groups_in t)
+    → ((k : ℕ) → k < n + length (groups_in t) → final k ≡ after known t k) → least known t ≡ own_beside picked known t + item_sum picked final t
+own-split picked known final (Group k body) n h settled = go (picked k) refl
   where
-    go : (b : Bool) → names bits k ≡ b → least known body ≡ own bits known (Group k body) + item_sum (names bits) final (Group k body)
+    go : (b : Bool) → picked k ≡ b → least known body ≡ own_beside picked known (Group k body) + item_sum picked final (Group k body)
     go true s =
         let first : k ≡ n = h.0 in
         let last : final k ≡ least known body = settled k (omega arith) ∙ with_bound-same (after known body) k (least known body) in
         rw s (omega (arith, last))
     go false s = rw s (omega arith)
-own-split bits known final (Byte b) n h settled = refl
-own-split bits known final Any n h settled = refl
-own-split bits known final (Set words) n h settled = refl
-own-split bits known final Start n h settled = refl
-own-split bits known final End n h settled = refl
-own-split bits known final (Maybe b) n h settled = refl
-own-split bits known final (Ref k) n h settled = omega arith
-own-split bits known final (Seq ts) n h settled = omega arith
-own-split bits known final (Repeat body l most) n h settled = omega arith
+own-split picked known final (Byte b) n h settled = refl
+own-split picked known final Any n h settled = refl
+own-split picked known final (Set words) n h settled = refl
+own-split picked known final Start n h settled = refl
+own-split picked known final End n h settled = refl
+own-split picked known final (Maybe b) n h settled = refl
+own-split picked known final (Ref k) n h settled = omega arith
+own-split picked known final (Seq ts) n h settled = omega arith
+own-split picked known final (Repeat body l most) n h settled = omega arith
 
 -- the least length is what is outside, and the least lengths of the named groups
-pub outside-split : (bits : ℕ) (ts : Trees) (n : ℕ) (known : Bounds) → CountsFrom n (groups_in_all ts)
-    → least_all known ts ≡ outside bits known ts + items_sum (names bits) (after_all known ts) ts
-outside-split bits Nil n known h = refl
-outside-split bits (Then t ts) n known h =
+pub outside-split : (picked : ℕ → Bool) (ts : Trees) (n : ℕ) (known : Bounds) → CountsFrom n (groups_in_all ts)
+    → least_all known ts ≡ outside_picked picked known ts + items_sum picked (after_all known ts) ts
+outside-split picked Nil n known h = refl
+outside-split picked (Then t ts) n known h =
     let one = CountsFrom-left n (groups_in t) (groups_in_all ts) h in
     let more = CountsFrom-right n (groups_in t) (groups_in_all ts) h in
     let final = after_all (after known t) ts in
-    let mine = own-split bits known final t n one (λ k l. after_all-below ts (n + length (groups_in t)) (after known t) k more l) in
-    let others = outside-split bits ts (n + length (groups_in t)) (after known t) more in
+    let mine = own-split picked known final t n one (λ k l. after_all-below ts (n + length (groups_in t)) (after known t) k more l) in
+    let others = outside-split picked ts (n + length (groups_in t)) (after known t) more in
     omega (arith, mine, others)
 
 abbrev nine : List ℕ
@@ -112,7 +112,7 @@ none-named bits none e = texts_sum e (names bits) nine ∙ sum_of-none (names bi
 pub rest-floor : (bits : ℕ) (ts : Trees) → CountsFrom 1 (groups_in_all ts) → NamesTopGroups (Seq ts) bits → (w : List ℕ) (e : Groups)
     → Match (Seq ts) no_groups w e → outside bits no_bounds ts + texts_length e (named bits) ≤ length w
 rest-floor bits ts h top w e m =
-    let low = outside-floor bits ts 1 no_bounds h (λ k l. refl) no_groups e w (λ k. omega arith) m in
+    let low = outside-floor (names bits) ts 1 no_bounds h (λ k l. refl) no_groups e w (λ k. omega arith) m in
     let same = named-sum bits ts h top e in
     omega (arith, low, same)
 
@@ -125,7 +125,7 @@ rest-met bits ts f top =
     let m = shortest.1.1 in
     let long = (floor_all ts 1 no_bounds f.numbered (λ k l. refl) no_groups e w (λ k. omega arith) m).1 in
     let low = rest-floor bits ts f.numbered top w e m in
-    let cut = outside-split bits ts 1 no_bounds f.numbered in
+    let cut = outside-split (names bits) ts 1 no_bounds f.numbered in
     let more = items_sum-grows (names bits) (after_all no_bounds ts) (lengths e) ts long in
     let same = named-sum bits ts f.numbered top e in
     (w, e, m, omega (arith, shortest.2, low, cut, more, same))
@@ -144,7 +144,7 @@ whole-met bits t f none =
     let zero = none-named bits none shortest.1.0 in
     (shortest.0, shortest.1.0, shortest.1.1, omega (arith, shortest.2, zero))
 
-least-rest : (t : Tree) (groups : List ℕ) (n : ℕ) → ((w : List ℕ) (e : Groups) → Match t no_groups w e → n + texts_length e groups ≤ length w)
+pub least-rest : (t : Tree) (groups : List ℕ) (n : ℕ) → ((w : List ℕ) (e : Groups) → Match t no_groups w e → n + texts_length e groups ≤ length w)
     → HasRest t groups n → IsLeastRest t groups n
 least-rest t groups n low met = record {
   floor = λ w e m. let fits = low w e m in (length w - texts_length e groups, omega (arith, fits), omega (arith, fits));

@@ -30,4 +30,5 @@ pub mod Tails
 pub mod Untouched
 pub mod NamedSums
 pub mod LeastRest
+pub mod DifferentGroups
 pub mod TopGroup

@@ -89,7 +89,7 @@ item_sum-below picked f (Ref k) n j h l = refl
 item_sum-below picked f (Seq ts) n j h l = refl
 item_sum-below picked f (Repeat body least most) n j h l = refl
 
-items_sum-below : (picked : ℕ → Bool) (f : ℕ → ℕ) (ts : Trees) (n j : ℕ) → CountsFrom n (groups_in_all ts) → j < n
+pub items_sum-below : (picked : ℕ → Bool) (f : ℕ → ℕ) (ts : Trees) (n j : ℕ) → CountsFrom n (groups_in_all ts) → j < n
     → items_sum (without j picked) f ts ≡ items_sum picked f ts
 items_sum-below picked f Nil n j h l = refl
 items_sum-below picked f (Then t ts) n j h l =
@@ -125,7 +125,7 @@ abbrev pub PicksItems : (ℕ → Bool) → ℕ → List ℕ → Trees → Type 0
 PicksItems picked a ks ts = (k : ℕ) → picked k ≡ true → ((a ≤ k) × (k < a + length ks) × (is_item k ts ≡ true))
 
 -- an item behind the first
-later_item : (a b : Bool) → a ≡ false → (a || b) ≡ true → b ≡ true
+pub later_item : (a b : Bool) → a ≡ false → (a || b) ≡ true → b ≡ true
 later_item a b other h = rw other at h
 
 -- once a group is taken away, what is picked is behind it

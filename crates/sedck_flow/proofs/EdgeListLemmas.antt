@@ -1,5 +1,5 @@
 -- Edges put in order one by one.
-use Rattle.std.proofs.Common.{◌≡◌, ◌≢◌, ◌⊎◌, ◌↔◌, ℕ, zero, suc, ◌+◌, ◌*◌, ◌<◌, ◌≤◌, false, List, [], ◌∷◌, ◌++◌, length, get_or, set, take, drop, Contains, refl, sym, ap, ◌∙◌, subst, inl, inr, arith}
+use Rattle.std.proofs.Common.{◌≡◌, ◌⊎◌, ◌↔◌, ℕ, zero, suc, ◌<◌, ◌≤◌, false, List, [], ◌∷◌, ◌++◌, length, get_or, set, take, drop, Contains, refl, sym, ap, ◌∙◌, subst, inl, inr, arith}
 use Rattle.sedck_script.proofs.SortedNames.{Contains-cons_cases, Contains-cons_more}
 use Rattle.sedck_flow.specs.Flow.{IsEarlier, AreInOrder}
 use Rattle.sedck_flow.specs.EdgeList.{AddsEdge, ListsTargets}

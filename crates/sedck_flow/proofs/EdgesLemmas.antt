@@ -1,13 +1,17 @@
 -- The edges that are found for a node are those that leave it.
-use Rattle.std.proofs.Common.{◌≡◌, ℕ, zero, suc, ◌<◌, ◌≤◌, true, false, IsTrue, List, [], ◌∷◌, map, length, get_or, drop, refl, sym, ap, ◌∙◌, subst, inl, inr, arith}
+use Rattle.std.proofs.Common.{◌≡◌, ℕ, zero, suc, ◌<◌, ◌≤◌, true, false, IsTrue, List, [], ◌∷◌, map, length, get_or, drop, Contains, refl, sym, ap, ◌∙◌, subst, inl, inr, arith}
 use Rattle.std.specs.Prelude.{Option, Some, None, MatchOption, option_map, slice_get}
 use Rattle.std.proofs.lemmas.Option.{get_or_from_slice_get, slice_get-map, slice_get_read, slice_get_past, slice_get_within}
 use Rattle.std.proofs.lemmas.List.{length-map}
 use Rattle.std.proofs.lemmas.List.Elements.{All-contains}
-use Rattle.sedck_script.specs.Invariant.{IsTargetWithin, IsReplacement, IsScript}
-use Rattle.sedck_script.specs.Program.{Verb, Branch, Test, Block, Command, Program}
+use Rattle.sedck_script.specs.Invariant.{IsTargetWithin, IsReplacement, AreWellFormed, IsScript}
+use Rattle.sedck_script.specs.Program.{Pattern, Previous, Expression, Verb, Branch, Test, Block, Substitute, Command, Program, expressions}
 use Rattle.sedck_script.specs.View.{command_of}
 use Rattle.sedck_script.specs.declared.script.Command.{Command as Coded}
+use Rattle.sedck_bre.specs.Tree.{Tree}
+use Rattle.sedck_bre.specs.WellFormed.{IsWellFormed}
+use Rattle.sedck_flow.specs.Patterns.{StandsFor}
+use Rattle.sedck_flow.specs.Least.{IsFormed, HasFormed}
 use Rattle.sedck_flow.specs.Run.{is_conditional}
 use Rattle.sedck_flow.specs.Nodes.{start}
 use Rattle.sedck_flow.specs.Flow.{VerbEdge, node_past, CommandEdge, Flow, FlowFrom, ListsEdges}
@@ -19,6 +23,7 @@ use Rattle.sedck_flow.specs.declared.graph.Kind.TheVariants.{Consume, Keep}
 use Rattle.sedck_flow.proofs.EdgeListLemmas.{lists_more, lists_same}
 use Rattle.sedck_flow.proofs.VerbLemmas.{Only, edge}
 use Rattle.sedck_flow.proofs.Inside.{target_at}
+use Rattle.sedck_flow.proofs.Follows.{IsKnown, known_at}
 
 -- ---- What is still to come
 
@@ -87,6 +92,18 @@ pub has_replacement : (p : Program) → IsScript p → (at : ℕ) (c : Command) 
 has_replacement p script at c e =
     All-contains (λ (d : Command). IsReplacement d.verb) p.commands c script.replacements
     (at, slice_get_within p.commands at c e, get_or_from_slice_get p.commands at c c e)
+
+formed_pattern : (p : Program) → AreWellFormed p → (pattern : Pattern) → ((tree : Tree) → StandsFor p pattern tree → Contains (expressions p.commands) tree)
+    → IsFormed pattern
+formed_pattern p formed Previous known = tt
+formed_pattern p formed (Expression own) known = All-contains IsWellFormed (expressions p.commands) own formed (known own refl)
+
+formed_verb : (p : Program) → AreWellFormed p → (v : Verb) → IsKnown p v → HasFormed v
+formed_verb p formed (Substitute s) known = formed_pattern p formed s.pattern known
+formed_verb p formed _ known = tt
+
+pub has_formed : (p : Program) → IsScript p → (at : ℕ) (c : Command) → slice_get p.commands at ≡ Some c → HasFormed c.verb
+has_formed p script at c e = formed_verb p script.formed c.verb (known_at p at c e)
 
 -- ---- Where the code reads the commands
 

@@ -3,15 +3,17 @@ use Rattle.std.proofs.Common.{◌≡◌, ℕ, ◌≤◌, Bool, true, false, List
 use Rattle.std.specs.Prelude.{codes}
 use Rattle.std.specs.Fmt.{digits}
 use Rattle.sedck_bre.specs.Tree.{Tree}
-use Rattle.sedck_bre.specs.Match.{no_groups, Match, Language}
+use Rattle.sedck_bre.specs.Match.{Groups, no_groups, text_of, with_text, Match, Language}
 use Rattle.sedck_script.proofs.SortedNames.{Contains-cons_cases}
-use Rattle.sedck_flow.specs.Flow.{Shortens, NeverLengthens}
+use Rattle.sedck_flow.specs.Flow.{Shortens, NeverLengthens, HasKind}
+use Rattle.sedck_script.specs.References.{HasNoWhole, named_groups, AreDistinct, AreTopGroups, KeepsGroups}
+use Rattle.sedck_script.specs.Program.{Expression, Part, Group as Reference}
 use Rattle.sedck_flow.specs.Run.{Machine, At}
 use Rattle.sedck_flow.specs.declared.graph.Node.{Node}
-use Rattle.sedck_flow.specs.declared.graph.Kind.TheVariants.{Shorten}
+use Rattle.sedck_flow.specs.declared.graph.Kind.TheVariants.{Shorten, Keep}
 use Rattle.sedck_flow.specs.Substitutes.{Found}
 use Rattle.sedck_flow.specs.Words.{edge_words}
-use Rattle.sedck_flow.specs.Examples.{ExamplesHold, one_x, any_xs, replacing, delete_matches, a_then_b, one_c, replacing_previous, replace_previous, edge}
+use Rattle.sedck_flow.specs.Examples.{ExamplesHold, one_x, any_xs, replacing, delete_matches, a_then_b, one_c, replacing_previous, replace_previous, b_in_group, replace_once, group_in_dashes, edge}
 use Rattle.sedck_flow.proofs.States.{at_inj}
 
 -- an empty match, and what stands behind it
@@ -32,18 +34,25 @@ at_node at flag = record { at = at; flag = flag }
 length-one_x : (text : List ℕ) (groups : _) → Match one_x no_groups text groups → length text ≡ 1
 length-one_x text groups (u, v, d, cut, (first, _), (rest, _)) = omega (arith, ap length cut, length-append u v, ap length first, ap length rest)
 
+no_parts : KeepsGroups (Expression one_x) []
+no_parts = record { no_whole = tt; distinct = tt; top = tt }
+
 x_shortens : Shortens (delete_matches one_x) (replacing one_x [] false)
-x_shortens = (refl, λ text (tree, is, (groups, m)). omega (arith, length-one_x text groups (subst (λ t. Match t no_groups text groups) is m)))
+x_shortens = (no_parts, λ tree text groups is m. omega (arith, length-one_x text groups (subst (λ t. Match t no_groups text groups) is m)))
+
+x_not_kept : HasKind (delete_matches one_x) (replacing one_x [] false) Keep → ⊥
+x_not_kept (inl alone) = alone
+x_not_kept (inr h) = h.0 x_shortens
 
 -- `x*` matches the empty text
 matches_empty : Match any_xs no_groups [] no_groups
 matches_empty = ([], [], no_groups, refl, (0, omega arith, (refl, refl)), (refl, refl))
 
 xs_not_shorten : ¬ Shortens (delete_matches any_xs) (replacing any_xs [] false)
-xs_not_shorten h = let short = h.1 [] (any_xs, refl, (no_groups, matches_empty)) in omega (arith, short)
+xs_not_shorten h = let short = h.1 any_xs [] no_groups refl matches_empty in omega (arith, short)
 
 xs_never_lengthen : NeverLengthens (delete_matches any_xs) (replacing any_xs [] false)
-xs_never_lengthen = (refl, λ text h. omega arith)
+xs_never_lengthen = (record { no_whole = tt; distinct = tt; top = tt }, λ tree text groups is m. omega arith)
 
 -- the texts of `ab` have two bytes, and those of `c` one
 length-one_c : (text : List ℕ) (groups : _) → Match one_c no_groups text groups → length text ≡ 1
@@ -64,13 +73,84 @@ previous_text tree text inside (groups, m) =
     ]
 
 previous_never_lengthens : NeverLengthens replace_previous replacing_previous
-previous_never_lengthens = (refl, λ text (tree, inside, language). previous_text tree text inside language)
+previous_never_lengthens =
+    (record { no_whole = tt; distinct = tt; top = tt }, λ tree text groups inside m. omega (arith, previous_text tree text inside (groups, m)))
 
 previous_not_shorten : ¬ Shortens replace_previous replacing_previous
 previous_not_shorten h =
     let matches : Match one_c no_groups (99 ∷ []) no_groups = (99 ∷ [], [], no_groups, refl, (refl, refl), (refl, refl)) in
-    let longer = h.1 (99 ∷ []) (one_c, (1, omega arith, refl), (no_groups, matches)) in
+    let longer = h.1 one_c (99 ∷ []) no_groups (1, omega arith, refl) matches in
     omega (arith, longer)
+
+-- a match of `a\(b\)c` has three bytes, and its group has one
+length-b_in_group : (text : List ℕ) (groups : Groups) → Match b_in_group no_groups text groups → (length text ≡ 3) × (length (text_of groups 1) ≡ 1)
+length-b_in_group text groups (u, v, d, cut, (a, _), (w, x, e, more, (_, f, _, (y, z, _, inner, (b, _), (nothing, _)), put), (y', z', _, last, (c, same), (end, is)))) =
+    let group : text_of groups 1 ≡ w = ap (λ (g : Groups). text_of g 1) (is ∙ same ∙ put) in
+    let long : length w ≡ 1 = omega (arith, ap length inner, length-append y z, ap length b, ap length nothing) in (
+      omega (
+        arith,
+        ap length cut,
+        length-append u v,
+        ap length a,
+        ap length more,
+        length-append w x,
+        long,
+        ap length last,
+        length-append y' z',
+        ap length c,
+        ap length end,
+      ),
+      ap length group ∙ long,
+    )
+
+group_once : (parts : List Part) → HasNoWhole parts → named_groups parts ≡ 1 ∷ [] → KeepsGroups (Expression b_in_group) parts
+group_once parts no_whole names = record {
+  no_whole = no_whole;
+  distinct = subst AreDistinct (sym names) (tt, tt);
+  top = subst (AreTopGroups (Expression b_in_group)) (sym names) (refl, tt);
+}
+
+group_shortens : Shortens (replace_once b_in_group (Reference 1 ∷ [])) (replacing b_in_group (Reference 1 ∷ []) false)
+group_shortens = (
+  group_once (Reference 1 ∷ []) tt refl,
+  λ tree text groups is m.
+      let lengths = length-b_in_group text groups (subst (λ (t : Tree). Match t no_groups text groups) is m) in
+      omega (arith, lengths.0, lengths.1),
+)
+
+group_never_lengthens : NeverLengthens (replace_once b_in_group group_in_dashes) (replacing b_in_group group_in_dashes false)
+group_never_lengthens = (
+  group_once group_in_dashes tt refl,
+  λ tree text groups is m.
+      let lengths = length-b_in_group text groups (subst (λ (t : Tree). Match t no_groups text groups) is m) in
+      omega (arith, lengths.0, lengths.1),
+)
+
+-- the groups behind `abc`
+b_alone : Groups
+b_alone = with_text no_groups 1 (98 ∷ [])
+
+matches_abc : Match b_in_group no_groups (97 ∷ 98 ∷ 99 ∷ []) b_alone
+unfolding b_alone
+matches_abc = (
+  97 ∷ [],
+  98 ∷ 99 ∷ [],
+  no_groups,
+  refl,
+  (refl, refl),
+  (
+    98 ∷ [],
+    99 ∷ [],
+    b_alone,
+    refl,
+    (no_groups, no_groups, inl refl, (98 ∷ [], [], no_groups, refl, (refl, refl), (refl, refl)), refl),
+    (99 ∷ [], [], b_alone, refl, (refl, refl), (refl, refl)),
+  ),
+)
+
+group_not_shortens : ¬ Shortens (replace_once b_in_group group_in_dashes) (replacing b_in_group group_in_dashes false)
+unfolding b_alone
+group_not_shortens h = let less = h.1 b_in_group (97 ∷ 98 ∷ 99 ∷ []) b_alone refl matches_abc in omega (arith, less)
 
 flags_differ : (a b : ℕ) (f g : Bool) → f ≡ true → g ≡ false → at_node a f ≡ at_node b g → ⊥
 unfolding at_node
@@ -84,8 +164,8 @@ unfolding at_node
 examples_hold = record {
   edge_text = edge_text;
   shortens = inr (inr (x_shortens, refl));
-  not_keeps = elim [ inl h ↦ false-true h.0 | inr (inl (_, e)) ↦ flags_differ 2 2 true false refl refl e | inr (inr (h, _)) ↦ h.0 x_shortens ];
-  keeps = inr (inr ((xs_not_shorten, xs_never_lengthen), refl));
+  not_keeps = elim [ inl h ↦ false-true h.0 | inr (inl (_, e)) ↦ flags_differ 2 2 true false refl refl e | inr (inr (h, _)) ↦ x_not_kept h ];
+  keeps = inr (inr (inr (xs_not_shorten, xs_never_lengthen), refl));
   not_shortens = elim [ inl h ↦ false-true h.0 | inr (inl (e, _)) ↦ cc | inr (inr (h, _)) ↦ xs_not_shorten h ];
   test_taken = inr (refl, refl);
   test_passed = inr (refl, refl);
@@ -96,8 +176,13 @@ examples_hold = record {
   passed_by = inl (refl, refl, refl);
   not_passed_by = elim [ inl (_, _, e) ↦ flags_differ 1 1 true false refl refl (sym e) | inr (inl (e, _)) ↦ cc | inr (inr (e, _, _, _)) ↦ cc ];
   begins_again = (refl, refl, refl);
-  previous_keeps = inr (inr ((previous_not_shorten, previous_never_lengthens), refl));
+  previous_keeps = inr (inr (inr (previous_not_shorten, previous_never_lengthens), refl));
   previous_not_shortens = elim [ inl (_, e, _) ↦ cc | inr (inl (e, _)) ↦ cc | inr (inr (h, _)) ↦ previous_not_shorten h ];
+  group_shortens = inr (inr (group_shortens, refl));
+  group_keeps = inr (inr (inr (group_not_shortens, group_never_lengthens), refl));
+  group_twice_grows = inr (inr ((λ h. h, λ h. h.0.distinct.0.0 refl), refl));
+  whole_keeps = inr (inr (inl tt, refl));
+  whole_twice_grows = inr (inr ((λ h. h, λ h. h.0.no_whole), refl));
   last_line = inr ((refl, refl), refl, refl);
   not_applied = elim [ inl (may, _) ↦ may refl | inr (_, _, e) ↦ cc ];
   other_line = elim [ inl (_, (_, (flag, _, e))) ↦ omega (arith, unread_differ e) | inr ((_, e), _, _) ↦ cc ];

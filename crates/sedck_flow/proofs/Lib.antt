@@ -1,6 +1,8 @@
 pub mod States
+pub mod References
 pub mod Lengths
 pub mod KindOf
+pub mod Agree
 pub mod Follows
 pub mod Inside
 pub mod GoesOn

@@ -1,39 +1,28 @@
--- The kind of a successful substitution from the least length of what its pattern may match.
-use Rattle.std.proofs.Common.{◌≡◌, ℕ, zero, suc, ◌+◌, ◌<◌, ◌≤◌, Bool, true, false, ◌&&◌, IsTrue, List, [], ◌∷◌, map, length, get_or, take, refl, sym, ap, ◌∙◌, subst, arith}
+-- The kind of a successful substitution from the least rest of a match.
+use Rattle.std.proofs.Common.{◌≡◌, ℕ, zero, suc, ◌+◌, ◌<◌, ◌≤◌, List, [], ◌∷◌, map, length, get_or, take, refl, sym, ap, ◌∙◌, subst, inl, inr, arith}
+use Rattle.std.proofs.Math.Logic.{∥∥₁_elim}
+use Rattle.std.proofs.Math.Bridge.{le_prop}
+use Rattle.std.specs.Prelude.{Option, Some, None}
 use Rattle.std.proofs.lemmas.List.{get_or-map, length-map}
 use Rattle.sedck_bre.specs.Tree.{Tree}
-use Rattle.sedck_bre.specs.Lengths.{IsLeastSize, HasLength}
-use Rattle.sedck_script.specs.Program.{Part, Previous, Expression, Substitution, Program, part_length, literal_length, expressions}
+use Rattle.sedck_bre.specs.Match.{Groups, no_groups, Match}
+use Rattle.sedck_bre.specs.Lengths.{IsLeastSize}
+use Rattle.sedck_bre.specs.Rests.{texts_length, HasRest, IsLeastRest}
+use Rattle.sedck_bre.specs.WellFormed.{IsWellFormed}
+use Rattle.sedck_bre.proofs.DifferentGroups.{least_rest_of}
+use Rattle.sedck_script.specs.Program.{Pattern, Previous, Expression, Part, Substitution, Program, part_length, literal_length, expressions}
+use Rattle.sedck_script.specs.References.{named_groups, AreTopGroups, KeepsGroups, IsLeastOutside, IsOutside}
 use Rattle.sedck_script.specs.Shortest.{SomeHasLength}
 use Rattle.sedck_script.specs.View.{part_of}
 use Rattle.sedck_script.specs.declared.script.Part.{Part as Coded}
 use Rattle.sedck_script.specs.declared.script.Part.TheVariants.{Text as PartText}
-use Rattle.sedck_flow.specs.Flow.{is_literal_part, is_literal, HasKind}
-use Rattle.sedck_flow.specs.Least.{PatternHasLength}
+use Rattle.sedck_flow.specs.Patterns.{StandsFor}
+use Rattle.sedck_flow.specs.Flow.{IsWholeAlone, HasKind}
+use Rattle.sedck_flow.specs.Least.{IsFormed, IsAtMostRests, IsBelowRests, IsLeastOfRests}
 use Rattle.sedck_flow.specs.declared.graph.Kind.TheVariants.{Shorten, Keep, Grow}
+use Rattle.sedck_flow.proofs.References.{keeps_groups_or_not, different_groups, no_groups_of_previous}
 
 -- ---- The replacement
-
-both_true : (a b : Bool) → IsTrue a → IsTrue b → IsTrue (a && b)
-both_true true b h k = k
-both_true false b h k = absurd (let e : false ≡ true = h in cc)
-
-first_true : (a b : Bool) → IsTrue (a && b) → IsTrue a × IsTrue b
-first_true true b h = (refl, h)
-first_true false b h = absurd (let e : false ≡ true = h in cc)
-
-second_false : (a b : Bool) → b ≡ false → (a && b) ≡ false
-second_false true b h = h
-second_false false b h = refl
-
--- one part further
-pub literal_more : (ps : List Part) (i : ℕ) (z : Part) → i < length ps → IsTrue (is_literal (take i ps)) → IsTrue (is_literal_part (get_or ps i z))
-    → IsTrue (is_literal (take (suc i) ps))
-literal_more [] i z below h k = absurd (omega arith)
-literal_more (p ∷ ps) zero z below h k = both_true (is_literal_part p) true k refl
-literal_more (p ∷ ps) (suc i) z below h k =
-    let parts = first_true (is_literal_part p) (is_literal (take i ps)) h in
-    both_true (is_literal_part p) (is_literal (take (suc i) ps)) parts.0 (literal_more ps i z (omega arith) parts.1 k)
 
 pub length_more : (ps : List Part) (i : ℕ) (z : Part) → i < length ps
     → literal_length (take (suc i) ps) ≡ literal_length (take i ps) + part_length (get_or ps i z)
@@ -46,12 +35,6 @@ length_take_le [] zero = omega arith
 length_take_le [] (suc i) = omega arith
 length_take_le (p ∷ ps) zero = omega arith
 length_take_le (p ∷ ps) (suc i) = omega (arith, length_take_le ps i)
-
--- a part that isn't literal
-pub not_literal : (ps : List Part) (i : ℕ) (z : Part) → i < length ps → is_literal_part (get_or ps i z) ≡ false → is_literal ps ≡ false
-not_literal [] i z below h = absurd (omega arith)
-not_literal (p ∷ ps) zero z below h = ap (λ b. b && is_literal ps) h
-not_literal (p ∷ ps) (suc i) z below h = second_false (is_literal_part p) (is_literal ps) (not_literal ps i z (omega arith) h)
 
 -- ---- The same of the code's parts
 
@@ -66,44 +49,92 @@ module _ (parts : List Coded) (i : ℕ) (z : Coded) (below : i < length parts) w
   inside : i < length (map part_of parts)
   inside = omega (arith, length-map parts part_of)
 
-  pub coded_literal_more : IsTrue (is_literal (take i (map part_of parts))) → IsTrue (is_literal_part (part_of (get_or parts i z)))
-      → IsTrue (is_literal (take (suc i) (map part_of parts)))
-  coded_literal_more h k = literal_more (map part_of parts) i (part_of z) inside h (subst (λ (x : Part). IsTrue (is_literal_part x)) (sym same) k)
-
   pub coded_length_more : literal_length (take (suc i) (map part_of parts)) ≡ literal_length (take i (map part_of parts)) + part_length
       (part_of (get_or parts i z))
   coded_length_more = length_more (map part_of parts) i (part_of z) inside ∙ ap (λ (x : Part). literal_length (take i (map part_of parts)) + part_length x) same
 
-  pub coded_not_literal : is_literal_part (part_of (get_or parts i z)) ≡ false → is_literal (map part_of parts) ≡ false
-  coded_not_literal h = not_literal (map part_of parts) i (part_of z) inside (ap is_literal_part same ∙ h)
+-- ---- The least rest
 
--- ---- The kind
-
-module _ (p : Program) (s : Substitution) (n : ℕ) (least : IsLeastSize (PatternHasLength p s.pattern) n) (literal : IsTrue (is_literal s.parts))
+module _ (p : Program) (s : Substitution) (keeps : KeepsGroups s.pattern s.parts) (n : ℕ) (least : IsLeastOfRests p s n)
     (small : literal_length s.parts ≤ 1048576) where
   pub shortens : literal_length s.parts < n → HasKind p s Shorten
-  shortens less = (literal, λ text h. omega (arith, least.floor (length text) (text, h, refl)))
+  shortens less = (keeps, λ tree text groups is m. omega (arith, least.floor tree text groups is m))
 
-  pub keeps : literal_length s.parts ≡ n → HasKind p s Keep
-  keeps same =
-      let met = least.met (omega arith) in
-      (λ short. omega (arith, short.1 met.0 met.1, met.2), (literal, λ text h. omega (arith, least.floor (length text) (text, h, refl))))
+  pub keeps_length : literal_length s.parts ≡ n → HasKind p s Keep
+  keeps_length same =
+      inr (
+        λ short. least.met (omega arith) (λ tree text groups is m. omega (arith, same, short.1 tree text groups is m)),
+        (keeps, λ tree text groups is m. omega (arith, same, least.floor tree text groups is m)),
+      )
 
-  pub grows : n < literal_length s.parts → HasKind p s Grow
-  grows more = let met = least.met (omega arith) in λ never. omega (arith, never.1 met.0 met.1, met.2)
+  pub grows : ¬ IsWholeAlone s.parts → n < literal_length s.parts → HasKind p s Grow
+  grows other more = (other, λ never. least.met (omega arith) (λ tree text groups is m. omega (arith, never.1 tree text groups is m)))
 
--- ---- The pattern
+-- by the least length of the script's expressions, where the replacement names no group
+pub least_of_previous : (p : Program) (s : Substitution) (n : ℕ) → s.pattern ≡ Previous → KeepsGroups s.pattern s.parts
+    → IsLeastSize (SomeHasLength (expressions p.commands)) n → IsLeastOfRests p s n
+least_of_previous p s n previous keeps least = record { floor = floor; met = met; capped = least.capped }
+  where
+    none : (groups : Groups) → texts_length groups (named_groups s.parts) ≡ 0
+    none groups = ap (texts_length groups) (no_groups_of_previous (named_groups s.parts) (subst (λ (x : Pattern). AreTopGroups x (named_groups s.parts)) previous keeps.top))
 
-pub least_of_previous : (p : Program) (n : ℕ) → IsLeastSize (SomeHasLength (expressions p.commands)) n → IsLeastSize (PatternHasLength p Previous) n
-least_of_previous p n least = record {
-  floor = λ m (text, (tree, is, language), same). least.floor m (tree, is, (text, language, same));
-  met = λ below. let met = least.met below in (met.2.0, (met.0, met.1, met.2.1), met.2.2);
-  capped = least.capped;
-}
+    floor : IsAtMostRests p s n
+    floor tree text groups is m =
+        omega (arith, none groups, least.floor (length text) (tree, subst (λ (x : Pattern). StandsFor p x tree) previous is, (text, (groups, m), refl)))
 
-pub least_of_own : (p : Program) (own : Tree) (n : ℕ) → IsLeastSize (HasLength own) n → IsLeastSize (PatternHasLength p (Expression own)) n
-least_of_own p own n least = record {
-  floor = λ m (text, (tree, is, language), same). least.floor m (subst (λ (t : Tree). HasLength t m) is (text, language, same));
-  met = λ below. let met = least.met below in (met.0, (own, refl, met.1), met.2);
-  capped = least.capped;
-}
+    met : n < 16777215 → ¬ IsBelowRests p s n
+    met below all =
+        let shortest = least.met below in
+        let is = subst (λ (x : Pattern). StandsFor p x shortest.0) (sym previous) shortest.1 in
+        let groups = shortest.2.1.0 in
+        omega (arith, all shortest.0 shortest.2.0 groups is shortest.2.1.1, none groups, shortest.2.2)
+
+-- by the least rest of the command's own expression
+pub least_of_own : (p : Program) (s : Substitution) (own : Tree) (n : ℕ) → s.pattern ≡ Expression own → KeepsGroups s.pattern s.parts → IsWellFormed own
+    → IsLeastSize (HasRest own (named_groups s.parts)) n → IsLeastOfRests p s n
+least_of_own p s own n is_own keeps formed least = record { floor = floor; met = met; capped = least.capped }
+  where
+    rests : (l : ℕ) × IsLeastRest own (named_groups s.parts) l
+    rests =
+        let top = subst (λ (x : Pattern). AreTopGroups x (named_groups s.parts)) is_own keeps.top in
+        least_rest_of own formed (named_groups s.parts) (different_groups own (named_groups s.parts) keeps.distinct top)
+
+    floor : IsAtMostRests p s n
+    floor tree text groups is m =
+        let same : tree ≡ own = subst (λ (x : Pattern). StandsFor p x tree) is_own is in
+        let mine = subst (λ (v : Tree). Match v no_groups text groups) same m in
+        let rest = rests.1.floor text groups mine in
+        omega (arith, rest.1, least.floor rest.0 (text, groups, mine, rest.1))
+
+    met : n < 16777215 → ¬ IsBelowRests p s n
+    met below all =
+        let shortest = least.met below in
+        let is = subst (λ (x : Pattern). StandsFor p x own) (sym is_own) refl in
+        omega (arith, all own shortest.0 shortest.1 is shortest.2, shortest.3)
+
+-- ---- What a substitution knows of its matches
+
+module _ (s : Substitution) (outside : Option ℕ) (known : ∥ IsOutside s.pattern s.parts outside ∥₁) where
+  pub not_kept : outside ≡ None → ¬ KeepsGroups s.pattern s.parts
+  not_kept none keeps = ∥∥₁_elim known (λ x y. absurd x) (λ is. subst (IsOutside s.pattern s.parts) none is keeps)
+
+  pub kept : (n : ℕ) → outside ≡ Some n → KeepsGroups s.pattern s.parts
+  kept n some =
+      elim (keeps_groups_or_not s.pattern s.parts) [
+        | inl keeps ↦ keeps
+        | inr fails ↦ absurd (∥∥₁_elim known (λ x y. absurd x) (λ is. fails (subst (IsOutside s.pattern s.parts) some is).0))
+      ]
+
+  -- the number that it knows is the least rest, where it has an expression of its own
+  pub known_rest : (p : Program) (own : Tree) (n : ℕ) → outside ≡ Some n → s.pattern ≡ Expression own → IsFormed s.pattern → IsLeastOfRests p s n
+  known_rest p own n some is_own formed = record {
+    floor = λ tree text groups is m. ∥∥₁_elim known le_prop (λ o. (least_rest o).floor tree text groups is m);
+    met = λ below all. ∥∥₁_elim known (λ x y. absurd x) (λ o. (least_rest o).met below all);
+    capped = ∥∥₁_elim known le_prop (λ o. (least_rest o).capped);
+  }
+    where
+      least_rest : IsOutside s.pattern s.parts outside → IsLeastOfRests p s n
+      least_rest is =
+          let here = subst (IsOutside s.pattern s.parts) some is in
+          least_of_own p s own n is_own here.0 (subst IsFormed is_own formed)
+          (subst (λ (x : Pattern). IsLeastOutside x (named_groups s.parts) n) is_own here.1)

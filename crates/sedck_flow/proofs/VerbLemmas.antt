@@ -1,5 +1,5 @@
 -- The edges that are found for a verb are those that it has.
-use Rattle.std.proofs.Common.{◌≡◌, ◌⊎◌, ◌↔◌, ℕ, suc, Bool, true, false, List, [], refl, sym, ap, ◌∙◌, subst, inl, inr, arith}
+use Rattle.std.proofs.Common.{◌≡◌, ◌⊎◌, ◌↔◌, ℕ, Bool, true, false, List, [], refl, sym, ap, ◌∙◌, subst, inl, inr, arith}
 use Rattle.std.specs.Prelude.{if◌then◌else◌}
 use Rattle.sedck_script.specs.Program.{Address, Two, Verb, Change, DeleteFirstLine, Next, Substitution, Substitute, Test, Program}
 use Rattle.sedck_script.specs.View.{verb_of}
@@ -10,6 +10,7 @@ use Rattle.std.specs.Borrow.{Bor}
 use Rattle.sedck_flow.specs.Run.{KeptOrReset}
 use Rattle.sedck_flow.specs.Nodes.{start, moved_to, next, with_flag}
 use Rattle.sedck_flow.specs.Flow.{HasKind, VerbEdge}
+use Rattle.sedck_flow.proofs.References.{alone_has_whole}
 use Rattle.sedck_flow.specs.EdgeList.{AddsEdge, ListsTargets}
 use Rattle.sedck_flow.specs.declared.graph.Node.{Node}
 use Rattle.sedck_flow.specs.declared.graph.Edge.{Edge}
@@ -90,21 +91,25 @@ reads p a n first all lists adds =
 
 -- `s`
 never_both : (p : Program) (s : Substitution) → HasKind p s Shorten → HasKind p s Grow → ⊥
-never_both p s short grow = grow (short.0, λ text h. omega (arith, short.1 text h))
+never_both p s short grow = grow.1 (short.0, λ tree text groups is m. omega (arith, short.1 tree text groups is m))
 
 one_kind : (p : Program) (s : Substitution) (k l : Kind) → HasKind p s k → HasKind p s l → k ≡ l
 one_kind p s Consume l h j = absurd h
 one_kind p s Shorten Consume h j = absurd j
 one_kind p s Shorten Shorten h j = refl
-one_kind p s Shorten Keep h j = absurd (j.0 h)
+one_kind p s Shorten Keep h (inl alone) = absurd (alone_has_whole s.parts alone h.0.no_whole)
+one_kind p s Shorten Keep h (inr j) = absurd (j.0 h)
 one_kind p s Shorten Grow h j = absurd (never_both p s h j)
 one_kind p s Keep Consume h j = absurd j
-one_kind p s Keep Shorten h j = absurd (h.0 j)
+one_kind p s Keep Shorten (inl alone) j = absurd (alone_has_whole s.parts alone j.0.no_whole)
+one_kind p s Keep Shorten (inr h) j = absurd (h.0 j)
 one_kind p s Keep Keep h j = refl
-one_kind p s Keep Grow h j = absurd (j h.1)
+one_kind p s Keep Grow (inl alone) j = absurd (j.0 alone)
+one_kind p s Keep Grow (inr h) j = absurd (j.1 h.1)
 one_kind p s Grow Consume h j = absurd j
 one_kind p s Grow Shorten h j = absurd (never_both p s j h)
-one_kind p s Grow Keep h j = absurd (h j.1)
+one_kind p s Grow Keep h (inl alone) = absurd (h.0 alone)
+one_kind p s Grow Keep h (inr j) = absurd (h.1 j.1)
 one_kind p s Grow Grow h j = refl
 
 pub substitutes : (p : Program) (a : Address) (s : Substitution) (kind : Kind) (n : Node) (first all : List Edge) → HasKind p s kind

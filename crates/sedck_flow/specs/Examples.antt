@@ -1,10 +1,10 @@
 -- Worked examples of edges, steps, runs and substitutions.
 use Rattle.std.specs.Prelude.{◌≡◌, ℕ, Bool, true, false, List, [], ◌∷◌, None, codes}
-use Rattle.sedck_bre.specs.Tree.{Tree, Byte, Seq, Repeat, Then, Nil}
-use Rattle.sedck_script.specs.Program.{Previous, Expression, Last, Context, NoAddress, One, Part, Text, Substitution, Verb, Label, NextAppend, Delete, DeleteFirstLine, Substitute, Test, Command, Program}
+use Rattle.sedck_bre.specs.Tree.{Tree, Byte, Group, Seq, Repeat, Then, Nil}
+use Rattle.sedck_script.specs.Program.{Previous, Expression, Last, Context, NoAddress, One, Part, Text, Whole, Group as Reference, Substitution, Verb, Label, NextAppend, Delete, DeleteFirstLine, Substitute, Test, Command, Program}
 use Rattle.sedck_flow.specs.declared.graph.Edge.{Edge}
 use Rattle.sedck_flow.specs.declared.graph.Kind.{Kind}
-use Rattle.sedck_flow.specs.declared.graph.Kind.TheVariants.{Consume, Shorten, Keep}
+use Rattle.sedck_flow.specs.declared.graph.Kind.TheVariants.{Consume, Shorten, Keep, Grow}
 use Rattle.sedck_flow.specs.Flow.{Flow}
 use Rattle.sedck_flow.specs.Substitutes.{Substitutes}
 use Rattle.sedck_flow.specs.Run.{Machine, At, Done, Silent, Step, Run}
@@ -58,6 +58,21 @@ replace_previous =
     (record { address = One (Context (Expression a_then_b)); negated = false; verb = Substitute replacing_previous }
     ∷ record { address = One (Context (Expression one_c)); negated = false; verb = Delete } ∷ [])
 
+-- the expressions `a\(b\)c` and `\(x\)`
+abbrev pub b_in_group : Tree
+b_in_group = Seq (Then (Byte 97) (Then (Group 1 (Seq (Then (Byte 98) Nil))) (Then (Byte 99) Nil)))
+
+abbrev pub x_in_group : Tree
+x_in_group = Seq (Then (Group 1 one_x) Nil)
+
+-- `s/TREE/PARTS/` alone
+abbrev pub replace_once : Tree → List Part → Program
+replace_once tree parts = script_of (plain_command (Substitute (replacing tree parts false)) ∷ [])
+
+-- `-\1-`
+abbrev pub group_in_dashes : List Part
+group_in_dashes = Text (codes "-") ∷ Reference 1 ∷ Text (codes "-") ∷ []
+
 abbrev pub edge : ℕ → Bool → ℕ → Bool → Kind → Edge
 edge at flag at' flag' kind = record { from = record { at = at; flag = flag }; to = record { at = at'; flag = flag' }; kind = kind }
 
@@ -88,6 +103,13 @@ pub record ExamplesHold : Type 0 where
   -- `z` is as long as `c`, so an empty expression that may be `c` keeps the length and doesn't shorten it
   pub previous_keeps : Flow replace_previous (edge 0 false 1 true Keep)
   pub previous_not_shortens : ¬ Flow replace_previous (edge 0 false 1 true Shorten)
+  -- `\1` in the place of `a\(b\)c` shortens; two dashes are as long as its rest; a group named twice may lengthen
+  pub group_shortens : Flow (replace_once b_in_group (Reference 1 ∷ [])) (edge 0 false 1 true Shorten)
+  pub group_keeps : Flow (replace_once b_in_group group_in_dashes) (edge 0 false 1 true Keep)
+  pub group_twice_grows : Flow (replace_once x_in_group (Reference 1 ∷ Reference 1 ∷ [])) (edge 0 false 1 true Grow)
+  -- `&` alone keeps the length, and two of them may lengthen
+  pub whole_keeps : Flow (replace_once one_x (Whole ∷ [])) (edge 0 false 1 true Keep)
+  pub whole_twice_grows : Flow (replace_once one_x (Whole ∷ Whole ∷ [])) (edge 0 false 1 true Grow)
   -- on the last line `$!N` is passed by, and on another it isn't
   pub last_line : Step append_unless_last (At (machine [])) Silent (At (record (machine []) { at = 1 }))
   pub not_applied : ¬ Step append_unless_last (At (machine [])) Silent Done

@@ -6,6 +6,7 @@ ghost use Rattle.sedck_script.specs.View.{command_of, verb_of};
 ghost use Rattle.sedck_flow.specs.Run.{is_conditional as is_conditional_command};
 ghost use Rattle.sedck_flow.specs.Flow.{node_past as node_past_verb, CommandEdge, ListsEdges, FlowFrom};
 ghost use Rattle.sedck_flow.specs.EdgeList.{ListsTargets};
+ghost use Rattle.sedck_flow.specs.Least.{HasFormed};
 
 use crate::edge_list::EdgeList;
 use crate::graph::{Edge, Kind, Node};
@@ -74,6 +75,7 @@ pub fn edges_of<'s, 'a>(script: &'s Script<'a>, node: Node) -> Edges<'s, 'a>
 fn command_edges(script: &Script, command: &Command, from: Node) -> EdgeList
     requires place { from.at < 4095 }
     requires target { IsTargetWithin 4095 (verb_of command.now.verb) }
+    requires formed { HasFormed (verb_of command.now.verb) }
     requires replacement { IsReplacement (verb_of command.now.verb) }
     ensures edges { ListsTargets result from (CommandEdge script.now (command_of command.now) from) }
     ensures few { length result ≤ 4 }

@@ -1,6 +1,6 @@
 //! What is proved of runs and the flow graph alone. The functions do nothing: their contracts are the laws.
 
-ghost use Rattle.sedck_flow.specs.Laws.{NodesAreNumbered, StepsFollowEdges, EdgesStayInside, RunsGoOn, FilesAreNamed};
+ghost use Rattle.sedck_flow.specs.Laws.{NodesAreNumbered, StepsFollowEdges, KindsAgree, EdgesStayInside, RunsGoOn, FilesAreNamed};
 ghost use Rattle.sedck_flow.specs.Examples.{ExamplesHold};
 
 /// The index of a node tells its place in the order of nodes, and each number is the index of one node.
@@ -11,6 +11,12 @@ pub fn nodes_are_numbered()
 /// Each step from one command to another follows an edge of the flow graph, and the edge's kind tells the truth.
 pub fn steps_follow_edges()
     ensures { StepsFollowEdges }
+{}
+
+/// The kind of a substitution is the kind that it has by its literal parts alone, or that one is Grow: references to groups
+/// only make more edges shorten or keep.
+pub fn kinds_agree()
+    ensures { KindsAgree }
 {}
 
 /// An edge leads from a command, or from the script's end, to another.

@@ -1,70 +1,79 @@
 //! The kind of the edge along which a command substitutes.
 
-ghost use Rattle.std.specs.Prelude.{◌≡◌, ◌≤◌, false, IsTrue, MatchOption, map};
-ghost use Rattle.sedck_bre.specs.Lengths.{IsLeastSize};
-ghost use Rattle.sedck_script.specs.Program.{part_length, literal_length as length_of_parts};
-ghost use Rattle.sedck_script.specs.View.{part_of, pattern_of, substitution_of};
-ghost use Rattle.sedck_flow.specs.Flow.{is_literal_part, is_literal, HasKind};
-ghost use Rattle.sedck_flow.specs.Least.{PatternHasLength};
+ghost use Rattle.std.specs.Prelude.{◌≡◌, ◌↔◌, ◌≤◌, IsTrue, MatchOption, map};
+ghost use Rattle.sedck_script.specs.Program.{part_length as length_of_part, literal_length as length_of_parts};
+ghost use Rattle.sedck_script.specs.References.{KeepsGroups};
+ghost use Rattle.sedck_script.specs.View.{part_of, substitution_of};
+ghost use Rattle.sedck_flow.specs.Flow.{IsWholeAlone, HasKind};
+ghost use Rattle.sedck_flow.specs.Least.{IsFormed, IsLeastOfRests};
 
 use crate::graph::Kind;
 use sedck_script::{Part, Pattern, Script, Substitution};
 
-/// The length of a part that doesn't stand for the match or a group.
-fn literal_part(part: &Part) -> Option<usize>
-    ensures { MatchOption result
-        (is_literal_part (part_of part.now) ≡ false)
-        (λ length. IsTrue (is_literal_part (part_of part.now))
-        × (length ≡ part_length (part_of part.now))) }
+/// Whether the replacement is `&` and nothing else.
+fn is_whole_alone(parts: &[Part]) -> bool
+    ensures { IsTrue result ↔ IsWholeAlone (map part_of parts.now) }
+{
+    matches!(parts, [Part::Whole])
+}
+
+/// The bytes that a part puts in by itself.
+fn part_length(part: &Part) -> usize
+    ensures { result ≡ length_of_part (part_of part.now) }
 {
     match part {
-        Part::Text(bytes) => Some(bytes.len()),
-        Part::Newline => Some(1),
-        Part::Tab => Some(1),
-        Part::Whole => None,
-        Part::Group(_) => None,
+        Part::Text(bytes) => bytes.len(),
+        Part::Newline | Part::Tab => 1,
+        Part::Whole | Part::Group(_) => 0,
     }
 }
 
-/// The length of a replacement that is literal: one in which no part stands for the match or a group.
-fn literal_length(parts: &[Part]) -> Option<usize>
+/// The length of the literal parts of a replacement.
+fn literal_length(parts: &[Part]) -> usize
     requires { length_of_parts (map part_of parts.now) ≤ 1048576 }
-    ensures { MatchOption result
-        (is_literal (map part_of parts.now) ≡ false)
-        (λ length. IsTrue (is_literal (map part_of parts.now))
-        × (length ≡ length_of_parts (map part_of parts.now))) }
+    ensures { result ≡ length_of_parts (map part_of parts.now) }
 {
     let mut length = 0;
     for part in parts {
-        length += literal_part(part)?;
+        length += part_length(part);
     }
-    Some(length)
+    length
 }
 
-/// The least length of what the pattern may match, or the cap where that is above it.
-fn least_of(script: &Script, pattern: &Pattern) -> u32
-    ensures { IsLeastSize (PatternHasLength script.now (pattern_of pattern.now)) result }
+/// The least rest of a match, or the cap where that is above it; nothing where the replacement doesn't keep groups.
+fn least_rest(script: &Script, substitution: &Substitution) -> Option<u32>
+    requires { IsFormed (substitution_of substitution.now).pattern }
+    ensures { MatchOption result
+        (¬ KeepsGroups (substitution_of substitution.now).pattern (substitution_of substitution.now).parts)
+        (λ n. KeepsGroups (substitution_of substitution.now).pattern (substitution_of substitution.now).parts
+        × IsLeastOfRests script.now (substitution_of substitution.now) n) }
 {
-    match pattern {
-        Pattern::Previous => script.shortest(),
-        Pattern::Expr(expression) => expression.least(),
+    let least = substitution.outside?;
+    match &substitution.pattern {
+        Pattern::Previous => Some(script.shortest()),
+        Pattern::Expr(_) => Some(least),
     }
 }
 
 /// The kind of the edge along which the command substitutes. The parts of its replacement are gone
 /// over once, so the time is linear in their number; nothing else depends on the script's size.
 pub(crate) fn success_kind(script: &Script, substitution: &Substitution) -> Kind
-    requires { length_of_parts (substitution_of substitution.now).parts ≤ 1048576 }
+    requires formed { IsFormed (substitution_of substitution.now).pattern }
+    requires replacement { length_of_parts (substitution_of substitution.now).parts ≤ 1048576 }
     ensures { HasKind script.now (substitution_of substitution.now) result }
 {
-    let Some(length) = literal_length(&substitution.parts) else {
+    if is_whole_alone(&substitution.parts) {
+        return Kind::Keep;
+    }
+    let Some(rest) = least_rest(script, substitution) else {
         return Kind::Grow;
     };
-    let least = least_of(script, &substitution.pattern) as usize;
-    if length < least {
+    let rest = rest as usize;
+    let length = literal_length(&substitution.parts);
+    if length < rest {
         return Kind::Shorten;
     }
-    if length == least {
+    if length == rest {
         return Kind::Keep;
     }
     Kind::Grow

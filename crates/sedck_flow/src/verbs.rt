@@ -6,6 +6,7 @@ ghost use Rattle.sedck_script.specs.Invariant.{IsTargetWithin, IsReplacement};
 ghost use Rattle.sedck_script.specs.View.{address_of, substitution_of, verb_of};
 ghost use Rattle.sedck_flow.specs.Flow.{VerbEdge};
 ghost use Rattle.sedck_flow.specs.EdgeList.{ListsTargets};
+ghost use Rattle.sedck_flow.specs.Least.{IsFormed, HasFormed};
 
 use crate::edge_list::EdgeList;
 use crate::graph::{Kind, Node};
@@ -62,6 +63,7 @@ fn reading(from: Node) -> EdgeList
 /// `s`: nothing is found, or a substitution is made.
 fn substituting(script: &Script, substitution: &Substitution, from: Node) -> EdgeList
     requires place { from.at < 4095 }
+    requires formed { IsFormed (substitution_of substitution.now).pattern }
     requires replacement { plain.literal_length (substitution_of substitution.now).parts ≤ 1048576 }
     ensures edges { (a : plain.Address)
         → ListsTargets result from (VerbEdge script.now a (plain.Substitute (substitution_of substitution.now)) from) }
@@ -90,6 +92,7 @@ fn testing(target: usize, from: Node) -> EdgeList
 pub(crate) fn verb_edges(script: &Script, command: &Command, from: Node) -> EdgeList
     requires place { from.at < 4095 }
     requires target { IsTargetWithin 4095 (verb_of command.now.verb) }
+    requires formed { HasFormed (verb_of command.now.verb) }
     requires replacement { IsReplacement (verb_of command.now.verb) }
     ensures edges { ListsTargets result from
         (VerbEdge script.now (address_of command.now.address) (verb_of command.now.verb) from) }

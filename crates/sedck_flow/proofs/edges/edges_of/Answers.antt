@@ -1,7 +1,7 @@
 use Rattle.std.proofs.Common.{ap, length, arith}
 use Rattle.std.proofs.lemmas.List.{length-map}
 use Rattle.sedck_script.specs.View.{command_of}
-use Rattle.sedck_flow.proofs.EdgesLemmas.{at_command, at_end, has_target, has_replacement, read_command, read_none}
+use Rattle.sedck_flow.proofs.EdgesLemmas.{at_command, at_end, has_target, has_formed, has_replacement, read_command, read_none}
 use Rattle.sedck_flow.proofs.edges.edges_of.Goals as goal
 use Rattle.sedck_flow.proofs.edges.edges_of.Goals.{in-Some, in-None}
 
@@ -9,6 +9,13 @@ pub command_edges-list-requires-clause-target : goal.command_edges-list-requires
 command_edges-list-requires-clause-target c =
     let read = c.in-Some.ensures.lookup in
     has_target c.args.script.now c.commands.ensures.script c.args.node.at (command_of c.in-Some.command.now)
+    (read_command c.args.script.now c.commands.result.now c.from.result c.args.node.at c.in-Some.command.now c.commands.ensures.commands
+    c.from.ensures read.3.0 read.1)
+
+pub command_edges-list-requires-clause-formed : goal.command_edges-list-requires-clause-formed
+command_edges-list-requires-clause-formed c =
+    let read = c.in-Some.ensures.lookup in
+    has_formed c.args.script.now c.commands.ensures.script c.args.node.at (command_of c.in-Some.command.now)
     (read_command c.args.script.now c.commands.result.now c.from.result c.args.node.at c.in-Some.command.now c.commands.ensures.commands
     c.from.ensures read.3.0 read.1)
 

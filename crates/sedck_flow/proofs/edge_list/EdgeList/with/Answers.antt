@@ -1,4 +1,4 @@
-use Rattle.std.proofs.Common.{◌≡◌, ◌≢◌, ◌+◌, ◌<◌, length, get_or, take, length-take, length-set, add-one, refl, sym, ap, ◌∙◌, subst, arith}
+use Rattle.std.proofs.Common.{◌≡◌, ◌≢◌, ◌<◌, length, get_or, length-take, length-set, add-one, refl, sym, ap, ◌∙◌, subst, arith}
 use Rattle.sedck_flow.specs.EdgeList.{AddsEdge}
 use Rattle.sedck_flow.specs.declared.graph.Edge.{Edge}
 use Rattle.sedck_flow.proofs.EdgeOrder.{later}
