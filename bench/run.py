@@ -55,6 +55,8 @@ def inputs():
     yield "4,095 of `/abc/p`", b"/abc/p\n" * COMMANDS, both, 0
     yield "4,095 of `s/abc/ab/`", b"s/abc/ab/\n" * COMMANDS, both, 0
     yield "4,095 of `s//ab/`, one with an expression", b"s/abc/ab/\n" + b"s//ab/\n" * (COMMANDS - 1), both, 0
+    groups = b"s/" + b"".join(b"\\(%c\\)" % c for c in b"abcdefghi") + b"x/" + b"".join(b"\\%d" % k for k in range(1, 10)) + b"/\n"
+    yield "4,095 of `s` with nine groups", groups * COMMANDS, both, 0
     yield "4,095 of `/x/D`", b"/x/D\n" * COMMANDS, both, 0
     one = certificate(1, lambda at, flag: (0, 1 - at))
     yield "a megabyte of one text", b"a\\\n" + b"t" * (SCRIPT_LIMIT - 4) + b"\n", one, 0
@@ -70,6 +72,8 @@ def scripts():
     yield "4,095 of `n`", b"n\n" * COMMANDS, 0
     yield "4,095 of `/abc/p`", b"/abc/p\n" * COMMANDS, 0
     yield "4,095 of `s/abc/ab/`", b"s/abc/ab/\n" * COMMANDS, 0
+    groups = b"s/" + b"".join(b"\\(%c\\)" % c for c in b"abcdefghi") + b"x/" + b"".join(b"\\%d" % k for k in range(1, 10)) + b"/\n"
+    yield "4,095 of `s` with nine groups", groups * COMMANDS, 0
     yield "4,095 of `/x/D`", b"/x/D\n" * COMMANDS, 0
     yield "4,095 of `G`", b"G\n" * COMMANDS, 0
     loops = b"".join(b":a%d\ns/x//\nta%d\n" % (i, i) for i in range(COMMANDS // 3))

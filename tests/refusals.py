@@ -23,6 +23,7 @@ HOLDING = ":a;H;s/x//;ta;x"
 WRITING = "s/a/b/w out.txt\nq\nw log\n"
 IDLE = ":a;b a"
 MOVING = ":a;s/\\(.*\\)  \\(.*\\)/\\1 \\2/;ta"
+GROWING = ":a;s/x/xx/;ta"
 READING = "r x"
 
 
@@ -61,6 +62,7 @@ RANKED = [
     (NEXT_LINE, NEXT_LINE_RANKS, "bound 4 20 4\n", "commands 3\n", NO_NAMES),
     (SHORTENING, SHORTENING_RANKS, "bound 6 42 6\n", "commands 3\nparts 0 groups 0 least 1\n", NO_NAMES),
     (JOINING, JOINING_RANKS, "bound 8 72 8\n", "commands 5\nparts 1 groups 0 least 1\n", NO_NAMES),
+    (MOVING, SHORTENING_RANKS, "bound 6 42 6\n", "commands 3\nparts 3 groups 2 least 2\n", NO_NAMES),
     (HOLDING, HOLDING_RANKS, "", "commands 5\nparts 0 groups 0 least 1\n", NO_NAMES),
     (WRITING, WRITING_RANKS, "bound 4 20 4\n", "commands 3\nparts 1 groups 0 least 1\n", WRITTEN_NAMES),
     (READING, READING_RANKS, "bound 3 12 3\n", "commands 1\n", READ_NAMES),
@@ -146,7 +148,7 @@ GRAPHS = [
     ),
     (
         MOVING,
-        "commands 3\n0 0 1 0 keep\n0 1 1 1 keep\n1 0 2 0 keep\n1 0 2 1 grow\n1 1 2 1 keep\n1 1 2 1 grow\n"
+        "commands 3\n0 0 1 0 keep\n0 1 1 1 keep\n1 0 2 0 keep\n1 0 2 1 shorten\n1 1 2 1 shorten\n1 1 2 1 keep\n"
         "2 0 3 0 keep\n2 1 0 0 keep\n3 0 0 0 consume\n3 1 0 0 consume\n",
     ),
 ]
@@ -165,7 +167,6 @@ def calls():
     """Each call as its words, the expected answer and the names for out of memory."""
     for text, answer in EXPRESSIONS:
         yield ["expression", text], answer + "\n", OF_EXPRESSION
-    yield ["script", MOVING], "commands 3\nparts 3 groups 2 least 2\nread 0\nwrite 0\n", OF_SCRIPT
     yield ["script", PARTS], READ_PARTS, OF_SCRIPT
     for text, fault in REFUSED_SCRIPTS:
         yield ["script", text], fault + "\n", OF_SCRIPT
@@ -189,11 +190,10 @@ def calls():
     yield ["verify", READING, UNNAMED_RANKS], "reads-differ\n", OF_TEXTS
     yield ["judge", READING, UNNAMED_RANKS], f"reads-differ\ncommands 1\n{READ_NAMES}{UNNAMED_RANKS}", OF_TEXTS
     yield ["check", READING, UNNAMED_RANKS], "rejected 5 reads-differ\nno\n", OF_ENGINE
-    yield ["files", MOVING], "read 0\nwrite 0\nyes\n", OF_ENGINE
     yield ["search", IDLE], "idle\n0 0\n1 0\n0 0\nkeep\nkeep\n", OF_SEARCH
     yield ["rank", IDLE], f"{IDLE_LOOP}no\n", OF_ENGINE
-    yield ["search", MOVING], "growing\n1 0\n2 1\n0 0\n1 0\ngrow\nkeep\nkeep\n", OF_SEARCH
-    yield ["rank", MOVING], f"{GROWING_LOOP}no\n", OF_ENGINE
+    yield ["search", GROWING], "growing\n1 0\n2 1\n0 0\n1 0\ngrow\nkeep\nkeep\n", OF_SEARCH
+    yield ["rank", GROWING], f"{GROWING_LOOP}no\n", OF_ENGINE
 
 
 # ---- The program, by its words, the texts of its files, and the status, the report and the line on standard error expected
@@ -209,7 +209,7 @@ def programs():
     for script, graph in GRAPHS:
         yield ["graph", "script"], {"script": script}, (0, graph, "")
     yield ["rank", "script"], {"script": IDLE}, (1, IDLE_LOOP, "")
-    yield ["rank", "script"], {"script": MOVING}, (1, GROWING_LOOP, "")
+    yield ["rank", "script"], {"script": GROWING}, (1, GROWING_LOOP, "")
     files = {"script": READING, "certificate": UNNAMED_RANKS}
     yield ["check", "script", "certificate"], files, (1, "rejected 5 reads-differ\n", "")
     for script, fault in REFUSED_SCRIPTS:

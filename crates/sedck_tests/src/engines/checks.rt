@@ -89,7 +89,7 @@ static GRAPHS: [Row; 9] = [
         "s/x/&/",
         "",
         "yes",
-        "commands 1\n0 0 1 0 keep\n0 0 1 1 grow\n0 1 1 1 keep\n0 1 1 1 grow\n1 0 0 0 consume\n1 1 0 0 consume\n",
+        "commands 1\n0 0 1 0 keep\n0 0 1 1 keep\n0 1 1 1 keep\n1 0 0 0 consume\n1 1 0 0 consume\n",
     ),
     (
         "/x/D",

@@ -14,7 +14,7 @@ const NO_FILES: &str = "read 0\nwrite 0\n";
 type Row = (&'static str, u16, &'static str, &'static str, &'static str);
 
 /// Certificates that are accepted, and that the search finds.
-static FOUND: [Row; 12] = [
+static FOUND: [Row; 14] = [
     (
         ":a;N;b a",
         3,
@@ -32,6 +32,21 @@ static FOUND: [Row; 12] = [
     ("", 0, "0 0 1 1, 0 1 -", NO_FILES, "bound 2 6 2\n"),
     (
         ":a;s/x//;ta",
+        3,
+        "0 0 5 4, 0 1 -, 1 0 5 3, 1 1 -, 2 0 2 2, 2 1 5 5, 3 0 1 1, 3 1 -",
+        NO_FILES,
+        "bound 6 42 6\n",
+    ),
+    // what the groups take out makes the line shorter
+    (
+        ":a;s/\\(.*\\)  \\(.*\\)/\\1 \\2/;ta",
+        3,
+        "0 0 5 4, 0 1 -, 1 0 5 3, 1 1 -, 2 0 2 2, 2 1 5 5, 3 0 1 1, 3 1 -",
+        NO_FILES,
+        "bound 6 42 6\n",
+    ),
+    (
+        ":a;s/\\(a*\\)b\\1/\\1/;ta",
         3,
         "0 0 5 4, 0 1 -, 1 0 5 3, 1 1 -, 2 0 2 2, 2 1 5 5, 3 0 1 1, 3 1 -",
         NO_FILES,

@@ -9,7 +9,7 @@ use std::{fs, process};
 type Row = (&'static str, &'static str);
 
 /// Loops that rule all certificates out.
-static LOOPS: [Row; 7] = [
+static LOOPS: [Row; 9] = [
     (":a;b a", "loop idle\n0 0 keep\n1 0 keep\n0 0\n"),
     (
         ":a;s/x*//;ta",
@@ -31,8 +31,18 @@ static LOOPS: [Row; 7] = [
         ":a;$!N;ba",
         "loop idle\n0 0 keep\n1 0 keep\n2 0 keep\n0 0\n",
     ),
+    // as long as the match, with its groups the other way round
     (
-        ":a;s/\\(.*\\)  \\(.*\\)/\\1 \\2/;ta",
+        ":a;s/\\(.\\)\\(.\\)/\\2\\1/;ta",
+        "loop idle\n0 0 keep\n1 0 keep\n2 1 keep\n0 0\n",
+    ),
+    // the group is repeated, or lies in another one
+    (
+        ":a;s/\\(ab\\)*c/\\1/;ta",
+        "loop growing\n1 0 grow\n2 1 keep\n0 0 keep\n1 0\n",
+    ),
+    (
+        ":a;s/\\(\\(a\\)\\)b/\\2/;ta",
         "loop growing\n1 0 grow\n2 1 keep\n0 0 keep\n1 0\n",
     ),
 ];
@@ -49,7 +59,7 @@ static NAMES: [Row; 4] = [
 ];
 
 /// Flow graphs, with the kinds of substitutions.
-static GRAPHS: [Row; 9] = [
+static GRAPHS: [Row; 12] = [
     ("", "commands 0\n0 0 0 0 consume\n0 1 0 0 consume\n"),
     (
         "s/a\\{2\\}/b/",
@@ -69,6 +79,18 @@ static GRAPHS: [Row; 9] = [
     ),
     (
         "s/x/&/",
+        "commands 1\n0 0 1 0 keep\n0 0 1 1 keep\n0 1 1 1 keep\n1 0 0 0 consume\n1 1 0 0 consume\n",
+    ),
+    (
+        "s/a\\(b\\)c/-\\1-/",
+        "commands 1\n0 0 1 0 keep\n0 0 1 1 keep\n0 1 1 1 keep\n1 0 0 0 consume\n1 1 0 0 consume\n",
+    ),
+    (
+        "s/\\(a\\)/\\1\\1/",
+        "commands 1\n0 0 1 0 keep\n0 0 1 1 grow\n0 1 1 1 keep\n0 1 1 1 grow\n1 0 0 0 consume\n1 1 0 0 consume\n",
+    ),
+    (
+        "s/x/&&/",
         "commands 1\n0 0 1 0 keep\n0 0 1 1 grow\n0 1 1 1 keep\n0 1 1 1 grow\n1 0 0 0 consume\n1 1 0 0 consume\n",
     ),
     // the empty expression may be the last one, which is shorter than the one before it

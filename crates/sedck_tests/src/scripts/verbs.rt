@@ -216,3 +216,37 @@ fn flags(rt: HostRuntime) {
         }
     }
 }
+
+/// A script of one substitution, and the least length of a match outside of the groups that its replacement names; none
+/// where it doesn't keep them.
+static OUTSIDE: [(&'static [u8], Option<u32>); 16] = [
+    (b"s/\\(.*\\)  \\(.*\\)/\\1 \\2/", Some(2)),
+    (b"s/\\(.*\\)  \\(.*\\)/\\2/", Some(2)),
+    (b"s/\\(ab\\)c\\1/\\1/", Some(3)),
+    (b"s/\\(ab\\)c\\1/x/", Some(5)),
+    (b"s/x\\(a\\{3\\}\\)\\(b\\)/\\2/", Some(4)),
+    (b"s/x\\(a\\{3\\}\\)\\(b\\)/\\2-\\1/", Some(1)),
+    (b"s/a\\(\\)\\(\\)\\(\\)\\(\\)\\(\\)\\(\\)\\(\\)\\(\\)\\(bb\\)\\9/\\9/", Some(3)),
+    (b"s/\\(\\(a\\)\\)b/\\1/", Some(1)),
+    (b"s/ab/x/", Some(2)),
+    // in another group, repeated, twice, beside the match
+    (b"s/\\(\\(a\\)\\)b/\\2/", None),
+    (b"s/\\(ab\\)*c/\\1/", None),
+    (b"s/\\(ab\\)\\{1\\}c/\\1/", None),
+    (b"s/\\(a\\)/\\1\\1/", None),
+    (b"s/\\(a\\)b/&\\1/", None),
+    (b"s/a/&/", None),
+    (b"s/a/x&/", None),
+];
+
+#[test]
+fn least_lengths_outside_of_groups(rt: HostRuntime) {
+    for (text, outside) in &OUTSIDE {
+        let script = script_of(&rt, rt.alloc(), *text);
+        for command in script.commands() {
+            if let Verb::Substitute(substitution) = &command.verb {
+                require(&rt, substitution.outside == *outside, *text);
+            }
+        }
+    }
+}

@@ -12,7 +12,7 @@ static LOOPS: [Row; 16] = [
     (b":a;$!N;$!ba", "idle\n0 0 keep\n1 0 keep\n2 0 keep\n0 0\n"),
     (b":a;$!N;ba", "idle\n0 0 keep\n1 0 keep\n2 0 keep\n0 0\n"),
     (
-        b":a;s/\\(.*\\)  \\(.*\\)/\\1 \\2/;ta",
+        b":a;s/\\(x\\)/\\1\\1/;ta",
         "growing\n1 0 grow\n2 1 keep\n0 0 keep\n1 0\n",
     ),
     // an idle loop behind a growing one
