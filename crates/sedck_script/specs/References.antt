@@ -5,7 +5,7 @@ use Rattle.sedck_bre.specs.Lengths.{IsLeastSize}
 use Rattle.sedck_bre.specs.Rests.{is_top_group, HasRest}
 use Rattle.sedck_script.specs.Program.{Pattern, Previous, Expression, Part, Whole, Group}
 
--- it has no `&`
+-- the replacement has no `&`
 abbrev pub HasNoWhole : List Part → Type 0
 HasNoWhole [] = Unit {0}
 HasNoWhole (Whole ∷ parts) = ⊥
@@ -17,11 +17,12 @@ named_groups [] = []
 named_groups (Group k ∷ parts) = k ∷ named_groups parts
 named_groups (_ ∷ parts) = named_groups parts
 
--- no number stands there twice
+-- the number isn't one of these
 abbrev pub IsNotIn : ℕ → List ℕ → Type 0
 IsNotIn k [] = Unit {0}
 IsNotIn k (j ∷ js) = (k ≢ j) × IsNotIn k js
 
+-- no number stands there twice
 abbrev pub AreDistinct : List ℕ → Type 0
 AreDistinct [] = Unit {0}
 AreDistinct (k ∷ ks) = IsNotIn k ks × AreDistinct ks
@@ -44,7 +45,7 @@ abbrev pub IsLeastOutside : Pattern → List ℕ → ℕ → Type 0
 IsLeastOutside Previous groups n = Unit {0}
 IsLeastOutside (Expression own) groups n = IsLeastSize (HasRest own groups) n
 
--- what a substitution knows of its matches: the least rest where its replacement keeps groups, and else nothing
+-- what a substitution knows of its matches: the least rest where its replacement keeps groups, and else that it keeps none
 abbrev pub IsOutside : Pattern → List Part → Option ℕ → Type 0
 IsOutside pattern parts None = ¬ KeepsGroups pattern parts
 IsOutside pattern parts (Some n) = KeepsGroups pattern parts × IsLeastOutside pattern (named_groups parts) n
