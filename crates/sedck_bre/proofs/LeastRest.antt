@@ -47,8 +47,8 @@ own_floor picked known (Seq ts) n e d e' u h low m same = omega (arith, low)
 own_floor picked known (Repeat body l most) n e d e' u h low m same = omega (arith, low)
 
 -- no match has less outside
-pub outside-floor : (picked : ℕ → Bool) (ts : Trees) (n : ℕ) (known : Bounds) → CountsFrom n (groups_in_all ts) → FreshFrom n known → (e e' : Groups) (w : List ℕ)
-    → Reaches known e → MatchAll ts e w e' → outside_picked picked known ts + items_sum picked (lengths e') ts ≤ length w
+pub outside-floor : (picked : ℕ → Bool) (ts : Trees) (n : ℕ) (known : Bounds) → CountsFrom n (groups_in_all ts) → FreshFrom n known
+    → (e e' : Groups) (w : List ℕ) → Reaches known e → MatchAll ts e w e' → outside_picked picked known ts + items_sum picked (lengths e') ts ≤ length w
 outside-floor picked Nil n known h f e e' w r m = omega arith
 outside-floor picked (Then t ts) n known h f e e' w r m =
     let u = m.0 in
@@ -178,7 +178,9 @@ least-outside t ts bits n is f top found =
     of_items : IsWellFormed (Seq ts) → NamesTopGroups (Seq ts) bits → IsLeastSize (HasRest (Seq ts) (named bits)) n
     of_items formed tops = record {
       floor = λ m (w, e, matches, rest). let low = rest-floor bits ts formed.numbered tops w e matches in omega (arith, low, rest, found);
-      met = λ l. let same : outside bits no_bounds ts ≡ n = omega (arith, found, l) in subst (HasRest (Seq ts) (named bits)) same (rest-met bits ts formed tops);
+      met = λ l.
+          let same : outside bits no_bounds ts ≡ n = omega (arith, found, l) in
+          subst (HasRest (Seq ts) (named bits)) same (rest-met bits ts formed tops);
       capped = omega (arith, found);
     }
 
