@@ -1,4 +1,4 @@
--- The kind of a successful substitution from the least rest of a match.
+-- The least rest of a match, from what a script and its substitutions know.
 use Rattle.std.proofs.Common.{◌≡◌, ℕ, zero, suc, ◌+◌, ◌<◌, ◌≤◌, List, [], ◌∷◌, map, length, get_or, take, refl, sym, ap, ◌∙◌, subst, inl, inr, arith}
 use Rattle.std.proofs.Math.Logic.{∥∥₁_elim}
 use Rattle.std.proofs.Math.Bridge.{le_prop}
@@ -17,9 +17,8 @@ use Rattle.sedck_script.specs.View.{part_of}
 use Rattle.sedck_script.specs.declared.script.Part.{Part as Coded}
 use Rattle.sedck_script.specs.declared.script.Part.TheVariants.{Text as PartText}
 use Rattle.sedck_flow.specs.Patterns.{StandsFor}
-use Rattle.sedck_flow.specs.Flow.{IsWholeAlone, AreRestsAbove, AreRestsAtLeast, HasKind}
+use Rattle.sedck_flow.specs.Flow.{AreRestsAbove, AreRestsAtLeast}
 use Rattle.sedck_flow.specs.Least.{IsFormed, IsLeastOfRests}
-use Rattle.sedck_flow.specs.declared.graph.Kind.TheVariants.{Shorten, Keep, Grow}
 use Rattle.sedck_flow.proofs.References.{keeps_groups_or_not, different_groups, no_groups_of_previous}
 
 -- ---- The replacement
@@ -54,21 +53,6 @@ module _ (parts : List Coded) (i : ℕ) (z : Coded) (below : i < length parts) w
   coded_length_more = length_more (map part_of parts) i (part_of z) inside ∙ ap (λ (x : Part). literal_length (take i (map part_of parts)) + part_length x) same
 
 -- ---- The least rest
-
-module _ (p : Program) (s : Substitution) (keeps : KeepsGroups s.pattern s.parts) (n : ℕ) (least : IsLeastOfRests p s n)
-    (small : literal_length s.parts ≤ 1048576) where
-  pub shortens : literal_length s.parts < n → HasKind p s Shorten
-  shortens less = (keeps, λ tree text groups is m. omega (arith, least.floor tree text groups is m))
-
-  pub keeps_length : literal_length s.parts ≡ n → HasKind p s Keep
-  keeps_length same =
-      inr (
-        λ short. least.met (omega arith) (λ tree text groups is m. omega (arith, same, short.1 tree text groups is m)),
-        (keeps, λ tree text groups is m. omega (arith, same, least.floor tree text groups is m)),
-      )
-
-  pub grows : ¬ IsWholeAlone s.parts → n < literal_length s.parts → HasKind p s Grow
-  grows other more = (other, λ never. least.met (omega arith) (λ tree text groups is m. omega (arith, never.1 tree text groups is m)))
 
 -- by the least length of the script's expressions, where the replacement names no group
 pub least_of_previous : (p : Program) (s : Substitution) (n : ℕ) → s.pattern ≡ Previous → KeepsGroups s.pattern s.parts
