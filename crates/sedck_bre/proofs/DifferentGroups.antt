@@ -153,7 +153,8 @@ whole_rest t f none ks top =
 
 pub least_rest_of : (t : Tree) → IsWellFormed t → (ks : List ℕ) → AreDifferentTopGroups t ks → (n : ℕ) × IsLeastRest t ks n
 least_rest_of (Seq ts) f ks top =
-    (outside_picked (listed ks) no_bounds ts, least-rest (Seq ts) ks (outside_picked (listed ks) no_bounds ts) (items_floor ts f.numbered ks top) (items_met ts f ks top))
+    let n = outside_picked (listed ks) no_bounds ts in
+    (n, least-rest (Seq ts) ks n (items_floor ts f.numbered ks top) (items_met ts f ks top))
 least_rest_of (Byte b) f ks top = whole_rest (Byte b) f (λ k. refl) ks top
 least_rest_of Any f ks top = whole_rest Any f (λ k. refl) ks top
 least_rest_of (Set words) f ks top = whole_rest (Set words) f (λ k. refl) ks top

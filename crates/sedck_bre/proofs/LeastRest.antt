@@ -47,8 +47,8 @@ own_floor picked known (Seq ts) n e d e' u h low m same = omega (arith, low)
 own_floor picked known (Repeat body l most) n e d e' u h low m same = omega (arith, low)
 
 -- no match has less outside
-pub outside-floor : (picked : ℕ → Bool) (ts : Trees) (n : ℕ) (known : Bounds) → CountsFrom n (groups_in_all ts) → FreshFrom n known → (e e' : Groups) (w : List ℕ)
-    → Reaches known e → MatchAll ts e w e' → outside_picked picked known ts + items_sum picked (lengths e') ts ≤ length w
+pub outside-floor : (picked : ℕ → Bool) (ts : Trees) (n : ℕ) (known : Bounds) → CountsFrom n (groups_in_all ts) → FreshFrom n known
+    → (e e' : Groups) (w : List ℕ) → Reaches known e → MatchAll ts e w e' → outside_picked picked known ts + items_sum picked (lengths e') ts ≤ length w
 outside-floor picked Nil n known h f e e' w r m = omega arith
 outside-floor picked (Then t ts) n known h f e e' w r m =
     let u = m.0 in

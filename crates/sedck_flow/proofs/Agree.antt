@@ -1,5 +1,5 @@
 -- The kind of a substitution is its kind by literal parts alone, or that one is Grow.
-use Rattle.std.proofs.Common.{◌≡◌, ◌⊎◌, IsTrue, List, [], ◌∷◌, refl, sym, ap, subst, inl, inr, arith}
+use Rattle.std.proofs.Common.{◌≡◌, ◌⊎◌, ◌↔◌, IsTrue, List, [], ◌∷◌, refl, sym, ap, subst, inl, inr, arith}
 use Rattle.std.proofs.lemmas.Bool.{false≢true}
 use Rattle.sedck_bre.specs.Match.{Groups}
 use Rattle.sedck_bre.specs.Rests.{texts_length}
@@ -60,6 +60,10 @@ shortens_literally : (p : Program) (s : Substitution) → IsTrue (is_literal s.p
 shortens_literally p s literal h =
     (literal, λ text (tree, is, (groups, m)). omega (arith, h.1 tree text groups is m, no_length s groups literal))
 
+never_lengthens_literally : (p : Program) (s : Substitution) → IsTrue (is_literal s.parts) → NeverLengthens p s → LiteralNeverLengthens p s
+never_lengthens_literally p s literal h =
+    (literal, λ text (tree, is, (groups, m)). omega (arith, h.1 tree text groups is m, no_length s groups literal))
+
 pub kinds_agree : (p : Program) (s : Substitution) (literal kind : Kind) → HasLiteralKind p s literal → HasKind p s kind → (kind ≡ literal) ⊎ (literal ≡ Grow)
 kinds_agree p s Consume kind h k = absurd h
 kinds_agree p s Grow kind h k = inr refl
@@ -74,3 +78,17 @@ kinds_agree p s Keep Consume h k = absurd k
 kinds_agree p s Keep Shorten h k = absurd (h.0 (shortens_literally p s h.1.0 k))
 kinds_agree p s Keep Keep h k = inl refl
 kinds_agree p s Keep Grow h (_, longer) = absurd (longer (never_lengthens_still p s h.1))
+
+-- ---- A literal replacement
+
+kept_literally : (p : Program) (s : Substitution) → IsTrue (is_literal s.parts) → HasKind p s Keep → HasLiteralKind p s Keep
+kept_literally p s literal (inl alone) = absurd (literal_not_alone s.parts literal alone)
+kept_literally p s literal (inr (not_shorter, never)) = (λ h. not_shorter (shortens_still p s h), never_lengthens_literally p s literal never)
+
+pub literal_kinds_stay : (p : Program) (s : Substitution) → IsTrue (is_literal s.parts) → (kind : Kind) → HasKind p s kind ↔ HasLiteralKind p s kind
+literal_kinds_stay p s literal Consume = (λ h. h, λ h. h)
+literal_kinds_stay p s literal Shorten = (shortens_literally p s literal, shortens_still p s)
+literal_kinds_stay p s literal Keep =
+    (kept_literally p s literal, λ h. inr (λ short. h.0 (shortens_literally p s literal short), never_lengthens_still p s h.1))
+literal_kinds_stay p s literal Grow =
+    (λ h. λ never. h.1 (never_lengthens_still p s never), λ h. (literal_not_alone s.parts literal, λ never. h (never_lengthens_literally p s literal never)))

@@ -84,7 +84,8 @@ previous_not_shorten h =
 
 -- a match of `a\(b\)c` has three bytes, and its group has one
 length-b_in_group : (text : List ℕ) (groups : Groups) → Match b_in_group no_groups text groups → (length text ≡ 3) × (length (text_of groups 1) ≡ 1)
-length-b_in_group text groups (u, v, d, cut, (a, _), (w, x, e, more, (_, f, _, (y, z, _, inner, (b, _), (nothing, _)), put), (y', z', _, last, (c, same), (end, is)))) =
+length-b_in_group text groups (u, v, d, cut, (a, _), (w, x, e, more, (_, f, _, body, put), (y', z', _, last, (c, same), (end, is)))) =
+    let (y, z, _, inner, (b, _), (nothing, _)) = body in
     let group : text_of groups 1 ≡ w = ap (λ (g : Groups). text_of g 1) (is ∙ same ∙ put) in
     let long : length w ≡ 1 = omega (arith, ap length inner, length-append y z, ap length b, ap length nothing) in (
       omega (

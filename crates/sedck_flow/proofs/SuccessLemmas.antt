@@ -1,4 +1,4 @@
--- The kind of a successful substitution from the least rest of a match.
+-- The least rest of a match, from what a script and its substitutions know.
 use Rattle.std.proofs.Common.{◌≡◌, ℕ, zero, suc, ◌+◌, ◌<◌, ◌≤◌, List, [], ◌∷◌, map, length, get_or, take, refl, sym, ap, ◌∙◌, subst, inl, inr, arith}
 use Rattle.std.proofs.Math.Logic.{∥∥₁_elim}
 use Rattle.std.proofs.Math.Bridge.{le_prop}
@@ -17,9 +17,8 @@ use Rattle.sedck_script.specs.View.{part_of}
 use Rattle.sedck_script.specs.declared.script.Part.{Part as Coded}
 use Rattle.sedck_script.specs.declared.script.Part.TheVariants.{Text as PartText}
 use Rattle.sedck_flow.specs.Patterns.{StandsFor}
-use Rattle.sedck_flow.specs.Flow.{IsWholeAlone, HasKind}
-use Rattle.sedck_flow.specs.Least.{IsFormed, IsAtMostRests, IsBelowRests, IsLeastOfRests}
-use Rattle.sedck_flow.specs.declared.graph.Kind.TheVariants.{Shorten, Keep, Grow}
+use Rattle.sedck_flow.specs.Flow.{AreRestsAbove, AreRestsAtLeast}
+use Rattle.sedck_flow.specs.Least.{IsFormed, IsLeastOfRests}
 use Rattle.sedck_flow.proofs.References.{keeps_groups_or_not, different_groups, no_groups_of_previous}
 
 -- ---- The replacement
@@ -55,34 +54,21 @@ module _ (parts : List Coded) (i : ℕ) (z : Coded) (below : i < length parts) w
 
 -- ---- The least rest
 
-module _ (p : Program) (s : Substitution) (keeps : KeepsGroups s.pattern s.parts) (n : ℕ) (least : IsLeastOfRests p s n)
-    (small : literal_length s.parts ≤ 1048576) where
-  pub shortens : literal_length s.parts < n → HasKind p s Shorten
-  shortens less = (keeps, λ tree text groups is m. omega (arith, least.floor tree text groups is m))
-
-  pub keeps_length : literal_length s.parts ≡ n → HasKind p s Keep
-  keeps_length same =
-      inr (
-        λ short. least.met (omega arith) (λ tree text groups is m. omega (arith, same, short.1 tree text groups is m)),
-        (keeps, λ tree text groups is m. omega (arith, same, least.floor tree text groups is m)),
-      )
-
-  pub grows : ¬ IsWholeAlone s.parts → n < literal_length s.parts → HasKind p s Grow
-  grows other more = (other, λ never. least.met (omega arith) (λ tree text groups is m. omega (arith, never.1 tree text groups is m)))
-
 -- by the least length of the script's expressions, where the replacement names no group
 pub least_of_previous : (p : Program) (s : Substitution) (n : ℕ) → s.pattern ≡ Previous → KeepsGroups s.pattern s.parts
     → IsLeastSize (SomeHasLength (expressions p.commands)) n → IsLeastOfRests p s n
 least_of_previous p s n previous keeps least = record { floor = floor; met = met; capped = least.capped }
   where
     none : (groups : Groups) → texts_length groups (named_groups s.parts) ≡ 0
-    none groups = ap (texts_length groups) (no_groups_of_previous (named_groups s.parts) (subst (λ (x : Pattern). AreTopGroups x (named_groups s.parts)) previous keeps.top))
+    none groups =
+        let top = subst (λ (x : Pattern). AreTopGroups x (named_groups s.parts)) previous keeps.top in
+        ap (texts_length groups) (no_groups_of_previous (named_groups s.parts) top)
 
-    floor : IsAtMostRests p s n
+    floor : AreRestsAtLeast p s n
     floor tree text groups is m =
         omega (arith, none groups, least.floor (length text) (tree, subst (λ (x : Pattern). StandsFor p x tree) previous is, (text, (groups, m), refl)))
 
-    met : n < 16777215 → ¬ IsBelowRests p s n
+    met : n < 16777215 → ¬ AreRestsAbove p s n
     met below all =
         let shortest = least.met below in
         let is = subst (λ (x : Pattern). StandsFor p x shortest.0) (sym previous) shortest.1 in
@@ -99,14 +85,14 @@ least_of_own p s own n is_own keeps formed least = record { floor = floor; met =
         let top = subst (λ (x : Pattern). AreTopGroups x (named_groups s.parts)) is_own keeps.top in
         least_rest_of own formed (named_groups s.parts) (different_groups own (named_groups s.parts) keeps.distinct top)
 
-    floor : IsAtMostRests p s n
+    floor : AreRestsAtLeast p s n
     floor tree text groups is m =
         let same : tree ≡ own = subst (λ (x : Pattern). StandsFor p x tree) is_own is in
         let mine = subst (λ (v : Tree). Match v no_groups text groups) same m in
         let rest = rests.1.floor text groups mine in
         omega (arith, rest.1, least.floor rest.0 (text, groups, mine, rest.1))
 
-    met : n < 16777215 → ¬ IsBelowRests p s n
+    met : n < 16777215 → ¬ AreRestsAbove p s n
     met below all =
         let shortest = least.met below in
         let is = subst (λ (x : Pattern). StandsFor p x own) (sym is_own) refl in
