@@ -36,6 +36,5 @@ pub mod Bounds
 pub mod SpelledScript
 pub mod ShortestLemmas
 pub mod ReferenceLemmas
-pub mod OutsideLemmas
 pub mod PlaceLemmas
 pub mod PlacesWithin
