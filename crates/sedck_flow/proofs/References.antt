@@ -1,4 +1,4 @@
--- What a replacement that keeps groups is, told by cases, and the length of what it makes.
+-- Whether a replacement keeps groups is decided by cases; the length of what it makes.
 use Rattle.std.proofs.Common.{◌≡◌, ◌⊎◌, ℕ, ◌+◌, Bool, true, false, IsTrue, List, [], ◌∷◌, length, refl, ap, ◌∙◌, inl, inr, arith, length-append}
 use Rattle.std.specs.Prelude.{◌≢◌, ◌==◌, ◌||◌}
 use Rattle.std.proofs.lemmas.Bool.{false≢true}
@@ -46,7 +46,7 @@ alone_has_whole (Newline ∷ parts) alone h = alone
 alone_has_whole (Tab ∷ parts) alone h = alone
 alone_has_whole (Group k ∷ parts) alone h = alone
 
--- ---- What can be told of a replacement
+-- ---- What is decided of a replacement
 
 pub alone_or_not : (parts : List Part) → Decided (IsWholeAlone parts)
 alone_or_not [] = inr (λ h. h)
