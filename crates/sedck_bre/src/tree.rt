@@ -100,6 +100,7 @@ impl Expr {
         let _ = &self.body;
         self.least
     }
+
     /// Whether the group is an item of the whole expression: in no other group, and not repeated.
     pub fn top_group(&self, k: u8) -> bool
         ensures { result ≡ is_top_group self.now k }
