@@ -10,7 +10,7 @@ all: build
 
 # `rt run` proves and builds the crates below the program where they have changed, then the program, and runs it once.
 build:
-	@echo "Proving and building sedck (a first build proves everything: some 40 processor minutes) ..."
+	@echo "Proving and building sedck (a first build proves everything: 20 to 40 processor minutes) ..."
 	cd crates/sedck && $(RT) run -- check ../../examples/$(EXAMPLE).sed ../../examples/$(EXAMPLE).cert > /dev/null
 	@mkdir -p build
 	@cp crates/sedck/out/sedck build/sedck.new && mv build/sedck.new build/sedck
