@@ -53,7 +53,7 @@ sum_of-below picked f n j (k ∷ ks) h l =
     rw other (ap (λ m. (if picked k then f k else 0) + m) (sum_of-below picked f (n + 1) j ks h.1 (omega arith)))
 
 -- a number of a row is in it once
-sum_of-split : (picked : ℕ → Bool) (f : ℕ → ℕ) (n j : ℕ) (ks : List ℕ) → CountsFrom n ks → n ≤ j → j < n + length ks → picked j ≡ true
+pub sum_of-split : (picked : ℕ → Bool) (f : ℕ → ℕ) (n j : ℕ) (ks : List ℕ) → CountsFrom n ks → n ≤ j → j < n + length ks → picked j ≡ true
     → sum_of picked f ks ≡ f j + sum_of (without j picked) f ks
 sum_of-split picked f n j [] h low high p = absurd (omega (arith, low, high))
 sum_of-split picked f n j (k ∷ ks) h low high p = go (k == j) refl (λ l m. sum_of-split picked f (n + 1) j ks h.1 l m p)

@@ -1,4 +1,4 @@
--- What of a match lies outside of some of its groups.
+-- What of a match lies outside of some of its groups, this project's own.
 use Rattle.std.specs.Prelude.{◌≡◌, ℕ, ◌+◌, ◌≤◌, Bool, false, IsTrue, List, [], ◌∷◌, filter, length, ◌==◌, ◌||◌}
 use Rattle.std.specs.Int.{bit_at}
 use Rattle.sedck_bre.specs.Tree.{Tree, Trees, Group, Seq, Nil, Then}

@@ -87,8 +87,6 @@ impl Expr {
     pub fn groups(&self) -> u8
         ensures { result ≡ group_count self.now }
     {
-        // What ties the number to the tree is known once both are read.
-        let _ = &self.body;
         self.groups
     }
 
@@ -96,8 +94,6 @@ impl Expr {
     pub fn least(&self) -> u32
         ensures { IsLeastSize (HasLength self.now) result }
     {
-        // What ties the length to the tree is known once both are read.
-        let _ = &self.body;
         self.least
     }
 

@@ -1,4 +1,4 @@
--- What an engine makes of the bytes that it reads, where they are known.
+-- What an engine makes of the bytes that it reads, where they are known, this project's own.
 use Rattle.std.specs.Prelude.{◌≡◌, ◌≢◌, ℕ, Bool, IsTrue, List, take, Option, Some, None, Result, Ok, Err}
 use Rattle.std.specs.Io.KnownBytes.{Keeps, Appends}
 use Rattle.sedck_script.specs.Program.{Program}

@@ -1,4 +1,4 @@
--- What a refusal says.
+-- What a refusal says, this project's own.
 use Rattle.std.specs.Prelude.{◌≡◌, ℕ, List, ◌++◌, Option, codes}
 use Rattle.std.specs.Io.KnownBytes.{Appends}
 use Rattle.sedck_script.specs.FaultWords.{fault_words}

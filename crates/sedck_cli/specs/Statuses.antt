@@ -1,4 +1,4 @@
--- The exit statuses of the program, and what stands on its output at each.
+-- The exit statuses of the program, and what stands on its output at each, this project's own.
 use Rattle.std.specs.Prelude.{◌==◌, ℕ, Bool, false, List, [], ◌∷◌, Option, Result, Ok, Err, String, string_bytes, codes, if◌then◌else◌}
 use Rattle.std.specs.List.{list_any}
 use Rattle.std.specs.Str.{bytes_eq}

@@ -18,5 +18,6 @@ pub mod EdgeList
 pub mod Least
 pub mod Spaces
 pub mod Words
+pub mod VersionOne
 pub mod Examples
 pub mod Laws

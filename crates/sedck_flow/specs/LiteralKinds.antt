@@ -1,4 +1,4 @@
--- The kinds of substitutions by literal parts alone: where a part stands for the match or a group, the kind is Grow.
+-- The kinds of substitutions by literal parts alone: where a part stands for the match or a group, the kind is Grow. This project's own.
 -- Certificates were first judged by these; the law `kinds_agree` compares them with the kinds of the flow graph.
 use Rattle.std.specs.Prelude.{ℕ, ◌<◌, ◌≤◌, Bool, true, false, ◌&&◌, IsTrue, List, [], ◌∷◌, length}
 use Rattle.sedck_script.specs.Program.{Part, Whole, Group, Substitution, Program, literal_length}

@@ -55,8 +55,8 @@ fn least_rest(script: &Script, substitution: &Substitution) -> Option<u32>
     }
 }
 
-/// The kind of the edge along which the command substitutes. The parts of its replacement are gone
-/// over once, so the time is linear in their number; nothing else depends on the script's size.
+/// The kind of the edge along which the command substitutes. The parts of its replacement are scanned
+/// once, so the time is linear in their number; nothing else depends on the script's size.
 pub(crate) fn success_kind(script: &Script, substitution: &Substitution) -> Kind
     requires formed { IsFormed (substitution_of substitution.now).pattern }
     requires replacement { length_of_parts (substitution_of substitution.now).parts ≤ 1048576 }

@@ -1,6 +1,6 @@
 -- The groups that a replacement keeps, read part after part, are those that it names; outside of them the rest is the same.
 use Rattle.std.proofs.Common.{◌≡◌, ◌≢◌, ℕ, ◌+◌, ◌<◌, ◌≤◌, ◌^◌, Bool, true, false, not, ◌||◌, ◌==◌, IsTrue, List, [], ◌∷◌, map, get_or, drop, length, Option, Some, None, refl, sym, ap, subst, ◌∙◌, arith}
-use Rattle.std.specs.Prelude.{if◌then◌else◌, is_some, unwrap_or}
+use Rattle.std.specs.Prelude.{is_some, unwrap_or}
 use Rattle.std.specs.Int.{bit_at}
 use Rattle.std.specs.Int.RustNames.{bit_or}
 use Rattle.std.specs.List.{All, AllByRecursion}
@@ -13,9 +13,8 @@ use Rattle.sedck_bre.specs.Text.{is_in}
 use Rattle.sedck_bre.specs.Tree.{Tree}
 use Rattle.sedck_bre.specs.Match.{Groups}
 use Rattle.sedck_bre.specs.Lengths.{IsLeastSize}
-use Rattle.sedck_bre.specs.WellFormed.{CountsFrom}
 use Rattle.sedck_bre.specs.Rests.{names, named, is_top_group, NamesTopGroups, texts_length, HasRest}
-use Rattle.sedck_bre.proofs.NamedSums.{sum_of, without, texts_sum, sum_of-none}
+use Rattle.sedck_bre.proofs.NamedSums.{sum_of, without, texts_sum, sum_of-none, sum_of-split}
 use Rattle.sedck_bre.proofs.LeastRest.{lengths}
 use Rattle.sedck_script.specs.Program.{Pattern, Previous, Expression, Part, Text, Newline, Tab, Whole, Group}
 use Rattle.sedck_script.specs.declared.script.Part.{Part as Coded}
@@ -235,35 +234,6 @@ not_in k (j ∷ ks) h =
     let other : (j == k) ≡ false = grind (arith, nat_tests, h.0) in
     rw other (not_in k ks h.1)
 
--- a number below a row isn't in it
-sum_below : (picked : ℕ → Bool) (f : ℕ → ℕ) (n j : ℕ) (ks : List ℕ) → CountsFrom n ks → j < n → sum_of (without j picked) f ks ≡ sum_of picked f ks
-sum_below picked f n j [] h l = refl
-sum_below picked f n j (k ∷ ks) h l =
-    let first : k ≡ n = h.0 in
-    let other : (k == j) ≡ false = grind (arith, nat_tests) in
-    rw other (ap (λ m. (if picked k then f k else 0) + m) (sum_below picked f (n + 1) j ks h.1 (omega arith)))
-
--- a number of a row is in it once
-sum_split : (picked : ℕ → Bool) (f : ℕ → ℕ) (n j : ℕ) (ks : List ℕ) → CountsFrom n ks → n ≤ j → j < n + length ks → picked j ≡ true
-    → sum_of picked f ks ≡ f j + sum_of (without j picked) f ks
-sum_split picked f n j [] h low high p = absurd (omega (arith, low, high))
-sum_split picked f n j (k ∷ ks) h low high p = go (k == j) refl (λ l m. sum_split picked f (n + 1) j ks h.1 l m p)
-  where
-    go : (b : Bool) → (k == j) ≡ b → (n + 1 ≤ j → j < (n + 1) + length ks → sum_of picked f ks ≡ f j + sum_of (without j picked) f ks)
-        → sum_of picked f (k ∷ ks) ≡ f j + sum_of (without j picked) f (k ∷ ks)
-    go true s later =
-        let first : k ≡ n = h.0 in
-        let same : k ≡ j = grind (arith, nat_tests) in
-        let others = sum_below picked f (n + 1) j ks h.1 (omega arith) in
-        let here : picked k ≡ true = ap picked same ∙ p in
-        let value : f k ≡ f j = ap f same in
-        rw (s, here) (omega (arith, others, value))
-    go false s later =
-        let first : k ≡ n = h.0 in
-        let other : k ≡ j → ⊥ = grind (arith, nat_tests) in
-        let others = later (omega arith) (omega arith) in
-        rw s (omega (arith, others))
-
 -- one group less
 less : (k : ℕ) (ks : List ℕ) (picked : ℕ → Bool) → IsNotIn k ks → ((j : ℕ) → picked j ≡ is_in j (k ∷ ks)) → (j : ℕ) → without k picked j ≡ is_in j ks
 less k ks picked other h j = go (j == k) refl
@@ -282,7 +252,7 @@ texts_of e [] picked distinct within h = sum_of-none picked (lengths e) nine (λ
 texts_of e (k ∷ ks) picked distinct within h =
     let first : (k == k) ≡ true = grind (arith, nat_tests) in
     let here : picked k ≡ true = h k ∙ ap (λ b. b || is_in k ks) first in
-    let split = sum_split picked (lengths e) 1 k nine (refl, (refl, (refl, (refl, (refl, (refl, (refl, (refl, (refl, tt)))))))))
+    let split = sum_of-split picked (lengths e) 1 k nine (refl, (refl, (refl, (refl, (refl, (refl, (refl, (refl, (refl, tt)))))))))
     within.0.0 (omega (arith, within.0.1)) here in
     let others = texts_of e ks (without k picked) distinct.1 within.1 (less k ks picked distinct.0 h) in
     split ∙ ap (λ n. lengths e k + n) others

@@ -1,5 +1,5 @@
 -- Paths over followed edges, and rows that no followed edge leaves.
-use Rattle.std.proofs.Common.{◌≡◌, ℕ, zero, suc, ◌<◌, ◌≤◌, true, false, List, [], ◌∷◌, ◌++◌, length, refl, sym, subst, arith}
+use Rattle.std.proofs.Common.{ℕ, ◌<◌, ◌≤◌, List, [], ◌∷◌, ◌++◌, length, refl, sym, subst, arith}
 use Rattle.sedck_script.specs.Invariant.{AreTargetsWithin, IsScript}
 use Rattle.sedck_script.specs.Program.{Program}
 use Rattle.sedck_flow.specs.Nodes.{node_index}

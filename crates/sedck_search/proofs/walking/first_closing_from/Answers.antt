@@ -1,5 +1,4 @@
 use Rattle.std.proofs.Common.{◌≡◌, ◌<◌, ℕ, length, get_or, refl, sym, ap, ◌∙◌, arith}
-use Rattle.std.specs.Prelude.{Some}
 use Rattle.std.proofs.lemmas.Bool.{true≢false}
 use Rattle.sedck_flow.specs.Nodes.{node_index}
 use Rattle.sedck_search.proofs.GoneOver.{gone_next, gone_over_more, gone_end, edge_coming, target_coming, place_in, entry_is, entry_of}
