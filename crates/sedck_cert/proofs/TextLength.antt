@@ -10,7 +10,8 @@ use Rattle.sedck_script.specs.Names.{names_size}
 use Rattle.sedck_flow.specs.Nodes.{nth_node}
 use Rattle.sedck_flow.specs.Words.{flag_text, node_words}
 use Rattle.sedck_cert.specs.Certificate.{Certificate, IsCertificate, AreWithin}
-use Rattle.sedck_cert.specs.Text.{line, ranks_text, node_text, node_lines, name_lines, files_text, certificate_text, IsTextOf}
+use Rattle.sedck_cert.specs.Text.{line, header, ranks_text, node_text, node_lines, name_lines, files_text, text_in, certificate_text, IsTextOf}
+use Rattle.sedck_cert.specs.declared.versions.Version.TheVariants.{Two}
 
 length-append_two : (a b c : List ℕ) → length (a ++ b ++ c) ≡ length a + length b + length c
 length-append_two a b c = length-append (a ++ b) c ∙ ap (λ n. n + length c) (length-append a b)
@@ -50,21 +51,21 @@ ranks_length (Some r) within =
     omega (arith, length-append_two (decimal r.0) (codes " ") (decimal r.1), rank_length r.0 within.0, rank_length r.1 within.1)
 
 node_length : (node : ℕ) (ranks : Option (ℕ × ℕ)) → node < 8192 → AreWithin ranks
-    → length (line (node_text node ranks)) + limit_before node ≤ limit_before (suc node)
+    → length (line (node_text Two node ranks)) + limit_before node ≤ limit_before (suc node)
 node_length node ranks small within =
     let words = node_words (nth_node node) in
     let flag = flag_text (node % 2 == 1) in
-    let text : length (node_text node ranks) ≡ length words + 1 + length (ranks_text ranks) = length-append_two words (codes " ") (ranks_text ranks) in
+    let text : length (node_text Two node ranks) ≡ length words + 1 + length (ranks_text ranks) = length-append_two words (codes " ") (ranks_text ranks) in
     let place : length words ≡ length (decimal (node / 2)) + 1 + length flag = length-append_two (decimal (node / 2)) (codes " ") flag in
-    omega (arith, line_length (node_text node ranks), text, place, flag_length (node % 2 == 1), ranks_length ranks within, place_length node small)
+    omega (arith, line_length (node_text Two node ranks), text, place, flag_length (node % 2 == 1), ranks_length ranks within, place_length node small)
 
 nodes_length : (node : ℕ) (all : List (Option (ℕ × ℕ))) → node + length all ≤ 8192 → AllByRecursion AreWithin all
-    → length (node_lines node all) + limit_before node ≤ limit_before (node + length all)
+    → length (node_lines Two node all) + limit_before node ≤ limit_before (node + length all)
 nodes_length node [] small within = omega arith
 nodes_length node (ranks ∷ all) small within =
     let first = node_length node ranks (omega arith) within.0 in
     let rest = nodes_length (suc node) all (omega arith) within.1 in
-    let both = length-append (line (node_text node ranks)) (node_lines (suc node) all) in
+    let both = length-append (line (node_text Two node ranks)) (node_lines Two (suc node) all) in
     omega (arith, first, rest, both)
 
 -- ---- The lists of names
@@ -80,7 +81,7 @@ count_length word n few =
     let digits = length-decimal-le 4 n (omega arith) (omega arith) (omega arith) in
     omega (arith, digits, line_length (word ++ decimal n), length-append word (decimal n))
 
-files_length : (c : Certificate) → IsCertificate c → length (files_text c.reads c.writes) ≤ 1048597
+files_length : (c : Certificate) → IsCertificate Two c → length (files_text c.reads c.writes) ≤ 1048597
 files_length c within =
     let read = line (codes "read " ++ decimal (length c.reads)) in
     let write = line (codes "write " ++ decimal (length c.writes)) in
@@ -99,12 +100,12 @@ files_length c within =
 
 -- ---- The text
 
-pub text_length : (c : Certificate) → IsCertificate c → length (certificate_text c) ≤ 1202051
-unfolding certificate_text
+pub text_length : (c : Certificate) → IsCertificate Two c → length (certificate_text c) ≤ 1202051
+unfolding text_in
 text_length c within =
-    let head = line (codes "sedck 1") in
+    let head = line (header Two) in
     let count = line (codes "commands " ++ decimal c.commands) in
-    let nodes = node_lines 0 c.ranks in
+    let nodes = node_lines Two 0 c.ranks in
     let files = files_text c.reads c.writes in
     let end = line (codes "end") in
     let parts : length (head ++ count ++ nodes ++ files ++ end) ≡ length head + length count + length nodes + length files + length end =
@@ -114,7 +115,7 @@ text_length c within =
     omega (
       arith,
       parts,
-      line_length (codes "sedck 1"),
+      line_length (header Two),
       line_length (codes "end"),
       count_length (codes "commands ") c.commands within.commands,
       all,
@@ -124,6 +125,6 @@ text_length c within =
     )
 
 -- a text whose first 1,310,721 bytes are a certificate's text has no more of them
-pub front_is_whole : (text : List ℕ) (c : Certificate) → IsTextOf (take 1310721 text) c → take 1310721 text ≡ text
+pub front_is_whole : (text : List ℕ) (c : Certificate) → IsTextOf Two (take 1310721 text) c → take 1310721 text ≡ text
 front_is_whole text c h = take_all 1310721 text
     (omega (arith, length-take 1310721 text, ap length h.is_text, text_length c h.within))

@@ -6,6 +6,7 @@ use Rattle.sedck_script.specs.Names.{reads, writes}
 use Rattle.sedck_flow.specs.Run.{State, Event, Run, NamesForReading, NamesForWriting}
 use Rattle.sedck_cert.specs.Certificate.{Certificate, IsCertificate}
 use Rattle.sedck_cert.specs.Text.{certificate_text}
+use Rattle.sedck_cert.specs.declared.versions.Version.TheVariants.{Two}
 use Rattle.sedck_cert.specs.Ranked.{IsRanked, IsSteady, ListsNames}
 use Rattle.sedck_cert.specs.StepLimit.{greatest_first, greatest_second, step_limit}
 use Rattle.sedck_flow.specs.Spaces.{bytes_of}
@@ -30,4 +31,4 @@ SteadyRunsAreCounted = (p : Program) → AreWellFormed p → (c : Certificate) �
 
 -- no certificate has a longer text
 abbrev pub TextsAreLimited : Type 0
-TextsAreLimited = (c : Certificate) → IsCertificate c → length (certificate_text c) ≤ 1202051
+TextsAreLimited = (c : Certificate) → IsCertificate Two c → length (certificate_text c) ≤ 1202051
