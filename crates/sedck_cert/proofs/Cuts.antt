@@ -80,9 +80,9 @@ behind_both text a b mid None is h = λ rest e.
 behind_both text a b mid (Some rest) is h = words_on text a b mid rest.now is h
 
 -- a flag is one digit
-pub flag_text-bit : (flag : Bool) → flag_text flag ≡ decimal (if flag then 1 else 0)
-flag_text-bit true = sym (decimal_digit 1 (omega arith))
-flag_text-bit false = sym (decimal_digit 0 (omega arith))
+pub flag_text-digit : (flag : Bool) → flag_text flag ≡ decimal (if flag then 1 else 0)
+flag_text-digit true = sym (decimal_digit 1 (omega arith))
+flag_text-digit false = sym (decimal_digit 0 (omega arith))
 
 -- the number in front of the first space
 pub front_of_number : (text front more rest : List ℕ) (n : ℕ) → n < 2 ^ 64 → IsCut 32 text front more → text ≡ decimal n ++ 32 ∷ rest → front ≡ decimal n

@@ -1,15 +1,16 @@
 -- The pieces of a certificate's text, in the order in which they are written.
-use Rattle.std.proofs.Common.{◌≡◌, ℕ, suc, ◌+◌, ◌<◌, ◌≤◌, ◌/◌, ◌%◌, ◌==◌, List, [], ◌∷◌, ◌++◌, length, get_or, take, drop, decimal, codes, Option, Some, Vec, append_assoc, append-nil, refl, sym, ◌∙◌, ap, arith}
-use Rattle.std.specs.Prelude.{if◌then◌else◌}
+use Rattle.std.proofs.Common.{◌≡◌, ℕ, suc, ◌+◌, ◌<◌, ◌≤◌, List, [], ◌∷◌, ◌++◌, length, get_or, take, drop, decimal, codes, Option, Some, Vec, append_assoc, append-nil, refl, sym, ◌∙◌, ap, arith}
+use Rattle.std.specs.Prelude.{Bool, if◌then◌else◌}
 use Rattle.std.proofs.Math.Seq.{drop-cons}
 use Rattle.std.specs.declared.alloc.Global.{Global}
 use Rattle.std.proofs.lemmas.List.{take-append-drop, take_more, map-append, length-take-le, length-map}
 use Rattle.sedck_script.specs.Names.{AreNames}
 use Rattle.sedck_cert.specs.Certificate.{Certificate, IsCertificate}
-use Rattle.sedck_flow.specs.Words.{flag_text}
-use Rattle.sedck_flow.specs.Nodes.{node_index}
+use Rattle.sedck_flow.specs.Words.{flag_text, node_words}
+use Rattle.sedck_flow.specs.Nodes.{node_index, nth_node}
 use Rattle.sedck_flow.specs.declared.graph.Node.{Node}
-use Rattle.sedck_flow.proofs.NodeLemmas.{parts-nth, flag_text-nth}
+use Rattle.sedck_flow.proofs.NodeLemmas.{node_same, index-nth}
+use Rattle.sedck_cert.proofs.Cuts.{flag_text-digit}
 use Rattle.sedck_cert.specs.View.{names_of}
 use Rattle.sedck_cert.specs.Text.{line, header, ranks_text, node_text, node_lines, name_lines, files_text, text_in, certificate_text}
 use Rattle.sedck_cert.specs.declared.versions.Version.TheVariants.{Two}
@@ -18,17 +19,21 @@ use Rattle.sedck_cert.proofs.NameLimits.{left_cons}
 pub some_pieces : (first second : ℕ) → line (ranks_text (Some (first, second))) ≡ (decimal first ++ 32 ∷ []) ++ (decimal second ++ 10 ∷ [])
 some_pieces first second = append_assoc (decimal first ++ 32 ∷ []) (decimal second) (10 ∷ [])
 
-five : (a s b r e : List ℕ) → a ++ s ++ b ++ s ++ r ++ e ≡ (a ++ s) ++ ((b ++ s) ++ (r ++ e))
-five a s b r e = simp append_assoc
+seven : (a s f l r e : List ℕ) → a ++ s ++ f ++ s ++ l ++ s ++ r ++ e ≡ (a ++ s) ++ ((f ++ s) ++ ((l ++ s) ++ (r ++ e)))
+seven a s f l r e = simp append_assoc
 
--- by the place of the node, and its flag as a digit
+-- a bit and a space
+abbrev bit_field : Bool → List ℕ
+bit_field bit = decimal (if bit then 1 else 0) ++ 32 ∷ []
+
+-- by the place of the node, and its flag and its last line as digits
 pub node_pieces : (n : Node) (index : ℕ) (ranks : Option (ℕ × ℕ)) → node_index n ≡ index
-    → line (node_text Two index ranks) ≡ (decimal n.at ++ 32 ∷ []) ++ ((decimal (if n.flag then 1 else 0) ++ 32 ∷ []) ++ line (ranks_text ranks))
+    → line (node_text Two index ranks) ≡ (decimal n.at ++ 32 ∷ []) ++ (bit_field n.flag ++ (bit_field n.last ++ line (ranks_text ranks)))
 node_pieces n index ranks is =
-    let parts = parts-nth n index is in
-    five (decimal (index / 2)) (32 ∷ []) (flag_text (index % 2 == 1)) (ranks_text ranks) (10 ∷ [])
-    ∙ ap (λ d. (decimal (index / 2) ++ 32 ∷ []) ++ ((d ++ 32 ∷ []) ++ line (ranks_text ranks))) (flag_text-nth index ∙ ap decimal (sym parts.1))
-    ∙ ap (λ at. (decimal at ++ 32 ∷ []) ++ ((decimal (if n.flag then 1 else 0) ++ 32 ∷ []) ++ line (ranks_text ranks))) (sym parts.0)
+    let same : nth_node index ≡ n = sym (node_same n (nth_node index) (is ∙ sym (index-nth index))) in
+    ap (λ m. line (node_words m ++ codes " " ++ ranks_text ranks)) same
+    ∙ seven (decimal n.at) (32 ∷ []) (flag_text n.flag) (flag_text n.last) (ranks_text ranks) (10 ∷ [])
+    ∙ (λ i. (decimal n.at ++ 32 ∷ []) ++ ((flag_text-digit n.flag i ++ 32 ∷ []) ++ ((flag_text-digit n.last i ++ 32 ∷ []) ++ line (ranks_text ranks))))
 
 node_lines-append : (node : ℕ) (xs ys : List (Option (ℕ × ℕ))) → node_lines Two node (xs ++ ys) ≡ node_lines Two node xs ++ node_lines Two (node + length xs) ys
 node_lines-append node [] ys = ap (λ n. node_lines Two n ys) (omega arith)
@@ -101,7 +106,7 @@ pub certificate_pieces : (c : Certificate) → certificate_text c ≡ head_text 
 unfolding text_in
 certificate_pieces c = four (head_text c.commands) (node_lines Two 0 c.ranks) (files_text c.reads c.writes) (line (codes "end"))
 
-pub few_ranks : (c : Certificate) (ranks : List (Option (ℕ × ℕ))) → IsCertificate Two c → ranks ≡ c.ranks → length ranks ≤ 8192
+pub few_ranks : (c : Certificate) (ranks : List (Option (ℕ × ℕ))) → IsCertificate Two c → ranks ≡ c.ranks → length ranks ≤ 16384
 few_ranks c ranks h is = omega (arith, h.nodes, h.commands, ap length is)
 
 pub few_names : (names : List (Vec ℕ Global)) (list : List (List ℕ)) → AreNames list → names_of names ≡ list → length names ≤ 4095

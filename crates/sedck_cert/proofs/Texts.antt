@@ -106,7 +106,10 @@ place-one_line place flag small =
 
 words-one_line : (v : Version) (node : ℕ) → node < 2 ^ 16 → IsOneLine (words_in v node)
 words-one_line One node small = place-one_line (node / 2) (node % 2 == 1) (omega arith)
-words-one_line Two node small = place-one_line (node / 2) (node % 2 == 1) (omega arith)
+words-one_line Two node small =
+    append-one_line (decimal (node / 4) ++ codes " " ++ flag_text (node / 2 % 2 == 1) ++ codes " ") (flag_text (node % 2 == 1))
+    (append-one_line (decimal (node / 4) ++ codes " " ++ flag_text (node / 2 % 2 == 1)) (codes " ")
+    (place-one_line (node / 4) (node / 2 % 2 == 1) (omega arith)) space-one_line) (flag_text-one_line (node % 2 == 1))
 
 node_text-one_line : (v : Version) (node : ℕ) (ranks : Option (ℕ × ℕ)) → node < 2 ^ 16 → AreWithin ranks → IsOneLine (node_text v node ranks)
 node_text-one_line v node ranks small within =

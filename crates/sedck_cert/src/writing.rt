@@ -66,11 +66,12 @@ fn write_node<W: Sink>(out: &mut W, index: u16, ranks: Option<(u16, u16)>) -> Re
     let node = Node::nth(usize::from(index));
     write_field(out, node.at, b' ')?;
     write_field(out, u16::from(node.flag), b' ')?;
+    write_field(out, u16::from(node.last), b' ')?;
     write_ranks(out, ranks)
 }
 
 fn write_nodes<W: Sink>(out: &mut W, ranks: &[Option<(u16, u16)>]) -> Result<(), Failed>
-    requires { length ranks.now ≤ 8192 }
+    requires { length ranks.now ≤ 16384 }
     ensures written { OnOk result (Appends (W.taken out.old) (W.taken out.new) (node_lines Two 0 ranks.now)) }
     ensures begun { OnErr result (AppendsFront (W.taken out.old) (W.taken out.new) (node_lines Two 0 ranks.now)) }
     ensures failure { TellsFailure result (W.has_failed out.old) (W.has_failed out.new) }

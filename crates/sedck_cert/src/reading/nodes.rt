@@ -78,7 +78,8 @@ fn behind_words(text: &[u8], version: Version, index: u16) -> Option<&[u8]>
 fn behind_node(text: &[u8], node: sedck_flow::Node) -> Option<&[u8]>
     ensures { MatchOption result ((rest : List ℕ) → text.now ≡ node_words node ++ 32 ∷ rest → ⊥) (λ rest. text.now ≡ node_words node ++ 32 ∷ rest.now) }
 {
-    behind_flag(behind_number(text, node.at)?, node.flag)
+    let flag = behind_number(text, node.at)?;
+    behind_flag(behind_flag(flag, node.flag)?, node.last)
 }
 
 /// What stands behind the node of version 1 with this index, a space between them.
@@ -88,7 +89,7 @@ fn behind_node_one(text: &[u8], index: u16) -> Option<&[u8]>
     behind_flag(behind_number(text, index / 2)?, index % 2 == 1)
 }
 
-/// What stands behind the flag, a space between them.
+/// What stands behind the flag, or behind what the node says of the last line, a space between them.
 fn behind_flag(text: &[u8], flag: bool) -> Option<&[u8]>
     ensures { MatchOption result ((rest : List ℕ) → text.now ≡ flag_text flag ++ 32 ∷ rest → ⊥) (λ rest. text.now ≡ flag_text flag ++ 32 ∷ rest.now) }
 {
