@@ -1,8 +1,7 @@
 -- Texts of either version: one certificate at most, and none where the version that the text tells has none.
-use Rattle.std.proofs.Common.{◌≡◌, ◌⊎◌, inl, inr, ℕ, List, ◌++◌, get_or, Bool, true, false, Result, Ok, Err, IfOk, IfErr, arith, sym, ◌∙◌, ap, subst}
-use Rattle.std.proofs.lemmas.List.{append_cancel_left}
+use Rattle.std.proofs.Common.{◌≡◌, ◌⊎◌, inl, inr, ℕ, List, get_or, Bool, true, false, Result, Ok, Err, IfOk, IfErr, arith, sym, ◌∙◌, ap, subst}
 use Rattle.sedck_cert.specs.Certificate.{Certificate}
-use Rattle.sedck_cert.specs.Text.{line, header, text_in, IsTextOf}
+use Rattle.sedck_cert.specs.Text.{header, IsTextOf}
 use Rattle.sedck_cert.specs.VersionOne.{upgraded}
 use Rattle.sedck_cert.specs.Versions.{SpellsCertificate, SaysVersionOne, IsFaultIn}
 use Rattle.sedck_cert.specs.Faults.{IsFaultOf}

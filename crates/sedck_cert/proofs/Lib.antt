@@ -20,4 +20,5 @@ pub mod SameNames
 pub mod Streaming
 pub mod TextLength
 pub mod Upgraded
+pub mod UpgradeLaw
 pub mod Either
