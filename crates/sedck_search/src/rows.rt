@@ -38,7 +38,7 @@ fn count_each(words: &[u64]) -> u64
 /// A set of nodes, one bit a node: those of 4,095 commands and the script's end, with either flag.
 #[derive(Drop)]
 pub(crate) struct Row {
-    words: [u64; 128],
+    words: [u64; 256],
 }
 
 impl Model for Row {
@@ -60,7 +60,7 @@ impl Row {
         ensures count { bit_count result ≡ 0 }
         ensures row { IsRow result }
     {
-        Row { words: [0; 128] }
+        Row { words: [0; 256] }
     }
 
     /// Takes all nodes out.
@@ -69,12 +69,12 @@ impl Row {
         ensures count { bit_count self.new ≡ 0 }
         ensures row { IsRow self.new }
     {
-        self.words = [0; 128];
+        self.words = [0; 256];
     }
 
     /// Whether the node is in the set.
     pub(crate) fn has(&self, node: usize) -> bool
-        requires { node < 8192 }
+        requires { node < 16384 }
         ensures value { result ≡ has self.now node }
         ensures row { IsRow self.now }
     {
@@ -84,7 +84,7 @@ impl Row {
 
     /// Puts the node into the set.
     pub(crate) fn insert(&mut self, node: usize)
-        requires { node < 8192 }
+        requires { node < 16384 }
         ensures changed { HasChanged self.old self.new node true }
         ensures row { IsRow self.new }
     {
@@ -93,7 +93,7 @@ impl Row {
 
     /// Takes the node out of the set.
     pub(crate) fn remove(&mut self, node: usize)
-        requires { node < 8192 }
+        requires { node < 16384 }
         ensures changed { HasChanged self.old self.new node false }
         ensures row { IsRow self.new }
     {
@@ -106,14 +106,14 @@ impl Row {
     {
         let words = &self.words;
         let first = from / 64;
-        if first >= 128 {
+        if first >= 256 {
             return None;
         }
         let word = words[first] & (u64::MAX << (from % 64));
         if word != 0 {
             return Some(64 * first + word.trailing_zeros() as usize);
         }
-        for at in first + 1..128 {
+        for at in first + 1..256 {
             let word = words[at];
             if word != 0 {
                 return Some(64 * at + word.trailing_zeros() as usize);

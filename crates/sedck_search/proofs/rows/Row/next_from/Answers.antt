@@ -3,12 +3,12 @@ use Rattle.std.proofs.lemmas.Bool.{cases_lt}
 use Rattle.sedck_search.proofs.NextNode.{first_next, first_none, later_next, later_none, last_none}
 use Rattle.sedck_search.proofs.rows.Row.next_from.Goals as goal
 
-pub returns-then-first-ge128 : goal.returns-then-first-ge128
-returns-then-first-ge128 c = λ i above. last_none c.self.inside.words c.args.self.now c.self.view_is c.self.invariant i
-    (omega (arith, above, c.if-first-ge128.true))
+pub returns-then-first-ge256 : goal.returns-then-first-ge256
+returns-then-first-ge256 c = λ i above. last_none c.self.inside.words c.args.self.now c.self.view_is c.self.invariant i
+    (omega (arith, above, c.if-first-ge256.true))
 
 pub returns-then-word-ne0 : goal.returns-then-word-ne0
-returns-then-word-ne0 c = first_next c.self.inside.words c.args.self.now c.args.from c.self.view_is c.self.invariant c.if-first-ge128.false c.if-word-ne0.true
+returns-then-word-ne0 c = first_next c.self.inside.words c.args.self.now c.args.from c.self.view_is c.self.invariant c.if-first-ge256.false c.if-word-ne0.true
 
 pub loop-at-init : goal.loop-at-init
 loop-at-init c = first_none c.self.inside.words c.args.self.now c.args.from c.self.view_is c.if-word-ne0.false
