@@ -1,5 +1,6 @@
 -- A node of a row as a bit of a word.
 use Rattle.std.proofs.Common.{◌≡◌, ◌≢◌, ℕ, zero, suc, ◌+◌, ◌-◌, ◌*◌, ◌/◌, ◌%◌, ◌^◌, ◌<◌, ◌≤◌, Bool, true, false, cond, List, length, set, replicate, inl, inr, refl, sym, ap, ◌∙◌, arith, get_or-set_other, get_or-set_same, length-set}
+use lib.Count.{ones}
 use Rattle.std.specs.Prelude.{slice_index, bit_and, bit_or, ◌==◌}
 use Rattle.std.specs.Int.{bit_at, w64}
 use Rattle.std.proofs.lemmas.Bool.{cases_eq}
@@ -7,7 +8,7 @@ use Rattle.std.proofs.lemmas.Nat.Bits.{bit_at-lt, bit_at-zero, bit_at_set_same, 
 use Rattle.std.proofs.lemmas.Nat.{or_lt, and_le_l}
 use Rattle.std.proofs.lemmas.List.{get_or_past}
 use Rattle.std.proofs.lemmas.List.Elements.{All-get_or, All-set, All-replicate}
-use Rattle.sedck_search.specs.Rows.{has, IsRow, IsEmpty, HasChanged}
+use Rattle.sedck_search.specs.Rows.{has, bit_count, IsRow, IsEmpty, HasChanged}
 
 abbrev pub bit_of : Bool → ℕ
 bit_of b = cond b 1 0
@@ -125,3 +126,7 @@ zero_at (suc n) (suc j) = zero_at n j
 
 pub empty_nodes : IsEmpty (replicate 256 0)
 empty_nodes node = has_by_bit (replicate 256 0) node false (ap (λ m. bit_at m (node % 64)) (zero_at 256 (node / 64)) ∙ bit_at-zero (node % 64))
+
+pub empty_count : bit_count (replicate 256 0) ≡ 0
+unfolding ones
+empty_count = refl

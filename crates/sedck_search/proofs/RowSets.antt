@@ -4,7 +4,7 @@ use Rattle.std.specs.Prelude.{slice_index, count_ones}
 use Rattle.std.specs.Int.{bit_at}
 use Rattle.std.proofs.lemmas.Bool.{cases_lt, false≢true}
 use Rattle.std.proofs.lemmas.Nat.{ones-le}
-use Rattle.sedck_search.specs.Rows.{has, bit_count, IsRow, HasChanged}
+use Rattle.sedck_search.specs.Rows.{has, bit_count, IsRow, IsEmpty, HasChanged}
 use Rattle.sedck_search.proofs.Totals.{total, total_same, total_fewer, total_less, total_one_more, total_within, word_total, row_total}
 use Rattle.sedck_search.proofs.RowBits.{bit_of, node_bit, at_node, word_below, none_behind, empty_row, empty_nodes}
 
@@ -77,6 +77,14 @@ same_nodes a b x y h same i some = go (has a i) refl
 pub counts_node : (a : List ℕ) → IsRow a → (i : ℕ) → has a i ≡ true → 0 < bit_count a
 counts_node a row i some =
     omega (arith, strictly_fewer (replicate 256 0) a empty_row row (λ k h. absurd (false≢true (sym (empty_nodes k) ∙ h))) i (empty_nodes i) some)
+
+-- a row that counts no node has none
+pub count_none : (a : List ℕ) → IsRow a → bit_count a ≡ 0 → IsEmpty a
+count_none a row none i = go (has a i) refl
+  where
+    go : (found : Bool) → has a i ≡ found → has a i ≡ false
+    go true e = absurd (omega (arith, none, counts_node a row i e))
+    go false e = e
 
 pub count_within : (a : List ℕ) → IsRow a → bit_count a ≤ 16384
 count_within a row =
