@@ -1,8 +1,10 @@
 -- Edges put in order one by one.
-use Rattle.std.proofs.Common.{◌≡◌, ◌⊎◌, ◌↔◌, ℕ, zero, suc, ◌<◌, ◌≤◌, false, List, [], ◌∷◌, ◌++◌, length, get_or, set, take, drop, Contains, refl, sym, ap, ◌∙◌, subst, inl, inr, arith}
+use Rattle.std.proofs.Common.{◌≡◌, ◌⊎◌, ◌↔◌, ℕ, zero, suc, ◌<◌, ◌≤◌, Bool, true, false, List, [], ◌∷◌, ◌++◌, length, get_or, set, take, drop, Contains, refl, sym, ap, ◌∙◌, subst, inl, inr, arith}
 use Rattle.sedck_script.proofs.SortedNames.{Contains-cons_cases, Contains-cons_more}
-use Rattle.sedck_flow.specs.Flow.{IsEarlier, AreInOrder}
-use Rattle.sedck_flow.specs.EdgeList.{AddsEdge, ListsTargets}
+use Rattle.sedck_flow.specs.Flow.{IsEarlier, AreInOrder, ReadsLine}
+use Rattle.sedck_flow.specs.Nodes.{start, with_last}
+use Rattle.std.proofs.lemmas.Bool.{false≢true}
+use Rattle.sedck_flow.specs.EdgeList.{AddsEdge, AddsLine, ListsTargets}
 use Rattle.sedck_flow.specs.declared.graph.Node.{Node}
 use Rattle.sedck_flow.specs.declared.graph.Edge.{Edge}
 use Rattle.sedck_flow.specs.declared.graph.Kind.{Kind}
@@ -94,7 +96,7 @@ place_last (x ∷ xs) (suc n) c below = ap (λ ys. x ∷ ys) (place_last xs n c 
 
 -- what the code reads past the end of an array
 abbrev pub filler : Edge
-filler = record { from = record { at = 0; flag = false }; to = record { at = 0; flag = false }; kind = Consume }
+filler = record { from = start false; to = start false; kind = Consume }
 
 -- ---- Which edges there are then
 
@@ -206,6 +208,50 @@ lists_more before after n IsTarget kind to lists adds = record { in_order = adds
     back : (x : Edge) → (x.from ≡ n) × (((x.kind ≡ kind) × (x.to ≡ to)) ⊎ IsTarget x.kind x.to) → Contains after x
     back x (from, inl (k, t)) = (adds.same x).1 (inl (edge_by x e from t k))
     back x (from, inr h) = (adds.same x).1 (inr ((lists.same x).1 (from, h)))
+
+-- the edges on which a line is read
+pub lists_line : (before after : List Edge) (n to : Node) (IsTarget : Kind → Node → Type 0) → ListsTargets before n IsTarget → AddsLine n to before after
+    → ListsTargets after n (λ k t. ReadsLine n (with_last to) k t ⊎ IsTarget k t)
+lists_line before after n to IsTarget lists adds = record { in_order = adds.in_order lists.in_order; same = λ x. (forth x, back x) }
+  where
+    forth : (x : Edge) → Contains after x → (x.from ≡ n) × (ReadsLine n (with_last to) x.kind x.to ⊎ IsTarget x.kind x.to)
+    forth x h = elim ((adds.same x).0 h) [ inl new ↦ (new.0, inl new.1) | inr old ↦ let k = (lists.same x).0 old in (k.0, inr k.1) ]
+
+    back : (x : Edge) → (x.from ≡ n) × (ReadsLine n (with_last to) x.kind x.to ⊎ IsTarget x.kind x.to) → Contains after x
+    back x (from, inl h) = (adds.same x).1 (inl (from, h))
+    back x (from, inr h) = (adds.same x).1 (inr ((lists.same x).1 (from, h)))
+
+-- where no line is left, none is read
+pub adds_none : (n to : Node) (edges : List Edge) → n.last ≡ true → AddsLine n to edges edges
+adds_none n to edges is = record {
+  in_order = λ h. h;
+  same = λ x. (λ h. inr h, elim [ inl new ↦ absurd (false≢true (sym new.1.0 ∙ is)) | inr h ↦ h ]);
+}
+
+abbrev line_edge : Node → Node → Bool → Edge
+line_edge n to last = record { from = n; to = with_last to last; kind = Consume }
+
+-- where one is left, it may be the last one or not
+pub adds_both : (n to : Node) (before between after : List Edge) → n.last ≡ false → AddsEdge (line_edge n to false) before between
+    → AddsEdge (line_edge n to true) between after → AddsLine n to before after
+adds_both n to before between after left first second = record {
+  in_order = λ h. second.in_order (first.in_order h);
+  same = λ x. (forth x, back x);
+}
+  where
+    reads : (x : Edge) (last : Bool) → x ≡ line_edge n to last → (x.from ≡ n) × ReadsLine n (with_last to) x.kind x.to
+    reads x last is = (ap (λ (y : Edge). y.from) is, (left, ap (λ (y : Edge). y.kind) is, last, ap (λ (y : Edge). y.to) is))
+
+    forth : (x : Edge) → Contains after x → ((x.from ≡ n) × ReadsLine n (with_last to) x.kind x.to) ⊎ Contains before x
+    forth x h = elim ((second.same x).0 h) [
+      | inl is ↦ inl (reads x true is)
+      | inr old ↦ elim ((first.same x).0 old) [ inl is ↦ inl (reads x false is) | inr older ↦ inr older ]
+    ]
+
+    back : (x : Edge) → ((x.from ≡ n) × ReadsLine n (with_last to) x.kind x.to) ⊎ Contains before x → Contains after x
+    back x (inl (from, (_, kind, true, is))) = (second.same x).1 (inl (edge_by x (line_edge n to true) from is kind))
+    back x (inl (from, (_, kind, false, is))) = (second.same x).1 (inr ((first.same x).1 (inl (edge_by x (line_edge n to false) from is kind))))
+    back x (inr h) = (second.same x).1 (inr ((first.same x).1 (inr h)))
 
 -- the same targets in other words
 pub lists_same : (edges : List Edge) (n : Node) (P Q : Kind → Node → Type 0) → ((kind : Kind) (to : Node) → P kind to ↔ Q kind to)

@@ -8,15 +8,15 @@ use Rattle.sedck_script.specs.declared.script.Verb.{Verb as Coded}
 use Rattle.sedck_script.specs.declared.script.Verb.TheVariants as coded
 use Rattle.std.specs.Borrow.{Bor}
 use Rattle.sedck_flow.specs.Run.{KeptOrReset}
-use Rattle.sedck_flow.specs.Nodes.{start, moved_to, next, with_flag}
-use Rattle.sedck_flow.specs.Flow.{HasKind, VerbEdge}
+use Rattle.sedck_flow.specs.Nodes.{start, moved_to, next, with_flag, with_last}
+use Rattle.sedck_flow.specs.Flow.{HasKind, ReadsLine, ReadsOn, VerbEdge}
 use Rattle.sedck_flow.proofs.References.{alone_has_whole}
-use Rattle.sedck_flow.specs.EdgeList.{AddsEdge, ListsTargets}
+use Rattle.sedck_flow.specs.EdgeList.{AddsEdge, AddsLine, ListsTargets}
 use Rattle.sedck_flow.specs.declared.graph.Node.{Node}
 use Rattle.sedck_flow.specs.declared.graph.Edge.{Edge}
 use Rattle.sedck_flow.specs.declared.graph.Kind.{Kind}
 use Rattle.sedck_flow.specs.declared.graph.Kind.TheVariants.{Consume, Shorten, Keep, Grow}
-use Rattle.sedck_flow.proofs.EdgeListLemmas.{lists_none, lists_more, lists_same}
+use Rattle.sedck_flow.proofs.EdgeListLemmas.{lists_none, lists_more, lists_line, lists_same}
 
 -- the targets of one edge
 abbrev pub Only : Kind → Node → Kind → Node → Type 0
@@ -30,64 +30,68 @@ one_edge n kind to edges adds =
     lists_same edges n (λ k t. ((k ≡ kind) × (t ≡ to)) ⊎ ⊥) (Only kind to) (λ k t. (elim [ inl h ↦ h | inr h ↦ absurd h ], λ h. inl h))
     (lists_more [] edges n (λ k t. ⊥) kind to (lists_none n) adds)
 
+-- the edges on which a line is read
+pub line_alone : (n to : Node) (edges : List Edge) → AddsLine n to [] edges → ListsTargets edges n (ReadsLine n (with_last to))
+line_alone n to edges adds =
+    lists_same edges n (λ k t. ReadsLine n (with_last to) k t ⊎ ⊥) (ReadsLine n (with_last to))
+    (λ k t. (elim [ inl h ↦ h | inr h ↦ absurd h ], λ h. inl h)) (lists_line [] edges n to (λ k t. ⊥) (lists_none n) adds)
+
 -- `c` at a range
-pub changes_range : (p : Program) (n : Node) (first all : List Edge) (text : List ℕ) (place end : _) → ListsTargets first n (Only Consume start)
+pub changes_range : (p : Program) (n : Node) (first all : List Edge) (text : List ℕ) (place end : _) → ListsTargets first n (ReadsLine n start)
     → AddsEdge (edge n Keep (next n)) first all → ListsTargets all n (VerbEdge p (Two place end) (Change text) n)
 changes_range p n first all text place end lists adds =
     lists_same all n _ (VerbEdge p (Two place end) (Change text) n)
     (λ k t. (elim [ inl h ↦ inr h | inr h ↦ inl h ], elim [ inl h ↦ inr h | inr h ↦ inl h ]))
-    (lists_more first all n (Only Consume start) Keep (next n) lists adds)
+    (lists_more first all n (ReadsLine n start) Keep (next n) lists adds)
 
 -- `D`
 abbrev Drops : Node → Kind → Node → Type 0
-Drops n k t = ((k ≡ Consume) × (t ≡ start)) ⊎ ((k ≡ Shorten) × (flag : Bool) × KeptOrReset n.flag flag × (t ≡ with_flag start flag))
+Drops n k t = ReadsLine n start k t ⊎ ((k ≡ Shorten) × (flag : Bool) × KeptOrReset n.flag flag × (t ≡ with_flag (start n.last) flag))
 
 abbrev DropsOne : Node → Kind → Node → Type 0
-DropsOne n k t = Only Shorten (with_flag start n.flag) k t ⊎ (Only Shorten start k t ⊎ Only Consume start k t)
+DropsOne n k t = ReadsLine n start k t ⊎ (Only Shorten (with_flag (start n.last) n.flag) k t ⊎ Only Shorten (start n.last) k t)
 
 drop_targets : (n : Node) (k : Kind) (t : Node) → DropsOne n k t ↔ Drops n k t
 drop_targets n k t = (forth, back)
   where
     forth : DropsOne n k t → Drops n k t
-    forth (inl (kind, to)) = inr (kind, n.flag, inl refl, to)
-    forth (inr (inl (kind, to))) = inr (kind, false, inr refl, to)
-    forth (inr (inr h)) = inl h
+    forth (inl h) = inl h
+    forth (inr (inl (kind, to))) = inr (kind, n.flag, inl refl, to)
+    forth (inr (inr (kind, to))) = inr (kind, false, inr refl, to)
 
     back : Drops n k t → DropsOne n k t
-    back (inl h) = inr (inr h)
-    back (inr (kind, flag, inl kept, to)) = inl (kind, to ∙ ap (with_flag start) kept)
-    back (inr (kind, flag, inr reset, to)) = inr (inl (kind, to ∙ ap (with_flag start) reset))
+    back (inl h) = inl h
+    back (inr (kind, flag, inl kept, to)) = inr (inl (kind, to ∙ ap (with_flag (start n.last)) kept))
+    back (inr (kind, flag, inr reset, to)) = inr (inr (kind, to ∙ ap (with_flag (start n.last)) reset))
 
-pub drops : (p : Program) (a : Address) (n : Node) (first second all : List Edge) → ListsTargets first n (Only Consume start)
-    → AddsEdge (edge n Shorten start) first second → AddsEdge (edge n Shorten (with_flag start n.flag)) second all
+pub drops : (p : Program) (a : Address) (n : Node) (first second all : List Edge) → ListsTargets first n (Only Shorten (start n.last))
+    → AddsEdge (edge n Shorten (with_flag (start n.last) n.flag)) first second → AddsLine n (start n.last) second all
     → ListsTargets all n (VerbEdge p a DeleteFirstLine n)
-drops p a n first second all lists adds more =
-    lists_same all n _ (VerbEdge p a DeleteFirstLine n) (drop_targets n)
-    (lists_more second all n _ Shorten (with_flag start n.flag) (lists_more first second n (Only Consume start) Shorten start lists adds) more)
+drops p a n first second all lists adds line =
+    lists_same all n (DropsOne n) (VerbEdge p a DeleteFirstLine n) (drop_targets n)
+    (lists_line second all n (start n.last) _
+    (lists_more first second n (Only Shorten (start n.last)) Shorten (with_flag (start n.last) n.flag) lists adds) line)
 
 -- `n` and `N`
-abbrev Reads : Node → Kind → Node → Type 0
-Reads n k t = (k ≡ Consume) × (flag : Bool) × KeptOrReset n.flag flag × (t ≡ with_flag (next n) flag)
-
 abbrev ReadsOne : Node → Kind → Node → Type 0
-ReadsOne n k t = Only Consume (with_flag (next n) false) k t ⊎ Only Consume (next n) k t
+ReadsOne n k t = ReadsLine n (with_last (with_flag (next n) false)) k t ⊎ ReadsLine n (with_last (next n)) k t
 
-read_targets : (n : Node) (k : Kind) (t : Node) → ReadsOne n k t ↔ Reads n k t
+read_targets : (n : Node) (k : Kind) (t : Node) → ReadsOne n k t ↔ ReadsOn n k t
 read_targets n k t = (forth, back)
   where
-    forth : ReadsOne n k t → Reads n k t
-    forth (inl (kind, to)) = (kind, false, inr refl, to)
-    forth (inr (kind, to)) = (kind, n.flag, inl refl, to)
+    forth : ReadsOne n k t → ReadsOn n k t
+    forth (inl h) = (false, inr refl, h)
+    forth (inr h) = (n.flag, inl refl, h)
 
-    back : Reads n k t → ReadsOne n k t
-    back (kind, flag, inl kept, to) = inr (kind, to ∙ ap (with_flag (next n)) kept)
-    back (kind, flag, inr reset, to) = inl (kind, to ∙ ap (with_flag (next n)) reset)
+    back : ReadsOn n k t → ReadsOne n k t
+    back (flag, inl kept, h) = inr (subst (λ f. ReadsLine n (with_last (with_flag (next n) f)) k t) kept h)
+    back (flag, inr reset, h) = inl (subst (λ f. ReadsLine n (with_last (with_flag (next n) f)) k t) reset h)
 
-pub reads : (p : Program) (a : Address) (n : Node) (first all : List Edge) → ListsTargets first n (Only Consume (next n))
-    → AddsEdge (edge n Consume (with_flag (next n) false)) first all → ListsTargets all n (VerbEdge p a Next n)
-reads p a n first all lists adds =
-    lists_same all n _ (VerbEdge p a Next n) (read_targets n)
-    (lists_more first all n (Only Consume (next n)) Consume (with_flag (next n) false) lists adds)
+pub reads : (p : Program) (a : Address) (n : Node) (first all : List Edge) → ListsTargets first n (ReadsLine n (with_last (next n)))
+    → AddsLine n (with_flag (next n) false) first all → ListsTargets all n (VerbEdge p a Next n)
+reads p a n first all lists line =
+    lists_same all n (ReadsOne n) (VerbEdge p a Next n) (read_targets n)
+    (lists_line first all n (with_flag (next n) false) (ReadsLine n (with_last (next n))) lists line)
 
 -- `s`
 never_both : (p : Program) (s : Substitution) → HasKind p s Shorten → HasKind p s Grow → ⊥

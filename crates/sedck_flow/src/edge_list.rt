@@ -1,7 +1,8 @@
-//! The edges that leave one node: at most four, in order, each once.
+//! The edges that leave one node: at most five, in order, each once.
 
 ghost use Rattle.std.specs.Prelude.{◌≡◌, ◌↔◌, ◌+◌, ◌<◌, ◌≤◌, [], length, slice_get, IsTrue};
-ghost use Rattle.sedck_flow.specs.Flow.{IsEarlier};
+ghost use Rattle.sedck_flow.specs.Flow.{IsEarlier, kind_index};
+ghost use Rattle.sedck_flow.specs.Nodes.{IsBefore};
 
 use crate::graph::{Edge, Kind, Node};
 use std::marker::Model;
@@ -9,7 +10,7 @@ use std::marker::Model;
 /// Edges in order and each once, in no memory.
 #[derive(Drop)]
 pub(crate) struct EdgeList {
-    edges: [Edge; 4],
+    edges: [Edge; 5],
     count: usize,
 }
 
@@ -21,42 +22,63 @@ impl Model for EdgeList {
 
     ghost view = { λ a. take a.count a.edges };
 
-    ghost invariant = { λ a. (length a.edges ≡ 4) × (a.count ≤ 4) };
+    ghost invariant = { λ a. (length a.edges ≡ 5) × (a.count ≤ 5) };
 }
 
-/// The derived order says just what the definition says; each fact is proved once, here.
+/// Whether the edge is before the other one in the order of edges, by the indexes of their nodes.
 fn is_earlier(edge: Edge, other: Edge) -> bool
     ensures { IsTrue result ↔ IsEarlier edge other }
 {
-    edge < other
+    is_before(edge.from, other.from)
+        || (is_at(edge.from, other.from)
+            && (is_before(edge.to, other.to)
+                || (is_at(edge.to, other.to) && is_lower(edge.kind, other.kind))))
 }
 
 fn is_same(edge: Edge, other: Edge) -> bool
     ensures { IsTrue result ↔ (edge ≡ other) }
 {
-    edge == other
+    is_at(edge.from, other.from) && is_at(edge.to, other.to) && edge.kind == other.kind
+}
+
+fn is_before(node: Node, other: Node) -> bool
+    ensures { IsTrue result ↔ IsBefore node other }
+{
+    node.index() < other.index()
+}
+
+fn is_at(node: Node, other: Node) -> bool
+    ensures { IsTrue result ↔ (node ≡ other) }
+{
+    node.index() == other.index()
+}
+
+fn is_lower(kind: Kind, other: Kind) -> bool
+    ensures { IsTrue result ↔ (kind_index kind < kind_index other) }
+{
+    kind < other
 }
 
 impl EdgeList {
-    ghost use Rattle.sedck_flow.specs.EdgeList.{AddsEdge};
+    ghost use Rattle.sedck_flow.specs.EdgeList.{AddsEdge, AddsLine};
 
     pub(crate) fn new() -> Self
         ensures { result ≡ [] }
     {
         let unused = Edge {
-            from: Node::START,
-            to: Node::START,
+            from: Node::start(false),
+            to: Node::start(false),
             kind: Kind::Keep,
         };
         EdgeList {
-            edges: [unused; 4],
+            edges: [unused; 5],
             count: 0,
         }
     }
 
     /// With one edge more where it belongs, unless it is there.
     pub(crate) fn with(self, from: Node, kind: Kind, to: Node) -> Self
-        requires room { length self < 4 }
+        requires room { length self < 5 }
         ensures edges { AddsEdge (record { from = from; to = to; kind = kind }) self result }
         ensures few { length result ≤ length self + 1 }
     {
@@ -78,6 +100,20 @@ impl EdgeList {
             edges,
             count: count + 1,
         }
+    }
+
+    /// With the edges on which a line is read: to the node behind the last line, and to the one before it. No line is
+    /// read where none is left.
+    pub(crate) fn with_line(self, from: Node, to: Node) -> Self
+        requires room { length self < 4 }
+        ensures edges { AddsLine from to self result }
+        ensures few { length result ≤ length self + 2 }
+    {
+        if from.last {
+            return self;
+        }
+        self.with(from, Kind::Consume, to.with_last(false))
+            .with(from, Kind::Consume, to.with_last(true))
     }
 
     pub(crate) fn len(&self) -> usize

@@ -4,7 +4,8 @@ ghost use Rattle.std.specs.Prelude.{◌≡◌, ℕ, ◌<◌, ◌≤◌, List, le
 ghost use Rattle.sedck_script.specs.Program as plain;
 ghost use Rattle.sedck_script.specs.Invariant.{IsTargetWithin, IsReplacement};
 ghost use Rattle.sedck_script.specs.View.{address_of, substitution_of, verb_of};
-ghost use Rattle.sedck_flow.specs.Flow.{VerbEdge};
+ghost use Rattle.sedck_flow.specs.Flow.{VerbEdge, ReadsLine};
+ghost use Rattle.sedck_flow.specs.Nodes.{with_last};
 ghost use Rattle.sedck_flow.specs.EdgeList.{ListsTargets};
 ghost use Rattle.sedck_flow.specs.Least.{IsFormed, HasFormed};
 
@@ -21,14 +22,22 @@ pub(crate) fn single(from: Node, kind: Kind, to: Node) -> EdgeList
     EdgeList::new().with(from, kind, to)
 }
 
+/// The edges on which a line is read, to this node or to the same one on the other side of the last line.
+pub(crate) fn reading_line(from: Node, to: Node) -> EdgeList
+    ensures edges { ListsTargets result from (ReadsLine from (with_last to)) }
+    ensures few { length result ≤ 2 }
+{
+    EdgeList::new().with_line(from, to)
+}
+
 /// `c`: the next cycle begins, or at a range the pattern space may be left empty.
 fn changing(address: &Address, from: Node) -> EdgeList
     requires { from.at < 4095 }
     ensures edges { (p : plain.Program) (text : List ℕ)
         → ListsTargets result from (VerbEdge p (address_of address.now) (plain.Change text) from) }
-    ensures few { length result ≤ 2 }
+    ensures few { length result ≤ 3 }
 {
-    let begins = single(from, Kind::Consume, Node::START);
+    let begins = reading_line(from, Node::start(from.last));
     match address {
         Address::Two(_, _) => begins.with(from, Kind::Keep, from.next()),
         Address::One(_) => begins,
@@ -40,12 +49,13 @@ fn changing(address: &Address, from: Node) -> EdgeList
 fn dropping(from: Node) -> EdgeList
     ensures edges { (p : plain.Program) (a : plain.Address)
         → ListsTargets result from (VerbEdge p a plain.DeleteFirstLine from) }
-    ensures few { length result ≤ 3 }
+    ensures few { length result ≤ 4 }
 {
-    let kept = Node::START.with_flag(from.flag);
-    single(from, Kind::Consume, Node::START)
-        .with(from, Kind::Shorten, Node::START)
+    let start = Node::start(from.last);
+    let kept = start.with_flag(from.flag);
+    single(from, Kind::Shorten, start)
         .with(from, Kind::Shorten, kept)
+        .with_line(from, start)
 }
 
 /// `n` and `N`: the flag is kept or reset.
@@ -53,11 +63,11 @@ fn reading(from: Node) -> EdgeList
     requires { from.at < 4095 }
     ensures edges { (p : plain.Program) (a : plain.Address)
         → ListsTargets result from (VerbEdge p a plain.Next from) }
-    ensures few { length result ≤ 2 }
+    ensures few { length result ≤ 4 }
 {
     let kept = from.next();
     let reset = kept.with_flag(false);
-    single(from, Kind::Consume, kept).with(from, Kind::Consume, reset)
+    reading_line(from, kept).with_line(from, reset)
 }
 
 /// `s`: nothing is found, or a substitution is made.
@@ -96,13 +106,13 @@ pub(crate) fn verb_edges(script: &Script, command: &Command, from: Node) -> Edge
     requires replacement { IsReplacement (verb_of command.now.verb) }
     ensures edges { ListsTargets result from
         (VerbEdge script.now (address_of command.now.address) (verb_of command.now.verb) from) }
-    ensures few { length result ≤ 3 }
+    ensures few { length result ≤ 4 }
 {
     let onward = from.next();
     match &command.verb {
         Verb::Branch(target) => single(from, Kind::Keep, from.to(*target)),
         Verb::Change(_) => changing(&command.address, from),
-        Verb::Delete => single(from, Kind::Consume, Node::START),
+        Verb::Delete => reading_line(from, Node::start(from.last)),
         Verb::DeleteFirstLine => dropping(from),
         Verb::Exchange | Verb::Get | Verb::GetAppend => single(from, Kind::Grow, onward),
         Verb::Next | Verb::NextAppend => reading(from),

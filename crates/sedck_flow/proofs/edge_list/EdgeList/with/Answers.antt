@@ -42,7 +42,7 @@ pub returns-clause-edges : goal.returns-clause-edges
 returns-clause-edges c =
     let e : Edge = record { from = c.args.from; to = c.args.to; kind = c.args.kind } in
     let at_end : c.loop-i.i ≡ c.self.inside.count = omega arith in
-    let room : c.self.inside.count < 4 = omega (arith, ap length c.self.view_is, length-take c.self.inside.count c.self.inside.edges) in
+    let room : c.self.inside.count < 5 = omega (arith, ap length c.self.view_is, length-take c.self.inside.count c.self.inside.edges) in
     let listed =
     place_last c.loop-i.edges c.self.inside.count c.loop-i.carried (omega arith)
     ∙ rw at_end at c.loop-i.invariant.wanted ∙ ap (with_edge e) c.self.view_is in
