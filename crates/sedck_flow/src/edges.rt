@@ -54,8 +54,7 @@ impl<'s, 'a> Iterator for Edges<'s, 'a> {
     }
 }
 
-/// The edges that leave the node, by the node that they lead to and then by their kind. The time is
-/// constant but for a substitution, whose parts are scanned once.
+/// The edges that leave the node, by the node that they lead to and then by their kind. The time is constant.
 pub fn edges_of<'s, 'a>(script: &'s Script<'a>, node: Node) -> Edges<'s, 'a>
     requires inside { node.at ≤ length script.now.commands }
     ensures edges { ListsEdges result (FlowFrom script.now node) }
