@@ -177,6 +177,7 @@ def calls():
             yield [engine, text], f"script {fault}\n", OF_ENGINE
     for text in (NEXT_LINE_RANKS, WRITING_RANKS, READING_RANKS, UNNAMED_RANKS):
         yield ["certificate", text], text, OF_CERTIFICATE
+        yield ["upgrade", text], f"{text}yes\n", OF_ENGINE
     for script, text, bound, commands, names in RANKED:
         yield ["script", script], f"{commands}{names}", OF_SCRIPT
         yield ["verify", script, text], "accepted\n", OF_TEXTS
@@ -206,6 +207,7 @@ def programs():
         yield ["check", "script", "certificate"], files, (0, f"accepted\n{bound}{names}", "")
         yield ["files", "script"], files, (0, names, "")
         yield ["rank", "script"], files, (0, text, "")
+        yield ["upgrade", "certificate"], {"certificate": text}, (0, text, "")
     for script, graph in GRAPHS:
         yield ["graph", "script"], {"script": script}, (0, graph, "")
     yield ["rank", "script"], {"script": IDLE}, (1, IDLE_LOOP, "")
@@ -215,8 +217,9 @@ def programs():
     for script, fault in REFUSED_SCRIPTS:
         yield ["rank", "script"], {"script": script}, (2, "", f"sedck: script {fault}\n")
     files = {"script": NEXT_LINE, "certificate": NEXT_LINE_RANKS + "\n"}
-    yield ["check", "script", "certificate"], files, (2, "", "sedck: certificate fault 5 bad-end at line 14\n")
-    usage = "sedck: usage: sedck rank SCRIPT, check SCRIPT CERT, files SCRIPT, graph SCRIPT\n"
+    for words in (["check", "script", "certificate"], ["upgrade", "certificate"]):
+        yield words, files, (2, "", "sedck: certificate fault 5 bad-end at line 14\n")
+    usage = "sedck: usage: sedck rank SCRIPT, check SCRIPT CERT, files SCRIPT, graph SCRIPT, upgrade CERT\n"
     yield ["check", "script"], {"script": NEXT_LINE}, (3, "", usage)
     yield ["rank", "script"], {}, (4, "", "sedck: cannot read script\n")
 

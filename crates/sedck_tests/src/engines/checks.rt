@@ -113,6 +113,21 @@ static RANKS: [Row; 5] = [
     ("b z", "", "script fault 15 unknown-label at 2", ""),
 ];
 
+/// The script isn't read.
+static UPGRADES: [Row; 6] = [
+    ("b z", LOOP_CERTIFICATE, "yes", LOOP_CERTIFICATE),
+    (LOOP, EMPTY_CERTIFICATE, "yes", EMPTY_CERTIFICATE),
+    (LOOP, BRANCHES, "yes", BRANCHES),
+    (LOOP, "", "certificate fault 1 bad-header at line 1", ""),
+    (
+        LOOP,
+        "sedck 3\n",
+        "certificate fault 1 bad-header at line 1",
+        "",
+    ),
+    (LOOP, LOOP, "certificate fault 1 bad-header at line 1", ""),
+];
+
 /// A script and its fault.
 static REFUSED: [(&'static str, &'static str); 7] = [
     ("k", "script fault 3 unknown-command at 0"),
@@ -130,6 +145,7 @@ fn answers(rt: HostRuntime) {
     are_answered(&rt, rt.alloc(), &Engine::Files, &NAMES);
     are_answered(&rt, rt.alloc(), &Engine::Graph, &GRAPHS);
     are_answered(&rt, rt.alloc(), &Engine::Rank, &RANKS);
+    are_answered(&rt, rt.alloc(), &Engine::Upgrade, &UPGRADES);
     for (script, fault) in &REFUSED {
         for certificate in [LOOP_CERTIFICATE, "x", ""] {
             let row = (*script, certificate, *fault, "");
@@ -198,15 +214,10 @@ fn certificates(rt: HostRuntime) {
             let Some(cut) = LOOP_CERTIFICATE.get(..length) else {
                 panic!(rt; "no beginning of {length} bytes");
             };
-            is_answered(
-                &rt,
-                rt.alloc(),
-                &Engine::Check,
-                (LOOP, cut),
-                64,
-                &NEVER,
-                (*told, ""),
-            );
+            let (texts, answer) = ((LOOP, cut), (*told, ""));
+            for engine in [Engine::Check, Engine::Upgrade] {
+                is_answered(&rt, rt.alloc(), &engine, texts, 64, &NEVER, answer);
+            }
         }
     }
 }

@@ -244,8 +244,8 @@ fn certificate_of(rt: &impl Abort, alloc: Global, row: &Row) -> String {
     format!(in alloc; "sedck 1\ncommands {commands}\n{nodes}\n{lists}end\n").expect(rt, "memory")
 }
 
-/// Whether the engine and the program give the report on the script and the certificate, which is accepted or not. Their
-/// files are in the folder then.
+/// Whether the engine and the program give the report on the script and the certificate, which is accepted or not, and
+/// whether the certificate is written anew. Their files are in the folder then.
 fn are_judged(
     rt: &(impl Files + AllocGlobal + Abort),
     folder: &str,
@@ -262,6 +262,7 @@ fn are_judged(
     write_file(rt, folder, "certificate", texts.1);
     let words = "check @script @certificate";
     is_run(rt, folder, words, AMPLE, (status, report, ""));
+    is_run(rt, folder, "upgrade @certificate", AMPLE, (0, texts.1, ""));
 }
 
 fn is_accepted(rt: &(impl Files + AllocGlobal + Abort), folder: &str, row: &Row, is_found: bool) {

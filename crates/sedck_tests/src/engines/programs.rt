@@ -10,7 +10,7 @@ use std::rt::{Env, Files};
 use std::{env, fs, io, process};
 
 const USAGE: &str =
-    "sedck: usage: sedck rank SCRIPT, check SCRIPT CERT, files SCRIPT, graph SCRIPT\n";
+    "sedck: usage: sedck rank SCRIPT, check SCRIPT CERT, files SCRIPT, graph SCRIPT, upgrade CERT\n";
 
 /// The files of a test's folder, by name.
 static FILES: [(&'static str, &'static str); 5] = [
@@ -68,7 +68,7 @@ pub fn is_run(
 }
 
 /// Words that get the usage line.
-static WORDS: [&'static str; 24] = [
+static WORDS: [&'static str; 30] = [
     "",
     "lint @script",
     "Check @script @certificate",
@@ -86,6 +86,12 @@ static WORDS: [&'static str; 24] = [
     "graph",
     "graph @script @certificate",
     "graph -- @script",
+    "upgrade",
+    "upgrade @certificate @certificate",
+    "upgrade @script @certificate",
+    "upgrade @certificate -",
+    "upgrade -- @certificate",
+    "Upgrade @certificate",
     "--help",
     "-h check @script @certificate",
     "check --version @certificate",
@@ -98,7 +104,7 @@ static WORDS: [&'static str; 24] = [
 /// Words, the status, what is printed, and what stands on standard error.
 type Row = (&'static str, u8, &'static str, &'static str);
 
-static ROWS: [Row; 21] = [
+static ROWS: [Row; 27] = [
     (
         "check @nowhere @certificate",
         4,
@@ -175,6 +181,27 @@ static ROWS: [Row; 21] = [
     ("graph @script", 0, LOOP_GRAPH, ""),
     ("check @script @certificate", 0, ACCEPTED, ""),
     ("check @script @empty", 1, "rejected 1 wrong-count\n", ""),
+    ("upgrade @certificate", 0, LOOP_CERTIFICATE, ""),
+    ("upgrade @empty", 0, EMPTY_CERTIFICATE, ""),
+    (
+        "upgrade @nowhere",
+        4,
+        "",
+        "sedck: cannot read certificate\n",
+    ),
+    ("upgrade @", 4, "", "sedck: cannot read certificate\n"),
+    (
+        "upgrade @wrong",
+        2,
+        "",
+        "sedck: certificate fault 1 bad-header at line 1\n",
+    ),
+    (
+        "upgrade @script",
+        2,
+        "",
+        "sedck: certificate fault 1 bad-header at line 1\n",
+    ),
 ];
 
 #[test]
