@@ -11,13 +11,13 @@ use std::process::Abort;
 static SOURCES: [(Engine, &'static str, bool, usize); 9] = [
     (Engine::Check, LOOP, false, 8),
     (Engine::Check, "b z", false, 3),
-    (Engine::Check, LOOP, true, 92),
-    (Engine::Check, "b z", true, 92),
+    (Engine::Check, LOOP, true, 178),
+    (Engine::Check, "b z", true, 178),
     (Engine::Files, LOOP, false, 8),
     (Engine::Graph, LOOP, false, 8),
     (Engine::Rank, LOOP, false, 8),
     (Engine::Rank, "b z", false, 3),
-    (Engine::Upgrade, LOOP, true, 92),
+    (Engine::Upgrade, LOOP, true, 178),
 ];
 
 /// The engine, a script, and the report; the certificate is the loop's.
@@ -27,13 +27,13 @@ static SINKS: [(Engine, &'static str, &'static str); 6] = [
     (
         Engine::Graph,
         "#",
-        "commands 0\n0 0 0 0 consume\n0 1 0 0 consume\n",
+        "commands 0\n0 0 0 0 0 0 consume\n0 0 0 0 0 1 consume\n0 1 0 0 0 0 consume\n0 1 0 0 0 1 consume\n",
     ),
     (Engine::Rank, LOOP, LOOP_CERTIFICATE),
     (
         Engine::Rank,
         ":a\nb a",
-        "loop idle\n0 0 keep\n1 0 keep\n0 0\n",
+        "loop idle\n0 0 0 keep\n1 0 0 keep\n0 0 0\n",
     ),
     (Engine::Upgrade, "b z", LOOP_CERTIFICATE),
 ];
@@ -101,7 +101,7 @@ fn fails_at(
 
 #[test]
 fn failing_sources(rt: HostRuntime) {
-    assert_eq!(rt; (LOOP.len(), LOOP_CERTIFICATE.len()), (8, 92));
+    assert_eq!(rt; (LOOP.len(), LOOP_CERTIFICATE.len()), (8, 178));
     for (engine, script, is_certificate, length) in &SOURCES {
         for before in 0..*length + 1 {
             // where the script's reads fail, the certificate's would fail at once
@@ -139,7 +139,7 @@ fn fails_behind(rt: &impl Abort, alloc: Global, engine: &Engine, script: &str, f
 
 #[test]
 fn failing_sinks(rt: HostRuntime) {
-    assert_eq!(rt; LOOP_CERTIFICATE.len(), 92);
+    assert_eq!(rt; LOOP_CERTIFICATE.len(), 178);
     for (engine, script, report) in &SINKS {
         for room in 0..report.len() {
             let Some(front) = report.get(..room) else {
@@ -177,35 +177,35 @@ static LIMITS: [(Engine, bool, usize, usize, &'static str); 7] = [
         Engine::Check,
         true,
         AMPLE,
-        1_310_720,
+        1_572_864,
         "cannot read certificate",
     ),
     (
         Engine::Check,
         true,
         AMPLE,
-        1_310_721,
+        1_572_865,
         "certificate fault 1 bad-header at line 1",
     ),
     (
         Engine::Upgrade,
         true,
         0,
-        1_310_720,
+        1_572_864,
         "cannot read certificate",
     ),
     (
         Engine::Upgrade,
         true,
         0,
-        1_310_721,
+        1_572_865,
         "certificate fault 1 bad-header at line 1",
     ),
 ];
 
 #[test]
 fn limits(rt: HostRuntime) {
-    let long = repeated(&rt, rt.alloc(), &[(b"\n", 1_400_000)]);
+    let long = repeated(&rt, rt.alloc(), &[(b"\n", 1_700_000)]);
     let long = String::from_utf8(long).expect(&rt, "text");
     for (engine, is_certificate, script_end, certificate_end, fault) in &LIMITS {
         let texts = if *is_certificate {

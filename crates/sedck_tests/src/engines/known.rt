@@ -4,7 +4,7 @@ ghost use Rattle.std.specs.Prelude.{IfOk};
 ghost use Rattle.sedck_cli.specs.Engines.{ListsFilesTo, UpgradesTo};
 ghost use Rattle.sedck_cli.specs.declared.answer.Outcome.TheVariants.{Yes};
 
-use super::EMPTY_CERTIFICATE;
+use super::{EMPTY_CERTIFICATE, OLD_EMPTY_CERTIFICATE};
 use sedck_cert::streams::{FromRead, FromWrite};
 use sedck_cli::{RunFault, run_files, run_upgrade};
 use std::alloc::Global;
@@ -19,7 +19,7 @@ fn files_of(alloc: Global, text: &[u8]) -> Result<Vec<u8>, RunFault>
     Ok(out.into_inner())
 }
 
-/// The text of the certificate whose text this is.
+/// The text of the certificate that the text spells.
 fn upgraded(alloc: Global, text: &[u8]) -> Result<Vec<u8>, RunFault>
     ensures { IfOk result (λ report. UpgradesTo text.now Yes report.items) }
 {
@@ -46,8 +46,10 @@ fn known_bytes(rt: HostRuntime) {
         };
         assert_eq!(rt; report.as_slice(), lists.as_bytes());
     }
-    let Ok(report) = upgraded(rt.alloc(), EMPTY_CERTIFICATE.as_bytes()) else {
-        panic!(rt; "refused");
-    };
-    assert_eq!(rt; report.as_slice(), EMPTY_CERTIFICATE.as_bytes());
+    for text in [OLD_EMPTY_CERTIFICATE, EMPTY_CERTIFICATE] {
+        let Ok(report) = upgraded(rt.alloc(), text.as_bytes()) else {
+            panic!(rt; "refused: {text}");
+        };
+        assert_eq!(rt; report.as_slice(), EMPTY_CERTIFICATE.as_bytes());
+    }
 }

@@ -1,6 +1,9 @@
 //! `program` over files.
 use super::fakes::sink_with;
-use super::{ACCEPTED, AMPLE, EMPTY_CERTIFICATE, LOOP, LOOP_CERTIFICATE, LOOP_GRAPH};
+use super::{
+    ACCEPTED, AMPLE, EMPTY_CERTIFICATE, LOOP, LOOP_CERTIFICATE, LOOP_GRAPH, OLD_EMPTY_CERTIFICATE,
+    OLD_LOOP_CERTIFICATE,
+};
 use crate::texts::require;
 use sedck_cert::streams::FromWrite;
 use sedck_cli::{flushed, program};
@@ -13,10 +16,12 @@ const USAGE: &str =
     "sedck: usage: sedck rank SCRIPT, check SCRIPT CERT, files SCRIPT, graph SCRIPT, upgrade CERT\n";
 
 /// The files of a test's folder, by name.
-static FILES: [(&'static str, &'static str); 5] = [
+static FILES: [(&'static str, &'static str); 7] = [
     ("script", LOOP),
     ("certificate", LOOP_CERTIFICATE),
     ("empty", EMPTY_CERTIFICATE),
+    ("old", OLD_LOOP_CERTIFICATE),
+    ("old-empty", OLD_EMPTY_CERTIFICATE),
     ("unknown", "b z"),
     ("wrong", "x"),
 ];
@@ -104,7 +109,7 @@ static WORDS: [&'static str; 30] = [
 /// Words, the status, what is printed, and what stands on standard error.
 type Row = (&'static str, u8, &'static str, &'static str);
 
-static ROWS: [Row; 27] = [
+static ROWS: [Row; 31] = [
     (
         "check @nowhere @certificate",
         4,
@@ -181,6 +186,15 @@ static ROWS: [Row; 27] = [
     ("graph @script", 0, LOOP_GRAPH, ""),
     ("check @script @certificate", 0, ACCEPTED, ""),
     ("check @script @empty", 1, "rejected 1 wrong-count\n", ""),
+    ("check @script @old", 0, ACCEPTED, ""),
+    (
+        "check @script @old-empty",
+        1,
+        "rejected 1 wrong-count\n",
+        "",
+    ),
+    ("upgrade @old", 0, LOOP_CERTIFICATE, ""),
+    ("upgrade @old-empty", 0, EMPTY_CERTIFICATE, ""),
     ("upgrade @certificate", 0, LOOP_CERTIFICATE, ""),
     ("upgrade @empty", 0, EMPTY_CERTIFICATE, ""),
     (
