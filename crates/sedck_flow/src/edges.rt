@@ -7,7 +7,7 @@ ghost use Rattle.sedck_flow.specs.Flow.{node_past as node_past_verb, MayApplyAt,
 ghost use Rattle.sedck_flow.specs.EdgeList.{ListsTargets};
 ghost use Rattle.sedck_flow.specs.Least.{HasFormed};
 
-use crate::edge_list::EdgeList;
+use crate::edge_list::{EdgeList, edge_at};
 use crate::graph::{Edge, Kind, Node};
 use crate::verbs::{reading_line, verb_edges};
 use sedck_script::{Address, Command, Place, Script, Verb};
@@ -16,19 +16,21 @@ use std::marker::{Model, PhantomData};
 /// The edges that leave one node, over the borrowed script. It takes no memory.
 #[derive(Drop)]
 pub struct Edges<'s, 'a> {
+    from: Node,
     list: EdgeList,
     next: usize,
     script: PhantomData<&'s Script<'a>>,
 }
 
 impl<'s, 'a> Model for Edges<'s, 'a> {
-    ghost use Rattle.std.specs.Prelude.{List, drop, length, ◌≤◌};
+    ghost use Rattle.std.specs.Prelude.{List, drop, length, map, ◌≤◌};
     ghost use Rattle.sedck_flow.specs.declared.graph.Edge.{Edge};
+    ghost use Rattle.sedck_flow.specs.EdgeList.{edge_at};
 
     /// The edges that are still to come.
     ghost Value = { List Edge };
 
-    ghost view = { λ a. drop a.next a.list };
+    ghost view = { λ a. map (edge_at a.from) (drop a.next a.list) };
 
     ghost invariant = { λ a. a.next ≤ length a.list };
 }
@@ -46,14 +48,13 @@ impl<'s, 'a> Iterator for Edges<'s, 'a> {
         if self.next == self.list.len() {
             return None;
         }
-        let edge = self.list.get(self.next);
+        let number = self.list.get(self.next);
         self.next += 1;
-        Some(edge)
+        Some(edge_at(self.from, number))
     }
 }
 
-/// The edges that leave the node, by the node that they lead to and then by their kind. The time is
-/// constant but for a substitution, whose parts are scanned once.
+/// The edges that leave the node, by the node that they lead to and then by their kind. The time is constant.
 pub fn edges_of<'s, 'a>(script: &'s Script<'a>, node: Node) -> Edges<'s, 'a>
     requires inside { node.at ≤ length script.now.commands }
     ensures edges { ListsEdges result (FlowFrom script.now node) }
@@ -64,6 +65,7 @@ pub fn edges_of<'s, 'a>(script: &'s Script<'a>, node: Node) -> Edges<'s, 'a>
         None => reading_line(node, Node::start(node.last)),
     };
     Edges {
+        from: node,
         list,
         next: 0,
         script: PhantomData,
@@ -76,12 +78,12 @@ fn command_edges(script: &Script, command: &Command, from: Node) -> EdgeList
     requires target { IsTargetWithin 4095 (verb_of command.now.verb) }
     requires formed { HasFormed (verb_of command.now.verb) }
     requires replacement { IsReplacement (verb_of command.now.verb) }
-    ensures edges { ListsTargets result from (CommandEdge script.now (command_of command.now) from) }
+    ensures edges { ListsTargets result (CommandEdge script.now (command_of command.now) from) }
     ensures few { length result ≤ 5 }
 {
     let applied = applied_edges(script, command, from);
     if may_pass_by(command, from) {
-        return applied.with(from, Kind::Keep, node_past(&command.verb, from));
+        return applied.with(Kind::Keep, node_past(&command.verb, from));
     }
     applied
 }
@@ -92,7 +94,7 @@ fn applied_edges(script: &Script, command: &Command, from: Node) -> EdgeList
     requires target { IsTargetWithin 4095 (verb_of command.now.verb) }
     requires formed { HasFormed (verb_of command.now.verb) }
     requires replacement { IsReplacement (verb_of command.now.verb) }
-    ensures edges { ListsTargets result from (λ kind to. MayApplyAt (command_of command.now) from
+    ensures edges { ListsTargets result (λ kind to. MayApplyAt (command_of command.now) from
         × VerbEdge script.now (address_of command.now.address) (verb_of command.now.verb) from kind to) }
     ensures few { length result ≤ 4 }
 {

@@ -27,14 +27,15 @@ struct Last {
     count: u16,
 }
 
-/// A mark for each node that the first one reaches, and 0 for each other node.
+/// A mark for each node that one of the two starts reaches, and 0 for each other node.
 fn mark_reached(alloc: Global, script: &Script) -> Result<Vec<u16>, AllocError>
     ensures script { IsScript script.now }
     ensures marks { IfOk result (λ marks. (along : Along) → ArePartlyCounted script.now along marks.items) }
 {
     let count = node_count(script.commands().len());
     let mut row = Row::new();
-    spread(script, Along::Every, &mut row, Node::START);
+    spread(script, Along::Every, &mut row, Node::start(false));
+    spread(script, Along::Every, &mut row, Node::start(true));
     let mut marks = Vec::new(alloc);
     for index in 0..count {
         marks.push(if row.has(index) { UNCOUNTED } else { 0 })?;
@@ -42,7 +43,7 @@ fn mark_reached(alloc: Global, script: &Script) -> Result<Vec<u16>, AllocError>
     Ok(marks)
 }
 
-/// How many nodes each node reaches that the first one reaches, and 0 for each other node.
+/// How many nodes each node reaches that one of the two starts reaches, and 0 for each other node.
 pub(crate) fn counts_of(
     alloc: Global,
     script: &Script,
@@ -249,7 +250,7 @@ fn count_node(script: &Script, along: Along, node: Node, counts: &[u16], last: &
     ensures last { IsLast script.now along last.new.row last.new.count }
     ensures count { IsReachCount script.now along node result }
     ensures positive { 0 < result }
-    ensures within { result ≤ 8192 }
+    ensures within { result ≤ 16384 }
 {
     if !goes_on(script, along, node, counts, last) {
         if let Some(count) = count_by_target(script, along, node, counts, last) {
@@ -278,7 +279,7 @@ fn count_by_target(
     requires inside { node.at ≤ length script.now.commands }
     requires counted { ArePartlyCounted script.now along counts.now }
     requires last { IsLast script.now along last.now.row last.now.count }
-    ensures { IfSome result (λ count. IsReachCount script.now along node count × (0 < count) × (count ≤ 8192)) }
+    ensures { IfSome result (λ count. IsReachCount script.now along node count × (0 < count) × (count ≤ 16384)) }
 {
     let to = only_target(script, along, node)?;
     if to == node.index() || last.row.has(node.index()) || !leads_into(script, along, to, last) {
