@@ -9,7 +9,7 @@ use Rattle.sedck_cert.specs.declared.versions.Version.TheVariants.{One, Two}
 
 -- ---- Each entry twice
 
-pub doubled-push : (all : List (Option (ℕ × ℕ))) (ranks : Option (ℕ × ℕ)) → doubled (all ++ ranks ∷ []) ≡ (doubled all ++ ranks ∷ []) ++ ranks ∷ []
+pub doubled-push : (all : List (Option (ℕ × ℕ))) (ranks : Option (ℕ × ℕ)) → doubled (all ++ ranks ∷ []) ≡ doubled all ++ ranks ∷ ranks ∷ []
 doubled-push [] ranks = refl
 doubled-push (r ∷ all) ranks = ap (λ t. r ∷ r ∷ t) (doubled-push all ranks)
 
@@ -23,7 +23,7 @@ doubled_within (r ∷ all) within = (within.0, (within.0, doubled_within all wit
 
 -- one entry more
 pub doubled-more : (ranks : List (Option (ℕ × ℕ))) (i : ℕ) (d : Option (ℕ × ℕ)) → i < length ranks
-    → doubled (take (i + 1) ranks) ≡ (doubled (take i ranks) ++ get_or ranks i d ∷ []) ++ get_or ranks i d ∷ []
+    → doubled (take (i + 1) ranks) ≡ doubled (take i ranks) ++ get_or ranks i d ∷ get_or ranks i d ∷ []
 doubled-more ranks i d within = ap doubled (take_more ranks i d within) ∙ doubled-push (take i ranks) (get_or ranks i d)
 
 -- an upgraded certificate is within the limits

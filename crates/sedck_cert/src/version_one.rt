@@ -59,8 +59,7 @@ fn doubled(
 {
     let mut both = Vec::new(alloc);
     for pair in ranks {
-        both.push(*pair)?;
-        both.push(*pair)?;
+        both.extend_from_slice(&[*pair, *pair])?;
     }
     Ok(both)
 }
