@@ -4,11 +4,14 @@ use Rattle.sedck_script.specs.Invariant.{AreWellFormed}
 use Rattle.sedck_script.specs.Program.{Program}
 use Rattle.sedck_script.specs.Names.{reads, writes}
 use Rattle.sedck_flow.specs.Run.{State, Event, Run, NamesForReading, NamesForWriting}
+use Rattle.sedck_flow.specs.Flow.{HasKind}
+use Rattle.sedck_flow.specs.LiteralKinds.{HasLiteralKind}
 use Rattle.sedck_cert.specs.Certificate.{Certificate, IsCertificate}
 use Rattle.sedck_cert.specs.Text.{text_in}
 use Rattle.sedck_cert.specs.declared.versions.Version.{Version}
 use Rattle.sedck_cert.specs.declared.versions.Version.TheVariants.{One, Two}
-use Rattle.sedck_cert.specs.Ranked.{IsRanked, IsSteady, ListsNames}
+use Rattle.sedck_cert.specs.Ranked.{IsRanked, Accepts, IsSteady, ListsNames}
+use Rattle.sedck_cert.specs.VersionOne.{AcceptsOne, upgraded}
 use Rattle.sedck_cert.specs.StepLimit.{greatest_first, greatest_second, step_limit}
 use Rattle.sedck_flow.specs.Spaces.{bytes_of}
 
@@ -29,6 +32,12 @@ steady_limit c lines = (greatest_second c.ranks + 1) * (bytes_of lines + (greate
 abbrev pub SteadyRunsAreCounted : Type 0
 SteadyRunsAreCounted = (p : Program) → AreWellFormed p → (c : Certificate) → IsSteady p c
     → (lines : List (List ℕ)) (steps : List (Event × State)) → Run p lines steps → length steps ≤ steady_limit c lines
+
+-- a certificate of version 1 that was accepted is accepted once it is upgraded, whether the kinds of substitutions were those by literal parts alone
+-- or those with references
+abbrev pub UpgradesAreAccepted : Type 0
+UpgradesAreAccepted = (p : Program) (c : Certificate)
+    → (AcceptsOne (HasLiteralKind p) p c → Accepts p (upgraded c)) × (AcceptsOne (HasKind p) p c → Accepts p (upgraded c))
 
 -- the bytes of the longest text of each version
 abbrev pub text_limit : Version → ℕ
