@@ -8,6 +8,7 @@ Each input is made here, in a folder of its own. A run is timed from its start t
 """
 
 import os
+import random
 import statistics
 import subprocess
 import sys
@@ -19,13 +20,14 @@ SCRIPT_LIMIT = 1048576
 NAMES_LIMIT = 1048576
 
 
-def certificate(commands, ranks, reads=(), writes=()):
-    """A certificate's text; ranks is a function from a node to its ranks or None."""
-    out = [b"sedck 1\n", b"commands %d\n" % commands]
+def certificate(commands, ranks, reads=(), writes=(), version=2):
+    """A certificate's text; ranks is a function from a place and flag to the ranks of both its nodes, or None."""
+    out = [b"sedck %d\n" % version, b"commands %d\n" % commands]
     for at in range(commands + 1):
         for flag in (0, 1):
             pair = ranks(at, flag)
-            out.append(b"%d %d -\n" % (at, flag) if pair is None else b"%d %d %d %d\n" % (at, flag, *pair))
+            for last in (b"",) if version == 1 else (b" 0", b" 1"):
+                out.append(b"%d %d%s -\n" % (at, flag, last) if pair is None else b"%d %d%s %d %d\n" % (at, flag, last, *pair))
     for word, names in ((b"read", reads), (b"write", writes)):
         out.append(b"%s %d\n" % (word, len(names)))
         out.extend(name + b"\n" for name in names)
@@ -51,6 +53,8 @@ def inputs():
     yield "the longest certificate", b"p\n" * COMMANDS, full, 1
     many = certificate(COMMANDS, lambda at, flag: (65535, 65535), names(COMMANDS, 6 * COMMANDS), names(COMMANDS, NAMES_LIMIT - 6 * COMMANDS))
     yield "two lists of 4,095 names", b"p\n" * COMMANDS, many, 1
+    old = certificate(COMMANDS, lambda at, flag: (65535, 65535), names(COMMANDS, 6 * COMMANDS), names(COMMANDS, NAMES_LIMIT - 6 * COMMANDS), 1)
+    yield "the same of version 1", b"p\n" * COMMANDS, old, 1
     both = certificate(COMMANDS, lambda at, flag: (0, COMMANDS - at))
     yield "4,095 of `/abc/p`", b"/abc/p\n" * COMMANDS, both, 0
     yield "4,095 of `s/abc/ab/`", b"s/abc/ab/\n" * COMMANDS, both, 0
@@ -66,6 +70,16 @@ def inputs():
     yield "4,095 names written, falling", b"".join(b"w " + name + b"\n" for name in reversed(few)), written, 0
 
 
+def forward_branches(draw):
+    """Labels, each but the last followed by a branch, a test or a substitution; their targets are drawn among those behind."""
+    out = []
+    for i in range(2047):
+        out.append(b":l%d\n" % i)
+        target = draw.randrange(i + 1, 2048)
+        out.append(draw.choice([b"/x/b l%d\n" % target, b"t l%d\n" % target, b"s/a/b/\n"]))
+    return b"".join(out) + b":l2047\n"
+
+
 def scripts():
     """Scripts for `rank`, with the status that it answers."""
     yield "4,095 of `p`", b"p\n" * COMMANDS, 0
@@ -76,6 +90,7 @@ def scripts():
     yield "4,095 of `s` with nine groups", groups * COMMANDS, 0
     yield "4,095 of `/x/D`", b"/x/D\n" * COMMANDS, 0
     yield "4,095 of `G`", b"G\n" * COMMANDS, 0
+    yield "4,095 of `$!N`", b"$!N\n" * COMMANDS, 0
     loops = b"".join(b":a%d\ns/x//\nta%d\n" % (i, i) for i in range(COMMANDS // 3))
     yield "1,365 loops with ranks, one behind another", loops, 0
     inner = b"".join(b":b%d\ns/x//\ntb%d\n" % (i, i) for i in range(1363))
@@ -92,6 +107,7 @@ def scripts():
     parts = b"".join(b":l%d\ns/q/r/\np\nb z\n" % i for i in range(300))
     joined = b"".join(b"/x/b l%d\n" % i for i in range(300)) + b"b z\n" + parts + b":z\n" + b"s/a/b/\n" * 2500
     yield "300 branches to parts that join 2,500 of `s/a/b/`", joined, 0
+    yield "random forward branches over 2,047 labels", forward_branches(random.Random(2024)), 0
 
 
 def measure(program, folder, words, status):

@@ -27,30 +27,62 @@ GROWING = ":a;s/x/xx/;ta"
 READING = "r x"
 
 
-def certificate(commands, ranks, reads=(), writes=()):
+def both(ranks):
+    """The ranks of the nodes of version 1, each given to both nodes that it has become."""
+    return {f"{node} {last}": ranks[node] for node in ranks for last in (0, 1)}
+
+
+def certificate(commands, ranks, reads=(), writes=(), version=2):
     """The text of the certificate with these ranks, by node; the other nodes have none."""
-    nodes = [f"{at} {flag}" for at in range(commands + 1) for flag in (0, 1)]
+    ends = ["0", "1"] if version == 1 else ["0 0", "0 1", "1 0", "1 1"]
+    nodes = [f"{at} {end}" for at in range(commands + 1) for end in ends]
     assert set(ranks) <= set(nodes)
-    lines = ["sedck 1", f"commands {commands}"]
+    lines = [f"sedck {version}", f"commands {commands}"]
     lines += [f"{node} {ranks.get(node, '-')}" for node in nodes]
     lines += [f"read {len(reads)}", *reads, f"write {len(writes)}", *writes, "end"]
     return "".join(line + "\n" for line in lines)
 
 
-NEXT_LINE_RANKS = certificate(3, {"0 0": "2 2", "1 0": "1 1", "2 0": "3 3"})
-SHORTENING_RANKS = certificate(3, {"0 0": "5 4", "1 0": "5 3", "2 0": "2 2", "2 1": "5 5", "3 0": "1 1"})
+def versions(commands, ranks, **lists):
+    """The texts of a certificate of version 1, and of the one that it is upgraded to."""
+    return certificate(commands, ranks, **lists, version=1), certificate(commands, both(ranks), **lists)
+
+
+NEXT_LINE_OLD, NEXT_LINE_RANKS = versions(3, {"0 0": "2 2", "1 0": "1 1", "2 0": "3 3"})
+SHORTENING_OLD, SHORTENING_RANKS = versions(3, {"0 0": "5 4", "1 0": "5 3", "2 0": "2 2", "2 1": "5 5", "3 0": "1 1"})
 JOINING_RANKS = certificate(
     5,
-    {"0 0": "6 6", "1 0": "5 5", "2 0": "1 1", "3 0": "7 7", "4 0": "3 3", "5 0": "1 1", "5 1": "1 1"},
+    {
+        "0 0 0": "3 3",
+        "0 0 1": "5 5",
+        "1 0 0": "2 2",
+        "1 0 1": "4 4",
+        "2 0 0": "1 1",
+        "3 0 0": "4 4",
+        "3 0 1": "6 6",
+        "4 0 1": "3 3",
+        "5 0 1": "1 1",
+        "5 1 1": "1 1",
+    },
 )
-HOLDING_RANKS = certificate(
+HOLDING_OLD, HOLDING_RANKS = versions(
     5,
     {"0 0": "7 5", "1 0": "7 4", "2 0": "7 3", "3 0": "3 2", "3 1": "7 6", "4 0": "2 1", "5 0": "1 1"},
 )
-WRITING_RANKS = certificate(3, {"0 0": "3 3", "1 0": "1 1", "1 1": "1 1"}, writes=("log", "out.txt"))
-READING_RANKS = certificate(1, {"0 0": "2 2", "1 0": "1 1"}, reads=("x",))
-UNNAMED_RANKS = certificate(1, {"0 0": "2 2", "1 0": "1 1"})
-assert len(NEXT_LINE_RANKS) == 92 and len(WRITING_RANKS) == 104
+WRITING_OLD, WRITING_RANKS = versions(3, {"0 0": "3 3", "1 0": "1 1", "1 1": "1 1"}, writes=("log", "out.txt"))
+READING_OLD, READING_RANKS = versions(1, {"0 0": "2 2", "1 0": "1 1"}, reads=("x",))
+UNNAMED_OLD, UNNAMED_RANKS = versions(1, {"0 0": "2 2", "1 0": "1 1"})
+assert len(NEXT_LINE_OLD) == 92 and len(WRITING_OLD) == 104 and len(NEXT_LINE_RANKS) == 178
+
+# each certificate of version 1 and the one that it is upgraded to
+OLD = [
+    (NEXT_LINE_OLD, NEXT_LINE_RANKS),
+    (SHORTENING_OLD, SHORTENING_RANKS),
+    (HOLDING_OLD, HOLDING_RANKS),
+    (WRITING_OLD, WRITING_RANKS),
+    (READING_OLD, READING_RANKS),
+    (UNNAMED_OLD, UNNAMED_RANKS),
+]
 
 NO_NAMES = "read 0\nwrite 0\n"
 WRITTEN_NAMES = "read 0\nwrite 2\nlog\nout.txt\n"
@@ -61,7 +93,7 @@ READ_NAMES = "read 1\nx\nwrite 0\n"
 RANKED = [
     (NEXT_LINE, NEXT_LINE_RANKS, "bound 4 20 4\n", "commands 3\n", NO_NAMES),
     (SHORTENING, SHORTENING_RANKS, "bound 6 42 6\n", "commands 3\nparts 0 groups 0 least 1\n", NO_NAMES),
-    (JOINING, JOINING_RANKS, "bound 8 72 8\n", "commands 5\nparts 1 groups 0 least 1\n", NO_NAMES),
+    (JOINING, JOINING_RANKS, "bound 7 56 7\n", "commands 5\nparts 1 groups 0 least 1\n", NO_NAMES),
     (MOVING, SHORTENING_RANKS, "bound 6 42 6\n", "commands 3\nparts 3 groups 2 least 2\n", NO_NAMES),
     (HOLDING, HOLDING_RANKS, "", "commands 5\nparts 0 groups 0 least 1\n", NO_NAMES),
     (WRITING, WRITING_RANKS, "bound 4 20 4\n", "commands 3\nparts 1 groups 0 least 1\n", WRITTEN_NAMES),
@@ -115,41 +147,54 @@ EXPRESSIONS = [
     ("a**", "fault 10 double-repeat at 2"),
 ]
 
-IDLE_LOOP = "loop idle\n0 0 keep\n1 0 keep\n0 0\n"
-GROWING_LOOP = "loop growing\n1 0 grow\n2 1 keep\n0 0 keep\n1 0\n"
+IDLE_LOOP = "loop idle\n0 0 0 keep\n1 0 0 keep\n0 0 0\n"
+GROWING_LOOP = "loop growing\n1 0 0 grow\n2 1 0 keep\n0 0 0 keep\n1 0 0\n"
 
 GRAPHS = [
     (
         NEXT_LINE,
-        "commands 3\n0 0 1 0 keep\n0 1 1 1 keep\n1 0 2 0 consume\n1 1 2 0 consume\n1 1 2 1 consume\n"
-        "2 0 0 0 keep\n2 1 0 1 keep\n3 0 0 0 consume\n3 1 0 0 consume\n",
+        "commands 3\n0 0 0 1 0 0 keep\n0 0 1 1 0 1 keep\n0 1 0 1 1 0 keep\n0 1 1 1 1 1 keep\n1 0 0 2 0 0 consume\n"
+        "1 0 0 2 0 1 consume\n1 1 0 2 0 0 consume\n1 1 0 2 0 1 consume\n1 1 0 2 1 0 consume\n1 1 0 2 1 1 consume\n"
+        "2 0 0 0 0 0 keep\n2 0 1 0 0 1 keep\n2 1 0 0 1 0 keep\n2 1 1 0 1 1 keep\n3 0 0 0 0 0 consume\n"
+        "3 0 0 0 0 1 consume\n3 1 0 0 0 0 consume\n3 1 0 0 0 1 consume\n",
     ),
     (
         SHORTENING,
-        "commands 3\n0 0 1 0 keep\n0 1 1 1 keep\n1 0 2 0 keep\n1 0 2 1 shorten\n1 1 2 1 shorten\n1 1 2 1 keep\n"
-        "2 0 3 0 keep\n2 1 0 0 keep\n3 0 0 0 consume\n3 1 0 0 consume\n",
+        "commands 3\n0 0 0 1 0 0 keep\n0 0 1 1 0 1 keep\n0 1 0 1 1 0 keep\n0 1 1 1 1 1 keep\n1 0 0 2 0 0 keep\n"
+        "1 0 0 2 1 0 shorten\n1 0 1 2 0 1 keep\n1 0 1 2 1 1 shorten\n1 1 0 2 1 0 shorten\n1 1 0 2 1 0 keep\n"
+        "1 1 1 2 1 1 shorten\n1 1 1 2 1 1 keep\n2 0 0 3 0 0 keep\n2 0 1 3 0 1 keep\n2 1 0 0 0 0 keep\n2 1 1 0 0 1 keep\n"
+        "3 0 0 0 0 0 consume\n3 0 0 0 0 1 consume\n3 1 0 0 0 0 consume\n3 1 0 0 0 1 consume\n",
     ),
     (
         JOINING,
-        "commands 5\n0 0 1 0 keep\n0 1 1 1 keep\n1 0 2 0 keep\n1 0 4 0 keep\n1 1 2 1 keep\n1 1 4 1 keep\n"
-        "2 0 3 0 consume\n2 1 3 0 consume\n2 1 3 1 consume\n3 0 0 0 keep\n3 1 0 1 keep\n"
-        "4 0 5 0 keep\n4 0 5 1 keep\n4 1 5 1 keep\n5 0 0 0 consume\n5 1 0 0 consume\n",
+        "commands 5\n0 0 0 1 0 0 keep\n0 0 1 1 0 1 keep\n0 1 0 1 1 0 keep\n0 1 1 1 1 1 keep\n1 0 0 2 0 0 keep\n"
+        "1 0 1 4 0 1 keep\n1 1 0 2 1 0 keep\n1 1 1 4 1 1 keep\n2 0 0 3 0 0 consume\n2 0 0 3 0 1 consume\n"
+        "2 1 0 3 0 0 consume\n2 1 0 3 0 1 consume\n2 1 0 3 1 0 consume\n2 1 0 3 1 1 consume\n3 0 0 0 0 0 keep\n"
+        "3 0 1 0 0 1 keep\n3 1 0 0 1 0 keep\n3 1 1 0 1 1 keep\n4 0 0 5 0 0 keep\n4 0 0 5 1 0 keep\n4 0 1 5 0 1 keep\n"
+        "4 0 1 5 1 1 keep\n4 1 0 5 1 0 keep\n4 1 1 5 1 1 keep\n5 0 0 0 0 0 consume\n5 0 0 0 0 1 consume\n"
+        "5 1 0 0 0 0 consume\n5 1 0 0 0 1 consume\n",
     ),
     (
         HOLDING,
-        "commands 5\n0 0 1 0 keep\n0 1 1 1 keep\n1 0 2 0 keep\n1 1 2 1 keep\n"
-        "2 0 3 0 keep\n2 0 3 1 shorten\n2 1 3 1 shorten\n2 1 3 1 keep\n3 0 4 0 keep\n3 1 0 0 keep\n"
-        "4 0 5 0 grow\n4 1 5 1 grow\n5 0 0 0 consume\n5 1 0 0 consume\n",
+        "commands 5\n0 0 0 1 0 0 keep\n0 0 1 1 0 1 keep\n0 1 0 1 1 0 keep\n0 1 1 1 1 1 keep\n1 0 0 2 0 0 keep\n"
+        "1 0 1 2 0 1 keep\n1 1 0 2 1 0 keep\n1 1 1 2 1 1 keep\n2 0 0 3 0 0 keep\n2 0 0 3 1 0 shorten\n2 0 1 3 0 1 keep\n"
+        "2 0 1 3 1 1 shorten\n2 1 0 3 1 0 shorten\n2 1 0 3 1 0 keep\n2 1 1 3 1 1 shorten\n2 1 1 3 1 1 keep\n"
+        "3 0 0 4 0 0 keep\n3 0 1 4 0 1 keep\n3 1 0 0 0 0 keep\n3 1 1 0 0 1 keep\n4 0 0 5 0 0 grow\n4 0 1 5 0 1 grow\n"
+        "4 1 0 5 1 0 grow\n4 1 1 5 1 1 grow\n5 0 0 0 0 0 consume\n5 0 0 0 0 1 consume\n5 1 0 0 0 0 consume\n"
+        "5 1 0 0 0 1 consume\n",
     ),
     (
         WRITING,
-        "commands 3\n0 0 1 0 keep\n0 0 1 1 keep\n0 1 1 1 keep\n2 0 3 0 keep\n2 1 3 1 keep\n"
-        "3 0 0 0 consume\n3 1 0 0 consume\n",
+        "commands 3\n0 0 0 1 0 0 keep\n0 0 0 1 1 0 keep\n0 0 1 1 0 1 keep\n0 0 1 1 1 1 keep\n0 1 0 1 1 0 keep\n"
+        "0 1 1 1 1 1 keep\n2 0 0 3 0 0 keep\n2 0 1 3 0 1 keep\n2 1 0 3 1 0 keep\n2 1 1 3 1 1 keep\n3 0 0 0 0 0 consume\n"
+        "3 0 0 0 0 1 consume\n3 1 0 0 0 0 consume\n3 1 0 0 0 1 consume\n",
     ),
     (
         MOVING,
-        "commands 3\n0 0 1 0 keep\n0 1 1 1 keep\n1 0 2 0 keep\n1 0 2 1 shorten\n1 1 2 1 shorten\n1 1 2 1 keep\n"
-        "2 0 3 0 keep\n2 1 0 0 keep\n3 0 0 0 consume\n3 1 0 0 consume\n",
+        "commands 3\n0 0 0 1 0 0 keep\n0 0 1 1 0 1 keep\n0 1 0 1 1 0 keep\n0 1 1 1 1 1 keep\n1 0 0 2 0 0 keep\n"
+        "1 0 0 2 1 0 shorten\n1 0 1 2 0 1 keep\n1 0 1 2 1 1 shorten\n1 1 0 2 1 0 shorten\n1 1 0 2 1 0 keep\n"
+        "1 1 1 2 1 1 shorten\n1 1 1 2 1 1 keep\n2 0 0 3 0 0 keep\n2 0 1 3 0 1 keep\n2 1 0 0 0 0 keep\n2 1 1 0 0 1 keep\n"
+        "3 0 0 0 0 0 consume\n3 0 0 0 0 1 consume\n3 1 0 0 0 0 consume\n3 1 0 0 0 1 consume\n",
     ),
 ]
 
@@ -158,6 +203,7 @@ GRAPHS = [
 OF_EXPRESSION = ["fault 14 out-of-memory\n"]
 OF_SCRIPT = ["fault 23 out-of-memory\n"]
 OF_CERTIFICATE = ["fault 6 out-of-memory\n"]
+OF_OLD = ["fault 6 out-of-memory\n", "out of memory\n"]
 OF_TEXTS = ["script fault 23 out-of-memory\n", "certificate fault 6 out-of-memory\n"]
 OF_SEARCH = ["script fault 23 out-of-memory\n", "out of memory\n"]
 OF_ENGINE = ["out of memory\n"]
@@ -175,8 +221,20 @@ def calls():
         yield ["check", text, NEXT_LINE_RANKS], f"script {fault}\n", OF_ENGINE
         for engine in ("files", "graph", "rank"):
             yield [engine, text], f"script {fault}\n", OF_ENGINE
-    for text in (NEXT_LINE_RANKS, WRITING_RANKS, READING_RANKS, UNNAMED_RANKS):
+    for old, text in OLD:
         yield ["certificate", text], text, OF_CERTIFICATE
+        yield ["old", old], text, OF_OLD
+        for either in (old, text):
+            yield ["either", either], text, OF_CERTIFICATE
+            yield ["upgrade", either], f"{text}yes\n", OF_ENGINE
+    for text, line in ((NEXT_LINE_OLD + "\n", 14), (NEXT_LINE_OLD[:-1], 13)):
+        fault = f"fault 5 bad-end at line {line}\n"
+        yield ["old", text], fault, OF_OLD
+        yield ["either", text], fault, OF_CERTIFICATE
+        yield ["upgrade", text], "certificate " + fault, OF_ENGINE
+        yield ["check", NEXT_LINE, text], "certificate " + fault, OF_ENGINE
+    yield ["verify", NEXT_LINE, NEXT_LINE_OLD], "accepted\n", OF_TEXTS
+    yield ["check", WRITING, WRITING_OLD], f"accepted\nbound 4 20 4\n{WRITTEN_NAMES}yes\n", OF_ENGINE
     for script, text, bound, commands, names in RANKED:
         yield ["script", script], f"{commands}{names}", OF_SCRIPT
         yield ["verify", script, text], "accepted\n", OF_TEXTS
@@ -190,9 +248,9 @@ def calls():
     yield ["verify", READING, UNNAMED_RANKS], "reads-differ\n", OF_TEXTS
     yield ["judge", READING, UNNAMED_RANKS], f"reads-differ\ncommands 1\n{READ_NAMES}{UNNAMED_RANKS}", OF_TEXTS
     yield ["check", READING, UNNAMED_RANKS], "rejected 5 reads-differ\nno\n", OF_ENGINE
-    yield ["search", IDLE], "idle\n0 0\n1 0\n0 0\nkeep\nkeep\n", OF_SEARCH
+    yield ["search", IDLE], "idle\n0 0 0\n1 0 0\n0 0 0\nkeep\nkeep\n", OF_SEARCH
     yield ["rank", IDLE], f"{IDLE_LOOP}no\n", OF_ENGINE
-    yield ["search", GROWING], "growing\n1 0\n2 1\n0 0\n1 0\ngrow\nkeep\nkeep\n", OF_SEARCH
+    yield ["search", GROWING], "growing\n1 0 0\n2 1 0\n0 0 0\n1 0 0\ngrow\nkeep\nkeep\n", OF_SEARCH
     yield ["rank", GROWING], f"{GROWING_LOOP}no\n", OF_ENGINE
 
 
@@ -206,6 +264,11 @@ def programs():
         yield ["check", "script", "certificate"], files, (0, f"accepted\n{bound}{names}", "")
         yield ["files", "script"], files, (0, names, "")
         yield ["rank", "script"], files, (0, text, "")
+    for old, text in OLD:
+        for either in (old, text):
+            yield ["upgrade", "certificate"], {"certificate": either}, (0, text, "")
+    files = {"script": WRITING, "certificate": WRITING_OLD}
+    yield ["check", "script", "certificate"], files, (0, f"accepted\nbound 4 20 4\n{WRITTEN_NAMES}", "")
     for script, graph in GRAPHS:
         yield ["graph", "script"], {"script": script}, (0, graph, "")
     yield ["rank", "script"], {"script": IDLE}, (1, IDLE_LOOP, "")
@@ -215,8 +278,9 @@ def programs():
     for script, fault in REFUSED_SCRIPTS:
         yield ["rank", "script"], {"script": script}, (2, "", f"sedck: script {fault}\n")
     files = {"script": NEXT_LINE, "certificate": NEXT_LINE_RANKS + "\n"}
-    yield ["check", "script", "certificate"], files, (2, "", "sedck: certificate fault 5 bad-end at line 14\n")
-    usage = "sedck: usage: sedck rank SCRIPT, check SCRIPT CERT, files SCRIPT, graph SCRIPT\n"
+    for words in (["check", "script", "certificate"], ["upgrade", "certificate"]):
+        yield words, files, (2, "", "sedck: certificate fault 5 bad-end at line 22\n")
+    usage = "sedck: usage: sedck rank SCRIPT, check SCRIPT CERT, files SCRIPT, graph SCRIPT, upgrade CERT\n"
     yield ["check", "script"], {"script": NEXT_LINE}, (3, "", usage)
     yield ["rank", "script"], {}, (4, "", "sedck: cannot read script\n")
 

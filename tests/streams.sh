@@ -50,6 +50,7 @@ each() {
     "$1" rank "$folder/loop"
     "$1" files "$folder/script"
     "$1" graph "$folder/script"
+    "$1" upgrade "$folder/certificate"
 }
 
 each full

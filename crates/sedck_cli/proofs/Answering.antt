@@ -10,7 +10,7 @@ use Rattle.sedck_script.specs.Faults.{IsPlaced}
 use Rattle.sedck_script.specs.declared.fault.ScriptFault.{ScriptFault}
 use Rattle.sedck_script.specs.declared.fault.ScriptFault.TheVariants as script
 use Rattle.sedck_cert.specs.Certificate.{Certificate}
-use Rattle.sedck_cert.specs.Text.{IsTextOf, line, files_text}
+use Rattle.sedck_cert.specs.Text.{IsTextOf, line, files_text, certificate_text}
 use Rattle.sedck_cert.specs.Faults.{IsFaultOf}
 use Rattle.sedck_cert.specs.Headline.{SpellsOnly, IsTextOfOnly, IsAnswered, IsWantOfMemory, IsScriptFaultOf, ReportsFault, IsLimit, IsJudged}
 use Rattle.sedck_cert.specs.declared.checking.Verdict.TheVariants.{Accepted}
@@ -23,8 +23,8 @@ use Rattle.sedck_cert.specs.declared.reading.CertFault.TheVariants as cert
 use Rattle.sedck_cert.proofs.TextLength.{text_length, front_is_whole}
 use Rattle.sedck_cli.specs.declared.answer.Outcome.{Outcome}
 use Rattle.sedck_cli.specs.declared.answer.Outcome.TheVariants.{Yes}
-use Rattle.sedck_cli.specs.Engines.{verdict_outcome, ChecksTo, EngineAnswers, OfBytes, OfScript, IsRefusedScript, IsRefusedCertificate, RanksTo, found_outcome}
-use Rattle.sedck_cli.specs.Faults.{run_fault, script_fault}
+use Rattle.sedck_cli.specs.Engines.{verdict_outcome, ChecksTo, EngineAnswers, OfBytes, OfScript, UpgradesTo, IsRefusedScript, IsRefusedCertificate, RanksTo, found_outcome}
+use Rattle.sedck_cli.specs.Faults.{run_fault, script_fault, certificate_fault}
 use Rattle.sedck_cli.specs.Reports.{IsCheckReport, IsBoundLine, IsRankReport, bound_line}
 use Rattle.sedck_search.specs.declared.answer.Found.{Found}
 
@@ -92,17 +92,26 @@ no_text_of_whole whole bytes is none c written =
     let same = is ∙ take_all 1310721 whole (omega (arith, ap length written.is_text, short)) in
     none c (subst (λ l. IsTextOf l c) (sym same) written)
 
-pub certificate_refused : (whole_text whole_bytes text bytes : List ℕ) (why : CertFault) → text ≡ take 1048577 whole_text → bytes ≡ take 1310721 whole_bytes
-    → why ≢ cert.OutOfMemory → ((p : Program) × Spells text p) → ((c : Certificate) → ¬ IsTextOf bytes c) → IsFaultOf bytes why
-    → IsRefusedCertificate whole_text whole_bytes why
-certificate_refused whole_text whole_bytes text bytes why is_text is_bytes of_text script none is_fault =
-    let p = script.0 in
+-- a script that was read is one
+script_of_whole : (whole text : List ℕ) → text ≡ take 1048577 whole → ((p : Program) × Spells text p) → (p : Program) × Spells whole p
+script_of_whole whole text is script =
+    let p = script.0 in (p, subst (λ l. Spells l p) (whole_script whole text is script.1.allowed.fits) script.1)
+
+certificate_refused : (whole bytes : List ℕ) (why : CertFault) → bytes ≡ take 1310721 whole → why ≢ cert.OutOfMemory
+    → ((c : Certificate) → ¬ IsTextOf bytes c) → IsFaultOf bytes why → IsRefusedCertificate whole why
+certificate_refused whole bytes why is of_text none is_fault =
     record {
       is_of_text = of_text;
-      script = (p, subst (λ l. Spells l p) (whole_script whole_text text is_text script.1.allowed.fits) script.1);
-      none = no_text_of_whole whole_bytes bytes is_bytes none;
-      is_fault = subst (λ l. IsFaultOf l why) is_bytes is_fault;
+      none = no_text_of_whole whole bytes is none;
+      is_fault = subst (λ l. IsFaultOf l why) is is_fault;
     }
+
+-- bytes that are no certificate's text
+no_certificate : (written : Option (List ℕ)) (bytes : List ℕ) (why : CertFault) → IsRead 1310721 written bytes → why ≢ cert.OutOfMemory
+    → ((c : Certificate) → ¬ IsTextOf bytes c) → IsFaultOf bytes why → OfBytes written (λ b. IsRefusedCertificate b why)
+no_certificate written bytes why is of_text none is_fault =
+    of_bytes 1310721 written bytes (λ b. IsRefusedCertificate b why) is
+    (λ whole cut. certificate_refused whole bytes why cut of_text none is_fault)
 
 -- ---- Refusals
 
@@ -111,7 +120,7 @@ pub parse_refused : (source out : Option (List ℕ)) (script_failed out_failed :
     (text : List ℕ) (why : ScriptFault) → IsRead 1048577 source text → (why ≢ script.OutOfMemory → (p : Program) → ¬ Spells text p) → IsScriptFaultOf text why
     → EngineAnswers
     (record {
-      script = record { bytes = source; failed = script_failed };
+      script = Some (record { bytes = source; failed = script_failed });
       certificate = None;
       out = record { before = out; after = out; failed = out_failed };
     }) IsReport (Err (script_fault why))
@@ -128,7 +137,7 @@ pub judge_refused : (source written out : Option (List ℕ)) (script_failed cert
     → ((¬ IsWantOfMemory (Err why)) → IsAnswered text bytes (Err why)) → ReportsFault text bytes (Err why)
     → EngineAnswers
     (record {
-      script = record { bytes = source; failed = script_failed };
+      script = Some (record { bytes = source; failed = script_failed });
       certificate = Some (record { bytes = written; failed = cert_failed });
       out = record { before = out; after = out; failed = out_failed };
     }) IsReport (Err (run_fault why))
@@ -146,10 +155,24 @@ judge_refused source written out script_failed cert_failed out_failed IsReport t
 judge_refused source written out script_failed cert_failed out_failed IsReport text bytes (below.Certificate why) is_text is_bytes answer (inr is_fault) =
     let both = (answer (λ want. want)).certificate_fault.0 tt in (
       Keeps-refl out,
-      of_bytes 1048577 source text (λ t. OfBytes written (λ b. IsRefusedCertificate t b why)) is_text
-          (λ whole front. of_bytes 1310721 written bytes (λ b. IsRefusedCertificate whole b why) is_bytes
-          (λ whole_bytes cut. certificate_refused whole whole_bytes text bytes why front cut (λ e. cc) both.0 both.1 is_fault)),
+      of_bytes 1048577 source text (λ t. (p : Program) × Spells t p) is_text (λ whole front. script_of_whole whole text front both.0),
+      no_certificate written bytes why is_bytes (λ e. cc) both.1 is_fault,
     )
+
+-- a certificate that `read_cert` refuses
+pub read_refused : (written out : Option (List ℕ)) (cert_failed out_failed : Bool) (IsReport : Outcome → List ℕ → Type 0)
+    (bytes : List ℕ) (why : CertFault) → IsRead 1310721 written bytes
+    → (why ≡ cert.OutOfMemory) ⊎ (((c : Certificate) → ¬ IsTextOf bytes c) × IsFaultOf bytes why)
+    → EngineAnswers
+    (record {
+      script = None;
+      certificate = Some (record { bytes = written; failed = cert_failed });
+      out = record { before = out; after = out; failed = out_failed };
+    }) IsReport (Err (certificate_fault why))
+read_refused written out cert_failed out_failed IsReport bytes cert.OutOfMemory is refused = Keeps-refl out
+read_refused written out cert_failed out_failed IsReport bytes why is (inl memory) = cc
+read_refused written out cert_failed out_failed IsReport bytes why is (inr refused) =
+    (Keeps-refl out, tt {0}, no_certificate written bytes why is (λ e. cc) refused.0 refused.1)
 
 -- ---- Reports
 
@@ -200,3 +223,13 @@ pub ranks_to : (known : Option (List ℕ)) (text : List ℕ) (p : Program) (foun
 ranks_to known text p found report is spelled only holds =
     of_bytes 1048577 known text (λ t. RanksTo t (found_outcome found) report) is
     (λ whole front. (found, refl, of_script whole text p (λ q. IsRankReport q found report) front spelled only holds))
+
+-- the text of the certificate that was read
+pub upgrades_to : (known : Option (List ℕ)) (bytes : List ℕ) (c : Certificate) → IsRead 1310721 known bytes → IsTextOf bytes c
+    → ((d : Certificate) → IsTextOf bytes d → d ≡ c) → OfBytes known (λ b. UpgradesTo b Yes (certificate_text c))
+upgrades_to known bytes c is written only =
+    of_bytes 1310721 known bytes (λ b. UpgradesTo b Yes (certificate_text c)) is
+    (λ whole front. (
+      refl,
+      record { cert = c; written = text_of_whole whole bytes c front (record { is_text = written; only = only }); holds = refl },
+    ))

@@ -8,8 +8,8 @@ use Rattle.sedck_cli.specs.declared.answer.RunFault.{RunFault}
 use Rattle.sedck_cli.specs.declared.answer.RunFault.TheVariants as fault
 use Rattle.sedck_cli.specs.declared.command_line.Refusal.{Refusal}
 use Rattle.sedck_cli.specs.declared.command_line.Refusal.TheVariants.{Usage, Run}
-use Rattle.sedck_cli.specs.Engines.{ChecksTo, ListsFilesTo, ListsGraphTo, RanksTo, EngineAnswers, Reading, OfBytes}
-use Rattle.sedck_cli.specs.Statuses.{status_of, Asked, Check, Files, Graph, Rank, Nothing, IsReportFor, Reports, BreaksOff, Leaves, IsFor}
+use Rattle.sedck_cli.specs.Engines.{ChecksTo, ListsFilesTo, ListsGraphTo, RanksTo, UpgradesTo, EngineAnswers, Reading, OfBytes}
+use Rattle.sedck_cli.specs.Statuses.{status_of, Asked, Check, Files, Graph, Rank, Upgrade, Nothing, IsReportFor, Reports, BreaksOff, Leaves, IsFor}
 
 -- ---- Reports of what was asked for
 
@@ -37,13 +37,16 @@ of_graph script outcome report is = some_bytes script (λ text. ListsGraphTo tex
 pub of_rank : (script : Option (List ℕ)) → AreReports Rank (λ outcome report. OfBytes script (λ text. RanksTo text outcome report))
 of_rank script outcome report is = some_bytes script (λ text. RanksTo text outcome report) is
 
+pub of_upgrade : (cert : Option (List ℕ)) → AreReports Upgrade (λ outcome report. OfBytes cert (λ bytes. UpgradesTo bytes outcome report))
+of_upgrade cert outcome report is = some_bytes cert (λ bytes. UpgradesTo bytes outcome report) is
+
 -- an engine's answer
 pub answered : (asked : Asked) (IsReport : Outcome → List ℕ → Type 0) (before after : Option (List ℕ)) (outcome : Outcome) → AreReports asked IsReport
     → ((report : List ℕ) × IsReport outcome report × Appends before after report) → Reports asked before after outcome
 answered asked IsReport before after outcome are is = (is.0, are outcome is.0 is.1, is.2)
 
 -- an engine's fault
-pub stopped : (asked : Asked) (IsReport : Outcome → List ℕ → Type 0) (script : Reading) (certificate : Option Reading) (before after : Option (List ℕ))
+pub stopped : (asked : Asked) (IsReport : Outcome → List ℕ → Type 0) (script certificate : Option Reading) (before after : Option (List ℕ))
     (failed : Bool) (why : RunFault) → ((refusal : Refusal) → IsFor asked refusal) → AreReports asked IsReport
     → EngineAnswers (record { script = script; certificate = certificate; out = record { before = before; after = after; failed = failed } }) IsReport (Err why)
     → Leaves asked before after (Err (Run why))
@@ -82,6 +85,7 @@ never_no Check before after reports = inl refl
 never_no Files before after reports = let yes = reports.1.1.0 in cc
 never_no Graph before after reports = let yes = reports.1.1.0 in cc
 never_no Rank before after reports = inr refl
+never_no Upgrade before after reports = let yes = reports.1.1.0 in cc
 never_no Nothing before after reports = absurd reports.1
 
 -- where nothing is asked for, there is no report

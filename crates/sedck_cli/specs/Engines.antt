@@ -6,9 +6,9 @@ use Rattle.sedck_script.specs.Spelling.{Spells}
 use Rattle.sedck_script.specs.declared.fault.ScriptFault.{ScriptFault}
 use Rattle.sedck_script.specs.declared.fault.ScriptFault.TheVariants as script
 use Rattle.sedck_cert.specs.Certificate.{Certificate}
-use Rattle.sedck_cert.specs.Text.{IsTextOf}
+use Rattle.sedck_cert.specs.Text.{IsTextOf, certificate_text}
 use Rattle.sedck_cert.specs.Faults.{IsFaultOf}
-use Rattle.sedck_cert.specs.Headline.{SpellsOnly, Stand, IsVerdict, IsScriptFaultOf}
+use Rattle.sedck_cert.specs.Headline.{SpellsOnly, IsTextOfOnly, Stand, IsVerdict, IsScriptFaultOf}
 use Rattle.sedck_cert.specs.Streams.{AppendsFront}
 use Rattle.sedck_cert.specs.declared.reading.CertFault.{CertFault}
 use Rattle.sedck_cert.specs.declared.reading.CertFault.TheVariants as cert
@@ -55,6 +55,16 @@ found_outcome (Loop walk) = No
 abbrev pub RanksTo : List ℕ → Outcome → List ℕ → Type 0
 RanksTo text outcome report = (found : Found) × (outcome ≡ found_outcome found) × OfScript text (λ p. IsRankReport p found report)
 
+-- the same where the certificate alone is read
+pub record OfCertificate (bytes : List ℕ) (Holds : Certificate → Type 0) : Type 0 where
+  pub cert : Certificate
+  pub written : IsTextOfOnly bytes cert
+  pub holds : Holds cert
+
+-- the text of the certificate that is read
+abbrev pub UpgradesTo : List ℕ → Outcome → List ℕ → Type 0
+UpgradesTo bytes outcome report = (outcome ≡ Yes) × OfCertificate bytes (λ c. report ≡ certificate_text c)
+
 -- ---- Refusals
 
 -- the text spells no script, and this is its fault
@@ -67,10 +77,9 @@ pub record IsRefusedScript (text : List ℕ) (why : ScriptFault) : Type 0 where
 abbrev pub certificate_read : List ℕ → List ℕ
 certificate_read bytes = take 1310721 bytes
 
--- the text spells a script, the bytes are no certificate's text, and this is the fault of their first wrong line
-pub record IsRefusedCertificate (text bytes : List ℕ) (why : CertFault) : Type 0 where
+-- the bytes are no certificate's text, and this is the fault of their first wrong line
+pub record IsRefusedCertificate (bytes : List ℕ) (why : CertFault) : Type 0 where
   pub is_of_text : why ≢ cert.OutOfMemory
-  pub script : (p : Program) × Spells text p
   pub none : (c : Certificate) → ¬ IsTextOf bytes c
   pub is_fault : IsFaultOf (certificate_read bytes) why
 
@@ -87,9 +96,9 @@ pub record Writing : Type 0 where
   pub after : Option (List ℕ)
   pub failed : Bool
 
--- an engine's streams; some engines read no certificate
+-- an engine's streams: it reads a script, a certificate, or both
 pub record Streams : Type 0 where
-  pub script : Reading
+  pub script : Option Reading
   pub certificate : Option Reading
   pub out : Writing
 
@@ -98,20 +107,26 @@ abbrev pub OfBytes : Option (List ℕ) → (List ℕ → Type 0) → Type 0
 OfBytes None Holds = (text : List ℕ) × Holds text
 OfBytes (Some text) Holds = Holds text
 
--- a certificate is read, and this holds of it
-abbrev pub OfCertificate : Option Reading → (Reading → Type 0) → Type 0
-OfCertificate None Holds = ⊥
-OfCertificate (Some reading) Holds = Holds reading
+-- the input is read, and this holds of it
+abbrev pub OfInput : Option Reading → (Reading → Type 0) → Type 0
+OfInput None Holds = ⊥
+OfInput (Some reading) Holds = Holds reading
+
+-- a script that is read is one
+abbrev pub IsScript : Option Reading → Type 0
+IsScript None = Unit {0}
+IsScript (Some script) = OfBytes script.bytes (λ text. (p : Program) × Spells text p)
 
 -- The whole report is written; after a failed write the front of one is, and after any other fault nothing is. A fault says
 -- what is wrong with the bytes that were read, or which stream has failed.
 abbrev pub EngineAnswers : Streams → (Outcome → List ℕ → Type 0) → Result Outcome RunFault → Type 0
 EngineAnswers s IsReport (Ok outcome) = (report : List ℕ) × IsReport outcome report × Appends s.out.before s.out.after report
-EngineAnswers s IsReport (Err (fault.Script why)) = Keeps s.out.before s.out.after × OfBytes s.script.bytes (λ text. IsRefusedScript text why)
+EngineAnswers s IsReport (Err (fault.Script why)) = Keeps s.out.before s.out.after
+    × OfInput s.script (λ script. OfBytes script.bytes (λ text. IsRefusedScript text why))
 EngineAnswers s IsReport (Err (fault.Certificate why)) = Keeps s.out.before s.out.after
-    × OfCertificate s.certificate (λ c. OfBytes s.script.bytes (λ text. OfBytes c.bytes (λ bytes. IsRefusedCertificate text bytes why)))
-EngineAnswers s IsReport (Err (fault.Read input.Script)) = Keeps s.out.before s.out.after × IsTrue s.script.failed
-EngineAnswers s IsReport (Err (fault.Read input.Certificate)) = Keeps s.out.before s.out.after × OfCertificate s.certificate (λ c. IsTrue c.failed)
+    × IsScript s.script × OfInput s.certificate (λ c. OfBytes c.bytes (λ bytes. IsRefusedCertificate bytes why))
+EngineAnswers s IsReport (Err (fault.Read input.Script)) = Keeps s.out.before s.out.after × OfInput s.script (λ script. IsTrue script.failed)
+EngineAnswers s IsReport (Err (fault.Read input.Certificate)) = Keeps s.out.before s.out.after × OfInput s.certificate (λ c. IsTrue c.failed)
 EngineAnswers s IsReport (Err fault.Write) = IsTrue s.out.failed
     × ((outcome : Outcome) × (report : List ℕ) × IsReport outcome report × AppendsFront s.out.before s.out.after report)
 EngineAnswers s IsReport (Err fault.OutOfMemory) = Keeps s.out.before s.out.after

@@ -1,6 +1,7 @@
 -- What an engine makes of the faults below it. Only private contracts and proofs cite it.
 use Rattle.sedck_script.specs.declared.fault.ScriptFault.{ScriptFault}
 use Rattle.sedck_script.specs.declared.fault.ScriptFault.TheVariants as script
+use Rattle.sedck_cert.specs.declared.reading.CertFault.{CertFault}
 use Rattle.sedck_cert.specs.declared.reading.CertFault.TheVariants as cert
 use Rattle.sedck_cert.specs.declared.verifying.Fault.{Fault}
 use Rattle.sedck_cert.specs.declared.verifying.Fault.TheVariants as below
@@ -18,3 +19,8 @@ run_fault (below.Certificate why) = fault.Certificate why
 abbrev pub script_fault : ScriptFault → RunFault
 script_fault script.OutOfMemory = fault.OutOfMemory
 script_fault why = fault.Script why
+
+-- and of a certificate's
+abbrev pub certificate_fault : CertFault → RunFault
+certificate_fault cert.OutOfMemory = fault.OutOfMemory
+certificate_fault why = fault.Certificate why

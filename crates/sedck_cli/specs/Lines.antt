@@ -11,7 +11,7 @@ use Rattle.sedck_cli.specs.Reports.{input_text}
 use Rattle.sedck_cli.specs.Statuses.{status_of}
 
 abbrev pub refusal_words : Refusal → List ℕ
-refusal_words Usage = codes "usage: sedck rank SCRIPT, check SCRIPT CERT, files SCRIPT, graph SCRIPT"
+refusal_words Usage = codes "usage: sedck rank SCRIPT, check SCRIPT CERT, files SCRIPT, graph SCRIPT, upgrade CERT"
 refusal_words (Run (fault.Script why)) = codes "script " ++ fault_words why
 refusal_words (Run (fault.Certificate why)) = codes "certificate " ++ fault_text why
 refusal_words (Run (fault.Read input)) = codes "cannot read " ++ input_text input

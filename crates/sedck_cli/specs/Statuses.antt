@@ -5,7 +5,7 @@ use Rattle.std.specs.Str.{bytes_eq}
 use Rattle.std.specs.declared.alloc.Global.{Global}
 use Rattle.std.specs.Io.KnownBytes.{Keeps, Appends}
 use Rattle.sedck_cert.specs.Streams.{AppendsFront}
-use Rattle.sedck_cli.specs.Engines.{ChecksTo, ListsFilesTo, ListsGraphTo, RanksTo}
+use Rattle.sedck_cli.specs.Engines.{ChecksTo, ListsFilesTo, ListsGraphTo, RanksTo, UpgradesTo}
 use Rattle.sedck_cli.specs.declared.answer.Outcome.{Outcome}
 use Rattle.sedck_cli.specs.declared.answer.RunFault.TheVariants as fault
 use Rattle.sedck_cli.specs.declared.command_line.Refusal.{Refusal}
@@ -26,12 +26,14 @@ pub data Asked : Type 0 where
   Files : Asked
   Graph : Asked
   Rank : Asked
+  Upgrade : Asked
   Nothing : Asked
 
--- by the name of a subcommand that takes a script alone
-abbrev pub asked_of_script : List ℕ → Asked
-asked_of_script name =
-    if bytes_eq name (codes "files") then Files else if bytes_eq name (codes "graph") then Graph else if bytes_eq name (codes "rank") then Rank else Nothing
+-- by the name of a subcommand that takes one file, a script or a certificate
+abbrev pub asked_of_one : List ℕ → Asked
+asked_of_one name =
+    if bytes_eq name (codes "files") then Files else if bytes_eq name (codes "graph") then Graph else if bytes_eq name (codes "rank") then Rank
+    else if bytes_eq name (codes "upgrade") then Upgrade else Nothing
 
 -- by the name of a subcommand that takes a script and a certificate
 abbrev pub asked_of_both : List ℕ → Asked
@@ -39,18 +41,19 @@ asked_of_both name = if bytes_eq name (codes "check") then Check else Nothing
 
 -- by the first word and the number of words
 abbrev pub asked : List (String Global) → Asked
-asked (name ∷ script ∷ []) = asked_of_script (string_bytes name)
+asked (name ∷ file ∷ []) = asked_of_one (string_bytes name)
 asked (name ∷ script ∷ certificate ∷ []) = asked_of_both (string_bytes name)
 asked _ = Nothing
 
 -- ---- What stands on the output
 
--- a report of what was asked for, on some script or on some script and certificate, with this outcome
+-- a report of what was asked for, on some script, some certificate or both, with this outcome
 abbrev pub IsReportFor : Asked → Outcome → List ℕ → Type 0
 IsReportFor Check outcome report = (text bytes : List ℕ) × ChecksTo text bytes outcome report
 IsReportFor Files outcome report = (text : List ℕ) × ListsFilesTo text outcome report
 IsReportFor Graph outcome report = (text : List ℕ) × ListsGraphTo text outcome report
 IsReportFor Rank outcome report = (text : List ℕ) × RanksTo text outcome report
+IsReportFor Upgrade outcome report = (bytes : List ℕ) × UpgradesTo bytes outcome report
 IsReportFor Nothing outcome report = ⊥
 
 -- such a report was written

@@ -2,7 +2,7 @@
 
 ghost use Rattle.std.specs.Prelude.{◌≡◌, Some};
 ghost use Rattle.sedck_cli.specs.declared.answer.RunFault.TheVariants.{OutOfMemory};
-ghost use Rattle.sedck_cli.specs.Faults.{run_fault, script_fault};
+ghost use Rattle.sedck_cli.specs.Faults.{run_fault, script_fault, certificate_fault};
 
 use sedck_cert::{CertFault, Fault};
 use sedck_script::ScriptFault;
@@ -67,6 +67,17 @@ impl From<ScriptFault> for RunFault {
         match fault {
             ScriptFault::OutOfMemory => RunFault::OutOfMemory,
             _ => RunFault::Script(fault),
+        }
+    }
+}
+
+impl From<CertFault> for RunFault {
+    ghost from_gives = { λ fault e. e ≡ certificate_fault fault };
+
+    fn from(fault: CertFault) -> RunFault {
+        match fault {
+            CertFault::OutOfMemory => RunFault::OutOfMemory,
+            _ => RunFault::Certificate(fault),
         }
     }
 }

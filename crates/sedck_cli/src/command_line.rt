@@ -2,14 +2,14 @@
 
 ghost use Rattle.std.specs.Prelude.{◌≡◌, ◌≢◌, ◌⊎◌, ◌<◌, ◌≤◌, true, false, Ok, Err, IfOk, IfErr};
 ghost use Rattle.std.specs.Io.KnownBytes.{Keeps, Appends};
-ghost use Rattle.sedck_cli.specs.Statuses.{status_of, asked, asked_of_script, Check, Files as TheFiles, Graph, Rank, Nothing, Reports, BreaksOff, Leaves, IsOfWords, begins_with_hyphen, has_option};
+ghost use Rattle.sedck_cli.specs.Statuses.{status_of, asked, asked_of_one, Check, Files as TheFiles, Graph, Rank, Upgrade, Nothing, Reports, BreaksOff, Leaves, IsOfWords, begins_with_hyphen, has_option};
 ghost use Rattle.sedck_cli.specs.Lines.{refusal_line, SaysRefusal};
 ghost use Rattle.sedck_cli.specs.Requests.{request_asks, asked_by};
 ghost use Rattle.sedck_cli.specs.declared.command_line.Refusal.TheVariants.{Run};
 ghost use Rattle.sedck_cli.specs.declared.answer.RunFault.TheVariants as fault;
 
 use crate::answer::{Input, Outcome, RunFault};
-use crate::engines::{run_check, run_files, run_graph, run_rank};
+use crate::engines::{run_check, run_files, run_graph, run_rank, run_upgrade};
 use crate::refusal_line::write_refusal;
 use clap::error::ErrorKind;
 use clap::{Arg, Command};
@@ -84,6 +84,9 @@ enum Request<'a> {
     Rank {
         script: &'a str,
     },
+    Upgrade {
+        certificate: &'a str,
+    },
 }
 
 /// The whole program for the words after its name, and its exit status: 0 for yes, 1 for no, 2 where the script or the
@@ -151,6 +154,7 @@ fn answer<R: Files + AllocGlobal, W: Sink>(
         Request::Files { script } => files(rt, script, out),
         Request::Graph { script } => graph(rt, script, out),
         Request::Rank { script } => rank(rt, script, out),
+        Request::Upgrade { certificate } => upgrade(rt, certificate, out),
     }
 }
 
@@ -213,6 +217,20 @@ fn rank<R: Files + AllocGlobal, W: Sink>(
     }
 }
 
+fn upgrade<R: Files + AllocGlobal, W: Sink>(
+    rt: &R,
+    certificate: &str,
+    out: &mut W,
+) -> Result<Outcome, Refusal>
+    ensures { Leaves Upgrade (W.taken out.old) (W.taken out.new) result }
+{
+    let mut certificate = open(rt, certificate, Input::Certificate)?;
+    match run_upgrade(rt.alloc(), &mut certificate, out) {
+        Ok(outcome) => Ok(outcome),
+        Err(fault) => Err(Refusal::Run(fault)),
+    }
+}
+
 fn open<R: Files>(rt: &R, path: &str, input: Input) -> Result<FromRead<R::File>, Refusal>
     ensures { IfErr result (λ refusal. refusal ≡ Refusal.Run (RunFault.Read input)) }
 {
@@ -244,7 +262,7 @@ fn request_of<'a>(words: &'a [String]) -> Option<Request<'a>>
     ensures { asked_by result ≡ asked words.now }
 {
     match words {
-        [name, script] => script_request(name, script),
+        [name, file] => request_of_one(name, file),
         [name, script, certificate] if name.as_str() == "check" => Some(Request::Check {
             script,
             certificate,
@@ -253,14 +271,15 @@ fn request_of<'a>(words: &'a [String]) -> Option<Request<'a>>
     }
 }
 
-/// What the name asks for, of a script alone.
-fn script_request<'a>(name: &str, script: &'a str) -> Option<Request<'a>>
-    ensures { asked_by result ≡ asked_of_script name.now }
+/// What the name asks for, of one file.
+fn request_of_one<'a>(name: &str, file: &'a str) -> Option<Request<'a>>
+    ensures { asked_by result ≡ asked_of_one name.now }
 {
     match name {
-        "files" => Some(Request::Files { script }),
-        "graph" => Some(Request::Graph { script }),
-        "rank" => Some(Request::Rank { script }),
+        "files" => Some(Request::Files { script: file }),
+        "graph" => Some(Request::Graph { script: file }),
+        "rank" => Some(Request::Rank { script: file }),
+        "upgrade" => Some(Request::Upgrade { certificate: file }),
         _ => None,
     }
 }
@@ -281,21 +300,23 @@ fn is_option(word: &str) -> bool
 
 /// The forms that the words may have.
 fn command<'a>(alloc: Global) -> Result<Command<'a>, AllocError> {
-    let check = of_script(alloc, "check")?.arg(Arg::new(alloc, "certificate").required(true))?;
+    let certificate = Arg::new(alloc, "certificate").required(true);
+    let check = of_file(alloc, "check", "script")?.arg(certificate)?;
     Command::new(alloc, "sedck")
         .no_binary_name(true)
         .disable_help_flag(true)
         .disable_help_subcommand(true)
         .subcommand_required(true)
         .subcommand(check)?
-        .subcommand(of_script(alloc, "files")?)?
-        .subcommand(of_script(alloc, "graph")?)?
-        .subcommand(of_script(alloc, "rank")?)
+        .subcommand(of_file(alloc, "files", "script")?)?
+        .subcommand(of_file(alloc, "graph", "script")?)?
+        .subcommand(of_file(alloc, "rank", "script")?)?
+        .subcommand(of_file(alloc, "upgrade", "certificate")?)
 }
 
-/// A subcommand whose first word is a script.
-fn of_script<'a>(alloc: Global, name: &'a str) -> Result<Command<'a>, AllocError> {
+/// A subcommand whose first word is this file.
+fn of_file<'a>(alloc: Global, name: &'a str, file: &'a str) -> Result<Command<'a>, AllocError> {
     Command::new(alloc, name)
         .disable_help_flag(true)
-        .arg(Arg::new(alloc, "script").required(true))
+        .arg(Arg::new(alloc, file).required(true))
 }

@@ -1,14 +1,14 @@
 //! The engines: each reads from sources, and writes one report to a sink.
 
 ghost use Rattle.std.specs.Prelude.{◌≡◌, Some, None};
-ghost use Rattle.sedck_cli.specs.Engines.{verdict_outcome, ChecksTo, ListsFilesTo, ListsGraphTo, RanksTo, found_outcome, EngineAnswers, OfBytes};
+ghost use Rattle.sedck_cli.specs.Engines.{verdict_outcome, ChecksTo, ListsFilesTo, ListsGraphTo, RanksTo, found_outcome, UpgradesTo, EngineAnswers, OfBytes};
 
 use crate::answer::{Input, Outcome, RunFault};
 use crate::input::read_whole;
 use crate::rank::rank_report;
 use crate::report::{check_report, files_report, graph_report};
 use sedck_cert::streams::{Sink, Source, write_all};
-use sedck_cert::{Verdict, judge};
+use sedck_cert::{Verdict, judge, read_cert, write_cert};
 use sedck_script::parse;
 use sedck_search::{Found, search};
 use std::alloc::Global;
@@ -28,7 +28,7 @@ pub fn run_check<R: Source, C: Source, W: Sink>(
 ) -> Result<Outcome, RunFault>
     ensures { EngineAnswers
         (record {
-          script = record { bytes = R.left script.old; failed = R.has_failed script.new };
+          script = Some (record { bytes = R.left script.old; failed = R.has_failed script.new });
           certificate = Some (record { bytes = C.left cert.old; failed = C.has_failed cert.new });
           out = record { before = W.taken out.old; after = W.taken out.new; failed = W.has_failed out.new };
         })
@@ -52,7 +52,7 @@ pub fn run_files<R: Source, W: Sink>(
 ) -> Result<Outcome, RunFault>
     ensures { EngineAnswers
         (record {
-          script = record { bytes = R.left script.old; failed = R.has_failed script.new };
+          script = Some (record { bytes = R.left script.old; failed = R.has_failed script.new });
           certificate = None;
           out = record { before = W.taken out.old; after = W.taken out.new; failed = W.has_failed out.new };
         })
@@ -75,7 +75,7 @@ pub fn run_graph<R: Source, W: Sink>(
 ) -> Result<Outcome, RunFault>
     ensures { EngineAnswers
         (record {
-          script = record { bytes = R.left script.old; failed = R.has_failed script.new };
+          script = Some (record { bytes = R.left script.old; failed = R.has_failed script.new });
           certificate = None;
           out = record { before = W.taken out.old; after = W.taken out.new; failed = W.has_failed out.new };
         })
@@ -98,7 +98,7 @@ pub fn run_rank<R: Source, W: Sink>(
 ) -> Result<Outcome, RunFault>
     ensures { EngineAnswers
         (record {
-          script = record { bytes = R.left script.old; failed = R.has_failed script.new };
+          script = Some (record { bytes = R.left script.old; failed = R.has_failed script.new });
           certificate = None;
           out = record { before = W.taken out.old; after = W.taken out.new; failed = W.has_failed out.new };
         })
@@ -112,6 +112,28 @@ pub fn run_rank<R: Source, W: Sink>(
         return Err(RunFault::Write);
     };
     Ok(outcome_of_found(&found))
+}
+
+/// Writes the text of the certificate that is read.
+pub fn run_upgrade<C: Source, W: Sink>(
+    alloc: Global,
+    cert: &mut C,
+    out: &mut W,
+) -> Result<Outcome, RunFault>
+    ensures { EngineAnswers
+        (record {
+          script = None;
+          certificate = Some (record { bytes = C.left cert.old; failed = C.has_failed cert.new });
+          out = record { before = W.taken out.old; after = W.taken out.new; failed = W.has_failed out.new };
+        })
+        (λ outcome report. OfBytes (C.left cert.old) (λ bytes. UpgradesTo bytes outcome report)) result }
+{
+    let text = read_whole(alloc, cert, CERTIFICATE_READ, Input::Certificate)?;
+    let cert = read_cert(alloc, &text)?;
+    let Ok(()) = write_cert(&cert, out) else {
+        return Err(RunFault::Write);
+    };
+    Ok(Outcome::Yes)
 }
 
 /// Yes for ranks, and no for a loop.

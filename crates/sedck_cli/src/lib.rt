@@ -11,4 +11,4 @@ mod report;
 
 pub use answer::{Input, Outcome, RunFault};
 pub use command_line::{Refusal, flushed, program};
-pub use engines::{run_check, run_files, run_graph, run_rank};
+pub use engines::{run_check, run_files, run_graph, run_rank, run_upgrade};

@@ -33,7 +33,7 @@ fn write_words<E: Sink>(err: &mut E, refusal: Refusal) -> Result<(), Failed>
     match refusal {
         Refusal::Usage => write_all(
             err,
-            b"usage: sedck rank SCRIPT, check SCRIPT CERT, files SCRIPT, graph SCRIPT",
+            b"usage: sedck rank SCRIPT, check SCRIPT CERT, files SCRIPT, graph SCRIPT, upgrade CERT",
         ),
         Refusal::Run(RunFault::Script(fault)) => write_script_fault(err, fault),
         Refusal::Run(RunFault::Certificate(fault)) => write_certificate_fault(err, fault),

@@ -2,7 +2,7 @@
 use crate::readers::{tell_certificate, tell_script};
 use sedck_cert::streams::{FromRead, FromWrite};
 use sedck_cert::{Bound, Fault, Judged, Rejection, Verdict, judge, verify};
-use sedck_cli::{Outcome, RunFault, run_check, run_files, run_graph, run_rank};
+use sedck_cli::{Outcome, RunFault, run_check, run_files, run_graph, run_rank, run_upgrade};
 use sedck_search::{Form, Found, Walk, search};
 use std::alloc::Global;
 use std::io;
@@ -97,14 +97,14 @@ fn tell_walk(rt: &impl Print, walk: &Walk) -> io::Result<()> {
     Ok(())
 }
 
-/// The report of an engine, and its outcome.
+/// The report of an engine, and its outcome. `upgrade` reads a certificate in place of the script.
 pub fn report(
     rt: &(impl Print + AllocGlobal),
     engine: &str,
-    script: &[u8],
+    text: &[u8],
     certificate: &[u8],
 ) -> io::Result<()> {
-    match run(rt, rt.alloc(), engine, script, certificate) {
+    match run(rt, rt.alloc(), engine, text, certificate) {
         Ok(Outcome::Yes) => println!(rt; "yes"),
         Ok(Outcome::No) => println!(rt; "no"),
         Err(fault) => println!(rt; "{fault}"),
@@ -115,16 +115,17 @@ fn run(
     rt: &impl Print,
     alloc: Global,
     engine: &str,
-    script: &[u8],
+    text: &[u8],
     certificate: &[u8],
 ) -> Result<Outcome, RunFault> {
-    let mut script = FromRead::new(script);
+    let mut text = FromRead::new(text);
     let mut certificate = FromRead::new(certificate);
     let mut out = FromWrite::new(io::writer(rt));
     match engine {
-        "check" => run_check(alloc, &mut script, &mut certificate, &mut out),
-        "files" => run_files(alloc, &mut script, &mut out),
-        "graph" => run_graph(alloc, &mut script, &mut out),
-        _ => run_rank(alloc, &mut script, &mut out),
+        "check" => run_check(alloc, &mut text, &mut certificate, &mut out),
+        "files" => run_files(alloc, &mut text, &mut out),
+        "graph" => run_graph(alloc, &mut text, &mut out),
+        "upgrade" => run_upgrade(alloc, &mut text, &mut out),
+        _ => run_rank(alloc, &mut text, &mut out),
     }
 }

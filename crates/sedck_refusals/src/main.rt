@@ -51,6 +51,8 @@ fn answer(
         "expression" => readers::expression(rt, script),
         "script" => readers::script(rt, script),
         "certificate" => readers::certificate(rt, script),
+        "old" => readers::old_certificate(rt, script),
+        "either" => readers::either_certificate(rt, script),
         "judge" => engines::judgement(rt, script, certificate),
         "verify" => engines::verdict(rt, script, certificate),
         "search" => engines::found(rt, script),

@@ -1,6 +1,6 @@
 //! Expressions, scripts and certificates that are read.
 use sedck_cert::streams::FromWrite;
-use sedck_cert::{Cert, read_cert, write_cert};
+use sedck_cert::{Cert, read_any, read_cert, read_cert_one, upgrade, write_cert};
 use sedck_script::{Pattern, Script, Substitution, Verb};
 use std::io;
 
@@ -64,6 +64,26 @@ pub fn certificate(rt: &(impl Print + AllocGlobal), text: &[u8]) -> io::Result<(
     match read_cert(rt.alloc(), text) {
         Ok(cert) => tell_certificate(rt, &cert),
         Err(fault) => println!(rt; "{fault}"),
+    }
+}
+
+/// The text of a certificate of either version.
+pub fn either_certificate(rt: &(impl Print + AllocGlobal), text: &[u8]) -> io::Result<()> {
+    match read_any(rt.alloc(), text) {
+        Ok(cert) => tell_certificate(rt, &cert),
+        Err(fault) => println!(rt; "{fault}"),
+    }
+}
+
+/// The text that a certificate of version 1 is upgraded to.
+pub fn old_certificate(rt: &(impl Print + AllocGlobal), text: &[u8]) -> io::Result<()> {
+    let cert = match read_cert_one(rt.alloc(), text) {
+        Ok(cert) => cert,
+        Err(fault) => return println!(rt; "{fault}"),
+    };
+    match upgrade(rt.alloc(), &cert) {
+        Ok(cert) => tell_certificate(rt, &cert),
+        Err(_) => println!(rt; "out of memory"),
     }
 }
 

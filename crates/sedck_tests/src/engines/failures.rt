@@ -8,32 +8,34 @@ use std::io::ErrorKind;
 use std::process::Abort;
 
 /// The engine, a script, whether the certificate's reads fail and not the script's, and how many bytes there are to read.
-static SOURCES: [(Engine, &'static str, bool, usize); 8] = [
+static SOURCES: [(Engine, &'static str, bool, usize); 9] = [
     (Engine::Check, LOOP, false, 8),
     (Engine::Check, "b z", false, 3),
-    (Engine::Check, LOOP, true, 92),
-    (Engine::Check, "b z", true, 92),
+    (Engine::Check, LOOP, true, 178),
+    (Engine::Check, "b z", true, 178),
     (Engine::Files, LOOP, false, 8),
     (Engine::Graph, LOOP, false, 8),
     (Engine::Rank, LOOP, false, 8),
     (Engine::Rank, "b z", false, 3),
+    (Engine::Upgrade, LOOP, true, 178),
 ];
 
 /// The engine, a script, and the report; the certificate is the loop's.
-static SINKS: [(Engine, &'static str, &'static str); 5] = [
+static SINKS: [(Engine, &'static str, &'static str); 6] = [
     (Engine::Check, LOOP, ACCEPTED),
     (Engine::Files, "#", "read 0\nwrite 0\n"),
     (
         Engine::Graph,
         "#",
-        "commands 0\n0 0 0 0 consume\n0 1 0 0 consume\n",
+        "commands 0\n0 0 0 0 0 0 consume\n0 0 0 0 0 1 consume\n0 1 0 0 0 0 consume\n0 1 0 0 0 1 consume\n",
     ),
     (Engine::Rank, LOOP, LOOP_CERTIFICATE),
     (
         Engine::Rank,
         ":a\nb a",
-        "loop idle\n0 0 keep\n1 0 keep\n0 0\n",
+        "loop idle\n0 0 0 keep\n1 0 0 keep\n0 0 0\n",
     ),
+    (Engine::Upgrade, "b z", LOOP_CERTIFICATE),
 ];
 
 /// How a call of std may fail.
@@ -99,7 +101,7 @@ fn fails_at(
 
 #[test]
 fn failing_sources(rt: HostRuntime) {
-    assert_eq!(rt; (LOOP.len(), LOOP_CERTIFICATE.len()), (8, 92));
+    assert_eq!(rt; (LOOP.len(), LOOP_CERTIFICATE.len()), (8, 178));
     for (engine, script, is_certificate, length) in &SOURCES {
         for before in 0..*length + 1 {
             // where the script's reads fail, the certificate's would fail at once
@@ -112,8 +114,12 @@ fn failing_sources(rt: HostRuntime) {
         }
         for kind in &KINDS {
             let (texts, kind) = ((*script, LOOP_CERTIFICATE), Some(*kind));
-            let answer = ("cannot read script", "");
-            is_answered_over_std(&rt, rt.alloc(), engine, texts, &(1, AMPLE, 0), kind, answer);
+            let (ends, answer) = if *is_certificate {
+                ((AMPLE, 1, 0), ("cannot read certificate", ""))
+            } else {
+                ((1, AMPLE, 0), ("cannot read script", ""))
+            };
+            is_answered_over_std(&rt, rt.alloc(), engine, texts, &ends, kind, answer);
         }
     }
 }
@@ -133,7 +139,7 @@ fn fails_behind(rt: &impl Abort, alloc: Global, engine: &Engine, script: &str, f
 
 #[test]
 fn failing_sinks(rt: HostRuntime) {
-    assert_eq!(rt; LOOP_CERTIFICATE.len(), 92);
+    assert_eq!(rt; LOOP_CERTIFICATE.len(), 178);
     for (engine, script, report) in &SINKS {
         for room in 0..report.len() {
             let Some(front) = report.get(..room) else {
@@ -149,57 +155,82 @@ fn failing_sinks(rt: HostRuntime) {
     }
 }
 
-/// Whether the long text is the certificate's, how much is given of the script and of the certificate before reads fail,
+/// The engine, whether the long text is the certificate's, how much is given of the script and of the certificate before reads fail,
 /// and what is told: what lies behind the limit is never read.
-static LIMITS: [(bool, usize, usize, &'static str); 5] = [
-    (false, 1_048_576, AMPLE, "cannot read script"),
+static LIMITS: [(Engine, bool, usize, usize, &'static str); 7] = [
+    (Engine::Check, false, 1_048_576, AMPLE, "cannot read script"),
     (
+        Engine::Check,
         false,
         1_048_577,
         AMPLE,
         "script fault 1 too-long at 1048576",
     ),
-    (false, AMPLE, AMPLE, "script fault 1 too-long at 1048576"),
-    (true, AMPLE, 1_310_720, "cannot read certificate"),
     (
+        Engine::Check,
+        false,
+        AMPLE,
+        AMPLE,
+        "script fault 1 too-long at 1048576",
+    ),
+    (
+        Engine::Check,
         true,
         AMPLE,
-        1_310_721,
+        1_572_864,
+        "cannot read certificate",
+    ),
+    (
+        Engine::Check,
+        true,
+        AMPLE,
+        1_572_865,
+        "certificate fault 1 bad-header at line 1",
+    ),
+    (
+        Engine::Upgrade,
+        true,
+        0,
+        1_572_864,
+        "cannot read certificate",
+    ),
+    (
+        Engine::Upgrade,
+        true,
+        0,
+        1_572_865,
         "certificate fault 1 bad-header at line 1",
     ),
 ];
 
 #[test]
 fn limits(rt: HostRuntime) {
-    let long = repeated(&rt, rt.alloc(), &[(b"\n", 1_400_000)]);
+    let long = repeated(&rt, rt.alloc(), &[(b"\n", 1_700_000)]);
     let long = String::from_utf8(long).expect(&rt, "text");
-    for (is_certificate, script_end, certificate_end, fault) in &LIMITS {
+    for (engine, is_certificate, script_end, certificate_end, fault) in &LIMITS {
         let texts = if *is_certificate {
             ("", long.as_str())
         } else {
             (long.as_str(), "")
         };
-        let ends = (*script_end, *certificate_end, 0);
-        is_answered(
-            &rt,
-            rt.alloc(),
-            &Engine::Check,
-            texts,
-            100_000,
-            &ends,
-            (*fault, ""),
-        );
+        let (ends, answer) = ((*script_end, *certificate_end, 0), (*fault, ""));
+        is_answered(&rt, rt.alloc(), engine, texts, 100_000, &ends, answer);
     }
 }
 
 /// The engine, the byte that the script's reader gives for ever, and the fault.
-static ENDLESS: [(Engine, u8, &'static str); 6] = [
+static ENDLESS: [(Engine, u8, &'static str); 7] = [
     (Engine::Check, b'\n', "script fault 1 too-long at 1048576"),
     (Engine::Check, b' ', "script fault 1 too-long at 1048576"),
     (Engine::Files, b'\n', "script fault 1 too-long at 1048576"),
     (Engine::Graph, b' ', "script fault 1 too-long at 1048576"),
     (Engine::Rank, b'\n', "script fault 1 too-long at 1048576"),
     (Engine::Rank, b'\0', "script fault 1 too-long at 1048576"),
+    (
+        Engine::Upgrade,
+        b'\n',
+        "certificate fault 1 bad-header at line 1",
+    ),
 ];
 
 /// A script and a certificate that never end.

@@ -9,41 +9,48 @@ use std::{fs, process};
 type Row = (&'static str, &'static str);
 
 /// Loops that rule all certificates out.
-static LOOPS: [Row; 9] = [
-    (":a;b a", "loop idle\n0 0 keep\n1 0 keep\n0 0\n"),
+static LOOPS: [Row; 12] = [
+    (":a;b a", "loop idle\n0 0 0 keep\n1 0 0 keep\n0 0 0\n"),
     (
         ":a;s/x*//;ta",
-        "loop idle\n0 0 keep\n1 0 keep\n2 1 keep\n0 0\n",
+        "loop idle\n0 0 0 keep\n1 0 0 keep\n2 1 0 keep\n0 0 0\n",
     ),
     (
         ":a;s/x/xx/;ta",
-        "loop growing\n1 0 grow\n2 1 keep\n0 0 keep\n1 0\n",
+        "loop growing\n1 0 0 grow\n2 1 0 keep\n0 0 0 keep\n1 0 0\n",
     ),
     (
         ":a;s/a/b/;ta",
-        "loop idle\n0 0 keep\n1 0 keep\n2 1 keep\n0 0\n",
-    ),
-    (
-        ":a;$!N;$!ba",
-        "loop idle\n0 0 keep\n1 0 keep\n2 0 keep\n0 0\n",
-    ),
-    (
-        ":a;$!N;ba",
-        "loop idle\n0 0 keep\n1 0 keep\n2 0 keep\n0 0\n",
+        "loop idle\n0 0 0 keep\n1 0 0 keep\n2 1 0 keep\n0 0 0\n",
     ),
     // as long as the match, with its groups the other way round
     (
         ":a;s/\\(.\\)\\(.\\)/\\2\\1/;ta",
-        "loop idle\n0 0 keep\n1 0 keep\n2 1 keep\n0 0\n",
+        "loop idle\n0 0 0 keep\n1 0 0 keep\n2 1 0 keep\n0 0 0\n",
     ),
     // the group is repeated, or lies in another one
     (
         ":a;s/\\(ab\\)*c/\\1/;ta",
-        "loop growing\n1 0 grow\n2 1 keep\n0 0 keep\n1 0\n",
+        "loop growing\n1 0 0 grow\n2 1 0 keep\n0 0 0 keep\n1 0 0\n",
     ),
     (
         ":a;s/\\(\\(a\\)\\)b/\\2/;ta",
-        "loop growing\n1 0 grow\n2 1 keep\n0 0 keep\n1 0\n",
+        "loop growing\n1 0 0 grow\n2 1 0 keep\n0 0 0 keep\n1 0 0\n",
+    ),
+    // on the last line alone, and before it alone
+    (
+        ":a;$!N;ba",
+        "loop idle\n0 0 1 keep\n1 0 1 keep\n2 0 1 keep\n0 0 1\n",
+    ),
+    (":a;$ba", "loop idle\n0 0 1 keep\n1 0 1 keep\n0 0 1\n"),
+    (":a;$!ba", "loop idle\n0 0 0 keep\n1 0 0 keep\n0 0 0\n"),
+    (
+        ":a;G;$ba",
+        "loop growing\n1 0 1 grow\n2 0 1 keep\n0 0 1 keep\n1 0 1\n",
+    ),
+    (
+        ":a;G;$!ba",
+        "loop growing\n1 0 0 grow\n2 0 0 keep\n0 0 0 keep\n1 0 0\n",
     ),
 ];
 
@@ -59,52 +66,68 @@ static NAMES: [Row; 4] = [
 ];
 
 /// Flow graphs, with the kinds of substitutions.
-static GRAPHS: [Row; 12] = [
-    ("", "commands 0\n0 0 0 0 consume\n0 1 0 0 consume\n"),
+static GRAPHS: [Row; 15] = [
+    (
+        "",
+        "commands 0\n0 0 0 0 0 0 consume\n0 0 0 0 0 1 consume\n0 1 0 0 0 0 consume\n0 1 0 0 0 1 consume\n",
+    ),
     (
         "s/a\\{2\\}/b/",
-        "commands 1\n0 0 1 0 keep\n0 0 1 1 shorten\n0 1 1 1 shorten\n0 1 1 1 keep\n1 0 0 0 consume\n1 1 0 0 consume\n",
+        "commands 1\n0 0 0 1 0 0 keep\n0 0 0 1 1 0 shorten\n0 0 1 1 0 1 keep\n0 0 1 1 1 1 shorten\n0 1 0 1 1 0 shorten\n0 1 0 1 1 0 keep\n0 1 1 1 1 1 shorten\n0 1 1 1 1 1 keep\n1 0 0 0 0 0 consume\n1 0 0 0 0 1 consume\n1 1 0 0 0 0 consume\n1 1 0 0 0 1 consume\n",
     ),
     (
         "s/ab/\\n\\n/",
-        "commands 1\n0 0 1 0 keep\n0 0 1 1 keep\n0 1 1 1 keep\n1 0 0 0 consume\n1 1 0 0 consume\n",
+        "commands 1\n0 0 0 1 0 0 keep\n0 0 0 1 1 0 keep\n0 0 1 1 0 1 keep\n0 0 1 1 1 1 keep\n0 1 0 1 1 0 keep\n0 1 1 1 1 1 keep\n1 0 0 0 0 0 consume\n1 0 0 0 0 1 consume\n1 1 0 0 0 0 consume\n1 1 0 0 0 1 consume\n",
     ),
     (
         "s/x*//",
-        "commands 1\n0 0 1 0 keep\n0 0 1 1 keep\n0 1 1 1 keep\n1 0 0 0 consume\n1 1 0 0 consume\n",
+        "commands 1\n0 0 0 1 0 0 keep\n0 0 0 1 1 0 keep\n0 0 1 1 0 1 keep\n0 0 1 1 1 1 keep\n0 1 0 1 1 0 keep\n0 1 1 1 1 1 keep\n1 0 0 0 0 0 consume\n1 0 0 0 0 1 consume\n1 1 0 0 0 0 consume\n1 1 0 0 0 1 consume\n",
     ),
     (
         "s/x/yy/g",
-        "commands 1\n0 0 1 0 keep\n0 0 1 1 grow\n0 1 1 1 keep\n0 1 1 1 grow\n1 0 0 0 consume\n1 1 0 0 consume\n",
+        "commands 1\n0 0 0 1 0 0 keep\n0 0 0 1 1 0 grow\n0 0 1 1 0 1 keep\n0 0 1 1 1 1 grow\n0 1 0 1 1 0 keep\n0 1 0 1 1 0 grow\n0 1 1 1 1 1 keep\n0 1 1 1 1 1 grow\n1 0 0 0 0 0 consume\n1 0 0 0 0 1 consume\n1 1 0 0 0 0 consume\n1 1 0 0 0 1 consume\n",
     ),
     (
         "s/x/&/",
-        "commands 1\n0 0 1 0 keep\n0 0 1 1 keep\n0 1 1 1 keep\n1 0 0 0 consume\n1 1 0 0 consume\n",
+        "commands 1\n0 0 0 1 0 0 keep\n0 0 0 1 1 0 keep\n0 0 1 1 0 1 keep\n0 0 1 1 1 1 keep\n0 1 0 1 1 0 keep\n0 1 1 1 1 1 keep\n1 0 0 0 0 0 consume\n1 0 0 0 0 1 consume\n1 1 0 0 0 0 consume\n1 1 0 0 0 1 consume\n",
     ),
     (
         "s/a\\(b\\)c/-\\1-/",
-        "commands 1\n0 0 1 0 keep\n0 0 1 1 keep\n0 1 1 1 keep\n1 0 0 0 consume\n1 1 0 0 consume\n",
+        "commands 1\n0 0 0 1 0 0 keep\n0 0 0 1 1 0 keep\n0 0 1 1 0 1 keep\n0 0 1 1 1 1 keep\n0 1 0 1 1 0 keep\n0 1 1 1 1 1 keep\n1 0 0 0 0 0 consume\n1 0 0 0 0 1 consume\n1 1 0 0 0 0 consume\n1 1 0 0 0 1 consume\n",
     ),
     (
         "s/\\(a\\)/\\1\\1/",
-        "commands 1\n0 0 1 0 keep\n0 0 1 1 grow\n0 1 1 1 keep\n0 1 1 1 grow\n1 0 0 0 consume\n1 1 0 0 consume\n",
+        "commands 1\n0 0 0 1 0 0 keep\n0 0 0 1 1 0 grow\n0 0 1 1 0 1 keep\n0 0 1 1 1 1 grow\n0 1 0 1 1 0 keep\n0 1 0 1 1 0 grow\n0 1 1 1 1 1 keep\n0 1 1 1 1 1 grow\n1 0 0 0 0 0 consume\n1 0 0 0 0 1 consume\n1 1 0 0 0 0 consume\n1 1 0 0 0 1 consume\n",
     ),
     (
         "s/x/&&/",
-        "commands 1\n0 0 1 0 keep\n0 0 1 1 grow\n0 1 1 1 keep\n0 1 1 1 grow\n1 0 0 0 consume\n1 1 0 0 consume\n",
+        "commands 1\n0 0 0 1 0 0 keep\n0 0 0 1 1 0 grow\n0 0 1 1 0 1 keep\n0 0 1 1 1 1 grow\n0 1 0 1 1 0 keep\n0 1 0 1 1 0 grow\n0 1 1 1 1 1 keep\n0 1 1 1 1 1 grow\n1 0 0 0 0 0 consume\n1 0 0 0 0 1 consume\n1 1 0 0 0 0 consume\n1 1 0 0 0 1 consume\n",
     ),
     // the empty expression may be the last one, which is shorter than the one before it
     (
         "/ab/s//z/;/c/d",
-        "commands 2\n0 0 1 0 keep\n0 0 1 1 keep\n0 1 1 1 keep\n1 0 0 0 consume\n1 0 2 0 keep\n1 1 0 0 consume\n1 1 2 1 keep\n2 0 0 0 consume\n2 1 0 0 consume\n",
-    ),
-    (
-        "1!G;h;$!d",
-        "commands 3\n0 0 1 0 keep\n0 0 1 0 grow\n0 1 1 1 keep\n0 1 1 1 grow\n1 0 2 0 keep\n1 1 2 1 keep\n2 0 0 0 consume\n2 0 3 0 keep\n2 1 0 0 consume\n2 1 3 1 keep\n3 0 0 0 consume\n3 1 0 0 consume\n",
+        "commands 2\n0 0 0 1 0 0 keep\n0 0 0 1 1 0 keep\n0 0 1 1 0 1 keep\n0 0 1 1 1 1 keep\n0 1 0 1 1 0 keep\n0 1 1 1 1 1 keep\n1 0 0 0 0 0 consume\n1 0 0 0 0 1 consume\n1 0 0 2 0 0 keep\n1 0 1 2 0 1 keep\n1 1 0 0 0 0 consume\n1 1 0 0 0 1 consume\n1 1 0 2 1 0 keep\n1 1 1 2 1 1 keep\n2 0 0 0 0 0 consume\n2 0 0 0 0 1 consume\n2 1 0 0 0 0 consume\n2 1 0 0 0 1 consume\n",
     ),
     (
         "/x/D",
-        "commands 1\n0 0 0 0 consume\n0 0 0 0 shorten\n0 0 1 0 keep\n0 1 0 0 consume\n0 1 0 0 shorten\n0 1 0 1 shorten\n0 1 1 1 keep\n1 0 0 0 consume\n1 1 0 0 consume\n",
+        "commands 1\n0 0 0 0 0 0 consume\n0 0 0 0 0 0 shorten\n0 0 0 0 0 1 consume\n0 0 0 1 0 0 keep\n0 0 1 0 0 1 shorten\n0 0 1 1 0 1 keep\n0 1 0 0 0 0 consume\n0 1 0 0 0 0 shorten\n0 1 0 0 0 1 consume\n0 1 0 0 1 0 shorten\n0 1 0 1 1 0 keep\n0 1 1 0 0 1 shorten\n0 1 1 0 1 1 shorten\n0 1 1 1 1 1 keep\n1 0 0 0 0 0 consume\n1 0 0 0 0 1 consume\n1 1 0 0 0 0 consume\n1 1 0 0 0 1 consume\n",
+    ),
+    // one `$` alone is decided by the node
+    (
+        "$N",
+        "commands 1\n0 0 0 1 0 0 keep\n0 1 0 1 1 0 keep\n1 0 0 0 0 0 consume\n1 0 0 0 0 1 consume\n1 1 0 0 0 0 consume\n1 1 0 0 0 1 consume\n",
+    ),
+    (
+        "$!N;P;D",
+        "commands 3\n0 0 0 1 0 0 consume\n0 0 0 1 0 1 consume\n0 0 1 1 0 1 keep\n0 1 0 1 0 0 consume\n0 1 0 1 0 1 consume\n0 1 0 1 1 0 consume\n0 1 0 1 1 1 consume\n0 1 1 1 1 1 keep\n1 0 0 2 0 0 keep\n1 0 1 2 0 1 keep\n1 1 0 2 1 0 keep\n1 1 1 2 1 1 keep\n2 0 0 0 0 0 consume\n2 0 0 0 0 0 shorten\n2 0 0 0 0 1 consume\n2 0 1 0 0 1 shorten\n2 1 0 0 0 0 consume\n2 1 0 0 0 0 shorten\n2 1 0 0 0 1 consume\n2 1 0 0 1 0 shorten\n2 1 1 0 0 1 shorten\n2 1 1 0 1 1 shorten\n3 0 0 0 0 0 consume\n3 0 0 0 0 1 consume\n3 1 0 0 0 0 consume\n3 1 0 0 0 1 consume\n",
+    ),
+    (
+        "$!{p};d",
+        "commands 3\n0 0 0 1 0 0 keep\n0 0 1 2 0 1 keep\n0 1 0 1 1 0 keep\n0 1 1 2 1 1 keep\n1 0 0 2 0 0 keep\n1 0 1 2 0 1 keep\n1 1 0 2 1 0 keep\n1 1 1 2 1 1 keep\n2 0 0 0 0 0 consume\n2 0 0 0 0 1 consume\n2 1 0 0 0 0 consume\n2 1 0 0 0 1 consume\n3 0 0 0 0 0 consume\n3 0 0 0 0 1 consume\n3 1 0 0 0 0 consume\n3 1 0 0 0 1 consume\n",
+    ),
+    (
+        "1!G;h;$!d",
+        "commands 3\n0 0 0 1 0 0 keep\n0 0 0 1 0 0 grow\n0 0 1 1 0 1 keep\n0 0 1 1 0 1 grow\n0 1 0 1 1 0 keep\n0 1 0 1 1 0 grow\n0 1 1 1 1 1 keep\n0 1 1 1 1 1 grow\n1 0 0 2 0 0 keep\n1 0 1 2 0 1 keep\n1 1 0 2 1 0 keep\n1 1 1 2 1 1 keep\n2 0 0 0 0 0 consume\n2 0 0 0 0 1 consume\n2 0 1 3 0 1 keep\n2 1 0 0 0 0 consume\n2 1 0 0 0 1 consume\n2 1 1 3 1 1 keep\n3 0 0 0 0 0 consume\n3 0 0 0 0 1 consume\n3 1 0 0 0 0 consume\n3 1 0 0 0 1 consume\n",
     ),
 ];
 

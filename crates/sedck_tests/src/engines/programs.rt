@@ -1,6 +1,9 @@
 //! `program` over files.
 use super::fakes::sink_with;
-use super::{ACCEPTED, AMPLE, EMPTY_CERTIFICATE, LOOP, LOOP_CERTIFICATE, LOOP_GRAPH};
+use super::{
+    ACCEPTED, AMPLE, EMPTY_CERTIFICATE, LOOP, LOOP_CERTIFICATE, LOOP_GRAPH, OLD_EMPTY_CERTIFICATE,
+    OLD_LOOP_CERTIFICATE,
+};
 use crate::texts::require;
 use sedck_cert::streams::FromWrite;
 use sedck_cli::{flushed, program};
@@ -10,13 +13,15 @@ use std::rt::{Env, Files};
 use std::{env, fs, io, process};
 
 const USAGE: &str =
-    "sedck: usage: sedck rank SCRIPT, check SCRIPT CERT, files SCRIPT, graph SCRIPT\n";
+    "sedck: usage: sedck rank SCRIPT, check SCRIPT CERT, files SCRIPT, graph SCRIPT, upgrade CERT\n";
 
 /// The files of a test's folder, by name.
-static FILES: [(&'static str, &'static str); 5] = [
+static FILES: [(&'static str, &'static str); 7] = [
     ("script", LOOP),
     ("certificate", LOOP_CERTIFICATE),
     ("empty", EMPTY_CERTIFICATE),
+    ("old", OLD_LOOP_CERTIFICATE),
+    ("old-empty", OLD_EMPTY_CERTIFICATE),
     ("unknown", "b z"),
     ("wrong", "x"),
 ];
@@ -68,7 +73,7 @@ pub fn is_run(
 }
 
 /// Words that get the usage line.
-static WORDS: [&'static str; 24] = [
+static WORDS: [&'static str; 30] = [
     "",
     "lint @script",
     "Check @script @certificate",
@@ -86,6 +91,12 @@ static WORDS: [&'static str; 24] = [
     "graph",
     "graph @script @certificate",
     "graph -- @script",
+    "upgrade",
+    "upgrade @certificate @certificate",
+    "upgrade @script @certificate",
+    "upgrade @certificate -",
+    "upgrade -- @certificate",
+    "Upgrade @certificate",
     "--help",
     "-h check @script @certificate",
     "check --version @certificate",
@@ -98,7 +109,7 @@ static WORDS: [&'static str; 24] = [
 /// Words, the status, what is printed, and what stands on standard error.
 type Row = (&'static str, u8, &'static str, &'static str);
 
-static ROWS: [Row; 21] = [
+static ROWS: [Row; 31] = [
     (
         "check @nowhere @certificate",
         4,
@@ -175,6 +186,36 @@ static ROWS: [Row; 21] = [
     ("graph @script", 0, LOOP_GRAPH, ""),
     ("check @script @certificate", 0, ACCEPTED, ""),
     ("check @script @empty", 1, "rejected 1 wrong-count\n", ""),
+    ("check @script @old", 0, ACCEPTED, ""),
+    (
+        "check @script @old-empty",
+        1,
+        "rejected 1 wrong-count\n",
+        "",
+    ),
+    ("upgrade @old", 0, LOOP_CERTIFICATE, ""),
+    ("upgrade @old-empty", 0, EMPTY_CERTIFICATE, ""),
+    ("upgrade @certificate", 0, LOOP_CERTIFICATE, ""),
+    ("upgrade @empty", 0, EMPTY_CERTIFICATE, ""),
+    (
+        "upgrade @nowhere",
+        4,
+        "",
+        "sedck: cannot read certificate\n",
+    ),
+    ("upgrade @", 4, "", "sedck: cannot read certificate\n"),
+    (
+        "upgrade @wrong",
+        2,
+        "",
+        "sedck: certificate fault 1 bad-header at line 1\n",
+    ),
+    (
+        "upgrade @script",
+        2,
+        "",
+        "sedck: certificate fault 1 bad-header at line 1\n",
+    ),
 ];
 
 #[test]

@@ -2,17 +2,19 @@
 use super::AMPLE;
 use super::fakes::{Reader, Writer, sink_with, source_of};
 use sedck_cert::streams::{FromRead, FromWrite, Sink, Source};
-use sedck_cli::{Outcome, run_check, run_files, run_graph, run_rank};
+use sedck_cli::{Outcome, run_check, run_files, run_graph, run_rank, run_upgrade};
 use std::alloc::Global;
 use std::io::ErrorKind;
 use std::process::Abort;
 
-/// Which engine runs. The last three read no certificate.
+/// Which engine runs. The first reads both texts, the last the certificate alone, and the others the script alone.
+#[derive(Drop)]
 pub enum Engine {
     Check,
     Files,
     Graph,
     Rank,
+    Upgrade,
 }
 
 /// After how many bytes the reads of the script fail, those of the certificate, and the writes.
@@ -35,6 +37,7 @@ pub fn outcome<R: Source, C: Source, W: Sink>(
         Engine::Files => run_files(alloc, script, out),
         Engine::Graph => run_graph(alloc, script, out),
         Engine::Rank => run_rank(alloc, script, out),
+        Engine::Upgrade => run_upgrade(alloc, certificate, out),
     };
     let (word, fault) = match answer {
         Ok(Outcome::Yes) => ("yes", None),
