@@ -1,5 +1,5 @@
 -- Edges in their order, and the first that the ranks don't meet.
-use Rattle.std.proofs.Common.{◌≡◌, ◌<◌, ◌≤◌, List, [], ◌∷◌, ◌++◌, Contains, refl, sym, ap, ◌∙◌, subst, inl, inr, arith}
+use Rattle.std.proofs.Common.{◌≡◌, ◌≢◌, ℕ, ◌<◌, ◌≤◌, Bool, List, [], ◌∷◌, ◌++◌, Contains, refl, sym, ap, ◌∙◌, subst, inl, inr, arith}
 use Rattle.std.specs.Prelude.{Option, Some, None, is_some, true, MatchOption, slice_get, length}
 use Rattle.std.specs.List.{AllByRecursion}
 use Rattle.std.proofs.lemmas.List.Elements.{All-from_recursion, All-contains, Contains-append_cases, Contains-append_right}
@@ -7,15 +7,14 @@ use Rattle.sedck_script.proofs.SortedNames.{Contains-cons_cases}
 use Rattle.std.proofs.lemmas.Option.{slice_get_within}
 use Rattle.sedck_script.specs.Program.{Command, Program}
 use Rattle.sedck_flow.specs.Nodes.{start, node_index, node_count}
-use Rattle.sedck_flow.specs.Flow.{CommandEdge, Flow, FlowFrom, IsEarlier, AreInOrder, ListsEdges}
+use Rattle.sedck_flow.specs.Flow.{ReadsLine, CommandEdge, Flow, FlowFrom, IsEarlier, AreInOrder, ListsEdges}
 use Rattle.sedck_flow.specs.declared.graph.Node.{Node}
 use Rattle.sedck_flow.specs.declared.graph.Edge.{Edge}
-use Rattle.sedck_flow.specs.declared.graph.Kind.TheVariants.{Consume}
 use Rattle.sedck_flow.proofs.NodeLemmas.{before-index, index_below}
 use Rattle.sedck_flow.proofs.EdgeOrder.{never_earlier, earlier-trans}
 use Rattle.sedck_cert.specs.Certificate.{Certificate}
-use Rattle.sedck_cert.specs.Ranked.{ranks_at, MeetsEdge}
-use Rattle.sedck_cert.specs.Checking.{IsUnmetBy, IsFirstUnmetOf, JudgesEdges}
+use Rattle.sedck_cert.specs.Ranked.{ranks_at, MeetsEdge, IsRanked}
+use Rattle.sedck_cert.specs.Checking.{IsUnmetBy, IsFirstUnmetOf, MeetsAll, JudgesEdges}
 use Rattle.sedck_cert.specs.Rejections.{IsStarted, IsFirstUnmet, IsRejection}
 use Rattle.sedck_cert.specs.declared.checking.Rejection.{Rejection}
 use Rattle.sedck_cert.specs.declared.checking.Rejection.TheVariants.{WrongCount, StartUnranked, LeavesRanked, NotLowered, ReadsDiffer, WritesDiffer}
@@ -75,7 +74,7 @@ first_found c IsEdge done coming e (Some why) listed met judged some = record {
 
 -- an edge leaves a command, or the script's end
 leaves_inside : (p : Program) (e : Edge) (o : Option Command) → slice_get p.commands e.from.at ≡ o
-    → MatchOption o ((e.from.at ≡ length p.commands) × (e.kind ≡ Consume) × (e.to ≡ start)) (λ c. CommandEdge p c e.from e.kind e.to)
+    → MatchOption o ((e.from.at ≡ length p.commands) × ReadsLine e.from start e.kind e.to) (λ c. CommandEdge p c e.from e.kind e.to)
     → e.from.at ≤ length p.commands
 leaves_inside p e None is h = omega (arith, h.0)
 leaves_inside p e (Some c) is h = omega (arith, slice_get_within p.commands e.from.at c is)
@@ -118,3 +117,15 @@ edge_rejection p c (NotLowered e) started h =
       subst (IsFirstUnmet p c) (sym is) (first_unmet p c h.edge h.is_edge h.unmet.1 h.earlier),
       λ none. h.unmet.2 (sym (ap (λ (f : Edge). ranks_at c f.to) is) ∙ none),
     )
+
+-- where both starts have ranks and each edge is met, the nodes are ranked
+some_ranks : (ranks : Option (ℕ × ℕ)) → ranks ≢ None → (r : ℕ × ℕ) × (ranks ≡ Some r)
+some_ranks None some = absurd (some refl)
+some_ranks (Some r) some = (r, refl)
+
+pub are_ranked : (p : Program) (c : Certificate) → ((last : Bool) → ranks_at c (start last) ≢ None) → MeetsAll c (Flow p) → IsRanked p c
+are_ranked p c started meets = record {
+  start_ranks = λ last. (some_ranks (ranks_at c (start last)) (started last)).0;
+  has_start = λ last. (some_ranks (ranks_at c (start last)) (started last)).1;
+  meets = meets;
+}

@@ -1,6 +1,8 @@
 //! Whether a certificate is accepted for a script, and the first reason why it isn't.
 
-ghost use Rattle.std.specs.Prelude.{◌≡◌, ◌↔◌, ◌+◌, ◌*◌, ◌≤◌, ◌<◌, length, map, IsTrue, Option, MatchOption};
+ghost use Rattle.std.specs.Prelude.{◌≡◌, ◌≢◌, ◌↔◌, ◌+◌, ◌*◌, ◌≤◌, ◌<◌, Bool, length, map, IsTrue, Option, None, MatchOption};
+ghost use Rattle.std.specs.Bool.{OnTrue, OnFalse};
+ghost use Rattle.sedck_flow.specs.Nodes.{start};
 ghost use Rattle.sedck_flow.specs.Flow.{Flow, FlowFrom};
 ghost use Rattle.sedck_flow.specs.Run.{NamesForReading, NamesForWriting};
 ghost use Rattle.sedck_cert.specs.Certificate.{IsCertificate};
@@ -19,7 +21,7 @@ use sedck_script::Script;
 pub enum Rejection {
     /// The number of commands is another than the script's.
     WrongCount,
-    /// The start has no ranks.
+    /// A node at which a run may begin, before the last line or on it, has no ranks.
     StartUnranked,
     /// The edge leads from a node with ranks to one without.
     LeavesRanked(Edge),
@@ -49,14 +51,14 @@ pub fn check(script: &Script, cert: &Cert) -> Verdict
     }
 }
 
-/// The first reason to reject the certificate: counts and start, then the edges in order, then the names.
+/// The first reason to reject the certificate: counts and starts, then the edges in order, then the names.
 fn first_rejection(script: &Script, cert: &Cert) -> Option<Rejection>
     ensures { MatchOption result (Accepts script.now cert.now) (IsRejection script.now cert.now) }
 {
     if usize::from(cert.commands()) != script.commands().len() {
         return Some(Rejection::WrongCount);
     }
-    if ranks_of(cert, Node::START).is_none() {
+    if !has_starts(cert) {
         return Some(Rejection::StartUnranked);
     }
     if let Some(why) = first_unmet(script, cert) {
@@ -69,6 +71,14 @@ fn first_rejection(script: &Script, cert: &Cert) -> Option<Rejection>
         return Some(Rejection::WritesDiffer);
     }
     None
+}
+
+/// Whether both nodes at which a run may begin have ranks.
+fn has_starts(cert: &Cert) -> bool
+    ensures ranked { OnTrue result ((last : Bool) → ranks_at cert.now (start last) ≢ None) }
+    ensures unranked { OnFalse result ((last : Bool) × (ranks_at cert.now (start last) ≡ None)) }
+{
+    ranks_of(cert, Node::start(false)).is_some() && ranks_of(cert, Node::start(true)).is_some()
 }
 
 /// Whether the certificate lists the names that the script reads.

@@ -1,13 +1,12 @@
 -- The order of edges.
-use Rattle.std.proofs.Common.{◌≡◌, ◌≢◌, ◌⊎◌, ◌<◌, refl, sym, ap, ◌∙◌, subst, inl, inr, arith}
-use Rattle.std.proofs.lemmas.Bool.{cases_order}
-use Rattle.sedck_flow.specs.Nodes.{IsBefore, node_index}
+use Rattle.std.proofs.Common.{◌≡◌, ◌⊎◌, ◌<◌, refl, sym, ap, ◌∙◌, subst, inl, inr, arith}
+use Rattle.sedck_flow.specs.Nodes.{IsBefore}
 use Rattle.sedck_flow.specs.Flow.{kind_index, IsEarlier}
 use Rattle.sedck_flow.specs.declared.graph.Node.{Node}
 use Rattle.sedck_flow.specs.declared.graph.Edge.{Edge}
 use Rattle.sedck_flow.specs.declared.graph.Kind.{Kind}
 use Rattle.sedck_flow.specs.declared.graph.Kind.TheVariants.{Consume, Shorten, Keep, Grow}
-use Rattle.sedck_flow.proofs.NodeLemmas.{before-index, index-before, node_same}
+use Rattle.sedck_flow.proofs.NodeLemmas.{before-index, index-before}
 
 -- an edge by its parts
 pub edge_by : (e f : Edge) → e.from ≡ f.from → e.to ≡ f.to → e.kind ≡ f.kind → e ≡ f
@@ -17,7 +16,7 @@ edge_by e f from to kind =
     let third : record f { kind = e.kind } ≡ f = ap (λ k. record f { kind = k }) kind in
     first ∙ second ∙ third
 
-kind_same : (k l : Kind) → kind_index k ≡ kind_index l → k ≡ l
+pub kind_same : (k l : Kind) → kind_index k ≡ kind_index l → k ≡ l
 kind_same Consume Consume e = refl
 kind_same Consume _ e = absurd (omega arith)
 kind_same Shorten Shorten e = refl
@@ -52,42 +51,3 @@ earlier-trans e f g (inr (s, a)) (inr (t, b)) = inr (s ∙ t, by_target a b)
     by_target (inl a) (inr (u, _)) = inl (subst (IsBefore e.to) u a)
     by_target (inr (u, _)) (inl b) = inl (subst (λ n. IsBefore n g.to) (sym u) b)
     by_target (inr (u, a)) (inr (v, b)) = inr (u ∙ v, omega (arith, a, b))
-
--- of two edges one is the earlier one, or they are one
-abbrev pub Compared : Edge → Edge → Type 0
-Compared e f = (e ≡ f) ⊎ (IsEarlier e f ⊎ IsEarlier f e)
-
-before_cases : (m n : Node) → (m ≡ n) ⊎ (IsBefore m n ⊎ IsBefore n m)
-before_cases m n = elim (cases_order (node_index m) (node_index n)) [
-  | inl same ↦ inl (node_same m n same)
-  | inr (inl less) ↦ inr (inl (index-before m n less))
-  | inr (inr more) ↦ inr (inr (index-before n m more))
-]
-
-pub compare_edges : (e f : Edge) → Compared e f
-compare_edges e f = by_from (before_cases e.from f.from)
-  where
-    by_kind : e.from ≡ f.from → e.to ≡ f.to → Compared e f
-    by_kind from to = elim (cases_order (kind_index e.kind) (kind_index f.kind)) [
-      | inl same ↦ inl (edge_by e f from to (kind_same e.kind f.kind same))
-      | inr (inl less) ↦ inr (inl (inr (from, inr (to, less))))
-      | inr (inr more) ↦ inr (inr (inr (sym from, inr (sym to, more))))
-    ]
-
-    by_to : e.from ≡ f.from → (e.to ≡ f.to) ⊎ (IsBefore e.to f.to ⊎ IsBefore f.to e.to) → Compared e f
-    by_to from (inl to) = by_kind from to
-    by_to from (inr (inl before)) = inr (inl (inr (from, inl before)))
-    by_to from (inr (inr before)) = inr (inr (inr (sym from, inl before)))
-
-    by_from : (e.from ≡ f.from) ⊎ (IsBefore e.from f.from ⊎ IsBefore f.from e.from) → Compared e f
-    by_from (inl from) = by_to from (before_cases e.to f.to)
-    by_from (inr (inl before)) = inr (inl (inl before))
-    by_from (inr (inr before)) = inr (inr (inl before))
-
--- an edge that is neither the same nor earlier is later
-pub later : (e f : Edge) → e ≢ f → ¬ IsEarlier e f → IsEarlier f e
-later e f other not_earlier = elim (compare_edges e f) [
-  | inl same ↦ absurd (other same)
-  | inr (inl before) ↦ absurd (not_earlier before)
-  | inr (inr behind) ↦ behind
-]

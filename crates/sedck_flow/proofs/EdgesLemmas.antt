@@ -1,5 +1,5 @@
 -- The edges that are found for a node are those that leave it.
-use Rattle.std.proofs.Common.{◌≡◌, ℕ, zero, suc, ◌<◌, ◌≤◌, true, false, IsTrue, List, [], ◌∷◌, map, length, get_or, drop, Contains, refl, sym, ap, ◌∙◌, subst, inl, inr, arith}
+use Rattle.std.proofs.Common.{◌≡◌, ℕ, zero, suc, ◌<◌, ◌≤◌, List, [], ◌∷◌, map, length, get_or, drop, Contains, refl, sym, ap, ◌∙◌, subst, inl, inr, arith}
 use Rattle.std.specs.Prelude.{Option, Some, None, MatchOption, option_map, slice_get}
 use Rattle.std.proofs.lemmas.Option.{get_or_from_slice_get, slice_get-map, slice_get_read, slice_get_past, slice_get_within}
 use Rattle.std.proofs.lemmas.List.{length-map}
@@ -12,16 +12,14 @@ use Rattle.sedck_bre.specs.Tree.{Tree}
 use Rattle.sedck_bre.specs.WellFormed.{IsWellFormed}
 use Rattle.sedck_flow.specs.Patterns.{StandsFor}
 use Rattle.sedck_flow.specs.Least.{IsFormed, HasFormed}
-use Rattle.sedck_flow.specs.Run.{is_conditional}
 use Rattle.sedck_flow.specs.Nodes.{start}
-use Rattle.sedck_flow.specs.Flow.{VerbEdge, node_past, CommandEdge, Flow, FlowFrom, ListsEdges}
-use Rattle.sedck_flow.specs.EdgeList.{AddsEdge, ListsTargets}
+use Rattle.sedck_flow.specs.Flow.{MayApplyAt, MayPassByAt, ReadsLine, VerbEdge, node_past, CommandEdge, Flow, FlowFrom, ListsEdges}
+use Rattle.sedck_flow.specs.EdgeList.{edge_at, AddsEdge, ListsTargets}
 use Rattle.sedck_flow.specs.declared.graph.Node.{Node}
 use Rattle.sedck_flow.specs.declared.graph.Edge.{Edge}
 use Rattle.sedck_flow.specs.declared.graph.Kind.{Kind}
-use Rattle.sedck_flow.specs.declared.graph.Kind.TheVariants.{Consume, Keep}
-use Rattle.sedck_flow.proofs.EdgeListLemmas.{lists_more, lists_same}
-use Rattle.sedck_flow.proofs.VerbLemmas.{Only, edge}
+use Rattle.sedck_flow.specs.declared.graph.Kind.TheVariants.{Keep}
+use Rattle.sedck_flow.proofs.EdgeListLemmas.{lists_edges, lists_none, lists_more, lists_same}
 use Rattle.sedck_flow.proofs.Inside.{target_at}
 use Rattle.sedck_flow.proofs.Follows.{IsKnown, known_at}
 
@@ -34,32 +32,40 @@ drop_next (y ∷ xs) (suc i) x e = drop_next xs i x e
 
 -- ---- A command
 
-pub conditional : (p : Program) (c : Command) (n : Node) (edges all : List Edge) → IsTrue (is_conditional c)
-    → ListsTargets edges n (VerbEdge p c.address c.verb n) → AddsEdge (edge n Keep (node_past c.verb n)) edges all
-    → ListsTargets all n (CommandEdge p c n)
-conditional p c n edges all may lists adds =
-    lists_same all n _ (CommandEdge p c n)
-    (λ k t. (elim [ inl h ↦ inl (may, h.0, h.1) | inr h ↦ inr h ], elim [ inl h ↦ inl (h.1, h.2) | inr h ↦ inr h ]))
-    (lists_more edges all n (VerbEdge p c.address c.verb n) Keep (node_past c.verb n) lists adds)
+-- the edges of its verb where it may be applied
+abbrev pub Applied : Program → Command → Node → Kind → Node → Type 0
+Applied p c n kind to = MayApplyAt c n × VerbEdge p c.address c.verb n kind to
 
-pub unconditional : (p : Program) (c : Command) (n : Node) (edges : List Edge) → is_conditional c ≡ false
-    → ListsTargets edges n (VerbEdge p c.address c.verb n) → ListsTargets edges n (CommandEdge p c n)
+pub applied : (p : Program) (c : Command) (n : Node) (edges : List ℕ) → MayApplyAt c n → ListsTargets edges (VerbEdge p c.address c.verb n)
+    → ListsTargets edges (Applied p c n)
+applied p c n edges may lists = lists_same edges (VerbEdge p c.address c.verb n) (Applied p c n) (λ k t. (λ h. (may, h), λ h. h.1)) lists
+
+pub not_applied : (p : Program) (c : Command) (n : Node) → ¬ MayApplyAt c n → ListsTargets [] (Applied p c n)
+not_applied p c n may_not = lists_same [] (λ k t. ⊥) (Applied p c n) (λ k t. (λ h. absurd h, λ h. may_not h.0)) lists_none
+
+pub conditional : (p : Program) (c : Command) (n : Node) (edges all : List ℕ) → MayPassByAt c n
+    → ListsTargets edges (Applied p c n) → AddsEdge Keep (node_past c.verb n) edges all
+    → ListsTargets all (CommandEdge p c n)
+conditional p c n edges all may lists adds =
+    lists_same all _ (CommandEdge p c n)
+    (λ k t. (elim [ inl h ↦ inl (may, h.0, h.1) | inr h ↦ inr h ], elim [ inl h ↦ inl (h.1, h.2) | inr h ↦ inr h ]))
+    (lists_more edges all (Applied p c n) Keep (node_past c.verb n) lists adds)
+
+pub unconditional : (p : Program) (c : Command) (n : Node) (edges : List ℕ) → ¬ MayPassByAt c n
+    → ListsTargets edges (Applied p c n) → ListsTargets edges (CommandEdge p c n)
 unconditional p c n edges may_not lists =
-    lists_same _ n _ (CommandEdge p c n) (λ k t. (λ h. inr h, elim [ inl h ↦ absurd (never h.0) | inr h ↦ h ])) lists
-  where
-    never : IsTrue (is_conditional c) → ⊥
-    never may = let both : true ≡ false = sym may ∙ may_not in cc
+    lists_same _ (Applied p c n) (CommandEdge p c n) (λ k t. (λ h. inr h, elim [ inl h ↦ absurd (may_not h.0) | inr h ↦ h ])) lists
 
 -- ---- A node
 
 abbrev EdgeAt : Program → Node → Option Command → Kind → Node → Type 0
-EdgeAt p n o kind to = MatchOption o ((n.at ≡ length p.commands) × (kind ≡ Consume) × (to ≡ start)) (λ c. CommandEdge p c n kind to)
+EdgeAt p n o kind to = MatchOption o ((n.at ≡ length p.commands) × ReadsLine n start kind to) (λ c. CommandEdge p c n kind to)
 
-at_node : (p : Program) (n : Node) (o : Option Command) (edges : List Edge) → slice_get p.commands n.at ≡ o → ListsTargets edges n (EdgeAt p n o)
-    → ListsEdges edges (FlowFrom p n)
-at_node p n o edges is lists = record {
-  in_order = lists.in_order;
-  same = λ e. (λ h. let k = (lists.same e).0 h in (forth e k, k.0), λ h. (lists.same e).1 (h.1, back e h));
+at_node : (p : Program) (n : Node) (o : Option Command) (edges : List ℕ) → slice_get p.commands n.at ≡ o → ListsTargets edges (EdgeAt p n o)
+    → ListsEdges (map (edge_at n) edges) (FlowFrom p n)
+at_node p n o edges is lists = let listed = lists_edges n edges (EdgeAt p n o) lists in record {
+  in_order = listed.in_order;
+  same = λ e. (λ h. let k = (listed.same e).0 h in (forth e k, k.0), λ h. (listed.same e).1 (h.1, back e h));
 }
   where
     forth : (e : Edge) → (e.from ≡ n) × EdgeAt p n o e.kind e.to → Flow p e
@@ -68,14 +74,14 @@ at_node p n o edges is lists = record {
     back : (e : Edge) → Flow p e × (e.from ≡ n) → EdgeAt p n o e.kind e.to
     back e (h, from) = subst (λ x. EdgeAt p n x e.kind e.to) is (subst (λ (m : Node). EdgeAt p m (slice_get p.commands m.at) e.kind e.to) from h)
 
-pub at_command : (p : Program) (n : Node) (c : Command) (edges : List Edge) → slice_get p.commands n.at ≡ Some c
-    → ListsTargets edges n (CommandEdge p c n) → ListsEdges edges (FlowFrom p n)
+pub at_command : (p : Program) (n : Node) (c : Command) (edges : List ℕ) → slice_get p.commands n.at ≡ Some c
+    → ListsTargets edges (CommandEdge p c n) → ListsEdges (map (edge_at n) edges) (FlowFrom p n)
 at_command p n c edges is lists = at_node p n (Some c) edges is lists
 
-pub at_end : (p : Program) (n : Node) (edges : List Edge) → slice_get p.commands n.at ≡ None → n.at ≡ length p.commands
-    → ListsTargets edges n (Only Consume start) → ListsEdges edges (FlowFrom p n)
+pub at_end : (p : Program) (n : Node) (edges : List ℕ) → slice_get p.commands n.at ≡ None → n.at ≡ length p.commands
+    → ListsTargets edges (ReadsLine n start) → ListsEdges (map (edge_at n) edges) (FlowFrom p n)
 at_end p n edges is place lists = at_node p n None edges is
-    (lists_same edges n (Only Consume start) (EdgeAt p n None) (λ k t. (λ h. (place, h.0, h.1), λ h. (h.1, h.2))) lists)
+    (lists_same edges (ReadsLine n start) (EdgeAt p n None) (λ k t. (λ h. (place, h), λ h. h.1)) lists)
 
 -- ---- What a script's invariant says of one command
 

@@ -20,15 +20,15 @@ use Rattle.sedck_flow.proofs.States.{at_inj}
 abbrev empty_before : List ℕ → Found
 empty_before behind = record { whole = []; groups = no_groups; behind = behind }
 
-edge_text : edge_words (edge 1 false 2 true Shorten) ≡ codes "1 0 2 1 shorten"
+edge_text : edge_words (edge 1 false true 2 true true Shorten) ≡ codes "1 0 1 2 1 1 shorten"
 unfolding digits
 edge_text = refl
 
 false-true : false ≡ true → ⊥
 false-true e = cc
 
-at_node : ℕ → Bool → Node
-at_node at flag = record { at = at; flag = flag }
+at_node : ℕ → Bool → Bool → Node
+at_node at flag last = record { at = at; flag = flag; last = last }
 
 -- a match of `x` has one byte
 length-one_x : (text : List ℕ) (groups : _) → Match one_x no_groups text groups → length text ≡ 1
@@ -153,9 +153,13 @@ group_not_shortens : ¬ Shortens (replace_once b_in_group group_in_dashes) (repl
 unfolding b_alone
 group_not_shortens h = let less = h.1 b_in_group (97 ∷ 98 ∷ 99 ∷ []) b_alone refl matches_abc in omega (arith, less)
 
-flags_differ : (a b : ℕ) (f g : Bool) → f ≡ true → g ≡ false → at_node a f ≡ at_node b g → ⊥
+flags_differ : (a b : ℕ) (f g l m : Bool) → f ≡ true → g ≡ false → at_node a f l ≡ at_node b g m → ⊥
 unfolding at_node
-flags_differ a b f g t u e = false-true (sym u ∙ sym (ap (λ (n : Node). n.flag) e) ∙ t)
+flags_differ a b f g l m t u e = false-true (sym u ∙ sym (ap (λ (n : Node). n.flag) e) ∙ t)
+
+lasts_differ : (a b : ℕ) (f g l m : Bool) → l ≡ true → m ≡ false → at_node a f l ≡ at_node b g m → ⊥
+unfolding at_node
+lasts_differ a b f g l m t u e = false-true (sym u ∙ sym (ap (λ (n : Node). n.last) e) ∙ t)
 
 unread_differ : {m n : Machine} → At m ≡ At n → length m.unread ≡ length n.unread
 unread_differ e = ap (λ (x : Machine). length x.unread) (at_inj e)
@@ -164,26 +168,42 @@ pub examples_hold : ExamplesHold
 unfolding at_node
 examples_hold = record {
   edge_text = edge_text;
-  shortens = inr (inr (x_shortens, refl));
-  not_keeps = elim [ inl h ↦ false-true h.0 | inr (inl (_, e)) ↦ flags_differ 2 2 true false refl refl e | inr (inr (h, _)) ↦ x_not_kept h ];
-  keeps = inr (inr (inr (xs_not_shorten, xs_never_lengthen), refl));
-  not_shortens = elim [ inl h ↦ false-true h.0 | inr (inl (e, _)) ↦ cc | inr (inr (h, _)) ↦ xs_not_shorten h ];
-  test_taken = inr (refl, refl);
-  test_passed = inr (refl, refl);
-  test_resets = elim [ inl h ↦ false-true h.0 | inr (_, e) ↦ flags_differ 0 0 true false refl refl e ];
-  drops_kept = inr (inr (refl, true, inl refl, refl));
-  drops_reset = inr (inr (refl, false, inr refl, refl));
-  drops_all = inr (inl (refl, refl));
-  passed_by = inl (refl, refl, refl);
-  not_passed_by = elim [ inl (_, _, e) ↦ flags_differ 1 1 true false refl refl (sym e) | inr (inl (e, _)) ↦ cc | inr (inr (e, _, _, _)) ↦ cc ];
-  begins_again = (refl, refl, refl);
-  previous_keeps = inr (inr (inr (previous_not_shorten, previous_never_lengthens), refl));
-  previous_not_shortens = elim [ inl (_, e, _) ↦ cc | inr (inl (e, _)) ↦ cc | inr (inr (h, _)) ↦ previous_not_shorten h ];
-  group_shortens = inr (inr (group_shortens, refl));
-  group_keeps = inr (inr (inr (group_not_shortens, group_never_lengthens), refl));
-  group_twice_grows = inr (inr ((λ h. h, λ h. h.0.distinct.0.0 refl), refl));
-  whole_keeps = inr (inr (inl tt, refl));
-  whole_twice_grows = inr (inr ((λ h. h, λ h. h.0.no_whole), refl));
+  shortens = inr (tt, inr (x_shortens, refl));
+  not_keeps = elim [
+    | inl h ↦ false-true h.0.0
+    | inr (_, inl (_, e)) ↦ flags_differ 2 2 true false false false refl refl e
+    | inr (_, inr (h, _)) ↦ x_not_kept h
+  ];
+  keeps = inr (tt, inr (inr (xs_not_shorten, xs_never_lengthen), refl));
+  not_shortens = elim [ inl h ↦ false-true h.0.0 | inr (_, inl (e, _)) ↦ cc | inr (_, inr (h, _)) ↦ xs_not_shorten h ];
+  stays_before_last = elim [ inl h ↦ false-true h.0.0 | inr (_, inl (e, _)) ↦ cc | inr (_, inr (_, e)) ↦ lasts_differ 2 2 true true true false refl refl e ];
+  test_taken = inr (tt, (refl, refl));
+  test_passed = inr (tt, (refl, refl));
+  test_resets = elim [ inl h ↦ false-true h.0.0 | inr (_, (_, e)) ↦ flags_differ 0 0 true false true true refl refl e ];
+  drops_kept = inr (tt, inr (refl, true, inl refl, refl));
+  drops_reset = inr (tt, inr (refl, false, inr refl, refl));
+  drops_all = inr (tt, inl (refl, refl, true, refl));
+  drops_last = elim [ inl (_, e, _) ↦ cc | inr (_, inl (left, _, _, _)) ↦ false-true (sym left) | inr (_, inr (e, _, _, _)) ↦ cc ];
+  passed_by = inl ((refl, tt), refl, refl);
+  not_passed_by = elim [
+    | inl (_, _, e) ↦ flags_differ 1 1 true false false false refl refl (sym e)
+    | inr (_, inl (_, e, _, _)) ↦ cc
+    | inr (_, inr (e, _, _, _)) ↦ cc
+  ];
+  begins_again = (refl, (refl, refl, true, refl));
+  ends = λ h. false-true (sym h.1.0);
+  appends = inr (refl, (false, inl refl, (refl, refl, false, refl)));
+  appends_last = inr (refl, (false, inl refl, (refl, refl, true, refl)));
+  always_appends = elim [ inl ((_, last), _, _) ↦ false-true last | inr (_, (_, _, (_, e, _, _))) ↦ cc ];
+  passed_on_last = inl ((refl, refl), refl, refl);
+  never_appends = elim [ inl (_, e, _) ↦ cc | inr (left, _) ↦ false-true (sym left) ];
+  previous_keeps = inr (tt, inr (inr (previous_not_shorten, previous_never_lengthens), refl));
+  previous_not_shortens = elim [ inl (_, e, _) ↦ cc | inr (_, inl (e, _)) ↦ cc | inr (_, inr (h, _)) ↦ previous_not_shorten h ];
+  group_shortens = inr (tt, inr (group_shortens, refl));
+  group_keeps = inr (tt, inr (inr (group_not_shortens, group_never_lengthens), refl));
+  group_twice_grows = inr (tt, inr ((λ h. h, λ h. h.0.distinct.0.0 refl), refl));
+  whole_keeps = inr (tt, inr (inl tt, refl));
+  whole_twice_grows = inr (tt, inr ((λ h. h, λ h. h.0.no_whole), refl));
   last_line = inr ((refl, refl), refl, refl);
   not_applied = elim [ inl (may, _) ↦ may refl | inr (_, _, e) ↦ cc ];
   other_line = elim [ inl (_, (_, (flag, _, e))) ↦ omega (arith, unread_differ e) | inr ((_, e), _, _) ↦ cc ];

@@ -6,11 +6,10 @@ use Rattle.std.proofs.lemmas.Option.{get_or_from_slice_get, slice_get_within}
 use Rattle.sedck_script.specs.Invariant.{IsTargetWithin, AreTargetsWithin}
 use Rattle.sedck_script.specs.Program.{Address, NoAddress, One, Two, Verb, Block, Branch, Change, Delete, DeleteFirstLine, Next, NextAppend, Quit, Substitute, Test, Command, Program}
 use Rattle.sedck_flow.specs.Nodes.{start, moved_to, next, with_flag}
-use Rattle.sedck_flow.specs.Flow.{VerbEdge, node_past, CommandEdge, Flow}
+use Rattle.sedck_flow.specs.Flow.{ReadsLine, VerbEdge, node_past, CommandEdge, Flow}
 use Rattle.sedck_flow.specs.declared.graph.Node.{Node}
 use Rattle.sedck_flow.specs.declared.graph.Edge.{Edge}
 use Rattle.sedck_flow.specs.declared.graph.Kind.{Kind}
-use Rattle.sedck_flow.specs.declared.graph.Kind.TheVariants.{Consume}
 use Rattle.std.proofs.lemmas.Option.{none-some}
 
 -- where there is no command, the place isn't below the length
@@ -22,15 +21,15 @@ slice_get-none (y ∷ xs) (suc i) e = omega (arith, slice_get-none xs i e)
 module _ (p : Program) (n : ℕ) where
   verb_inside : (a : Address) (v : Verb) → IsTargetWithin n v → (from : Node) (kind : Kind) (to : Node) → from.at < n → VerbEdge p a v from kind to → to.at ≤ n
   verb_inside a (Branch target) inside from kind to below (_, e) = omega (arith, ap (λ (x : Node). x.at) e)
-  verb_inside (Two first end) (Change text) inside from kind to below (inl (_, e)) = omega (arith, ap (λ (x : Node). x.at) e)
+  verb_inside (Two first end) (Change text) inside from kind to below (inl (_, _, _, e)) = omega (arith, ap (λ (x : Node). x.at) e)
   verb_inside (Two first end) (Change text) inside from kind to below (inr (_, e)) = omega (arith, ap (λ (x : Node). x.at) e)
-  verb_inside NoAddress (Change text) inside from kind to below (_, e) = omega (arith, ap (λ (x : Node). x.at) e)
-  verb_inside (One place) (Change text) inside from kind to below (_, e) = omega (arith, ap (λ (x : Node). x.at) e)
-  verb_inside a Delete inside from kind to below (_, e) = omega (arith, ap (λ (x : Node). x.at) e)
-  verb_inside a DeleteFirstLine inside from kind to below (inl (_, e)) = omega (arith, ap (λ (x : Node). x.at) e)
+  verb_inside NoAddress (Change text) inside from kind to below (_, _, _, e) = omega (arith, ap (λ (x : Node). x.at) e)
+  verb_inside (One place) (Change text) inside from kind to below (_, _, _, e) = omega (arith, ap (λ (x : Node). x.at) e)
+  verb_inside a Delete inside from kind to below (_, _, _, e) = omega (arith, ap (λ (x : Node). x.at) e)
+  verb_inside a DeleteFirstLine inside from kind to below (inl (_, _, _, e)) = omega (arith, ap (λ (x : Node). x.at) e)
   verb_inside a DeleteFirstLine inside from kind to below (inr (_, flag, _, e)) = omega (arith, ap (λ (x : Node). x.at) e)
-  verb_inside a Next inside from kind to below (_, flag, _, e) = omega (arith, ap (λ (x : Node). x.at) e)
-  verb_inside a NextAppend inside from kind to below (_, flag, _, e) = omega (arith, ap (λ (x : Node). x.at) e)
+  verb_inside a Next inside from kind to below (flag, _, (_, _, _, e)) = omega (arith, ap (λ (x : Node). x.at) e)
+  verb_inside a NextAppend inside from kind to below (flag, _, (_, _, _, e)) = omega (arith, ap (λ (x : Node). x.at) e)
   verb_inside a Quit inside from kind to below h = absurd h
   verb_inside a (Substitute s) inside from kind to below (inl (_, e)) = omega (arith, ap (λ (x : Node). x.at) e)
   verb_inside a (Substitute s) inside from kind to below (inr (_, e)) = omega (arith, ap (λ (x : Node). x.at) e)
@@ -48,13 +47,13 @@ module _ (p : Program) (n : ℕ) where
 command_inside : (p : Program) (c : Command) (n : ℕ) → IsTargetWithin n c.verb → (from : Node) (kind : Kind) (to : Node) → from.at < n
     → CommandEdge p c from kind to → to.at ≤ n
 command_inside p c n inside from kind to below (inl (_, _, e)) = past_inside p n c.verb inside from to below e
-command_inside p c n inside from kind to below (inr h) = verb_inside p n c.address c.verb inside from kind to below h
+command_inside p c n inside from kind to below (inr (_, h)) = verb_inside p n c.address c.verb inside from kind to below h
 
 edge_inside : (p : Program) (from : Node) (kind : Kind) (to : Node) (o : Option Command) → slice_get p.commands from.at ≡ o
     → ((c : Command) → o ≡ Some c → IsTargetWithin (length p.commands) c.verb)
-    → MatchOption o ((from.at ≡ length p.commands) × (kind ≡ Consume) × (to ≡ start)) (λ c. CommandEdge p c from kind to)
+    → MatchOption o ((from.at ≡ length p.commands) × ReadsLine from start kind to) (λ c. CommandEdge p c from kind to)
     → (from.at ≤ length p.commands) × (to.at ≤ length p.commands)
-edge_inside p from kind to None e inside (place, _, is) = (omega arith, omega (arith, ap (λ (x : Node). x.at) is))
+edge_inside p from kind to None e inside (place, (_, _, _, is)) = (omega arith, omega (arith, ap (λ (x : Node). x.at) is))
 edge_inside p from kind to (Some c) e inside h =
     let below : from.at < length p.commands = slice_get_within p.commands from.at c e in
     (omega arith, command_inside p c (length p.commands) (inside c refl) from kind to below h)

@@ -10,6 +10,7 @@ pub mod Grown
 pub mod NotStart
 pub mod LineBytes
 pub mod Named
+pub mod PlainEdges
 pub mod NodeLemmas
 pub mod EdgeOrder
 pub mod EdgeListLemmas

@@ -8,86 +8,86 @@ use Rattle.sedck_script.specs.declared.script.Verb.{Verb as Coded}
 use Rattle.sedck_script.specs.declared.script.Verb.TheVariants as coded
 use Rattle.std.specs.Borrow.{Bor}
 use Rattle.sedck_flow.specs.Run.{KeptOrReset}
-use Rattle.sedck_flow.specs.Nodes.{start, moved_to, next, with_flag}
-use Rattle.sedck_flow.specs.Flow.{HasKind, VerbEdge}
+use Rattle.sedck_flow.specs.Nodes.{start, moved_to, next, with_flag, with_last}
+use Rattle.sedck_flow.specs.Flow.{HasKind, ReadsLine, ReadsOn, VerbEdge}
 use Rattle.sedck_flow.proofs.References.{alone_has_whole}
-use Rattle.sedck_flow.specs.EdgeList.{AddsEdge, ListsTargets}
+use Rattle.sedck_flow.specs.EdgeList.{AddsEdge, AddsLine, ListsTargets}
 use Rattle.sedck_flow.specs.declared.graph.Node.{Node}
-use Rattle.sedck_flow.specs.declared.graph.Edge.{Edge}
 use Rattle.sedck_flow.specs.declared.graph.Kind.{Kind}
 use Rattle.sedck_flow.specs.declared.graph.Kind.TheVariants.{Consume, Shorten, Keep, Grow}
-use Rattle.sedck_flow.proofs.EdgeListLemmas.{lists_none, lists_more, lists_same}
+use Rattle.sedck_flow.proofs.EdgeListLemmas.{lists_none, lists_more, lists_line, lists_same}
 
 -- the targets of one edge
 abbrev pub Only : Kind → Node → Kind → Node → Type 0
 Only kind to k n = (k ≡ kind) × (n ≡ to)
 
-abbrev pub edge : Node → Kind → Node → Edge
-edge from kind to = record { from = from; to = to; kind = kind }
+pub one_edge : (kind : Kind) (to : Node) (edges : List ℕ) → AddsEdge kind to [] edges → ListsTargets edges (Only kind to)
+one_edge kind to edges adds =
+    lists_same edges (λ k t. ((k ≡ kind) × (t ≡ to)) ⊎ ⊥) (Only kind to) (λ k t. (elim [ inl h ↦ h | inr h ↦ absurd h ], λ h. inl h))
+    (lists_more [] edges (λ k t. ⊥) kind to lists_none adds)
 
-pub one_edge : (n : Node) (kind : Kind) (to : Node) (edges : List Edge) → AddsEdge (edge n kind to) [] edges → ListsTargets edges n (Only kind to)
-one_edge n kind to edges adds =
-    lists_same edges n (λ k t. ((k ≡ kind) × (t ≡ to)) ⊎ ⊥) (Only kind to) (λ k t. (elim [ inl h ↦ h | inr h ↦ absurd h ], λ h. inl h))
-    (lists_more [] edges n (λ k t. ⊥) kind to (lists_none n) adds)
+-- the edges on which a line is read
+pub line_alone : (n to : Node) (edges : List ℕ) → AddsLine n to [] edges → ListsTargets edges (ReadsLine n (with_last to))
+line_alone n to edges adds =
+    lists_same edges (λ k t. ReadsLine n (with_last to) k t ⊎ ⊥) (ReadsLine n (with_last to))
+    (λ k t. (elim [ inl h ↦ h | inr h ↦ absurd h ], λ h. inl h)) (lists_line [] edges n to (λ k t. ⊥) lists_none adds)
 
 -- `c` at a range
-pub changes_range : (p : Program) (n : Node) (first all : List Edge) (text : List ℕ) (place end : _) → ListsTargets first n (Only Consume start)
-    → AddsEdge (edge n Keep (next n)) first all → ListsTargets all n (VerbEdge p (Two place end) (Change text) n)
+pub changes_range : (p : Program) (n : Node) (first all : List ℕ) (text : List ℕ) (place end : _) → ListsTargets first (ReadsLine n start)
+    → AddsEdge Keep (next n) first all → ListsTargets all (VerbEdge p (Two place end) (Change text) n)
 changes_range p n first all text place end lists adds =
-    lists_same all n _ (VerbEdge p (Two place end) (Change text) n)
+    lists_same all _ (VerbEdge p (Two place end) (Change text) n)
     (λ k t. (elim [ inl h ↦ inr h | inr h ↦ inl h ], elim [ inl h ↦ inr h | inr h ↦ inl h ]))
-    (lists_more first all n (Only Consume start) Keep (next n) lists adds)
+    (lists_more first all (ReadsLine n start) Keep (next n) lists adds)
 
 -- `D`
 abbrev Drops : Node → Kind → Node → Type 0
-Drops n k t = ((k ≡ Consume) × (t ≡ start)) ⊎ ((k ≡ Shorten) × (flag : Bool) × KeptOrReset n.flag flag × (t ≡ with_flag start flag))
+Drops n k t = ReadsLine n start k t ⊎ ((k ≡ Shorten) × (flag : Bool) × KeptOrReset n.flag flag × (t ≡ with_flag (start n.last) flag))
 
 abbrev DropsOne : Node → Kind → Node → Type 0
-DropsOne n k t = Only Shorten (with_flag start n.flag) k t ⊎ (Only Shorten start k t ⊎ Only Consume start k t)
+DropsOne n k t = ReadsLine n start k t ⊎ (Only Shorten (with_flag (start n.last) n.flag) k t ⊎ Only Shorten (start n.last) k t)
 
 drop_targets : (n : Node) (k : Kind) (t : Node) → DropsOne n k t ↔ Drops n k t
 drop_targets n k t = (forth, back)
   where
     forth : DropsOne n k t → Drops n k t
-    forth (inl (kind, to)) = inr (kind, n.flag, inl refl, to)
-    forth (inr (inl (kind, to))) = inr (kind, false, inr refl, to)
-    forth (inr (inr h)) = inl h
+    forth (inl h) = inl h
+    forth (inr (inl (kind, to))) = inr (kind, n.flag, inl refl, to)
+    forth (inr (inr (kind, to))) = inr (kind, false, inr refl, to)
 
     back : Drops n k t → DropsOne n k t
-    back (inl h) = inr (inr h)
-    back (inr (kind, flag, inl kept, to)) = inl (kind, to ∙ ap (with_flag start) kept)
-    back (inr (kind, flag, inr reset, to)) = inr (inl (kind, to ∙ ap (with_flag start) reset))
+    back (inl h) = inl h
+    back (inr (kind, flag, inl kept, to)) = inr (inl (kind, to ∙ ap (with_flag (start n.last)) kept))
+    back (inr (kind, flag, inr reset, to)) = inr (inr (kind, to ∙ ap (with_flag (start n.last)) reset))
 
-pub drops : (p : Program) (a : Address) (n : Node) (first second all : List Edge) → ListsTargets first n (Only Consume start)
-    → AddsEdge (edge n Shorten start) first second → AddsEdge (edge n Shorten (with_flag start n.flag)) second all
-    → ListsTargets all n (VerbEdge p a DeleteFirstLine n)
-drops p a n first second all lists adds more =
-    lists_same all n _ (VerbEdge p a DeleteFirstLine n) (drop_targets n)
-    (lists_more second all n _ Shorten (with_flag start n.flag) (lists_more first second n (Only Consume start) Shorten start lists adds) more)
+pub drops : (p : Program) (a : Address) (n : Node) (first second all : List ℕ) → ListsTargets first (Only Shorten (start n.last))
+    → AddsEdge Shorten (with_flag (start n.last) n.flag) first second → AddsLine n (start n.last) second all
+    → ListsTargets all (VerbEdge p a DeleteFirstLine n)
+drops p a n first second all lists adds line =
+    lists_same all (DropsOne n) (VerbEdge p a DeleteFirstLine n) (drop_targets n)
+    (lists_line second all n (start n.last) _
+    (lists_more first second (Only Shorten (start n.last)) Shorten (with_flag (start n.last) n.flag) lists adds) line)
 
 -- `n` and `N`
-abbrev Reads : Node → Kind → Node → Type 0
-Reads n k t = (k ≡ Consume) × (flag : Bool) × KeptOrReset n.flag flag × (t ≡ with_flag (next n) flag)
-
 abbrev ReadsOne : Node → Kind → Node → Type 0
-ReadsOne n k t = Only Consume (with_flag (next n) false) k t ⊎ Only Consume (next n) k t
+ReadsOne n k t = ReadsLine n (with_last (with_flag (next n) false)) k t ⊎ ReadsLine n (with_last (next n)) k t
 
-read_targets : (n : Node) (k : Kind) (t : Node) → ReadsOne n k t ↔ Reads n k t
+read_targets : (n : Node) (k : Kind) (t : Node) → ReadsOne n k t ↔ ReadsOn n k t
 read_targets n k t = (forth, back)
   where
-    forth : ReadsOne n k t → Reads n k t
-    forth (inl (kind, to)) = (kind, false, inr refl, to)
-    forth (inr (kind, to)) = (kind, n.flag, inl refl, to)
+    forth : ReadsOne n k t → ReadsOn n k t
+    forth (inl h) = (false, inr refl, h)
+    forth (inr h) = (n.flag, inl refl, h)
 
-    back : Reads n k t → ReadsOne n k t
-    back (kind, flag, inl kept, to) = inr (kind, to ∙ ap (with_flag (next n)) kept)
-    back (kind, flag, inr reset, to) = inl (kind, to ∙ ap (with_flag (next n)) reset)
+    back : ReadsOn n k t → ReadsOne n k t
+    back (flag, inl kept, h) = inr (subst (λ f. ReadsLine n (with_last (with_flag (next n) f)) k t) kept h)
+    back (flag, inr reset, h) = inl (subst (λ f. ReadsLine n (with_last (with_flag (next n) f)) k t) reset h)
 
-pub reads : (p : Program) (a : Address) (n : Node) (first all : List Edge) → ListsTargets first n (Only Consume (next n))
-    → AddsEdge (edge n Consume (with_flag (next n) false)) first all → ListsTargets all n (VerbEdge p a Next n)
-reads p a n first all lists adds =
-    lists_same all n _ (VerbEdge p a Next n) (read_targets n)
-    (lists_more first all n (Only Consume (next n)) Consume (with_flag (next n) false) lists adds)
+pub reads : (p : Program) (a : Address) (n : Node) (first all : List ℕ) → ListsTargets first (ReadsLine n (with_last (next n)))
+    → AddsLine n (with_flag (next n) false) first all → ListsTargets all (VerbEdge p a Next n)
+reads p a n first all lists line =
+    lists_same all (ReadsOne n) (VerbEdge p a Next n) (read_targets n)
+    (lists_line first all n (with_flag (next n) false) (ReadsLine n (with_last (next n))) lists line)
 
 -- `s`
 never_both : (p : Program) (s : Substitution) → HasKind p s Shorten → HasKind p s Grow → ⊥
@@ -112,12 +112,12 @@ one_kind p s Grow Keep h (inl alone) = absurd (h.0 alone)
 one_kind p s Grow Keep h (inr j) = absurd (h.1 j.1)
 one_kind p s Grow Grow h j = refl
 
-pub substitutes : (p : Program) (a : Address) (s : Substitution) (kind : Kind) (n : Node) (first all : List Edge) → HasKind p s kind
-    → ListsTargets first n (Only Keep (next n)) → AddsEdge (edge n kind (with_flag (next n) true)) first all
-    → ListsTargets all n (VerbEdge p a (Substitute s) n)
+pub substitutes : (p : Program) (a : Address) (s : Substitution) (kind : Kind) (n : Node) (first all : List ℕ) → HasKind p s kind
+    → ListsTargets first (Only Keep (next n)) → AddsEdge kind (with_flag (next n) true) first all
+    → ListsTargets all (VerbEdge p a (Substitute s) n)
 substitutes p a s kind n first all has lists adds =
-    lists_same all n _ (VerbEdge p a (Substitute s) n) (λ k t. (forth k t, back k t))
-    (lists_more first all n (Only Keep (next n)) kind made lists adds)
+    lists_same all _ (VerbEdge p a (Substitute s) n) (λ k t. (forth k t, back k t))
+    (lists_more first all (Only Keep (next n)) kind made lists adds)
   where
     made : Node
     made = with_flag (next n) true
@@ -131,24 +131,24 @@ substitutes p a s kind n first all has lists adds =
     back k t (inr (h, to)) = inl (one_kind p s k kind h has, to)
 
 -- `t`
-pub tests : (p : Program) (a : Address) (target : ℕ) (n : Node) (edges : List Edge) (flag : Bool) → n.flag ≡ flag
-    → ListsTargets edges n (Only Keep (if flag then with_flag (moved_to n target) false else next n)) → ListsTargets edges n (VerbEdge p a (Test target) n)
+pub tests : (p : Program) (a : Address) (target : ℕ) (n : Node) (edges : List ℕ) (flag : Bool) → n.flag ≡ flag
+    → ListsTargets edges (Only Keep (if flag then with_flag (moved_to n target) false else next n)) → ListsTargets edges (VerbEdge p a (Test target) n)
 tests p a target n edges flag is lists =
-    subst (λ (f : Bool). ListsTargets edges n (Only Keep (if f then with_flag (moved_to n target) false else next n))) (sym is) lists
+    subst (λ (f : Bool). ListsTargets edges (Only Keep (if f then with_flag (moved_to n target) false else next n))) (sym is) lists
 
 -- ---- By the verb as the code has it
 
-pub of_verb : (p : Program) (a : Address) (v w : Verb) (n : Node) (edges : List Edge) → v ≡ w → ListsTargets edges n (VerbEdge p a w n)
-    → ListsTargets edges n (VerbEdge p a v n)
-of_verb p a v w n edges is lists = subst (λ (x : Verb). ListsTargets edges n (VerbEdge p a x n)) (sym is) lists
+pub of_verb : (p : Program) (a : Address) (v w : Verb) (n : Node) (edges : List ℕ) → v ≡ w → ListsTargets edges (VerbEdge p a w n)
+    → ListsTargets edges (VerbEdge p a v n)
+of_verb p a v w n edges is lists = subst (λ (x : Verb). ListsTargets edges (VerbEdge p a x n)) (sym is) lists
 
 -- a verb that is none of these goes on to the next command
-pub other_verb : (p : Program) (a : Address) (v : Coded) (n : Node) (edges : List Edge)
+pub other_verb : (p : Program) (a : Address) (v : Coded) (n : Node) (edges : List ℕ)
     → ((target : ℕ) → v ≡ coded.Branch target → ⊥) → ((target : ℕ) → v ≡ coded.Test target → ⊥) → ((text : Bor (List ℕ)) → v ≡ coded.Change text → ⊥)
     → ((s : CodedSubstitution) → v ≡ coded.Substitute s → ⊥)
     → (v ≡ coded.Delete → ⊥) → (v ≡ coded.DeleteFirstLine → ⊥) → (v ≡ coded.Get → ⊥) → (v ≡ coded.GetAppend → ⊥) → (v ≡ coded.Next → ⊥)
     → (v ≡ coded.NextAppend → ⊥) → (v ≡ coded.Quit → ⊥) → (v ≡ coded.Exchange → ⊥)
-    → ListsTargets edges n (Only Keep (next n)) → ListsTargets edges n (VerbEdge p a (verb_of v) n)
+    → ListsTargets edges (Only Keep (next n)) → ListsTargets edges (VerbEdge p a (verb_of v) n)
 other_verb p a (coded.Branch target) n edges branch test change substitute delete drop get append read read_more quit exchange lists =
     absurd (branch target refl)
 other_verb p a (coded.Test target) n edges branch test change substitute delete drop get append read read_more quit exchange lists = absurd (test target refl)

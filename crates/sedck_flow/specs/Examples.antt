@@ -73,8 +73,9 @@ replace_once tree parts = script_of (plain_command (Substitute (replacing tree p
 abbrev pub group_in_dashes : List Part
 group_in_dashes = Text (codes "-") ∷ Reference 1 ∷ Text (codes "-") ∷ []
 
-abbrev pub edge : ℕ → Bool → ℕ → Bool → Kind → Edge
-edge at flag at' flag' kind = record { from = record { at = at; flag = flag }; to = record { at = at'; flag = flag' }; kind = kind }
+-- between these nodes, each by place, flag and whether the last line has been read
+abbrev pub edge : ℕ → Bool → Bool → ℕ → Bool → Bool → Kind → Edge
+edge at flag last at' flag' last' kind = record { from = record { at = at; flag = flag; last = last }; to = record { at = at'; flag = flag'; last = last' }; kind = kind }
 
 -- at the first command with the pattern space `a` and these lines left
 abbrev pub machine : List (List ℕ) → Machine
@@ -82,34 +83,44 @@ machine unread = record { at = 0; flag = false; unread = unread; pattern = codes
 
 pub record ExamplesHold : Type 0 where
   -- an edge in words
-  pub edge_text : edge_words (edge 1 false 2 true Shorten) ≡ codes "1 0 2 1 shorten"
+  pub edge_text : edge_words (edge 1 false true 2 true true Shorten) ≡ codes "1 0 1 2 1 1 shorten"
   -- deleting an x shortens, deleting some x or none doesn't
-  pub shortens : Flow (delete_matches one_x) (edge 1 false 2 true Shorten)
-  pub not_keeps : ¬ Flow (delete_matches one_x) (edge 1 false 2 true Keep)
-  pub keeps : Flow (delete_matches any_xs) (edge 1 false 2 true Keep)
-  pub not_shortens : ¬ Flow (delete_matches any_xs) (edge 1 false 2 true Shorten)
+  pub shortens : Flow (delete_matches one_x) (edge 1 false false 2 true false Shorten)
+  pub not_keeps : ¬ Flow (delete_matches one_x) (edge 1 false false 2 true false Keep)
+  pub keeps : Flow (delete_matches any_xs) (edge 1 false false 2 true false Keep)
+  pub not_shortens : ¬ Flow (delete_matches any_xs) (edge 1 false false 2 true false Shorten)
+  -- no other step than one that reads a line comes to the last one
+  pub stays_before_last : ¬ Flow (delete_matches one_x) (edge 1 false false 2 true true Shorten)
   -- `t` resets the flag where it is set, and goes on where it isn't
-  pub test_taken : Flow (delete_matches one_x) (edge 2 true 0 false Keep)
-  pub test_passed : Flow (delete_matches one_x) (edge 2 false 3 false Keep)
-  pub test_resets : ¬ Flow (delete_matches one_x) (edge 2 true 0 true Keep)
-  -- `D` with the flag kept or reset, and passed by with the flag alone
-  pub drops_kept : Flow drop_lines_with_x (edge 0 true 0 true Shorten)
-  pub drops_reset : Flow drop_lines_with_x (edge 0 true 0 false Shorten)
-  pub drops_all : Flow drop_lines_with_x (edge 0 true 0 false Consume)
-  pub passed_by : Flow drop_lines_with_x (edge 0 true 1 true Keep)
-  pub not_passed_by : ¬ Flow drop_lines_with_x (edge 0 true 1 false Keep)
-  -- behind the last command a line is read and the flag is reset
-  pub begins_again : Flow drop_lines_with_x (edge 1 true 0 false Consume)
+  pub test_taken : Flow (delete_matches one_x) (edge 2 true true 0 false true Keep)
+  pub test_passed : Flow (delete_matches one_x) (edge 2 false true 3 false true Keep)
+  pub test_resets : ¬ Flow (delete_matches one_x) (edge 2 true true 0 true true Keep)
+  -- `D` with the flag kept or reset, and passed by with the flag alone; on the last line it reads no other one
+  pub drops_kept : Flow drop_lines_with_x (edge 0 true false 0 true false Shorten)
+  pub drops_reset : Flow drop_lines_with_x (edge 0 true false 0 false false Shorten)
+  pub drops_all : Flow drop_lines_with_x (edge 0 true false 0 false true Consume)
+  pub drops_last : ¬ Flow drop_lines_with_x (edge 0 true true 0 false true Consume)
+  pub passed_by : Flow drop_lines_with_x (edge 0 true false 1 true false Keep)
+  pub not_passed_by : ¬ Flow drop_lines_with_x (edge 0 true false 1 false false Keep)
+  -- behind the last command a line is read and the flag is reset, where a line is left
+  pub begins_again : Flow drop_lines_with_x (edge 1 true false 0 false true Consume)
+  pub ends : ¬ Flow drop_lines_with_x (edge 1 true true 0 false true Consume)
+  -- `$!N` reads a line where one is left, which may be the last, and is passed by where none is
+  pub appends : Flow append_unless_last (edge 0 false false 1 false false Consume)
+  pub appends_last : Flow append_unless_last (edge 0 false false 1 false true Consume)
+  pub always_appends : ¬ Flow append_unless_last (edge 0 false false 1 false false Keep)
+  pub passed_on_last : Flow append_unless_last (edge 0 false true 1 false true Keep)
+  pub never_appends : ¬ Flow append_unless_last (edge 0 false true 1 false true Consume)
   -- `z` is as long as `c`, so an empty expression that may be `c` keeps the length and doesn't shorten it
-  pub previous_keeps : Flow replace_previous (edge 0 false 1 true Keep)
-  pub previous_not_shortens : ¬ Flow replace_previous (edge 0 false 1 true Shorten)
+  pub previous_keeps : Flow replace_previous (edge 0 false false 1 true false Keep)
+  pub previous_not_shortens : ¬ Flow replace_previous (edge 0 false false 1 true false Shorten)
   -- `\1` in the place of `a\(b\)c` shortens; two dashes are as long as its rest; a group named twice may lengthen
-  pub group_shortens : Flow (replace_once b_in_group (Reference 1 ∷ [])) (edge 0 false 1 true Shorten)
-  pub group_keeps : Flow (replace_once b_in_group group_in_dashes) (edge 0 false 1 true Keep)
-  pub group_twice_grows : Flow (replace_once x_in_group (Reference 1 ∷ Reference 1 ∷ [])) (edge 0 false 1 true Grow)
+  pub group_shortens : Flow (replace_once b_in_group (Reference 1 ∷ [])) (edge 0 false false 1 true false Shorten)
+  pub group_keeps : Flow (replace_once b_in_group group_in_dashes) (edge 0 false false 1 true false Keep)
+  pub group_twice_grows : Flow (replace_once x_in_group (Reference 1 ∷ Reference 1 ∷ [])) (edge 0 false false 1 true false Grow)
   -- `&` alone keeps the length, and two of them may lengthen
-  pub whole_keeps : Flow (replace_once one_x (Whole ∷ [])) (edge 0 false 1 true Keep)
-  pub whole_twice_grows : Flow (replace_once one_x (Whole ∷ Whole ∷ [])) (edge 0 false 1 true Grow)
+  pub whole_keeps : Flow (replace_once one_x (Whole ∷ [])) (edge 0 false false 1 true false Keep)
+  pub whole_twice_grows : Flow (replace_once one_x (Whole ∷ Whole ∷ [])) (edge 0 false false 1 true false Grow)
   -- on the last line `$!N` is passed by, and on another it isn't
   pub last_line : Step append_unless_last (At (machine [])) Silent (At (record (machine []) { at = 1 }))
   pub not_applied : ¬ Step append_unless_last (At (machine [])) Silent Done

@@ -14,10 +14,10 @@ pub mod Run
 pub mod Nodes
 pub mod Flow
 pub mod LiteralKinds
+pub mod VersionOne
 pub mod EdgeList
 pub mod Least
 pub mod Spaces
 pub mod Words
-pub mod VersionOne
 pub mod Examples
 pub mod Laws

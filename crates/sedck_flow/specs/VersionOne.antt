@@ -5,6 +5,8 @@ use Rattle.std.specs.Prelude.{◌≡◌, ◌⊎◌, ℕ, suc, ◌+◌, ◌*◌, 
 use Rattle.sedck_script.specs.Program.{Address, Two, Substitution, Verb, Block, Branch, Change, Delete, DeleteFirstLine, Exchange, Get, GetAppend, Next, NextAppend, Quit, Substitute, Test, Command, Program}
 use Rattle.sedck_flow.specs.Run.{is_conditional, KeptOrReset}
 use Rattle.sedck_flow.specs.Words.{flag_text}
+use Rattle.sedck_flow.specs.declared.graph.Node.{Node}
+use Rattle.sedck_flow.specs.declared.graph.Edge.{Edge}
 use Rattle.sedck_flow.specs.declared.graph.Kind.{Kind}
 use Rattle.sedck_flow.specs.declared.graph.Kind.TheVariants.{Consume, Shorten, Keep, Grow}
 
@@ -17,6 +19,13 @@ pub record EdgeOne : Type 0 where
   pub from : NodeOne
   pub to : NodeOne
   pub kind : Kind
+
+-- a node and an edge of the flow graph, without what they say of the last line
+abbrev pub plain_node : Node → NodeOne
+plain_node n = record { at = n.at; flag = n.flag }
+
+abbrev pub plain_edge : Edge → EdgeOne
+plain_edge e = record { from = plain_node e.from; to = plain_node e.to; kind = e.kind }
 
 -- ---- Nodes
 

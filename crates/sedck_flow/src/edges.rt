@@ -1,35 +1,36 @@
 //! The edges that leave one node, one after another.
 
-ghost use Rattle.std.specs.Prelude.{◌≡◌, ◌<◌, ◌≤◌, length};
+ghost use Rattle.std.specs.Prelude.{◌≡◌, ◌↔◌, ◌<◌, ◌≤◌, length, IsTrue};
 ghost use Rattle.sedck_script.specs.Invariant.{IsTargetWithin, IsReplacement};
-ghost use Rattle.sedck_script.specs.View.{command_of, verb_of};
-ghost use Rattle.sedck_flow.specs.Run.{is_conditional as is_conditional_command};
-ghost use Rattle.sedck_flow.specs.Flow.{node_past as node_past_verb, CommandEdge, ListsEdges, FlowFrom};
+ghost use Rattle.sedck_script.specs.View.{address_of, command_of, verb_of};
+ghost use Rattle.sedck_flow.specs.Flow.{node_past as node_past_verb, MayApplyAt, MayPassByAt, VerbEdge, CommandEdge, ListsEdges, FlowFrom};
 ghost use Rattle.sedck_flow.specs.EdgeList.{ListsTargets};
 ghost use Rattle.sedck_flow.specs.Least.{HasFormed};
 
-use crate::edge_list::EdgeList;
+use crate::edge_list::{EdgeList, edge_at};
 use crate::graph::{Edge, Kind, Node};
-use crate::verbs::{single, verb_edges};
-use sedck_script::{Address, Command, Script, Verb};
+use crate::verbs::{reading_line, verb_edges};
+use sedck_script::{Address, Command, Place, Script, Verb};
 use std::marker::{Model, PhantomData};
 
 /// The edges that leave one node, over the borrowed script. It takes no memory.
 #[derive(Drop)]
 pub struct Edges<'s, 'a> {
+    from: Node,
     list: EdgeList,
     next: usize,
     script: PhantomData<&'s Script<'a>>,
 }
 
 impl<'s, 'a> Model for Edges<'s, 'a> {
-    ghost use Rattle.std.specs.Prelude.{List, drop, length, ◌≤◌};
+    ghost use Rattle.std.specs.Prelude.{List, drop, length, map, ◌≤◌};
     ghost use Rattle.sedck_flow.specs.declared.graph.Edge.{Edge};
+    ghost use Rattle.sedck_flow.specs.EdgeList.{edge_at};
 
     /// The edges that are still to come.
     ghost Value = { List Edge };
 
-    ghost view = { λ a. drop a.next a.list };
+    ghost view = { λ a. map (edge_at a.from) (drop a.next a.list) };
 
     ghost invariant = { λ a. a.next ≤ length a.list };
 }
@@ -47,57 +48,81 @@ impl<'s, 'a> Iterator for Edges<'s, 'a> {
         if self.next == self.list.len() {
             return None;
         }
-        let edge = self.list.get(self.next);
+        let number = self.list.get(self.next);
         self.next += 1;
-        Some(edge)
+        Some(edge_at(self.from, number))
     }
 }
 
-/// The edges that leave the node, by the node that they lead to and then by their kind. The time is
-/// constant but for a substitution, whose parts are scanned once.
+/// The edges that leave the node, by the node that they lead to and then by their kind. The time is constant.
 pub fn edges_of<'s, 'a>(script: &'s Script<'a>, node: Node) -> Edges<'s, 'a>
     requires inside { node.at ≤ length script.now.commands }
     ensures edges { ListsEdges result (FlowFrom script.now node) }
-    ensures few { length result ≤ 4 }
+    ensures few { length result ≤ 5 }
 {
     let list = match script.commands().get(usize::from(node.at)) {
         Some(command) => command_edges(script, command, node),
-        None => single(node, Kind::Consume, Node::START),
+        None => reading_line(node, Node::start(node.last)),
     };
     Edges {
+        from: node,
         list,
         next: 0,
         script: PhantomData,
     }
 }
 
-/// The edges from a command's node: those of its verb, and one by which it may be passed.
+/// The edges from a command's node: those of its verb, where it may be applied, and one by which it may be passed.
 fn command_edges(script: &Script, command: &Command, from: Node) -> EdgeList
     requires place { from.at < 4095 }
     requires target { IsTargetWithin 4095 (verb_of command.now.verb) }
     requires formed { HasFormed (verb_of command.now.verb) }
     requires replacement { IsReplacement (verb_of command.now.verb) }
-    ensures edges { ListsTargets result from (CommandEdge script.now (command_of command.now) from) }
-    ensures few { length result ≤ 4 }
+    ensures edges { ListsTargets result (CommandEdge script.now (command_of command.now) from) }
+    ensures few { length result ≤ 5 }
 {
-    let applied = verb_edges(script, command, from);
-    if is_conditional(command) {
-        return applied.with(from, Kind::Keep, node_past(&command.verb, from));
+    let applied = applied_edges(script, command, from);
+    if may_pass_by(command, from) {
+        return applied.with(Kind::Keep, node_past(&command.verb, from));
     }
     applied
 }
 
-/// Whether the command may be passed by, since it has an address or `!`.
-fn is_conditional(command: &Command) -> bool
-    ensures { result ≡ is_conditional_command (command_of command.now) }
+/// The edges of the command's verb, where it may be applied.
+fn applied_edges(script: &Script, command: &Command, from: Node) -> EdgeList
+    requires place { from.at < 4095 }
+    requires target { IsTargetWithin 4095 (verb_of command.now.verb) }
+    requires formed { HasFormed (verb_of command.now.verb) }
+    requires replacement { IsReplacement (verb_of command.now.verb) }
+    ensures edges { ListsTargets result (λ kind to. MayApplyAt (command_of command.now) from
+        × VerbEdge script.now (address_of command.now.address) (verb_of command.now.verb) from kind to) }
+    ensures few { length result ≤ 4 }
 {
-    if command.negated {
-        return true;
+    if !may_apply(command, from) {
+        return EdgeList::new();
     }
+    verb_edges(script, command, from)
+}
+
+/// Whether the command may be applied at the node: where `$` selects it, only on the last line, and with `!` only before it.
+fn may_apply(command: &Command, node: Node) -> bool
+    ensures { IsTrue result ↔ MayApplyAt (command_of command.now) node }
+{
     match &command.address {
-        Address::None => false,
-        Address::One(_) => true,
-        Address::Two(_, _) => true,
+        Address::One(Place::Last) => node.last != command.negated,
+        _ => true,
+    }
+}
+
+/// Whether the command may be passed by at the node, since it has an address or `!`; where `$` selects it, only before the
+/// last line, and with `!` only on it.
+fn may_pass_by(command: &Command, node: Node) -> bool
+    ensures { IsTrue result ↔ MayPassByAt (command_of command.now) node }
+{
+    match &command.address {
+        Address::None => command.negated,
+        Address::One(Place::Last) => node.last == command.negated,
+        Address::One(_) | Address::Two(_, _) => true,
     }
 }
 

@@ -1,6 +1,6 @@
 //! What is proved of runs and the flow graph alone. The functions do nothing: their contracts are the laws.
 
-ghost use Rattle.sedck_flow.specs.Laws.{NodesAreNumbered, StepsFollowEdges, KindsAgree, LiteralKindsStay, EdgesStayInside, RunsGoOn, FilesAreNamed};
+ghost use Rattle.sedck_flow.specs.Laws.{NodesAreNumbered, StepsFollowEdges, KindsAgree, LiteralKindsStay, EdgesWereThere, EdgesStayInside, RunsGoOn, FilesAreNamed};
 ghost use Rattle.sedck_flow.specs.Examples.{ExamplesHold};
 
 /// The index of a node tells its place in the order of nodes, and each number is the index of one node.
@@ -22,6 +22,11 @@ pub fn kinds_agree()
 /// A substitution whose replacement is literal has the kind that it has by its literal parts alone.
 pub fn literal_kinds_stay()
     ensures { LiteralKindsStay }
+{}
+
+/// Each edge is, without what its nodes say of the last line, one of the flow graph whose nodes don't know it.
+pub fn edges_were_there()
+    ensures { EdgesWereThere }
 {}
 
 /// An edge leads from a command, or from the script's end, to another.

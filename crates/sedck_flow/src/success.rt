@@ -1,7 +1,7 @@
 //! The kind of the edge along which a command substitutes.
 
 ghost use Rattle.std.specs.Prelude.{◌≡◌, ◌↔◌, ◌≤◌, IsTrue, MatchOption, map};
-ghost use Rattle.sedck_script.specs.Program.{part_length as length_of_part, literal_length as length_of_parts};
+ghost use Rattle.sedck_script.specs.Program.{literal_length};
 ghost use Rattle.sedck_script.specs.References.{KeepsGroups};
 ghost use Rattle.sedck_script.specs.View.{part_of, substitution_of};
 ghost use Rattle.sedck_flow.specs.Flow.{IsWholeAlone, HasKind};
@@ -15,29 +15,6 @@ fn is_whole_alone(parts: &[Part]) -> bool
     ensures { IsTrue result ↔ IsWholeAlone (map part_of parts.now) }
 {
     matches!(parts, [Part::Whole])
-}
-
-/// The bytes that a part puts in by itself.
-fn part_length(part: &Part) -> usize
-    ensures { result ≡ length_of_part (part_of part.now) }
-{
-    match part {
-        Part::Text(bytes) => bytes.len(),
-        Part::Newline | Part::Tab => 1,
-        Part::Whole | Part::Group(_) => 0,
-    }
-}
-
-/// The length of the literal parts of a replacement.
-fn literal_length(parts: &[Part]) -> usize
-    requires { length_of_parts (map part_of parts.now) ≤ 1048576 }
-    ensures { result ≡ length_of_parts (map part_of parts.now) }
-{
-    let mut length = 0;
-    for part in parts {
-        length += part_length(part);
-    }
-    length
 }
 
 /// The least rest of a match, or the cap where that is above it; nothing where the replacement doesn't keep groups.
@@ -55,11 +32,11 @@ fn least_rest(script: &Script, substitution: &Substitution) -> Option<u32>
     }
 }
 
-/// The kind of the edge along which the command substitutes. The parts of its replacement are scanned
-/// once, so the time is linear in their number; nothing else depends on the script's size.
+/// The kind of the edge along which the command substitutes. A script and its substitutions know all that is asked, so
+/// that the time is constant.
 pub(crate) fn success_kind(script: &Script, substitution: &Substitution) -> Kind
     requires formed { IsFormed (substitution_of substitution.now).pattern }
-    requires replacement { length_of_parts (substitution_of substitution.now).parts ≤ 1048576 }
+    requires replacement { literal_length (substitution_of substitution.now).parts ≤ 1048576 }
     ensures { HasKind script.now (substitution_of substitution.now) result }
 {
     if is_whole_alone(&substitution.parts) {
@@ -69,7 +46,7 @@ pub(crate) fn success_kind(script: &Script, substitution: &Substitution) -> Kind
         return Kind::Grow;
     };
     let rest = rest as usize;
-    let length = literal_length(&substitution.parts);
+    let length = substitution.literal;
     if length < rest {
         return Kind::Shorten;
     }

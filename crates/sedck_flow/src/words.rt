@@ -11,7 +11,8 @@ impl fmt::Display for Node {
 
     fn fmt<W: fmt::Write>(&self, f: &mut fmt::Formatter<W>) -> fmt::Result {
         let flag = if self.flag { "1" } else { "0" };
-        write!(f, "{} {flag}", self.at)
+        let last = if self.last { "1" } else { "0" };
+        write!(f, "{} {flag} {last}", self.at)
     }
 }
 

@@ -36,5 +36,6 @@ pub mod Bounds
 pub mod SpelledScript
 pub mod ShortestLemmas
 pub mod ReferenceLemmas
+pub mod LiteralLengths
 pub mod PlaceLemmas
 pub mod PlacesWithin

@@ -1,8 +1,9 @@
-//! The groups that a replacement keeps of a match, and the least length outside of them.
+//! The groups that a replacement keeps of a match, the least length outside of them, and the length of its literal parts.
 
-ghost use Rattle.std.specs.Prelude.{◌≡◌, ◌≤◌, map, Some, All};
+ghost use Rattle.std.specs.Prelude.{◌≡◌, ◌≤◌, ◌<◌, ◌^◌, map, Some, All};
 ghost use Rattle.sedck_script.specs.Invariant.{IsPart};
 ghost use Rattle.sedck_script.specs.References.{IsOutside};
+ghost use Rattle.sedck_script.specs.Program.{part_length as length_of_part, literal_length as length_of_parts};
 ghost use Rattle.sedck_script.specs.Keeping.{may_keep, kept_with, kept_from};
 ghost use Rattle.sedck_script.specs.View.{pattern_of, part_of};
 
@@ -61,4 +62,27 @@ pub(crate) fn outside_of(pattern: &Pattern, parts: &[Part]) -> Option<u32>
         Pattern::Previous => Some(0),
         Pattern::Expr(expression) => Some(expression.least_outside(groups)),
     }
+}
+
+/// The bytes that a part puts in by itself.
+fn part_length(part: &Part) -> usize
+    ensures { result ≡ length_of_part (part_of part.now) }
+{
+    match part {
+        Part::Text(bytes) => bytes.len(),
+        Part::Newline | Part::Tab => 1,
+        Part::Whole | Part::Group(_) => 0,
+    }
+}
+
+/// The length of the literal parts of a replacement.
+pub(crate) fn literal_length(parts: &[Part]) -> usize
+    requires { length_of_parts (map part_of parts.now) < 2 ^ 64 }
+    ensures { result ≡ length_of_parts (map part_of parts.now) }
+{
+    let mut length = 0;
+    for part in parts {
+        length += part_length(part);
+    }
+    length
 }

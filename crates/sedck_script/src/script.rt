@@ -1,7 +1,7 @@
 //! A script, borrowed from its text.
 
 ghost use Rattle.std.specs.Prelude.{◌≡◌, map};
-ghost use Rattle.sedck_script.specs.Program.{Program};
+ghost use Rattle.sedck_script.specs.Program.{Program, literal_length};
 ghost use Rattle.sedck_script.specs.ReplacementView.{pattern_of, part_of};
 ghost use Rattle.sedck_script.specs.References.{IsOutside};
 
@@ -50,6 +50,9 @@ pub struct Substitution<'a> {
     /// `&` and they are different items of the expression. An empty expression has no length here.
     pub outside: Option<u32>,
     pub ghost is_outside: { ∥ IsOutside (pattern_of pattern) (map part_of parts.items) outside ∥₁ },
+    /// The bytes of the replacement's literal parts.
+    pub literal: usize,
+    pub ghost is_literal: { literal ≡ literal_length (map part_of parts.items) },
 }
 
 #[derive(Drop)]

@@ -15,7 +15,7 @@ use crate::delimited::{delimited_list, pattern};
 use crate::ends::end_of_command;
 use crate::fault::ScriptFault;
 use crate::flags::flags;
-use crate::references::outside_of;
+use crate::references::{literal_length, outside_of};
 use crate::replacements::{greatest_group, replacement};
 use crate::script::{Substitution, Verb};
 use std::alloc::Global;
@@ -57,6 +57,7 @@ pub fn substitution<'a>(
     let (parts, after) = replacement(alloc, whole, place, delimiter, greatest, behind)?;
     let (seen, file, rest) = flags(whole, after)?;
     let outside = outside_of(&pattern, &parts);
+    let literal = literal_length(&parts);
     let substitution = Substitution {
         pattern,
         parts,
@@ -65,6 +66,7 @@ pub fn substitution<'a>(
         nth: seen.nth,
         file,
         outside,
+        literal,
     };
     Ok((Verb::Substitute(substitution), rest))
 }

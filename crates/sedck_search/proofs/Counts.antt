@@ -75,7 +75,7 @@ module _ (p : Program) (along : Along) where
 
   -- one node more is counted
   pub counted_set : (counts : List ℕ) → ArePartlyCounted p along counts → (n : Node) → n.at ≤ length p.commands → (count : ℕ)
-      → IsReachCount p along n count → 0 < count → count ≤ 8192 → slice_get counts (node_index n) ≡ Some 65535
+      → IsReachCount p along n count → 0 < count → count ≤ 16384 → slice_get counts (node_index n) ≡ Some 65535
       → ArePartlyCounted p along (set counts (node_index n) count)
   counted_set counts partly n inside count is_count positive within marked = record {
     long = length-set counts (node_index n) count ∙ partly.long;
@@ -112,7 +112,7 @@ module _ (p : Program) (along : Along) where
   -- ---- A node with one target
 
   -- where a closed row has the only target and not the node, the node reaches itself and what its target reaches
-  pub single_count : (row : List ℕ) → IsClosed p along row → (n m : Node) → IsIn row m → has row (node_index n) ≡ false → node_index n < 8192
+  pub single_count : (row : List ℕ) → IsClosed p along row → (n m : Node) → IsIn row m → has row (node_index n) ≡ false → node_index n < 16384
       → Reaches p along n m
       → ((e : Edge) → FollowedEdge p along e → e.from ≡ n → e.to ≡ m) → (count : ℕ) → IsReachCount p along m count → IsReachCount p along n (suc count)
   single_count row closed n m has_m no_n below on only count x = record {
@@ -150,7 +150,7 @@ module _ (p : Program) (along : Along) where
           changed_keeps x.row more n changed k ((x.reach.same k).1 (path, subst (λ j. IsPath p j path k) to is.1, followed.1))
 
   -- a closed row, with one node more whose edges lead into it, is closed
-  pub closed_beside : (row : List ℕ) (count : ℕ) → IsLast p along row count → (m : Node) → node_index m < 8192
+  pub closed_beside : (row : List ℕ) (count : ℕ) → IsLast p along row count → (m : Node) → node_index m < 16384
       → ((e : Edge) → FollowedEdge p along e → e.from ≡ m → IsIn row e.to) → IsClosedBeside p along row m
   closed_beside row count last m below leads =
       let changed = inserted row (node_index m) below last.is_row in

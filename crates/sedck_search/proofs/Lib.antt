@@ -12,3 +12,4 @@ pub mod Walks
 pub mod Loops
 pub mod Ranks
 pub mod RuledOut
+mod PlainWalks

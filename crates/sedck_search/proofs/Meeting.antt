@@ -193,7 +193,7 @@ module _ (p : Program) (along : Along) (n : Node) (before : List ℕ) where
     }
 
     -- the rows have less room
-    pub spreading_shrinks : IsRow waiting' → bit_count waiting'' + 2 * (8192 - bit_count row'') < bit_count waiting + 2 * (8192 - bit_count row)
+    pub spreading_shrinks : IsRow waiting' → bit_count waiting'' + 2 * (16384 - bit_count row'') < bit_count waiting + 2 * (16384 - bit_count row)
     spreading_shrinks is_waiting' =
         omega (
           arith,

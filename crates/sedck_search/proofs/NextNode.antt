@@ -37,7 +37,7 @@ positive zero h = absurd (h refl)
 positive (suc m) h = omega arith
 
 -- the place of the word's lowest bit
-next_at : (words : List ℕ) (from j word : ℕ) → IsFirstWord words from j word → j < 128 → (low : ℕ) → low < 64 → bit_at word low ≡ 1
+next_at : (words : List ℕ) (from j word : ℕ) → IsFirstWord words from j word → j < 256 → (low : ℕ) → low < 64 → bit_at word low ≡ 1
     → ((k : ℕ) → k < low → bit_at word k ≡ 0) → IsNext words from (64 * j + low)
 next_at words from j word first inside low within some none = (
   above,
@@ -52,7 +52,7 @@ next_at words from j word first inside low within some none = (
       | inr more ↦ more
     ]
 
-next_in_word : (words : List ℕ) (from j word : ℕ) → IsFirstWord words from j word → j < 128 → word < 2 ^ 64 → word ≢ 0
+next_in_word : (words : List ℕ) (from j word : ℕ) → IsFirstWord words from j word → j < 256 → word < 2 ^ 64 → word ≢ 0
     → IsNext words from (64 * j + trailing_zeros w64 word)
 next_in_word words from j word first inside small some =
     let lowest = bit_at-trailing_zeros w64 word (positive word some) small in
@@ -84,7 +84,7 @@ first_word words from =
       none = λ i above below. absurd (omega (arith, above, below));
     }
 
-pub first_next : (words row : List ℕ) (from : ℕ) → words ≡ row → IsRow words → from / 64 < 128 → from_bit (slice_index words (from / 64)) (from % 64) ≢ 0
+pub first_next : (words row : List ℕ) (from : ℕ) → words ≡ row → IsRow words → from / 64 < 256 → from_bit (slice_index words (from / 64)) (from % 64) ≢ 0
     → IsNext row from (64 * (from / 64) + trailing_zeros w64 (from_bit (slice_index words (from / 64)) (from % 64)))
 first_next words row from is good inside some =
     let less = and_le_l (slice_index words (from / 64)) ((2 ^ 64 - 1) * 2 ^ (from % 64) % 2 ^ 64) in
@@ -108,7 +108,7 @@ later_word words row from j is behind none = record {
   none = λ i above below. ap (λ r. has r i) is ∙ none i above below;
 }
 
-pub later_next : (words row : List ℕ) (from j : ℕ) → words ≡ row → IsRow words → j < 128 → from / 64 + 1 ≤ j
+pub later_next : (words row : List ℕ) (from j : ℕ) → words ≡ row → IsRow words → j < 256 → from / 64 + 1 ≤ j
     → ((i : ℕ) → from ≤ i → i < 64 * j → has row i ≡ false) → slice_index words j ≢ 0
     → IsNext row from (64 * j + trailing_zeros w64 (slice_index words j))
 later_next words row from j is good inside behind none some =
@@ -122,5 +122,5 @@ later_none words row from j is behind none zeroes i above below =
     ap (λ r. has r i) (sym is) ∙ none_in_word words from j (slice_index words j) (later_word words row from j is behind none) zeroes i above below
 
 -- no node lies behind the last word
-pub last_none : (words row : List ℕ) → words ≡ row → IsRow words → (i : ℕ) → 128 ≤ i / 64 → has row i ≡ false
+pub last_none : (words row : List ℕ) → words ≡ row → IsRow words → (i : ℕ) → 256 ≤ i / 64 → has row i ≡ false
 last_none words row is good i behind = ap (λ r. has r i) (sym is) ∙ none_behind words i (omega (arith, behind, good.long))

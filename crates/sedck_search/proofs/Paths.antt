@@ -17,7 +17,7 @@ use Rattle.sedck_search.specs.declared.along.Along.TheVariants.{Every}
 -- ---- Nodes and their places among all nodes
 
 -- the nodes of a script have a place in each row
-pub index_below : (p : Program) → IsScript p → (n : Node) → n.at ≤ length p.commands → node_index n < 8192
+pub index_below : (p : Program) → IsScript p → (n : Node) → n.at ≤ length p.commands → node_index n < 16384
 index_below p script n h = omega (arith, script.count, nodes.index_below n (length p.commands) h)
 
 -- ---- Paths

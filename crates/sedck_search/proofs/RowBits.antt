@@ -1,5 +1,6 @@
 -- A node of a row as a bit of a word.
 use Rattle.std.proofs.Common.{◌≡◌, ◌≢◌, ℕ, zero, suc, ◌+◌, ◌-◌, ◌*◌, ◌/◌, ◌%◌, ◌^◌, ◌<◌, ◌≤◌, Bool, true, false, cond, List, length, set, replicate, inl, inr, refl, sym, ap, ◌∙◌, arith, get_or-set_other, get_or-set_same, length-set}
+use lib.Count.{ones}
 use Rattle.std.specs.Prelude.{slice_index, bit_and, bit_or, ◌==◌}
 use Rattle.std.specs.Int.{bit_at, w64}
 use Rattle.std.proofs.lemmas.Bool.{cases_eq}
@@ -7,7 +8,7 @@ use Rattle.std.proofs.lemmas.Nat.Bits.{bit_at-lt, bit_at-zero, bit_at_set_same, 
 use Rattle.std.proofs.lemmas.Nat.{or_lt, and_le_l}
 use Rattle.std.proofs.lemmas.List.{get_or_past}
 use Rattle.std.proofs.lemmas.List.Elements.{All-get_or, All-set, All-replicate}
-use Rattle.sedck_search.specs.Rows.{has, IsRow, IsEmpty, HasChanged}
+use Rattle.sedck_search.specs.Rows.{has, bit_count, IsRow, IsEmpty, HasChanged}
 
 abbrev pub bit_of : Bool → ℕ
 bit_of b = cond b 1 0
@@ -78,20 +79,20 @@ changed_word words node word now inside bit kept = record {
         ap (λ j. bit_at (slice_index after j) (i % 64)) same ∙ ap (λ m. bit_at m (i % 64)) (get_or-set_same words (node / 64) word 0 inside)
         ∙ kept (i % 64) low (λ e. other (same_place i node same e)) ∙ ap (λ j. bit_at (slice_index words j) (i % 64)) (sym same) ∙ at_node words i
 
-pub word_below : (words : List ℕ) → IsRow words → (j : ℕ) → j < 128 → slice_index words j < 2 ^ 64
+pub word_below : (words : List ℕ) → IsRow words → (j : ℕ) → j < 256 → slice_index words j < 2 ^ 64
 word_below words row j l = All-get_or (λ w. w < 2 ^ 64) words j 0 (omega (arith, l, row.long)) row.small
 
 -- the node's word with its bit set
 abbrev pub with_bit : List ℕ → ℕ → ℕ
 with_bit words node = bit_or (slice_index words (node / 64)) (1 * 2 ^ (node % 64) % 2 ^ 64)
 
-pub inserted_row : (words : List ℕ) (node : ℕ) → node < 8192 → IsRow words → IsRow (set words (node / 64) (with_bit words node))
+pub inserted_row : (words : List ℕ) (node : ℕ) → node < 16384 → IsRow words → IsRow (set words (node / 64) (with_bit words node))
 inserted_row words node l row =
     let bit : 1 * 2 ^ (node % 64) % 2 ^ 64 < 2 ^ 64 = omega arith in
     changed_row words (node / 64) (with_bit words node)
     (or_lt 64 (slice_index words (node / 64)) (1 * 2 ^ (node % 64) % 2 ^ 64) (word_below words row (node / 64) (omega arith)) bit) row
 
-pub inserted : (words : List ℕ) (node : ℕ) → node < 8192 → IsRow words → HasChanged words (set words (node / 64) (with_bit words node)) node true
+pub inserted : (words : List ℕ) (node : ℕ) → node < 16384 → IsRow words → HasChanged words (set words (node / 64) (with_bit words node)) node true
 inserted words node l row =
     let low : node % 64 < 64 = omega arith in
     changed_word words node (with_bit words node) true (omega (arith, row.long)) (bit_at_set_same w64 (slice_index words (node / 64)) (node % 64) low)
@@ -101,13 +102,13 @@ inserted words node l row =
 abbrev pub without_bit : List ℕ → ℕ → ℕ
 without_bit words node = bit_and (slice_index words (node / 64)) (2 ^ 64 - 1 - 1 * 2 ^ (node % 64) % 2 ^ 64)
 
-pub removed_row : (words : List ℕ) (node : ℕ) → node < 8192 → IsRow words → IsRow (set words (node / 64) (without_bit words node))
+pub removed_row : (words : List ℕ) (node : ℕ) → node < 16384 → IsRow words → IsRow (set words (node / 64) (without_bit words node))
 removed_row words node l row =
     let most = and_le_l (slice_index words (node / 64)) (2 ^ 64 - 1 - 1 * 2 ^ (node % 64) % 2 ^ 64) in
     let below = word_below words row (node / 64) (omega arith) in
     changed_row words (node / 64) (without_bit words node) (omega (arith, most, below)) row
 
-pub removed : (words : List ℕ) (node : ℕ) → node < 8192 → IsRow words → HasChanged words (set words (node / 64) (without_bit words node)) node false
+pub removed : (words : List ℕ) (node : ℕ) → node < 16384 → IsRow words → HasChanged words (set words (node / 64) (without_bit words node)) node false
 removed words node l row =
     let low : node % 64 < 64 = omega arith in
     changed_word words node (without_bit words node) false (omega (arith, row.long)) (bit_at_clear_same w64 (slice_index words (node / 64)) (node % 64) low)
@@ -115,13 +116,17 @@ removed words node l row =
 
 -- ---- No node
 
-pub empty_row : IsRow (replicate 128 0)
-empty_row = record { long = refl; small = All-replicate (λ w. w < 2 ^ 64) 128 0 (omega arith) }
+pub empty_row : IsRow (replicate 256 0)
+empty_row = record { long = refl; small = All-replicate (λ w. w < 2 ^ 64) 256 0 (omega arith) }
 
 zero_at : (n j : ℕ) → slice_index (replicate n 0) j ≡ 0
 zero_at zero j = refl
 zero_at (suc n) zero = refl
 zero_at (suc n) (suc j) = zero_at n j
 
-pub empty_nodes : IsEmpty (replicate 128 0)
-empty_nodes node = has_by_bit (replicate 128 0) node false (ap (λ m. bit_at m (node % 64)) (zero_at 128 (node / 64)) ∙ bit_at-zero (node % 64))
+pub empty_nodes : IsEmpty (replicate 256 0)
+empty_nodes node = has_by_bit (replicate 256 0) node false (ap (λ m. bit_at m (node % 64)) (zero_at 256 (node / 64)) ∙ bit_at-zero (node % 64))
+
+pub empty_count : bit_count (replicate 256 0) ≡ 0
+unfolding ones
+empty_count = refl

@@ -200,7 +200,7 @@ module _ (p : Program) (script : IsScript p) (along : Along) (to : Node) (ways :
       ]
 
   -- and none is longer than the list
-  pub way_below : (n : Node) (way : ℕ) → HasWay ways n way → way < 65535 → way < 8192
+  pub way_below : (n : Node) (way : ℕ) → HasWay ways n way → way < 65535 → way < 16384
   way_below n way has within = omega (arith, longer_than_all way ways (all_below way n has within), h.some.long, script.count)
 
   -- a path to the node gives a way that isn't longer

@@ -56,7 +56,7 @@ pub record HasCount (p : Program) (along : Along) (counts : List ℕ) (n : Node)
   pub count : ℕ
   pub at : slice_get counts (node_index n) ≡ Some count
   pub positive : 0 < count
-  pub within : count ≤ 8192
+  pub within : count ≤ 16384
   pub is_count : IsReachCount p along n count
 
 -- a node that no path from the first one leads to has no count

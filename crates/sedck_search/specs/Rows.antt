@@ -13,9 +13,9 @@ bit_count (word ∷ words) = count_ones word + bit_count words
 unfoldable pub has : List ℕ → ℕ → Bool
 has words node = bit_at (slice_index words (node / 64)) (node % 64) == 1
 
--- a row of 8,192 nodes: 128 words of 64 bits
+-- a row of 16,384 nodes: 256 words of 64 bits
 pub record IsRow (words : List ℕ) : Type 0 where
-  pub long : length words ≡ 128
+  pub long : length words ≡ 256
   pub small : All (λ word. word < 2 ^ 64) words
 
 -- the row has no node
@@ -33,4 +33,4 @@ HasNoneFrom words from = (i : ℕ) → from ≤ i → has words i ≡ false
 
 -- the first node of the row from this one on
 abbrev pub IsNext : List ℕ → ℕ → ℕ → Type 0
-IsNext words from next = (from ≤ next) × (next < 8192) × (has words next ≡ true) × ((k : ℕ) → from ≤ k → k < next → has words k ≡ false)
+IsNext words from next = (from ≤ next) × (next < 16384) × (has words next ≡ true) × ((k : ℕ) → from ≤ k → k < next → has words k ≡ false)

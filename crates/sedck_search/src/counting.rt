@@ -249,7 +249,7 @@ fn count_node(script: &Script, along: Along, node: Node, counts: &[u16], last: &
     ensures last { IsLast script.now along last.new.row last.new.count }
     ensures count { IsReachCount script.now along node result }
     ensures positive { 0 < result }
-    ensures within { result ≤ 8192 }
+    ensures within { result ≤ 16384 }
 {
     if !goes_on(script, along, node, counts, last) {
         if let Some(count) = count_by_target(script, along, node, counts, last) {
@@ -278,7 +278,7 @@ fn count_by_target(
     requires inside { node.at ≤ length script.now.commands }
     requires counted { ArePartlyCounted script.now along counts.now }
     requires last { IsLast script.now along last.now.row last.now.count }
-    ensures { IfSome result (λ count. IsReachCount script.now along node count × (0 < count) × (count ≤ 8192)) }
+    ensures { IfSome result (λ count. IsReachCount script.now along node count × (0 < count) × (count ≤ 16384)) }
 {
     let to = only_target(script, along, node)?;
     if to == node.index() || last.row.has(node.index()) || !leads_into(script, along, to, last) {

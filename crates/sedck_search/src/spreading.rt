@@ -57,7 +57,7 @@ fn look_around(
 
 /// Puts the node into the row and lets it wait, if it isn't there. It answers where the first waiting node may be.
 fn meet(node: Node, row: &mut Row, waiting: &mut Row, first: usize) -> usize
-    requires inside { node_index node < 8192 }
+    requires inside { node_index node < 16384 }
     requires frontier { IsFrontier row.old waiting.old }
     ensures frontier { IsFrontier row.new waiting.new }
     ensures spread { HasMet (λ n. n ≡ node) row.old waiting.old row.new waiting.new first result }

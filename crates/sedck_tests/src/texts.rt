@@ -45,7 +45,10 @@ pub fn script_of<'a>(rt: &impl Abort, alloc: Global, text: &'a [u8]) -> Script<'
 pub enum Kind {
     Expression,
     Script,
+    /// A certificate of either version.
     Certificate,
+    CertificateOne,
+    CertificateTwo,
 }
 
 /// The number and the place of the fault, or its line in a certificate; zeros for a text that is read.
@@ -59,7 +62,15 @@ pub fn fault_of(alloc: Global, kind: &Kind, text: &[u8]) -> (u8, usize) {
             Ok(_) => return (0, 0),
             Err(fault) => (fault.number(), fault.place()),
         },
-        Kind::Certificate => match sedck_cert::read_cert(alloc, text) {
+        Kind::Certificate => match sedck_cert::read_any(alloc, text) {
+            Ok(_) => return (0, 0),
+            Err(fault) => (fault.number(), fault.line()),
+        },
+        Kind::CertificateOne => match sedck_cert::read_cert_one(alloc, text) {
+            Ok(_) => return (0, 0),
+            Err(fault) => (fault.number(), fault.line()),
+        },
+        Kind::CertificateTwo => match sedck_cert::read_cert(alloc, text) {
             Ok(_) => return (0, 0),
             Err(fault) => (fault.number(), fault.line()),
         },

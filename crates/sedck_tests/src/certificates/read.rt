@@ -43,12 +43,20 @@ pub fn are_names(rt: &impl Abort, names: &[Vec<u8>], wanted: &[&[u8]]) {
 }
 
 /// The ranks of the endless script.
-static RANKS: [Option<(u16, u16)>; 8] = [
+static RANKS: [Option<(u16, u16)>; 16] = [
+    Some((2, 2)),
     Some((2, 2)),
     None,
+    None,
+    Some((1, 1)),
     Some((1, 1)),
     None,
+    None,
     Some((3, 3)),
+    Some((3, 3)),
+    None,
+    None,
+    None,
     None,
     None,
     None,
@@ -71,7 +79,7 @@ fn reads(rt: HostRuntime) {
 }
 
 /// How many bytes the last name has beside its number, and the number and the line of the fault; zeros for none.
-static LONGEST: [(usize, u8, usize); 2] = [(1_007_626, 0, 0), (1_007_627, 4, 16_386)];
+static LONGEST: [(usize, u8, usize); 2] = [(1_007_626, 0, 0), (1_007_627, 4, 24_578)];
 
 /// The longest certificate, with the most nodes, the greatest ranks, and the most names, as long as they may be together.
 #[test]
@@ -79,7 +87,7 @@ fn reads_the_most(rt: HostRuntime) {
     let nodes = numbered(
         &rt,
         rt.alloc(),
-        "@ 0 65535 65535\n@ 1 65535 65535\n",
+        "@ 0 0 65535 65535\n@ 0 1 65535 65535\n@ 1 0 65535 65535\n@ 1 1 65535 65535\n",
         0,
         4096,
     );
@@ -88,12 +96,12 @@ fn reads_the_most(rt: HostRuntime) {
         let tail = repeated(&rt, rt.alloc(), &[(b"n", *length)]);
         let tail = String::from_utf8(tail).expect(&rt, "text");
         let text = format!(in rt.alloc();
-            "sedck 1\ncommands 4095\n{nodes}read 4095\n{names}5094\nwrite 4095\n{names}5094{tail}\nend\n"
+            "sedck 2\ncommands 4095\n{nodes}read 4095\n{names}5094\nwrite 4095\n{names}5094{tail}\nend\n"
         );
         let text = text.expect(&rt, "memory");
         let fault = fault_of(rt.alloc(), &Kind::Certificate, text.as_bytes());
         assert_eq!(rt; fault, (*number, *line));
-        assert_eq!(rt; text.len() == 1_202_051, *number == 0);
+        assert_eq!(rt; text.len() == 1_388_247, *number == 0);
         if *number == 0 {
             read(&rt, rt.alloc(), text.as_bytes());
         }
@@ -135,13 +143,13 @@ fn is_made(rt: &impl Abort, alloc: Global, commands: u16, nodes: u16, names: &[&
 
 /// The number of commands and of nodes, the names to read, and whether there is such a certificate.
 static MADE: [(u16, u16, &'static [&'static [u8]], bool); 7] = [
-    (0, 2, &[], true),
-    (0, 1, &[], false),
-    (1, 2, &[], false),
-    (4096, 8194, &[], false),
-    (0, 2, &[b"a", b"b"], true),
-    (0, 2, &[b"a", b"a"], false),
-    (0, 2, &[b"a\0"], false),
+    (0, 4, &[], true),
+    (0, 2, &[], false),
+    (1, 4, &[], false),
+    (4096, 16388, &[], false),
+    (0, 4, &[b"a", b"b"], true),
+    (0, 4, &[b"a", b"a"], false),
+    (0, 4, &[b"a\0"], false),
 ];
 
 #[test]

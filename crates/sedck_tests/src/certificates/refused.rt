@@ -6,108 +6,137 @@ use std::alloc::Global;
 use std::process::Abort;
 
 /// A part of a text, what stands in its place, and the number and the line of the fault; zeros for none.
-type Row = (&'static [u8], &'static [u8], u8, usize);
+pub type Row = (&'static [u8], &'static [u8], u8, usize);
 
-fn changed_have_faults(rt: &impl Abort, alloc: Global, text: &[u8], rows: &[Row]) {
+/// Whether the changed texts have these faults by the reader of their version, and by the reader of both.
+pub fn changed_have_faults(rt: &impl Abort, alloc: Global, kind: &Kind, text: &[u8], rows: &[Row]) {
     for (old, new, number, line) in rows {
         let text = text.replace(alloc, *old, *new).expect(rt, "memory");
+        let fault = fault_of(alloc, kind, &text);
+        assert_eq!(rt; fault, (*number, *line), "{new:?}");
         let fault = fault_of(alloc, &Kind::Certificate, &text);
         assert_eq!(rt; fault, (*number, *line), "{new:?}");
     }
 }
 
-static CHANGED: [Row; 25] = [
-    (b"0 0 2 2\n0 1 -\n", b"0 1 -\n0 0 2 2\n", 3, 3),
-    (b"sedck 1\n", b"sedck 1\r\n", 1, 1),
-    (b"0 0 2 2\n", b"0 0 02 2\n", 3, 3),
-    (b"0 0 2 2\n", b"0 0 2 02\n", 3, 3),
-    (b"0 0 2 2\n", b"0 0  2 2\n", 3, 3),
-    (b"0 0 2 2\n", b"0 0 2 2 \n", 3, 3),
-    (b"0 0 2 2\n", b"0 0 +2 2\n", 3, 3),
-    (b"0 0 2 2\n", b"0 0 2\n", 3, 3),
-    (b"0 0 2 2\n", b"0 0 2 2 2\n", 3, 3),
-    (b"0 0 2 2\n", b"0 1 2 2\n", 3, 3),
-    (b"0 1 -\n", b"0 1 - 1\n", 3, 4),
-    (b"0 1 -\n", b"0 1\n", 3, 4),
-    (b"1 0 1 1\n", b"01 0 1 1\n", 3, 5),
-    (b"sedck 1\n", b"sedck  1\n", 1, 1),
-    (b"sedck 1\n", b"Sedck 1\n", 1, 1),
+/// The first and the last size that has a fault, its number, and its line.
+pub type Cut = (usize, usize, u8, usize);
+
+/// Whether the fronts of the text have these faults by the reader of their version, and by the reader of both.
+pub fn cut_have_faults(rt: &impl Abort, alloc: Global, kind: &Kind, text: &[u8], rows: &[Cut]) {
+    for (first, last, number, line) in rows {
+        assert!(rt; *last < text.len());
+        for size in *first..*last + 1 {
+            let fault = fault_of(alloc, kind, &text[..size]);
+            assert_eq!(rt; fault, (*number, *line), "cut to {size}");
+            let fault = fault_of(alloc, &Kind::Certificate, &text[..size]);
+            assert_eq!(rt; fault, (*number, *line), "cut to {size}");
+        }
+    }
+}
+
+static CHANGED: [Row; 32] = [
+    (b"0 0 1 2 2\n0 1 0 -\n", b"0 1 0 -\n0 0 1 2 2\n", 3, 4),
+    (b"0 0 0 2 2\n0 0 1 2 2\n", b"0 0 1 2 2\n0 0 0 2 2\n", 3, 3),
+    (b"sedck 2\n", b"sedck 2\r\n", 1, 1),
+    (b"sedck 2\n", b"sedck 3\n", 1, 1),
+    (b"sedck 2\n", b"sedck 02\n", 1, 1),
+    (b"0 0 0 2 2\n", b"0 0 0 02 2\n", 3, 3),
+    (b"0 0 0 2 2\n", b"0 0 0 2 02\n", 3, 3),
+    (b"0 0 0 2 2\n", b"0 0  0 2 2\n", 3, 3),
+    (b"0 0 0 2 2\n", b"0 0 0 2 2 \n", 3, 3),
+    (b"0 0 0 2 2\n", b"0 0 0 +2 2\n", 3, 3),
+    // the last line is missing, as in version 1
+    (b"0 0 0 2 2\n", b"0 0 2 2\n", 3, 3),
+    (b"0 1 0 -\n", b"0 1 -\n", 3, 5),
+    (b"0 0 0 2 2\n", b"0 0 0 2\n", 3, 3),
+    (b"0 0 0 2 2\n", b"0 0 0 2 2 2\n", 3, 3),
+    (b"0 0 0 2 2\n", b"0 1 0 2 2\n", 3, 3),
+    (b"0 0 0 2 2\n", b"0 0 1 2 2\n", 3, 3),
+    (b"0 0 1 2 2\n", b"0 0 2 2 2\n", 3, 4),
+    (b"0 0 1 2 2\n", b"0 0 01 2 2\n", 3, 4),
+    (b"0 1 0 -\n", b"0 1 0 - 1\n", 3, 5),
+    (b"0 1 0 -\n", b"0 1 0\n", 3, 5),
+    (b"1 0 0 1 1\n", b"01 0 0 1 1\n", 3, 7),
+    (b"sedck 2\n", b"sedck  2\n", 1, 1),
+    (b"sedck 2\n", b"Sedck 2\n", 1, 1),
     (b"commands 3\n", b"commands 03\n", 2, 2),
     (b"commands 3\n", b"command 3\n", 2, 2),
-    (b"commands 3\n", b"commands -3\n", 2, 2),
-    (b"read 0\n", b"read 00\n", 4, 11),
-    (b"read 0\n", b"read 1\n", 4, 13),
-    (b"write 0\n", b"write -\n", 4, 12),
-    (b"end\n", b"end \n", 5, 13),
-    (b"end\n", b"end\nend\n", 5, 14),
-    (b"end\n", b"end\n\n", 5, 14),
-    (b"end\n", b"end", 5, 13),
+    (b"read 0\n", b"read 00\n", 4, 19),
+    (b"read 0\n", b"read 1\n", 4, 21),
+    (b"write 0\n", b"write -\n", 4, 20),
+    (b"end\n", b"end \n", 5, 21),
+    (b"end\n", b"end\nend\n", 5, 22),
+    (b"end\n", b"end\n\n", 5, 22),
+    (b"end\n", b"end", 5, 21),
 ];
 
-static CHANGED_NAMES: [Row; 15] = [
-    (b"read 6\n", b"read 06\n", 4, 17),
-    (b"read 6\n", b"read 5\n", 4, 23),
-    (b"read 6\n", b"read -6\n", 4, 17),
-    (b"read 6\n", b"read  6\n", 4, 17),
-    (b"read 6\n", b"read\n", 4, 17),
-    (b"read 6\n", b"reads 6\n", 4, 17),
-    (b"read 6\n", b"read 7\n", 4, 24),
-    (b"\nZ\n", b"\n\n", 4, 18),
-    (b"\nZ\n", b"\nZ\0\n", 4, 18),
-    (b"\nZ\na\n", b"\na\na\n", 4, 19),
-    (b"\nZ\na\n", b"\na\nZ\n", 4, 19),
-    (b"end\n\xe9\n", b"\xe9\nend\n", 4, 23),
-    (b"a b \na;b}\n", b"a;b}\na b \n", 4, 21),
-    (b"write 0\n", b"writes 0\n", 4, 24),
-    (b"write 0\n", b"write 1\n", 5, 26),
+static CHANGED_NAMES: [Row; 9] = [
+    (b"read 6\n", b"read 06\n", 4, 31),
+    (b"read 6\n", b"read 5\n", 4, 37),
+    (b"read 6\n", b"read 7\n", 4, 38),
+    (b"\nZ\n", b"\n\n", 4, 32),
+    (b"\nZ\n", b"\nZ\0\n", 4, 32),
+    (b"\nZ\na\n", b"\na\na\n", 4, 33),
+    (b"end\n\xe9\n", b"\xe9\nend\n", 4, 37),
+    (b"a b \na;b}\n", b"a;b}\na b \n", 4, 35),
+    (b"write 0\n", b"write 1\n", 5, 40),
 ];
 
 /// The certificate of the script without commands.
-const EMPTY: &[u8] = b"sedck 1\ncommands 0\n0 0 1 1\n0 1 -\nread 0\nwrite 0\nend\n";
+const EMPTY: &[u8] =
+    b"sedck 2\ncommands 0\n0 0 0 1 1\n0 0 1 1 1\n0 1 0 -\n0 1 1 -\nread 0\nwrite 0\nend\n";
 
-static NUMBERS: [Row; 13] = [
-    (b"write 0\n", b"write 2\nb\na\n", 4, 8),
-    (b"write 0\n", b"write 2\na\na\n", 4, 8),
+static NUMBERS: [Row; 12] = [
+    (b"write 0\n", b"write 2\nb\na\n", 4, 10),
+    (b"write 0\n", b"write 2\na\na\n", 4, 10),
     // the last line is a name here
-    (b"write 0\n", b"write 2\na\n", 5, 9),
+    (b"write 0\n", b"write 2\na\n", 5, 11),
     (b"commands 0\n", b"commands 4096\n", 2, 2),
-    (b"commands 0\n", b"commands 18446744073709551616\n", 2, 2),
-    (b"commands 0\n", b"commands 4095\n", 3, 5),
-    (b"0 0 1 1\n", b"0 0 65536 1\n", 3, 3),
-    (b"0 0 1 1\n", b"0 0 1 65536\n", 3, 3),
-    (b"0 0 1 1\n", b"0 0 18446744073709551617 1\n", 3, 3),
-    (b"0 0 1 1\n", b"0 0 65535 65535\n", 0, 0),
-    (b"read 0\n", b"read 4096\n", 4, 5),
-    (b"write 0\n", b"write 4096\n", 4, 6),
-    (b"write 0\n", b"write 4294967296\n", 4, 6),
+    (b"commands 0\n", b"commands 00\n", 2, 2),
+    (b"commands 0\n", b"commands 4095\n", 3, 7),
+    (b"0 0 0 1 1\n", b"0 0 0 65536 1\n", 3, 3),
+    (b"0 0 1 1 1\n", b"0 0 1 1 65536\n", 3, 4),
+    (b"0 0 0 1 1\n", b"0 0 0 18446744073709551617 1\n", 3, 3),
+    (b"0 0 0 1 1\n", b"0 0 0 65535 65535\n", 0, 0),
+    (b"read 0\n", b"read 4096\n", 4, 7),
+    (b"write 0\n", b"write 4096\n", 4, 8),
 ];
 
 #[test]
 fn changed_texts(rt: HostRuntime) {
-    changed_have_faults(&rt, rt.alloc(), ENDLESS, &CHANGED);
-    changed_have_faults(&rt, rt.alloc(), NAMED, &CHANGED_NAMES);
-    changed_have_faults(&rt, rt.alloc(), EMPTY, &NUMBERS);
+    changed_have_faults(&rt, rt.alloc(), &Kind::CertificateTwo, ENDLESS, &CHANGED);
+    changed_have_faults(&rt, rt.alloc(), &Kind::CertificateTwo, NAMED, &CHANGED_NAMES);
+    changed_have_faults(&rt, rt.alloc(), &Kind::CertificateTwo, EMPTY, &NUMBERS);
 }
 
-/// The first and the last size that has a fault, its number, and its line.
-static CUTS: [(usize, usize, u8, usize); 13] = [
+static CUTS: [Cut; 21] = [
     (0, 7, 1, 1),
     (8, 18, 2, 2),
-    (19, 26, 3, 3),
-    (27, 32, 3, 4),
-    (33, 40, 3, 5),
-    (41, 46, 3, 6),
-    (47, 54, 3, 7),
-    (55, 60, 3, 8),
-    (61, 66, 3, 9),
-    (67, 72, 3, 10),
-    (73, 79, 4, 11),
-    (80, 87, 4, 12),
-    (88, 91, 5, 13),
+    (19, 28, 3, 3),
+    (29, 38, 3, 4),
+    (39, 46, 3, 5),
+    (47, 54, 3, 6),
+    (55, 64, 3, 7),
+    (65, 74, 3, 8),
+    (75, 82, 3, 9),
+    (83, 90, 3, 10),
+    (91, 100, 3, 11),
+    (101, 110, 3, 12),
+    (111, 118, 3, 13),
+    (119, 126, 3, 14),
+    (127, 134, 3, 15),
+    (135, 142, 3, 16),
+    (143, 150, 3, 17),
+    (151, 158, 3, 18),
+    (159, 165, 4, 19),
+    (166, 173, 4, 20),
+    (174, 177, 5, 21),
 ];
 
 /// What stands before the lists where there is no command, and the line of the names that are read.
-const HEAD: &[u8] = b"sedck 1\ncommands 0\n0 0 1 1\n0 1 -\nread 1\n";
+const HEAD: &[u8] =
+    b"sedck 2\ncommands 0\n0 0 0 1 1\n0 0 1 1 1\n0 1 0 -\n0 1 1 -\nread 1\n";
 
 /// The line of the names that are written.
 const WRITE: &[u8] = b"\nwrite 1\n";
@@ -115,12 +144,13 @@ const WRITE: &[u8] = b"\nwrite 1\n";
 const END: &[u8] = b"\nend\n";
 
 /// What stands before a name that is written, where none is read.
-const WRITES: &[u8] = b"sedck 1\ncommands 0\n0 0 1 1\n0 1 -\nread 0\nwrite 1\n";
+const WRITES: &[u8] =
+    b"sedck 2\ncommands 0\n0 0 0 1 1\n0 0 1 1 1\n0 1 0 -\n0 1 1 -\nread 0\nwrite 1\n";
 
 /// A long name written, and long names in both lists.
 static NAMES: [LongRow; 7] = [
     (&[(WRITES, 1), (b"n", 1_048_575), (END, 1)], 0, 0),
-    (&[(WRITES, 1), (b"n", 1_048_576), (END, 1)], 4, 7),
+    (&[(WRITES, 1), (b"n", 1_048_576), (END, 1)], 4, 9),
     (
         &[
             (HEAD, 1),
@@ -141,7 +171,7 @@ static NAMES: [LongRow; 7] = [
             (END, 1),
         ],
         4,
-        8,
+        10,
     ),
     (
         &[
@@ -152,7 +182,7 @@ static NAMES: [LongRow; 7] = [
             (END, 1),
         ],
         4,
-        8,
+        10,
     ),
     (
         &[
@@ -174,19 +204,14 @@ static NAMES: [LongRow; 7] = [
             (END, 1),
         ],
         4,
-        6,
+        8,
     ),
 ];
 
 #[test]
 fn cut_and_long_texts(rt: HostRuntime) {
-    assert_eq!(rt; ENDLESS.len(), 92);
-    for (first, last, number, line) in &CUTS {
-        assert!(rt; *last < ENDLESS.len());
-        for size in *first..*last + 1 {
-            let fault = fault_of(rt.alloc(), &Kind::Certificate, &ENDLESS[..size]);
-            assert_eq!(rt; fault, (*number, *line), "cut to {size}");
-        }
-    }
+    assert_eq!(rt; ENDLESS.len(), 178);
+    cut_have_faults(&rt, rt.alloc(), &Kind::CertificateTwo, ENDLESS, &CUTS);
+    long_texts_have_faults(&rt, rt.alloc(), &Kind::CertificateTwo, &NAMES);
     long_texts_have_faults(&rt, rt.alloc(), &Kind::Certificate, &NAMES);
 }

@@ -4,6 +4,13 @@ use crate::texts::numbered;
 use std::alloc::Global;
 use std::process::Abort;
 
+/// Adds the ranks of the place and flag, before the last line and on it.
+fn add_both(rt: &impl Abort, ranks: &mut String, node: &str, first: u32, second: u32) {
+    for last in 0..2 {
+        writeln!(ranks, "{node} {last} {first} {second}").expect(rt, "memory");
+    }
+}
+
 /// The ranks of loops one behind the other, each of which ends, since it shortens the pattern space.
 fn ranks_of_loops(rt: &impl Abort, alloc: Global) -> String {
     let mut ranks = String::new(alloc);
@@ -11,17 +18,17 @@ fn ranks_of_loops(rt: &impl Abort, alloc: Global) -> String {
         // the nodes of a loop, and from its last one on those of the loops behind it and the end
         let (firsts, seconds) = (4 * (1300 - turn) + 1, 3 * (1300 - turn) + 1);
         let (label, place, test) = (3 * turn, 3 * turn + 1, 3 * turn + 2);
-        let written = writeln!(
-            ranks,
-            "{label} 0 {firsts} {seconds}\n{place} 0 {firsts} {}\n{test} 0 {} {}\n{test} 1 {firsts} {}",
-            seconds - 1,
-            firsts - 3,
-            seconds - 2,
-            seconds + 1
-        );
-        written.expect(rt, "memory");
+        for (node, first, second) in [
+            (format!(in alloc; "{label} 0"), firsts, seconds),
+            (format!(in alloc; "{place} 0"), firsts, seconds - 1),
+            (format!(in alloc; "{test} 0"), firsts - 3, seconds - 2),
+            (format!(in alloc; "{test} 1"), firsts, seconds + 1),
+        ] {
+            let node = node.expect(rt, "memory");
+            add_both(rt, &mut ranks, &node, first, second);
+        }
     }
-    ranks.push_str("3900 0 1 1\n").expect(rt, "memory");
+    add_both(rt, &mut ranks, "3900 0", 1, 1);
     ranks
 }
 
@@ -32,7 +39,8 @@ fn ranks(rt: HostRuntime) {
     let mut ranks = String::new(rt.alloc());
     for at in 0u32..4096 {
         let count = 4096 - at;
-        writeln!(ranks, "{at} 0 {count} {count}").expect(&rt, "memory");
+        let node = format!(in rt.alloc(); "{at} 0").expect(&rt, "memory");
+        add_both(&rt, &mut ranks, &node, count, count);
     }
     is_told(&rt, rt.alloc(), text.as_bytes(), &ranks);
     let text = numbered(&rt, rt.alloc(), ":a@\ns/x//\nta@\n", 0, 1300);
@@ -48,14 +56,14 @@ static LOOPS: [(&'static str, &'static str, u16, &'static str, &'static str); 3]
         ":a@\n/x/ba@\n",
         2046,
         "",
-        "idle\n2 0 keep\n3 0 keep\n2 0\n",
+        "idle\n2 0 0 keep\n3 0 0 keep\n2 0 0\n",
     ),
     (
         "",
         ":a@\ns/x/xx/\nta@\n",
         1300,
         "",
-        "growing\n1 0 grow\n2 1 keep\n0 0 keep\n1 0\n",
+        "growing\n1 0 0 grow\n2 1 0 keep\n0 0 0 keep\n1 0 0\n",
     ),
     (":a\n", "p\n", 4093, "ba\n", ""),
 ];
@@ -63,8 +71,8 @@ static LOOPS: [(&'static str, &'static str, u16, &'static str, &'static str); 3]
 #[test]
 fn loops(rt: HostRuntime) {
     // of the loop over all commands
-    let lines = numbered(&rt, rt.alloc(), "@ 0 keep\n", 0, 4095);
-    let all = format!(in rt.alloc(); "idle\n{lines}0 0\n").expect(&rt, "memory");
+    let lines = numbered(&rt, rt.alloc(), "@ 0 0 keep\n", 0, 4095);
+    let all = format!(in rt.alloc(); "idle\n{lines}0 0 0\n").expect(&rt, "memory");
     for (before, piece, count, behind, told) in &LOOPS {
         let copies = numbered(&rt, rt.alloc(), *piece, 0, *count);
         let text = format!(in rt.alloc(); "{before}{copies}{behind}").expect(&rt, "memory");

@@ -38,7 +38,7 @@ returns-clause-edges c =
       | in-None w ↦
           let read = w.in-None.ensures.lookup in
           rw w.list-is
-          (at_end c.args.script.now c.args.node w.single-list.result
+          (at_end c.args.script.now c.args.node w.reading_line-list.result
           (read_none c.args.script.now c.commands.result.now c.from.result c.args.node.at c.commands.ensures.commands c.from.ensures read.3)
-          (omega (arith, read.3, ap length c.commands.ensures.commands, length-map c.commands.result.now command_of)) w.single-list.ensures.edges)
+          (omega (arith, read.3, ap length c.commands.ensures.commands, length-map c.commands.result.now command_of)) (rw w.start.ensures at w.reading_line-list.ensures.edges))
     ]

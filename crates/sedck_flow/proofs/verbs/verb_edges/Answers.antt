@@ -14,7 +14,7 @@ returns-in-Change-clause-edges c = of_verb c.args.script.now (address_of c.args.
 
 pub returns-in-Delete-clause-edges : goal.returns-in-Delete-clause-edges
 returns-in-Delete-clause-edges c = of_verb c.args.script.now (address_of c.args.command.now.address) _ _ _ _
-    (ap verb_of c.in-Delete.is) c.single-in-Delete.ensures.edges
+    (ap verb_of c.in-Delete.is) (rw c.start.ensures at c.reading_line.ensures.edges)
 
 pub returns-in-DeleteFirstLine-clause-edges : goal.returns-in-DeleteFirstLine-clause-edges
 returns-in-DeleteFirstLine-clause-edges c = of_verb c.args.script.now (address_of c.args.command.now.address) _ _ _ _

@@ -1,15 +1,16 @@
-use Rattle.std.proofs.Common.{◌≤◌, map, refl, sym, subst}
+use Rattle.std.proofs.Common.{◌<◌, ◌≤◌, ◌^◌, [], map, refl, sym, subst, arith}
+use Rattle.sedck_script.specs.Program.{literal_length}
 use Rattle.std.specs.List.{All}
 use Rattle.std.proofs.lemmas.List.Elements.{All-from_recursion}
 use Rattle.sedck_script.specs.Reading.{EndsIn}
 use Rattle.sedck_script.specs.View.{pattern_of, part_of}
 use Rattle.sedck_script.specs.Invariant.{IsPart}
-use Rattle.sedck_script.proofs.Tails.{tail_tail, tail_behind, expression_tail, replacement_tail}
+use Rattle.sedck_script.proofs.Tails.{tail_length, tail_tail, tail_behind, expression_tail, replacement_tail}
 use Rattle.sedck_script.proofs.Outcomes.{if_err_each, if_err_from}
 use Rattle.sedck_script.proofs.PlaceLemmas.{part_placed, unread_verb}
 use Rattle.sedck_script.proofs.WholeOne.{no_backslash}
 use Rattle.sedck_script.proofs.VerbLemmas.{substitute_read, substitute_no_delimiter, substitute_no_pattern, substitute_no_parts, substitute_no_flags}
-use Rattle.sedck_script.proofs.Bounds.{replacement_parts}
+use Rattle.sedck_script.proofs.Bounds.{replacement_parts, replacement_size}
 use Rattle.sedck_script.proofs.substitutions.substitution.Goals as goal
 
 pub returns-in_err-delimiter-clause-placed : goal.returns-in_err-delimiter-clause-placed
@@ -76,3 +77,10 @@ returns-in_err-parts-clause-placed c =
           (pattern_of c.in_ok-pattern.pattern) c.in_ok-delimiter.ensures.read.0 c.in_ok-pattern.ensures.only c.greatest_group-greatest.ensures
           (c.in_err-parts.ensures.refused (λ memory. absurd (cc (is, memory))))),
     )))
+
+pub literal_length-literal-requires : goal.literal_length-literal-requires
+literal_length-literal-requires c =
+    let opened = tail_length (tail_behind {text = c.args.text.now} ([], refl) c.in_ok-delimiter.ensures.read.0) in
+    let behind = tail_length (expression_tail c.in_ok-pattern.ensures.read.1) in
+    let small = replacement_size c.in_ok-parts.ensures.read in
+    subst (λ parts. literal_length (map part_of parts) < 2 ^ 64) (sym c.deref-2.ensures.value) (omega (arith, opened, behind, small))

@@ -20,7 +20,7 @@ use Rattle.sedck_search.proofs.counting.count_by_target.Goals as goal
 to_inside : (p : Program) → IsScript p → (along : Along) (n : Node) (to : ℕ) (o : IsOnlyTarget p along n to) → o.edge.to.at ≤ length p.commands
 to_inside p script along n to o = (inside p script.targets o.edge o.followed.0).1
 
-to_below : (p : Program) → IsScript p → (along : Along) (n : Node) (to : ℕ) → IsOnlyTarget p along n to → to < 8192
+to_below : (p : Program) → IsScript p → (along : Along) (n : Node) (to : ℕ) → IsOnlyTarget p along n to → to < 16384
 to_below p script along n to o = omega (arith, o.leads, index_below p script o.edge.to (to_inside p script along n to o))
 
 pub leads_into-requires-clause-inside : goal.leads_into-requires-clause-inside
@@ -31,7 +31,7 @@ leads_into-requires-clause-inside c =
 
 pub offset_bounds-counts-to : goal.offset_bounds-counts-to
 offset_bounds-counts-to c =
-    let small : c.in_ok-to.to < 8192 = to_below c.args.script.now c.requires.script c.args.along c.args.node c.in_ok-to.to c.in_ok-to.ensures in
+    let small : c.in_ok-to.to < 16384 = to_below c.args.script.now c.requires.script c.args.along c.args.node c.in_ok-to.to c.in_ok-to.ensures in
     omega (arith, small)
 
 pub bounds-counts-to : goal.bounds-counts-to

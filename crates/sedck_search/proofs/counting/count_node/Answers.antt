@@ -11,7 +11,7 @@ use Rattle.sedck_search.proofs.counting.count_node.Goals.{then-not-goes_on+in_de
 use Rattle.sedck_search.proofs.counting.count_node.Goals as goal
 
 pub overflow_cast-last : goal.overflow_cast-last
-overflow_cast-last c = let small : c.count.result ≤ 8192 = omega (arith, c.count.ensures.value, count_within c.spread.new.row c.count.ensures.row) in
+overflow_cast-last c = let small : c.count.result ≤ 16384 = omega (arith, c.count.ensures.value, count_within c.spread.new.row c.count.ensures.row) in
     omega (arith, small)
 
 -- the row that is gone on from has only nodes that the node reaches

@@ -8,4 +8,4 @@ invariant-loop-index l = IsSpreading l.script l.fn.along l.fn.node l.fn.row l.ro
 
 -- the nodes that wait, and those that may still be reached, which will wait
 abbrev pub decreases-loop-index : goal.decreases-loop-index
-decreases-loop-index l = bit_count l.waiting + 2 * (8192 - bit_count l.row)
+decreases-loop-index l = bit_count l.waiting + 2 * (16384 - bit_count l.row)

@@ -50,7 +50,7 @@ nearest_place p script ways long e flow i is = omega (arith, is, place_in p ways
 
 pub offset_bounds-ways-index-then-is_of : goal.offset_bounds-ways-index-then-is_of
 offset_bounds-ways-index-then-is_of c =
-    let small : c.index-then-is_of.result < 8192 = omega (
+    let small : c.index-then-is_of.result < 16384 = omega (
       arith,
       c.index-then-is_of.ensures,
       index_below c.args.script.now c.requires.script c.loop-edge.nearest.to

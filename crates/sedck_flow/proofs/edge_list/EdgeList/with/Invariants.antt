@@ -1,11 +1,15 @@
-use Rattle.std.proofs.Common.{◌≡◌, ◌++◌, length, take, drop}
-use Rattle.sedck_flow.proofs.EdgeListLemmas.{with_edge}
+use Rattle.std.proofs.Common.{◌≡◌, ◌<◌, ◌++◌, length, take, drop}
+use Rattle.std.specs.Prelude.{All}
+use Rattle.sedck_flow.specs.EdgeList.{edge_number}
+use Rattle.sedck_flow.proofs.EdgeListLemmas.{with_number}
 use Rattle.sedck_flow.proofs.edge_list.EdgeList.with.Given as goal
 
--- with the edge that is carried put among those that are left, the places hold what is wanted
+-- with the number that is carried put among those that are left, the places hold what is wanted
 abbrev pub invariant-loop-i : goal.invariant-loop-i
 invariant-loop-i l = record {
-  room : length l.edges ≡ 4;
-  wanted : take l.i l.edges ++ with_edge l.carried (drop l.i (take l.count l.edges))
-      ≡ with_edge (record { from = l.fn.from; to = l.fn.to; kind = l.fn.kind }) (take l.count l.initial.edges);
+  room : length l.numbers ≡ 5;
+  small : All (λ number. number < 1048576) l.numbers;
+  carried : l.carried < 1048576;
+  wanted : take l.i l.numbers ++ with_number l.carried (drop l.i (take l.count l.numbers))
+      ≡ with_number (edge_number l.fn.kind l.fn.to) (take l.count l.initial.numbers);
 }

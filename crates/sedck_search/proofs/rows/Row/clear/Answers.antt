@@ -1,8 +1,9 @@
-use Rattle.sedck_search.proofs.RowBits.{empty_row, empty_nodes}
+use Rattle.std.proofs.Common.{sym}
+use Rattle.sedck_search.proofs.RowBits.{empty_row, empty_nodes, empty_count}
 use Rattle.sedck_search.proofs.rows.Row.clear.Goals as goal
 
 pub invariant_of-self : goal.invariant_of-self
-invariant_of-self c = empty_row
+invariant_of-self c = (empty_row, sym empty_count)
 
 pub returns-clause-nodes : goal.returns-clause-nodes
 returns-clause-nodes c = empty_nodes

@@ -1,7 +1,7 @@
 use Rattle.std.proofs.Common.{◌≡◌, map, take}
 use Rattle.sedck_script.specs.Program.{literal_length}
 use Rattle.sedck_script.specs.View.{part_of}
-use Rattle.sedck_flow.proofs.success.literal_length.Given as goal
+use Rattle.sedck_script.proofs.references.literal_length.Given as goal
 
 -- the parts so far have this length
 abbrev pub invariant-loop-part : goal.invariant-loop-part

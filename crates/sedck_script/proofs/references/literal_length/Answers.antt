@@ -1,7 +1,7 @@
 use Rattle.std.proofs.Common.{suc, map, add-one, arith}
 use Rattle.sedck_script.specs.View.{part_of}
-use Rattle.sedck_flow.proofs.SuccessLemmas.{filler_part, length_take_le, coded_length_more}
-use Rattle.sedck_flow.proofs.success.literal_length.Goals as goal
+use Rattle.sedck_script.proofs.LiteralLengths.{filler_part, length_take_le, coded_length_more}
+use Rattle.sedck_script.proofs.references.literal_length.Goals as goal
 
 pub overflow_add-length : goal.overflow_add-length
 overflow_add-length c =
