@@ -4,10 +4,9 @@ use Rattle.std.specs.List.{AllByRecursion}
 use Rattle.std.proofs.lemmas.List.Elements.{recursion_from_All}
 use Rattle.std.proofs.lemmas.Fmt.{decimal_injective}
 use Rattle.std.proofs.lemmas.List.{append_cancel_left}
-use Rattle.sedck_flow.specs.Nodes.{nth_node, node_count}
-use Rattle.sedck_flow.specs.Words.{node_words}
-use Rattle.sedck_cert.specs.Certificate.{Certificate, IsCertificate, AreWithin}
-use Rattle.sedck_cert.specs.Text.{line, IsOneLine, IsTextOf, node_text, ranks_text}
+use Rattle.sedck_cert.specs.Certificate.{Certificate, IsCertificate, nodes_in, AreWithin}
+use Rattle.sedck_cert.specs.Text.{line, IsOneLine, IsTextOf, words_in, node_text, ranks_text}
+use Rattle.sedck_cert.specs.declared.versions.Version.{Version}
 use Rattle.sedck_cert.specs.Faults.{Due, Header, Count, Node, Names, Name, Last, Nothing, IsDue, AreDue, IsRefused, IsFaultOf, joined_lines, list_word, after_count}
 use Rattle.sedck_cert.specs.Reading.{node_texts, list_texts, certificate_lines}
 use Rattle.sedck_cert.specs.declared.reading.names.Files.{Files}
@@ -25,59 +24,59 @@ lines_one a b r s one two e = parts_one 10 a b r s one two (sym (line-behind a r
 count_one : (word : List ℕ) (m n : ℕ) → m ≤ 4095 → n ≤ 4095 → word ++ decimal m ≡ word ++ decimal n → m ≡ n
 count_one word m n few less e = decimal_injective m n (omega arith) (omega arith) (append_cancel_left word (decimal m) (decimal n) e)
 
-due_one : (due : Due) (text : List ℕ) (a b : Due) → IsDue due text a → IsDue due text b → a ≡ b
-due_one Header text a b h k = h.1 ∙ sym k.1
-due_one Count text a b h k = h.3 ∙ ap (λ n. Node 0 (node_count n - 1)) (count_one (codes "commands ") h.0 k.0 h.1 k.1 (sym h.2 ∙ k.2)) ∙ sym k.3
-due_one (Node node left) text a b h k = h.3 ∙ sym k.3
-due_one (Names files size) text a b h k = h.3 ∙ ap (λ n. after_count files n size) (count_one (list_word files) h.0 k.0 h.1 k.1 (sym h.2 ∙ k.2)) ∙ sym k.3
-due_one (Name files zero before size) text a b h k = absurd h
-due_one (Name files (suc left) before size) text a b h k = h.3 ∙ sym k.3
-due_one Last text a b h k = h.1 ∙ sym k.1
-due_one Nothing text a b h k = absurd h
+due_one : (v : Version) (due : Due) (text : List ℕ) (a b : Due) → IsDue v due text a → IsDue v due text b → a ≡ b
+due_one v Header text a b h k = h.1 ∙ sym k.1
+due_one v Count text a b h k = h.3 ∙ ap (λ n. Node 0 (nodes_in v n - 1)) (count_one (codes "commands ") h.0 k.0 h.1 k.1 (sym h.2 ∙ k.2)) ∙ sym k.3
+due_one v (Node node left) text a b h k = h.3 ∙ sym k.3
+due_one v (Names files size) text a b h k = h.3 ∙ ap (λ n. after_count files n size) (count_one (list_word files) h.0 k.0 h.1 k.1 (sym h.2 ∙ k.2)) ∙ sym k.3
+due_one v (Name files zero before size) text a b h k = absurd h
+due_one v (Name files (suc left) before size) text a b h k = h.3 ∙ sym k.3
+due_one v Last text a b h k = h.1 ∙ sym k.1
+due_one v Nothing text a b h k = absurd h
 
 -- a line that is due refutes what is wrong there
-not_refused : (due mid : Due) (text : List ℕ) (more : List ℕ) → IsOneLine text → IsDue due text mid → IsRefused due (line text ++ more) → ⊥
-not_refused Header mid text more one h wrong = wrong text more mid refl one h
-not_refused Count mid text more one h wrong = wrong text more mid refl one h
-not_refused (Node node left) mid text more one h wrong = wrong text more mid refl one h
-not_refused (Names files size) mid text more one h wrong = wrong text more mid refl one h
-not_refused (Name files left before size) mid text more one h wrong = wrong text more mid refl one h
-not_refused Last mid text more one h wrong = wrong text more mid refl one h
-not_refused Nothing mid text more one h wrong = h
+not_refused : (v : Version) (due mid : Due) (text : List ℕ) (more : List ℕ) → IsOneLine text → IsDue v due text mid → IsRefused v due (line text ++ more) → ⊥
+not_refused v Header mid text more one h wrong = wrong text more mid refl one h
+not_refused v Count mid text more one h wrong = wrong text more mid refl one h
+not_refused v (Node node left) mid text more one h wrong = wrong text more mid refl one h
+not_refused v (Names files size) mid text more one h wrong = wrong text more mid refl one h
+not_refused v (Name files left before size) mid text more one h wrong = wrong text more mid refl one h
+not_refused v Last mid text more one h wrong = wrong text more mid refl one h
+not_refused v Nothing mid text more one h wrong = h
 
 -- a text of lines that are due to the end stops nowhere
-pub none_refused : (before lines : List (List ℕ)) (rest : List ℕ) (due wrong : Due) → joined_lines before ++ rest ≡ joined_lines lines
-    → AreDue due before wrong → AreDue due lines Nothing → IsRefused wrong rest → ⊥
-none_refused [] [] rest due wrong e h k refused =
+pub none_refused : (v : Version) (before lines : List (List ℕ)) (rest : List ℕ) (due wrong : Due) → joined_lines before ++ rest ≡ joined_lines lines
+    → AreDue v due before wrong → AreDue v due lines Nothing → IsRefused v wrong rest → ⊥
+none_refused v [] [] rest due wrong e h k refused =
     let end : wrong ≡ Nothing = h ∙ sym k in
-    let some : 0 < length rest = subst (λ d. IsRefused d rest) end refused in
+    let some : 0 < length rest = subst (λ d. IsRefused v d rest) end refused in
     omega (arith, ap length e)
-none_refused [] (text ∷ lines) rest due wrong e h k refused = not_refused due k.1 text (joined_lines lines) k.0 k.2 (subst₂ (λ d t. IsRefused d t) h e refused)
-none_refused (text ∷ before) [] rest due wrong e h k refused =
-    let none : IsDue Nothing text h.1 = subst (λ d. IsDue d text h.1) (sym k) h.2 in none
-none_refused (a ∷ before) (b ∷ lines) rest due wrong e h k refused =
+none_refused v [] (text ∷ lines) rest due wrong e h k refused = not_refused v due k.1 text (joined_lines lines) k.0 k.2 (subst₂ (λ d t. IsRefused v d t) h e refused)
+none_refused v (text ∷ before) [] rest due wrong e h k refused =
+    let none : IsDue v Nothing text h.1 = subst (λ d. IsDue v d text h.1) (sym k) h.2 in none
+none_refused v (a ∷ before) (b ∷ lines) rest due wrong e h k refused =
     let both = lines_one a b (joined_lines before ++ rest) (joined_lines lines) h.0 k.0 (sym (append_assoc (line a) (joined_lines before) rest) ∙ e) in
-    let same : h.1 ≡ k.1 = due_one due b h.1 k.1 (subst (λ t. IsDue due t h.1) both.0 h.2) k.2 in
-    none_refused before lines rest k.1 wrong both.1 (subst (λ d. AreDue d before wrong) same h.3) k.3 refused
+    let same : h.1 ≡ k.1 = due_one v due b h.1 k.1 (subst (λ t. IsDue v due t h.1) both.0 h.2) k.2 in
+    none_refused v before lines rest k.1 wrong both.1 (subst (λ d. AreDue v d before wrong) same h.3) k.3 refused
 
-pub fault_of_none : (text : List ℕ) (fault : CertFault) → IsFaultOf text fault → (c : Certificate) → ¬ IsTextOf text c
-fault_of_none text fault f c h =
-    none_refused f.before (certificate_lines c) f.rest Header f.due (sym f.is_text ∙ h.is_text ∙ sym (certificate_lines-joined c)) f.are_due
-    (certificate_is_due c h.within) f.is_refused
+pub fault_of_none : (v : Version) (text : List ℕ) (fault : CertFault) → IsFaultOf v text fault → (c : Certificate) → ¬ IsTextOf v text c
+fault_of_none v text fault f c h =
+    none_refused v f.before (certificate_lines v c) f.rest Header f.due (sym f.is_text ∙ h.is_text ∙ sym (certificate_lines-joined v c)) f.are_due
+    (certificate_is_due v c h.within) f.is_refused
 
 -- ---- One certificate
 
 no_line : (text rest : List ℕ) → [] ≡ line text ++ rest → ⊥
 no_line text rest e = let has = has_byte 10 [] text rest (e ∙ line-behind text rest) in let below : has.0 < 0 = has.1 in omega arith
 
-joined_one : (xs ys : List (List ℕ)) (a b : Due) → joined_lines xs ≡ joined_lines ys → AreDue a xs b → AreDue a ys b → xs ≡ ys
-joined_one [] [] a b e h k = refl
-joined_one [] (y ∷ ys) a b e h k = absurd (no_line y (joined_lines ys) e)
-joined_one (x ∷ xs) [] a b e h k = absurd (no_line x (joined_lines xs) (sym e))
-joined_one (x ∷ xs) (y ∷ ys) a b e h k =
+joined_one : (v : Version) (xs ys : List (List ℕ)) (a b : Due) → joined_lines xs ≡ joined_lines ys → AreDue v a xs b → AreDue v a ys b → xs ≡ ys
+joined_one v [] [] a b e h k = refl
+joined_one v [] (y ∷ ys) a b e h k = absurd (no_line y (joined_lines ys) e)
+joined_one v (x ∷ xs) [] a b e h k = absurd (no_line x (joined_lines xs) (sym e))
+joined_one v (x ∷ xs) (y ∷ ys) a b e h k =
     let both = lines_one x y (joined_lines xs) (joined_lines ys) h.0 k.0 e in
-    let same : h.1 ≡ k.1 = due_one a y h.1 k.1 (subst (λ t. IsDue a t h.1) both.0 h.2) k.2 in
-    cc (both.0, joined_one xs ys k.1 b both.1 (subst (λ d. AreDue d xs b) same h.3) k.3)
+    let same : h.1 ≡ k.1 = due_one v a y h.1 k.1 (subst (λ t. IsDue v a t h.1) both.0 h.2) k.2 in
+    cc (both.0, joined_one v xs ys k.1 b both.1 (subst (λ d. AreDue v d xs b) same h.3) k.3)
 
 append_split : {A : Type 0} (xs ys as' bs : List A) → length xs ≡ length ys → xs ++ as' ≡ ys ++ bs → (xs ≡ ys) × (as' ≡ bs)
 append_split [] [] as' bs l e = (refl, e)
@@ -104,20 +103,20 @@ ranks_one (Some r) (Some s) h k e =
     let second : r.1 ≡ s.1 = decimal_injective r.1 s.1 small.1 less.1 both.1 in
     (λ i. Some (first i, second i))
 
-nodes_one : (node : ℕ) (xs ys : List (Option (ℕ × ℕ))) → AllByRecursion AreWithin xs → AllByRecursion AreWithin ys
-    → node_texts node xs ≡ node_texts node ys → xs ≡ ys
-nodes_one node [] [] h k e = refl
-nodes_one node [] (y ∷ ys) h k e = absurd (cc e)
-nodes_one node (x ∷ xs) [] h k e = absurd (cc e)
-nodes_one node (x ∷ xs) (y ∷ ys) h k e =
-    let heads : node_text node x ≡ node_text node y = cc e in
-    let tails : node_texts (suc node) xs ≡ node_texts (suc node) ys = cc e in
-    let same = ranks_one x y h.0 k.0 (append_cancel_left (node_words (nth_node node) ++ codes " ") (ranks_text x) (ranks_text y) heads) in
-    cc (same, nodes_one (suc node) xs ys h.1 k.1 tails)
+nodes_one : (v : Version) (node : ℕ) (xs ys : List (Option (ℕ × ℕ))) → AllByRecursion AreWithin xs → AllByRecursion AreWithin ys
+    → node_texts v node xs ≡ node_texts v node ys → xs ≡ ys
+nodes_one v node [] [] h k e = refl
+nodes_one v node [] (y ∷ ys) h k e = absurd (cc e)
+nodes_one v node (x ∷ xs) [] h k e = absurd (cc e)
+nodes_one v node (x ∷ xs) (y ∷ ys) h k e =
+    let heads : node_text v node x ≡ node_text v node y = cc e in
+    let tails : node_texts v (suc node) xs ≡ node_texts v (suc node) ys = cc e in
+    let same = ranks_one x y h.0 k.0 (append_cancel_left (words_in v node ++ codes " ") (ranks_text x) (ranks_text y) heads) in
+    cc (same, nodes_one v (suc node) xs ys h.1 k.1 tails)
 
-length-node_texts : (node : ℕ) (xs : List (Option (ℕ × ℕ))) → length (node_texts node xs) ≡ length xs
-length-node_texts node [] = refl
-length-node_texts node (x ∷ xs) = ap suc (length-node_texts (suc node) xs)
+length-node_texts : (v : Version) (node : ℕ) (xs : List (Option (ℕ × ℕ))) → length (node_texts v node xs) ≡ length xs
+length-node_texts v node [] = refl
+length-node_texts v node (x ∷ xs) = ap suc (length-node_texts v (suc node) xs)
 
 -- two lists, and what is behind them
 lists_one : (files : Files) (xs ys as' bs : List (List ℕ)) → length xs ≤ 4095 → length ys ≤ 4095
@@ -127,24 +126,24 @@ lists_one files xs ys as' bs few less e =
     let tails : xs ++ as' ≡ ys ++ bs = cc e in
     append_split xs ys as' bs (count_one (list_word files) (length xs) (length ys) few less heads) tails
 
-certificate_one : (c d : Certificate) → IsCertificate c → IsCertificate d → certificate_lines c ≡ certificate_lines d → c ≡ d
-certificate_one c d h k e =
+certificate_one : (v : Version) (c d : Certificate) → IsCertificate v c → IsCertificate v d → certificate_lines v c ≡ certificate_lines v d → c ≡ d
+certificate_one v c d h k e =
     let end = codes "end" ∷ [] in
     let counts : codes "commands " ++ decimal c.commands ≡ codes "commands " ++ decimal d.commands = cc e in
     let commands = count_one (codes "commands ") c.commands d.commands h.commands k.commands counts in
-    let rest : node_texts 0 c.ranks ++ (list_texts Reads c.reads ++ (list_texts Writes c.writes ++ end)) ≡ node_texts 0 d.ranks ++
+    let rest : node_texts v 0 c.ranks ++ (list_texts Reads c.reads ++ (list_texts Writes c.writes ++ end)) ≡ node_texts v 0 d.ranks ++
     (list_texts Reads d.reads ++ (list_texts Writes d.writes ++ end)) = cc e in
-    let long : length (node_texts 0 c.ranks) ≡ length (node_texts 0 d.ranks) =
-    omega (arith, length-node_texts 0 c.ranks, length-node_texts 0 d.ranks, h.nodes, k.nodes, commands) in
-    let nodes = append_split (node_texts 0 c.ranks) (node_texts 0 d.ranks) _ _ long rest in
-    let ranks = nodes_one 0 c.ranks d.ranks (recursion_from_All AreWithin c.ranks h.ranks) (recursion_from_All AreWithin d.ranks k.ranks) nodes.0 in
+    let long : length (node_texts v 0 c.ranks) ≡ length (node_texts v 0 d.ranks) =
+    length-node_texts v 0 c.ranks ∙ h.nodes ∙ ap (nodes_in v) commands ∙ sym (length-node_texts v 0 d.ranks ∙ k.nodes) in
+    let nodes = append_split (node_texts v 0 c.ranks) (node_texts v 0 d.ranks) _ _ long rest in
+    let ranks = nodes_one v 0 c.ranks d.ranks (recursion_from_All AreWithin c.ranks h.ranks) (recursion_from_All AreWithin d.ranks k.ranks) nodes.0 in
     let reads = lists_one Reads c.reads d.reads (list_texts Writes c.writes ++ end) (list_texts Writes d.writes ++ end) h.reads.count k.reads.count nodes.1 in
     let writes = lists_one Writes c.writes d.writes end end h.writes.count k.writes.count reads.1 in
     (λ i. record { commands = commands i; ranks = ranks i; reads = reads.0 i; writes = writes.0 i })
 
 -- a text is one certificate's
-pub text_of_one : (text : List ℕ) (c d : Certificate) → IsTextOf text c → IsTextOf text d → d ≡ c
-text_of_one text c d h k =
-    certificate_one d c k.within h.within (joined_one (certificate_lines d) (certificate_lines c) Header Nothing
-    (certificate_lines-joined d ∙ sym k.is_text ∙ h.is_text ∙ sym (certificate_lines-joined c)) (certificate_is_due d k.within)
-    (certificate_is_due c h.within))
+pub text_of_one : (v : Version) (text : List ℕ) (c d : Certificate) → IsTextOf v text c → IsTextOf v text d → d ≡ c
+text_of_one v text c d h k =
+    certificate_one v d c k.within h.within (joined_one v (certificate_lines v d) (certificate_lines v c) Header Nothing
+    (certificate_lines-joined v d ∙ sym k.is_text ∙ h.is_text ∙ sym (certificate_lines-joined v c)) (certificate_is_due v d k.within)
+    (certificate_is_due v c h.within))

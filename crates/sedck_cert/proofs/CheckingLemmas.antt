@@ -1,5 +1,5 @@
 -- Edges in their order, and the first that the ranks don't meet.
-use Rattle.std.proofs.Common.{◌≡◌, ◌≢◌, ℕ, ◌<◌, ◌≤◌, Bool, List, [], ◌∷◌, ◌++◌, Contains, refl, sym, ap, ◌∙◌, subst, inl, inr, arith}
+use Rattle.std.proofs.Common.{◌≡◌, ◌≢◌, Bool, ◌<◌, ◌≤◌, List, [], ◌∷◌, ◌++◌, Contains, refl, sym, ap, ◌∙◌, subst, inl, inr, arith}
 use Rattle.std.specs.Prelude.{Option, Some, None, is_some, true, MatchOption, slice_get, length}
 use Rattle.std.specs.List.{AllByRecursion}
 use Rattle.std.proofs.lemmas.List.Elements.{All-from_recursion, All-contains, Contains-append_cases, Contains-append_right}
@@ -70,6 +70,20 @@ first_found c IsEdge done coming e (Some why) listed met judged some = record {
   ];
 }
 
+-- ---- The starts
+
+some_of : {A : Type 0} (o : Option A) → o ≢ None → (x : A) × (o ≡ Some x)
+some_of None some = absurd (some refl)
+some_of (Some x) some = (x, refl)
+
+-- both starts have ranks, and the ranks meet each edge
+pub is_ranked : (p : Program) (c : Certificate) → ((last : Bool) → ranks_at c (start last) ≢ None) → MeetsAll c (Flow p) → IsRanked p c
+is_ranked p c starts meets = record {
+  start_ranks = λ last. (some_of (ranks_at c (start last)) (starts last)).0;
+  has_start = λ last. (some_of (ranks_at c (start last)) (starts last)).1;
+  meets = meets;
+}
+
 -- ---- All nodes
 
 -- an edge leaves a command, or the script's end
@@ -117,15 +131,3 @@ edge_rejection p c (NotLowered e) started h =
       subst (IsFirstUnmet p c) (sym is) (first_unmet p c h.edge h.is_edge h.unmet.1 h.earlier),
       λ none. h.unmet.2 (sym (ap (λ (f : Edge). ranks_at c f.to) is) ∙ none),
     )
-
--- where both starts have ranks and each edge is met, the nodes are ranked
-some_ranks : (ranks : Option (ℕ × ℕ)) → ranks ≢ None → (r : ℕ × ℕ) × (ranks ≡ Some r)
-some_ranks None some = absurd (some refl)
-some_ranks (Some r) some = (r, refl)
-
-pub are_ranked : (p : Program) (c : Certificate) → ((last : Bool) → ranks_at c (start last) ≢ None) → MeetsAll c (Flow p) → IsRanked p c
-are_ranked p c started meets = record {
-  start_ranks = λ last. (some_ranks (ranks_at c (start last)) (started last)).0;
-  has_start = λ last. (some_ranks (ranks_at c (start last)) (started last)).1;
-  meets = meets;
-}

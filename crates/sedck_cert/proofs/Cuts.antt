@@ -1,13 +1,16 @@
 -- A text is cut at its first such byte in one way only, and what a decimal and such a byte begin is cut there.
-use Rattle.std.proofs.Common.{◌≡◌, ℕ, zero, suc, ◌/◌, ◌%◌, ◌^◌, ◌<◌, ◌≤◌, ◌==◌, List, [], ◌∷◌, ◌++◌, Contains, Option, Some, None, MatchOption, codes, append_assoc, refl, sym, ◌∙◌, ap, arith}
+use Rattle.std.proofs.Common.{◌≡◌, ℕ, zero, suc, ◌^◌, ◌<◌, ◌≤◌, List, [], ◌∷◌, ◌++◌, Contains, Option, Some, None, MatchOption, codes, append_assoc, refl, sym, ◌∙◌, ap, arith}
 use Rattle.std.specs.Fmt.{decimal}
 use Rattle.std.specs.Int.{IsInRange}
 use Rattle.std.proofs.lemmas.List.Elements.{All-contains, All-from_get_or}
+use Rattle.std.specs.Borrow.{Bor}
+use Rattle.std.specs.Prelude.{Bool, true, false, if◌then◌else◌}
+use Rattle.std.proofs.lemmas.Fmt.{decimal_digit}
 use Rattle.sedck_flow.specs.Words.{flag_text}
-use Rattle.sedck_flow.proofs.NodeLemmas.{flag_text-nth}
+use Rattle.std.proofs.lemmas.List.{append_cancel_left}
 use Rattle.sedck_script.proofs.SortedNames.{Contains-cons_more}
 use Rattle.sedck_cert.specs.Certificate.{AreWithin}
-use Rattle.sedck_cert.specs.Text.{ranks_text, node_text}
+use Rattle.sedck_cert.specs.Text.{ranks_text}
 use Rattle.sedck_cert.specs.Cuts.{IsCut}
 use Rattle.sedck_cert.proofs.Decimals.{decimal-digit}
 
@@ -52,33 +55,47 @@ ranks_parts text first second (Some r) within cut is =
     (is ∙ append_assoc (decimal r.0) (codes " ") (decimal r.1)) in
     (r.0, r.1, within.0, within.1, both.0, both.1, refl)
 
--- the parts of a node's line
-abbrev pub node_rest : ℕ → Option (ℕ × ℕ) → List ℕ
-node_rest node ranks = flag_text (node % 2 == 1) ++ 32 ∷ ranks_text ranks
+-- ---- The words of a node, each with a space behind it
 
-pub node_text-parts : (node : ℕ) (ranks : Option (ℕ × ℕ)) → node_text node ranks ≡ decimal (node / 2) ++ 32 ∷ node_rest node ranks
-node_text-parts node ranks = simp append_assoc refl
+-- a text that begins with the two words of a text that begins with the first
+words_on : (text a b mid rest : List ℕ) → text ≡ a ++ 32 ∷ mid → mid ≡ b ++ 32 ∷ rest → text ≡ (a ++ codes " " ++ b) ++ 32 ∷ rest
+words_on text a b mid rest is more = is ∙ ap (λ t. a ++ 32 ∷ t) more ∙ simp append_assoc
 
-pub node_parts : (text at rest : List ℕ) (node : ℕ) (ranks : Option (ℕ × ℕ)) → node < 2 ^ 16 → IsCut 32 text at rest → text ≡ node_text node ranks
-    → (at ≡ decimal (node / 2)) × (rest ≡ node_rest node ranks)
-node_parts text at rest node ranks small cut is = decimal-cut text at rest (node_rest node ranks) (node / 2) 32 (omega arith) (omega arith) cut
-    (is ∙ node_text-parts node ranks)
+words_apart : (text a b rest : List ℕ) → text ≡ (a ++ codes " " ++ b) ++ 32 ∷ rest → text ≡ a ++ 32 ∷ (b ++ 32 ∷ rest)
+words_apart text a b rest is = is ∙ simp append_assoc
 
-pub flag_parts : (text flag rest : List ℕ) (node : ℕ) (ranks : Option (ℕ × ℕ)) → node < 2 ^ 16 → IsCut 32 text flag rest → text ≡ node_rest node ranks
-    → (flag ≡ decimal (node % 2)) × (rest ≡ ranks_text ranks)
-flag_parts text flag rest node ranks small cut is =
-    decimal-cut text flag rest (ranks_text ranks) (node % 2) 32 (omega arith) (omega arith) cut (is ∙ ap (λ d. d ++ 32 ∷ ranks_text ranks) (flag_text-nth node))
+-- what stands behind the word
+abbrev pub FindsBehind : List ℕ → List ℕ → Option (Bor (List ℕ)) → Type 0
+FindsBehind text word r = MatchOption r ((rest : List ℕ) → text ≡ word ++ 32 ∷ rest → ⊥) (λ rest. text ≡ word ++ 32 ∷ rest.now)
 
--- the line of a node whose place and flag are these
-pub node_by_ranks : (text at rest flag more : List ℕ) (node : ℕ) (r : Option (Option (ℕ × ℕ))) → node < 2 ^ 16 → IsCut 32 text at rest
-    → IsCut 32 rest flag more → at ≡ decimal (node / 2) → flag ≡ decimal (node % 2)
-    → MatchOption r ((ranks : Option (ℕ × ℕ)) → AreWithin ranks → more ≡ ranks_text ranks → ⊥) (λ ranks. AreWithin ranks × (more ≡ ranks_text ranks))
-    → MatchOption r ((ranks : Option (ℕ × ℕ)) → AreWithin ranks → text ≡ node_text node ranks → ⊥) (λ ranks. AreWithin ranks × (text ≡ node_text node ranks))
-node_by_ranks text at rest flag more node None small cut cut2 a f h = λ ranks within is.
-    let p = node_parts text at rest node ranks small cut is in
-    h ranks within (flag_parts rest flag more node ranks small cut2 p.1).1
-node_by_ranks text at rest flag more node (Some ranks) small cut cut2 a f h =
-    let front : text ≡ at ++ 32 ∷ (flag ++ 32 ∷ more) = cut.is_text ∙ ap (λ t. at ++ 32 ∷ t) cut2.is_text in
-    let flag_is : flag ≡ flag_text (node % 2 == 1) = f ∙ sym (flag_text-nth node) in
-    let whole : text ≡ decimal (node / 2) ++ 32 ∷ node_rest node ranks = rw (← a, ← flag_is, ← h.1) front in
-    (h.0, whole ∙ sym (node_text-parts node ranks))
+-- no first word, so not both
+pub first_missing : (text a b : List ℕ) → ((rest : List ℕ) → text ≡ a ++ 32 ∷ rest → ⊥) → (rest : List ℕ) → text ≡ (a ++ codes " " ++ b) ++ 32 ∷ rest → ⊥
+first_missing text a b none rest is = none (b ++ 32 ∷ rest) (words_apart text a b rest is)
+
+-- behind the first word, the second
+pub behind_both : (text a b mid : List ℕ) (r : Option (Bor (List ℕ))) → text ≡ a ++ 32 ∷ mid → FindsBehind mid b r → FindsBehind text (a ++ codes " " ++ b) r
+behind_both text a b mid None is h = λ rest e.
+    let same : 32 ∷ mid ≡ 32 ∷ (b ++ 32 ∷ rest) = append_cancel_left a (32 ∷ mid) (32 ∷ (b ++ 32 ∷ rest)) (sym is ∙ words_apart text a b rest e) in
+    h rest cc
+behind_both text a b mid (Some rest) is h = words_on text a b mid rest.now is h
+
+-- a flag is one digit
+pub flag_text-digit : (flag : Bool) → flag_text flag ≡ decimal (if flag then 1 else 0)
+flag_text-digit true = sym (decimal_digit 1 (omega arith))
+flag_text-digit false = sym (decimal_digit 0 (omega arith))
+
+-- the number in front of the first space
+pub front_of_number : (text front more rest : List ℕ) (n : ℕ) → n < 2 ^ 64 → IsCut 32 text front more → text ≡ decimal n ++ 32 ∷ rest → front ≡ decimal n
+front_of_number text front more rest n small cut is = (decimal-cut text front more rest n 32 small (omega arith) cut is).0
+
+-- the ranks behind the words
+pub ranks_behind : (text words rest : List ℕ) (r : Option (Option (ℕ × ℕ))) → text ≡ words ++ 32 ∷ rest
+    → MatchOption r ((ranks : Option (ℕ × ℕ)) → AreWithin ranks → rest ≡ ranks_text ranks → ⊥) (λ ranks. AreWithin ranks × (rest ≡ ranks_text ranks))
+    → MatchOption r ((ranks : Option (ℕ × ℕ)) → AreWithin ranks → text ≡ words ++ codes " " ++ ranks_text ranks → ⊥)
+    (λ ranks. AreWithin ranks × (text ≡ words ++ codes " " ++ ranks_text ranks))
+ranks_behind text words rest None is h = λ ranks within e.
+    let same : 32 ∷ rest ≡ 32 ∷ ranks_text ranks =
+    append_cancel_left words (32 ∷ rest) (32 ∷ ranks_text ranks) (sym is ∙ e ∙ append_assoc words (codes " ") (ranks_text ranks)) in
+    h ranks within cc
+ranks_behind text words rest (Some ranks) is h =
+    (h.0, is ∙ ap (λ t. words ++ 32 ∷ t) h.1 ∙ sym (append_assoc words (codes " ") (ranks_text ranks)))

@@ -3,6 +3,7 @@ use Rattle.std.proofs.Common.{◌≡◌, ℕ, ◌+◌, List, [], ◌∷◌, ◌+
 use Rattle.std.proofs.Common.{length-append}
 use Rattle.std.specs.Option.{ok_or}
 use Rattle.sedck_cert.specs.Text.{line}
+use Rattle.sedck_cert.specs.declared.versions.Version.{Version}
 use Rattle.sedck_cert.specs.Faults.{Due, IsDue, AreDue, IsWrong, IsRefused, fault_at, joined_lines}
 use Rattle.sedck_cert.specs.Cuts.{IsCut}
 use Rattle.sedck_cert.specs.Reading.{IsNext, Leads, Stops}
@@ -17,33 +18,33 @@ pub joined_lines-append : (xs ys : List (List ℕ)) → joined_lines (xs ++ ys) 
 joined_lines-append [] ys = refl
 joined_lines-append (x ∷ xs) ys = ap (λ t. line x ++ t) (joined_lines-append xs ys) ∙ sym (append_assoc (line x) (joined_lines xs) (joined_lines ys))
 
-pub are_due-append : (xs ys : List (List ℕ)) (a b c : Due) → AreDue a xs b → AreDue b ys c → AreDue a (xs ++ ys) c
-are_due-append [] ys a b c h k = subst (λ d. AreDue d ys c) h k
-are_due-append (x ∷ xs) ys a b c h k = (h.0, h.1, h.2, are_due-append xs ys h.1 b c h.3 k)
+pub are_due-append : (v : Version) (xs ys : List (List ℕ)) (a b c : Due) → AreDue v a xs b → AreDue v b ys c → AreDue v a (xs ++ ys) c
+are_due-append v [] ys a b c h k = subst (λ d. AreDue v d ys c) h k
+are_due-append v (x ∷ xs) ys a b c h k = (h.0, h.1, h.2, are_due-append v xs ys h.1 b c h.3 k)
 
 -- one line
-pub leads_one : (due next : Due) (text : List ℕ) {old new : Lines} → IsNext old text new → IsDue due text next → Leads due old (text ∷ []) new next
-leads_one due next text {old} {new} line' is = record {
+pub leads_one : (v : Version) (due next : Due) (text : List ℕ) {old new : Lines} → IsNext old text new → IsDue v due text next → Leads v due old (text ∷ []) new next
+leads_one v due next text {old} {new} line' is = record {
   is_text = line'.cut.is_text ∙ sym (line-behind text new.rest.now) ∙ ap (λ t. t ++ new.rest.now) (sym (append-nil (line text)));
   number = line'.number;
   are_due = (line'.cut.none, next, is, refl);
 }
 
 -- no cut of the text gives what is due
-pub wrong_cuts : (due : Due) (rest : List ℕ) → ((text more : List ℕ) (next : Due) → IsCut 10 rest text more → ¬ IsDue due text next) → IsWrong due rest
-wrong_cuts due rest none = λ text more next is one. none text more next (record { none = one; is_text = is ∙ line-behind text more })
+pub wrong_cuts : (v : Version) (due : Due) (rest : List ℕ) → ((text more : List ℕ) (next : Due) → IsCut 10 rest text more → ¬ IsDue v due text next) → IsWrong v due rest
+wrong_cuts v due rest none = λ text more next is one. none text more next (record { none = one; is_text = is ∙ line-behind text more })
 
-pub wrong_word : (due : Due) (rest word : List ℕ) → ((text : List ℕ) (next : Due) → IsDue due text next → text ≡ word)
-    → ((more : List ℕ) → IsCut 10 rest word more → ⊥) → IsWrong due rest
-wrong_word due rest word told none = wrong_cuts due rest (λ text more next cut is. none more (subst (λ t. IsCut 10 rest t more) (told text next is) cut))
+pub wrong_word : (v : Version) (due : Due) (rest word : List ℕ) → ((text : List ℕ) (next : Due) → IsDue v due text next → text ≡ word)
+    → ((more : List ℕ) → IsCut 10 rest word more → ⊥) → IsWrong v due rest
+wrong_word v due rest word told none = wrong_cuts v due rest (λ text more next cut is. none more (subst (λ t. IsCut 10 rest t more) (told text next is) cut))
 
 -- the number behind the word in a line
 abbrev pub NoCount : List ℕ → List ℕ → Type 0
 NoCount rest word = (n : ℕ) → n ≤ 4095 → (more : List ℕ) → IsCut 10 rest (word ++ decimal n) more → ⊥
 
-pub wrong_count : (due : Due) (rest word : List ℕ)
-    → ((text : List ℕ) (next : Due) → IsDue due text next → (n : ℕ) × (n ≤ 4095) × (text ≡ word ++ decimal n)) → NoCount rest word → IsWrong due rest
-wrong_count due rest word told none = wrong_cuts due rest (λ text more next cut is.
+pub wrong_count : (v : Version) (due : Due) (rest word : List ℕ)
+    → ((text : List ℕ) (next : Due) → IsDue v due text next → (n : ℕ) × (n ≤ 4095) × (text ≡ word ++ decimal n)) → NoCount rest word → IsWrong v due rest
+wrong_count v due rest word told none = wrong_cuts v due rest (λ text more next cut is.
     let h = told text next is in
     none h.0 h.1 more (subst (λ t. IsCut 10 rest t more) h.2 cut))
 
@@ -60,17 +61,17 @@ pub no_cut : (rest text more : List ℕ) → (Contains rest 10 → ⊥) → IsCu
 no_cut rest text more none cut = none (has_byte 10 rest text more cut.is_text)
 
 -- no line is left
-pub wrong_none : (due : Due) (rest : List ℕ) → (Contains rest 10 → ⊥) → IsWrong due rest
-wrong_none due rest none = λ text more next is one due'. none (has_byte 10 rest text more (is ∙ line-behind text more))
+pub wrong_none : (v : Version) (due : Due) (rest : List ℕ) → (Contains rest 10 → ⊥) → IsWrong v due rest
+wrong_none v due rest none = λ text more next is one due'. none (has_byte 10 rest text more (is ∙ line-behind text more))
 
 -- the next line isn't what is due
-pub wrong_line : (due : Due) (rest text more : List ℕ) → IsCut 10 rest text more → ((next : Due) → ¬ IsDue due text next) → IsWrong due rest
-wrong_line due rest text more cut none = λ other behind next is one due'.
+pub wrong_line : (v : Version) (due : Due) (rest text more : List ℕ) → IsCut 10 rest text more → ((next : Due) → ¬ IsDue v due text next) → IsWrong v due rest
+wrong_line v due rest text more cut none = λ other behind next is one due'.
     let both = cut_one 10 rest text more other behind cut (record { none = one; is_text = is ∙ line-behind other behind }) in
-    none next (subst (λ t. IsDue due t next) (sym both.0) due')
+    none next (subst (λ t. IsDue v due t next) (sym both.0) due')
 
-pub stops_here : (due : Due) (old : Lines) (fault : CertFault) → IsRefused due old.rest.now → fault ≡ fault_at due old.number → Stops due old fault
-stops_here due old fault refused is = record {
+pub stops_here : (v : Version) (due : Due) (old : Lines) (fault : CertFault) → IsRefused v due old.rest.now → fault ≡ fault_at due old.number → Stops v due old fault
+stops_here v due old fault refused is = record {
   before = [];
   rest = old.rest.now;
   wrong = due;
@@ -81,23 +82,23 @@ stops_here due old fault refused is = record {
 }
 
 -- lines after lines
-pub leads_on : (a b c : Due) (xs ys : List (List ℕ)) {x y z : Lines} → Leads a x xs y b → Leads b y ys z c → Leads a x (xs ++ ys) z c
-leads_on a b c xs ys {x} {y} {z} h k = record {
+pub leads_on : (v : Version) (a b c : Due) (xs ys : List (List ℕ)) {x y z : Lines} → Leads v a x xs y b → Leads v b y ys z c → Leads v a x (xs ++ ys) z c
+leads_on v a b c xs ys {x} {y} {z} h k = record {
   is_text = h.is_text ∙ ap (λ t. joined_lines xs ++ t) k.is_text ∙ sym (append_assoc (joined_lines xs) (joined_lines ys) z.rest.now)
       ∙ ap (λ t. t ++ z.rest.now) (sym (joined_lines-append xs ys));
   number = omega (arith, h.number, k.number, length-append xs ys);
-  are_due = are_due-append xs ys a b c h.are_due k.are_due;
+  are_due = are_due-append v xs ys a b c h.are_due k.are_due;
 }
 
 -- what stops behind lines that are due
-pub leads_stops : (a b : Due) (xs : List (List ℕ)) (fault : CertFault) {x y : Lines} → Leads a x xs y b → Stops b y fault → Stops a x fault
-leads_stops a b xs fault {x} {y} h k = record {
+pub leads_stops : (v : Version) (a b : Due) (xs : List (List ℕ)) (fault : CertFault) {x y : Lines} → Leads v a x xs y b → Stops v b y fault → Stops v a x fault
+leads_stops v a b xs fault {x} {y} h k = record {
   before = xs ++ k.before;
   rest = k.rest;
   wrong = k.wrong;
   is_text = h.is_text ∙ ap (λ t. joined_lines xs ++ t) k.is_text ∙ sym (append_assoc (joined_lines xs) (joined_lines k.before) k.rest)
       ∙ ap (λ t. t ++ k.rest) (sym (joined_lines-append xs k.before));
-  are_due = are_due-append xs k.before a b k.wrong h.are_due k.are_due;
+  are_due = are_due-append v xs k.before a b k.wrong h.are_due k.are_due;
   is_refused = k.is_refused;
   is_fault = k.is_fault ∙ ap (fault_at k.wrong) (omega (arith, h.number, length-append xs k.before));
 }

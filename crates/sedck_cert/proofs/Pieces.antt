@@ -1,55 +1,61 @@
 -- The pieces of a certificate's text, in the order in which they are written.
-use Rattle.std.proofs.Common.{◌≡◌, ℕ, suc, ◌+◌, ◌<◌, ◌≤◌, ◌/◌, ◌%◌, ◌==◌, List, [], ◌∷◌, ◌++◌, length, get_or, take, drop, decimal, codes, Option, Some, Vec, append_assoc, append-nil, refl, sym, ◌∙◌, ap, arith}
-use Rattle.std.specs.Prelude.{if◌then◌else◌}
+use Rattle.std.proofs.Common.{◌≡◌, ℕ, suc, ◌+◌, ◌<◌, ◌≤◌, List, [], ◌∷◌, ◌++◌, length, get_or, take, drop, decimal, codes, Option, Some, Vec, append_assoc, append-nil, refl, sym, ◌∙◌, ap, arith}
+use Rattle.std.specs.Prelude.{Bool, if◌then◌else◌}
 use Rattle.std.proofs.Math.Seq.{drop-cons}
 use Rattle.std.specs.declared.alloc.Global.{Global}
 use Rattle.std.proofs.lemmas.List.{take-append-drop, take_more, map-append, length-take-le, length-map}
 use Rattle.sedck_script.specs.Names.{AreNames}
 use Rattle.sedck_cert.specs.Certificate.{Certificate, IsCertificate}
-use Rattle.sedck_flow.specs.Words.{flag_text}
-use Rattle.sedck_flow.specs.Nodes.{node_index}
+use Rattle.sedck_flow.specs.Words.{flag_text, node_words}
+use Rattle.sedck_flow.specs.Nodes.{node_index, nth_node}
 use Rattle.sedck_flow.specs.declared.graph.Node.{Node}
-use Rattle.sedck_flow.proofs.NodeLemmas.{parts-nth, flag_text-nth}
+use Rattle.sedck_flow.proofs.NodeLemmas.{node_same, index-nth}
+use Rattle.sedck_cert.proofs.Cuts.{flag_text-digit}
 use Rattle.sedck_cert.specs.View.{names_of}
-use Rattle.sedck_cert.specs.Text.{line, ranks_text, node_text, node_lines, name_lines, files_text, certificate_text}
+use Rattle.sedck_cert.specs.Text.{line, header, ranks_text, node_text, node_lines, name_lines, files_text, text_in, certificate_text}
+use Rattle.sedck_cert.specs.declared.versions.Version.TheVariants.{Two}
 use Rattle.sedck_cert.proofs.NameLimits.{left_cons}
 
 pub some_pieces : (first second : ℕ) → line (ranks_text (Some (first, second))) ≡ (decimal first ++ 32 ∷ []) ++ (decimal second ++ 10 ∷ [])
 some_pieces first second = append_assoc (decimal first ++ 32 ∷ []) (decimal second) (10 ∷ [])
 
-five : (a s b r e : List ℕ) → a ++ s ++ b ++ s ++ r ++ e ≡ (a ++ s) ++ ((b ++ s) ++ (r ++ e))
-five a s b r e = simp append_assoc
+seven : (a s f l r e : List ℕ) → a ++ s ++ f ++ s ++ l ++ s ++ r ++ e ≡ (a ++ s) ++ ((f ++ s) ++ ((l ++ s) ++ (r ++ e)))
+seven a s f l r e = simp append_assoc
 
--- by the place of the node, and its flag as a digit
+-- a bit and a space
+abbrev bit_field : Bool → List ℕ
+bit_field bit = decimal (if bit then 1 else 0) ++ 32 ∷ []
+
+-- by the place of the node, and its flag and its last line as digits
 pub node_pieces : (n : Node) (index : ℕ) (ranks : Option (ℕ × ℕ)) → node_index n ≡ index
-    → line (node_text index ranks) ≡ (decimal n.at ++ 32 ∷ []) ++ ((decimal (if n.flag then 1 else 0) ++ 32 ∷ []) ++ line (ranks_text ranks))
+    → line (node_text Two index ranks) ≡ (decimal n.at ++ 32 ∷ []) ++ (bit_field n.flag ++ (bit_field n.last ++ line (ranks_text ranks)))
 node_pieces n index ranks is =
-    let parts = parts-nth n index is in
-    five (decimal (index / 2)) (32 ∷ []) (flag_text (index % 2 == 1)) (ranks_text ranks) (10 ∷ [])
-    ∙ ap (λ d. (decimal (index / 2) ++ 32 ∷ []) ++ ((d ++ 32 ∷ []) ++ line (ranks_text ranks))) (flag_text-nth index ∙ ap decimal (sym parts.1))
-    ∙ ap (λ at. (decimal at ++ 32 ∷ []) ++ ((decimal (if n.flag then 1 else 0) ++ 32 ∷ []) ++ line (ranks_text ranks))) (sym parts.0)
+    let same : nth_node index ≡ n = sym (node_same n (nth_node index) (is ∙ sym (index-nth index))) in
+    ap (λ m. line (node_words m ++ codes " " ++ ranks_text ranks)) same
+    ∙ seven (decimal n.at) (32 ∷ []) (flag_text n.flag) (flag_text n.last) (ranks_text ranks) (10 ∷ [])
+    ∙ (λ i. (decimal n.at ++ 32 ∷ []) ++ ((flag_text-digit n.flag i ++ 32 ∷ []) ++ ((flag_text-digit n.last i ++ 32 ∷ []) ++ line (ranks_text ranks))))
 
-node_lines-append : (node : ℕ) (xs ys : List (Option (ℕ × ℕ))) → node_lines node (xs ++ ys) ≡ node_lines node xs ++ node_lines (node + length xs) ys
-node_lines-append node [] ys = ap (λ n. node_lines n ys) (omega arith)
+node_lines-append : (node : ℕ) (xs ys : List (Option (ℕ × ℕ))) → node_lines Two node (xs ++ ys) ≡ node_lines Two node xs ++ node_lines Two (node + length xs) ys
+node_lines-append node [] ys = ap (λ n. node_lines Two n ys) (omega arith)
 node_lines-append node (x ∷ xs) ys =
-    ap (λ t. line (node_text node x) ++ t) (node_lines-append (suc node) xs ys ∙ ap (λ n. node_lines (suc node) xs ++ node_lines n ys) (omega arith))
-    ∙ sym (append_assoc (line (node_text node x)) (node_lines (suc node) xs) (node_lines (node + length (x ∷ xs)) ys))
+    ap (λ t. line (node_text Two node x) ++ t) (node_lines-append (suc node) xs ys ∙ ap (λ n. node_lines Two (suc node) xs ++ node_lines Two n ys) (omega arith))
+    ∙ sym (append_assoc (line (node_text Two node x)) (node_lines Two (suc node) xs) (node_lines Two (node + length (x ∷ xs)) ys))
 
 pub node_lines-more : (ranks : List (Option (ℕ × ℕ))) (i : ℕ) (d : Option (ℕ × ℕ)) → i < length ranks
-    → node_lines 0 (take (i + 1) ranks) ≡ node_lines 0 (take i ranks) ++ line (node_text i (get_or ranks i d))
+    → node_lines Two 0 (take (i + 1) ranks) ≡ node_lines Two 0 (take i ranks) ++ line (node_text Two i (get_or ranks i d))
 node_lines-more ranks i d within =
     let long : length (take i ranks) ≡ i = length-take-le i ranks (omega arith) in
-    ap (node_lines 0) (take_more ranks i d within) ∙ node_lines-append 0 (take i ranks) (get_or ranks i d ∷ [])
-    ∙ ap (λ t. node_lines 0 (take i ranks) ++ t) (append-nil (line (node_text (0 + length (take i ranks)) (get_or ranks i d)))
-    ∙ ap (λ n. line (node_text n (get_or ranks i d))) (omega arith))
+    ap (node_lines Two 0) (take_more ranks i d within) ∙ node_lines-append 0 (take i ranks) (get_or ranks i d ∷ [])
+    ∙ ap (λ t. node_lines Two 0 (take i ranks) ++ t) (append-nil (line (node_text Two (0 + length (take i ranks)) (get_or ranks i d)))
+    ∙ ap (λ n. line (node_text Two n (get_or ranks i d))) (omega arith))
 
 pub node_lines-at : (ranks : List (Option (ℕ × ℕ))) (i : ℕ) (d : Option (ℕ × ℕ)) → i < length ranks
-    → node_lines 0 ranks ≡ node_lines 0 (take i ranks) ++ (line (node_text i (get_or ranks i d)) ++ node_lines (suc i) (drop (suc i) ranks))
+    → node_lines Two 0 ranks ≡ node_lines Two 0 (take i ranks) ++ (line (node_text Two i (get_or ranks i d)) ++ node_lines Two (suc i) (drop (suc i) ranks))
 node_lines-at ranks i d within =
     let long : length (take i ranks) ≡ i = length-take-le i ranks (omega arith) in
-    ap (node_lines 0) (sym (take-append-drop i ranks)) ∙ node_lines-append 0 (take i ranks) (drop i ranks)
-    ∙ ap (λ n. node_lines 0 (take i ranks) ++ node_lines n (drop i ranks)) (omega arith)
-    ∙ ap (λ t. node_lines 0 (take i ranks) ++ node_lines i t) (drop-cons ranks i d within)
+    ap (node_lines Two 0) (sym (take-append-drop i ranks)) ∙ node_lines-append 0 (take i ranks) (drop i ranks)
+    ∙ ap (λ n. node_lines Two 0 (take i ranks) ++ node_lines Two n (drop i ranks)) (omega arith)
+    ∙ ap (λ t. node_lines Two 0 (take i ranks) ++ node_lines Two i t) (drop-cons ranks i d within)
 
 name_lines-append : (xs ys : List (List ℕ)) → name_lines (xs ++ ys) ≡ name_lines xs ++ name_lines ys
 name_lines-append [] ys = refl
@@ -81,7 +87,7 @@ list_pieces word names n m same =
 pub length-names_of : (names : List (Vec ℕ Global)) → length names ≡ length (names_of names)
 length-names_of names = sym (length-map names (λ n. n.items))
 
-pub head_pieces : (n : ℕ) → line (codes "sedck 1") ++ line (codes "commands " ++ decimal n) ≡ codes "sedck 1\ncommands " ++ (decimal n ++ 10 ∷ [])
+pub head_pieces : (n : ℕ) → line (header Two) ++ line (codes "commands " ++ decimal n) ≡ codes "sedck 2\ncommands " ++ (decimal n ++ 10 ∷ [])
 head_pieces n = refl
 
 pub files_pieces : (reads writes : List (List ℕ)) → files_text reads writes ≡ (line (codes "read " ++ decimal (length reads)) ++ name_lines reads) ++
@@ -90,17 +96,17 @@ files_pieces reads writes = append_assoc (line (codes "read " ++ decimal (length
     (line (codes "write " ++ decimal (length writes))) (name_lines writes)
 
 abbrev pub head_text : ℕ → List ℕ
-head_text n = line (codes "sedck 1") ++ line (codes "commands " ++ decimal n)
+head_text n = line (header Two) ++ line (codes "commands " ++ decimal n)
 
 four : (h n f e : List ℕ) → h ++ n ++ f ++ e ≡ h ++ (n ++ (f ++ e))
 four h n f e = simp append_assoc
 
 pub certificate_pieces : (c : Certificate) → certificate_text c ≡ head_text c.commands ++
-    (node_lines 0 c.ranks ++ (files_text c.reads c.writes ++ line (codes "end")))
-unfolding certificate_text
-certificate_pieces c = four (head_text c.commands) (node_lines 0 c.ranks) (files_text c.reads c.writes) (line (codes "end"))
+    (node_lines Two 0 c.ranks ++ (files_text c.reads c.writes ++ line (codes "end")))
+unfolding text_in
+certificate_pieces c = four (head_text c.commands) (node_lines Two 0 c.ranks) (files_text c.reads c.writes) (line (codes "end"))
 
-pub few_ranks : (c : Certificate) (ranks : List (Option (ℕ × ℕ))) → IsCertificate c → ranks ≡ c.ranks → length ranks ≤ 8192
+pub few_ranks : (c : Certificate) (ranks : List (Option (ℕ × ℕ))) → IsCertificate Two c → ranks ≡ c.ranks → length ranks ≤ 16384
 few_ranks c ranks h is = omega (arith, h.nodes, h.commands, ap length is)
 
 pub few_names : (names : List (Vec ℕ Global)) (list : List (List ℕ)) → AreNames list → names_of names ≡ list → length names ≤ 4095
@@ -108,6 +114,6 @@ few_names names list h is = omega (arith, h.count, ap length is, length-names_of
 
 -- the pieces as they are at hand
 pub pieces_at : (c : Certificate) (n : ℕ) (ranks : List (Option (ℕ × ℕ))) (reads writes : List (List ℕ)) → n ≡ c.commands → ranks ≡ c.ranks
-    → reads ≡ c.reads → writes ≡ c.writes → certificate_text c ≡ head_text n ++ (node_lines 0 ranks ++ (files_text reads writes ++ line (codes "end")))
+    → reads ≡ c.reads → writes ≡ c.writes → certificate_text c ≡ head_text n ++ (node_lines Two 0 ranks ++ (files_text reads writes ++ line (codes "end")))
 pieces_at c n ranks reads writes a b d e = certificate_pieces c
-    ∙ (λ i. head_text (sym a i) ++ (node_lines 0 (sym b i) ++ (files_text (sym d i) (sym e i) ++ line (codes "end"))))
+    ∙ (λ i. head_text (sym a i) ++ (node_lines Two 0 (sym b i) ++ (files_text (sym d i) (sym e i) ++ line (codes "end"))))

@@ -7,29 +7,45 @@ use Rattle.std.proofs.lemmas.List.{length-take}
 use Rattle.std.proofs.lemmas.List.Elements.{recursion_from_All}
 use Rattle.std.proofs.lemmas.List.Sums.{sum_by-cons}
 use Rattle.sedck_script.specs.Names.{names_size}
-use Rattle.sedck_flow.specs.Nodes.{nth_node}
-use Rattle.sedck_flow.specs.Words.{flag_text, node_words}
-use Rattle.sedck_cert.specs.Certificate.{Certificate, IsCertificate, AreWithin}
-use Rattle.sedck_cert.specs.Text.{line, ranks_text, node_text, node_lines, name_lines, files_text, certificate_text, IsTextOf}
+use Rattle.sedck_flow.specs.Words.{flag_text}
+use Rattle.sedck_cert.specs.Certificate.{Certificate, IsCertificate, nodes_in, AreWithin}
+use Rattle.sedck_cert.specs.Text.{line, header, ranks_text, words_in, node_text, node_lines, name_lines, files_text, text_in}
+use Rattle.sedck_cert.specs.Versions.{SpellsCertificate}
+use Rattle.sedck_cert.specs.Laws.{text_limit}
+use Rattle.sedck_cert.specs.declared.versions.Version.{Version}
+use Rattle.sedck_cert.specs.declared.versions.Version.TheVariants.{One, Two}
 
 length-append_two : (a b c : List ℕ) → length (a ++ b ++ c) ≡ length a + length b + length c
 length-append_two a b c = length-append (a ++ b) c ∙ ap (λ n. n + length c) (length-append a b)
 
 -- ---- The lines of the nodes
 
--- What the lines of the nodes before this one take at most: 16 bytes each, and one more for each digit of a place behind its first.
--- From node 20 on places have two digits.
-abbrev limit_before : ℕ → ℕ
-limit_before node = 16 * node + (node - 20) + (node - 200) + (node - 2000)
+-- What the lines of the nodes before this one take at most: a number of bytes each, and one more for each digit of a place behind its first.
+-- From place 10 on places have two digits.
+abbrev pub limit_before : Version → ℕ → ℕ
+limit_before One node = 16 * node + (node - 20) + (node - 200) + (node - 2000)
+limit_before Two node = 18 * node + (node - 40) + (node - 400) + (node - 4000)
 
-place_length : (node : ℕ) → node < 8192 → length (decimal (node / 2)) + 15 + limit_before node ≤ limit_before (suc node)
-place_length node small = elim (cases_lt node 20) [
+place_one : (node : ℕ) → node < 8192 → length (decimal (node / 2)) + 15 + limit_before One node ≤ limit_before One (suc node)
+place_one node small = elim (cases_lt node 20) [
   | inl one ↦ let h = length-decimal-le 1 (node / 2) (omega arith) (omega arith) (omega arith) in omega (arith, h)
   | inr two ↦ elim (cases_lt node 200) [
     | inl one ↦ let h = length-decimal-le 2 (node / 2) (omega arith) (omega arith) (omega arith) in omega (arith, h)
     | inr three ↦ elim (cases_lt node 2000) [
       | inl one ↦ let h = length-decimal-le 3 (node / 2) (omega arith) (omega arith) (omega arith) in omega (arith, h)
       | inr four ↦ let h = length-decimal-le 4 (node / 2) (omega arith) (omega arith) (omega arith) in omega (arith, h)
+    ]
+  ]
+]
+
+place_two : (node : ℕ) → node < 16384 → length (decimal (node / 4)) + 17 + limit_before Two node ≤ limit_before Two (suc node)
+place_two node small = elim (cases_lt node 40) [
+  | inl one ↦ let h = length-decimal-le 1 (node / 4) (omega arith) (omega arith) (omega arith) in omega (arith, h)
+  | inr two ↦ elim (cases_lt node 400) [
+    | inl one ↦ let h = length-decimal-le 2 (node / 4) (omega arith) (omega arith) (omega arith) in omega (arith, h)
+    | inr three ↦ elim (cases_lt node 4000) [
+      | inl one ↦ let h = length-decimal-le 3 (node / 4) (omega arith) (omega arith) (omega arith) in omega (arith, h)
+      | inr four ↦ let h = length-decimal-le 4 (node / 4) (omega arith) (omega arith) (omega arith) in omega (arith, h)
     ]
   ]
 ]
@@ -49,23 +65,56 @@ ranks_length None within = omega arith
 ranks_length (Some r) within =
     omega (arith, length-append_two (decimal r.0) (codes " ") (decimal r.1), rank_length r.0 within.0, rank_length r.1 within.1)
 
-node_length : (node : ℕ) (ranks : Option (ℕ × ℕ)) → node < 8192 → AreWithin ranks
-    → length (line (node_text node ranks)) + limit_before node ≤ limit_before (suc node)
-node_length node ranks small within =
-    let words = node_words (nth_node node) in
+-- the words of a node, beside 13 bytes for its ranks, a space and a newline
+words_length : (v : Version) (node : ℕ) → node < nodes_in v 4095 → length (words_in v node) + 13 + limit_before v node ≤ limit_before v (suc node)
+words_length One node small =
     let flag = flag_text (node % 2 == 1) in
-    let text : length (node_text node ranks) ≡ length words + 1 + length (ranks_text ranks) = length-append_two words (codes " ") (ranks_text ranks) in
-    let place : length words ≡ length (decimal (node / 2)) + 1 + length flag = length-append_two (decimal (node / 2)) (codes " ") flag in
-    omega (arith, line_length (node_text node ranks), text, place, flag_length (node % 2 == 1), ranks_length ranks within, place_length node small)
+    let text : length (words_in One node) ≡ length (decimal (node / 2)) + 1 + length flag = length-append_two (decimal (node / 2)) (codes " ") flag in
+    omega (arith, text, flag_length (node % 2 == 1), place_one node small)
+words_length Two node small =
+    let flag = flag_text (node / 2 % 2 == 1) in
+    let last = flag_text (node % 2 == 1) in
+    let place : List ℕ = decimal (node / 4) ++ codes " " ++ flag in
+    let front : length place ≡ length (decimal (node / 4)) + 1 + length flag = length-append_two (decimal (node / 4)) (codes " ") flag in
+    let text : length (words_in Two node) ≡ length place + 1 + length last = length-append_two place (codes " ") last in
+    omega (arith, text, front, flag_length (node / 2 % 2 == 1), flag_length (node % 2 == 1), place_two node small)
 
-nodes_length : (node : ℕ) (all : List (Option (ℕ × ℕ))) → node + length all ≤ 8192 → AllByRecursion AreWithin all
-    → length (node_lines node all) + limit_before node ≤ limit_before (node + length all)
-nodes_length node [] small within = omega arith
-nodes_length node (ranks ∷ all) small within =
-    let first = node_length node ranks (omega arith) within.0 in
-    let rest = nodes_length (suc node) all (omega arith) within.1 in
-    let both = length-append (line (node_text node ranks)) (node_lines (suc node) all) in
-    omega (arith, first, rest, both)
+node_length : (v : Version) (node : ℕ) (ranks : Option (ℕ × ℕ)) → node < nodes_in v 4095 → AreWithin ranks
+    → length (line (node_text v node ranks)) + limit_before v node ≤ limit_before v (suc node)
+node_length v node ranks small within =
+    let text : length (node_text v node ranks) ≡ length (words_in v node) + 1 + length (ranks_text ranks) =
+    length-append_two (words_in v node) (codes " ") (ranks_text ranks) in
+    omega (arith, line_length (node_text v node ranks), text, ranks_length ranks within, words_length v node small)
+
+nodes_length : (v : Version) (node : ℕ) (all : List (Option (ℕ × ℕ))) → node + length all ≤ nodes_in v 4095 → AllByRecursion AreWithin all
+    → length (node_lines v node all) + limit_before v node ≤ limit_before v (node + length all)
+nodes_length v node [] small within = omega (arith, ap (limit_before v) (let e : node ≡ node + 0 = omega arith in e))
+nodes_length v node (ranks ∷ all) small within =
+    let first = node_length v node ranks (omega arith) within.0 in
+    let rest = nodes_length v (suc node) all (omega arith) within.1 in
+    let same : suc node + length all ≡ node + length (ranks ∷ all) = omega arith in
+    let end : limit_before v (suc node + length all) ≡ limit_before v (node + length (ranks ∷ all)) = ap (limit_before v) same in
+    let both = length-append (line (node_text v node ranks)) (node_lines v (suc node) all) in
+    omega (arith, first, rest, end, both)
+
+-- the lines of all nodes of a certificate
+abbrev all_limit : Version → ℕ
+all_limit One = 153428
+all_limit Two = 339624
+
+limits : (v : Version) (n : ℕ) → n ≤ 4095 → limit_before v (nodes_in v n) ≤ all_limit v
+limits One n few = omega arith
+limits Two n few = omega arith
+
+nodes_most : (v : Version) (n : ℕ) → n ≤ 4095 → nodes_in v n ≤ nodes_in v 4095
+nodes_most One n few = omega arith
+nodes_most Two n few = omega arith
+
+all_length : (v : Version) (c : Certificate) → IsCertificate v c → length (node_lines v 0 c.ranks) ≤ all_limit v
+all_length v c within =
+    let all = nodes_length v 0 c.ranks (omega (arith, within.nodes, nodes_most v c.commands within.commands))
+    (recursion_from_All AreWithin c.ranks within.ranks) in
+    omega (arith, all, ap (limit_before v) (let e : 0 + length c.ranks ≡ length c.ranks = omega arith in e ∙ within.nodes), limits v c.commands within.commands)
 
 -- ---- The lists of names
 
@@ -80,8 +129,16 @@ count_length word n few =
     let digits = length-decimal-le 4 n (omega arith) (omega arith) (omega arith) in
     omega (arith, digits, line_length (word ++ decimal n), length-append word (decimal n))
 
-files_length : (c : Certificate) → IsCertificate c → length (files_text c.reads c.writes) ≤ 1048597
-files_length c within =
+header_length : (v : Version) → length (line (header v)) ≡ 8
+header_length One = line_length (codes "sedck 1")
+header_length Two = line_length (codes "sedck 2")
+
+limit_of : (v : Version) → all_limit v + 1048623 ≡ text_limit v
+limit_of One = refl
+limit_of Two = refl
+
+files_length : (v : Version) (c : Certificate) → IsCertificate v c → length (files_text c.reads c.writes) ≤ 1048597
+files_length v c within =
     let read = line (codes "read " ++ decimal (length c.reads)) in
     let write = line (codes "write " ++ decimal (length c.writes)) in
     let parts : length (files_text c.reads c.writes) ≡ length read + length (name_lines c.reads) + length write + length (name_lines c.writes) =
@@ -99,31 +156,33 @@ files_length c within =
 
 -- ---- The text
 
-pub text_length : (c : Certificate) → IsCertificate c → length (certificate_text c) ≤ 1202051
-unfolding certificate_text
-text_length c within =
-    let head = line (codes "sedck 1") in
+pub text_length : (v : Version) (c : Certificate) → IsCertificate v c → length (text_in v c) ≤ text_limit v
+unfolding text_in
+text_length v c within =
+    let head = line (header v) in
     let count = line (codes "commands " ++ decimal c.commands) in
-    let nodes = node_lines 0 c.ranks in
+    let nodes = node_lines v 0 c.ranks in
     let files = files_text c.reads c.writes in
     let end = line (codes "end") in
     let parts : length (head ++ count ++ nodes ++ files ++ end) ≡ length head + length count + length nodes + length files + length end =
     length-append_two (head ++ count ++ nodes) files end
     ∙ ap (λ n. n + length files + length end) (length-append_two head count nodes) in
-    let all = nodes_length 0 c.ranks (omega (arith, within.nodes, within.commands)) (recursion_from_All AreWithin c.ranks within.ranks) in
     omega (
       arith,
       parts,
-      line_length (codes "sedck 1"),
+      header_length v,
       line_length (codes "end"),
       count_length (codes "commands ") c.commands within.commands,
-      all,
-      within.nodes,
-      within.commands,
-      files_length c within,
+      all_length v c within,
+      limit_of v,
+      files_length v c within,
     )
 
--- a text whose first 1,310,721 bytes are a certificate's text has no more of them
-pub front_is_whole : (text : List ℕ) (c : Certificate) → IsTextOf (take 1310721 text) c → take 1310721 text ≡ text
-front_is_whole text c h = take_all 1310721 text
-    (omega (arith, length-take 1310721 text, ap length h.is_text, text_length c h.within))
+text_length_of_spelled : (text : List ℕ) (c : Certificate) → SpellsCertificate text c → length text ≤ 1388247
+text_length_of_spelled text c (inl h) = omega (arith, ap length h.is_text, text_length Two c h.within)
+text_length_of_spelled text c (inr h) = omega (arith, ap length h.1.is_text, text_length One h.0 h.1.within)
+
+-- a text whose first 1,572,865 bytes spell a certificate has no more of them
+pub front_is_whole : (text : List ℕ) (c : Certificate) → SpellsCertificate (take 1572865 text) c → take 1572865 text ≡ text
+front_is_whole text c h = take_all 1572865 text
+    (omega (arith, length-take 1572865 text, text_length_of_spelled (take 1572865 text) c h))

@@ -1,10 +1,10 @@
 -- The parts of a certificate, read one after another.
-use Rattle.std.proofs.Common.{◌≡◌, ◌⊎◌, inl, inr, ℕ, suc, ◌+◌, ◌-◌, ◌≤◌, List, [], ◌∷◌, ◌++◌, length, decimal, codes, Option, Some, cond, All, count_by, Result, Ok, Err, IfOk, IfErr, IfSome, ◌==◌, append_assoc, append-nil, refl, sym, ◌∙◌, ap, arith}
+use Rattle.std.proofs.Common.{◌≡◌, ◌⊎◌, inl, inr, ℕ, suc, ◌+◌, ◌-◌, ◌≤◌, List, [], ◌∷◌, ◌++◌, length, decimal, codes, Option, Some, cond, All, count_by, IfSome, ◌==◌, append_assoc, append-nil, refl, sym, ◌∙◌, ap, arith}
 use Rattle.std.proofs.lemmas.List.Sums.{sum_by-append}
-use Rattle.sedck_flow.specs.Nodes.{node_count}
 use Rattle.sedck_script.specs.Names.{names_size}
-use Rattle.sedck_cert.specs.Certificate.{Certificate, IsCertificate, AreWithin}
-use Rattle.sedck_cert.specs.Text.{line, certificate_text, IsTextOf}
+use Rattle.sedck_cert.specs.Certificate.{Certificate, IsCertificate, nodes_in, AreWithin}
+use Rattle.sedck_cert.specs.Text.{line, header, text_in, IsTextOf}
+use Rattle.sedck_cert.specs.declared.versions.Version.{Version}
 use Rattle.sedck_cert.specs.Faults.{Due, Header, Count, Node, Names, Name, Last, Nothing, IsFaultOf, IsLineOf, line_of, fault_at, joined_lines, after_list}
 use Rattle.sedck_cert.specs.Reading.{Leads, Stops, node_texts, list_texts, certificate_lines}
 use Rattle.sedck_cert.specs.declared.reading.lines.Lines.{Lines}
@@ -12,13 +12,13 @@ use Rattle.sedck_cert.specs.declared.reading.names.Files.TheVariants.{Reads, Wri
 use Rattle.sedck_cert.specs.declared.reading.CertFault.{CertFault}
 use Rattle.sedck_cert.specs.declared.reading.CertFault.TheVariants.{OutOfMemory}
 use Rattle.sedck_cert.proofs.Leads.{leads_on, leads_stops}
-use Rattle.sedck_cert.proofs.Again.{text_of_one, fault_of_none}
+use Rattle.sedck_cert.proofs.Again.{fault_of_none}
 use Rattle.sedck_cert.proofs.Texts.{list_law, certificate_lines-joined}
 
 -- ---- Faults
 
-pub fault_of : (text : List ℕ) (start : Lines) (fault : CertFault) → start.rest.now ≡ text → start.number ≡ 1 → Stops Header start fault → IsFaultOf text fault
-fault_of text start fault rest number s = record {
+pub fault_of : (v : Version) (text : List ℕ) (start : Lines) (fault : CertFault) → start.rest.now ≡ text → start.number ≡ 1 → Stops v Header start fault → IsFaultOf v text fault
+fault_of v text start fault rest number s = record {
   before = s.before;
   rest = s.rest;
   due = s.wrong;
@@ -28,26 +28,33 @@ fault_of text start fault rest number s = record {
   is_fault = s.is_fault ∙ ap (fault_at s.wrong) (omega (arith, number));
 }
 
-pub fault_later : (text : List ℕ) (start : Lines) (fault : CertFault) (due : Due) (before : List (List ℕ)) {at : Lines} → start.rest.now ≡ text
-    → start.number ≡ 1 → Leads Header start before at due → (fault ≡ OutOfMemory) ⊎ Stops due at fault → (fault ≡ OutOfMemory) ⊎ IsFaultOf text fault
-fault_later text start fault due before rest number leads h = elim h [
+pub fault_later : (v : Version) (text : List ℕ) (start : Lines) (fault : CertFault) (due : Due) (before : List (List ℕ)) {at : Lines} → start.rest.now ≡ text
+    → start.number ≡ 1 → Leads v Header start before at due → (fault ≡ OutOfMemory) ⊎ Stops v due at fault → (fault ≡ OutOfMemory) ⊎ IsFaultOf v text fault
+fault_later v text start fault due before rest number leads h = elim h [
   | inl memory ↦ inl memory
-  | inr stops ↦ inr (fault_of text start fault rest number (leads_stops Header due before fault leads stops))
+  | inr stops ↦ inr (fault_of v text start fault rest number (leads_stops v Header due before fault leads stops))
 ]
+
+-- the same where the fault is one in every version
+pub fault_in_each : (v : Version) (text : List ℕ) (start : Lines) (fault : CertFault) (due : Due) (before : List (List ℕ)) {at : Lines} → start.rest.now ≡ text
+    → start.number ≡ 1 → Leads v Header start before at due → (fault ≡ OutOfMemory) ⊎ ((w : Version) → Stops w due at fault)
+    → (fault ≡ OutOfMemory) ⊎ IsFaultOf v text fault
+fault_in_each v text start fault due before rest number leads h =
+    fault_later v text start fault due before rest number leads (elim h [ inl memory ↦ inl memory | inr stops ↦ inr (stops v) ])
 
 -- ---- The certificate
 
 abbrev made : ℕ → List (Option (ℕ × ℕ)) → List (List ℕ) → List (List ℕ) → Certificate
 made n ranks reads writes = record { commands = n; ranks = ranks; reads = reads; writes = writes }
 
-pub whole_is : (n : ℕ) (ranks : List (Option (ℕ × ℕ))) (reads writes : List (List ℕ)) (size end : ℕ) {x3 x4 x5 : Lines} → n ≤ 4095
-    → length ranks ≡ node_count n → All AreWithin ranks → length reads ≤ 4095 → length writes ≤ 4095 → size ≤ 1048576
-    → Leads (Names Reads 0) x3 (list_texts Reads reads) x4 (after_list Reads size)
-    → Leads (Names Writes size) x4 (list_texts Writes writes) x5 (after_list Writes end)
-    → IsCertificate (made n ranks reads writes)
-whole_is n ranks reads writes size end few count within less fewer small l4 l5 =
-    let first = list_law Reads reads 0 (after_list Reads size) (omega arith) less l4.are_due in
-    let second = list_law Writes writes size (after_list Writes end) small fewer l5.are_due in
+pub whole_is : (v : Version) (n : ℕ) (ranks : List (Option (ℕ × ℕ))) (reads writes : List (List ℕ)) (size end : ℕ) {x3 x4 x5 : Lines} → n ≤ 4095
+    → length ranks ≡ nodes_in v n → All AreWithin ranks → length reads ≤ 4095 → length writes ≤ 4095 → size ≤ 1048576
+    → Leads v (Names Reads 0) x3 (list_texts Reads reads) x4 (after_list Reads size)
+    → Leads v (Names Writes size) x4 (list_texts Writes writes) x5 (after_list Writes end)
+    → IsCertificate v (made n ranks reads writes)
+whole_is v n ranks reads writes size end few count within less fewer small l4 l5 =
+    let first = list_law v Reads reads 0 (after_list Reads size) (omega arith) less l4.are_due in
+    let second = list_law v Writes writes size (after_list Writes end) small fewer l5.are_due in
     let same : size ≡ 0 + names_size reads = cc (first.1) in
     record {
       commands = few;
@@ -58,27 +65,27 @@ whole_is n ranks reads writes size end few count within less fewer small l4 l5 =
       size = omega (arith, same, second.2);
     }
 
-pub whole_text : (text : List ℕ) (n : ℕ) (ranks : List (Option (ℕ × ℕ))) (reads writes : List (List ℕ)) (size end : ℕ) {x0 x1 x2 x3 x4 x5 x6 : Lines}
+pub whole_text : (v : Version) (text : List ℕ) (n : ℕ) (ranks : List (Option (ℕ × ℕ))) (reads writes : List (List ℕ)) (size end : ℕ) {x0 x1 x2 x3 x4 x5 x6 : Lines}
     → x0.rest.now ≡ text
-    → Leads Header x0 (codes "sedck 1" ∷ []) x1 Count
-    → Leads Count x1 ((codes "commands " ++ decimal n) ∷ []) x2 (Node 0 (node_count n - 1))
-    → Leads (Node 0 (node_count n - 1)) x2 (node_texts 0 ranks) x3 (Names Reads 0)
-    → Leads (Names Reads 0) x3 (list_texts Reads reads) x4 (after_list Reads size)
-    → Leads (Names Writes size) x4 (list_texts Writes writes) x5 (after_list Writes end)
-    → Leads Last x5 (codes "end" ∷ []) x6 Nothing
+    → Leads v Header x0 (header v ∷ []) x1 Count
+    → Leads v Count x1 ((codes "commands " ++ decimal n) ∷ []) x2 (Node 0 (nodes_in v n - 1))
+    → Leads v (Node 0 (nodes_in v n - 1)) x2 (node_texts v 0 ranks) x3 (Names Reads 0)
+    → Leads v (Names Reads 0) x3 (list_texts Reads reads) x4 (after_list Reads size)
+    → Leads v (Names Writes size) x4 (list_texts Writes writes) x5 (after_list Writes end)
+    → Leads v Last x5 (codes "end" ∷ []) x6 Nothing
     → x6.rest.now ≡ []
-    → text ≡ certificate_text (made n ranks reads writes)
-whole_text text n ranks reads writes size end {x0} {x1} {x2} {x3} {x4} {x5} {x6} is l1 l2 l3 l4 l5 l6 last =
-    let files = leads_on (Names Reads 0) (Names Writes size) Nothing (list_texts Reads reads) (list_texts Writes writes ++ codes "end" ∷ []) l4
-    (leads_on (Names Writes size) Last Nothing (list_texts Writes writes) (codes "end" ∷ []) l5 l6) in
-    let nodes = leads_on (Node 0 (node_count n - 1)) (Names Reads 0) Nothing (node_texts 0 ranks)
+    → text ≡ text_in v (made n ranks reads writes)
+whole_text v text n ranks reads writes size end {x0} {x1} {x2} {x3} {x4} {x5} {x6} is l1 l2 l3 l4 l5 l6 last =
+    let files = leads_on v (Names Reads 0) (Names Writes size) Nothing (list_texts Reads reads) (list_texts Writes writes ++ codes "end" ∷ []) l4
+    (leads_on v (Names Writes size) Last Nothing (list_texts Writes writes) (codes "end" ∷ []) l5 l6) in
+    let nodes = leads_on v (Node 0 (nodes_in v n - 1)) (Names Reads 0) Nothing (node_texts v 0 ranks)
     (list_texts Reads reads ++ (list_texts Writes writes ++ codes "end" ∷ [])) l3 files in
-    let counted = leads_on Count (Node 0 (node_count n - 1)) Nothing ((codes "commands " ++ decimal n) ∷ [])
-    (node_texts 0 ranks ++ (list_texts Reads reads ++ (list_texts Writes writes ++ codes "end" ∷ []))) l2 nodes in
-    let all = leads_on Header Count Nothing (codes "sedck 1" ∷ [])
-    ((codes "commands " ++ decimal n) ∷ (node_texts 0 ranks ++ (list_texts Reads reads ++ (list_texts Writes writes ++ codes "end" ∷ [])))) l1 counted in
-    let lines = certificate_lines (made n ranks reads writes) in
-    sym is ∙ all.is_text ∙ ap (λ t. joined_lines lines ++ t) last ∙ append-nil (joined_lines lines) ∙ certificate_lines-joined (made n ranks reads writes)
+    let counted = leads_on v Count (Node 0 (nodes_in v n - 1)) Nothing ((codes "commands " ++ decimal n) ∷ [])
+    (node_texts v 0 ranks ++ (list_texts Reads reads ++ (list_texts Writes writes ++ codes "end" ∷ []))) l2 nodes in
+    let all = leads_on v Header Count Nothing (header v ∷ [])
+    ((codes "commands " ++ decimal n) ∷ (node_texts v 0 ranks ++ (list_texts Reads reads ++ (list_texts Writes writes ++ codes "end" ∷ [])))) l1 counted in
+    let lines = certificate_lines v (made n ranks reads writes) in
+    sym is ∙ all.is_text ∙ ap (λ t. joined_lines lines ++ t) last ∙ append-nil (joined_lines lines) ∙ certificate_lines-joined v (made n ranks reads writes)
 
 -- ---- The line of a fault
 
@@ -105,25 +112,18 @@ line_of-fault_at (Name files left before size) n = refl
 line_of-fault_at Last n = refl
 line_of-fault_at Nothing n = refl
 
-pub fault_placed : (text : List ℕ) (fault : CertFault) → IsFaultOf text fault → IfSome (line_of fault) (IsLineOf text)
-fault_placed text fault f =
+pub fault_placed : (v : Version) (text : List ℕ) (fault : CertFault) → IsFaultOf v text fault → IfSome (line_of fault) (IsLineOf text)
+fault_placed v text fault f =
     let many : length f.before ≤ newlines text = rw f.is_text (newlines_in f.before f.rest) in
     let is : line_of fault ≡ Some (suc (length f.before)) = ap line_of f.is_fault ∙ line_of-fault_at f.due (suc (length f.before)) in
     rw is (omega arith, omega (arith, many))
 
--- ---- What `read_cert` says
+-- ---- What the readers say of a text that they refuse
 
-pub read_only : (text : List ℕ) (r : Result Certificate CertFault) → IfOk r (IsTextOf text)
-    → IfOk r (λ cert. (other : Certificate) → IsTextOf text other → other ≡ cert)
-read_only text (Ok cert) h = λ other k. text_of_one text cert other h k
-read_only text (Err fault) h = tt
+pub refused_none : (v : Version) (text : List ℕ) (fault : CertFault) → (fault ≡ OutOfMemory) ⊎ IsFaultOf v text fault
+    → (fault ≡ OutOfMemory) ⊎ (((other : Certificate) → ¬ IsTextOf v text other) × IsFaultOf v text fault)
+refused_none v text fault h = elim h [ inl memory ↦ inl memory | inr is ↦ inr (fault_of_none v text fault is, is) ]
 
-pub refused_none : (text : List ℕ) (r : Result Certificate CertFault) → IfErr r (λ fault. (fault ≡ OutOfMemory) ⊎ IsFaultOf text fault)
-    → IfErr r (λ fault. (fault ≡ OutOfMemory) ⊎ (((other : Certificate) → ¬ IsTextOf text other) × IsFaultOf text fault))
-refused_none text (Ok cert) h = tt
-refused_none text (Err fault) h = elim h [ inl memory ↦ inl memory | inr is ↦ inr (fault_of_none text fault is, is) ]
-
-pub refused_placed : (text : List ℕ) (r : Result Certificate CertFault) → IfErr r (λ fault. (fault ≡ OutOfMemory) ⊎ IsFaultOf text fault)
-    → IfErr r (λ fault. IfSome (line_of fault) (IsLineOf text))
-refused_placed text (Ok cert) h = tt
-refused_placed text (Err fault) h = elim h [ inl memory ↦ rw memory tt | inr is ↦ fault_placed text fault is ]
+pub refused_placed : (v : Version) (text : List ℕ) (fault : CertFault) → (fault ≡ OutOfMemory) ⊎ IsFaultOf v text fault
+    → IfSome (line_of fault) (IsLineOf text)
+refused_placed v text fault h = elim h [ inl memory ↦ rw memory tt | inr is ↦ fault_placed v text fault is ]

@@ -1,10 +1,10 @@
--- Which fault a text that is no certificate's gets: that of the first line that isn't what is due there, after the lines before it.
+-- Which fault a text that is no certificate's gets, by the rules of each version: that of the first line that isn't what is due there, after the lines before it.
 use Rattle.std.specs.Prelude.{◌≡◌, ℕ, zero, suc, ◌+◌, ◌-◌, ◌<◌, ◌≤◌, List, [], ◌∷◌, ◌++◌, length, Option, Some, None, ◌==◌, count_by, decimal, codes}
 use Rattle.sedck_bre.specs.Bytes.{newline}
 use Rattle.sedck_script.specs.Names.{IsName, IsBefore}
-use Rattle.sedck_flow.specs.Nodes.{node_count}
-use Rattle.sedck_cert.specs.Certificate.{AreWithin}
-use Rattle.sedck_cert.specs.Text.{line, node_text, IsOneLine}
+use Rattle.sedck_cert.specs.Certificate.{nodes_in, AreWithin}
+use Rattle.sedck_cert.specs.Text.{line, header, node_text, IsOneLine}
+use Rattle.sedck_cert.specs.declared.versions.Version.{Version}
 use Rattle.sedck_cert.specs.declared.reading.names.Files.{Files}
 use Rattle.sedck_cert.specs.declared.reading.names.Files.TheVariants.{Reads, Writes}
 use Rattle.sedck_cert.specs.declared.reading.CertFault.{CertFault}
@@ -50,26 +50,26 @@ list_word Reads = codes "read "
 list_word Writes = codes "write "
 
 -- the line, without its newline, is what is due, and what is due next
-abbrev pub IsDue : Due → List ℕ → Due → Type 0
-IsDue Header text next = (text ≡ codes "sedck 1") × (next ≡ Count)
-IsDue Count text next = (n : ℕ) × (n ≤ 4095) × (text ≡ codes "commands " ++ decimal n) × (next ≡ Node 0 (node_count n - 1))
-IsDue (Node node left) text next =
-    (ranks : Option (ℕ × ℕ)) × AreWithin ranks × (text ≡ node_text node ranks) × (next ≡ after_node node left)
-IsDue (Names files size) text next = (n : ℕ) × (n ≤ 4095) × (text ≡ list_word files ++ decimal n) × (next ≡ after_count files n size)
-IsDue (Name files zero before size) text next = ⊥
-IsDue (Name files (suc left) before size) text next =
+abbrev pub IsDue : Version → Due → List ℕ → Due → Type 0
+IsDue v Header text next = (text ≡ header v) × (next ≡ Count)
+IsDue v Count text next = (n : ℕ) × (n ≤ 4095) × (text ≡ codes "commands " ++ decimal n) × (next ≡ Node 0 (nodes_in v n - 1))
+IsDue v (Node node left) text next =
+    (ranks : Option (ℕ × ℕ)) × AreWithin ranks × (text ≡ node_text v node ranks) × (next ≡ after_node node left)
+IsDue v (Names files size) text next = (n : ℕ) × (n ≤ 4095) × (text ≡ list_word files ++ decimal n) × (next ≡ after_count files n size)
+IsDue v (Name files zero before size) text next = ⊥
+IsDue v (Name files (suc left) before size) text next =
     IsName text × Rises before text × (size + length text + 1 ≤ 1048576) × (next ≡ after_name files left text (size + length text + 1))
-IsDue Last text next = (text ≡ codes "end") × (next ≡ Nothing)
-IsDue Nothing text next = ⊥
+IsDue v Last text next = (text ≡ codes "end") × (next ≡ Nothing)
+IsDue v Nothing text next = ⊥
 
 -- these lines are what is due, one after another
-abbrev pub AreDue : Due → List (List ℕ) → Due → Type 0
-AreDue due [] next = next ≡ due
-AreDue due (text ∷ more) next = IsOneLine text × (mid : Due) × IsDue due text mid × AreDue mid more next
+abbrev pub AreDue : Version → Due → List (List ℕ) → Due → Type 0
+AreDue v due [] next = next ≡ due
+AreDue v due (text ∷ more) next = IsOneLine text × (mid : Due) × IsDue v due text mid × AreDue v mid more next
 
 -- the rest of the text doesn't begin with a line that is due
-abbrev pub IsWrong : Due → List ℕ → Type 0
-IsWrong due rest = (text more : List ℕ) (next : Due) → rest ≡ line text ++ more → IsOneLine text → ¬ IsDue due text next
+abbrev pub IsWrong : Version → Due → List ℕ → Type 0
+IsWrong v due rest = (text more : List ℕ) (next : Due) → rest ≡ line text ++ more → IsOneLine text → ¬ IsDue v due text next
 
 -- the fault at a line
 abbrev pub fault_at : Due → ℕ → CertFault
@@ -86,9 +86,9 @@ joined_lines [] = []
 joined_lines (text ∷ more) = line text ++ joined_lines more
 
 -- where nothing is due, the text ends
-abbrev pub IsRefused : Due → List ℕ → Type 0
-IsRefused Nothing rest = 0 < length rest
-IsRefused due rest = IsWrong due rest
+abbrev pub IsRefused : Version → Due → List ℕ → Type 0
+IsRefused v Nothing rest = 0 < length rest
+IsRefused v due rest = IsWrong v due rest
 
 -- the line of a fault, if it has one
 abbrev pub line_of : CertFault → Option ℕ
@@ -103,12 +103,12 @@ line_of OutOfMemory = None
 abbrev pub IsLineOf : List ℕ → ℕ → Type 0
 IsLineOf text n = (1 ≤ n) × (n ≤ count_by (λ b. b == newline) text + 1)
 
--- the fault of a text that is no certificate's
-pub record IsFaultOf (text : List ℕ) (fault : CertFault) : Type 0 where
+-- the fault of a text that is no certificate's in this version
+pub record IsFaultOf (v : Version) (text : List ℕ) (fault : CertFault) : Type 0 where
   pub before : List (List ℕ)
   pub rest : List ℕ
   pub due : Due
   pub is_text : text ≡ joined_lines before ++ rest
-  pub are_due : AreDue Header before due
-  pub is_refused : IsRefused due rest
+  pub are_due : AreDue v Header before due
+  pub is_refused : IsRefused v due rest
   pub is_fault : fault ≡ fault_at due (suc (length before))

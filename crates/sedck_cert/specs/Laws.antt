@@ -5,7 +5,9 @@ use Rattle.sedck_script.specs.Program.{Program}
 use Rattle.sedck_script.specs.Names.{reads, writes}
 use Rattle.sedck_flow.specs.Run.{State, Event, Run, NamesForReading, NamesForWriting}
 use Rattle.sedck_cert.specs.Certificate.{Certificate, IsCertificate}
-use Rattle.sedck_cert.specs.Text.{certificate_text}
+use Rattle.sedck_cert.specs.Text.{text_in}
+use Rattle.sedck_cert.specs.declared.versions.Version.{Version}
+use Rattle.sedck_cert.specs.declared.versions.Version.TheVariants.{One, Two}
 use Rattle.sedck_cert.specs.Ranked.{IsRanked, IsSteady, ListsNames}
 use Rattle.sedck_cert.specs.StepLimit.{greatest_first, greatest_second, step_limit}
 use Rattle.sedck_flow.specs.Spaces.{bytes_of}
@@ -28,6 +30,11 @@ abbrev pub SteadyRunsAreCounted : Type 0
 SteadyRunsAreCounted = (p : Program) → AreWellFormed p → (c : Certificate) → IsSteady p c
     → (lines : List (List ℕ)) (steps : List (Event × State)) → Run p lines steps → length steps ≤ steady_limit c lines
 
+-- the bytes of the longest text of each version
+abbrev pub text_limit : Version → ℕ
+text_limit One = 1202051
+text_limit Two = 1388247
+
 -- no certificate has a longer text
 abbrev pub TextsAreLimited : Type 0
-TextsAreLimited = (c : Certificate) → IsCertificate c → length (certificate_text c) ≤ 1202051
+TextsAreLimited = (v : Version) (c : Certificate) → IsCertificate v c → length (text_in v c) ≤ text_limit v

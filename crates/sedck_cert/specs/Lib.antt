@@ -14,6 +14,8 @@ pub mod FaultText
 pub mod Cuts
 pub mod Reading
 pub mod Ranked
+pub mod VersionOne
+pub mod Versions
 pub mod Rejections
 pub mod StepLimit
 pub mod Bounds

@@ -5,7 +5,8 @@ use Rattle.sedck_bre.specs.Bytes.{newline}
 use Rattle.sedck_script.specs.Names.{IsName}
 use Rattle.sedck_cert.specs.Cuts.{IsCut}
 use Rattle.sedck_cert.specs.Certificate.{Certificate}
-use Rattle.sedck_cert.specs.Text.{node_text}
+use Rattle.sedck_cert.specs.Text.{header, node_text}
+use Rattle.sedck_cert.specs.declared.versions.Version.{Version}
 use Rattle.sedck_cert.specs.Faults.{Due, Names, Node, Name, AreDue, IsRefused, Rises, after_list, list_word, fault_at, joined_lines}
 use Rattle.sedck_cert.specs.declared.reading.names.Files.{Files}
 use Rattle.sedck_cert.specs.declared.reading.names.Files.TheVariants.{Reads, Writes}
@@ -18,25 +19,25 @@ pub record IsNext (old : Lines) (text : List ℕ) (new : Lines) : Type 0 where
   pub number : new.number ≡ old.number + 1
 
 -- these lines stand next and are what is due, and what is due behind them
-pub record Leads (due : Due) (old : Lines) (texts : List (List ℕ)) (new : Lines) (next : Due) : Type 0 where
+pub record Leads (v : Version) (due : Due) (old : Lines) (texts : List (List ℕ)) (new : Lines) (next : Due) : Type 0 where
   pub is_text : old.rest.now ≡ joined_lines texts ++ new.rest.now
   pub number : new.number ≡ old.number + length texts
-  pub are_due : AreDue due texts next
+  pub are_due : AreDue v due texts next
 
 -- behind lines that are due stands what isn't, and this is its fault
-pub record Stops (due : Due) (old : Lines) (fault : CertFault) : Type 0 where
+pub record Stops (v : Version) (due : Due) (old : Lines) (fault : CertFault) : Type 0 where
   pub before : List (List ℕ)
   pub rest : List ℕ
   pub wrong : Due
   pub is_text : old.rest.now ≡ joined_lines before ++ rest
-  pub are_due : AreDue due before wrong
-  pub is_refused : IsRefused wrong rest
+  pub are_due : AreDue v due before wrong
+  pub is_refused : IsRefused v wrong rest
   pub is_fault : fault ≡ fault_at wrong (old.number + length before)
 
 -- the lines of the nodes from this one on
-abbrev pub node_texts : ℕ → List (Option (ℕ × ℕ)) → List (List ℕ)
-node_texts node [] = []
-node_texts node (ranks ∷ more) = node_text node ranks ∷ node_texts (suc node) more
+abbrev pub node_texts : Version → ℕ → List (Option (ℕ × ℕ)) → List (List ℕ)
+node_texts v node [] = []
+node_texts v node (ranks ∷ more) = node_text v node ranks ∷ node_texts v (suc node) more
 
 -- due where so many nodes are left
 abbrev pub nodes_due : ℕ → ℕ → Due
@@ -58,9 +59,9 @@ one_before None = []
 one_before (Some name) = name.now ∷ []
 
 -- the lines of a certificate's text
-abbrev pub certificate_lines : Certificate → List (List ℕ)
-certificate_lines c =
-    codes "sedck 1" ∷ (codes "commands " ++ decimal c.commands) ∷ (node_texts 0 c.ranks ++ (list_texts Reads c.reads ++ (list_texts Writes c.writes ++ codes "end" ∷ [])))
+abbrev pub certificate_lines : Version → Certificate → List (List ℕ)
+certificate_lines v c =
+    header v ∷ (codes "commands " ++ decimal c.commands) ∷ (node_texts v 0 c.ranks ++ (list_texts Reads c.reads ++ (list_texts Writes c.writes ++ codes "end" ∷ [])))
 
 -- rising names behind the one before, if there is one, and within the limit on bytes
 abbrev pub AreNext : List (List ℕ) → List (List ℕ) → ℕ → Type 0

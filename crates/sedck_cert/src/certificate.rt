@@ -3,19 +3,26 @@
 ghost use Rattle.std.specs.Prelude.{◌≡◌, ◌↔◌, ◌+◌, ◌≤◌, All, IsSome, IfSome, MatchOption};
 ghost use Rattle.sedck_script.specs.Names.{AreNames, names_size};
 ghost use Rattle.sedck_cert.specs.Certificate.{IsCertificate, AreWithin};
-ghost use Rattle.sedck_cert.specs.View.{names_of, certificate_of};
+ghost use Rattle.sedck_cert.specs.View.{names_of, certificate_of, with_parts};
+ghost use Rattle.sedck_cert.specs.declared.versions.Version.TheVariants.{Two};
 
 use crate::reading::{NAMES_LIMIT, is_next_name};
-use sedck_flow::node_count;
+use crate::versions::Version;
 use std::marker::Model;
+
+/// What a certificate holds, in any version.
+#[derive(Drop)]
+pub struct Parts {
+    pub commands: u16,
+    pub ranks: Vec<Option<(u16, u16)>>,
+    pub reads: Vec<Vec<u8>>,
+    pub writes: Vec<Vec<u8>>,
+}
 
 /// A certificate for a script.
 #[derive(Drop)]
 pub struct Cert {
-    commands: u16,
-    ranks: Vec<Option<(u16, u16)>>,
-    reads: Vec<Vec<u8>>,
-    writes: Vec<Vec<u8>>,
+    parts: Parts,
 }
 
 impl Model for Cert {
@@ -38,63 +45,58 @@ impl Cert {
         reads: Vec<Vec<u8>>,
         writes: Vec<Vec<u8>>,
     ) -> Option<Cert>
-        ensures within { IsSome result ↔ IsCertificate (certificate_of commands ranks reads writes) }
+        ensures within { IsSome result ↔ IsCertificate Two (certificate_of commands ranks reads writes) }
         ensures same { IfSome result (λ cert. cert ≡ certificate_of commands ranks reads writes) }
     {
-        if commands > 4095 || ranks.len() != node_count(usize::from(commands)) {
+        if commands > 4095 || ranks.len() != usize::from(Version::Two.node_count(commands)) {
             return None;
         }
         know_limits(&ranks);
         let size = size_with(&reads, 0)?;
         size_with(&writes, size)?;
-        Some(Cert::of_parts(commands, ranks, reads, writes))
-    }
-
-    /// The certificate of these parts.
-    pub(crate) fn of_parts(
-        commands: u16,
-        ranks: Vec<Option<(u16, u16)>>,
-        reads: Vec<Vec<u8>>,
-        writes: Vec<Vec<u8>>,
-    ) -> Cert
-        requires { IsCertificate (certificate_of commands ranks reads writes) }
-        ensures { result ≡ certificate_of commands ranks reads writes }
-    {
-        Cert {
+        Some(Cert::of_parts(Parts {
             commands,
             ranks,
             reads,
             writes,
-        }
+        }))
+    }
+
+    /// The certificate of these parts.
+    pub(crate) fn of_parts(parts: Parts) -> Cert
+        requires { IsCertificate Two (with_parts parts) }
+        ensures { result ≡ with_parts parts }
+    {
+        Cert { parts }
     }
 
     /// The number of commands of the script.
     pub fn commands(&self) -> u16
         ensures { result ≡ self.now.commands }
     {
-        self.commands
+        self.parts.commands
     }
 
-    /// The ranks of each node, by place and then flag.
+    /// The ranks of each node, in the order of nodes.
     pub fn ranks(&self) -> &[Option<(u16, u16)>]
         ensures ranks { result.now ≡ self.now.ranks }
-        ensures certificate { IsCertificate self.now }
+        ensures certificate { IsCertificate Two self.now }
     {
-        &self.ranks
+        &self.parts.ranks
     }
 
     /// The names of the files that the script reads.
     pub fn reads(&self) -> &[Vec<u8>]
         ensures { names_of result.now ≡ self.now.reads }
     {
-        &self.reads
+        &self.parts.reads
     }
 
     /// The names of the files that the script writes.
     pub fn writes(&self) -> &[Vec<u8>]
         ensures { names_of result.now ≡ self.now.writes }
     {
-        &self.writes
+        &self.parts.writes
     }
 }
 

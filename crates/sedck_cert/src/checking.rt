@@ -1,7 +1,7 @@
 //! Whether a certificate is accepted for a script, and the first reason why it isn't.
 
-ghost use Rattle.std.specs.Prelude.{◌≡◌, ◌≢◌, ◌↔◌, ◌+◌, ◌*◌, ◌≤◌, ◌<◌, Bool, length, map, IsTrue, Option, None, MatchOption};
-ghost use Rattle.std.specs.Bool.{OnTrue, OnFalse};
+ghost use Rattle.std.specs.Prelude.{◌≡◌, ◌≢◌, ◌↔◌, Bool, None, ◌+◌, ◌*◌, ◌≤◌, ◌<◌, length, map, IsTrue, Option, MatchOption};
+ghost use Rattle.std.specs.Bool.{MatchBool};
 ghost use Rattle.sedck_flow.specs.Nodes.{start};
 ghost use Rattle.sedck_flow.specs.Flow.{Flow, FlowFrom};
 ghost use Rattle.sedck_flow.specs.Run.{NamesForReading, NamesForWriting};
@@ -21,7 +21,7 @@ use sedck_script::Script;
 pub enum Rejection {
     /// The number of commands is another than the script's.
     WrongCount,
-    /// A node at which a run may begin, before the last line or on it, has no ranks.
+    /// One of the two starts has no ranks.
     StartUnranked,
     /// The edge leads from a node with ranks to one without.
     LeavesRanked(Edge),
@@ -58,7 +58,7 @@ fn first_rejection(script: &Script, cert: &Cert) -> Option<Rejection>
     if usize::from(cert.commands()) != script.commands().len() {
         return Some(Rejection::WrongCount);
     }
-    if !has_starts(cert) {
+    if !are_starts_ranked(cert) {
         return Some(Rejection::StartUnranked);
     }
     if let Some(why) = first_unmet(script, cert) {
@@ -73,10 +73,9 @@ fn first_rejection(script: &Script, cert: &Cert) -> Option<Rejection>
     None
 }
 
-/// Whether both nodes at which a run may begin have ranks.
-fn has_starts(cert: &Cert) -> bool
-    ensures ranked { OnTrue result ((last : Bool) → ranks_at cert.now (start last) ≢ None) }
-    ensures unranked { OnFalse result ((last : Bool) × (ranks_at cert.now (start last) ≡ None)) }
+/// Whether both starts have ranks: the first line may be the last one.
+fn are_starts_ranked(cert: &Cert) -> bool
+    ensures { MatchBool result ((last : Bool) → ranks_at cert.now (start last) ≢ None) ((last : Bool) × (ranks_at cert.now (start last) ≡ None)) }
 {
     ranks_of(cert, Node::start(false)).is_some() && ranks_of(cert, Node::start(true)).is_some()
 }

@@ -17,7 +17,7 @@ pub fn steady_runs_are_counted()
     ensures { SteadyRunsAreCounted }
 {}
 
-/// No certificate's text has more than 1,202,051 bytes.
+/// No certificate's text has more than 1,388,247 bytes, and none of version 1 more than 1,202,051.
 pub fn texts_are_limited()
     ensures { TextsAreLimited }
 {}

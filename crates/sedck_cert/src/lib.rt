@@ -9,12 +9,15 @@ mod limits;
 mod reading;
 pub mod streams;
 mod verifying;
+mod version_one;
+mod versions;
 mod writing;
 
 pub use bounding::bound;
 pub use certificate::Cert;
 pub use checking::{Rejection, Verdict, check};
 pub use limits::Bound;
-pub use reading::{CertFault, read_cert};
+pub use reading::{CertFault, read_cert, read_cert_one};
 pub use verifying::{Fault, Judged, judge, verify};
+pub use version_one::CertOne;
 pub use writing::write_cert;

@@ -3,6 +3,8 @@
 ghost use Rattle.std.specs.Prelude.{◌≡◌, ◌⊎◌, IfOk, IfErr, IfSome, Some};
 ghost use Rattle.sedck_cert.specs.Certificate.{Certificate};
 ghost use Rattle.sedck_cert.specs.Text.{IsTextOf};
+ghost use Rattle.sedck_cert.specs.View.{with_parts};
+ghost use Rattle.sedck_cert.specs.declared.versions.Version.TheVariants.{One, Two};
 ghost use Rattle.sedck_cert.specs.Faults.{IsFaultOf, IsLineOf, line_of};
 ghost use Rattle.sedck_cert.specs.FaultText.{number_of, name_of, fault_text};
 ghost use Rattle.sedck_cert.specs.declared.reading.CertFault.TheVariants.{OutOfMemory};
@@ -18,14 +20,16 @@ use self::lines::Lines;
 use self::names::{Files, names};
 pub use self::names::{NAMES_LIMIT, is_next_name};
 use self::nodes::nodes;
-use crate::certificate::Cert;
+use crate::certificate::{Cert, Parts};
+use crate::version_one::CertOne;
+use crate::versions::Version;
 use std::alloc::{AllocError, AllocFailed, Global};
 use std::fmt;
 
 /// Why a text is no certificate's, and at which line, counted from 1.
 #[derive(Clone, Copy, Debug, PartialEq, Eq, Drop)]
 pub enum CertFault {
-    /// The first line isn't `sedck 1`.
+    /// The first line isn't `sedck 2`, or `sedck 1` for version 1.
     BadHeader { line: usize },
     /// The second line isn't the number of commands, at most 4095, in its one spelling.
     BadCount { line: usize },
@@ -111,30 +115,47 @@ impl<T: Drop> From<AllocFailed<T>> for CertFault {
     }
 }
 
-/// Reads a certificate.
+/// Reads a certificate from a text of version 2.
 pub fn read_cert(alloc: Global, text: &[u8]) -> Result<Cert, CertFault>
     // What is read is the certificate whose text stands there, and no other has that text.
-    ensures read { IfOk result (IsTextOf text.now) }
-    ensures only { IfOk result (λ cert. (other : Certificate) → IsTextOf text.now other → other ≡ cert) }
+    ensures read { IfOk result (IsTextOf Two text.now) }
+    ensures only { IfOk result (λ cert. (other : Certificate) → IsTextOf Two text.now other → other ≡ cert) }
     // Unless memory runs out, a text is refused only where it is no certificate's, by the fault of its first wrong line.
     ensures refused { IfErr result (λ fault. fault ≡ CertFault.OutOfMemory
-        ⊎ (((other : Certificate) → ¬ IsTextOf text.now other) × IsFaultOf text.now fault)) }
+        ⊎ (((other : Certificate) → ¬ IsTextOf Two text.now other) × IsFaultOf Two text.now fault)) }
     ensures placed { IfErr result (λ fault. IfSome (line_of fault) (IsLineOf text.now)) }
 {
-    read_lines(alloc, text)
+    Ok(Cert::of_parts(read_lines(alloc, Version::Two, text)?))
 }
 
-/// Reads the lines in order. That no other certificate has the text is added by `read_cert`.
-fn read_lines(alloc: Global, text: &[u8]) -> Result<Cert, CertFault>
-    ensures read { IfOk result (IsTextOf text.now) }
-    ensures refused { IfErr result (λ fault. (fault ≡ CertFault.OutOfMemory) ⊎ IsFaultOf text.now fault) }
+/// Reads a certificate from a text of version 1.
+pub fn read_cert_one(alloc: Global, text: &[u8]) -> Result<CertOne, CertFault>
+    // As for `read_cert`, by the rules of version 1.
+    ensures read { IfOk result (IsTextOf One text.now) }
+    ensures only { IfOk result (λ cert. (other : Certificate) → IsTextOf One text.now other → other ≡ cert) }
+    ensures refused { IfErr result (λ fault. fault ≡ CertFault.OutOfMemory
+        ⊎ (((other : Certificate) → ¬ IsTextOf One text.now other) × IsFaultOf One text.now fault)) }
+    ensures placed { IfErr result (λ fault. IfSome (line_of fault) (IsLineOf text.now)) }
+{
+    Ok(CertOne::of_parts(read_lines(alloc, Version::One, text)?))
+}
+
+/// Reads the lines in order. That no other certificate has the text is added by the callers.
+fn read_lines(alloc: Global, version: Version, text: &[u8]) -> Result<Parts, CertFault>
+    ensures read { IfOk result (λ parts. IsTextOf version text.now (with_parts parts)) }
+    ensures refused { IfErr result (λ fault. (fault ≡ CertFault.OutOfMemory) ⊎ IsFaultOf version text.now fault) }
 {
     let mut lines = Lines::new(text);
-    header(&mut lines)?;
-    let commands = command_count(&mut lines)?;
-    let ranks = nodes(alloc, &mut lines, commands)?;
+    header(&mut lines, version)?;
+    let commands = command_count(&mut lines, version)?;
+    let ranks = nodes(alloc, &mut lines, version, commands)?;
     let (reads, size) = names(alloc, &mut lines, Files::Reads, 0)?;
     let (writes, _) = names(alloc, &mut lines, Files::Writes, size)?;
     ending(&mut lines)?;
-    Ok(Cert::of_parts(commands, ranks, reads, writes))
+    Ok(Parts {
+        commands,
+        ranks,
+        reads,
+        writes,
+    })
 }

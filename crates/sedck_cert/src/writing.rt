@@ -3,8 +3,9 @@
 ghost use Rattle.std.specs.Prelude.{◌≡◌, ◌++◌, ◌≤◌, ◌∷◌, [], ◌/◌, ◌%◌, length, OnOk, OnErr, decimal, codes, ℕ, List};
 ghost use Rattle.std.specs.Io.KnownBytes.{Appends};
 ghost use Rattle.sedck_cert.specs.Streams.{TellsFailure, IsFrontOf, AppendsFront};
-ghost use Rattle.sedck_cert.specs.Text.{line, ranks_text, node_text, node_lines, name_lines, files_text, certificate_text};
+ghost use Rattle.sedck_cert.specs.Text.{line, header, ranks_text, node_text, node_lines, name_lines, files_text, certificate_text};
 ghost use Rattle.sedck_cert.specs.View.{names_of};
+ghost use Rattle.sedck_cert.specs.declared.versions.Version.TheVariants.{Two};
 
 use crate::certificate::Cert;
 use crate::streams::{Failed, Sink, write_all, write_decimal};
@@ -58,20 +59,21 @@ fn write_ranks<W: Sink>(out: &mut W, ranks: Option<(u16, u16)>) -> Result<(), Fa
 }
 
 fn write_node<W: Sink>(out: &mut W, index: u16, ranks: Option<(u16, u16)>) -> Result<(), Failed>
-    ensures written { OnOk result (Appends (W.taken out.old) (W.taken out.new) (line (node_text index ranks))) }
-    ensures begun { OnErr result (AppendsFront (W.taken out.old) (W.taken out.new) (line (node_text index ranks))) }
+    ensures written { OnOk result (Appends (W.taken out.old) (W.taken out.new) (line (node_text Two index ranks))) }
+    ensures begun { OnErr result (AppendsFront (W.taken out.old) (W.taken out.new) (line (node_text Two index ranks))) }
     ensures failure { TellsFailure result (W.has_failed out.old) (W.has_failed out.new) }
 {
     let node = Node::nth(usize::from(index));
     write_field(out, node.at, b' ')?;
     write_field(out, u16::from(node.flag), b' ')?;
+    write_field(out, u16::from(node.last), b' ')?;
     write_ranks(out, ranks)
 }
 
 fn write_nodes<W: Sink>(out: &mut W, ranks: &[Option<(u16, u16)>]) -> Result<(), Failed>
-    requires { length ranks.now ≤ 8192 }
-    ensures written { OnOk result (Appends (W.taken out.old) (W.taken out.new) (node_lines 0 ranks.now)) }
-    ensures begun { OnErr result (AppendsFront (W.taken out.old) (W.taken out.new) (node_lines 0 ranks.now)) }
+    requires { length ranks.now ≤ 16384 }
+    ensures written { OnOk result (Appends (W.taken out.old) (W.taken out.new) (node_lines Two 0 ranks.now)) }
+    ensures begun { OnErr result (AppendsFront (W.taken out.old) (W.taken out.new) (node_lines Two 0 ranks.now)) }
     ensures failure { TellsFailure result (W.has_failed out.old) (W.has_failed out.new) }
 {
     for (node, pair) in ranks.iter().enumerate() {
@@ -82,11 +84,11 @@ fn write_nodes<W: Sink>(out: &mut W, ranks: &[Option<(u16, u16)>]) -> Result<(),
 
 /// Writes what stands before the nodes.
 fn write_head<W: Sink>(out: &mut W, commands: u16) -> Result<(), Failed>
-    ensures written { OnOk result (Appends (W.taken out.old) (W.taken out.new) (line (codes "sedck 1") ++ line (codes "commands " ++ decimal commands))) }
-    ensures begun { OnErr result (AppendsFront (W.taken out.old) (W.taken out.new) (line (codes "sedck 1") ++ line (codes "commands " ++ decimal commands))) }
+    ensures written { OnOk result (Appends (W.taken out.old) (W.taken out.new) (line (header Two) ++ line (codes "commands " ++ decimal commands))) }
+    ensures begun { OnErr result (AppendsFront (W.taken out.old) (W.taken out.new) (line (header Two) ++ line (codes "commands " ++ decimal commands))) }
     ensures failure { TellsFailure result (W.has_failed out.old) (W.has_failed out.new) }
 {
-    write_all(out, b"sedck 1\ncommands ")?;
+    write_all(out, b"sedck 2\ncommands ")?;
     write_field(out, commands, b'\n')
 }
 

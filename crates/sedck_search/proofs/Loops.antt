@@ -80,10 +80,10 @@ module _ (p : Program) (script : IsScript p) where
   -- ---- Counted nodes
 
   pub reachable_inside : (n : Node) → IsReachable p n → n.at ≤ length p.commands
-  reachable_inside n h = path_inside p script.targets h.0 start n h.1 (omega arith)
+  reachable_inside n h = path_inside p script.targets h.1 (start h.0) n h.2 (omega arith)
 
   pub reachable_on : (n m : Node) → IsReachable p n → (path : List (Kind × Node)) → IsPath p n path m → IsReachable p m
-  reachable_on n m h path is = (h.0 ++ path, path-append p start n m h.0 path h.1 is)
+  reachable_on n m h path is = (h.0, h.1 ++ path, path-append p (start h.0) n m h.1 path h.2 is)
 
   module _ (along : Along) (counts : List ℕ) (counted : AreCounted p along counts) where
     pub count_of : (n : Node) → IsReachable p n → HasCount p along counts n

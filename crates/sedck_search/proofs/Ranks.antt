@@ -1,5 +1,5 @@
 -- Counts are ranks where no edge closes a walk.
-use Rattle.std.proofs.Common.{◌≡◌, ◌⊎◌, ℕ, zero, suc, ◌+◌, ◌<◌, ◌≤◌, List, [], ◌∷◌, ◌++◌, length, get_or, refl, sym, ap, ◌∙◌, subst, subst₂, inl, inr, arith}
+use Rattle.std.proofs.Common.{◌≡◌, ◌⊎◌, ℕ, zero, suc, ◌+◌, ◌<◌, ◌≤◌, Bool, List, [], ◌∷◌, ◌++◌, length, get_or, refl, sym, ap, ◌∙◌, subst, subst₂, inl, inr, arith}
 use Rattle.std.specs.Prelude.{Some, None, slice_get, All}
 use Rattle.std.specs.Option.{option_flatten}
 use Rattle.std.proofs.lemmas.Bool.{cases_lt}
@@ -130,12 +130,12 @@ module _ (p : Program) (script : IsScript p) (firsts seconds : List ℕ) (are_fi
 
       is_ranked : IsRanked p c
       is_ranked =
-          let start_reachable : IsReachable p start = ([], refl) in
-          let f = count_of p script Unread firsts are_firsts start start_reachable in
-          let s = count_of p script Kept seconds are_seconds start start_reachable in
+          let start_reachable : (last : Bool) → IsReachable p (start last) = λ last. (last, [], refl) in
+          let f : (last : Bool) → HasCount p Unread firsts (start last) = λ last. count_of p script Unread firsts are_firsts (start last) (start_reachable last) in
+          let s : (last : Bool) → HasCount p Kept seconds (start last) = λ last. count_of p script Kept seconds are_seconds (start last) (start_reachable last) in
           record {
-            start_ranks = (f.count, s.count);
-            has_start = ranks_of_node start f s;
+            start_ranks = λ last. ((f last).count, (s last).count);
+            has_start = λ last. ranks_of_node (start last) (f last) (s last);
             meets = λ e flow before has. meets_from e flow (are_firsts.each e.from (inside p script.targets e flow).0) before has;
           }
 

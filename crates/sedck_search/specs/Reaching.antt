@@ -59,7 +59,7 @@ pub record HasCount (p : Program) (along : Along) (counts : List ℕ) (n : Node)
   pub within : count ≤ 16384
   pub is_count : IsReachCount p along n count
 
--- a node that no path from the first one leads to has no count
+-- a node that no path from a start leads to has no count
 abbrev pub HasNoCount : Program → List ℕ → Node → Type 0
 HasNoCount p counts n = (¬ IsReachable p n) × (slice_get counts (node_index n) ≡ Some 0)
 

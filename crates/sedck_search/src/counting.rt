@@ -27,14 +27,15 @@ struct Last {
     count: u16,
 }
 
-/// A mark for each node that the first one reaches, and 0 for each other node.
+/// A mark for each node that one of the two starts reaches, and 0 for each other node.
 fn mark_reached(alloc: Global, script: &Script) -> Result<Vec<u16>, AllocError>
     ensures script { IsScript script.now }
     ensures marks { IfOk result (λ marks. (along : Along) → ArePartlyCounted script.now along marks.items) }
 {
     let count = node_count(script.commands().len());
     let mut row = Row::new();
-    spread(script, Along::Every, &mut row, Node::START);
+    spread(script, Along::Every, &mut row, Node::start(false));
+    spread(script, Along::Every, &mut row, Node::start(true));
     let mut marks = Vec::new(alloc);
     for index in 0..count {
         marks.push(if row.has(index) { UNCOUNTED } else { 0 })?;
@@ -42,7 +43,7 @@ fn mark_reached(alloc: Global, script: &Script) -> Result<Vec<u16>, AllocError>
     Ok(marks)
 }
 
-/// How many nodes each node reaches that the first one reaches, and 0 for each other node.
+/// How many nodes each node reaches that one of the two starts reaches, and 0 for each other node.
 pub(crate) fn counts_of(
     alloc: Global,
     script: &Script,

@@ -35,7 +35,7 @@ fn count_each(words: &[u64]) -> u64
     count
 }
 
-/// A set of nodes, one bit a node: those of 4,095 commands and the script's end. It knows how many nodes it has.
+/// A set of nodes, one bit a node: those of 4,095 commands and the script's end, four each. It knows how many nodes it has.
 #[derive(Drop)]
 pub(crate) struct Row {
     words: [u64; 256],

@@ -64,10 +64,9 @@ fn meet(node: Node, row: &mut Row, waiting: &mut Row, first: usize) -> usize
     ensures met { IsIn row.new node }
 {
     let index = node.index();
-    if row.has(index) {
+    if !row.insert(index) {
         return first;
     }
-    row.insert(index);
     waiting.insert(index);
     first.min(index)
 }

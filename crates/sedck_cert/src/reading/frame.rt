@@ -3,7 +3,9 @@
 ghost use Rattle.std.specs.Prelude.{◌-◌, ◌≡◌, ◌++◌, ◌≤◌, ◌+◌, ◌*◌, ℕ, List, [], ◌∷◌, MatchOption, IfOk, IfErr, OnOk, decimal, codes};
 ghost use Rattle.std.specs.Bool.{OnTrue, OnFalse};
 ghost use Rattle.sedck_bre.specs.Bytes.{newline};
-ghost use Rattle.sedck_flow.specs.Nodes.{node_count};
+ghost use Rattle.sedck_cert.specs.Certificate.{nodes_in};
+ghost use Rattle.sedck_cert.specs.Text.{header as header_of};
+ghost use Rattle.sedck_cert.specs.declared.versions.Version.{Version};
 ghost use Rattle.sedck_cert.specs.Cuts.{IsCut};
 ghost use Rattle.sedck_cert.specs.Faults.{Header, Count, Node, Last, Nothing};
 ghost use Rattle.sedck_cert.specs.Reading.{IsNext, Leads, Stops};
@@ -11,14 +13,15 @@ ghost use Rattle.sedck_cert.specs.Reading.{IsNext, Leads, Stops};
 use super::CertFault;
 use super::lines::Lines;
 use super::numbers::count;
+use crate::versions::Version;
 
-/// The line `sedck 1`.
-pub fn header(lines: &mut Lines) -> Result<(), CertFault>
-    ensures read { OnOk result (Leads Header lines.old (codes "sedck 1" ∷ []) lines.new Count) }
-    ensures refused { IfErr result (Stops Header lines.old) }
+/// The line that tells the version.
+pub fn header(lines: &mut Lines, version: Version) -> Result<(), CertFault>
+    ensures read { OnOk result (Leads version Header lines.old (header_of version ∷ []) lines.new Count) }
+    ensures refused { IfErr result (Stops version Header lines.old) }
 {
     let line = lines.number;
-    if next_is(lines, b"sedck 1") {
+    if next_is(lines, version.header()) {
         Ok(())
     } else {
         Err(CertFault::BadHeader { line })
@@ -26,9 +29,9 @@ pub fn header(lines: &mut Lines) -> Result<(), CertFault>
 }
 
 /// The number of commands.
-pub fn command_count(lines: &mut Lines) -> Result<u16, CertFault>
-    ensures read { IfOk result (λ n. (n ≤ 4095) × Leads Count lines.old ((codes "commands " ++ decimal n) ∷ []) lines.new (Node 0 (node_count n - 1))) }
-    ensures refused { IfErr result (Stops Count lines.old) }
+pub fn command_count(lines: &mut Lines, version: Version) -> Result<u16, CertFault>
+    ensures read { IfOk result (λ n. (n ≤ 4095) × Leads version Count lines.old ((codes "commands " ++ decimal n) ∷ []) lines.new (Node 0 (nodes_in version n - 1))) }
+    ensures refused { IfErr result (Stops version Count lines.old) }
 {
     let line = lines.number;
     next_count(lines, b"commands ").ok_or(CertFault::BadCount { line })
@@ -36,9 +39,9 @@ pub fn command_count(lines: &mut Lines) -> Result<u16, CertFault>
 
 /// The line `end`, with nothing behind it.
 pub fn ending(lines: &mut Lines) -> Result<(), CertFault>
-    ensures read { OnOk result (Leads Last lines.old (codes "end" ∷ []) lines.new Nothing) }
+    ensures read { OnOk result ((v : Version) → Leads v Last lines.old (codes "end" ∷ []) lines.new Nothing) }
     ensures last { OnOk result (lines.new.rest.now ≡ []) }
-    ensures refused { IfErr result (Stops Last lines.old) }
+    ensures refused { IfErr result (λ fault. (v : Version) → Stops v Last lines.old fault) }
 {
     let line = lines.number;
     if !next_is(lines, b"end") {

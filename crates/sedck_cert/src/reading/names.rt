@@ -3,6 +3,7 @@
 ghost use Rattle.std.specs.Prelude.{◌≡◌, ◌⊎◌, ◌↔◌, ◌+◌, ◌≤◌, ◌++◌, decimal, ℕ, suc, List, [], ◌∷◌, length, Contains, Option, IfOk, IfErr, IsTrue};
 ghost use Rattle.sedck_script.specs.Names.{IsName};
 ghost use Rattle.sedck_cert.specs.View.{names_of};
+ghost use Rattle.sedck_cert.specs.declared.versions.Version.{Version};
 ghost use Rattle.sedck_cert.specs.Faults.{Names, Name, Rises, list_word, after_list, after_name};
 ghost use Rattle.sedck_cert.specs.Reading.{Leads, Stops, list_texts, names_due, one_before};
 
@@ -41,10 +42,10 @@ pub fn names(
     mut size: usize,
 ) -> Result<(Vec<Vec<u8>>, usize), CertFault>
     requires { size ≤ NAMES_LIMIT }
-    ensures read { IfOk result (λ r. Leads (Names files size) lines.old (list_texts files (names_of r.0.items)) lines.new (after_list files r.1)) }
+    ensures read { IfOk result (λ r. (v : Version) → Leads v (Names files size) lines.old (list_texts files (names_of r.0.items)) lines.new (after_list files r.1)) }
     ensures within { IfOk result (λ r. r.1 ≤ NAMES_LIMIT) }
     ensures count { IfOk result (λ r. length r.0.items ≤ 4095) }
-    ensures refused { IfErr result (λ fault. (fault ≡ CertFault.OutOfMemory) ⊎ Stops (Names files size) lines.old fault) }
+    ensures refused { IfErr result (λ fault. (fault ≡ CertFault.OutOfMemory) ⊎ ((v : Version) → Stops v (Names files size) lines.old fault)) }
 {
     let count = usize::from(list_count(lines, files)?);
     let mut names = Vec::with_capacity(alloc, count)?;
@@ -61,8 +62,8 @@ pub fn names(
 /// How many names the list has.
 fn list_count(lines: &mut Lines, files: Files) -> Result<u16, CertFault>
     ensures limit { IfOk result (λ n. n ≤ 4095) }
-    ensures read { IfOk result (λ n. (size : ℕ) → Leads (Names files size) lines.old ((list_word files ++ decimal n) ∷ []) lines.new (names_due files n [] size)) }
-    ensures refused { IfErr result (λ fault. (size : ℕ) → Stops (Names files size) lines.old fault) }
+    ensures read { IfOk result (λ n. (v : Version) (size : ℕ) → Leads v (Names files size) lines.old ((list_word files ++ decimal n) ∷ []) lines.new (names_due files n [] size)) }
+    ensures refused { IfErr result (λ fault. (v : Version) (size : ℕ) → Stops v (Names files size) lines.old fault) }
 {
     let line = lines.number;
     next_count(lines, files.word()).ok_or(CertFault::BadNames { line })
@@ -76,8 +77,8 @@ fn name_line<'a>(
 ) -> Result<&'a [u8], CertFault>
     requires { size ≤ NAMES_LIMIT }
     ensures within { IfOk result (λ name. size + length name.now + 1 ≤ NAMES_LIMIT) }
-    ensures read { IfOk result (λ name. (files : Files) (left : ℕ) → Leads (Name files (suc left) (one_before before.entry) size) lines.old (name.now ∷ []) lines.new (after_name files left name.now (size + length name.now + 1))) }
-    ensures refused { IfErr result (λ fault. (files : Files) (left : ℕ) → Stops (Name files (suc left) (one_before before.entry) size) lines.old fault) }
+    ensures read { IfOk result (λ name. (v : Version) (files : Files) (left : ℕ) → Leads v (Name files (suc left) (one_before before.entry) size) lines.old (name.now ∷ []) lines.new (after_name files left name.now (size + length name.now + 1))) }
+    ensures refused { IfErr result (λ fault. (v : Version) (files : Files) (left : ℕ) → Stops v (Name files (suc left) (one_before before.entry) size) lines.old fault) }
 {
     let fault = CertFault::BadNames { line: lines.number };
     let Some(name) = lines.next() else {

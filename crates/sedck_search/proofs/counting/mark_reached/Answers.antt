@@ -10,27 +10,40 @@ use Rattle.sedck_search.specs.declared.along.Along.{Along}
 use Rattle.sedck_search.specs.declared.along.Along.TheVariants.{Every}
 use Rattle.sedck_search.specs.Obstacle.{IsReachable}
 use Rattle.sedck_search.specs.Rows.{has, IsEmpty}
-use Rattle.sedck_search.specs.Reaching.{IsClosed, HasCount, HasNoCount, IsUncounted, ArePartlyCounted}
+use Rattle.sedck_search.specs.Reaching.{IsClosed, IsIn, HasCount, HasNoCount, IsUncounted, ArePartlyCounted}
 use Rattle.sedck_search.specs.Spreading.{HasGrown}
 use Rattle.sedck_search.proofs.Paths.{closed_reaches, all_followed}
 use Rattle.sedck_search.proofs.GoneOver.{place_in}
 use Rattle.sedck_search.proofs.counting.mark_reached.Goals as goal
 
 -- a node is marked exactly where it is reached
-module _ (p : Program) (none row marks : List ℕ) (empty : IsEmpty none) (closed : IsClosed p Every row) (grown : HasGrown p Every start none row)
+module _ (p : Program) (none half row marks : List ℕ) (empty : IsEmpty none) (closed : IsClosed p Every row) (before : HasGrown p Every (start false) none half)
+    (behind : HasGrown p Every (start true) half row)
     (long : length marks ≡ node_count (length p.commands))
     (entries : (i : ℕ) → i < length marks → slice_get marks i ≡ Some (if has row i then 65535 else 0)) where
+  -- both starts are in the row
+  starts : (last : Bool) → IsIn row (start last)
+  starts false = behind.kept (start false) before.node
+  starts true = behind.node
+
   marked : (along : Along) → ArePartlyCounted p along marks
   marked along = record { long = long; each = λ n inside. by_bit n inside (has row (node_index n)) refl }
     where
       by_bit : (n : Node) → n.at ≤ length p.commands → (b : Bool) → has row (node_index n) ≡ b
           → (IsReachable p n × (HasCount p along marks n ⊎ IsUncounted marks n)) ⊎ HasNoCount p marks n
-      by_bit n inside true is = elim (grown.reached n is) [
-        | inl old ↦ absurd (true≢false (sym old ∙ empty (node_index n)))
-        | inr reaches ↦ inl ((reaches.0, reaches.1), inr (entries (node_index n) (place_in p marks long n inside) ∙ ap (λ b. Some (if b then 65535 else 0)) is))
-      ]
+      by_bit n inside true is = inl (
+        elim (behind.reached n is) [
+          | inl old ↦ elim (before.reached n old) [
+            | inl none ↦ absurd (true≢false (sym none ∙ empty (node_index n)))
+            | inr reaches ↦ (false, reaches.0, reaches.1)
+          ]
+          | inr reaches ↦ (true, reaches.0, reaches.1)
+        ],
+        inr (entries (node_index n) (place_in p marks long n inside) ∙ ap (λ b. Some (if b then 65535 else 0)) is),
+      )
       by_bit n inside false is = inr (
-        (λ reachable. true≢false (sym (closed_reaches p Every row closed reachable.0 start n reachable.1 (all_followed reachable.0) grown.node) ∙ is)),
+        (λ reachable. true≢false
+        (sym (closed_reaches p Every row closed reachable.1 (start reachable.0) n reachable.2 (all_followed reachable.1) (starts reachable.0)) ∙ is)),
         entries (node_index n) (place_in p marks long n inside) ∙ ap (λ b. Some (if b then 65535 else 0)) is,
       )
 
@@ -41,5 +54,5 @@ returns-clause-marks c =
     let inv = c.loop-index.invariant in
     let end : c.loop-index.index ≡ node_count (length c.args.script.now.commands) =
     omega (arith, count, c.loop-index-test.false, c.loop-index.auto.index-end) in
-    marked c.args.script.now c.new-row.result c.spread.new.row c.loop-index.marks.items c.new-row.ensures.nodes c.spread.ensures.closed
-    c.spread.ensures.grown (inv.long ∙ end) (λ i below. inv.entries i (omega (arith, below, inv.long)))
+    marked c.args.script.now c.new-row.result c.spread.new.row c.spread-2.new.row c.loop-index.marks.items c.new-row.ensures.nodes c.spread-2.ensures.closed
+    (rw c.start.ensures at c.spread.ensures.grown) (rw c.start-2.ensures at c.spread-2.ensures.grown) (inv.long ∙ end) (λ i below. inv.entries i (omega (arith, below, inv.long)))

@@ -4,4 +4,4 @@ use Rattle.sedck_cert.proofs.Leads.{wrong_word, stops_here}
 use Rattle.sedck_cert.proofs.reading.frame.header.Goals as goal
 
 pub returns-else-next_is-clause-refused : goal.returns-else-next_is-clause-refused
-returns-else-next_is-clause-refused c = stops_here Header _ _ (wrong_word Header _ _ (λ text next due. due.0) c.if-next_is.ensures.other) refl
+returns-else-next_is-clause-refused c = stops_here c.args.version Header _ _ (wrong_word c.args.version Header _ _ (λ text next due. due.0) (rw c.header.ensures at c.if-next_is.ensures.other)) refl

@@ -6,12 +6,12 @@ use Rattle.sedck_cert.proofs.Names.{wrong_name}
 use Rattle.sedck_cert.proofs.reading.names.name_line.Goals as goal
 
 pub returns-in_default-clause-refused : goal.returns-in_default-clause-refused
-returns-in_default-clause-refused c files left =
-    stops_here (Name files (suc left) (one_before c.args.before) c.args.size) _ _
-    (wrong_none (Name files (suc left) (one_before c.args.before) c.args.size) _ c.in_default.ensures.text) refl
+returns-in_default-clause-refused c v files left =
+    stops_here v (Name files (suc left) (one_before c.args.before) c.args.size) _ _
+    (wrong_none v (Name files (suc left) (one_before c.args.before) c.args.size) _ c.in_default.ensures.text) refl
 
 pub returns-else-is_next_name-clause-refused : goal.returns-else-is_next_name-clause-refused
-returns-else-is_next_name-clause-refused c files left =
-    stops_here (Name files (suc left) (one_before c.args.before) c.args.size) _ _
-    (wrong_name files left (one_before c.args.before) c.args.size _ c.in-Some.name.now _ c.in-Some.ensures.text
+returns-else-is_next_name-clause-refused c v files left =
+    stops_here v (Name files (suc left) (one_before c.args.before) c.args.size) _ _
+    (wrong_name v files left (one_before c.args.before) c.args.size _ c.in-Some.name.now _ c.in-Some.ensures.text
     (λ h. let no : false ≡ true = c.if-is_next_name.ensures.1 h in cc)) refl

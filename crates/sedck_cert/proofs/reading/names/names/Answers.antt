@@ -1,6 +1,7 @@
 use Rattle.std.proofs.Common.{◌≡◌, ◌⊎◌, inr, ◌+◌, ◌-◌, ◌<◌, length, arith, ap}
 use Rattle.std.proofs.lemmas.Grind.{common_steps}
 use Rattle.sedck_cert.specs.Faults.{Names}
+use Rattle.sedck_cert.specs.declared.versions.Version.{Version}
 use Rattle.sedck_cert.specs.Reading.{Stops, one_before}
 use Rattle.sedck_cert.specs.declared.reading.CertFault.TheVariants.{OutOfMemory}
 use Rattle.sedck_script.proofs.Outcomes.{if_err_from}
@@ -10,8 +11,8 @@ use Rattle.sedck_cert.proofs.reading.names.names.Goals as goal
 
 pub loop-before-init : goal.loop-before-init
 loop-before-init c = (
-  leads_no_names _ c.args.files _ c.from-count.result c.args.size _ c.from-count.ensures c.in_ok-names.ensures.items
-      (c.in_ok-list_count.ensures.read c.args.size),
+  λ v. leads_no_names v _ c.args.files _ c.from-count.result c.args.size _ c.from-count.ensures c.in_ok-names.ensures.items
+      (c.in_ok-list_count.ensures.read v c.args.size),
   omega (arith, ap length c.in_ok-names.ensures.items),
   omega arith,
 )
@@ -20,27 +21,27 @@ pub returns-in_err-name-clause-refused : goal.returns-in_err-name-clause-refused
 returns-in_err-name-clause-refused c =
     let below : length c.loop-before.names.items < c.from-count.result = grind (arith, common_steps, c.len.ensures) in
     let left = c.from-count.result - (length c.loop-before.names.items + 1) in
-    if_err_from (λ fault. (fault ≡ OutOfMemory) ⊎ Stops
-    (Names c.args.files c.args.size) c.args.lines.now fault) c.from_residual-in_err-name.result _ c.from_residual-in_err-name.ensures.1
-    (inr (leads_stops (Names c.args.files c.args.size) _ _ _
-    (names_due-more _ c.args.files c.from-count.result (length c.loop-before.names.items)
-    (one_before c.loop-before.before) c.loop-before.size _ below c.loop-before.invariant.0)
-    (c.in_err-name.ensures.refused c.args.files left)))
+    if_err_from (λ fault. (fault ≡ OutOfMemory) ⊎ ((v : Version)
+    → Stops v (Names c.args.files c.args.size) c.args.lines.now fault)) c.from_residual-in_err-name.result _ c.from_residual-in_err-name.ensures.1
+    (inr (λ v. leads_stops v (Names c.args.files c.args.size) _ _ _
+    (names_due-more v _ c.args.files c.from-count.result (length c.loop-before.names.items)
+    (one_before c.loop-before.before) c.loop-before.size _ below (c.loop-before.invariant.0 v))
+    (c.in_err-name.ensures.refused v c.args.files left)))
 
 pub loop-before-preserved : goal.loop-before-preserved
 loop-before-preserved c =
     let below : length c.loop-before.names.items < c.from-count.result = grind (arith, common_steps, c.len.ensures) in
     let left = c.from-count.result - (length c.loop-before.names.items + 1) in
     rw c.in_ok-push.ensures.items (
-      leads_name _ c.args.files c.from-count.result
+      λ v. leads_name v _ c.args.files c.from-count.result
           (one_before c.loop-before.before) c.loop-before.size _ c.loop-before.names.items c.in_ok-from_slice.field-0 c.in_ok-name.name.now below
-          c.in_ok-from_slice.ensures.items c.loop-before.invariant.0 (c.in_ok-name.ensures.read c.args.files left),
+          c.in_ok-from_slice.ensures.items (c.loop-before.invariant.0 v) (c.in_ok-name.ensures.read v c.args.files left),
       grind (arith, common_steps),
       omega (arith, c.in_ok-name.ensures.within),
     )
 
 pub returns-clause-read : goal.returns-clause-read
-returns-clause-read c =
-    leads_all_names _ c.args.files c.from-count.result c.loop-before.size c.loop-before.names.items
+returns-clause-read c v =
+    leads_all_names v _ c.args.files c.from-count.result c.loop-before.size c.loop-before.names.items
     (one_before c.loop-before.before) c.loop-before.invariant.1
-    (grind (arith, common_steps, c.len.ensures, c.loop-before-test.false)) c.loop-before.invariant.0
+    (grind (arith, common_steps, c.len.ensures, c.loop-before-test.false)) (c.loop-before.invariant.0 v)

@@ -7,4 +7,4 @@ pub returns-in_err-next : goal.returns-in_err-next
 returns-in_err-next c = rw c.from_residual.ensures (λ ranks within more cut. no_cut _ _ more c.in_err-next.ensures.text cut)
 
 pub returns : goal.returns
-returns c = next_by_line AreWithin (node_text c.args.node) _ c.node_ranks.result _ _ c.in_ok-next.ensures.text c.in_ok-next.ensures.number c.node_ranks.ensures
+returns c = next_by_line AreWithin (node_text c.args.version c.args.node) _ c.node_ranks.result _ _ c.in_ok-next.ensures.text c.in_ok-next.ensures.number c.node_ranks.ensures

@@ -7,5 +7,5 @@ use Rattle.sedck_cert.proofs.reading.nodes.node_line.Goals as goal
 
 pub returns-clause-refused : goal.returns-clause-refused
 returns-clause-refused c = rw c.ok_or.ensures.value
-    (refused_or (λ fault. (left : ℕ) → Stops (Node c.args.node left) c.args.lines.now fault) c.next_ranks.result _ (λ none left.
-    stops_here (Node c.args.node left) _ _ (wrong_node c.args.node left _ (none_of _ _ _ c.next_ranks.ensures none)) refl))
+    (refused_or (λ fault. (left : ℕ) → Stops c.args.version (Node c.args.node left) c.args.lines.now fault) c.next_ranks.result _ (λ none left.
+    stops_here c.args.version (Node c.args.node left) _ _ (wrong_node c.args.version c.args.node left _ (none_of _ _ _ c.next_ranks.ensures none)) refl))
