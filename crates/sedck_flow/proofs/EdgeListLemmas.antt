@@ -228,11 +228,14 @@ edge_at_number e =
 
 -- the order of edges is that of their numbers
 earlier_at : (from : Node) (m n : ℕ) → m < n → IsEarlier (edge_at from m) (edge_at from n)
-earlier_at from m n less = inr (refl, elim (cases_order (m / 4) (n / 4)) [
-  | inl same ↦ inr (ap nth_node same, omega (arith, less, same, low m, low n))
-  | inr (inl below) ↦ inl (index-before (nth_node (m / 4)) (nth_node (n / 4)) (omega (arith, below, index-nth (m / 4), index-nth (n / 4))))
-  | inr (inr above) ↦ absurd (omega (arith, less, above))
-])
+earlier_at from m n less = inr (
+  refl,
+  elim (cases_order (m / 4) (n / 4)) [
+    | inl same ↦ inr (ap nth_node same, omega (arith, less, same, low m, low n))
+    | inr (inl below) ↦ inl (index-before (nth_node (m / 4)) (nth_node (n / 4)) (omega (arith, below, index-nth (m / 4), index-nth (n / 4))))
+    | inr (inr above) ↦ absurd (omega (arith, less, above))
+  ],
+)
   where
     low : (k : ℕ) → kind_index (nth_kind (k % 4)) ≡ k % 4
     low k = kind_nth (k % 4) (omega arith)

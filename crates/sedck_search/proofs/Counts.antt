@@ -1,5 +1,5 @@
 -- What the counts of two nodes say of the paths between them.
-use Rattle.std.proofs.Common.{◌≡◌, ◌⊎◌, ℕ, suc, ◌<◌, ◌≤◌, ◌/◌, Bool, true, false, List, [], ◌∷◌, length, refl, sym, ap, ◌∙◌, subst, inl, inr, arith}
+use Rattle.std.proofs.Common.{◌≡◌, ◌≢◌, ◌⊎◌, ℕ, suc, ◌<◌, ◌≤◌, ◌/◌, Bool, true, false, List, [], ◌∷◌, length, refl, sym, ap, ◌∙◌, subst, inl, inr, arith}
 use Rattle.std.specs.Prelude.{Some, slice_get, set}
 use Rattle.std.proofs.lemmas.Bool.{cases_eq, true≢false}
 use Rattle.std.proofs.lemmas.List.{length-set}
@@ -64,14 +64,19 @@ module _ (p : Program) (along : Along) where
   -- ---- Nodes that are counted
 
   -- a number that is no mark is the count
+  pub counted_is : (counts : List ℕ) → ArePartlyCounted p along counts → (n : Node) → n.at ≤ length p.commands → (count : ℕ)
+      → slice_get counts (node_index n) ≡ Some count → 0 < count → count ≢ 65535 → IsReachCount p along n count
+  counted_is counts partly n inside count is positive other =
+      elim (partly.each n inside) [
+        | inl (reached, inl counted) ↦ subst (IsReachCount p along n) (same_Some _ _ (sym counted.at ∙ is)) counted.is_count
+        | inl (reached, inr marked) ↦ absurd (other (same_Some _ _ (sym is ∙ marked)))
+        | inr none ↦ absurd (omega (arith, positive, same_Some _ _ (sym none.1 ∙ is)))
+      ]
+
   pub counted_at : (counts : List ℕ) → ArePartlyCounted p along counts → (n : Node) → n.at ≤ length p.commands → (count : ℕ)
       → slice_get counts (node_index n) ≡ Some count → 0 < count → count < 65535 → IsReachCount p along n count
   counted_at counts partly n inside count is positive within =
-      elim (partly.each n inside) [
-        | inl (reached, inl counted) ↦ subst (IsReachCount p along n) (same_Some _ _ (sym counted.at ∙ is)) counted.is_count
-        | inl (reached, inr marked) ↦ absurd (omega (arith, within, same_Some _ _ (sym marked ∙ is)))
-        | inr none ↦ absurd (omega (arith, positive, same_Some _ _ (sym none.1 ∙ is)))
-      ]
+      counted_is counts partly n inside count is positive (λ same. absurd (omega (arith, within, same)))
 
   -- one node more is counted
   pub counted_set : (counts : List ℕ) → ArePartlyCounted p along counts → (n : Node) → n.at ≤ length p.commands → (count : ℕ)

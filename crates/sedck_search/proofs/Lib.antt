@@ -13,3 +13,5 @@ pub mod Loops
 pub mod Ranks
 pub mod RuledOut
 mod PlainWalks
+mod OtherSide
+mod TurnedRows

@@ -42,7 +42,7 @@ fewer_or_same a b x y h =
     omega (arith, fewer, count_total a x, count_total b y)
 
 -- a node of a row lies below 16,384
-node_inside : (a : List ℕ) → IsRow a → (i : ℕ) → has a i ≡ true → i / 64 < 256
+pub node_inside : (a : List ℕ) → IsRow a → (i : ℕ) → has a i ≡ true → i / 64 < 256
 node_inside a row i h = elim (cases_lt (i / 64) 256) [
   | inl less ↦ less
   | inr more ↦ absurd (false≢true (sym (none_behind a i (omega (arith, more, row.long))) ∙ h))

@@ -1,17 +1,21 @@
 //! How many nodes each node reaches.
 
-ghost use Rattle.std.specs.Prelude.{◌≡◌, ◌≢◌, ℕ, ◌+◌, ◌*◌, ◌<◌, ◌≤◌, true, length, Some, slice_get, IfOk, IfSome};
+ghost use Rattle.std.specs.Prelude.{◌≡◌, ◌≢◌, ◌↔◌, IsTrue, ℕ, ◌+◌, ◌*◌, ◌<◌, ◌≤◌, true, length, Some, slice_get, IfOk, IfSome};
 ghost use Rattle.sedck_script.specs.Invariant.{IsScript};
 ghost use Rattle.sedck_flow.specs.Nodes.{node_index, node_count};
 ghost use Rattle.sedck_flow.specs.declared.graph.Node.{Node};
 ghost use Rattle.sedck_search.specs.Reaching.{AreCounted, ArePartlyCounted, IsClosedBeside, IsIn, IsLast, IsOnlyTarget, IsReachCount, Reaches};
+ghost use Rattle.sedck_search.specs.OtherSide.{IsLastAlone, AsksNotForLast};
 ghost use Rattle.sedck_search.specs.declared.along.Along.{Along};
+ghost use Rattle.sedck_search.specs.declared.along.Along.TheVariants.{Every};
+ghost use Rattle.sedck_script.specs.View.{address_of};
+ghost use Rattle.std.specs.Bool.{OnFalse};
 
 use crate::along::Along;
 use crate::rows::Row;
 use crate::spreading::spread;
 use sedck_flow::{Node, edges_of, node_count};
-use sedck_script::Script;
+use sedck_script::{Address, Place, Script};
 use std::alloc::{AllocError, Global};
 
 /// The mark of a node that is still to be counted: more than any count.
@@ -37,8 +41,20 @@ fn mark_reached(alloc: Global, script: &Script) -> Result<Vec<u16>, AllocError>
     let count = node_count(script.commands().len());
     let mut row = Row::new();
     let mut waiting = Row::new();
-    spread(script, Along::Every, &mut row, &mut waiting, Node::start(false));
-    spread(script, Along::Every, &mut row, &mut waiting, Node::start(true));
+    spread(
+        script,
+        Along::Every,
+        &mut row,
+        &mut waiting,
+        Node::start(false),
+    );
+    spread(
+        script,
+        Along::Every,
+        &mut row,
+        &mut waiting,
+        Node::start(true),
+    );
     let mut marks = Vec::new(alloc);
     for index in 0..count {
         marks.push(if row.has(index) { UNCOUNTED } else { 0 })?;
@@ -84,6 +100,9 @@ fn count_marked(script: &Script, along: Along, back: &mut [u16], counts: &mut [u
         count: 0,
     };
     count_half(script, along, 0, back, counts, &mut last);
+    if along != Along::Every && !asks_for_last(script) {
+        count_turned(script, along, counts);
+    }
     count_half(script, along, 1, back, counts, &mut last);
     for index in 0..counts.len() {
         count_at(script, along, index, counts, &mut last);
@@ -166,6 +185,43 @@ fn count_from(
         at = before;
     }
     true
+}
+
+/// Counts the marked nodes on the last line whose nodes before it are counted, in a script that doesn't ask for the last line:
+/// both reach as many.
+fn count_turned(script: &Script, along: Along, counts: &mut [u16])
+    requires script { IsScript script.now }
+    requires along { along ≢ Every }
+    requires never { AsksNotForLast script.now }
+    requires counted { ArePartlyCounted script.now along counts.old }
+    ensures long { length counts.new ≡ length counts.old }
+    ensures counted { ArePartlyCounted script.now along counts.new }
+{
+    for step in 0..counts.len() / 2 {
+        let count = counts[2 * step];
+        if count != 0 && count != UNCOUNTED && counts[2 * step + 1] == UNCOUNTED {
+            counts[2 * step + 1] = count;
+        }
+    }
+}
+
+/// Whether some command is selected by a single `$`.
+fn asks_for_last(script: &Script) -> bool
+    ensures { OnFalse result (AsksNotForLast script.now) }
+{
+    for command in script.commands() {
+        if is_last_alone(&command.address) {
+            return true;
+        }
+    }
+    false
+}
+
+/// Whether the address is a single `$`.
+fn is_last_alone(address: &Address) -> bool
+    ensures { IsTrue result ↔ IsLastAlone (address_of address.now) }
+{
+    matches!(address, Address::One(Place::Last))
 }
 
 /// Counts, from the last node on, each second node that leads to one that reaches what the last one does.

@@ -14,13 +14,7 @@ use sedck_flow::{Node, edges_of};
 use sedck_script::Script;
 
 /// Adds all that the node reaches to the row, out of which no edge leads. No other node waits before, and none behind.
-pub(crate) fn spread(
-    script: &Script,
-    along: Along,
-    row: &mut Row,
-    waiting: &mut Row,
-    node: Node,
-)
+pub(crate) fn spread(script: &Script, along: Along, row: &mut Row, waiting: &mut Row, node: Node)
     requires script { IsScript script.now }
     requires row { IsRow row.old }
     requires waiting { IsRow waiting.old }

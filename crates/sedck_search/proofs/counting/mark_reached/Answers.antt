@@ -44,7 +44,7 @@ module _ (p : Program) (none half row marks : List ℕ) (empty : IsEmpty none) (
       )
       by_bit n inside false is = inr (
         (λ reachable. true≢false
-        (sym (closed_reaches p Every row closed reachable.1 (start reachable.0) n reachable.2 (all_followed reachable.1) (starts reachable.0)) ∙ is)),
+            (sym (closed_reaches p Every row closed reachable.1 (start reachable.0) n reachable.2 (all_followed reachable.1) (starts reachable.0)) ∙ is)),
         entries (node_index n) (place_in p marks long n inside) ∙ ap (λ b. Some (if b then 65535 else 0)) is,
       )
 
