@@ -358,7 +358,7 @@ fn ranks_of<'a>(nodes: &'a str, node: &str) -> &'a str {
 fn old_text_of(rt: &impl Abort, alloc: Global, row: &Row) -> String {
     let (_, commands, nodes, lists, _) = row;
     let mut lines = String::new(alloc);
-    for at in 0..*commands + 1 {
+    for at in 0..u32::from(*commands) + 1 {
         for flag in 0u8..2 {
             let node = format!(in alloc; "{at} {flag} ").expect(rt, "memory");
             writeln!(lines, "{node}{}", ranks_of(*nodes, &node)).expect(rt, "memory");
@@ -371,7 +371,7 @@ fn old_text_of(rt: &impl Abort, alloc: Global, row: &Row) -> String {
 fn text_of(rt: &impl Abort, alloc: Global, row: &Row, is_old: bool) -> String {
     let (_, commands, nodes, lists, _) = row;
     let mut lines = String::new(alloc);
-    for at in 0..*commands + 1 {
+    for at in 0..u32::from(*commands) + 1 {
         for flag in 0u8..2 {
             for last in 0u8..2 {
                 let old = format!(in alloc; "{at} {flag} ").expect(rt, "memory");
