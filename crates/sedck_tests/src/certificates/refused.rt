@@ -106,7 +106,13 @@ static NUMBERS: [Row; 12] = [
 #[test]
 fn changed_texts(rt: HostRuntime) {
     changed_have_faults(&rt, rt.alloc(), &Kind::CertificateTwo, ENDLESS, &CHANGED);
-    changed_have_faults(&rt, rt.alloc(), &Kind::CertificateTwo, NAMED, &CHANGED_NAMES);
+    changed_have_faults(
+        &rt,
+        rt.alloc(),
+        &Kind::CertificateTwo,
+        NAMED,
+        &CHANGED_NAMES,
+    );
     changed_have_faults(&rt, rt.alloc(), &Kind::CertificateTwo, EMPTY, &NUMBERS);
 }
 
@@ -135,8 +141,7 @@ static CUTS: [Cut; 21] = [
 ];
 
 /// What stands before the lists where there is no command, and the line of the names that are read.
-const HEAD: &[u8] =
-    b"sedck 2\ncommands 0\n0 0 0 1 1\n0 0 1 1 1\n0 1 0 -\n0 1 1 -\nread 1\n";
+const HEAD: &[u8] = b"sedck 2\ncommands 0\n0 0 0 1 1\n0 0 1 1 1\n0 1 0 -\n0 1 1 -\nread 1\n";
 
 /// The line of the names that are written.
 const WRITE: &[u8] = b"\nwrite 1\n";

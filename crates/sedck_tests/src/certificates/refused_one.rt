@@ -1,6 +1,6 @@
 //! Texts that are no certificates, though their first line may be that of version 1.
-use super::{ENDLESS_ONE, NAMED_ONE};
 use super::refused::{Cut, Row, changed_have_faults, cut_have_faults};
+use super::{ENDLESS_ONE, NAMED_ONE};
 use crate::texts::{Kind, LongRow, long_texts_have_faults};
 
 static CHANGED: [Row; 25] = [
@@ -71,8 +71,20 @@ static NUMBERS: [Row; 13] = [
 
 #[test]
 fn changed_texts(rt: HostRuntime) {
-    changed_have_faults(&rt, rt.alloc(), &Kind::CertificateOne, ENDLESS_ONE, &CHANGED);
-    changed_have_faults(&rt, rt.alloc(), &Kind::CertificateOne, NAMED_ONE, &CHANGED_NAMES);
+    changed_have_faults(
+        &rt,
+        rt.alloc(),
+        &Kind::CertificateOne,
+        ENDLESS_ONE,
+        &CHANGED,
+    );
+    changed_have_faults(
+        &rt,
+        rt.alloc(),
+        &Kind::CertificateOne,
+        NAMED_ONE,
+        &CHANGED_NAMES,
+    );
     changed_have_faults(&rt, rt.alloc(), &Kind::CertificateOne, EMPTY, &NUMBERS);
 }
 

@@ -51,16 +51,26 @@ fn upgrades(rt: HostRuntime) {
         is_upgraded(&rt, rt.alloc(), *one, *two);
     }
     // the nodes of one version behind the first line of the other
-    let nodes = [b"sedck 1".as_slice(), &ENDLESS[7..]].concat(rt.alloc()).expect(&rt, "memory");
+    let nodes = [b"sedck 1".as_slice(), &ENDLESS[7..]]
+        .concat(rt.alloc())
+        .expect(&rt, "memory");
     assert_eq!(rt; fault_of(rt.alloc(), &Kind::Certificate, &nodes), (3, 3));
-    let nodes = [b"sedck 2".as_slice(), &ENDLESS_ONE[7..]].concat(rt.alloc()).expect(&rt, "memory");
+    let nodes = [b"sedck 2".as_slice(), &ENDLESS_ONE[7..]]
+        .concat(rt.alloc())
+        .expect(&rt, "memory");
     assert_eq!(rt; fault_of(rt.alloc(), &Kind::Certificate, &nodes), (3, 3));
 }
 
 /// The most nodes, each with the greatest ranks, and the most names.
 #[test]
 fn upgrades_the_most(rt: HostRuntime) {
-    let one = numbered(&rt, rt.alloc(), "@ 0 65535 65535\n@ 1 65535 65535\n", 0, 4096);
+    let one = numbered(
+        &rt,
+        rt.alloc(),
+        "@ 0 65535 65535\n@ 1 65535 65535\n",
+        0,
+        4096,
+    );
     let two = numbered(
         &rt,
         rt.alloc(),
@@ -69,7 +79,9 @@ fn upgrades_the_most(rt: HostRuntime) {
         4096,
     );
     let names = numbered(&rt, rt.alloc(), "@\n", 1000, 4095);
-    let lists = format!(in rt.alloc(); "read 4095\n{names}write 4095\n{names}end\n").expect(&rt, "memory");
+    let lists = format!(in rt.alloc(); "read 4095\n{names}write 4095\n{names}end\n").expect(
+        &rt, "memory",
+    );
     let one = format!(in rt.alloc(); "sedck 1\ncommands 4095\n{one}{lists}").expect(&rt, "memory");
     let two = format!(in rt.alloc(); "sedck 2\ncommands 4095\n{two}{lists}").expect(&rt, "memory");
     is_upgraded(&rt, rt.alloc(), one.as_bytes(), two.as_bytes());

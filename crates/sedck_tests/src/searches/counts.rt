@@ -21,7 +21,15 @@ static FULL: [(usize, u64); 9] = [
 ];
 
 /// The words 1, 3, 7 and so on have 1, 2, 3 bits and so on: a number of words, and their bits.
-static GROWING: [(usize, u64); 7] = [(1, 1), (7, 28), (8, 36), (9, 45), (64, 2080), (128, 2080), (256, 2080)];
+static GROWING: [(usize, u64); 7] = [
+    (1, 1),
+    (7, 28),
+    (8, 36),
+    (9, 45),
+    (64, 2080),
+    (128, 2080),
+    (256, 2080),
+];
 
 #[test]
 fn counts_of_many_bits(rt: HostRuntime) {

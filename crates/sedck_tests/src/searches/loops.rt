@@ -3,24 +3,42 @@ use super::{Row, are_told};
 
 static LOOPS: [Row; 19] = [
     (b":a;b a", "idle\n0 0 0 keep\n1 0 0 keep\n0 0 0\n"),
-    (b":a;s/x*//;ta", "idle\n0 0 0 keep\n1 0 0 keep\n2 1 0 keep\n0 0 0\n"),
+    (
+        b":a;s/x*//;ta",
+        "idle\n0 0 0 keep\n1 0 0 keep\n2 1 0 keep\n0 0 0\n",
+    ),
     (
         b":a;s/x/xx/;ta",
         "growing\n1 0 0 grow\n2 1 0 keep\n0 0 0 keep\n1 0 0\n",
     ),
-    (b":a;s/a/b/;ta", "idle\n0 0 0 keep\n1 0 0 keep\n2 1 0 keep\n0 0 0\n"),
+    (
+        b":a;s/a/b/;ta",
+        "idle\n0 0 0 keep\n1 0 0 keep\n2 1 0 keep\n0 0 0\n",
+    ),
     // loops on the last line alone, and before it alone
-    (b":a;$!N;ba", "idle\n0 0 1 keep\n1 0 1 keep\n2 0 1 keep\n0 0 1\n"),
+    (
+        b":a;$!N;ba",
+        "idle\n0 0 1 keep\n1 0 1 keep\n2 0 1 keep\n0 0 1\n",
+    ),
     (b":a;$ba", "idle\n0 0 1 keep\n1 0 1 keep\n0 0 1\n"),
     (b":a;$!ba", "idle\n0 0 0 keep\n1 0 0 keep\n0 0 0\n"),
-    (b":a;G;$ba", "growing\n1 0 1 grow\n2 0 1 keep\n0 0 1 keep\n1 0 1\n"),
-    (b":a;G;$!ba", "growing\n1 0 0 grow\n2 0 0 keep\n0 0 0 keep\n1 0 0\n"),
+    (
+        b":a;G;$ba",
+        "growing\n1 0 1 grow\n2 0 1 keep\n0 0 1 keep\n1 0 1\n",
+    ),
+    (
+        b":a;G;$!ba",
+        "growing\n1 0 0 grow\n2 0 0 keep\n0 0 0 keep\n1 0 0\n",
+    ),
     (
         b":a;s/\\(x\\)/\\1\\1/;ta",
         "growing\n1 0 0 grow\n2 1 0 keep\n0 0 0 keep\n1 0 0\n",
     ),
     // an idle loop behind a growing one
-    (b":a;s/x/xx/;ta;:b;/y/bb", "idle\n3 0 0 keep\n4 0 0 keep\n3 0 0\n"),
+    (
+        b":a;s/x/xx/;ta;:b;/y/bb",
+        "idle\n3 0 0 keep\n4 0 0 keep\n3 0 0\n",
+    ),
     // a growing loop behind an edge that may grow and lies on no loop, and behind an idle loop that isn't reached
     (
         b"G;b c;:b;bb;:c;s/x/xx/;tc",
