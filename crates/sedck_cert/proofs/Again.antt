@@ -17,7 +17,7 @@ use Rattle.sedck_cert.proofs.Leads.{line-behind}
 use Rattle.sedck_cert.proofs.Texts.{certificate_lines-joined, certificate_is_due}
 
 -- the first lines of one text, and what is behind them
-lines_one : (a b r s : List ℕ) → IsOneLine a → IsOneLine b → line a ++ r ≡ line b ++ s → (a ≡ b) × (r ≡ s)
+pub lines_one : (a b r s : List ℕ) → IsOneLine a → IsOneLine b → line a ++ r ≡ line b ++ s → (a ≡ b) × (r ≡ s)
 lines_one a b r s one two e = parts_one 10 a b r s one two (sym (line-behind a r) ∙ e ∙ line-behind b s)
 
 -- one line leads to one thing that is due

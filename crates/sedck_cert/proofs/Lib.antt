@@ -19,3 +19,6 @@ pub mod BoundingLemmas
 pub mod SameNames
 pub mod Streaming
 pub mod TextLength
+pub mod Upgraded
+pub mod UpgradeLaw
+pub mod Either

@@ -13,11 +13,15 @@ use Rattle.sedck_flow.proofs.NodeLemmas.{node_same, index-nth}
 use Rattle.sedck_cert.proofs.Cuts.{flag_text-digit}
 use Rattle.sedck_cert.specs.View.{names_of}
 use Rattle.sedck_cert.specs.Text.{line, header, ranks_text, node_text, node_lines, name_lines, files_text, text_in, certificate_text}
+use Rattle.sedck_cert.specs.declared.versions.Version.{Version}
 use Rattle.sedck_cert.specs.declared.versions.Version.TheVariants.{Two}
 use Rattle.sedck_cert.proofs.NameLimits.{left_cons}
 
 pub some_pieces : (first second : ℕ) → line (ranks_text (Some (first, second))) ≡ (decimal first ++ 32 ∷ []) ++ (decimal second ++ 10 ∷ [])
 some_pieces first second = append_assoc (decimal first ++ 32 ∷ []) (decimal second) (10 ∷ [])
+
+five : (a b c d e : List ℕ) → a ++ b ++ c ++ d ++ e ≡ a ++ (b ++ (c ++ (d ++ e)))
+five a b c d e = simp append_assoc
 
 seven : (a s f l r e : List ℕ) → a ++ s ++ f ++ s ++ l ++ s ++ r ++ e ≡ (a ++ s) ++ ((f ++ s) ++ ((l ++ s) ++ (r ++ e)))
 seven a s f l r e = simp append_assoc
@@ -105,6 +109,16 @@ pub certificate_pieces : (c : Certificate) → certificate_text c ≡ head_text 
     (node_lines Two 0 c.ranks ++ (files_text c.reads c.writes ++ line (codes "end")))
 unfolding text_in
 certificate_pieces c = four (head_text c.commands) (node_lines Two 0 c.ranks) (files_text c.reads c.writes) (line (codes "end"))
+
+-- the first line of a text, and the others
+pub header_first : (v : Version) (c : Certificate) → (rest : List ℕ) × (text_in v c ≡ line (header v) ++ rest)
+unfolding text_in
+header_first v c =
+    let count = line (codes "commands " ++ decimal c.commands) in
+    let nodes = node_lines v 0 c.ranks in
+    let files = files_text c.reads c.writes in
+    let end = line (codes "end") in
+    (count ++ (nodes ++ (files ++ end)), five (line (header v)) count nodes files end)
 
 pub few_ranks : (c : Certificate) (ranks : List (Option (ℕ × ℕ))) → IsCertificate Two c → ranks ≡ c.ranks → length ranks ≤ 16384
 few_ranks c ranks h is = omega (arith, h.nodes, h.commands, ap length is)

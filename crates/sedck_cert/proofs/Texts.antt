@@ -225,7 +225,7 @@ list_is_due v files names size are small = (
 
 -- ---- The whole
 
-header-one_line : (v : Version) → IsOneLine (header v)
+pub header-one_line : (v : Version) → IsOneLine (header v)
 header-one_line One = above-one_line (codes "sedck 1") refl
 header-one_line Two = above-one_line (codes "sedck 2") refl
 

@@ -1,9 +1,10 @@
 //! From a text to its certificate.
 
-ghost use Rattle.std.specs.Prelude.{◌≡◌, ◌⊎◌, IfOk, IfErr, IfSome, Some};
+ghost use Rattle.std.specs.Prelude.{◌≡◌, ◌⊎◌, ◌↔◌, IsTrue, IfOk, IfErr, IfSome, Some};
 ghost use Rattle.sedck_cert.specs.Certificate.{Certificate};
 ghost use Rattle.sedck_cert.specs.Text.{IsTextOf};
 ghost use Rattle.sedck_cert.specs.View.{with_parts};
+ghost use Rattle.sedck_cert.specs.Versions.{SpellsCertificate, SaysVersionOne, IsFaultIn};
 ghost use Rattle.sedck_cert.specs.declared.versions.Version.TheVariants.{One, Two};
 ghost use Rattle.sedck_cert.specs.Faults.{IsFaultOf, IsLineOf, line_of};
 ghost use Rattle.sedck_cert.specs.FaultText.{number_of, name_of, fault_text};
@@ -15,13 +16,13 @@ mod names;
 mod nodes;
 mod numbers;
 
-use self::frame::{command_count, ending, header};
+use self::frame::{command_count, ending, header, next_is};
 use self::lines::Lines;
 use self::names::{Files, names};
 pub use self::names::{NAMES_LIMIT, is_next_name};
 use self::nodes::nodes;
 use crate::certificate::{Cert, Parts};
-use crate::version_one::CertOne;
+use crate::version_one::{CertOne, upgrade};
 use crate::versions::Version;
 use std::alloc::{AllocError, AllocFailed, Global};
 use std::fmt;
@@ -138,6 +139,30 @@ pub fn read_cert_one(alloc: Global, text: &[u8]) -> Result<CertOne, CertFault>
     ensures placed { IfErr result (λ fault. IfSome (line_of fault) (IsLineOf text.now)) }
 {
     Ok(CertOne::of_parts(read_lines(alloc, Version::One, text)?))
+}
+
+/// Reads a certificate from a text of either version. One of version 1 is upgraded.
+pub fn read_any(alloc: Global, text: &[u8]) -> Result<Cert, CertFault>
+    // What is read is the certificate that the text spells, and it spells no other.
+    ensures read { IfOk result (SpellsCertificate text.now) }
+    ensures only { IfOk result (λ cert. (other : Certificate) → SpellsCertificate text.now other → other ≡ cert) }
+    // Unless memory runs out, a text is refused only where it spells no certificate, by the rules of the version that its first line tells.
+    ensures refused { IfErr result (λ fault. fault ≡ CertFault.OutOfMemory
+        ⊎ (((other : Certificate) → ¬ SpellsCertificate text.now other) × IsFaultIn text.now fault)) }
+    ensures placed { IfErr result (λ fault. IfSome (line_of fault) (IsLineOf text.now)) }
+{
+    if !says_version_one(text) {
+        return read_cert(alloc, text);
+    }
+    let one = read_cert_one(alloc, text)?;
+    Ok(upgrade(alloc, &one)?)
+}
+
+/// Whether the first line is that of version 1.
+fn says_version_one(text: &[u8]) -> bool
+    ensures { IsTrue result ↔ SaysVersionOne text.now }
+{
+    next_is(&mut Lines::new(text), Version::One.header())
 }
 
 /// Reads the lines in order. That no other certificate has the text is added by the callers.

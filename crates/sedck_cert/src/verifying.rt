@@ -7,7 +7,7 @@ use crate::bounding::limit;
 use crate::certificate::Cert;
 use crate::checking::{Verdict, check};
 use crate::limits::Bound;
-use crate::reading::{CertFault, read_cert};
+use crate::reading::{CertFault, read_any};
 use sedck_script::{Script, ScriptFault};
 use std::alloc::Global;
 
@@ -28,7 +28,7 @@ pub struct Judged<'a> {
     pub bound: Option<Bound>,
 }
 
-/// Judges a certificate's text for a script's text, and keeps what was read. Each text is read once.
+/// Judges a certificate's text, of either version, for a script's text, and keeps what was read. Each text is read once.
 ///
 /// Where the verdict is `Accepted`, the script's runs end: for every finite list of input lines
 /// there is a number of steps that no run of the script exceeds. And every file that a run creates,
@@ -43,7 +43,7 @@ pub fn judge<'a>(alloc: Global, script: &'a [u8], certificate: &[u8]) -> Result<
         Ok(script) => script,
         Err(fault) => return Err(Fault::Script(fault)),
     };
-    let cert = match read_cert(alloc, certificate) {
+    let cert = match read_any(alloc, certificate) {
         Ok(cert) => cert,
         Err(fault) => return Err(Fault::Certificate(fault)),
     };
@@ -70,7 +70,7 @@ fn with_verdict<'a>(script: Script<'a>, cert: Cert) -> Judged<'a>
     }
 }
 
-/// Judges a certificate's text for a script's text.
+/// Judges a certificate's text, of either version, for a script's text.
 ///
 /// Where the answer is `Ok(Accepted)`, the script's runs end: for every finite list of input lines
 /// there is a number of steps that no run of the script exceeds. And every file that a run creates,

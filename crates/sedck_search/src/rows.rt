@@ -144,6 +144,6 @@ impl Row {
         ensures value { result ≡ bit_count self.now }
         ensures row { IsRow self.now }
     {
-        self.count
+        count_bits(&self.words) as usize
     }
 }

@@ -54,7 +54,7 @@ pub fn ending(lines: &mut Lines) -> Result<(), CertFault>
 }
 
 /// Whether the next line is this text.
-fn next_is(lines: &mut Lines, text: &[u8]) -> bool
+pub fn next_is(lines: &mut Lines, text: &[u8]) -> bool
     ensures same { OnTrue result (IsNext lines.old text.now lines.new) }
     ensures other { OnFalse result ((more : List ℕ) → IsCut newline lines.old.rest.now text.now more → ⊥) }
 {

@@ -1,4 +1,4 @@
-use Rattle.sedck_cert.proofs.Promise.{is_judged, promised, answered, no_script, script_reported}
+use Rattle.sedck_cert.proofs.Promise.{is_judged, promised, answered, no_script, no_certificate, script_reported}
 use Rattle.sedck_cert.specs.Headline.{IsJudged}
 use Rattle.sedck_cert.proofs.verifying.judge.Goals as goal
 use Rattle.sedck_cert.proofs.verifying.judge.Goals.{After-with_verdict}
@@ -7,7 +7,7 @@ use Rattle.sedck_cert.proofs.verifying.judge.Goals.{After-with_verdict}
 judged : (c : After-with_verdict) → IsJudged c.args.script.now c.args.certificate.now c.with_verdict.result
 judged c =
     let script = c.in-Ok.ensures in
-    let cert = c.in-Ok-read_cert.ensures in
+    let cert = c.in-Ok-read_any.ensures in
     let with = c.with_verdict.ensures in
     is_judged c.args.script.now c.args.certificate.now c.with_verdict.result _ _ with.script with.cert script.spelled script.only cert.read cert.only
     with.verdict with.limit
@@ -25,6 +25,11 @@ returns-clause-answer c _ = answered c.args.script.now c.args.certificate.now c.
 -- a text that spells no script
 pub returns-in-Err-clause-answer : goal.returns-in-Err-clause-answer
 returns-in-Err-clause-answer c = no_script c.args.script.now c.args.certificate.now c.in-Err.fault c.in-Err.ensures.refused
+
+-- a text that spells no certificate
+pub returns-in-Err-read_any-clause-answer : goal.returns-in-Err-read_any-clause-answer
+returns-in-Err-read_any-clause-answer c =
+    no_certificate c.args.script.now c.args.certificate.now _ c.in-Err-read_any.fault c.in-Ok.ensures.spelled c.in-Err-read_any.ensures.refused
 
 pub returns-in-Err-clause-reported : goal.returns-in-Err-clause-reported
 returns-in-Err-clause-reported c =
