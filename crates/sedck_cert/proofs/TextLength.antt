@@ -179,11 +179,11 @@ text_length v c within =
     )
 
 -- the same of a text of either version
-pub spelled_length : (text : List ℕ) (c : Certificate) → SpellsCertificate text c → length text ≤ 1388247
-spelled_length text c (inl h) = omega (arith, ap length h.is_text, text_length Two c h.within)
-spelled_length text c (inr h) = omega (arith, ap length h.1.is_text, text_length One h.0 h.1.within)
+pub text_length_of_spelled : (text : List ℕ) (c : Certificate) → SpellsCertificate text c → length text ≤ 1388247
+text_length_of_spelled text c (inl h) = omega (arith, ap length h.is_text, text_length Two c h.within)
+text_length_of_spelled text c (inr h) = omega (arith, ap length h.1.is_text, text_length One h.0 h.1.within)
 
 -- a text whose first 1,572,865 bytes spell a certificate has no more of them
 pub front_is_whole : (text : List ℕ) (c : Certificate) → SpellsCertificate (take 1572865 text) c → take 1572865 text ≡ text
 front_is_whole text c h = take_all 1572865 text
-    (omega (arith, length-take 1572865 text, spelled_length (take 1572865 text) c h))
+    (omega (arith, length-take 1572865 text, text_length_of_spelled (take 1572865 text) c h))

@@ -39,7 +39,7 @@ below_two : (last : Bool) → (if last then 1 else 0) < 2
 below_two true = omega arith
 below_two false = omega arith
 
-ranks_plain : (c : Certificate) (n : Node) → ranks_at (upgraded c) n ≡ ranks_at_one c (plain_node n)
+pub ranks_plain : (c : Certificate) (n : Node) → ranks_at (upgraded c) n ≡ ranks_at_one c (plain_node n)
 ranks_plain c n = ap option_flatten (slice_get-doubled c.ranks (node_index_one (plain_node n)) (if n.last then 1 else 0) (node_index n)
     (below_two n.last) (index_of n.at n.flag n.last))
 

@@ -1,5 +1,5 @@
 -- What is proved of certificates and runs alone.
-use Rattle.std.specs.Prelude.{ℕ, ◌+◌, ◌*◌, ◌≤◌, List, length}
+use Rattle.std.specs.Prelude.{◌≡◌, ℕ, ◌+◌, ◌*◌, ◌≤◌, List, length}
 use Rattle.sedck_script.specs.Invariant.{AreWellFormed}
 use Rattle.sedck_script.specs.Program.{Program}
 use Rattle.sedck_script.specs.Names.{reads, writes}
@@ -10,8 +10,10 @@ use Rattle.sedck_cert.specs.Certificate.{Certificate, IsCertificate}
 use Rattle.sedck_cert.specs.Text.{text_in}
 use Rattle.sedck_cert.specs.declared.versions.Version.{Version}
 use Rattle.sedck_cert.specs.declared.versions.Version.TheVariants.{One, Two}
-use Rattle.sedck_cert.specs.Ranked.{IsRanked, Accepts, IsSteady, ListsNames}
-use Rattle.sedck_cert.specs.VersionOne.{AcceptsOne, upgraded}
+use Rattle.sedck_cert.specs.Ranked.{ranks_at, IsRanked, Accepts, IsSteady, ListsNames}
+use Rattle.sedck_cert.specs.VersionOne.{ranks_at_one, AcceptsOne, upgraded}
+use Rattle.sedck_flow.specs.VersionOne.{plain_node}
+use Rattle.sedck_flow.specs.declared.graph.Node.{Node}
 use Rattle.sedck_cert.specs.StepLimit.{greatest_first, greatest_second, step_limit}
 use Rattle.sedck_flow.specs.Spaces.{bytes_of}
 
@@ -32,6 +34,10 @@ steady_limit c lines = (greatest_second c.ranks + 1) * (bytes_of lines + (greate
 abbrev pub SteadyRunsAreCounted : Type 0
 SteadyRunsAreCounted = (p : Program) → AreWellFormed p → (c : Certificate) → IsSteady p c
     → (lines : List (List ℕ)) (steps : List (Event × State)) → Run p lines steps → length steps ≤ steady_limit c lines
+
+-- upgrading gives both nodes of a place and flag the ranks of that place and flag, or none where it has none
+abbrev pub UpgradesKeepRanks : Type 0
+UpgradesKeepRanks = (c : Certificate) (n : Node) → ranks_at (upgraded c) n ≡ ranks_at_one c (plain_node n)
 
 -- a certificate of version 1 that was accepted is accepted once it is upgraded, whether the kinds of substitutions were those by literal parts alone
 -- or those with references

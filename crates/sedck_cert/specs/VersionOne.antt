@@ -33,7 +33,7 @@ pub record AcceptsOne (kinds : Kinds) (p : Program) (c : Certificate) : Type 0 w
 
 -- ---- Upgrading
 
--- each entry twice: a node has become two, one where a line is left and one where none is
+-- each entry twice: a node has become two, one where a line is left and then one where none is (the law `upgrades_keep_ranks`)
 abbrev pub doubled : List (Option (ℕ × ℕ)) → List (Option (ℕ × ℕ))
 doubled [] = []
 doubled (ranks ∷ more) = ranks ∷ ranks ∷ doubled more

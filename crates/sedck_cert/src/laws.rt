@@ -1,6 +1,6 @@
 //! What is proved of certificates and runs alone. The functions do nothing: their contracts are the laws.
 
-ghost use Rattle.sedck_cert.specs.Laws.{NamesAreListed, RanksBoundRuns, SteadyRunsAreCounted, TextsAreLimited, UpgradesAreAccepted};
+ghost use Rattle.sedck_cert.specs.Laws.{NamesAreListed, RanksBoundRuns, SteadyRunsAreCounted, TextsAreLimited, UpgradesAreAccepted, UpgradesKeepRanks};
 
 /// The sorted names of a script are a list of just the names that its commands name.
 pub fn names_are_listed()
@@ -20,6 +20,11 @@ pub fn steady_runs_are_counted()
 /// No certificate's text has more than 1,388,247 bytes, and none of version 1 more than 1,202,051.
 pub fn texts_are_limited()
     ensures { TextsAreLimited }
+{}
+
+/// Upgrading a certificate gives both nodes of a place and flag the ranks of that place and flag.
+pub fn upgrades_keep_ranks()
+    ensures { UpgradesKeepRanks }
 {}
 
 /// A certificate of version 1 that was accepted for a script is accepted once it is upgraded.

@@ -10,8 +10,8 @@ use Rattle.sedck_script.specs.Faults.{IsPlaced}
 use Rattle.sedck_script.specs.declared.fault.ScriptFault.{ScriptFault}
 use Rattle.sedck_script.specs.declared.fault.ScriptFault.TheVariants as script
 use Rattle.sedck_cert.specs.Certificate.{Certificate}
-use Rattle.sedck_cert.specs.Text.{IsTextOf, line, files_text, certificate_text}
-use Rattle.sedck_cert.specs.Faults.{IsFaultOf}
+use Rattle.sedck_cert.specs.Text.{line, files_text, certificate_text}
+use Rattle.sedck_cert.specs.Versions.{SpellsCertificate, IsFaultIn}
 use Rattle.sedck_cert.specs.Headline.{SpellsOnly, IsTextOfOnly, IsAnswered, IsWantOfMemory, IsScriptFaultOf, ReportsFault, IsLimit, IsJudged}
 use Rattle.sedck_cert.specs.declared.checking.Verdict.TheVariants.{Accepted}
 use Rattle.sedck_cert.specs.declared.limits.Bound.{Bound}
@@ -20,7 +20,7 @@ use Rattle.sedck_cert.specs.declared.verifying.Fault.{Fault}
 use Rattle.sedck_cert.specs.declared.verifying.Fault.TheVariants as below
 use Rattle.sedck_cert.specs.declared.reading.CertFault.{CertFault}
 use Rattle.sedck_cert.specs.declared.reading.CertFault.TheVariants as cert
-use Rattle.sedck_cert.proofs.TextLength.{text_length, front_is_whole}
+use Rattle.sedck_cert.proofs.TextLength.{text_length_of_spelled, front_is_whole}
 use Rattle.sedck_cli.specs.declared.answer.Outcome.{Outcome}
 use Rattle.sedck_cli.specs.declared.answer.Outcome.TheVariants.{Yes}
 use Rattle.sedck_cli.specs.Engines.{verdict_outcome, ChecksTo, EngineAnswers, OfBytes, OfScript, UpgradesTo, IsRefusedScript, IsRefusedCertificate, RanksTo, found_outcome}
@@ -82,35 +82,35 @@ refused_whole whole text why is refused (inl long) =
 pub script_refused : (whole text : List ℕ) (why : ScriptFault) → text ≡ take 1048577 whole → IsRefusedScript text why → IsRefusedScript whole why
 script_refused whole text why is refused = refused_whole whole text why is refused (cases_lt 1048576 (length text))
 
-text_of_whole : (whole bytes : List ℕ) (c : Certificate) → bytes ≡ take 1310721 whole → IsTextOfOnly bytes c → IsTextOfOnly whole c
+text_of_whole : (whole bytes : List ℕ) (c : Certificate) → bytes ≡ take 1572865 whole → IsTextOfOnly bytes c → IsTextOfOnly whole c
 text_of_whole whole bytes c is written =
-    let same = is ∙ front_is_whole whole c (subst (λ l. IsTextOf l c) is written.is_text) in subst (λ l. IsTextOfOnly l c) same written
+    let same = is ∙ front_is_whole whole c (subst (λ l. SpellsCertificate l c) is written.is_text) in subst (λ l. IsTextOfOnly l c) same written
 
-no_text_of_whole : (whole bytes : List ℕ) → bytes ≡ take 1310721 whole → ((c : Certificate) → ¬ IsTextOf bytes c) → (c : Certificate) → ¬ IsTextOf whole c
+no_text_of_whole : (whole bytes : List ℕ) → bytes ≡ take 1572865 whole → ((c : Certificate) → ¬ SpellsCertificate bytes c) → (c : Certificate) → ¬ SpellsCertificate whole c
 no_text_of_whole whole bytes is none c written =
-    let short = text_length c written.within in
-    let same = is ∙ take_all 1310721 whole (omega (arith, ap length written.is_text, short)) in
-    none c (subst (λ l. IsTextOf l c) (sym same) written)
+    let short = text_length_of_spelled whole c written in
+    let same = is ∙ take_all 1572865 whole (omega (arith, short)) in
+    none c (subst (λ l. SpellsCertificate l c) (sym same) written)
 
 -- a script that was read is one
 script_of_whole : (whole text : List ℕ) → text ≡ take 1048577 whole → ((p : Program) × Spells text p) → (p : Program) × Spells whole p
 script_of_whole whole text is script =
     let p = script.0 in (p, subst (λ l. Spells l p) (whole_script whole text is script.1.allowed.fits) script.1)
 
-certificate_refused : (whole bytes : List ℕ) (why : CertFault) → bytes ≡ take 1310721 whole → why ≢ cert.OutOfMemory
-    → ((c : Certificate) → ¬ IsTextOf bytes c) → IsFaultOf bytes why → IsRefusedCertificate whole why
+certificate_refused : (whole bytes : List ℕ) (why : CertFault) → bytes ≡ take 1572865 whole → why ≢ cert.OutOfMemory
+    → ((c : Certificate) → ¬ SpellsCertificate bytes c) → IsFaultIn bytes why → IsRefusedCertificate whole why
 certificate_refused whole bytes why is of_text none is_fault =
     record {
       is_of_text = of_text;
       none = no_text_of_whole whole bytes is none;
-      is_fault = subst (λ l. IsFaultOf l why) is is_fault;
+      is_fault = subst (λ l. IsFaultIn l why) is is_fault;
     }
 
--- bytes that are no certificate's text
-no_certificate : (written : Option (List ℕ)) (bytes : List ℕ) (why : CertFault) → IsRead 1310721 written bytes → why ≢ cert.OutOfMemory
-    → ((c : Certificate) → ¬ IsTextOf bytes c) → IsFaultOf bytes why → OfBytes written (λ b. IsRefusedCertificate b why)
+-- bytes that spell no certificate
+no_certificate : (written : Option (List ℕ)) (bytes : List ℕ) (why : CertFault) → IsRead 1572865 written bytes → why ≢ cert.OutOfMemory
+    → ((c : Certificate) → ¬ SpellsCertificate bytes c) → IsFaultIn bytes why → OfBytes written (λ b. IsRefusedCertificate b why)
 no_certificate written bytes why is of_text none is_fault =
-    of_bytes 1310721 written bytes (λ b. IsRefusedCertificate b why) is
+    of_bytes 1572865 written bytes (λ b. IsRefusedCertificate b why) is
     (λ whole cut. certificate_refused whole bytes why cut of_text none is_fault)
 
 -- ---- Refusals
@@ -133,7 +133,7 @@ parse_refused source out script_failed out_failed IsReport text why is refused r
 
 -- a script or a certificate that `judge` refuses
 pub judge_refused : (source written out : Option (List ℕ)) (script_failed cert_failed out_failed : Bool) (IsReport : Outcome → List ℕ → Type 0)
-    (text bytes : List ℕ) (why : Fault) → IsRead 1048577 source text → IsRead 1310721 written bytes
+    (text bytes : List ℕ) (why : Fault) → IsRead 1048577 source text → IsRead 1572865 written bytes
     → ((¬ IsWantOfMemory (Err why)) → IsAnswered text bytes (Err why)) → ReportsFault text bytes (Err why)
     → EngineAnswers
     (record {
@@ -159,10 +159,10 @@ judge_refused source written out script_failed cert_failed out_failed IsReport t
       no_certificate written bytes why is_bytes (λ e. cc) both.1 is_fault,
     )
 
--- a certificate that `read_cert` refuses
+-- a certificate that `read_any` refuses
 pub read_refused : (written out : Option (List ℕ)) (cert_failed out_failed : Bool) (IsReport : Outcome → List ℕ → Type 0)
-    (bytes : List ℕ) (why : CertFault) → IsRead 1310721 written bytes
-    → (why ≡ cert.OutOfMemory) ⊎ (((c : Certificate) → ¬ IsTextOf bytes c) × IsFaultOf bytes why)
+    (bytes : List ℕ) (why : CertFault) → IsRead 1572865 written bytes
+    → (why ≡ cert.OutOfMemory) ⊎ (((c : Certificate) → ¬ SpellsCertificate bytes c) × IsFaultIn bytes why)
     → EngineAnswers
     (record {
       script = None;
@@ -187,11 +187,11 @@ accepted_report p c bound report limit is = (bound_line bound, limit_line p c bo
 
 -- the report of what was judged, of the sources' bytes, where they are known
 pub checks_to : (script cert : Option (List ℕ)) (text bytes : List ℕ) (judged : Judged) (report : List ℕ) → IsRead 1048577 script text
-    → IsRead 1310721 cert bytes → IsJudged text bytes judged → IsCheckReport judged.script judged.cert judged.verdict report
+    → IsRead 1572865 cert bytes → IsJudged text bytes judged → IsCheckReport judged.script judged.cert judged.verdict report
     → OfBytes script (λ t. OfBytes cert (λ b. ChecksTo t b (verdict_outcome judged.verdict) report))
 checks_to script cert text bytes judged report is_text is_bytes is reported =
     of_bytes 1048577 script text (λ t. OfBytes cert (λ b. ChecksTo t b (verdict_outcome judged.verdict) report)) is_text
-    (λ whole front. of_bytes 1310721 cert bytes (λ b. ChecksTo whole b (verdict_outcome judged.verdict) report) is_bytes
+    (λ whole front. of_bytes 1572865 cert bytes (λ b. ChecksTo whole b (verdict_outcome judged.verdict) report) is_bytes
     (λ whole_bytes cut. (
       judged.verdict,
       refl,
@@ -225,10 +225,10 @@ ranks_to known text p found report is spelled only holds =
     (λ whole front. (found, refl, of_script whole text p (λ q. IsRankReport q found report) front spelled only holds))
 
 -- the text of the certificate that was read
-pub upgrades_to : (known : Option (List ℕ)) (bytes : List ℕ) (c : Certificate) → IsRead 1310721 known bytes → IsTextOf bytes c
-    → ((d : Certificate) → IsTextOf bytes d → d ≡ c) → OfBytes known (λ b. UpgradesTo b Yes (certificate_text c))
+pub upgrades_to : (known : Option (List ℕ)) (bytes : List ℕ) (c : Certificate) → IsRead 1572865 known bytes → SpellsCertificate bytes c
+    → ((d : Certificate) → SpellsCertificate bytes d → d ≡ c) → OfBytes known (λ b. UpgradesTo b Yes (certificate_text c))
 upgrades_to known bytes c is written only =
-    of_bytes 1310721 known bytes (λ b. UpgradesTo b Yes (certificate_text c)) is
+    of_bytes 1572865 known bytes (λ b. UpgradesTo b Yes (certificate_text c)) is
     (λ whole front. (
       refl,
       record { cert = c; written = text_of_whole whole bytes c front (record { is_text = written; only = only }); holds = refl },

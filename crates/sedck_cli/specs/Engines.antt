@@ -6,8 +6,8 @@ use Rattle.sedck_script.specs.Spelling.{Spells}
 use Rattle.sedck_script.specs.declared.fault.ScriptFault.{ScriptFault}
 use Rattle.sedck_script.specs.declared.fault.ScriptFault.TheVariants as script
 use Rattle.sedck_cert.specs.Certificate.{Certificate}
-use Rattle.sedck_cert.specs.Text.{IsTextOf, certificate_text}
-use Rattle.sedck_cert.specs.Faults.{IsFaultOf}
+use Rattle.sedck_cert.specs.Text.{certificate_text}
+use Rattle.sedck_cert.specs.Versions.{SpellsCertificate, IsFaultIn}
 use Rattle.sedck_cert.specs.Headline.{SpellsOnly, IsTextOfOnly, Stand, IsVerdict, IsScriptFaultOf}
 use Rattle.sedck_cert.specs.Streams.{AppendsFront}
 use Rattle.sedck_cert.specs.declared.reading.CertFault.{CertFault}
@@ -75,13 +75,13 @@ pub record IsRefusedScript (text : List ℕ) (why : ScriptFault) : Type 0 where
 
 -- what is read of a certificate's bytes: more than one may have
 abbrev pub certificate_read : List ℕ → List ℕ
-certificate_read bytes = take 1310721 bytes
+certificate_read bytes = take 1572865 bytes
 
--- the bytes are no certificate's text, and this is the fault of their first wrong line
+-- the bytes spell no certificate, and this is the fault of their first wrong line
 pub record IsRefusedCertificate (bytes : List ℕ) (why : CertFault) : Type 0 where
   pub is_of_text : why ≢ cert.OutOfMemory
-  pub none : (c : Certificate) → ¬ IsTextOf bytes c
-  pub is_fault : IsFaultOf (certificate_read bytes) why
+  pub none : (c : Certificate) → ¬ SpellsCertificate bytes c
+  pub is_fault : IsFaultIn (certificate_read bytes) why
 
 -- ---- An engine's answer
 

@@ -8,7 +8,7 @@ use crate::input::read_whole;
 use crate::rank::rank_report;
 use crate::report::{check_report, files_report, graph_report};
 use sedck_cert::streams::{Sink, Source, write_all};
-use sedck_cert::{Verdict, judge, read_cert, write_cert};
+use sedck_cert::{Verdict, judge, read_any, write_cert};
 use sedck_script::parse;
 use sedck_search::{Found, search};
 use std::alloc::Global;
@@ -17,7 +17,7 @@ use std::alloc::Global;
 const SCRIPT_READ: usize = 1_048_577;
 
 /// How many bytes of a certificate are read: more than one may have.
-const CERTIFICATE_READ: usize = 1_310_721;
+const CERTIFICATE_READ: usize = 1_572_865;
 
 /// Judges the certificate for the script, and writes the verdict.
 pub fn run_check<R: Source, C: Source, W: Sink>(
@@ -114,7 +114,7 @@ pub fn run_rank<R: Source, W: Sink>(
     Ok(outcome_of_found(&found))
 }
 
-/// Writes the text of the certificate that is read.
+/// Writes the text of the certificate that is read, in version 2, whichever its version was.
 pub fn run_upgrade<C: Source, W: Sink>(
     alloc: Global,
     cert: &mut C,
@@ -129,7 +129,7 @@ pub fn run_upgrade<C: Source, W: Sink>(
         (λ outcome report. OfBytes (C.left cert.old) (λ bytes. UpgradesTo bytes outcome report)) result }
 {
     let text = read_whole(alloc, cert, CERTIFICATE_READ, Input::Certificate)?;
-    let cert = read_cert(alloc, &text)?;
+    let cert = read_any(alloc, &text)?;
     let Ok(()) = write_cert(&cert, out) else {
         return Err(RunFault::Write);
     };

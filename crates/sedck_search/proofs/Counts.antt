@@ -43,9 +43,9 @@ module _ (p : Program) (along : Along) where
   -- ---- The row of the last counted node
 
   -- a closed row with a node has all that it reaches; with as many nodes as those it has no other
-  pub last_reached : (row : List ℕ) (count : ℕ) → IsLast p along row count → (n m : Node) → Reaches p along n m → IsIn row m
+  pub last_reached : (row waiting : List ℕ) (count : ℕ) → IsLast p along row waiting count → (n m : Node) → Reaches p along n m → IsIn row m
       → IsReachCount p along m count → (k : Node) → IsIn row k → Reaches p along n k
-  last_reached row count last n m r has_m x k has_k =
+  last_reached row waiting count last n m r has_m x k has_k =
       let within : (i : ℕ) → has x.row i ≡ true → has row i ≡ true =
       nodes_within x.row row (λ j h. let to : Reaches p along m j = (x.reach.same j).0 h in
       closed_reaches p along row last.closed to.0 m j to.1 to.2 has_m) in
@@ -53,9 +53,9 @@ module _ (p : Program) (along : Along) where
       (same_nodes x.row row x.reach.is_row last.is_row within (x.counts ∙ sym last.counts) (node_index k) has_k))
 
   -- a closed row with the node, of nodes that it reaches, is all that it reaches
-  pub last_counts : (row : List ℕ) (count : ℕ) → IsLast p along row count → (n : Node) → IsIn row n → ((m : Node) → IsIn row m → Reaches p along n m)
+  pub last_counts : (row waiting : List ℕ) (count : ℕ) → IsLast p along row waiting count → (n : Node) → IsIn row n → ((m : Node) → IsIn row m → Reaches p along n m)
       → IsReachCount p along n count
-  last_counts row count last n has_n reached = record {
+  last_counts row waiting count last n has_n reached = record {
     row = row;
     reach = record { is_row = last.is_row; same = λ m. (reached m, λ to. closed_reaches p along row last.closed to.0 n m to.1 to.2 has_n) };
     counts = last.counts;
@@ -150,9 +150,9 @@ module _ (p : Program) (along : Along) where
           changed_keeps x.row more n changed k ((x.reach.same k).1 (path, subst (λ j. IsPath p j path k) to is.1, followed.1))
 
   -- a closed row, with one node more whose edges lead into it, is closed
-  pub closed_beside : (row : List ℕ) (count : ℕ) → IsLast p along row count → (m : Node) → node_index m < 16384
+  pub closed_beside : (row waiting : List ℕ) (count : ℕ) → IsLast p along row waiting count → (m : Node) → node_index m < 16384
       → ((e : Edge) → FollowedEdge p along e → e.from ≡ m → IsIn row e.to) → IsClosedBeside p along row m
-  closed_beside row count last m below leads =
+  closed_beside row waiting count last m below leads =
       let changed = inserted row (node_index m) below last.is_row in
       let more : List ℕ = set row (node_index m / 64) (with_bit row (node_index m)) in
       record {

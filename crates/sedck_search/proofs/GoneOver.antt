@@ -1,5 +1,5 @@
 -- The edges of a node, gone over one after another.
-use Rattle.std.proofs.Common.{◌≡◌, ℕ, ◌<◌, ◌≤◌, length, List, [], ◌∷◌, ◌++◌, Contains, ◌≢◌, refl, sym, ap, ◌∙◌, subst, inl, inr, append-nil, append_assoc, arith}
+use Rattle.std.proofs.Common.{◌≡◌, ℕ, zero, suc, ◌<◌, ◌≤◌, length, List, [], ◌∷◌, ◌++◌, Contains, ◌≢◌, refl, sym, ap, ◌∙◌, subst, inl, inr, append-nil, append_assoc, arith}
 use Rattle.std.specs.Prelude.{Some, slice_get, get_or, set}
 use Rattle.std.proofs.lemmas.Bool.{cases_lt}
 use Rattle.std.proofs.lemmas.List.{length-set, get_or-set_same, get_or-set_other}
@@ -56,7 +56,7 @@ module _ (p : Program) (n : Node) where
       → e.to.at ≤ length p.commands
   target_coming script done coming e h = (inside p script.targets e (edge_coming done coming e h).0).1
 
--- a node of the script has its place in a list with two places a command and two for the end
+-- a node of the script has its place in a list with four places a command and four for the end
 pub place_in : (p : Program) (xs : List ℕ) → length xs ≡ node_count (length p.commands) → (n : Node) → n.at ≤ length p.commands → node_index n < length xs
 place_in p xs long n h = omega (arith, long, index_below n (length p.commands) h)
 
@@ -67,6 +67,14 @@ entry_is xs n i v is below e = ap (slice_get xs) (sym is) ∙ slice_get-get_or x
 
 pub entry_of : (xs : List ℕ) (n : Node) (i v : ℕ) → i ≡ node_index n → slice_get xs (node_index n) ≡ Some v → get_or xs i 0 ≡ v
 entry_of xs n i v is has = get_or_from_slice_get xs i v 0 (ap (slice_get xs) is ∙ has)
+
+-- one entry more
+pub entries_push : (xs : List ℕ) (y : ℕ) (f : ℕ → ℕ) → ((i : ℕ) → i < length xs → slice_get xs i ≡ Some (f i)) → y ≡ f (length xs) → (i : ℕ)
+    → i < suc (length xs) → slice_get (xs ++ y ∷ []) i ≡ Some (f i)
+entries_push [] y f all is zero below = ap Some is
+entries_push [] y f all is (suc i) below = absurd (omega (arith, below))
+entries_push (x ∷ xs) y f all is zero below = all 0 (omega arith)
+entries_push (x ∷ xs) y f all is (suc i) below = entries_push xs y (λ k. f (suc k)) (λ k less. all (suc k) (omega (arith, less))) is i (omega (arith, below))
 
 -- a list with another number at one place
 pub set_same : (xs : List ℕ) (i v : ℕ) → i < length xs → slice_get (set xs i v) i ≡ Some v

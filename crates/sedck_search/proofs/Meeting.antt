@@ -10,7 +10,7 @@ use Rattle.sedck_search.specs.Reaching.{IsIn, IsClosed, Reaches, FollowedEdge}
 use Rattle.sedck_search.specs.Spreading.{HasMet, HasGrown, IsFollowedFrom, IsFrontier}
 use Rattle.sedck_search.specs.declared.along.Along.{Along}
 use Rattle.sedck_search.proofs.RowSets.{inserted_count, removed_count, count_within}
-use Rattle.sedck_flow.proofs.NodeLemmas.{node_same}
+use Rattle.sedck_flow.proofs.NodeLemmas.{node_same, node_at}
 use Rattle.sedck_search.proofs.Paths.{reaches_self, reaches-trans, reaches_edge}
 
 -- ---- Nodes put into a row
@@ -79,6 +79,17 @@ module _ (n : Node) (row waiting row' waiting' : List ℕ) (frontier : IsFrontie
       | inr same ↦ subst (IsIn row') (sym same) r.at
     ];
   }
+
+-- no node is met
+pub met_none : (IsMet : Node → Type 0) (row waiting : List ℕ) (first : ℕ) → HasMet IsMet row waiting row waiting first first
+met_none IsMet row waiting first = record {
+  kept = λ n x. x;
+  waits_on = λ n x. x;
+  new = λ n x. inl x;
+  waits = λ n x. inl x;
+  earlier = omega arith;
+  room = omega arith;
+}
 
 -- what is met after one another
 pub met_then : (IsMet : Node → Type 0) (a w a' w' a'' w'' : List ℕ) (f f' f'' : ℕ) → HasMet IsMet a w a' w' f f' → HasMet IsMet a' w' a'' w'' f' f''
@@ -214,3 +225,13 @@ module _ (p : Program) (along : Along) (n : Node) (before : List ℕ) where
       idle : (k : Node) (b : Bool) → has waiting (node_index k) ≡ b → has waiting (node_index k) ≡ false
       idle k false e = e
       idle k true e = none (node_index k) (s.front k e)
+
+  pub none_waits : (row waiting : List ℕ) (first : ℕ) → IsSpreading p along n before row waiting first
+      → ((i : ℕ) → first ≤ i → has waiting i ≡ false) → IsEmpty waiting
+  none_waits row waiting first s none i = go (has waiting i) refl
+    where
+      go : (b : Bool) → has waiting i ≡ b → has waiting i ≡ false
+      go false e = e
+      go true e =
+          let k = node_at i in
+          none i (omega (arith, k.1, s.front k.0 (subst (λ j. has waiting j ≡ true) (sym k.1) e)))

@@ -1,8 +1,8 @@
 -- A walk between nodes that know the last line, without what they say of it.
-use Rattle.std.proofs.Common.{◌≡◌, ◌≢◌, ℕ, suc, ◌<◌, List, [], ◌∷◌, length, ap, subst, sym, inl, inr, arith}
+use Rattle.std.proofs.Common.{◌≡◌, ◌≢◌, ◌<◌, List, [], ◌∷◌, length, ap, inl, inr, arith}
 use Rattle.sedck_script.specs.Program.{Program}
 use Rattle.sedck_flow.specs.Flow.{HasKind}
-use Rattle.sedck_flow.specs.VersionOne.{NodeOne, plain_node}
+use Rattle.sedck_flow.specs.VersionOne.{plain_node}
 use Rattle.sedck_flow.specs.declared.graph.Node.{Node}
 use Rattle.sedck_flow.specs.declared.graph.Kind.{Kind}
 use Rattle.sedck_flow.specs.declared.graph.Kind.TheVariants.{Consume, Keep, Grow}

@@ -17,6 +17,7 @@ use Rattle.sedck_flow.specs.declared.graph.Node.{Node}
 use Rattle.sedck_flow.specs.declared.graph.Edge.{Edge}
 use Rattle.sedck_flow.specs.declared.graph.Kind.{Kind}
 use Rattle.sedck_flow.specs.declared.graph.Kind.TheVariants.{Consume, Shorten, Keep, Grow}
+use Rattle.sedck_cert.specs.declared.versions.Version.TheVariants.{Two}
 use Rattle.sedck_cert.specs.Certificate.{Certificate, IsCertificate, AreWithin}
 use Rattle.sedck_cert.specs.Ranked.{ranks_at, Lowers, ListsNames, IsRanked, Accepts}
 use Rattle.sedck_search.specs.Obstacle.{IsReachable}
@@ -162,7 +163,7 @@ module _ (p : Program) (script : IsScript p) (firsts seconds : List ℕ) (are_fi
         one (suc a) b x y = (x, y)
 
     pub counts_certificate : ((i : ℕ) → get_or firsts i 0 ≤ 65535) → ((i : ℕ) → get_or seconds i 0 ≤ 65535) → c.commands ≡ length p.commands
-        → c.reads ≡ reads p → c.writes ≡ writes p → IsCertificate c
+        → c.reads ≡ reads p → c.writes ≡ writes p → IsCertificate Two c
     counts_certificate f s is_commands is_reads is_writes = record {
       commands = omega (arith, is_commands, script.count);
       nodes = ap length is_ranks ∙ ranks_from-length firsts seconds same_length ∙ are_firsts.long ∙ ap node_count (sym is_commands);

@@ -8,7 +8,7 @@ use Rattle.sedck_flow.specs.declared.graph.Edge.{Edge}
 use Rattle.sedck_flow.specs.declared.graph.Kind.{Kind}
 use Rattle.sedck_flow.specs.declared.graph.Kind.TheVariants.{Consume, Keep}
 use Rattle.sedck_search.specs.Obstacle.{IsPath, IsReachable}
-use Rattle.sedck_search.specs.Rows.{has, bit_count, IsRow}
+use Rattle.sedck_search.specs.Rows.{has, bit_count, IsRow, IsEmpty}
 use Rattle.sedck_search.specs.declared.along.Along.{Along}
 use Rattle.sedck_search.specs.declared.along.Along.TheVariants.{Every, Unread, Kept}
 
@@ -49,7 +49,7 @@ pub record IsReachCount (p : Program) (along : Along) (n : Node) (count : ℕ) :
   pub reach : IsReachOf p along n row
   pub counts : bit_count row ≡ count
 
--- ---- The counts of a script's nodes, by place and then flag
+-- ---- The counts of a script's nodes, in their order
 
 -- the node has the count of what it reaches
 pub record HasCount (p : Program) (along : Along) (counts : List ℕ) (n : Node) : Type 0 where
@@ -77,11 +77,13 @@ pub record ArePartlyCounted (p : Program) (along : Along) (counts : List ℕ) : 
   pub long : length counts ≡ node_count (length p.commands)
   pub each : (n : Node) → n.at ≤ length p.commands → (IsReachable p n × (HasCount p along counts n ⊎ IsUncounted counts n)) ⊎ HasNoCount p counts n
 
--- a row of all that some node reaches, or of none, and its size
-pub record IsLast (p : Program) (along : Along) (row : List ℕ) (count : ℕ) : Type 0 where
+-- a row of all that some node reaches, or of none, and its size; no node is to be looked at
+pub record IsLast (p : Program) (along : Along) (row waiting : List ℕ) (count : ℕ) : Type 0 where
   pub is_row : IsRow row
   pub closed : IsClosed p along row
   pub counts : bit_count row ≡ count
+  pub is_waiting : IsRow waiting
+  pub idle : IsEmpty waiting
 
 -- some followed edge leads from the node to the one with this place, and none to another
 pub record IsOnlyTarget (p : Program) (along : Along) (n : Node) (to : ℕ) : Type 0 where

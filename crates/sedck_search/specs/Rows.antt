@@ -1,4 +1,4 @@
--- Sets of nodes as rows of bits: node i is bit i mod 64 of word i / 64. Nodes are numbered by place and then flag.
+-- Sets of nodes as rows of bits: node i is bit i mod 64 of word i / 64. Nodes are numbered by their order.
 use Rattle.std.specs.Prelude.{◌≡◌, ◌≢◌, ℕ, ◌+◌, ◌/◌, ◌%◌, ◌<◌, ◌≤◌, ◌^◌, ◌==◌, Bool, true, false, List, [], ◌∷◌, length, slice_index, count_ones, All}
 use Rattle.std.specs.Int.{bit_at}
 

@@ -20,10 +20,12 @@ const UNCOUNTED: u16 = u16::MAX;
 /// The mark of a node that was never come to: more than any place.
 const UNSEEN: u16 = u16::MAX;
 
-/// What the node counted last reaches. Where no node is counted yet, the row is empty.
+/// What the node counted last reaches. Where no node is counted yet, the row is empty. No node is to be looked at
+/// before and behind a walk; the row of those is kept, so that it isn't made anew for each walk.
 #[derive(Drop)]
 struct Last {
     row: Row,
+    waiting: Row,
     count: u16,
 }
 
@@ -34,8 +36,9 @@ fn mark_reached(alloc: Global, script: &Script) -> Result<Vec<u16>, AllocError>
 {
     let count = node_count(script.commands().len());
     let mut row = Row::new();
-    spread(script, Along::Every, &mut row, Node::start(false));
-    spread(script, Along::Every, &mut row, Node::start(true));
+    let mut waiting = Row::new();
+    spread(script, Along::Every, &mut row, &mut waiting, Node::start(false));
+    spread(script, Along::Every, &mut row, &mut waiting, Node::start(true));
     let mut marks = Vec::new(alloc);
     for index in 0..count {
         marks.push(if row.has(index) { UNCOUNTED } else { 0 })?;
@@ -77,6 +80,7 @@ fn count_marked(script: &Script, along: Along, back: &mut [u16], counts: &mut [u
 {
     let mut last = Last {
         row: Row::new(),
+        waiting: Row::new(),
         count: 0,
     };
     for root in 0..counts.len() {
@@ -107,10 +111,10 @@ fn count_from(
     requires inside { root < length counts.old }
     requires back { length back.old ≡ length counts.old }
     requires counted { ArePartlyCounted script.now along counts.old }
-    requires last { IsLast script.now along last.old.row last.old.count }
+    requires last { IsLast script.now along last.old.row last.old.waiting last.old.count }
     ensures back { length back.new ≡ length back.old }
     ensures counted { ArePartlyCounted script.now along counts.new }
-    ensures last { IsLast script.now along last.new.row last.new.count }
+    ensures last { IsLast script.now along last.new.row last.new.waiting last.new.count }
 {
     back[root] = root as u16;
     let mut at = root;
@@ -141,10 +145,10 @@ fn count_from(
 fn count_led(script: &Script, along: Along, counts: &mut [u16], last: &mut Last)
     requires script { IsScript script.now }
     requires counted { ArePartlyCounted script.now along counts.old }
-    requires last { IsLast script.now along last.old.row last.old.count }
+    requires last { IsLast script.now along last.old.row last.old.waiting last.old.count }
     ensures long { length counts.new ≡ length counts.old }
     ensures counted { ArePartlyCounted script.now along counts.new }
-    ensures last { IsLast script.now along last.new.row last.new.count }
+    ensures last { IsLast script.now along last.new.row last.new.waiting last.new.count }
 {
     for step in 0..counts.len() {
         let index = counts.len() - 1 - step;
@@ -167,9 +171,9 @@ fn count_waiting(
     requires script { IsScript script.now }
     requires back { length back.now ≡ length counts.old }
     requires counted { ArePartlyCounted script.now along counts.old }
-    requires last { IsLast script.now along last.old.row last.old.count }
+    requires last { IsLast script.now along last.old.row last.old.waiting last.old.count }
     ensures counted { ArePartlyCounted script.now along counts.new }
-    ensures last { IsLast script.now along last.new.row last.new.count }
+    ensures last { IsLast script.now along last.new.row last.new.waiting last.new.count }
 {
     let mut waiting = waiting;
     for _ in 0..back.len() {
@@ -229,9 +233,9 @@ fn count_at(script: &Script, along: Along, index: usize, counts: &mut [u16], las
     requires script { IsScript script.now }
     requires inside { index < node_count (length script.now.commands) }
     requires counted { ArePartlyCounted script.now along counts.old }
-    requires last { IsLast script.now along last.old.row last.old.count }
+    requires last { IsLast script.now along last.old.row last.old.waiting last.old.count }
     ensures counted { ArePartlyCounted script.now along counts.new }
-    ensures last { IsLast script.now along last.new.row last.new.count }
+    ensures last { IsLast script.now along last.new.row last.new.waiting last.new.count }
     ensures done { slice_get counts.new index ≢ Some 65535 }
     ensures others { (i : ℕ) → i ≢ index → slice_get counts.new i ≡ slice_get counts.old i }
 {
@@ -246,8 +250,8 @@ fn count_node(script: &Script, along: Along, node: Node, counts: &[u16], last: &
     requires script { IsScript script.now }
     requires inside { node.at ≤ length script.now.commands }
     requires counted { ArePartlyCounted script.now along counts.now }
-    requires last { IsLast script.now along last.old.row last.old.count }
-    ensures last { IsLast script.now along last.new.row last.new.count }
+    requires last { IsLast script.now along last.old.row last.old.waiting last.old.count }
+    ensures last { IsLast script.now along last.new.row last.new.waiting last.new.count }
     ensures count { IsReachCount script.now along node result }
     ensures positive { 0 < result }
     ensures within { result ≤ 16384 }
@@ -260,7 +264,7 @@ fn count_node(script: &Script, along: Along, node: Node, counts: &[u16], last: &
         last.count = 0;
     }
     if !last.row.has(node.index()) {
-        spread(script, along, &mut last.row, node);
+        spread(script, along, &mut last.row, &mut last.waiting, node);
         last.count = last.row.count() as u16;
     }
     last.count
@@ -278,7 +282,7 @@ fn count_by_target(
     requires script { IsScript script.now }
     requires inside { node.at ≤ length script.now.commands }
     requires counted { ArePartlyCounted script.now along counts.now }
-    requires last { IsLast script.now along last.now.row last.now.count }
+    requires last { IsLast script.now along last.now.row last.now.waiting last.now.count }
     ensures { IfSome result (λ count. IsReachCount script.now along node count × (0 < count) × (count ≤ 16384)) }
 {
     let to = only_target(script, along, node)?;
@@ -296,7 +300,7 @@ fn count_by_target(
 fn leads_into(script: &Script, along: Along, to: usize, last: &Last) -> bool
     requires script { IsScript script.now }
     requires inside { to < node_count (length script.now.commands) }
-    requires last { IsLast script.now along last.now.row last.now.count }
+    requires last { IsLast script.now along last.now.row last.now.waiting last.now.count }
     ensures { result ≡ true → (m : Node) → node_index m ≡ to → IsClosedBeside script.now along last.now.row m }
 {
     if last.row.has(to) {
@@ -332,7 +336,7 @@ fn goes_on(script: &Script, along: Along, node: Node, counts: &[u16], last: &Las
     requires script { IsScript script.now }
     requires inside { node.at ≤ length script.now.commands }
     requires counted { ArePartlyCounted script.now along counts.now }
-    requires last { IsLast script.now along last.now.row last.now.count }
+    requires last { IsLast script.now along last.now.row last.now.waiting last.now.count }
     ensures { result ≡ true → (m : Node) → IsIn last.now.row m → Reaches script.now along node m }
 {
     for edge in edges_of(script, node) {

@@ -91,6 +91,7 @@ impl Row {
     pub(crate) fn insert(&mut self, node: usize) -> bool
         requires { node < 16384 }
         ensures new { result ≡ not (has self.old node) }
+        ensures same { result ≡ false → self.new ≡ self.old }
         ensures changed { HasChanged self.old self.new node true }
         ensures row { IsRow self.new }
     {

@@ -3,7 +3,7 @@
 ghost use Rattle.std.specs.Prelude.{◌≡◌, ◌<◌, ◌≤◌, length};
 ghost use Rattle.sedck_script.specs.Invariant.{IsScript};
 ghost use Rattle.sedck_flow.specs.Nodes.{node_index};
-ghost use Rattle.sedck_search.specs.Rows.{IsRow};
+ghost use Rattle.sedck_search.specs.Rows.{IsEmpty, IsRow};
 ghost use Rattle.sedck_search.specs.Reaching.{FollowedEdge, IsClosed, IsIn};
 ghost use Rattle.sedck_search.specs.Spreading.{HasGrown, HasMet, IsFollowedFrom, IsFrontier};
 ghost use Rattle.sedck_flow.specs.declared.graph.Edge.{Edge};
@@ -13,20 +13,29 @@ use crate::rows::Row;
 use sedck_flow::{Node, edges_of};
 use sedck_script::Script;
 
-/// Adds all that the node reaches to the row, out of which no edge leads.
-pub(crate) fn spread(script: &Script, along: Along, row: &mut Row, node: Node)
+/// Adds all that the node reaches to the row, out of which no edge leads. No other node waits before, and none behind.
+pub(crate) fn spread(
+    script: &Script,
+    along: Along,
+    row: &mut Row,
+    waiting: &mut Row,
+    node: Node,
+)
     requires script { IsScript script.now }
     requires row { IsRow row.old }
+    requires waiting { IsRow waiting.old }
+    requires idle { IsEmpty waiting.old }
     requires inside { node.at ≤ length script.now.commands }
     requires closed { IsClosed script.now along row.old }
     ensures closed { IsClosed script.now along row.new }
     ensures grown { HasGrown script.now along node row.old row.new }
+    ensures rows { IsRow row.new × IsRow waiting.new }
+    ensures idle { IsEmpty waiting.new }
 {
-    let mut waiting = Row::new();
-    let mut first = meet(node, row, &mut waiting, node.index());
+    let mut first = meet(node, row, waiting, node.index());
     while let Some(index) = waiting.next_from(first) {
         waiting.remove(index);
-        first = look_around(script, along, Node::nth(index), row, &mut waiting, index);
+        first = look_around(script, along, Node::nth(index), row, waiting, index);
     }
 }
 

@@ -18,13 +18,13 @@ fn ranks_of_loops(rt: &impl Abort, alloc: Global) -> String {
         // the nodes of a loop, and from its last one on those of the loops behind it and the end
         let (firsts, seconds) = (4 * (1300 - turn) + 1, 3 * (1300 - turn) + 1);
         let (label, place, test) = (3 * turn, 3 * turn + 1, 3 * turn + 2);
-        for (node, first, second) in [
-            (format!(in alloc; "{label} 0"), firsts, seconds),
-            (format!(in alloc; "{place} 0"), firsts, seconds - 1),
-            (format!(in alloc; "{test} 0"), firsts - 3, seconds - 2),
-            (format!(in alloc; "{test} 1"), firsts, seconds + 1),
+        for (at, flag, first, second) in [
+            (label, 0, firsts, seconds),
+            (place, 0, firsts, seconds - 1),
+            (test, 0, firsts - 3, seconds - 2),
+            (test, 1, firsts, seconds + 1),
         ] {
-            let node = node.expect(rt, "memory");
+            let node = format!(in alloc; "{at} {flag}").expect(rt, "memory");
             add_both(rt, &mut ranks, &node, first, second);
         }
     }

@@ -9,7 +9,7 @@ returns-in_err-judged g c =
     let is = err_is c.from_residual-in_err-judged.result (run_fault c.in_err-judged.field-0.0) c.from_residual-in_err-judged.ensures.1 in
     let text = is_read 1048577
     (g.R.Source.left c.args.script.now) c.deref.result.now _ c.deref.ensures.value c.in_ok-text.ensures.read c.in_ok-text.ensures.within in
-    let bytes = is_read 1310721
+    let bytes = is_read 1572865
     (g.C.Source.left c.args.cert.now) c.deref-2.result.now _ c.deref-2.ensures.value c.in_ok-certificate.ensures.read c.in_ok-certificate.ensures.within in
     let judged = c.in_err-judged.ensures in
     rw is (judge_refused _ _ _ _ _ _ _ c.deref.result.now c.deref-2.result.now _ text bytes judged.answer judged.reported)
@@ -18,7 +18,7 @@ pub returns-in_default : goal.returns-in_default
 returns-in_default g c =
     let text = is_read 1048577
     (g.R.Source.left c.args.script.now) c.deref.result.now _ c.deref.ensures.value c.in_ok-text.ensures.read c.in_ok-text.ensures.within in
-    let bytes = is_read 1310721
+    let bytes = is_read 1572865
     (g.C.Source.left c.args.cert.now) c.deref-2.result.now _ c.deref-2.ensures.value c.in_ok-certificate.ensures.read c.in_ok-certificate.ensures.within in
     let front = c.in_default.ensures.begun in (
       c.in_default.ensures.failure,
@@ -34,7 +34,7 @@ pub returns : goal.returns
 returns g c =
     let text = is_read 1048577
     (g.R.Source.left c.args.script.now) c.deref.result.now _ c.deref.ensures.value c.in_ok-text.ensures.read c.in_ok-text.ensures.within in
-    let bytes = is_read 1310721
+    let bytes = is_read 1572865
     (g.C.Source.left c.args.cert.now) c.deref-2.result.now _ c.deref-2.ensures.value c.in_ok-certificate.ensures.read c.in_ok-certificate.ensures.within in (
       c.in_ok-report.report.items,
       rw c.outcome_of.ensures (checks_to _ _ _ _ c.in_ok-judged.judged _ text bytes c.in_ok-judged.ensures.judged c.in_ok-report.ensures),

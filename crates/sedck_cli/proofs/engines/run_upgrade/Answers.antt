@@ -7,13 +7,13 @@ use Rattle.sedck_cli.proofs.engines.run_upgrade.Goals as goal
 pub returns-in_err-cert : goal.returns-in_err-cert
 returns-in_err-cert g c =
     let is = err_is c.from_residual-in_err-cert.result (certificate_fault c.in_err-cert.field-0.0) c.from_residual-in_err-cert.ensures.1 in
-    let text = is_read 1310721
+    let text = is_read 1572865
     (g.C.Source.left c.args.cert.now) c.deref.result.now _ c.deref.ensures.value c.in_ok-text.ensures.read c.in_ok-text.ensures.within in
     rw is (read_refused _ _ _ _ _ c.deref.result.now _ text c.in_err-cert.ensures.refused)
 
 pub returns-in_default : goal.returns-in_default
 returns-in_default g c =
-    let text = is_read 1310721
+    let text = is_read 1572865
     (g.C.Source.left c.args.cert.now) c.deref.result.now _ c.deref.ensures.value c.in_ok-text.ensures.read c.in_ok-text.ensures.within in
     let cert = c.in_ok-cert.ensures in (
       c.in_default.ensures.failure,
@@ -22,7 +22,7 @@ returns-in_default g c =
 
 pub returns : goal.returns
 returns g c =
-    let text = is_read 1310721
+    let text = is_read 1572865
     (g.C.Source.left c.args.cert.now) c.deref.result.now _ c.deref.ensures.value c.in_ok-text.ensures.read c.in_ok-text.ensures.within in
     let cert = c.in_ok-cert.ensures in
     (certificate_text c.in_ok-cert.cert, upgrades_to _ _ _ text cert.read cert.only, c.in-Ok.ensures.written)

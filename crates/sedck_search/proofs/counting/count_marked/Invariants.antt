@@ -6,13 +6,13 @@ use Rattle.sedck_search.proofs.counting.count_marked.Given as goal
 abbrev pub invariant-loop-root : goal.invariant-loop-root
 invariant-loop-root l = record {
   counted : ArePartlyCounted l.script l.along l.counts;
-  last : IsLast l.script l.along l.last.row l.last.count;
+  last : IsLast l.script l.along l.last.row l.last.waiting l.last.count;
 }
 
 -- the nodes so far are counted
 abbrev pub invariant-loop-index : goal.invariant-loop-index
 invariant-loop-index l = record {
   counted : ArePartlyCounted l.script l.along l.counts;
-  last : IsLast l.script l.along l.last.row l.last.count;
+  last : IsLast l.script l.along l.last.row l.last.waiting l.last.count;
   done : (i : ℕ) → i < l.index → slice_get l.counts i ≢ Some 65535;
 }

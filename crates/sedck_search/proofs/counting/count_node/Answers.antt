@@ -15,40 +15,48 @@ overflow_cast-last c = let small : c.count.result ≤ 16384 = omega (arith, c.co
     omega (arith, small)
 
 -- the row that is gone on from has only nodes that the node reaches
-before : (c : goal.Joined-not-has) → IsLast c.args.script.now c.args.along c.if-not-goes_on.last.row c.if-not-goes_on.last.count
+before : (c : goal.Joined-not-has) → IsLast c.args.script.now c.args.along c.if-not-goes_on.last.row c.if-not-goes_on.last.waiting c.if-not-goes_on.last.count
     × ((m : Node) → IsIn c.if-not-goes_on.last.row m → Reaches c.args.script.now c.args.along c.args.node m)
 before c = elim c.if-not-goes_on.branch [
-  | then-not-goes_on+in_default w ↦ subst (λ (l : Last). IsLast c.args.script.now c.args.along l.row l.count
+  | then-not-goes_on+in_default w ↦ subst (λ (l : Last). IsLast c.args.script.now c.args.along l.row l.waiting l.count
       × ((m : Node) → IsIn l.row m → Reaches c.args.script.now c.args.along c.args.node m)) (sym w.last-is) (
         record {
           is_row = w.clear.ensures.row;
           closed = λ e followed x. absurd (true≢false (sym x ∙ w.clear.ensures.nodes (node_index e.from)));
           counts = w.clear.ensures.count;
+          is_waiting = c.requires.last.is_waiting;
+          idle = c.requires.last.idle;
         },
         λ m x. absurd (true≢false (sym x ∙ w.clear.ensures.nodes (node_index m))),
       )
-  | else-not-goes_on w ↦ subst (λ (l : Last). IsLast c.args.script.now c.args.along l.row l.count
+  | else-not-goes_on w ↦ subst (λ (l : Last). IsLast c.args.script.now c.args.along l.row l.waiting l.count
       × ((m : Node) → IsIn l.row m → Reaches c.args.script.now c.args.along c.args.node m)) (sym w.last-is)
       (c.requires.last, c.goes_on.ensures w.if-not-goes_on.false)
 ]
 
 -- then it has the node, and just those that the node reaches
-after : (c : goal.Joined-not-has) → IsLast c.args.script.now c.args.along c.if-not-has.last.row c.if-not-has.last.count
+after : (c : goal.Joined-not-has) → IsLast c.args.script.now c.args.along c.if-not-has.last.row c.if-not-has.last.waiting c.if-not-has.last.count
     × IsIn c.if-not-has.last.row c.args.node × ((m : Node) → IsIn c.if-not-has.last.row m → Reaches c.args.script.now c.args.along c.args.node m)
 after c = elim c.if-not-has.branch [
-  | then-not-has w ↦ subst (λ (l : Last). IsLast c.args.script.now c.args.along l.row l.count × IsIn l.row c.args.node
+  | then-not-has w ↦ subst (λ (l : Last). IsLast c.args.script.now c.args.along l.row l.waiting l.count × IsIn l.row c.args.node
       × ((m : Node) → IsIn l.row m → Reaches c.args.script.now c.args.along c.args.node m)) (sym w.last-is) (
-        record { is_row = w.count.ensures.row; closed = w.spread.ensures.closed; counts = sym w.count.ensures.value },
+        record {
+          is_row = w.count.ensures.row;
+          closed = w.spread.ensures.closed;
+          counts = sym w.count.ensures.value;
+          is_waiting = w.spread.ensures.rows.1;
+          idle = w.spread.ensures.idle;
+        },
         w.spread.ensures.grown.node,
         λ m x. elim (w.spread.ensures.grown.reached m x) [ inl old ↦ (before c).1 m old | inr reaches ↦ reaches ],
       )
-  | else-not-has w ↦ subst (λ (l : Last). IsLast c.args.script.now c.args.along l.row l.count × IsIn l.row c.args.node
+  | else-not-has w ↦ subst (λ (l : Last). IsLast c.args.script.now c.args.along l.row l.waiting l.count × IsIn l.row c.args.node
       × ((m : Node) → IsIn l.row m → Reaches c.args.script.now c.args.along c.args.node m)) (sym w.last-is)
       ((before c).0, ap (has c.if-not-goes_on.last.row) (sym c.index.ensures) ∙ sym c.has.ensures.value ∙ w.if-not-has.false, (before c).1)
 ]
 
 pub returns-clause-count : goal.returns-clause-count
-returns-clause-count c = last_counts c.args.script.now c.args.along c.if-not-has.last.row c.if-not-has.last.count (after c).0 c.args.node (after c).1
+returns-clause-count c = last_counts c.args.script.now c.args.along c.if-not-has.last.row c.if-not-has.last.waiting c.if-not-has.last.count (after c).0 c.args.node (after c).1
     (after c).2
 
 pub returns-clause-positive : goal.returns-clause-positive

@@ -4,5 +4,5 @@ use Rattle.sedck_search.proofs.counting.count_waiting.Given as goal
 abbrev pub invariant-loop : goal.invariant-loop
 invariant-loop l = record {
   counted : ArePartlyCounted l.script l.along l.counts;
-  last : IsLast l.script l.along l.last.row l.last.count;
+  last : IsLast l.script l.along l.last.row l.last.waiting l.last.count;
 }

@@ -46,7 +46,7 @@ returns-then-counts-to c = λ _ m in_row.
     let has_to : IsIn row e.to = ap (has row) (sym c.index-to.ensures) ∙ sym c.if-has.ensures.value in
     let positive : 0 < c.args.last.now.count = omega (arith, counts_node row c.requires.last.is_row (node_index e.to) has_to, c.requires.last.counts) in
     let small : c.args.last.now.count < 65535 = omega (arith, count_within row c.requires.last.is_row, c.requires.last.counts) in
-    last_reached p c.args.along row c.args.last.now.count c.requires.last c.args.node e.to
+    last_reached p c.args.along row c.args.last.now.waiting c.args.last.now.count c.requires.last c.args.node e.to
     (reaches_from p c.args.along c.args.node e (edge_coming p c.args.node c.loop-edge.yielded c.next.new.self e gone)
     (c.follows.ensures.0 c.if-follows.true)) has_to
     (counted_at p c.args.along c.args.counts.now c.requires.counted e.to inside c.args.last.now.count at positive small) m in_row

@@ -19,5 +19,5 @@ returns-in-Some c = λ in_row m is.
     let o : IsOnlyTarget c.args.script.now c.args.along c.nth.result c.in-Some.next = c.in-Some.ensures in
     let node : m ≡ c.nth.result = node_same m c.nth.result (is ∙ sym c.nth.ensures) in
     let below : node_index m < 16384 = omega (arith, is, c.requires.inside, c.requires.script.count) in
-    closed_beside c.args.script.now c.args.along c.args.last.now.row c.args.last.now.count c.requires.last m below
+    closed_beside c.args.script.now c.args.along c.args.last.now.row c.args.last.now.waiting c.args.last.now.count c.requires.last m below
     (λ e followed leaves. ap (has c.args.last.now.row) (o.only e followed (leaves ∙ node)) ∙ sym c.has-in-Some.ensures.value ∙ in_row)

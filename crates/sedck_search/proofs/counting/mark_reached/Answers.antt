@@ -1,4 +1,4 @@
-use Rattle.std.proofs.Common.{◌≡◌, ◌≤◌, ◌<◌, ◌⊎◌, ℕ, List, length, Bool, true, false, refl, sym, ap, ◌∙◌, inl, inr, arith}
+use Rattle.std.proofs.Common.{◌≡◌, ◌≤◌, ◌<◌, ◌+◌, ◌⊎◌, ℕ, List, [], ◌∷◌, length, length-append, Bool, true, false, refl, sym, ap, ◌∙◌, inl, inr, arith}
 use Rattle.std.specs.Prelude.{Some, slice_get, if◌then◌else◌}
 use Rattle.std.proofs.lemmas.Bool.{true≢false}
 use Rattle.std.proofs.lemmas.List.{length-map}
@@ -13,8 +13,9 @@ use Rattle.sedck_search.specs.Rows.{has, IsEmpty}
 use Rattle.sedck_search.specs.Reaching.{IsClosed, IsIn, HasCount, HasNoCount, IsUncounted, ArePartlyCounted}
 use Rattle.sedck_search.specs.Spreading.{HasGrown}
 use Rattle.sedck_search.proofs.Paths.{closed_reaches, all_followed}
-use Rattle.sedck_search.proofs.GoneOver.{place_in}
+use Rattle.sedck_search.proofs.GoneOver.{place_in, entries_push}
 use Rattle.sedck_search.proofs.counting.mark_reached.Goals as goal
+use Rattle.sedck_search.proofs.counting.mark_reached.Goals.{then-has, else-has}
 
 -- a node is marked exactly where it is reached
 module _ (p : Program) (none half row marks : List ℕ) (empty : IsEmpty none) (closed : IsClosed p Every row) (before : HasGrown p Every (start false) none half)
@@ -56,3 +57,21 @@ returns-clause-marks c =
     omega (arith, count, c.loop-index-test.false, c.loop-index.auto.index-end) in
     marked c.args.script.now c.new-row.result c.spread.new.row c.spread-2.new.row c.loop-index.marks.items c.new-row.ensures.nodes c.spread-2.ensures.closed
     (rw c.start.ensures at c.spread.ensures.grown) (rw c.start-2.ensures at c.spread-2.ensures.grown) (inv.long ∙ end) (λ i below. inv.entries i (omega (arith, below, inv.long)))
+
+-- one mark more
+pub loop-index-preserved : goal.loop-index-preserved
+loop-index-preserved c =
+    let inv = c.loop-index.invariant in
+    let row = c.spread-2.new.row in
+    let mark : ℕ → ℕ = λ i. if has row i then 65535 else 0 in
+    let is : c.if-has.push ≡ mark c.loop-index.index = elim c.if-has.branch [
+      | then-has w ↦ w.push-is ∙ ap (λ b. if b then 65535 else 0) (sym w.if-has.true ∙ c.has.ensures.value)
+      | else-has w ↦ w.push-is ∙ ap (λ b. if b then 65535 else 0) (sym w.if-has.false ∙ c.has.ensures.value)
+    ] in
+    let items = c.in_ok-push.ensures.items in
+    record {
+      long = ap length items ∙ length-append c.loop-index.marks.items (c.if-has.push ∷ []) ∙ ap (λ n. n + 1) inv.long;
+      entries = λ i below. ap (λ xs. slice_get xs i) items
+          ∙ entries_push c.loop-index.marks.items c.if-has.push mark (λ k less. inv.entries k (omega (arith, less, inv.long)))
+          (is ∙ ap mark (sym inv.long)) i (omega (arith, below, inv.long));
+    }

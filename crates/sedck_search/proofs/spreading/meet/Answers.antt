@@ -1,15 +1,24 @@
-use Rattle.std.proofs.Common.{◌≡◌, true, sym, ap, ◌∙◌, subst, arith}
+use Rattle.std.specs.Prelude.{not}
+use Rattle.std.proofs.Common.{◌≡◌, Bool, true, false, refl, sym, ap, ◌∙◌, subst, arith}
 use Rattle.sedck_flow.specs.Nodes.{node_index}
 use Rattle.sedck_search.specs.Rows.{has, HasChanged}
-use Rattle.sedck_search.proofs.Meeting.{met_new, frontier_new}
+use Rattle.sedck_search.specs.Spreading.{HasMet}
+use Rattle.sedck_search.proofs.Meeting.{met_none, met_new, frontier_new}
 use Rattle.sedck_search.proofs.spreading.meet.Goals as goal
+
+by_test : (b : Bool) → not b ≡ true → b ≡ false
+by_test false e = refl
+by_test true e = cc
+
+absent : (c : goal.After-min) → has c.args.row.now c.index-index.result ≡ false
+absent c = by_test (has c.args.row.now c.index-index.result) (sym c.insert.ensures.new ∙ c.if-not-insert.false)
 
 -- the node wasn't in the row, and is put into both
 pub returns-clause-spread : goal.returns-clause-spread
 returns-clause-spread c =
     let is : c.index-index.result ≡ node_index c.args.node = c.index-index.ensures in
     met_new c.args.node c.args.row.now c.args.waiting.now c.insert.new.self c.insert-2.new.self c.requires.frontier c.insert.ensures.row c.insert-2.ensures.row
-    (ap (has c.args.row.now) (sym is) ∙ sym c.if-has.ensures.value)
+    (ap (has c.args.row.now) (sym is) ∙ absent c)
     (subst (λ i. HasChanged c.args.row.now c.insert.new.self i true) is c.insert.ensures.changed)
     (subst (λ i. HasChanged c.args.waiting.now c.insert-2.new.self i true) is c.insert-2.ensures.changed)
     c.args.first c.min.result (omega (arith, c.min.ensures)) (omega (arith, c.min.ensures, is))
@@ -19,6 +28,13 @@ returns-clause-frontier c =
     let is : c.index-index.result ≡ node_index c.args.node = c.index-index.ensures in
     frontier_new c.args.node c.args.row.now c.args.waiting.now c.insert.new.self c.insert-2.new.self c.requires.frontier c.insert.ensures.row
     c.insert-2.ensures.row
-    (ap (has c.args.row.now) (sym is) ∙ sym c.if-has.ensures.value)
+    (ap (has c.args.row.now) (sym is) ∙ absent c)
     (subst (λ i. HasChanged c.args.row.now c.insert.new.self i true) is c.insert.ensures.changed)
     (subst (λ i. HasChanged c.args.waiting.now c.insert-2.new.self i true) is c.insert-2.ensures.changed)
+
+-- it was there
+pub returns-then-not-insert-clause-spread : goal.returns-then-not-insert-clause-spread
+returns-then-not-insert-clause-spread c =
+    let same = c.insert.ensures.same c.if-not-insert.true in
+    subst (λ row. HasMet (λ n. n ≡ c.args.node) c.args.row.now c.args.waiting.now row c.args.waiting.now c.args.first c.args.first) (sym same)
+    (met_none (λ n. n ≡ c.args.node) c.args.row.now c.args.waiting.now c.args.first)

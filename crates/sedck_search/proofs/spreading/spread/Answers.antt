@@ -5,7 +5,7 @@ use Rattle.sedck_search.specs.Spreading.{HasMet, IsFollowedFrom}
 use Rattle.sedck_search.specs.Reaching.{IsIn}
 use Rattle.std.proofs.lemmas.Bool.{true≢false}
 use Rattle.sedck_search.proofs.Paths.{index_below, reaches_inside}
-use Rattle.sedck_search.proofs.Meeting.{removed_was, spreading_begins, spreading_goes_on, spreading_shrinks, spreading_ends}
+use Rattle.sedck_search.proofs.Meeting.{removed_was, spreading_begins, spreading_goes_on, spreading_shrinks, spreading_ends, none_waits}
 use Rattle.sedck_search.proofs.spreading.spread.Goals as goal
 
 pub meet-first-requires-clause-inside : goal.meet-first-requires-clause-inside
@@ -14,15 +14,15 @@ meet-first-requires-clause-inside c = index_below c.args.script.now c.requires.s
 pub meet-first-requires-clause-frontier : goal.meet-first-requires-clause-frontier
 meet-first-requires-clause-frontier c = record {
   is_row = c.requires.row;
-  is_waiting = c.new-waiting.ensures.row;
-  among = λ n w. absurd (true≢false (sym w ∙ c.new-waiting.ensures.nodes (node_index n)));
+  is_waiting = c.requires.waiting;
+  among = λ n w. absurd (true≢false (sym w ∙ c.requires.idle (node_index n)));
 }
 
 pub loop-index-init : goal.loop-index-init
 loop-index-init c =
-    spreading_begins c.args.script.now c.args.along c.args.node c.args.row.now c.meet-first.new.row c.new-waiting.result c.meet-first.new.waiting
+    spreading_begins c.args.script.now c.args.along c.args.node c.args.row.now c.meet-first.new.row c.args.waiting.now c.meet-first.new.waiting
     c.index.result c.meet-first.result
-    c.requires.closed c.new-waiting.ensures.nodes c.meet-first.ensures.frontier c.meet-first.ensures.spread c.meet-first.ensures.met
+    c.requires.closed c.requires.idle c.meet-first.ensures.frontier c.meet-first.ensures.spread c.meet-first.ensures.met
 
 -- the node that is looked at waited
 pub look_around-first-requires-clause-inside : goal.look_around-first-requires-clause-inside
@@ -64,9 +64,21 @@ loop-index-preserved c =
     c.look_around-first.new.waiting i c.look_around-first.result) (sym is) c.look_around-first.ensures.spread)
     c.look_around-first.ensures.met
 
+pub remove-requires-clause-present : goal.remove-requires-clause-present
+remove-requires-clause-present c = c.in-Some.ensures.2
+
 -- none waits any more
-pub returns : goal.returns
-returns c =
-    let ends = spreading_ends c.args.script.now c.args.along c.args.node c.args.row.now c.loop-index.row c.loop-index.waiting c.loop-index.first
-    c.loop-index.invariant c.in_default.ensures in
-    record { closed = ends.0; grown = ends.1 }
+pub returns-clause-closed : goal.returns-clause-closed
+returns-clause-closed c = (spreading_ends c.args.script.now c.args.along c.args.node c.args.row.now c.loop-index.row c.loop-index.waiting c.loop-index.first
+    c.loop-index.invariant c.in_default.ensures).0
+
+pub returns-clause-grown : goal.returns-clause-grown
+returns-clause-grown c = (spreading_ends c.args.script.now c.args.along c.args.node c.args.row.now c.loop-index.row c.loop-index.waiting c.loop-index.first
+    c.loop-index.invariant c.in_default.ensures).1
+
+pub returns-clause-rows : goal.returns-clause-rows
+returns-clause-rows c = (c.loop-index.invariant.frontier.is_row, c.loop-index.invariant.frontier.is_waiting)
+
+pub returns-clause-idle : goal.returns-clause-idle
+returns-clause-idle c = none_waits c.args.script.now c.args.along c.args.node c.args.row.now c.loop-index.row c.loop-index.waiting c.loop-index.first
+    c.loop-index.invariant c.in_default.ensures

@@ -12,7 +12,7 @@ use Rattle.sedck_search.specs.Closing.{Closes, IsFirstClosing}
 use Rattle.sedck_search.proofs.walking.first_closing.Goals as goal
 
 pub nth-requires : goal.nth-requires
-nth-requires c = let below : c.loop-index.index < 131072 = omega (arith, c.loop-index-test.true, c.requires.long, c.requires.script.count) in below
+nth-requires c = let below : c.loop-index.index < 262144 = omega (arith, c.loop-index-test.true, c.requires.long, c.requires.script.count) in below
 
 -- the first edge is of this node, since none before it has one
 found : (p : Program) (kind : Kind) (counts : List ℕ) (n : Node) (o : Option Edge) → ((e : Edge) → node_index e.from < node_index n → ¬ Closes p kind counts e)

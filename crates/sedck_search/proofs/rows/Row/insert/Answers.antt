@@ -1,5 +1,5 @@
-use Rattle.std.proofs.Common.{◌≡◌, ◌/◌, ◌<◌, ℕ, List, subst, false, true, refl, sym, ap, ◌∙◌, set, add-one, arith}
-use Rattle.sedck_search.specs.Rows.{has, bit_count, IsRow, HasChanged}
+use Rattle.std.proofs.Common.{◌≡◌, ◌/◌, subst, false, true, refl, sym, ap, ◌∙◌, set, arith}
+use Rattle.sedck_search.specs.Rows.{has, HasChanged}
 use Rattle.sedck_search.proofs.RowBits.{inserted, inserted_row, with_bit}
 use Rattle.sedck_search.proofs.RowSets.{inserted_count, count_within}
 use Rattle.sedck_search.proofs.rows.Row.insert.Goals as goal

@@ -1,5 +1,5 @@
-use Rattle.std.proofs.Common.{◌≡◌, ◌/◌, ◌-◌, List, subst, false, true, sym, ap, ◌∙◌, set, arith}
-use Rattle.sedck_search.specs.Rows.{has, bit_count, HasChanged}
+use Rattle.std.proofs.Common.{◌≡◌, ◌/◌, subst, false, true, ap, ◌∙◌, set, arith}
+use Rattle.sedck_search.specs.Rows.{has, HasChanged}
 use Rattle.sedck_search.proofs.RowBits.{removed, removed_row, without_bit}
 use Rattle.sedck_search.proofs.RowSets.{removed_count, counts_node}
 use Rattle.sedck_search.proofs.rows.Row.remove.Goals as goal
