@@ -5,10 +5,10 @@ ghost use Rattle.sedck_cli.specs.Engines.{verdict_outcome, ChecksTo, ListsFilesT
 
 use crate::answer::{Input, Outcome, RunFault};
 use crate::input::read_whole;
-use crate::rank::rank_report;
+use crate::rank::{certificate_report, rank_report};
 use crate::report::{check_report, files_report, graph_report};
 use sedck_cert::streams::{Sink, Source, write_all};
-use sedck_cert::{Verdict, judge, read_any, write_cert};
+use sedck_cert::{Verdict, judge, read_any};
 use sedck_script::parse;
 use sedck_search::{Found, search};
 use std::alloc::Global;
@@ -130,7 +130,8 @@ pub fn run_upgrade<C: Source, W: Sink>(
 {
     let text = read_whole(alloc, cert, CERTIFICATE_READ, Input::Certificate)?;
     let cert = read_any(alloc, &text)?;
-    let Ok(()) = write_cert(&cert, out) else {
+    let report = certificate_report(alloc, &cert)?;
+    let Ok(()) = write_all(out, &report) else {
         return Err(RunFault::Write);
     };
     Ok(Outcome::Yes)

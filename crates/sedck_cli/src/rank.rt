@@ -23,7 +23,7 @@ pub(crate) fn rank_report(alloc: Global, found: &Found) -> Result<Vec<u8>, Alloc
 }
 
 /// The certificate's text.
-fn certificate_report(alloc: Global, cert: &Cert) -> Result<Vec<u8>, AllocError>
+pub(crate) fn certificate_report(alloc: Global, cert: &Cert) -> Result<Vec<u8>, AllocError>
     ensures { IfOk result (λ report. report.items ≡ certificate_text cert.now) }
 {
     let mut out = FromWrite::new(Vec::new(alloc));

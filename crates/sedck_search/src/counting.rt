@@ -70,8 +70,8 @@ fn unseen(alloc: Global, count: usize) -> Result<Vec<u16>, AllocError>
     Ok(back)
 }
 
-/// Counts what each marked node reaches. Each node is counted behind those that it leads to, as far as that goes;
-/// the answer doesn't hang on the order.
+/// Counts what each marked node reaches, first the nodes before the last line and then those on it: no followed edge
+/// leads from these to those.
 fn count_marked(script: &Script, along: Along, back: &mut [u16], counts: &mut [u16])
     requires script { IsScript script.now }
     requires counted { ArePartlyCounted script.now along counts.old }
@@ -83,16 +83,43 @@ fn count_marked(script: &Script, along: Along, back: &mut [u16], counts: &mut [u
         waiting: Row::new(),
         count: 0,
     };
-    for root in 0..counts.len() {
+    count_half(script, along, 0, back, counts, &mut last);
+    count_half(script, along, 1, back, counts, &mut last);
+    for index in 0..counts.len() {
+        count_at(script, along, index, counts, &mut last);
+    }
+}
+
+/// Counts what each second marked node reaches, from this one on. Each node is counted behind those that it leads to, as far
+/// as that goes; the answer doesn't hang on the order.
+fn count_half(
+    script: &Script,
+    along: Along,
+    first: usize,
+    back: &mut [u16],
+    counts: &mut [u16],
+    last: &mut Last,
+)
+    requires script { IsScript script.now }
+    requires first { first ≤ 1 }
+    requires back { length back.old ≡ length counts.old }
+    requires counted { ArePartlyCounted script.now along counts.old }
+    requires last { IsLast script.now along last.old.row last.old.waiting last.old.count }
+    ensures back { length back.new ≡ length counts.new }
+    ensures counted { ArePartlyCounted script.now along counts.new }
+    ensures last { IsLast script.now along last.new.row last.new.waiting last.new.count }
+{
+    for step in 0..counts.len() / 2 {
+        let root = 2 * step + first;
         if counts[root] == UNCOUNTED && back[root] == UNSEEN {
-            let some_wait = count_from(script, along, root, back, counts, &mut last);
+            let some_wait = count_from(script, along, root, back, counts, last);
             if some_wait {
-                count_led(script, along, counts, &mut last);
+                count_led(script, along, first, counts, last);
             }
         }
     }
-    for index in 0..counts.len() {
-        count_at(script, along, index, counts, &mut last);
+    for step in 0..counts.len() / 2 {
+        count_at(script, along, 2 * step + first, counts, last);
     }
 }
 
@@ -141,17 +168,18 @@ fn count_from(
     true
 }
 
-/// Counts, from the last node on, the nodes that lead to one that reaches what the last one does.
-fn count_led(script: &Script, along: Along, counts: &mut [u16], last: &mut Last)
+/// Counts, from the last node on, each second node that leads to one that reaches what the last one does.
+fn count_led(script: &Script, along: Along, first: usize, counts: &mut [u16], last: &mut Last)
     requires script { IsScript script.now }
+    requires first { first ≤ 1 }
     requires counted { ArePartlyCounted script.now along counts.old }
     requires last { IsLast script.now along last.old.row last.old.waiting last.old.count }
     ensures long { length counts.new ≡ length counts.old }
     ensures counted { ArePartlyCounted script.now along counts.new }
     ensures last { IsLast script.now along last.new.row last.new.waiting last.new.count }
 {
-    for step in 0..counts.len() {
-        let index = counts.len() - 1 - step;
+    for step in 0..counts.len() / 2 {
+        let index = 2 * (counts.len() / 2 - 1 - step) + first;
         if goes_on(script, along, Node::nth(index), counts, last) {
             count_at(script, along, index, counts, last);
         }

@@ -3,12 +3,6 @@ use Rattle.std.specs.Prelude.{Some, slice_get}
 use Rattle.sedck_search.specs.Reaching.{ArePartlyCounted, IsLast}
 use Rattle.sedck_search.proofs.counting.count_marked.Given as goal
 
-abbrev pub invariant-loop-root : goal.invariant-loop-root
-invariant-loop-root l = record {
-  counted : ArePartlyCounted l.script l.along l.counts;
-  last : IsLast l.script l.along l.last.row l.last.waiting l.last.count;
-}
-
 -- the nodes so far are counted
 abbrev pub invariant-loop-index : goal.invariant-loop-index
 invariant-loop-index l = record {
