@@ -178,6 +178,7 @@ text_length v c within =
       files_length v c within,
     )
 
+-- the same of a text of either version
 pub text_length_of_spelled : (text : List ℕ) (c : Certificate) → SpellsCertificate text c → length text ≤ 1388247
 text_length_of_spelled text c (inl h) = omega (arith, ap length h.is_text, text_length Two c h.within)
 text_length_of_spelled text c (inr h) = omega (arith, ap length h.1.is_text, text_length One h.0 h.1.within)
