@@ -109,8 +109,8 @@ fn count_marked(script: &Script, along: Along, back: &mut [u16], counts: &mut [u
     }
 }
 
-/// Counts what each second marked node reaches, from this one on: first come the nodes with the flag set, since many a script
-/// never resets it.
+/// Counts what each second marked node reaches, from this one on. Each node is counted behind those that it leads to, as far
+/// as that goes; the answer doesn't hang on the order.
 fn count_half(
     script: &Script,
     along: Along,
@@ -128,40 +128,17 @@ fn count_half(
     ensures counted { ArePartlyCounted script.now along counts.new }
     ensures last { IsLast script.now along last.new.row last.new.waiting last.new.count }
 {
-    count_roots(script, along, first + 2, back, counts, last);
-    count_roots(script, along, first, back, counts, last);
     for step in 0..counts.len() / 2 {
-        count_at(script, along, 2 * step + first, counts, last);
-    }
-}
-
-/// Counts from each fourth marked node on that was never come to. Each node is counted behind those that it leads to, as far as
-/// that goes; the answer doesn't hang on the order.
-fn count_roots(
-    script: &Script,
-    along: Along,
-    first: usize,
-    back: &mut [u16],
-    counts: &mut [u16],
-    last: &mut Last,
-)
-    requires script { IsScript script.now }
-    requires first { first ≤ 3 }
-    requires back { length back.old ≡ length counts.old }
-    requires counted { ArePartlyCounted script.now along counts.old }
-    requires last { IsLast script.now along last.old.row last.old.waiting last.old.count }
-    ensures back { length back.new ≡ length counts.new }
-    ensures counted { ArePartlyCounted script.now along counts.new }
-    ensures last { IsLast script.now along last.new.row last.new.waiting last.new.count }
-{
-    for step in 0..counts.len() / 4 {
-        let root = 4 * step + first;
+        let root = 2 * step + first;
         if counts[root] == UNCOUNTED && back[root] == UNSEEN {
             let some_wait = count_from(script, along, root, back, counts, last);
             if some_wait {
-                count_led(script, along, first % 2, counts, last);
+                count_led(script, along, first, counts, last);
             }
         }
+    }
+    for step in 0..counts.len() / 2 {
+        count_at(script, along, 2 * step + first, counts, last);
     }
 }
 

@@ -6,3 +6,9 @@ invariant-loop-step l = record {
   counted : ArePartlyCounted l.script l.along l.counts;
   last : IsLast l.script l.along l.last.row l.last.waiting l.last.count;
 }
+
+abbrev pub invariant-loop-step-2 : goal.invariant-loop-step-2
+invariant-loop-step-2 l = record {
+  counted : ArePartlyCounted l.script l.along l.counts;
+  last : IsLast l.script l.along l.last.row l.last.waiting l.last.count;
+}

@@ -1,5 +1,5 @@
-use Rattle.sedck_search.proofs.counting.count_roots.Goals as goal
-use Rattle.sedck_search.proofs.counting.count_roots.Goals.{then-counts-root+then-back-root+then-some_wait, then-counts-root+then-back-root+else-some_wait, else-counts-root}
+use Rattle.sedck_search.proofs.counting.count_half.Goals as goal
+use Rattle.sedck_search.proofs.counting.count_half.Goals.{then-counts-root+then-back-root+then-some_wait, then-counts-root+then-back-root+else-some_wait, else-counts-root}
 
 pub loop-step-preserved : goal.loop-step-preserved
 loop-step-preserved c =

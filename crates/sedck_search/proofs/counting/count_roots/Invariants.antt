@@ -1,8 +1,0 @@
-use Rattle.sedck_search.specs.Reaching.{ArePartlyCounted, IsLast}
-use Rattle.sedck_search.proofs.counting.count_roots.Given as goal
-
-abbrev pub invariant-loop-step : goal.invariant-loop-step
-invariant-loop-step l = record {
-  counted : ArePartlyCounted l.script l.along l.counts;
-  last : IsLast l.script l.along l.last.row l.last.waiting l.last.count;
-}
