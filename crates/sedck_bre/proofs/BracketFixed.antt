@@ -4,9 +4,9 @@ use Rattle.std.specs.Prelude.{◌&&◌, not, codes}
 use Rattle.std.proofs.lemmas.List.{append-nil, length-drop}
 use Rattle.sedck_bre.specs.Text.{begins}
 use Rattle.sedck_bre.specs.Brackets.{Class, class_name, Element, One, Range, Members}
-use Rattle.sedck_bre.specs.Reading.{◌>>=◌}
-use Rattle.sedck_bre.specs.BracketReading.{symbol_at, byte_at, ranges, no_range, classes, class_from, one, range_to, range_end_at, range_or_one, byte_or_range_at, whole_class_at, equivalents_at, last_dash_at, element_at, before_elements, others, elements_at, set_of, inside_at}
-use Rattle.sedck_bre.specs.BracketCode.{elements_of, set_at}
+use Rattle.sedck_bre.specs.Private.Reading.{◌>>=◌}
+use Rattle.sedck_bre.specs.Private.BracketReading.{symbol_at, byte_at, ranges, no_range, classes, class_from, one, range_to, range_end_at, range_or_one, byte_or_range_at, whole_class_at, equivalents_at, last_dash_at, element_at, before_elements, others, elements_at, set_of, inside_at}
+use Rattle.sedck_bre.specs.Private.BracketCode.{elements_of, set_at}
 use Rattle.sedck_bre.proofs.ReadLemmas.{bind_holds, cond_holds, and_left}
 use Rattle.sedck_bre.proofs.Fixed.{bind_alike}
 use Rattle.sedck_bre.proofs.BracketLemmas.{one_front}

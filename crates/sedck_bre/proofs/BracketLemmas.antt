@@ -5,7 +5,7 @@ use Rattle.std.proofs.lemmas.Bool.{false≢true, eqb-true}
 use Prim.Native.String.{String}
 use Rattle.sedck_bre.specs.Text.{is_in, one_of, begins}
 use Rattle.sedck_bre.specs.Brackets.{is_plain, begins_range}
-use Rattle.sedck_bre.specs.BracketReading.{ranges}
+use Rattle.sedck_bre.specs.Private.BracketReading.{ranges}
 
 pub or_none : (a : Bool) → (a || false) ≡ true → a ≡ true
 or_none true h = refl

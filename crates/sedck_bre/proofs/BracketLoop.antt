@@ -4,10 +4,10 @@ use Rattle.std.specs.Prelude.{◌==◌, ◌&&◌, ◌||◌, not}
 use Rattle.std.specs.List.{list_any}
 use Rattle.sedck_bre.specs.WellFormed.{IsByteSet}
 use Rattle.sedck_bre.specs.Brackets.{Element, in_element, is_listed}
-use Rattle.sedck_bre.specs.BracketReading.{words_of, set_of}
-use Rattle.sedck_bre.specs.Reading.{◌>>=◌}
-use Rattle.sedck_bre.specs.Sets.{bit_of, HasJust, some_word, has_no_word}
-use Rattle.sedck_bre.specs.BracketCode.{is_of, signed, elements_of, set_at}
+use Rattle.sedck_bre.specs.Private.BracketReading.{words_of, set_of}
+use Rattle.sedck_bre.specs.Private.Reading.{◌>>=◌}
+use Rattle.sedck_bre.specs.Private.Sets.{bit_of, HasJust, some_word, has_no_word}
+use Rattle.sedck_bre.specs.Private.BracketCode.{is_of, signed, elements_of, set_at}
 use Rattle.sedck_bre.proofs.SetLemmas.{just_same}
 use Rattle.sedck_bre.proofs.BracketSets.{set_same}
 

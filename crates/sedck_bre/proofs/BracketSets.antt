@@ -9,8 +9,8 @@ use Rattle.std.proofs.lemmas.Bool.Decides.{nat_tests}
 use Rattle.std.proofs.lemmas.Nat.Bits.{bit_at-lt, bit_at-zero, bit_at_cat_low, bit_at_cat_high, bit_at_above, bit_at-trailing_zeros, same_from_bits_below}
 use Rattle.sedck_bre.specs.Match.{IsMember}
 use Rattle.sedck_bre.specs.WellFormed.{IsByteSet, HasMember}
-use Rattle.sedck_bre.specs.BracketReading.{word_from, words_of}
-use Rattle.sedck_bre.specs.Sets.{bit_of, some_word}
+use Rattle.sedck_bre.specs.Private.BracketReading.{word_from, words_of}
+use Rattle.sedck_bre.specs.Private.Sets.{bit_of, some_word}
 
 word_below : (test : ℕ → Bool) (base n : ℕ) → word_from test base n < 2 ^ n
 word_below test base zero = omega arith

@@ -6,9 +6,9 @@ use Rattle.sedck_bre.specs.Text.{begins}
 use Rattle.sedck_bre.specs.WellFormed.{HasMember}
 use Rattle.sedck_bre.specs.Brackets.{class_name, Element, One, Range, Members, WritesByte, WritesElement, WritesElements, opening, is_listed, IsBracketList}
 use Rattle.sedck_bre.specs.Shape.{is_empty}
-use Rattle.sedck_bre.specs.Reading.{◌>>=◌}
-use Rattle.sedck_bre.specs.BracketReading.{element_at, before_elements, others, elements_at, words_of, set_of, inside_at, bracket_at}
-use Rattle.sedck_bre.specs.Sets.{some_word}
+use Rattle.sedck_bre.specs.Private.Reading.{◌>>=◌}
+use Rattle.sedck_bre.specs.Private.BracketReading.{element_at, before_elements, others, elements_at, words_of, set_of, inside_at, bracket_at}
+use Rattle.sedck_bre.specs.Private.Sets.{some_word}
 use Rattle.sedck_bre.proofs.ReadLemmas.{bind_holds, cond_holds}
 use Rattle.sedck_bre.proofs.BracketLemmas.{one_front, begins_before, is_closing_front}
 use Rattle.sedck_bre.proofs.BracketSound.{AreElementsBefore, elements_take, written_front}

@@ -4,8 +4,8 @@ use Rattle.std.specs.Prelude.{nat_eq, codes}
 use Rattle.std.specs.List.{starts_with}
 use Rattle.sedck_bre.specs.Brackets as brackets
 use Rattle.sedck_bre.specs.Brackets.{class_name, Members}
-use Rattle.sedck_bre.specs.BracketReading.{class_from}
-use Rattle.sedck_bre.specs.BracketCode.{class_of, closed_name, behind_name}
+use Rattle.sedck_bre.specs.Private.BracketReading.{class_from}
+use Rattle.sedck_bre.specs.Private.BracketCode.{class_of, closed_name, behind_name}
 use Rattle.sedck_bre.specs.declared.element.Class.{Class}
 
 abbrev class_or : brackets.Class → Option (brackets.Element × List ℕ) → Option (List ℕ) → Option (brackets.Element × List ℕ)

@@ -7,7 +7,7 @@ use Rattle.sedck_bre.specs.Tree.{Tree, Trees, Byte, Any, Set, Start, End, Maybe,
 use Rattle.sedck_bre.specs.Match.{Groups, no_groups, Match}
 use Rattle.sedck_bre.specs.WellFormed.{CountsFrom, IsWellFormed}
 use Rattle.sedck_bre.specs.Rests.{is_item, is_top_group, texts_length, HasRest, IsLeastRest}
-use Rattle.sedck_bre.specs.Bounds.{no_bounds, least, after_all, outside_picked}
+use Rattle.sedck_bre.specs.Private.Bounds.{no_bounds, least, after_all, outside_picked}
 use Rattle.sedck_bre.proofs.LeastLemmas.{CountsFrom-right}
 use Rattle.sedck_bre.proofs.Floor.{floor_all, least-floor}
 use Rattle.sedck_bre.proofs.Reach.{least-met}

@@ -4,7 +4,7 @@ use Rattle.std.specs.Prelude.{codes, map}
 use Rattle.std.proofs.lemmas.List.{append-nil}
 use Rattle.sedck_bre.specs.Tree.{Tree, Trees, Byte, Any, Set, Start, End, Maybe, Group, Ref, Seq, Repeat, Nil, Then, trees}
 use Rattle.sedck_bre.specs.Match.{Groups, no_groups, text_of, unset, IsWithin, Match, MatchAll, Language, with_text}
-use Rattle.sedck_bre.specs.Bounds.{no_bounds, least}
+use Rattle.sedck_bre.specs.Private.Bounds.{no_bounds, least}
 use Rattle.sedck_bre.specs.Lengths.{cap}
 use Rattle.sedck_bre.proofs.Floor.{least-floor}
 

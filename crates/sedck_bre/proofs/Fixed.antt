@@ -4,7 +4,7 @@ use Rattle.std.specs.Prelude.{◌==◌, nat_lt, nat_le, ◌&&◌}
 use Rattle.sedck_bre.specs.Text.{one_of}
 use Rattle.sedck_bre.specs.Tree.{Trees, Byte, Any, Ref, Nil, groups_in, is_in}
 use Rattle.sedck_bre.specs.Shape.{Level, Inside, Place, First, behind}
-use Rattle.sedck_bre.specs.Reading.{◌>>=◌, Readers, at_end, plain, closed_by, escaped, backslash, set_before, tree_before, atom, with_sign, before_all, Lister, more, some_items, items, items_of}
+use Rattle.sedck_bre.specs.Private.Reading.{◌>>=◌, Readers, at_end, plain, closed_by, escaped, backslash, set_before, tree_before, atom, with_sign, before_all, Lister, more, some_items, items, items_of}
 use Rattle.sedck_bre.proofs.ReadLemmas.{bind_holds, and_left, Takes, nat_lt_of, length_some}
 use Rattle.sedck_bre.proofs.Sound.{ItemRead, atom_sound, sign_sound, items_sound}
 

@@ -9,7 +9,7 @@ use Rattle.sedck_bre.specs.Tree.{Tree, Trees, Byte, Any, Set, Start, End, Maybe,
 use Rattle.sedck_bre.specs.Match.{Groups, no_groups, text_of, with_text, Match, MatchAll}
 use Rattle.sedck_bre.specs.WellFormed.{CountsFrom, IsWellFormed}
 use Rattle.sedck_bre.specs.Rests.{names, named, NamesTopGroups, texts_length, HasRest, IsLeastRest}
-use Rattle.sedck_bre.specs.Bounds.{Bounds, no_bounds, least, after, least_all, after_all, own_beside, outside_picked, outside}
+use Rattle.sedck_bre.specs.Private.Bounds.{Bounds, no_bounds, least, after, least_all, after_all, own_beside, outside_picked, outside}
 use Rattle.sedck_bre.specs.Lengths.{cap, IsLeastSize, HasLength}
 use Rattle.sedck_bre.proofs.LeastLemmas.{CountsFrom-left, CountsFrom-right, FreshFrom, after-fresh, after_all-below, with_bound-same}
 use Rattle.sedck_bre.proofs.Floor.{Reaches, floor, floor_all, least-floor}

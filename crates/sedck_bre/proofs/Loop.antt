@@ -4,14 +4,15 @@ use Rattle.std.specs.Prelude.{◌==◌, ◌||◌}
 use Rattle.std.proofs.Math.ListN.{set}
 use Rattle.std.proofs.Common.{get_or-set_same, get_or-set_other}
 use Rattle.std.proofs.lemmas.Bool.{false≢true, eqb-true, eq-eqb}
-use Rattle.sedck_bre.specs.Gives.{ClosedIs}
+use Rattle.sedck_bre.specs.Private.Gives.{ClosedIs}
 use Rattle.sedck_bre.proofs.LeastLemmas.{is_in-append}
 use Rattle.std.proofs.lemmas.List.{append-nil}
 use Rattle.sedck_bre.specs.Tree.{Tree, Trees, Any, Nil, Then, trees, groups_in, is_in}
-use Rattle.sedck_bre.specs.View.{tree, sequence}
+use Rattle.sedck_bre.specs.View.{tree}
+use Rattle.sedck_bre.specs.Private.Sequence.{sequence}
 use Rattle.sedck_bre.specs.Shape.{Level, Inside, Place, First, behind}
-use Rattle.sedck_bre.specs.Reading.{◌>>=◌, begins_pair, at_end, atom, group_at, with_sign, before_all, more, items_of}
-use Rattle.sedck_bre.specs.FullReading.{full}
+use Rattle.sedck_bre.specs.Private.Reading.{◌>>=◌, begins_pair, at_end, atom, group_at, with_sign, before_all, more, items_of}
+use Rattle.sedck_bre.specs.Private.FullReading.{full}
 use Rattle.sedck_bre.specs.declared.tree.Bre.{Bre}
 use Rattle.sedck_bre.proofs.ReadLemmas.{Takes, Reads, and_left}
 use Rattle.sedck_bre.proofs.Intervals.{interval_takes, interval_again}

@@ -6,7 +6,7 @@ use Rattle.std.specs.Str.Parse.{digits_value_after, digits_value}
 use Rattle.std.proofs.lemmas.Bool.Decides.{nat_tests}
 use Rattle.sedck_bre.specs.Brackets.{is_from}
 use Rattle.sedck_bre.specs.Shape.{is_empty}
-use Rattle.sedck_bre.specs.IntervalReading.{digit_before, digits_at, number_of, number_at}
+use Rattle.sedck_bre.specs.Private.IntervalReading.{digit_before, digits_at, number_of, number_at}
 use Rattle.sedck_bre.proofs.ReadLemmas.{and_left}
 
 -- the value of these digits and more, at most 256, and what follows them

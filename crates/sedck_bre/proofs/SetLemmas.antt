@@ -5,7 +5,7 @@ use Rattle.std.specs.Int.{bit_at}
 use Rattle.std.proofs.lemmas.Bool.Decides.{nat_tests}
 use Rattle.std.proofs.lemmas.Nat.Bits.{bit_at_or, bit_at_ones, bit_at_ones_above}
 use Rattle.sedck_bre.specs.Brackets.{is_from}
-use Rattle.sedck_bre.specs.Sets.{bit_of, HasJust, HasBitsBelow}
+use Rattle.sedck_bre.specs.Private.Sets.{bit_of, HasJust, HasBitsBelow}
 
 -- ---- One word
 

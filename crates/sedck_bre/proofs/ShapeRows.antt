@@ -9,7 +9,7 @@ use Rattle.sedck_bre.specs.Tree.{Tree, Byte, Any, Start, End, Maybe, Group, Ref,
 use Rattle.sedck_bre.specs.Match.{IsMember}
 use Rattle.sedck_bre.specs.Brackets.{Element, One, IsBracketList, is_listed}
 use Rattle.sedck_bre.specs.Shape.{Shape}
-use Rattle.sedck_bre.specs.Reading.{Readers, read, items}
+use Rattle.sedck_bre.specs.Private.Reading.{Readers, read, items}
 use Rattle.sedck_bre.proofs.Sound.{read_sound}
 use Rattle.sedck_bre.proofs.ReadLemmas.{Takes}
 

@@ -8,9 +8,9 @@ use Prim.Native.String.{String}
 use Rattle.sedck_bre.specs.Text.{one_of, begins}
 use Rattle.sedck_bre.specs.Faults.{StandsAt}
 use Rattle.sedck_bre.specs.Shape.{is_empty}
-use Rattle.sedck_bre.specs.FullReading.{IsTail}
-use Rattle.sedck_bre.specs.BracketReading.{inside_at, bracket_at}
-use Rattle.sedck_bre.specs.IntervalReading.{interval_at}
+use Rattle.sedck_bre.specs.Private.FullReading.{IsTail}
+use Rattle.sedck_bre.specs.Private.BracketReading.{inside_at, bracket_at}
+use Rattle.sedck_bre.specs.Private.IntervalReading.{interval_at}
 use Rattle.sedck_bre.proofs.Intervals.{interval_takes}
 use Rattle.sedck_bre.proofs.BracketWhole.{bracket_takes}
 

@@ -3,9 +3,9 @@ use Rattle.std.proofs.Common.{◌≡◌, ℕ, false, List, [], ◌∷◌, length
 use Rattle.std.proofs.lemmas.List.{get_or-replicate}
 use Rattle.sedck_bre.specs.Tree.{Tree, Trees, Seq}
 use Rattle.sedck_bre.specs.Shape.{Whole, First, Shape}
-use Rattle.sedck_bre.specs.Reading.{◌>>=◌, items_of, whole, read}
-use Rattle.sedck_bre.specs.FullReading.{full}
-use Rattle.sedck_bre.specs.Gives.{ClosedIs}
+use Rattle.sedck_bre.specs.Private.Reading.{◌>>=◌, items_of, whole, read}
+use Rattle.sedck_bre.specs.Private.FullReading.{full}
+use Rattle.sedck_bre.specs.Private.Gives.{ClosedIs}
 use Rattle.sedck_bre.proofs.Sound.{read_sound}
 use Rattle.sedck_bre.specs.Laws.{TextsHaveOneTree}
 use Rattle.sedck_bre.proofs.Again.{read_again, one_shape}

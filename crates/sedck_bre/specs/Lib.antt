@@ -1,22 +1,17 @@
+-- What the public contracts cite, in reading order.
 pub mod Bytes
 pub mod Text
 pub mod Tree
-pub mod TreeCode
 pub mod View
 pub mod Match
-pub mod WellFormed
-pub mod Brackets
-pub mod Shape
-pub mod Faults
 pub mod Lengths
 pub mod Rests
-pub mod Laws
-pub mod Bounds
-pub mod Reading
-pub mod Gives
-pub mod Sets
-pub mod BracketReading
-pub mod IntervalReading
-pub mod BracketCode
-pub mod FullReading
+pub mod WellFormed
+pub mod Shape
+pub mod Brackets
+pub mod Faults
 pub mod FaultWords
+pub mod Laws
+
+-- What functions inside the crate promise each other.
+pub mod Private

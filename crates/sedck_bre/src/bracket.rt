@@ -2,12 +2,12 @@
 
 ghost use Rattle.std.specs.Prelude.{◌≡◌, ◌<◌, ◌≤◌, ◌&&◌, not, length, drop, IsTrue, IfOk, IfErr, MatchResult, Err, None, ℕ, Bool, true};
 ghost use Rattle.sedck_bre.specs.Text.{begins};
-ghost use Rattle.sedck_bre.specs.BracketReading.{ranges, no_range, range_end_at, byte_or_range_at, whole_class_at, equivalents_at, last_dash_at, element_at, bracket_at};
-ghost use Rattle.sedck_bre.specs.FullReading.{IsTail};
-ghost use Rattle.sedck_bre.specs.BracketCode.{element_of, Reads, HasElements, elements_of, signed, set_at};
+ghost use Rattle.sedck_bre.specs.Private.BracketReading.{ranges, no_range, range_end_at, byte_or_range_at, whole_class_at, equivalents_at, last_dash_at, element_at, bracket_at};
+ghost use Rattle.sedck_bre.specs.Private.FullReading.{IsTail};
+ghost use Rattle.sedck_bre.specs.Private.BracketCode.{element_of, Reads, HasElements, elements_of, signed, set_at};
 ghost use Rattle.sedck_bre.specs.Faults.{StandsAt, IsPlaced};
-ghost use Rattle.sedck_bre.specs.Gives.{Gives};
-ghost use Rattle.sedck_bre.specs.Sets.{HasJust};
+ghost use Rattle.sedck_bre.specs.Private.Gives.{Gives};
+ghost use Rattle.sedck_bre.specs.Private.Sets.{HasJust};
 
 use crate::element::{Element, members};
 use crate::fault::ReFault;

@@ -2,8 +2,8 @@
 
 ghost use Rattle.std.specs.Prelude.{◌≡◌, ℕ, ◌==◌};
 ghost use Rattle.sedck_bre.specs.Brackets.{in_class, in_element, punct};
-ghost use Rattle.sedck_bre.specs.Sets.{HasJust};
-ghost use Rattle.sedck_bre.specs.BracketCode.{class_of, element_of, closed_name};
+ghost use Rattle.sedck_bre.specs.Private.Sets.{HasJust};
+ghost use Rattle.sedck_bre.specs.Private.BracketCode.{class_of, element_of, closed_name};
 
 use crate::sets::{range, union};
 use crate::tree::ByteSet;

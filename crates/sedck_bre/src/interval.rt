@@ -2,7 +2,7 @@
 ghost use Rattle.std.specs.Prelude.{◌≡◌, ◌≤◌, length, IsTrue};
 ghost use Rattle.std.specs.Option.{option_map};
 ghost use Rattle.sedck_bre.specs.Text.{begins};
-ghost use Rattle.sedck_bre.specs.IntervalReading.{number_at, most_at, bounds_at, interval_at};
+ghost use Rattle.sedck_bre.specs.Private.IntervalReading.{number_at, most_at, bounds_at, interval_at};
 
 use crate::text::begins_with;
 
@@ -67,7 +67,7 @@ fn bounds(text: &[u8]) -> Option<(u8, Option<u8>, &[u8])>
 }
 
 /// The bounds of the interval at the front, and what follows it.
-#[tactic(auto, unfolding(crate::specs::IntervalReading::interval_at))]
+#[tactic(auto, unfolding(crate::specs::Private::IntervalReading::interval_at))]
 pub(crate) fn interval(text: &[u8]) -> Option<(u8, Option<u8>, &[u8])>
     ensures { option_map (λ x. (x.0, x.1, x.2.now)) result ≡ interval_at text.now }
 {

@@ -5,10 +5,10 @@ ghost use Rattle.sedck_bre.specs.Text.{one_of, begins};
 ghost use Rattle.sedck_bre.specs.Tree.{groups_in};
 ghost use Rattle.sedck_bre.specs.View.{tree};
 ghost use Rattle.sedck_bre.specs.Shape as shape;
-ghost use Rattle.sedck_bre.specs.Reading.{at_end, is_repeatable, plain, with_sign};
-ghost use Rattle.sedck_bre.specs.FullReading.{full, set_at, IsTail};
+ghost use Rattle.sedck_bre.specs.Private.Reading.{at_end, is_repeatable, plain, with_sign};
+ghost use Rattle.sedck_bre.specs.Private.FullReading.{full, set_at, IsTail};
 ghost use Rattle.sedck_bre.specs.Faults.{StandsAt, IsPlaced, IsOfText};
-ghost use Rattle.sedck_bre.specs.Gives.{Gives, place_of, level_of};
+ghost use Rattle.sedck_bre.specs.Private.Gives.{Gives, place_of, level_of};
 
 use crate::bracket::bracket;
 use crate::fault::ReFault;

@@ -5,7 +5,7 @@ ghost use Rattle.sedck_bre.specs.Tree.{trees};
 ghost use Rattle.sedck_bre.specs.Lengths.{cap};
 ghost use Rattle.sedck_bre.specs.Rests.{is_group};
 ghost use Rattle.sedck_bre.specs.View.{tree};
-ghost use Rattle.sedck_bre.specs.Bounds.{no_bounds, is_named, outside};
+ghost use Rattle.sedck_bre.specs.Private.Bounds.{no_bounds, is_named, outside};
 
 use crate::least::{CAP, least_of};
 use crate::tree::Bre;

@@ -1,12 +1,13 @@
 //! The structure of an expression: its list of items, and the groups in it.
 ghost use Rattle.std.specs.Prelude.{◌≡◌, ◌≢◌, ◌+◌, ◌∷◌, ◌++◌, ◌<◌, ◌≤◌, ℕ, List, [], length, drop, map, Option, IfOk, IfErr, IsTrue, true, false};
 ghost use Rattle.sedck_bre.specs.Tree.{Trees, groups_in, trees};
-ghost use Rattle.sedck_bre.specs.View.{tree, sequence};
+ghost use Rattle.sedck_bre.specs.View.{tree};
+ghost use Rattle.sedck_bre.specs.Private.Sequence.{sequence};
 ghost use Rattle.sedck_bre.specs.Shape as shape;
-ghost use Rattle.sedck_bre.specs.Reading.{begins_pair, at_end, items_of, atom, backslash, escaped, group_at};
-ghost use Rattle.sedck_bre.specs.FullReading.{full, IsTail};
+ghost use Rattle.sedck_bre.specs.Private.Reading.{begins_pair, at_end, items_of, atom, backslash, escaped, group_at};
+ghost use Rattle.sedck_bre.specs.Private.FullReading.{full, IsTail};
 ghost use Rattle.sedck_bre.specs.Faults.{StandsAt, IsPlaced};
-ghost use Rattle.sedck_bre.specs.Gives.{Gives, place_of, level_of, ClosedIs};
+ghost use Rattle.sedck_bre.specs.Private.Gives.{Gives, place_of, level_of, ClosedIs};
 
 use crate::fault::ReFault;
 use crate::item::{Place, at_end, behind, is_escapable, misplaced, plain, set, signed};

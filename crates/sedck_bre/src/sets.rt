@@ -4,7 +4,7 @@ ghost use Rattle.std.specs.Prelude.{◌≡◌, ◌+◌, ◌-◌, ◌<◌, ◌≤
 ghost use Rattle.std.specs.Int.{bit_at};
 ghost use Rattle.sedck_bre.specs.WellFormed.{IsByteSet};
 ghost use Rattle.sedck_bre.specs.Brackets.{is_from};
-ghost use Rattle.sedck_bre.specs.Sets.{HasJust, HasBitsBelow, has_no_word};
+ghost use Rattle.sedck_bre.specs.Private.Sets.{HasJust, HasBitsBelow, has_no_word};
 
 use crate::tree::ByteSet;
 

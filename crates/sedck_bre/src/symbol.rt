@@ -2,8 +2,8 @@
 
 ghost use Rattle.std.specs.Prelude.{◌≡◌, length, Err};
 ghost use Rattle.std.specs.Option.{option_map};
-ghost use Rattle.sedck_bre.specs.BracketReading.{classes, class_from, symbol_at, opened_at, escaped_at, byte_at};
-ghost use Rattle.sedck_bre.specs.BracketCode.{class_of, element_of, behind_name, Reads};
+ghost use Rattle.sedck_bre.specs.Private.BracketReading.{classes, class_from, symbol_at, opened_at, escaped_at, byte_at};
+ghost use Rattle.sedck_bre.specs.Private.BracketCode.{class_of, element_of, behind_name, Reads};
 
 use crate::element::{Class, Element, closed_name};
 

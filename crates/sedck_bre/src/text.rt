@@ -1,8 +1,8 @@
 //! Small tests and cuts of texts.
 
 ghost use Rattle.std.specs.Prelude.{◌≡◌, ◌+◌, ◌-◌, ◌≤◌, length, drop, IsTrue};
-ghost use Rattle.sedck_bre.specs.Reading.{begins_pair};
-ghost use Rattle.sedck_bre.specs.FullReading.{IsTail};
+ghost use Rattle.sedck_bre.specs.Private.Reading.{begins_pair};
+ghost use Rattle.sedck_bre.specs.Private.FullReading.{IsTail};
 
 /// Whether the text begins with a backslash and this byte.
 pub(crate) fn begins_with(b: u8, text: &[u8]) -> bool

@@ -41,7 +41,7 @@ pub struct Expr {
 
 impl Model for Expr {
     ghost use Rattle.sedck_bre.specs.Tree.{Tree};
-    ghost use Rattle.sedck_bre.specs.TreeCode.{coded_tree};
+    ghost use Rattle.sedck_bre.specs.Private.TreeCode.{coded_tree};
 
     ghost Value = { Tree };
 

@@ -8,7 +8,7 @@ use Rattle.sedck_cert.specs.Certificate.{Certificate, IsCertificate, nodes_in, A
 use Rattle.sedck_cert.specs.Text.{line, IsOneLine, IsTextOf, words_in, node_text, ranks_text}
 use Rattle.sedck_cert.specs.declared.versions.Version.{Version}
 use Rattle.sedck_cert.specs.Faults.{Due, Header, Count, Node, Names, Name, Last, Nothing, IsDue, AreDue, IsRefused, IsFaultOf, joined_lines, list_word, after_count}
-use Rattle.sedck_cert.specs.Reading.{node_texts, list_texts, certificate_lines}
+use Rattle.sedck_cert.specs.Private.Reading.{node_texts, list_texts, certificate_lines}
 use Rattle.sedck_cert.specs.declared.reading.names.Files.{Files}
 use Rattle.sedck_cert.specs.declared.reading.names.Files.TheVariants.{Reads, Writes}
 use Rattle.sedck_cert.specs.declared.reading.CertFault.{CertFault}

@@ -14,7 +14,7 @@ use Rattle.sedck_flow.proofs.NodeLemmas.{before-index, index_below}
 use Rattle.sedck_flow.proofs.EdgeOrder.{never_earlier, earlier-trans}
 use Rattle.sedck_cert.specs.Certificate.{Certificate}
 use Rattle.sedck_cert.specs.Ranked.{ranks_at, MeetsEdge, IsRanked}
-use Rattle.sedck_cert.specs.Checking.{IsUnmetBy, IsFirstUnmetOf, MeetsAll, JudgesEdges}
+use Rattle.sedck_cert.specs.Private.Checking.{IsUnmetBy, IsFirstUnmetOf, MeetsAll, JudgesEdges}
 use Rattle.sedck_cert.specs.Rejections.{IsStarted, IsFirstUnmet, IsRejection}
 use Rattle.sedck_cert.specs.declared.checking.Rejection.{Rejection}
 use Rattle.sedck_cert.specs.declared.checking.Rejection.TheVariants.{WrongCount, StartUnranked, LeavesRanked, NotLowered, ReadsDiffer, WritesDiffer}

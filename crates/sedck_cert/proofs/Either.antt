@@ -8,8 +8,8 @@ use Rattle.sedck_cert.specs.Faults.{IsFaultOf}
 use Rattle.std.specs.Bool.{OnTrue, OnFalse}
 use Rattle.std.specs.Prelude.{IsTrue, ◌↔◌}
 use Rattle.std.proofs.Common.{refl}
-use Rattle.sedck_cert.specs.Cuts.{IsCut}
-use Rattle.sedck_cert.specs.Reading.{IsNext}
+use Rattle.sedck_cert.specs.Private.Cuts.{IsCut}
+use Rattle.sedck_cert.specs.Private.Reading.{IsNext}
 use Rattle.sedck_cert.specs.declared.reading.lines.Lines.{Lines}
 use Rattle.sedck_cert.specs.declared.versions.Version.{Version}
 use Rattle.sedck_cert.specs.declared.versions.Version.TheVariants.{One, Two}

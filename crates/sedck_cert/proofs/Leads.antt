@@ -5,8 +5,8 @@ use Rattle.std.specs.Option.{ok_or}
 use Rattle.sedck_cert.specs.Text.{line}
 use Rattle.sedck_cert.specs.declared.versions.Version.{Version}
 use Rattle.sedck_cert.specs.Faults.{Due, IsDue, AreDue, IsWrong, IsRefused, fault_at, joined_lines}
-use Rattle.sedck_cert.specs.Cuts.{IsCut}
-use Rattle.sedck_cert.specs.Reading.{IsNext, Leads, Stops}
+use Rattle.sedck_cert.specs.Private.Cuts.{IsCut}
+use Rattle.sedck_cert.specs.Private.Reading.{IsNext, Leads, Stops}
 use Rattle.sedck_cert.specs.declared.reading.lines.Lines.{Lines}
 use Rattle.sedck_cert.specs.declared.reading.CertFault.{CertFault}
 use Rattle.sedck_cert.proofs.Cuts.{cut_one, has_byte}

@@ -5,10 +5,10 @@ use Rattle.std.proofs.lemmas.List.{map_push, length-map}
 use Rattle.std.proofs.lemmas.Grind.{common_steps}
 use Rattle.sedck_script.specs.Names.{IsName}
 use Rattle.sedck_cert.specs.View.{names_of}
-use Rattle.sedck_cert.specs.Cuts.{IsCut}
+use Rattle.sedck_cert.specs.Private.Cuts.{IsCut}
 use Rattle.sedck_cert.specs.Faults.{Due, Name, list_word, Rises, after_list, after_name, IsWrong}
 use Rattle.sedck_cert.specs.declared.versions.Version.{Version}
-use Rattle.sedck_cert.specs.Reading.{Leads, names_due, list_texts}
+use Rattle.sedck_cert.specs.Private.Reading.{Leads, names_due, list_texts}
 use Rattle.sedck_cert.specs.declared.reading.lines.Lines.{Lines}
 use Rattle.sedck_cert.specs.declared.reading.names.Files.{Files}
 use Rattle.sedck_cert.proofs.Leads.{leads_on, wrong_line}

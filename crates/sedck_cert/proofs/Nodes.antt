@@ -1,11 +1,11 @@
 -- The lines of the nodes, one more at a time.
 use Rattle.std.proofs.Common.{◌≡◌, ℕ, zero, suc, ◌+◌, ◌-◌, ◌<◌, List, [], ◌∷◌, ◌++◌, length, Option, refl, sym, ◌∙◌, ap, subst, subst₂, arith}
 use Rattle.sedck_cert.specs.Certificate.{AreWithin}
-use Rattle.sedck_cert.specs.Cuts.{IsCut}
+use Rattle.sedck_cert.specs.Private.Cuts.{IsCut}
 use Rattle.sedck_cert.specs.Text.{node_text}
 use Rattle.sedck_cert.specs.declared.versions.Version.{Version}
 use Rattle.sedck_cert.specs.Faults.{Due, Node, after_node, IsWrong}
-use Rattle.sedck_cert.specs.Reading.{Leads, node_texts, nodes_due}
+use Rattle.sedck_cert.specs.Private.Reading.{Leads, node_texts, nodes_due}
 use Rattle.sedck_cert.specs.declared.reading.lines.Lines.{Lines}
 use Rattle.sedck_cert.proofs.Leads.{leads_on, wrong_cuts}
 

@@ -14,7 +14,7 @@ use Rattle.sedck_script.proofs.SortedNames.{all_later}
 use Rattle.sedck_cert.specs.Certificate.{Certificate, IsCertificate, nodes_in, AreWithin}
 use Rattle.sedck_cert.specs.Text.{line, header, node_lines, name_lines, text_in, IsOneLine, words_in, node_text, ranks_text}
 use Rattle.sedck_cert.specs.Faults.{Due, Header, Count, Node, Names, Last, Nothing, AreDue, Rises, joined_lines, list_word, after_list, after_count, after_name, after_node}
-use Rattle.sedck_cert.specs.Reading.{node_texts, nodes_due, list_texts, names_due, certificate_lines}
+use Rattle.sedck_cert.specs.Private.Reading.{node_texts, nodes_due, list_texts, names_due, certificate_lines}
 use Rattle.sedck_cert.specs.declared.versions.Version.{Version}
 use Rattle.sedck_cert.specs.declared.versions.Version.TheVariants.{One, Two}
 use Rattle.sedck_cert.specs.declared.reading.names.Files.{Files}

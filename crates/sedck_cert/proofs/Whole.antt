@@ -6,7 +6,7 @@ use Rattle.sedck_cert.specs.Certificate.{Certificate, IsCertificate, nodes_in, A
 use Rattle.sedck_cert.specs.Text.{line, header, text_in, IsTextOf}
 use Rattle.sedck_cert.specs.declared.versions.Version.{Version}
 use Rattle.sedck_cert.specs.Faults.{Due, Header, Count, Node, Names, Name, Last, Nothing, IsFaultOf, IsLineOf, line_of, fault_at, joined_lines, after_list}
-use Rattle.sedck_cert.specs.Reading.{Leads, Stops, node_texts, list_texts, certificate_lines}
+use Rattle.sedck_cert.specs.Private.Reading.{Leads, Stops, node_texts, list_texts, certificate_lines}
 use Rattle.sedck_cert.specs.declared.reading.lines.Lines.{Lines}
 use Rattle.sedck_cert.specs.declared.reading.names.Files.TheVariants.{Reads, Writes}
 use Rattle.sedck_cert.specs.declared.reading.CertFault.{CertFault}

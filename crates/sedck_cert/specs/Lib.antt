@@ -6,20 +6,24 @@ pub use Rattle.sedck_flow.specs.Run
 pub use Rattle.sedck_flow.specs.Nodes
 pub use Rattle.sedck_flow.specs.Flow
 pub use Rattle.sedck_flow.specs.Spaces
+
+-- What the public contracts cite, in reading order.
+pub mod Headline
 pub mod Certificate
 pub mod View
 pub mod Text
+pub mod Versions
+pub mod Ranked
+pub mod Rejections
+pub mod Bounds
+pub mod StepLimit
 pub mod Faults
 pub mod FaultText
-pub mod Cuts
-pub mod Reading
-pub mod Ranked
-pub mod VersionOne
-pub mod Versions
-pub mod Rejections
-pub mod StepLimit
-pub mod Bounds
-pub mod Laws
-pub mod Checking
-pub mod Headline
 pub mod Streams
+pub mod Laws
+
+-- What is said of certificates of version 1 alone.
+pub mod VersionOne
+
+-- What functions inside the crate promise each other.
+pub mod Private

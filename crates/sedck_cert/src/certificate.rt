@@ -3,7 +3,8 @@
 ghost use Rattle.std.specs.Prelude.{◌≡◌, ◌↔◌, ◌+◌, ◌≤◌, All, IsSome, IfSome, MatchOption};
 ghost use Rattle.sedck_script.specs.Names.{AreNames, names_size};
 ghost use Rattle.sedck_cert.specs.Certificate.{IsCertificate, AreWithin};
-ghost use Rattle.sedck_cert.specs.View.{names_of, certificate_of, with_parts};
+ghost use Rattle.sedck_cert.specs.View.{names_of, certificate_of};
+ghost use Rattle.sedck_cert.specs.Private.Fields.{with_parts};
 ghost use Rattle.sedck_cert.specs.declared.versions.Version.TheVariants.{Two};
 
 use crate::reading::{NAMES_LIMIT, is_next_name};
@@ -30,7 +31,7 @@ impl Model for Cert {
 
     ghost Value = { Certificate };
 
-    ghost use Rattle.sedck_cert.specs.View.{shown, IsGood};
+    ghost use Rattle.sedck_cert.specs.Private.Fields.{shown, IsGood};
 
     ghost view = { shown };
 

@@ -8,7 +8,7 @@ ghost use Rattle.sedck_flow.specs.Run.{NamesForReading, NamesForWriting};
 ghost use Rattle.sedck_cert.specs.Certificate.{IsCertificate};
 ghost use Rattle.sedck_cert.specs.Ranked.{Accepts, ListsNames, Lowers, MeetsEdge, ranks_at};
 ghost use Rattle.sedck_cert.specs.Rejections.{IsRejection};
-ghost use Rattle.sedck_cert.specs.Checking.{IsUnmetBy, JudgesEdges};
+ghost use Rattle.sedck_cert.specs.Private.Checking.{IsUnmetBy, JudgesEdges};
 ghost use Rattle.sedck_cert.specs.View.{names_of};
 ghost use Rattle.sedck_cert.specs.declared.checking.Rejection.{Rejection};
 

@@ -3,7 +3,7 @@
 ghost use Rattle.std.specs.Prelude.{◌≡◌, ◌⊎◌, ◌↔◌, IsTrue, IfOk, IfErr, IfSome, Some};
 ghost use Rattle.sedck_cert.specs.Certificate.{Certificate};
 ghost use Rattle.sedck_cert.specs.Text.{IsTextOf};
-ghost use Rattle.sedck_cert.specs.View.{with_parts};
+ghost use Rattle.sedck_cert.specs.Private.Fields.{with_parts};
 ghost use Rattle.sedck_cert.specs.Versions.{SpellsCertificate, SaysVersionOne, IsFaultIn};
 ghost use Rattle.sedck_cert.specs.declared.versions.Version.TheVariants.{One, Two};
 ghost use Rattle.sedck_cert.specs.Faults.{IsFaultOf, IsLineOf, line_of};

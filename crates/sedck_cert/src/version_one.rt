@@ -3,7 +3,8 @@
 ghost use Rattle.std.specs.Prelude.{◌≡◌, ◌≤◌, length, IfOk};
 ghost use Rattle.sedck_cert.specs.Certificate.{IsCertificate};
 ghost use Rattle.sedck_cert.specs.VersionOne.{doubled as each_twice, upgraded};
-ghost use Rattle.sedck_cert.specs.View.{names_of, with_parts};
+ghost use Rattle.sedck_cert.specs.View.{names_of};
+ghost use Rattle.sedck_cert.specs.Private.Fields.{with_parts};
 ghost use Rattle.sedck_cert.specs.declared.versions.Version.TheVariants.{One};
 
 use crate::certificate::{Cert, Parts};
@@ -21,7 +22,7 @@ impl Model for CertOne {
 
     ghost Value = { Certificate };
 
-    ghost use Rattle.sedck_cert.specs.View.{shown_one, IsGoodOne};
+    ghost use Rattle.sedck_cert.specs.Private.Fields.{shown_one, IsGoodOne};
 
     ghost view = { shown_one };
 

@@ -4,7 +4,7 @@ use Rattle.std.proofs.lemmas.Bool.{cases_order, false≢true}
 use Rattle.sedck_script.proofs.SortedNames.{Contains-cons_cases, Contains-cons_more}
 use Rattle.sedck_flow.specs.Nodes.{nth_node, with_last}
 use Rattle.sedck_flow.specs.Flow.{kind_index, IsEarlier, AreInOrder, ListsEdges, ReadsLine}
-use Rattle.sedck_flow.specs.EdgeList.{edge_number, nth_kind, edge_at, AreIncreasing, AddsNumber, AddsEdge, AddsLine, ListsTargets}
+use Rattle.sedck_flow.specs.Private.EdgeList.{edge_number, nth_kind, edge_at, AreIncreasing, AddsNumber, AddsEdge, AddsLine, ListsTargets}
 use Rattle.sedck_flow.specs.declared.graph.Node.{Node}
 use Rattle.sedck_flow.specs.declared.graph.Edge.{Edge}
 use Rattle.sedck_flow.specs.declared.graph.Kind.{Kind}

@@ -11,10 +11,10 @@ use Rattle.sedck_script.specs.declared.script.Command.{Command as Coded}
 use Rattle.sedck_bre.specs.Tree.{Tree}
 use Rattle.sedck_bre.specs.WellFormed.{IsWellFormed}
 use Rattle.sedck_flow.specs.Patterns.{StandsFor}
-use Rattle.sedck_flow.specs.Least.{IsFormed, HasFormed}
+use Rattle.sedck_flow.specs.Private.Least.{IsFormed, HasFormed}
 use Rattle.sedck_flow.specs.Nodes.{start}
 use Rattle.sedck_flow.specs.Flow.{MayApplyAt, MayPassByAt, ReadsLine, VerbEdge, node_past, CommandEdge, Flow, FlowFrom, ListsEdges}
-use Rattle.sedck_flow.specs.EdgeList.{edge_at, AddsEdge, ListsTargets}
+use Rattle.sedck_flow.specs.Private.EdgeList.{edge_at, AddsEdge, ListsTargets}
 use Rattle.sedck_flow.specs.declared.graph.Node.{Node}
 use Rattle.sedck_flow.specs.declared.graph.Edge.{Edge}
 use Rattle.sedck_flow.specs.declared.graph.Kind.{Kind}

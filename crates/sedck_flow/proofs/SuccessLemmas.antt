@@ -14,7 +14,7 @@ use Rattle.sedck_script.specs.References.{named_groups, AreTopGroups, KeepsGroup
 use Rattle.sedck_script.specs.Shortest.{SomeHasLength}
 use Rattle.sedck_flow.specs.Patterns.{StandsFor}
 use Rattle.sedck_flow.specs.Flow.{AreRestsAbove, AreRestsAtLeast}
-use Rattle.sedck_flow.specs.Least.{IsFormed, IsLeastOfRests}
+use Rattle.sedck_flow.specs.Private.Least.{IsFormed, IsLeastOfRests}
 use Rattle.sedck_flow.proofs.References.{keeps_groups_or_not, different_groups, no_groups_of_previous}
 
 -- ---- The least rest

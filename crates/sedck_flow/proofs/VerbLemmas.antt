@@ -11,7 +11,7 @@ use Rattle.sedck_flow.specs.Run.{KeptOrReset}
 use Rattle.sedck_flow.specs.Nodes.{start, moved_to, next, with_flag, with_last}
 use Rattle.sedck_flow.specs.Flow.{HasKind, ReadsLine, ReadsOn, VerbEdge}
 use Rattle.sedck_flow.proofs.References.{alone_has_whole}
-use Rattle.sedck_flow.specs.EdgeList.{AddsEdge, AddsLine, ListsTargets}
+use Rattle.sedck_flow.specs.Private.EdgeList.{AddsEdge, AddsLine, ListsTargets}
 use Rattle.sedck_flow.specs.declared.graph.Node.{Node}
 use Rattle.sedck_flow.specs.declared.graph.Kind.{Kind}
 use Rattle.sedck_flow.specs.declared.graph.Kind.TheVariants.{Consume, Shorten, Keep, Grow}

@@ -8,16 +8,21 @@ pub use Rattle.sedck_script.specs.Invariant
 pub use Rattle.sedck_script.specs.Shortest
 pub use Rattle.sedck_script.specs.References
 pub use Rattle.sedck_script.specs.View
-pub mod Patterns
-pub mod Substitutes
+
+-- What the public contracts cite, in reading order.
 pub mod Run
+pub mod Substitutes
+pub mod Patterns
 pub mod Nodes
 pub mod Flow
-pub mod LiteralKinds
-pub mod VersionOne
-pub mod EdgeList
-pub mod Least
 pub mod Spaces
 pub mod Words
-pub mod Examples
 pub mod Laws
+pub mod Examples
+
+-- What is said of certificates of version 1 alone.
+pub mod VersionOne
+pub mod LiteralKinds
+
+-- What functions inside the crate promise each other.
+pub mod Private

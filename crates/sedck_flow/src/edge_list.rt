@@ -2,7 +2,7 @@
 
 ghost use Rattle.std.specs.Prelude.{◌≡◌, ◌+◌, ◌<◌, ◌≤◌, [], length, slice_get};
 ghost use Rattle.sedck_flow.specs.Flow.{kind_index};
-ghost use Rattle.sedck_flow.specs.EdgeList.{edge_at as numbered_edge, edge_number};
+ghost use Rattle.sedck_flow.specs.Private.EdgeList.{edge_at as numbered_edge, edge_number};
 
 use crate::graph::{Edge, Kind, Node};
 use std::marker::Model;
@@ -70,7 +70,7 @@ pub(crate) fn edge_at(from: Node, number: u32) -> Edge
 }
 
 impl EdgeList {
-    ghost use Rattle.sedck_flow.specs.EdgeList.{AddsEdge, AddsLine};
+    ghost use Rattle.sedck_flow.specs.Private.EdgeList.{AddsEdge, AddsLine};
 
     pub(crate) fn new() -> Self
         ensures { result ≡ [] }

@@ -4,8 +4,8 @@ ghost use Rattle.std.specs.Prelude.{◌≡◌, ◌↔◌, ◌<◌, ◌≤◌, le
 ghost use Rattle.sedck_script.specs.Invariant.{IsTargetWithin, IsReplacement};
 ghost use Rattle.sedck_script.specs.View.{address_of, command_of, verb_of};
 ghost use Rattle.sedck_flow.specs.Flow.{node_past as node_past_verb, MayApplyAt, MayPassByAt, VerbEdge, CommandEdge, ListsEdges, FlowFrom};
-ghost use Rattle.sedck_flow.specs.EdgeList.{ListsTargets};
-ghost use Rattle.sedck_flow.specs.Least.{HasFormed};
+ghost use Rattle.sedck_flow.specs.Private.EdgeList.{ListsTargets};
+ghost use Rattle.sedck_flow.specs.Private.Least.{HasFormed};
 
 use crate::edge_list::{EdgeList, edge_at};
 use crate::graph::{Edge, Kind, Node};
@@ -25,7 +25,7 @@ pub struct Edges<'s, 'a> {
 impl<'s, 'a> Model for Edges<'s, 'a> {
     ghost use Rattle.std.specs.Prelude.{List, drop, length, map, ◌≤◌};
     ghost use Rattle.sedck_flow.specs.declared.graph.Edge.{Edge};
-    ghost use Rattle.sedck_flow.specs.EdgeList.{edge_at};
+    ghost use Rattle.sedck_flow.specs.Private.EdgeList.{edge_at};
 
     /// The edges that are still to come.
     ghost Value = { List Edge };

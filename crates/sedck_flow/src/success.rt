@@ -5,7 +5,7 @@ ghost use Rattle.sedck_script.specs.Program.{literal_length};
 ghost use Rattle.sedck_script.specs.References.{KeepsGroups};
 ghost use Rattle.sedck_script.specs.View.{part_of, substitution_of};
 ghost use Rattle.sedck_flow.specs.Flow.{IsWholeAlone, HasKind};
-ghost use Rattle.sedck_flow.specs.Least.{IsFormed, IsLeastOfRests};
+ghost use Rattle.sedck_flow.specs.Private.Least.{IsFormed, IsLeastOfRests};
 
 use crate::graph::Kind;
 use sedck_script::{Part, Pattern, Script, Substitution};

@@ -6,8 +6,8 @@ ghost use Rattle.sedck_script.specs.Invariant.{IsTargetWithin, IsReplacement};
 ghost use Rattle.sedck_script.specs.View.{address_of, substitution_of, verb_of};
 ghost use Rattle.sedck_flow.specs.Flow.{VerbEdge, ReadsLine};
 ghost use Rattle.sedck_flow.specs.Nodes.{with_last};
-ghost use Rattle.sedck_flow.specs.EdgeList.{ListsTargets};
-ghost use Rattle.sedck_flow.specs.Least.{IsFormed, HasFormed};
+ghost use Rattle.sedck_flow.specs.Private.EdgeList.{ListsTargets};
+ghost use Rattle.sedck_flow.specs.Private.Least.{IsFormed, HasFormed};
 
 use crate::edge_list::EdgeList;
 use crate::graph::{Kind, Node};

@@ -5,7 +5,7 @@ use Rattle.sedck_script.specs.Cuts.{is_delimiter}
 use Rattle.sedck_script.specs.Program.{Place, Last}
 use Rattle.sedck_script.specs.Parts.{Number, PlaceText}
 use Rattle.sedck_script.specs.Parts as p
-use Rattle.sedck_script.specs.AddressReading.{ContextText, CustomText}
+use Rattle.sedck_script.specs.Private.AddressReading.{ContextText, CustomText}
 use Rattle.sedck_script.proofs.PartsOne.{number_no_byte}
 use Rattle.sedck_script.proofs.Heads.{heads, tails}
 

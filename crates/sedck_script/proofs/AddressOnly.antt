@@ -6,10 +6,10 @@ use Rattle.sedck_script.specs.Program.{Place, Address, NoAddress, One, Two}
 use Rattle.sedck_script.specs.Parts.{PlaceText, AddressText}
 use Rattle.sedck_script.specs.Parts as p
 use Rattle.sedck_script.specs.Items.{WrittenVerb, VerbText}
-use Rattle.sedck_script.specs.AddressReading.{begins_address, is_mark, BeginsPlace, BeginsNoPlace, IsOnlyAddress, IsNoCommand, IsBehindComma, HasNoComma, IsSecond}
+use Rattle.sedck_script.specs.Private.AddressReading.{begins_address, is_mark, BeginsPlace, BeginsNoPlace, IsOnlyAddress, IsNoCommand, IsBehindComma, HasNoComma, IsSecond}
 use Rattle.sedck_script.proofs.Cuts.{longest_one}
 use Rattle.sedck_script.proofs.ItemsOne.{place_first, place_other, place_no_mark, no_verb_here, no_place_here, no_comma_here, longest_along, place_along, place_one, pair_of}
-use Rattle.sedck_script.specs.Reading.{EndsIn}
+use Rattle.sedck_script.specs.Private.Reading.{EndsIn}
 use Rattle.sedck_script.proofs.Tails.{tail_cut, tail_tail, tail_behind, tail_cons, number_tail, expression_tail}
 use Rattle.sedck_script.proofs.Outcomes.{if_some_at, if_none_at}
 use Rattle.std.specs.Prelude.{IfSome, IfNone}

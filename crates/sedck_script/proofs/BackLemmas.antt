@@ -9,8 +9,8 @@ use Rattle.std.specs.HashMap.{HashMap}
 use Rattle.sedck_script.specs.Program.{Address, Command}
 use Rattle.sedck_script.specs.Items.{WrittenVerb, Known, BranchTo, TestTo, Opening, Item, Written, Closing}
 use Rattle.sedck_script.specs.Resolution.{Defines, LeadsTo, Resolves, done, known, branch, test, opening, closing}
-use Rattle.sedck_script.specs.Reading.{label_place, HasLabels}
-use Rattle.sedck_script.specs.ItemReading.{commands_among, verb_turn, Turned, Nests, IsKnownLabel, label_of, item_label, item_of, target_of, resolved_verb, TakesTarget}
+use Rattle.sedck_script.specs.Private.Reading.{label_place, HasLabels}
+use Rattle.sedck_script.specs.Private.ItemReading.{commands_among, verb_turn, Turned, Nests, IsKnownLabel, label_of, item_label, item_of, target_of, resolved_verb, TakesTarget}
 use Rattle.sedck_script.specs.declared.written.WrittenItem.{WrittenItem}
 use Rattle.sedck_script.proofs.Nesting.{resolves_nests, resolves_length, nests_one, nests_behind, label_defined, plain_commands, plain_length, plain_label}
 

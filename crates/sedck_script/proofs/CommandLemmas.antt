@@ -7,8 +7,8 @@ use Rattle.sedck_script.specs.Program.{Pattern, Previous, Expression, Address}
 use Rattle.sedck_script.specs.Parts.{AddressText}
 use Rattle.sedck_script.specs.Parts as p
 use Rattle.sedck_script.specs.Items.{WrittenVerb, VerbText, Takes, CommandText}
-use Rattle.sedck_script.specs.Reading.{EndsIn}
-use Rattle.sedck_script.specs.AddressReading.{is_mark, has_previous, IsEmptyAt, IsOnlyAddress}
+use Rattle.sedck_script.specs.Private.Reading.{EndsIn}
+use Rattle.sedck_script.specs.Private.AddressReading.{is_mark, has_previous, IsEmptyAt, IsOnlyAddress}
 use Rattle.sedck_script.proofs.Cuts.{longest_one}
 use Rattle.sedck_script.proofs.Tails.{tail_tail}
 use Rattle.sedck_script.proofs.ItemsOne.{longest_along, verb_along}

@@ -4,7 +4,7 @@ use Rattle.std.proofs.lemmas.Bool.{both_ways, not-true}
 use Rattle.sedck_script.specs.Cuts.{is_blank, is_ending, IsEmptyOr, Longest}
 use Rattle.sedck_script.specs.Parts.{Ends}
 use Rattle.sedck_script.specs.Faults.{StandsWhere, is_extra}
-use Rattle.sedck_script.specs.Reading.{EndsIn}
+use Rattle.sedck_script.specs.Private.Reading.{EndsIn}
 use Rattle.sedck_script.proofs.Cuts.{longest_one}
 use Rattle.sedck_script.proofs.Tails.{tail_cut, tail_tail, stands_at_tail}
 

@@ -5,7 +5,7 @@ use Rattle.std.proofs.lemmas.List.Concat.{flat_map-append}
 use Rattle.sedck_bre.specs.Tree.{Tree}
 use Rattle.sedck_script.specs.Program.{Command, pattern_expressions, address_patterns, verb_patterns, patterns, expressions}
 use Rattle.sedck_script.specs.View.{command_of}
-use Rattle.sedck_script.specs.ExpressionReading.{has_some, command_has_some}
+use Rattle.sedck_script.specs.Private.ExpressionReading.{has_some, command_has_some}
 use Rattle.sedck_script.specs.declared.script.Command.{Command as CodeCommand}
 
 some_append : (xs ys : List Tree) → has_some (xs ++ ys) ≡ (has_some xs || has_some ys)

@@ -6,7 +6,7 @@ use Rattle.sedck_script.specs.Cuts.{is_blank, is_digit, is_ending}
 use Rattle.sedck_script.specs.Program.{Pattern, Part, Substitution}
 use Rattle.sedck_script.specs.Parts.{Ends, Number, Name, Flags}
 use Rattle.sedck_script.specs.Parts as p
-use Rattle.sedck_script.specs.Reading.{EndsIn}
+use Rattle.sedck_script.specs.Private.Reading.{EndsIn}
 use Rattle.sedck_script.proofs.Tails.{number_tail, tail_tail, tail_behind}
 use Rattle.sedck_script.proofs.Heads.{heads}
 use Rattle.sedck_script.proofs.PartsOne.{no_end, ends_no_number, ends_first, number_no_byte, digit_no_end, number_one}

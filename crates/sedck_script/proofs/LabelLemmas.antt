@@ -5,8 +5,8 @@ use Rattle.std.proofs.lemmas.Bool.{and_parts, not_from_false, ne_eqb}
 use Rattle.sedck_script.specs.Cuts.{is_blank, is_ending, is_label_byte, IsEmptyOr, Longest}
 use Rattle.sedck_script.specs.Parts.{Ends, LabelText}
 use Rattle.sedck_script.specs.Items.{IsNoComment, IsNoBrace}
-use Rattle.sedck_script.specs.Reading.{IsLabelAt}
-use Rattle.sedck_script.specs.LabelReading.{BranchText}
+use Rattle.sedck_script.specs.Private.Reading.{IsLabelAt}
+use Rattle.sedck_script.specs.Private.LabelReading.{BranchText}
 use Rattle.sedck_script.proofs.Cuts.{longest_one}
 use Rattle.sedck_script.proofs.WholeOne.{label_or_end}
 

@@ -8,7 +8,7 @@ use Rattle.std.proofs.lemmas.Slice.Eq.{bytes_eq-Decides}
 use Rattle.std.proofs.lemmas.Bool.{both_ways}
 use Rattle.sedck_script.specs.Program.{NoAddress, Label}
 use Rattle.sedck_script.specs.Items.{Known, Item, Written}
-use Rattle.sedck_script.specs.Reading.{HasLabels, label_place}
+use Rattle.sedck_script.specs.Private.Reading.{HasLabels, label_place}
 
 pub get_front : {A : Type 0} (xs ys : List A) (i : ℕ) (y : A) → slice_get xs i ≡ Some y → slice_get (xs ++ ys) i ≡ Some y
 get_front [] ys i y h = absurd (cc h)

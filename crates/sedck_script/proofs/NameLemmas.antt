@@ -15,7 +15,7 @@ use Rattle.std.specs.Prelude.{option_to_list}
 use Rattle.std.proofs.Math.Seq.{drop-cons}
 use Rattle.sedck_script.specs.Names.{IsBefore, AreRising, placed, with_name, sorted_names}
 use Rattle.sedck_script.specs.View.{verb_of, command_of}
-use Rattle.sedck_script.specs.NameReading.{accessed, all_accessed, with_any}
+use Rattle.sedck_script.specs.Private.NameReading.{accessed, all_accessed, with_any}
 use Rattle.sedck_script.specs.declared.script.Command.{Command}
 use Rattle.sedck_script.specs.declared.name_lists.Access.{Access}
 

@@ -3,8 +3,8 @@ use Rattle.std.proofs.Common.{◌≡◌, ℕ, Bool, false, zero, suc, List, [], 
 use Rattle.sedck_script.specs.Program.{Address, NoAddress, Label, Verb, Branch, Command}
 use Rattle.sedck_script.specs.Items.{Known, Item, Written, Closing}
 use Rattle.sedck_script.specs.Resolution.{Defines, AreLabelsDistinct, Resolves, done, known, branch, test, opening, closing}
-use Rattle.sedck_script.specs.Reading.{IsLabelOf, AreLabelsOnce}
-use Rattle.sedck_script.specs.ItemReading.{commands_among, Turn, Opens, Closes, Stays, turn_of, Turned, Nests}
+use Rattle.sedck_script.specs.Private.Reading.{IsLabelOf, AreLabelsOnce}
+use Rattle.sedck_script.specs.Private.ItemReading.{commands_among, Turn, Opens, Closes, Stays, turn_of, Turned, Nests}
 use Rattle.sedck_script.proofs.ResolvesOne.{verbs_same}
 
 pub resolves_nests : {A cs : List Command} {blocks : List ℕ} {place : ℕ} {items : List Item} → Resolves A blocks place items cs → Nests items (length blocks)

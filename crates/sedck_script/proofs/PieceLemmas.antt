@@ -2,7 +2,7 @@
 use Rattle.std.proofs.Common.{◌≡◌, ◌≢◌, ℕ, ◌<◌, eqb, cond, Some, None, inl, inr, ◌⊎◌, List, [], ◌∷◌, ◌++◌, length, refl, ap, sym, ◌∙◌, subst, append_assoc, append-nil, arith}
 use Rattle.sedck_script.specs.Parts.{DelimitedExpression, DelimitedList}
 use Rattle.sedck_script.specs.Parts as p
-use Rattle.sedck_script.specs.Reading.{EndsIn}
+use Rattle.sedck_script.specs.Private.Reading.{EndsIn}
 use Rattle.sedck_script.specs.declared.delimited.Piece.{Piece}
 use Rattle.sedck_script.specs.declared.delimited.Piece.TheVariants as piece
 use Rattle.std.proofs.lemmas.Bool.{eqb-true, cond_both}
@@ -10,7 +10,7 @@ use Rattle.sedck_bre.specs.Tree.{Tree}
 use Rattle.sedck_bre.specs.Shape.{Shape}
 use Rattle.sedck_script.specs.Program.{Pattern, Previous, Expression}
 use Rattle.sedck_script.specs.Parts.{IsPattern, previous, expression}
-use Rattle.sedck_script.specs.PieceReading.{IsPiece, list_escape, PatternText}
+use Rattle.sedck_script.specs.Private.PieceReading.{IsPiece, list_escape, PatternText}
 use Rattle.sedck_script.proofs.PartsOne.{expression_one}
 use Rattle.sedck_script.proofs.Tails.{tail_tail}
 use Rattle.sedck_script.proofs.Heads.{heads}

@@ -18,11 +18,11 @@ use Rattle.sedck_script.specs.Parts as p
 use Rattle.sedck_script.specs.Items.{WrittenVerb, Simple, VerbText}
 use Rattle.sedck_script.specs.Items as w
 use Rattle.sedck_script.specs.Faults.{BeginsCommand, IsVerbDue, StandsAt, StandsWhere, EndsOrFails, is_extra, begins_address, IsNoNumber, IsNoSecondAddress, IsRefusedExpression, FollowsLabel, IsLabelBehind, IsEmptyExpression, IsUnread, IsPlaced, verb_bytes}
-use Rattle.sedck_script.specs.Reading.{EndsIn}
-use Rattle.sedck_script.specs.PieceReading.{PatternText, IsPartPlaced}
-use Rattle.sedck_script.specs.AddressReading.{is_mark, IsBehindComma, BeginsNoPlace, has_previous}
-use Rattle.sedck_script.specs.LabelReading.{IsBehindVerb, IsBehindLabel}
-use Rattle.sedck_script.specs.Progress.{written_patterns}
+use Rattle.sedck_script.specs.Private.Reading.{EndsIn}
+use Rattle.sedck_script.specs.Private.PieceReading.{PatternText, IsPartPlaced}
+use Rattle.sedck_script.specs.Private.AddressReading.{is_mark, IsBehindComma, BeginsNoPlace, has_previous}
+use Rattle.sedck_script.specs.Private.LabelReading.{IsBehindVerb, IsBehindLabel}
+use Rattle.sedck_script.specs.Private.Progress.{written_patterns}
 use Rattle.sedck_script.proofs.Tails.{tail_behind, tail_length, stands_at_tail, take_front}
 use Rattle.sedck_script.proofs.PartsOne.{digit_no_end, number_first}
 use Rattle.sedck_script.proofs.Spelled.{flags_pattern}

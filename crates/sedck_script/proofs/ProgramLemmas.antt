@@ -11,11 +11,11 @@ use Rattle.sedck_script.specs.Items.{Known, Item, Written, Closing, Items}
 use Rattle.sedck_script.specs.Resolution.{Defines, AreLabelsDistinct, LeadsTo, Resolves, done, known, branch, test, opening, closing}
 use Rattle.sedck_script.specs.Spelling.{Spells, AreCommands}
 use Rattle.sedck_script.specs.Faults.{IsLabelBehind, IsUndefinedLabel}
-use Rattle.sedck_script.specs.Reading.{label_place, HasLabels}
-use Rattle.sedck_script.specs.ItemReading.{item_of, commands_among, item_label, IsLostLabel}
-use Rattle.sedck_script.specs.AddressReading.{has_previous}
-use Rattle.sedck_script.specs.Progress.{HasNoItems, item_patterns}
-use Rattle.sedck_script.specs.ExpressionReading.{has_some}
+use Rattle.sedck_script.specs.Private.Reading.{label_place, HasLabels}
+use Rattle.sedck_script.specs.Private.ItemReading.{item_of, commands_among, item_label, IsLostLabel}
+use Rattle.sedck_script.specs.Private.AddressReading.{has_previous}
+use Rattle.sedck_script.specs.Private.Progress.{HasNoItems, item_patterns}
+use Rattle.sedck_script.specs.Private.ExpressionReading.{has_some}
 use Rattle.sedck_script.specs.declared.written.WrittenItem.{WrittenItem}
 use Rattle.sedck_script.proofs.Nesting.{resolves_nests, resolves_length, label_written, labels_once}
 use Rattle.sedck_script.proofs.SortedNames.{Contains-cons_cases, Contains-cons_more}

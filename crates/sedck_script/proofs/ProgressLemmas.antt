@@ -9,10 +9,10 @@ use Rattle.sedck_script.specs.Program.{Address, NoAddress, Label}
 use Rattle.sedck_script.specs.Parts.{Ends}
 use Rattle.sedck_script.specs.Items.{WrittenVerb, Known, Opening, VerbText, Takes, CommandText, Item, Written, Closing, Items}
 use Rattle.sedck_script.specs.Items as w
-use Rattle.sedck_script.specs.Reading.{EndsIn, IsLabelOf, AreLabelsOnce, HasLabels}
-use Rattle.sedck_script.specs.VerbReading.{DefinesKnown}
-use Rattle.sedck_script.specs.ItemReading.{item_of, Turn, Opens, Closes, Stays, commands_among, verb_turn, Turned, Nests}
-use Rattle.sedck_script.specs.Progress.{IsFront, IsProgress, HasNoItems, BeginsCommand, IsBeyond}
+use Rattle.sedck_script.specs.Private.Reading.{EndsIn, IsLabelOf, AreLabelsOnce, HasLabels}
+use Rattle.sedck_script.specs.Private.VerbReading.{DefinesKnown}
+use Rattle.sedck_script.specs.Private.ItemReading.{item_of, Turn, Opens, Closes, Stays, commands_among, verb_turn, Turned, Nests}
+use Rattle.sedck_script.specs.Private.Progress.{IsFront, IsProgress, HasNoItems, BeginsCommand, IsBeyond}
 use Rattle.sedck_script.specs.declared.items.Progress.{Progress}
 use Rattle.sedck_script.proofs.Cuts.{longest_one}
 use Rattle.sedck_script.proofs.Heads.{tails, heads}

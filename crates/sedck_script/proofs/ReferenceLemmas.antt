@@ -20,7 +20,7 @@ use Rattle.sedck_script.specs.Program.{Pattern, Previous, Expression, Part, Text
 use Rattle.sedck_script.specs.declared.script.Part.{Part as Coded}
 use Rattle.sedck_script.specs.View.{part_of}
 use Rattle.sedck_script.specs.Invariant.{IsPart}
-use Rattle.sedck_script.specs.Keeping.{may_keep, kept_with, kept_from}
+use Rattle.sedck_script.specs.Private.Keeping.{may_keep, kept_with, kept_from}
 use Rattle.sedck_script.specs.References.{HasNoWhole, named_groups, IsNotIn, AreDistinct, AreTopGroups, KeepsGroups}
 
 or_true : (b : Bool) → true ≡ (b || true)

@@ -8,11 +8,11 @@ use Rattle.sedck_script.specs.Cuts.{is_digit, Longest}
 use Rattle.sedck_script.specs.Program.{Part, Text, Newline, Tab, Whole, Group}
 use Rattle.sedck_script.specs.Parts.{EscapedPart, Replacement, is_plain}
 use Rattle.sedck_script.specs.Parts as p
-use Rattle.sedck_script.specs.Reading.{EndsIn}
+use Rattle.sedck_script.specs.Private.Reading.{EndsIn}
 use Rattle.sedck_script.specs.declared.delimited.Piece.{Piece}
 use Rattle.sedck_script.specs.declared.delimited.Piece.TheVariants as piece
-use Rattle.sedck_script.specs.PieceReading.{IsPiece}
-use Rattle.sedck_script.specs.ReplacementReading.{IsGroupWithin, HasGroupsUpTo, IsFirstPart}
+use Rattle.sedck_script.specs.Private.PieceReading.{IsPiece}
+use Rattle.sedck_script.specs.Private.ReplacementReading.{IsGroupWithin, HasGroupsUpTo, IsFirstPart}
 use Rattle.sedck_script.proofs.Cuts.{longest_one}
 use Rattle.sedck_script.proofs.Heads.{heads}
 use Rattle.sedck_script.proofs.Tails.{tail_cut, tail_tail}

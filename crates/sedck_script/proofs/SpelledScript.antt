@@ -15,7 +15,7 @@ use Rattle.sedck_script.specs.Resolution.{Resolves, done, known, branch, test, o
 use Rattle.sedck_script.specs.Spelling.{Spells}
 use Rattle.sedck_script.specs.Names.{IsName, AreNames, names_size, read_names, write_names, placed, with_name, sorted_names}
 use Rattle.sedck_script.specs.Invariant.{IsReplacement, IsScript}
-use Rattle.sedck_script.specs.Reading.{EndsIn}
+use Rattle.sedck_script.specs.Private.Reading.{EndsIn}
 use Rattle.sedck_script.proofs.Tails.{tail_cut, tail_tail, tail_behind, tail_length, ends_tail, verb_text_tail}
 use Rattle.sedck_script.proofs.CommandLemmas.{address_tail}
 use Rattle.sedck_script.proofs.Spelled.{spelled_targets, spelled_formed, spelled_transliterations}

@@ -6,13 +6,13 @@ use Rattle.sedck_script.specs.Program.{Address, Verb}
 use Rattle.sedck_script.specs.Items.{WrittenVerb, Known, BranchTo, TestTo, Opening, Takes, Item, Written, Closing}
 use Rattle.sedck_script.specs.Faults.{StandsAt}
 use Rattle.sedck_script.specs.Cuts.{brace}
-use Rattle.sedck_script.specs.ItemReading.{Turn, Opens, Closes, Stays, verb_turn, commands_among}
-use Rattle.sedck_script.specs.Progress.{patterns_of, item_patterns, NotesLabel, NotesBlock}
+use Rattle.sedck_script.specs.Private.ItemReading.{Turn, Opens, Closes, Stays, verb_turn, commands_among}
+use Rattle.sedck_script.specs.Private.Progress.{patterns_of, item_patterns, NotesLabel, NotesBlock}
 use Rattle.std.specs.Borrow.{Bor}
 use Rattle.std.specs.HashMap.{HashMap}
 use Rattle.std.proofs.lemmas.List.Elements.{All-push}
-use Rattle.sedck_script.specs.Reading.{HasLabels, label_place}
-use Rattle.sedck_script.specs.VerbReading.{written_verb, IsWrittenAt, DefinesKnown}
+use Rattle.sedck_script.specs.Private.Reading.{HasLabels, label_place}
+use Rattle.sedck_script.specs.Private.VerbReading.{written_verb, IsWrittenAt, DefinesKnown}
 use Rattle.sedck_script.specs.declared.verbs.Written.{Written as WrittenCode}
 use Rattle.sedck_script.specs.declared.verbs.Written.TheVariants as code
 use Rattle.sedck_script.proofs.LabelPlaces.{labels_label, labels_other}

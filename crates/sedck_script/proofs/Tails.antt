@@ -7,7 +7,7 @@ use Rattle.sedck_script.specs.Parts.{Ends, Number, Name, Lines, GivenText, Label
 use Rattle.sedck_script.specs.Parts as p
 use Rattle.sedck_script.specs.Items.{WrittenVerb, VerbText}
 use Rattle.sedck_script.specs.Items as w
-use Rattle.sedck_script.specs.Reading.{EndsIn}
+use Rattle.sedck_script.specs.Private.Reading.{EndsIn}
 
 -- what a run, a verb and the end of its line leave is an end of the text
 pub tail_cut : {test : ℕ → Bool} {text front rest : List ℕ} → Longest test text front rest → EndsIn text rest

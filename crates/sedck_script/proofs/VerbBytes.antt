@@ -7,7 +7,7 @@ use Rattle.sedck_script.specs.Program.{Address, NoAddress, One, Two, Verb}
 use Rattle.sedck_script.specs.Items.{WrittenVerb, Known, Opening, Simple, VerbText, Takes, IsNoBrace}
 use Rattle.sedck_script.specs.Items as w
 use Rattle.sedck_script.specs.Faults.{verb_bytes}
-use Rattle.sedck_script.specs.Progress.{is_none, is_two, takes}
+use Rattle.sedck_script.specs.Private.Progress.{is_none, is_two, takes}
 use Rattle.sedck_script.proofs.Heads.{heads}
 
 pub record IsVerbByte (b : ℕ) (v : WrittenVerb) : Type 0 where

@@ -11,9 +11,9 @@ use Rattle.sedck_script.specs.Parts.{Ends, LabelText, Name, GivenText}
 use Rattle.sedck_script.specs.Items.{WrittenVerb, Known, BranchTo, TestTo, Opening, Simple, VerbText, IsNoBrace, IsNoComment}
 use Rattle.sedck_script.specs.Items as w
 use Rattle.sedck_script.specs.Faults.{verb_bytes}
-use Rattle.sedck_script.specs.Reading.{label_place}
-use Rattle.sedck_script.specs.LabelReading.{BranchText}
-use Rattle.sedck_script.specs.VerbReading.{DefinesKnown}
+use Rattle.sedck_script.specs.Private.Reading.{label_place}
+use Rattle.sedck_script.specs.Private.LabelReading.{BranchText}
+use Rattle.sedck_script.specs.Private.VerbReading.{DefinesKnown}
 use Rattle.sedck_script.proofs.Cuts.{longest_one}
 use Rattle.sedck_script.proofs.PartsOne.{label_one}
 use Rattle.sedck_script.proofs.WholeOne.{class_of, begins, differ, simple_class}

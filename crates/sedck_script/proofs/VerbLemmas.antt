@@ -6,10 +6,10 @@ use Rattle.sedck_script.specs.Program.{Pattern, Part, Substitution, Substitute, 
 use Rattle.sedck_script.specs.Parts.{Ends, DelimitedList, Replacement, HasGroups, greatest_group, Flags}
 use Rattle.sedck_script.specs.Items.{WrittenVerb, Known, BranchTo, TestTo, Simple, VerbText, IsNoBrace}
 use Rattle.sedck_script.specs.Items as w
-use Rattle.sedck_script.specs.PieceReading.{PatternText}
-use Rattle.sedck_script.specs.Reading.{EndsIn}
-use Rattle.sedck_script.specs.VerbReading.{AreLists}
-use Rattle.sedck_script.specs.ReplacementReading.{HasGroupsUpTo}
+use Rattle.sedck_script.specs.Private.PieceReading.{PatternText}
+use Rattle.sedck_script.specs.Private.Reading.{EndsIn}
+use Rattle.sedck_script.specs.Private.VerbReading.{AreLists}
+use Rattle.sedck_script.specs.Private.ReplacementReading.{HasGroupsUpTo}
 use Rattle.sedck_script.proofs.PartsOne.{list_one, replacement_one}
 use Rattle.sedck_script.proofs.WholeOne.{class_of, begins, differ}
 use Rattle.sedck_script.proofs.Tails.{tail_tail, list_tail}

@@ -6,31 +6,24 @@ pub use Rattle.sedck_bre.specs.WellFormed
 pub use Rattle.sedck_bre.specs.Lengths
 pub use Rattle.sedck_bre.specs.Rests
 pub use Rattle.sedck_bre.specs.Shape
-pub mod Cuts
+
+-- What the public contracts cite, in reading order.
 pub mod Program
-pub mod Parts
+pub mod View
+pub mod ReplacementView
+pub mod Names
+pub mod Spelling
 pub mod Items
 pub mod Resolution
-pub mod Spelling
-pub mod First
-pub mod Names
-pub mod Invariant
-pub mod Shortest
+pub mod Parts
+pub mod Cuts
 pub mod References
-pub mod ReplacementView
-pub mod View
+pub mod Shortest
+pub mod Invariant
 pub mod Faults
-pub mod Reading
-pub mod VerbReading
-pub mod LabelReading
-pub mod PieceReading
-pub mod FlagReading
-pub mod ReplacementReading
-pub mod Keeping
-pub mod AddressReading
-pub mod ItemReading
-pub mod Progress
-pub mod ExpressionReading
 pub mod FaultWords
+pub mod First
 pub mod Laws
-pub mod NameReading
+
+-- What functions inside the crate promise each other.
+pub mod Private

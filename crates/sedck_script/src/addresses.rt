@@ -6,9 +6,9 @@ ghost use Rattle.sedck_script.specs.Program as clean;
 ghost use Rattle.sedck_script.specs.Program.{place_patterns, address_patterns};
 ghost use Rattle.sedck_script.specs.Parts.{PlaceText, AddressText};
 ghost use Rattle.sedck_script.specs.Faults.{IsPlaced};
-ghost use Rattle.sedck_script.specs.Reading.{EndsIn};
-ghost use Rattle.sedck_script.specs.PieceReading.{IsPartPlaced};
-ghost use Rattle.sedck_script.specs.AddressReading.{begins_address, IsEmptyAt, ContextText, CustomText, BeginsPlace, BeginsNoPlace, IsOnlyAddress, IsNoCommand, IsBehindComma, HasNoComma, IsSecond, BeginsNoSecond};
+ghost use Rattle.sedck_script.specs.Private.Reading.{EndsIn};
+ghost use Rattle.sedck_script.specs.Private.PieceReading.{IsPartPlaced};
+ghost use Rattle.sedck_script.specs.Private.AddressReading.{begins_address, IsEmptyAt, ContextText, CustomText, BeginsPlace, BeginsNoPlace, IsOnlyAddress, IsNoCommand, IsBehindComma, HasNoComma, IsSecond, BeginsNoSecond};
 ghost use Rattle.sedck_script.specs.View as view;
 
 use crate::bytes::{is_delimiter, is_digit, split_blanks};

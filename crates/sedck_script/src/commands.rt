@@ -8,10 +8,10 @@ ghost use Rattle.sedck_script.specs.Program as clean;
 ghost use Rattle.sedck_script.specs.Program.{address_patterns};
 ghost use Rattle.sedck_script.specs.Items.{WrittenVerb, Opening, VerbText, Takes, IsNoBrace, CommandText};
 ghost use Rattle.sedck_script.specs.Faults.{BeginsCommand, IsVerbDue, IsEmptyExpression, IsPlaced, verb_bytes};
-ghost use Rattle.sedck_script.specs.Reading.{EndsIn};
-ghost use Rattle.sedck_script.specs.VerbReading.{written_verb, IsWrittenAt, DefinesKnown};
-ghost use Rattle.sedck_script.specs.AddressReading.{is_mark, has_previous, IsEmptyAt};
-ghost use Rattle.sedck_script.specs.Progress.{takes, written_patterns, IsBeyond, AreAllowed};
+ghost use Rattle.sedck_script.specs.Private.Reading.{EndsIn};
+ghost use Rattle.sedck_script.specs.Private.VerbReading.{written_verb, IsWrittenAt, DefinesKnown};
+ghost use Rattle.sedck_script.specs.Private.AddressReading.{is_mark, has_previous, IsEmptyAt};
+ghost use Rattle.sedck_script.specs.Private.Progress.{takes, written_patterns, IsBeyond, AreAllowed};
 ghost use Rattle.sedck_script.specs.View.{address_of};
 
 use crate::addresses::address_at;

@@ -5,10 +5,10 @@ ghost use Rattle.sedck_bre.specs.Faults.{IsOfText};
 ghost use Rattle.sedck_script.specs.Cuts.{is_delimiter};
 ghost use Rattle.sedck_script.specs.Parts.{DelimitedExpression, DelimitedList};
 ghost use Rattle.sedck_script.specs.Faults.{IsRefusedExpression};
-ghost use Rattle.sedck_script.specs.Reading.{EndsIn};
+ghost use Rattle.sedck_script.specs.Private.Reading.{EndsIn};
 ghost use Rattle.sedck_script.specs.Program as clean;
 ghost use Rattle.sedck_script.specs.View.{pattern_of};
-ghost use Rattle.sedck_script.specs.PieceReading.{IsPiece, PatternText, IsPartPlaced, list_escape};
+ghost use Rattle.sedck_script.specs.Private.PieceReading.{IsPiece, PatternText, IsPartPlaced, list_escape};
 ghost use Rattle.sedck_script.specs.declared.delimited.Piece.{Piece};
 
 use crate::bytes::can_be_escaped;

@@ -3,7 +3,7 @@
 ghost use Rattle.std.specs.Prelude.{ℕ, List, IfOk, IfErr};
 ghost use Rattle.sedck_script.specs.Parts.{Ends};
 ghost use Rattle.sedck_script.specs.Faults.{IsPlaced};
-ghost use Rattle.sedck_script.specs.Reading.{EndsIn};
+ghost use Rattle.sedck_script.specs.Private.Reading.{EndsIn};
 
 use crate::bytes::{is_ending, split_blanks};
 use crate::fault::ScriptFault;

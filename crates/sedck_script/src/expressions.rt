@@ -5,7 +5,7 @@ ghost use Rattle.std.specs.List.{list_any};
 ghost use Rattle.sedck_script.specs.Program.{place_patterns, address_patterns, verb_patterns, pattern_expressions, expressions};
 ghost use Rattle.sedck_script.specs.Spelling.{IsQuiet};
 ghost use Rattle.sedck_script.specs.View.{pattern_of, place_of, address_of, verb_of, command_of};
-ghost use Rattle.sedck_script.specs.ExpressionReading.{has_some, command_has_some};
+ghost use Rattle.sedck_script.specs.Private.ExpressionReading.{has_some, command_has_some};
 
 use crate::bytes::line_len;
 use crate::script::{Address, Command, Pattern, Place, Verb};

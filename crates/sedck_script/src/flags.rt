@@ -4,8 +4,8 @@ ghost use Rattle.std.specs.Prelude.{◌≡◌, ℕ, List, option_copied, IfOk, I
 ghost use Rattle.sedck_script.specs.Program as clean;
 ghost use Rattle.sedck_script.specs.Parts.{Flags};
 ghost use Rattle.sedck_script.specs.Faults.{IsPlaced};
-ghost use Rattle.sedck_script.specs.Reading.{EndsIn};
-ghost use Rattle.sedck_script.specs.FlagReading.{IsFlag, with_flags};
+ghost use Rattle.sedck_script.specs.Private.Reading.{EndsIn};
+ghost use Rattle.sedck_script.specs.Private.FlagReading.{IsFlag, with_flags};
 
 use crate::bytes::{is_blank, is_digit, is_ending};
 use crate::ends::end_of_command;

@@ -5,9 +5,9 @@ ghost use Rattle.std.specs.Option.{option_or};
 ghost use Rattle.sedck_script.specs.Cuts.{is_separator, Longest};
 ghost use Rattle.sedck_script.specs.Items.{Items};
 ghost use Rattle.sedck_script.specs.Faults.{IsPlaced};
-ghost use Rattle.sedck_script.specs.Progress.{IsProgress, HasNoItems, BeginsCommand, NotesLabel, NotesBlock};
-ghost use Rattle.sedck_script.specs.VerbReading.{written_verb};
-ghost use Rattle.sedck_script.specs.ItemReading.{item_of, verb_turn, Nests};
+ghost use Rattle.sedck_script.specs.Private.Progress.{IsProgress, HasNoItems, BeginsCommand, NotesLabel, NotesBlock};
+ghost use Rattle.sedck_script.specs.Private.VerbReading.{written_verb};
+ghost use Rattle.sedck_script.specs.Private.ItemReading.{item_of, verb_turn, Nests};
 
 use crate::bytes::separators_len;
 use crate::commands::command_at;

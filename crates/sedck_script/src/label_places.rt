@@ -2,7 +2,7 @@
 
 ghost use Rattle.std.specs.Prelude.{◌≡◌, ℕ, List, Some, IfErr, OnOk, if◌then◌else◌};
 ghost use Rattle.std.specs.Str.{bytes_eq};
-ghost use Rattle.sedck_script.specs.Reading.{label_place};
+ghost use Rattle.sedck_script.specs.Private.Reading.{label_place};
 
 use crate::fault::ScriptFault;
 use indexmap::IndexMap;

@@ -6,8 +6,8 @@ ghost use Rattle.sedck_script.specs.Cuts.{is_blank, is_ending, is_label_byte, Lo
 ghost use Rattle.sedck_script.specs.Parts.{Ends, LabelText};
 ghost use Rattle.sedck_script.specs.Items.{IsNoComment, IsNoBrace};
 ghost use Rattle.sedck_script.specs.Faults.{IsLabelBehind, IsPlaced};
-ghost use Rattle.sedck_script.specs.Reading.{IsLabelAt, IsLabelPlace};
-ghost use Rattle.sedck_script.specs.LabelReading.{BranchText, IsBehindVerb, IsBehindLabel};
+ghost use Rattle.sedck_script.specs.Private.Reading.{IsLabelAt, IsLabelPlace};
+ghost use Rattle.sedck_script.specs.Private.LabelReading.{BranchText, IsBehindVerb, IsBehindLabel};
 
 use crate::bytes::{is_ending, is_spacing, label_len, split_blanks};
 use crate::ends::end_of_command;

@@ -7,7 +7,7 @@ ghost use Rattle.std.specs.Prelude.{◌<◌, ◌≡◌, ◌≤◌, List, OnOk, f
 ghost use Rattle.std.specs.Option.{option_copied};
 ghost use Rattle.sedck_script.specs.Names.{AreRising, with_name, sorted_names as sorted};
 ghost use Rattle.sedck_script.specs.View.{verb_of, command_of};
-ghost use Rattle.sedck_script.specs.NameReading.{accessed, all_accessed, with_any};
+ghost use Rattle.sedck_script.specs.Private.NameReading.{accessed, all_accessed, with_any};
 
 use crate::fault::ScriptFault;
 use crate::script::{Command, Verb};

@@ -2,7 +2,7 @@
 
 ghost use Rattle.std.specs.Prelude.{◌≡◌, ◌≢◌, ℕ, ◌<◌, ◌≤◌, true, false, Some, List, Err, length, map, IfOk, IfErr, OnOk, OnErr};
 ghost use Rattle.sedck_script.specs.Program.{Program, expressions};
-ghost use Rattle.sedck_script.specs.ExpressionReading.{has_some};
+ghost use Rattle.sedck_script.specs.Private.ExpressionReading.{has_some};
 ghost use Rattle.sedck_script.specs.Spelling.{IsScriptText, AreCommands, Spells};
 ghost use Rattle.sedck_script.specs.Items.{Item, Items};
 ghost use Rattle.sedck_script.specs.View.{command_of};

@@ -4,7 +4,7 @@ ghost use Rattle.std.specs.Prelude.{◌≡◌, ◌≤◌, ◌<◌, ◌^◌, map,
 ghost use Rattle.sedck_script.specs.Invariant.{IsPart};
 ghost use Rattle.sedck_script.specs.References.{IsOutside};
 ghost use Rattle.sedck_script.specs.Program.{part_length as length_of_part, literal_length as length_of_parts};
-ghost use Rattle.sedck_script.specs.Keeping.{may_keep, kept_with, kept_from};
+ghost use Rattle.sedck_script.specs.Private.Keeping.{may_keep, kept_with, kept_from};
 ghost use Rattle.sedck_script.specs.View.{pattern_of, part_of};
 
 use crate::script::{Part, Pattern};

@@ -4,10 +4,10 @@ ghost use Rattle.std.specs.Prelude.{◌≡◌, ◌≢◌, ◌≤◌, ◌<◌, �
 ghost use Rattle.sedck_script.specs.Cuts.{is_delimiter, Longest};
 ghost use Rattle.sedck_script.specs.Program as clean;
 ghost use Rattle.sedck_script.specs.Parts.{EscapedPart, Replacement, is_plain, greatest_group};
-ghost use Rattle.sedck_script.specs.Reading.{EndsIn};
+ghost use Rattle.sedck_script.specs.Private.Reading.{EndsIn};
 ghost use Rattle.sedck_script.specs.View.{pattern_of, part_of};
-ghost use Rattle.sedck_script.specs.PieceReading.{IsPartPlaced};
-ghost use Rattle.sedck_script.specs.ReplacementReading.{IsGroupWithin, HasGroupsUpTo, IsNextPart};
+ghost use Rattle.sedck_script.specs.Private.PieceReading.{IsPartPlaced};
+ghost use Rattle.sedck_script.specs.Private.ReplacementReading.{IsGroupWithin, HasGroupsUpTo, IsNextPart};
 
 use crate::bytes::{is_digit, is_letter, plain_len};
 use crate::delimited::{Piece, piece_at};

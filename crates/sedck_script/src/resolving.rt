@@ -5,9 +5,9 @@ ghost use Rattle.sedck_script.specs.View as view;
 ghost use Rattle.sedck_bre.specs.Text.{one_of};
 ghost use Rattle.sedck_script.specs.Faults.{IsLabelBehind};
 ghost use Rattle.sedck_script.specs.Resolution.{Resolves};
-ghost use Rattle.sedck_script.specs.Reading.{HasLabels, IsUnknownLabel};
-ghost use Rattle.sedck_script.specs.VerbReading.{written_verb, IsWrittenAt};
-ghost use Rattle.sedck_script.specs.ItemReading.{item_of, commands_among, Nests, verb_turn, TakesTarget, IsItemAt, IsKnownLabel, IsLostLabel, label_of, item_label, target_of, resolved_command};
+ghost use Rattle.sedck_script.specs.Private.Reading.{HasLabels, IsUnknownLabel};
+ghost use Rattle.sedck_script.specs.Private.VerbReading.{written_verb, IsWrittenAt};
+ghost use Rattle.sedck_script.specs.Private.ItemReading.{item_of, commands_among, Nests, verb_turn, TakesTarget, IsItemAt, IsKnownLabel, IsLostLabel, label_of, item_label, target_of, resolved_command};
 
 use crate::fault::ScriptFault;
 use crate::label_places::place_of;

@@ -108,11 +108,11 @@ impl<'a> Model for Script<'a> {
     ghost Value = { Program };
 
     ghost use Rattle.std.specs.Coded.{codes};
-    ghost use Rattle.sedck_bre.specs.TreeCode.{coded_tree};
+    ghost use Rattle.sedck_bre.specs.Private.TreeCode.{coded_tree};
 
     ghost coded = { Prim.hlevel (codes, coded_tree) };
 
-    ghost use Rattle.sedck_script.specs.View.{program_of, IsWhole};
+    ghost use Rattle.sedck_script.specs.Private.Fields.{program_of, IsWhole};
 
     ghost view = { program_of };
 
@@ -123,7 +123,8 @@ impl<'a> Script<'a> {
     ghost use Rattle.std.specs.Prelude.{◌≡◌, map};
     ghost use Rattle.sedck_script.specs.Names.{reads as reads_of, writes as writes_of};
     ghost use Rattle.sedck_script.specs.Invariant.{IsScript};
-    ghost use Rattle.sedck_script.specs.View.{command_of, program_from};
+    ghost use Rattle.sedck_script.specs.View.{command_of};
+    ghost use Rattle.sedck_script.specs.Private.Fields.{program_from};
     ghost use Rattle.sedck_bre.specs.Lengths.{IsLeastSize};
     ghost use Rattle.sedck_script.specs.Program.{expressions};
     ghost use Rattle.sedck_script.specs.Shortest.{SomeHasLength};

@@ -5,9 +5,9 @@ ghost use Rattle.sedck_script.specs.Cuts.{is_delimiter};
 ghost use Rattle.sedck_script.specs.Program as clean;
 ghost use Rattle.sedck_script.specs.Items.{WrittenVerb, Known, VerbText};
 ghost use Rattle.sedck_script.specs.Faults.{StandsAt, IsPlaced};
-ghost use Rattle.sedck_script.specs.PieceReading.{IsPartPlaced};
-ghost use Rattle.sedck_script.specs.Reading.{EndsIn};
-ghost use Rattle.sedck_script.specs.VerbReading.{AreLists};
+ghost use Rattle.sedck_script.specs.Private.PieceReading.{IsPartPlaced};
+ghost use Rattle.sedck_script.specs.Private.Reading.{EndsIn};
+ghost use Rattle.sedck_script.specs.Private.VerbReading.{AreLists};
 ghost use Rattle.sedck_script.specs.View.{verb_of};
 
 use crate::bytes::is_delimiter;

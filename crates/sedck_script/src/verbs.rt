@@ -5,9 +5,9 @@ ghost use Rattle.sedck_bre.specs.Text.{is_in, one_of};
 ghost use Rattle.sedck_script.specs.Program as clean;
 ghost use Rattle.sedck_script.specs.Items.{WrittenVerb, Known, Simple, VerbText, IsNoBrace};
 ghost use Rattle.sedck_script.specs.Faults.{IsVerbDue, IsPlaced, StandsAt, verb_bytes};
-ghost use Rattle.sedck_script.specs.Reading.{EndsIn};
+ghost use Rattle.sedck_script.specs.Private.Reading.{EndsIn};
 ghost use Rattle.sedck_script.specs.View.{verb_of};
-ghost use Rattle.sedck_script.specs.VerbReading.{written_verb, IsWrittenAt, DefinesKnown};
+ghost use Rattle.sedck_script.specs.Private.VerbReading.{written_verb, IsWrittenAt, DefinesKnown};
 
 use crate::bytes::split_blanks;
 use crate::ends::end_of_command;

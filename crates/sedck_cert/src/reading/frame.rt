@@ -6,9 +6,9 @@ ghost use Rattle.sedck_bre.specs.Bytes.{newline};
 ghost use Rattle.sedck_cert.specs.Certificate.{nodes_in};
 ghost use Rattle.sedck_cert.specs.Text.{header as header_of};
 ghost use Rattle.sedck_cert.specs.declared.versions.Version.{Version};
-ghost use Rattle.sedck_cert.specs.Cuts.{IsCut};
+ghost use Rattle.sedck_cert.specs.Private.Cuts.{IsCut};
 ghost use Rattle.sedck_cert.specs.Faults.{Header, Count, Node, Last, Nothing};
-ghost use Rattle.sedck_cert.specs.Reading.{IsNext, Leads, Stops};
+ghost use Rattle.sedck_cert.specs.Private.Reading.{IsNext, Leads, Stops};
 
 use super::CertFault;
 use super::lines::Lines;

@@ -2,7 +2,7 @@
 
 ghost use Rattle.std.specs.Prelude.{◌≡◌, ◌+◌, ◌<◌, ◌^◌, ℕ, Contains, length, MatchOption};
 ghost use Rattle.sedck_bre.specs.Bytes.{newline};
-ghost use Rattle.sedck_cert.specs.Cuts.{IsCut};
+ghost use Rattle.sedck_cert.specs.Private.Cuts.{IsCut};
 
 use bstr::ByteSlice;
 

@@ -5,7 +5,7 @@ ghost use Rattle.sedck_script.specs.Names.{IsName};
 ghost use Rattle.sedck_cert.specs.View.{names_of};
 ghost use Rattle.sedck_cert.specs.declared.versions.Version.{Version};
 ghost use Rattle.sedck_cert.specs.Faults.{Names, Name, Rises, list_word, after_list, after_name};
-ghost use Rattle.sedck_cert.specs.Reading.{Leads, Stops, list_texts, names_due, one_before};
+ghost use Rattle.sedck_cert.specs.Private.Reading.{Leads, Stops, list_texts, names_due, one_before};
 
 use super::CertFault;
 use super::frame::next_count;

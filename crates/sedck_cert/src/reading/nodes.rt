@@ -6,9 +6,9 @@ ghost use Rattle.sedck_flow.specs.Words.{flag_text, node_words};
 ghost use Rattle.sedck_flow.specs.VersionOne.{nth_node_one, node_words_one};
 ghost use Rattle.sedck_cert.specs.Certificate.{AreWithin, nodes_in};
 ghost use Rattle.sedck_cert.specs.Text.{ranks_text, words_in, node_text};
-ghost use Rattle.sedck_cert.specs.Cuts.{IsCut};
+ghost use Rattle.sedck_cert.specs.Private.Cuts.{IsCut};
 ghost use Rattle.sedck_cert.specs.Faults.{Node, Names, after_node};
-ghost use Rattle.sedck_cert.specs.Reading.{IsNext, Leads, Stops, node_texts, nodes_due};
+ghost use Rattle.sedck_cert.specs.Private.Reading.{IsNext, Leads, Stops, node_texts, nodes_due};
 
 use super::CertFault;
 use super::lines::{Lines, cut};

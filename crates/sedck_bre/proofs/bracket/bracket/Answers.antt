@@ -2,10 +2,10 @@ use Rattle.std.proofs.Common.{◌∙◌, ℕ, List, true, sym, subst, ap, Bor, R
 use Rattle.std.specs.Prelude.{IfOk}
 use Rattle.sedck_bre.specs.declared.tree.ByteSet.{ByteSet}
 use Rattle.sedck_bre.specs.declared.fault.ReFault.{ReFault}
-use Rattle.sedck_bre.specs.FullReading.{IsTail}
-use Rattle.sedck_bre.specs.BracketReading.{bracket_at, inside_at}
-use Rattle.sedck_bre.specs.BracketCode.{set_at}
-use Rattle.sedck_bre.specs.Gives.{Gives}
+use Rattle.sedck_bre.specs.Private.FullReading.{IsTail}
+use Rattle.sedck_bre.specs.Private.BracketReading.{bracket_at, inside_at}
+use Rattle.sedck_bre.specs.Private.BracketCode.{set_at}
+use Rattle.sedck_bre.specs.Private.Gives.{Gives}
 use Rattle.sedck_bre.proofs.BracketFixed.{inside_complement, inside_plain}
 use Rattle.sedck_bre.proofs.Tails.{bracket_is, bracket_tail}
 use Rattle.sedck_bre.proofs.bracket.bracket.Goals as goal

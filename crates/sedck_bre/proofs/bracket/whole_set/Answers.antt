@@ -1,5 +1,5 @@
 use Rattle.std.proofs.Common.{◌∙◌, sym}
-use Rattle.sedck_bre.specs.BracketCode.{is_of}
+use Rattle.sedck_bre.specs.Private.BracketCode.{is_of}
 use Rattle.sedck_bre.proofs.BracketLoop.{set_given, set_empty}
 use Rattle.sedck_bre.proofs.bracket.whole_set.Goals as goal
 

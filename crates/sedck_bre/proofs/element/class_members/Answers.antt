@@ -1,8 +1,8 @@
 use Rattle.std.proofs.Common.{sym, subst}
 use Rattle.std.specs.Prelude.{◌||◌, ◌==◌}
 use Rattle.sedck_bre.specs.Brackets.{is_from, in_class}
-use Rattle.sedck_bre.specs.Sets.{HasJust}
-use Rattle.sedck_bre.specs.BracketCode.{class_of}
+use Rattle.sedck_bre.specs.Private.Sets.{HasJust}
+use Rattle.sedck_bre.specs.Private.BracketCode.{class_of}
 use Rattle.sedck_bre.proofs.element.class_members.Goals as goal
 
 pub returns-in-Alpha : goal.returns-in-Alpha

@@ -1,5 +1,5 @@
 use Rattle.std.proofs.Common.{sym, subst}
-use Rattle.sedck_bre.specs.FullReading.{IsTail}
+use Rattle.sedck_bre.specs.Private.FullReading.{IsTail}
 use Rattle.sedck_bre.proofs.Tails.{tail_drop, interval_tail, interval_shorter}
 use Rattle.sedck_bre.proofs.item.signed.Goals as goal
 

@@ -2,8 +2,9 @@ use Rattle.std.proofs.Common.{◌≡◌, min, map, ◌+◌, ◌++◌, ◌∷◌,
 use Rattle.std.proofs.lemmas.List.{take_more}
 use Rattle.sedck_bre.specs.Tree.{trees}
 use Rattle.sedck_bre.specs.Lengths.{cap}
-use Rattle.sedck_bre.specs.View.{tree, sequence}
-use Rattle.sedck_bre.specs.Bounds.{no_bounds, Holds, least, after, own, outside}
+use Rattle.sedck_bre.specs.View.{tree}
+use Rattle.sedck_bre.specs.Private.Sequence.{sequence}
+use Rattle.sedck_bre.specs.Private.Bounds.{no_bounds, Holds, least, after, own, outside}
 use Rattle.sedck_bre.proofs.Capped.{outside-push, after-push, own-named, own-other, capped_sum}
 use Rattle.sedck_bre.proofs.outside.least_outside_of.Goals.{then-not-is_named, else-not-is_named}
 use Rattle.sedck_bre.proofs.outside.least_outside_of.Goals as goal

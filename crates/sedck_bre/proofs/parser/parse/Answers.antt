@@ -5,10 +5,11 @@ use Rattle.sedck_bre.specs.WellFormed.{IsWellFormed}
 use Rattle.sedck_bre.specs.declared.tree.Bre.{Bre}
 use Rattle.std.proofs.lemmas.Result.{err_from_is_err_and}
 use Rattle.sedck_bre.specs.Tree.{trees}
-use Rattle.sedck_bre.specs.View.{tree, sequence}
+use Rattle.sedck_bre.specs.View.{tree}
+use Rattle.sedck_bre.specs.Private.Sequence.{sequence}
 use Rattle.sedck_bre.specs.Shape.{Whole, First, Shape}
-use Rattle.sedck_bre.specs.Reading.{read, items_of}
-use Rattle.sedck_bre.specs.FullReading.{full}
+use Rattle.sedck_bre.specs.Private.Reading.{read, items_of}
+use Rattle.sedck_bre.specs.Private.FullReading.{full}
 use Rattle.sedck_bre.proofs.Whole.{read-none, read-over, read-rest, shape_of, only_of, none_of, none_closed}
 use Rattle.sedck_bre.proofs.ViewLemmas.{tree-Seq}
 use Rattle.sedck_bre.proofs.parser.parse.Goals as goal

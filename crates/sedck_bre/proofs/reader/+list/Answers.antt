@@ -2,15 +2,16 @@ use Rattle.std.proofs.Common.{◌≡◌, ◌+◌, ◌<◌, ◌∷◌, ◌++◌, 
 use Rattle.std.proofs.lemmas.Result.{err_from_is_err_and}
 use Rattle.std.proofs.lemmas.List.{map_push}
 use Rattle.sedck_bre.specs.Tree.{groups_in}
-use Rattle.sedck_bre.specs.View.{tree, sequence}
+use Rattle.sedck_bre.specs.View.{tree}
+use Rattle.sedck_bre.specs.Private.Sequence.{sequence}
 use Rattle.sedck_bre.specs.Shape as shape
-use Rattle.sedck_bre.specs.Reading.{at_end, items_of}
-use Rattle.sedck_bre.specs.Gives.{Gives, place_of, level_of, ClosedIs}
+use Rattle.sedck_bre.specs.Private.Reading.{at_end, items_of}
+use Rattle.sedck_bre.specs.Private.Gives.{Gives, place_of, level_of, ClosedIs}
 use Rattle.sedck_bre.proofs.Loop.{group_read, groups-push, loop_ends, loop_goes, loop_fails, loop_fails_at, same_read, closed-push, closed_more}
 use Rattle.std.proofs.Math.ListN.{set}
 use Rattle.sedck_bre.specs.declared.tree.Bre.TheVariants as Bre
 use Rattle.sedck_bre.proofs.ViewLemmas.{tree-Seq, tree-Group}
-use Rattle.sedck_bre.specs.FullReading.{full, IsTail}
+use Rattle.sedck_bre.specs.Private.FullReading.{full, IsTail}
 use Rattle.sedck_bre.proofs.Tails.{tail_drop}
 use Rattle.sedck_bre.proofs.reader.+list.Goals as goal
 

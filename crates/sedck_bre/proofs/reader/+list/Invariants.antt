@@ -1,10 +1,11 @@
 use Rattle.std.proofs.Common.{◌≡◌, ℕ, ◌+◌, ◌*◌, ◌≤◌, ◌++◌, List, length, map}
 use Rattle.sedck_bre.specs.Tree.{groups_in}
-use Rattle.sedck_bre.specs.View.{tree, sequence}
+use Rattle.sedck_bre.specs.View.{tree}
+use Rattle.sedck_bre.specs.Private.Sequence.{sequence}
 use Rattle.sedck_bre.specs.Shape as shape
-use Rattle.sedck_bre.specs.Reading.{items_of}
-use Rattle.sedck_bre.specs.FullReading.{full, IsTail}
-use Rattle.sedck_bre.specs.Gives.{place_of, level_of, ClosedIs}
+use Rattle.sedck_bre.specs.Private.Reading.{items_of}
+use Rattle.sedck_bre.specs.Private.FullReading.{full, IsTail}
+use Rattle.sedck_bre.specs.Private.Gives.{place_of, level_of, ClosedIs}
 use Rattle.sedck_bre.proofs.Loop.{with_front}
 use Rattle.sedck_bre.proofs.reader.+list.Given as goal
 

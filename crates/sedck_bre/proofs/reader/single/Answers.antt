@@ -1,5 +1,5 @@
 use Rattle.std.proofs.Common.{refl, get_or, take, drop, Some, ◌-◌, ◌≡◌, ◌<◌, length, sym, ap, ◌∙◌, subst, arith}
-use Rattle.sedck_bre.specs.Gives.{place_of, level_of}
+use Rattle.sedck_bre.specs.Private.Gives.{place_of, level_of}
 use Rattle.sedck_bre.specs.Faults.{StandsAt}
 use Rattle.sedck_bre.proofs.Loop.{any_read, no_group}
 use Rattle.sedck_bre.proofs.ViewLemmas.{tree-Any}

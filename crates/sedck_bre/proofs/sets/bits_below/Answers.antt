@@ -1,6 +1,6 @@
 use Rattle.std.proofs.Common.{◌*◌, ◌-◌, ◌<◌, sym, subst, arith}
 use Rattle.std.proofs.lemmas.Nat.{one_shl}
-use Rattle.sedck_bre.specs.Sets.{HasBitsBelow}
+use Rattle.sedck_bre.specs.Private.Sets.{HasBitsBelow}
 use Rattle.sedck_bre.proofs.SetLemmas.{all_bits, some_bits}
 use Rattle.sedck_bre.proofs.sets.bits_below.Goals as goal
 

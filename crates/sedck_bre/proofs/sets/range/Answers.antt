@@ -1,7 +1,7 @@
 use Rattle.std.proofs.Common.{◌+◌, subst}
 use Rattle.std.specs.Prelude.{nat_lt, not, ◌||◌}
 use Rattle.sedck_bre.specs.Brackets.{is_from}
-use Rattle.sedck_bre.specs.Sets.{HasJust}
+use Rattle.sedck_bre.specs.Private.Sets.{HasJust}
 use Rattle.sedck_bre.proofs.SetLemmas.{just_same, range_test}
 use Rattle.sedck_bre.proofs.sets.range.Goals as goal
 

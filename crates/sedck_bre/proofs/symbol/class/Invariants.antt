@@ -1,6 +1,6 @@
 use Rattle.std.proofs.Common.{◌≡◌, map, drop}
-use Rattle.sedck_bre.specs.BracketReading.{classes, class_from}
-use Rattle.sedck_bre.specs.BracketCode.{class_of}
+use Rattle.sedck_bre.specs.Private.BracketReading.{classes, class_from}
+use Rattle.sedck_bre.specs.Private.BracketCode.{class_of}
 use Rattle.sedck_bre.proofs.symbol.class.Given as goal
 
 abbrev pub invariant-classes : goal.invariant-classes

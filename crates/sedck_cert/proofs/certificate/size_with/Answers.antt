@@ -2,7 +2,7 @@ use Rattle.std.proofs.Common.{◌≡◌, ◌+◌, ◌∷◌, drop, arith, ap, sy
 use Rattle.std.proofs.lemmas.List.{drop_all}
 use Rattle.std.specs.Bool.{IsTrue}
 use Rattle.sedck_cert.specs.View.{names_of}
-use Rattle.sedck_cert.specs.Reading.{AreNext, one_before}
+use Rattle.sedck_cert.specs.Private.Reading.{AreNext, one_before}
 use Rattle.sedck_cert.proofs.NameLimits.{names_next, next_names, left_cons}
 use Rattle.sedck_cert.proofs.certificate.size_with.Goals as goal
 

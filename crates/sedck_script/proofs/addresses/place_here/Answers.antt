@@ -1,5 +1,5 @@
 use Rattle.std.proofs.Common.{◌∷◌, refl, ap, ◌∙◌, subst, inl, arith}
-use Rattle.sedck_script.specs.Reading.{EndsIn}
+use Rattle.sedck_script.specs.Private.Reading.{EndsIn}
 use Rattle.sedck_script.proofs.PlaceLemmas.{no_number_place, unread_address, part_placed}
 use Rattle.sedck_script.specs.Parts.{line}
 use Rattle.sedck_script.proofs.Outcomes.{if_ok_more, if_err_more, if_err_both}

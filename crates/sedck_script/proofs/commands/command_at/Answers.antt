@@ -1,8 +1,8 @@
 use Rattle.std.proofs.Common.{sym, ◌∙◌, arith}
 use Rattle.sedck_script.specs.Program.{address_patterns}
 use Rattle.sedck_script.specs.View.{address_of}
-use Rattle.sedck_script.specs.VerbReading.{written_verb}
-use Rattle.sedck_script.specs.Progress.{written_patterns}
+use Rattle.sedck_script.specs.Private.VerbReading.{written_verb}
+use Rattle.sedck_script.specs.Private.Progress.{written_patterns}
 use Rattle.sedck_script.proofs.Outcomes.{if_err_from}
 use Rattle.sedck_script.proofs.Tails.{tail_cut, tail_tail, tail_length}
 use Rattle.sedck_script.proofs.PlaceLemmas.{verb_due, empty_verb_place}

@@ -1,4 +1,4 @@
-use Rattle.sedck_script.specs.AddressReading.{is_mark}
+use Rattle.sedck_script.specs.Private.AddressReading.{is_mark}
 use Rattle.sedck_script.proofs.Cuts.{longest_parts}
 use Rattle.sedck_script.proofs.commands.split_marks.Goals as goal
 

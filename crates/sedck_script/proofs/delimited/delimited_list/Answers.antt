@@ -1,5 +1,5 @@
 use Rattle.std.proofs.Common.{◌≡◌, None, refl, ap, sym, subst}
-use Rattle.sedck_script.specs.PieceReading.{IsPiece, list_escape}
+use Rattle.sedck_script.specs.Private.PieceReading.{IsPiece, list_escape}
 use Rattle.sedck_script.proofs.Tails.{stands_at_tail}
 use Rattle.sedck_script.proofs.Outcomes.{if_err_each}
 use Rattle.sedck_script.proofs.WholeOne.{no_backslash}

@@ -3,9 +3,9 @@ use Rattle.std.proofs.lemmas.List.{map_push}
 use Rattle.std.proofs.lemmas.List.Elements.{All-push}
 use Rattle.sedck_script.specs.Items.{Written}
 use Rattle.sedck_script.specs.View.{address_of}
-use Rattle.sedck_script.specs.VerbReading.{written_verb, DefinesKnown}
-use Rattle.sedck_script.specs.ItemReading.{item_of, commands_among, IsItemAt}
-use Rattle.sedck_script.specs.Progress.{IsBeyond, NotesLabel, patterns_of, item_patterns}
+use Rattle.sedck_script.specs.Private.VerbReading.{written_verb, DefinesKnown}
+use Rattle.sedck_script.specs.Private.ItemReading.{item_of, commands_among, IsItemAt}
+use Rattle.sedck_script.specs.Private.Progress.{IsBeyond, NotesLabel, patterns_of, item_patterns}
 use Rattle.sedck_script.proofs.Outcomes.{if_err_from}
 use Rattle.sedck_script.proofs.Tails.{tail_length}
 use Rattle.sedck_script.proofs.ProgressLemmas.{front_refused, front_command, command_shorter, brace_stands}

@@ -4,8 +4,8 @@ use Rattle.std.proofs.lemmas.List.{map_push}
 use Rattle.std.proofs.lemmas.List.Elements.{All-push}
 use Rattle.sedck_script.specs.Faults.{StandsAt}
 use Rattle.sedck_script.specs.Cuts.{brace}
-use Rattle.sedck_script.specs.ItemReading.{item_of, IsItemAt}
-use Rattle.sedck_script.specs.Progress.{IsFront}
+use Rattle.sedck_script.specs.Private.ItemReading.{item_of, IsItemAt}
+use Rattle.sedck_script.specs.Private.Progress.{IsFront}
 use Rattle.sedck_script.proofs.Outcomes.{if_err_from}
 use Rattle.sedck_script.proofs.Tails.{tail_behind, stands_at_tail}
 use Rattle.sedck_script.proofs.ProgressLemmas.{front_unopened, front_unended, front_closing}

@@ -1,5 +1,5 @@
 use Rattle.std.proofs.Common.{length}
-use Rattle.sedck_script.specs.Progress.{IsProgress}
+use Rattle.sedck_script.specs.Private.Progress.{IsProgress}
 use Rattle.sedck_script.proofs.items.items.Given as goal
 
 abbrev pub invariant-loop-first : goal.invariant-loop-first

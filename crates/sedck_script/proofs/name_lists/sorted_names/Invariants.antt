@@ -1,7 +1,7 @@
 use Rattle.std.proofs.Common.{◌≡◌, ◌≤◌, map, length, drop}
 use Rattle.sedck_script.specs.View.{command_of}
 use Rattle.sedck_script.specs.Names.{sorted_names}
-use Rattle.sedck_script.specs.NameReading.{all_accessed}
+use Rattle.sedck_script.specs.Private.NameReading.{all_accessed}
 use Rattle.sedck_script.proofs.name_lists.sorted_names.Given as goal
 
 abbrev pub invariant-loop-place : goal.invariant-loop-place

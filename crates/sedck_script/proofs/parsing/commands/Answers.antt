@@ -1,14 +1,14 @@
 use Rattle.std.proofs.Common.{refl, inl, inr, ◌≡◌, ◌∙◌, ℕ, List, Option, Some, None, true, map, sym, subst, ap, arith}
 use Rattle.std.proofs.lemmas.Bool.{both_ways}
 use Rattle.sedck_script.specs.Faults.{IsPlaced}
-use Rattle.sedck_script.specs.ItemReading.{item_of}
+use Rattle.sedck_script.specs.Private.ItemReading.{item_of}
 use Rattle.sedck_script.proofs.Outcomes.{if_err_from}
 use Rattle.sedck_script.proofs.ProgramLemmas.{no_program, undefined_label, no_target, no_expression, are_commands}
 use Rattle.sedck_script.specs.Program.{Pattern, expressions}
 use Rattle.sedck_script.specs.View.{command_of}
-use Rattle.sedck_script.specs.AddressReading.{has_previous, IsEmptyAt}
-use Rattle.sedck_script.specs.Progress.{item_patterns}
-use Rattle.sedck_script.specs.ExpressionReading.{has_some}
+use Rattle.sedck_script.specs.Private.AddressReading.{has_previous, IsEmptyAt}
+use Rattle.sedck_script.specs.Private.Progress.{item_patterns}
+use Rattle.sedck_script.specs.Private.ExpressionReading.{has_some}
 use Rattle.sedck_script.proofs.parsing.commands.Goals as goal
 
 pub returns-in_err-items-clause-refused : goal.returns-in_err-items-clause-refused

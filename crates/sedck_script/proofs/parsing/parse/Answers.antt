@@ -1,7 +1,8 @@
 use Rattle.std.proofs.Common.{◌∙◌, map, sym, subst, ap}
 use Rattle.sedck_script.specs.Names.{sorted_names}
-use Rattle.sedck_script.specs.NameReading.{all_accessed}
-use Rattle.sedck_script.specs.View.{program_from, command_of}
+use Rattle.sedck_script.specs.Private.NameReading.{all_accessed}
+use Rattle.sedck_script.specs.View.{command_of}
+use Rattle.sedck_script.specs.Private.Fields.{program_from}
 use Rattle.sedck_script.specs.Spelling.{Spells}
 use Rattle.sedck_script.specs.declared.name_lists.Access.TheVariants.{Read, Write}
 use Rattle.sedck_script.proofs.ItemsOne.{whole_one}

@@ -1,5 +1,5 @@
 use Rattle.std.proofs.Common.{◌≡◌, map, drop, Some}
-use Rattle.sedck_script.specs.Keeping.{kept_from}
+use Rattle.sedck_script.specs.Private.Keeping.{kept_from}
 use Rattle.sedck_script.specs.View.{pattern_of, part_of}
 use Rattle.sedck_script.proofs.references.kept_groups.Given as goal
 

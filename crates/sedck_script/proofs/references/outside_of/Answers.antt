@@ -4,7 +4,7 @@ use Rattle.std.specs.List.{All}
 use Rattle.sedck_bre.specs.Tree.{Tree}
 use Rattle.sedck_script.specs.Program.{Pattern, Expression, Part}
 use Rattle.sedck_script.specs.Invariant.{IsPart}
-use Rattle.sedck_script.specs.Keeping.{kept_from}
+use Rattle.sedck_script.specs.Private.Keeping.{kept_from}
 use Rattle.sedck_script.specs.References.{KeepsGroups, IsOutside, IsLeastOutside, named_groups}
 use Rattle.sedck_script.specs.View.{pattern_of, part_of}
 use Rattle.sedck_script.proofs.ReferenceLemmas.{Keeps, kept_keeps, none_kept, keeps_groups, names_top, outside_named}

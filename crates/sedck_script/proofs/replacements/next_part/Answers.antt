@@ -1,6 +1,6 @@
 use Rattle.std.proofs.Common.{subst}
 use Rattle.sedck_script.specs.View.{part_of}
-use Rattle.sedck_script.specs.PieceReading.{IsPiece}
+use Rattle.sedck_script.specs.Private.PieceReading.{IsPiece}
 use Rattle.sedck_script.proofs.Outcomes.{if_err_always}
 use Rattle.sedck_script.proofs.Tails.{stands_at_tail}
 use Rattle.sedck_script.proofs.WholeOne.{no_backslash}

@@ -1,5 +1,5 @@
 use Rattle.std.proofs.Common.{sym, subst}
-use Rattle.sedck_script.specs.ItemReading.{IsItemAt}
+use Rattle.sedck_script.specs.Private.ItemReading.{IsItemAt}
 use Rattle.sedck_script.proofs.Outcomes.{if_err_from}
 use Rattle.sedck_script.proofs.resolving.check_targets.Goals as goal
 

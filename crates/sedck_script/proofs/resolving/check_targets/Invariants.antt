@@ -1,6 +1,6 @@
 use Rattle.std.proofs.Common.{◌<◌, ℕ, get_or}
 use Rattle.sedck_script.specs.declared.written.WrittenItem.{WrittenItem}
-use Rattle.sedck_script.specs.ItemReading.{IsKnownLabel, item_label, item_of}
+use Rattle.sedck_script.specs.Private.ItemReading.{IsKnownLabel, item_label, item_of}
 use Rattle.sedck_script.proofs.resolving.check_targets.Given as goal
 
 abbrev pub invariant-loop-item : goal.invariant-loop-item

@@ -2,7 +2,7 @@ use Rattle.std.proofs.Common.{◌<◌, ◌≤◌, ◌^◌, [], map, refl, sym, s
 use Rattle.sedck_script.specs.Program.{literal_length}
 use Rattle.std.specs.List.{All}
 use Rattle.std.proofs.lemmas.List.Elements.{All-from_recursion}
-use Rattle.sedck_script.specs.Reading.{EndsIn}
+use Rattle.sedck_script.specs.Private.Reading.{EndsIn}
 use Rattle.sedck_script.specs.View.{pattern_of, part_of}
 use Rattle.sedck_script.specs.Invariant.{IsPart}
 use Rattle.sedck_script.proofs.Tails.{tail_length, tail_tail, tail_behind, expression_tail, replacement_tail}

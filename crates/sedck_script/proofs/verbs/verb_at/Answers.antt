@@ -1,5 +1,5 @@
 use Rattle.std.proofs.Common.{◌∷◌, refl, ap, ◌∙◌, subst}
-use Rattle.sedck_script.specs.Reading.{EndsIn}
+use Rattle.sedck_script.specs.Private.Reading.{EndsIn}
 use Rattle.sedck_script.specs.Items.{opening}
 use Rattle.sedck_script.proofs.Tails.{tail_behind, stands_at_tail}
 use Rattle.sedck_script.proofs.PlaceLemmas.{cut_at}

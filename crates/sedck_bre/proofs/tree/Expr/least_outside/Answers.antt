@@ -4,7 +4,7 @@ use Rattle.sedck_bre.specs.Tree.{trees}
 use Rattle.sedck_bre.specs.View.{tree}
 use Rattle.sedck_bre.specs.WellFormed.{IsWellFormed}
 use Rattle.sedck_bre.specs.Lengths.{cap, IsLeastSize, HasLength}
-use Rattle.sedck_bre.specs.Bounds.{no_bounds, outside}
+use Rattle.sedck_bre.specs.Private.Bounds.{no_bounds, outside}
 use Rattle.sedck_bre.specs.Rests.{names, is_top_group}
 use Rattle.sedck_bre.proofs.ViewLemmas.{tree-Seq}
 use Rattle.sedck_bre.proofs.TopGroup.{no_list}

@@ -2,7 +2,7 @@ use Rattle.std.proofs.Common.{◌≡◌, ℕ, ◌≤◌, min, length, arith, sub
 use Rattle.std.proofs.lemmas.List.{get_or-replicate}
 use Rattle.sedck_bre.specs.Lengths.{cap, IsLeastSize, HasLength}
 use Rattle.sedck_bre.specs.View.{tree}
-use Rattle.sedck_bre.specs.Bounds.{no_bounds, least}
+use Rattle.sedck_bre.specs.Private.Bounds.{no_bounds, least}
 use Rattle.sedck_bre.specs.WellFormed.{IsWellFormed}
 use Rattle.sedck_bre.specs.Tree.{Tree}
 use Rattle.sedck_bre.proofs.Floor.{least-floor}

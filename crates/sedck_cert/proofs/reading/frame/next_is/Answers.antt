@@ -1,7 +1,7 @@
 use Rattle.std.proofs.Common.{ℕ, List, Bool, true, false, ◌≡◌, ◌≢◌}
 use Rattle.std.specs.Bool.{OnFalse, MatchBool}
 use Rattle.std.specs.Cmp.Lexicographic.{told_text}
-use Rattle.sedck_cert.specs.Cuts.{IsCut}
+use Rattle.sedck_cert.specs.Private.Cuts.{IsCut}
 use Rattle.sedck_cert.proofs.Cuts.{cut_one}
 use Rattle.sedck_cert.proofs.Leads.{no_cut}
 use Rattle.sedck_cert.proofs.reading.frame.next_is.Goals as goal

@@ -2,7 +2,7 @@ use Rattle.std.proofs.Common.{◌≡◌, ◌⊎◌, inr, ◌+◌, ◌-◌, ◌<�
 use Rattle.std.proofs.lemmas.Grind.{common_steps}
 use Rattle.sedck_cert.specs.Faults.{Names}
 use Rattle.sedck_cert.specs.declared.versions.Version.{Version}
-use Rattle.sedck_cert.specs.Reading.{Stops, one_before}
+use Rattle.sedck_cert.specs.Private.Reading.{Stops, one_before}
 use Rattle.sedck_cert.specs.declared.reading.CertFault.TheVariants.{OutOfMemory}
 use Rattle.sedck_script.proofs.Outcomes.{if_err_from}
 use Rattle.sedck_cert.proofs.Leads.{leads_stops}

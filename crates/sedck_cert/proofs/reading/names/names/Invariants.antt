@@ -2,7 +2,7 @@ use Rattle.std.proofs.Common.{◌-◌, ◌≤◌, ◌++◌, ◌∷◌, length, d
 use Rattle.sedck_cert.specs.View.{names_of}
 use Rattle.sedck_cert.specs.Faults.{Names, list_word}
 use Rattle.sedck_cert.specs.declared.versions.Version.{Version}
-use Rattle.sedck_cert.specs.Reading.{Leads, names_due, one_before}
+use Rattle.sedck_cert.specs.Private.Reading.{Leads, names_due, one_before}
 use Rattle.sedck_cert.proofs.reading.names.names.Given as goal
 
 -- the names so far

@@ -3,7 +3,7 @@ use Rattle.std.proofs.lemmas.Grind.{common_steps}
 use Rattle.std.proofs.lemmas.List.Elements.{All-push}
 use Rattle.sedck_cert.specs.Certificate.{AreWithin, nodes_in}
 use Rattle.sedck_cert.specs.Faults.{Node}
-use Rattle.sedck_cert.specs.Reading.{Stops, node_texts}
+use Rattle.sedck_cert.specs.Private.Reading.{Stops, node_texts}
 use Rattle.sedck_cert.specs.declared.reading.CertFault.TheVariants.{OutOfMemory}
 use Rattle.sedck_script.proofs.Outcomes.{if_err_from}
 use Rattle.sedck_cert.proofs.Leads.{leads_stops}

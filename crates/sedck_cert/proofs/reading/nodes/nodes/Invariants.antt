@@ -1,7 +1,7 @@
 use Rattle.std.proofs.Common.{◌≡◌, ◌-◌, length, All}
 use Rattle.sedck_cert.specs.Certificate.{AreWithin, nodes_in}
 use Rattle.sedck_cert.specs.Faults.{Node}
-use Rattle.sedck_cert.specs.Reading.{Leads, node_texts, nodes_due}
+use Rattle.sedck_cert.specs.Private.Reading.{Leads, node_texts, nodes_due}
 use Rattle.sedck_cert.proofs.reading.nodes.nodes.Given as goal
 
 -- the nodes so far

@@ -1,6 +1,6 @@
 use Rattle.std.proofs.Common.{◌≡◌, ◌≢◌, ◌<◌, length, get_or, length-take, length-set, take, add-one, refl, sym, ap, ◌∙◌, subst, arith}
 use Rattle.std.proofs.lemmas.List.Elements.{All-get_or, All-set}
-use Rattle.sedck_flow.specs.EdgeList.{edge_number, AddsNumber}
+use Rattle.sedck_flow.specs.Private.EdgeList.{edge_number, AddsNumber}
 use Rattle.sedck_flow.proofs.EdgeListLemmas.{with_number, place_less, place_more, place_same, place_last, adds_number}
 use Rattle.sedck_flow.proofs.edge_list.EdgeList.with.Goals as goal
 use Rattle.sedck_flow.proofs.edge_list.EdgeList.with.Goals.{then-carried-present-2, else-carried-present-2}

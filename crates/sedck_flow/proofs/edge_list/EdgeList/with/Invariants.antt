@@ -1,6 +1,6 @@
 use Rattle.std.proofs.Common.{◌≡◌, ◌<◌, ◌++◌, length, take, drop}
 use Rattle.std.specs.Prelude.{All}
-use Rattle.sedck_flow.specs.EdgeList.{edge_number}
+use Rattle.sedck_flow.specs.Private.EdgeList.{edge_number}
 use Rattle.sedck_flow.proofs.EdgeListLemmas.{with_number}
 use Rattle.sedck_flow.proofs.edge_list.EdgeList.with.Given as goal
 

@@ -1,5 +1,5 @@
 use Rattle.std.proofs.Common.{map, add-one, sym, ap, ◌∙◌}
-use Rattle.sedck_flow.specs.EdgeList.{edge_at}
+use Rattle.sedck_flow.specs.Private.EdgeList.{edge_at}
 use Rattle.sedck_flow.proofs.EdgesLemmas.{drop_next}
 use Rattle.sedck_flow.proofs.edges.EdgesIterator.next.Goals as goal
 

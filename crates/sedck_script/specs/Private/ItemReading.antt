@@ -5,8 +5,8 @@ use Rattle.std.specs.HashMap.{HashMap}
 use Rattle.sedck_script.specs.Program.{Verb, Branch, Test, Block, Command}
 use Rattle.sedck_script.specs.Items.{WrittenVerb, Known, BranchTo, TestTo, Opening, Item, Written, Closing}
 use Rattle.sedck_script.specs.View.{address_of}
-use Rattle.sedck_script.specs.Reading.{label_place}
-use Rattle.sedck_script.specs.VerbReading.{written_verb, IsWrittenAt}
+use Rattle.sedck_script.specs.Private.Reading.{label_place}
+use Rattle.sedck_script.specs.Private.VerbReading.{written_verb, IsWrittenAt}
 use Rattle.sedck_script.specs.declared.written.WrittenCommand.{WrittenCommand}
 use Rattle.sedck_script.specs.declared.written.WrittenItem.{WrittenItem}
 use Rattle.sedck_script.specs.declared.written.WrittenItem.TheVariants as code

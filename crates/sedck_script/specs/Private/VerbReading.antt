@@ -6,7 +6,7 @@ use Rattle.sedck_script.specs.Program.{Label}
 use Rattle.sedck_script.specs.Parts.{DelimitedList}
 use Rattle.sedck_script.specs.Items.{WrittenVerb, Known, BranchTo, TestTo, Opening}
 use Rattle.sedck_script.specs.View.{verb_of}
-use Rattle.sedck_script.specs.Reading.{label_place, IsLabelPlace}
+use Rattle.sedck_script.specs.Private.Reading.{label_place, IsLabelPlace}
 use Rattle.sedck_script.specs.declared.verbs.Written.{Written}
 use Rattle.sedck_script.specs.declared.verbs.Written.TheVariants as code
 

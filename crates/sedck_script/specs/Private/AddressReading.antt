@@ -6,7 +6,7 @@ use Rattle.sedck_script.specs.Faults.{IsEmptyExpression}
 use Rattle.sedck_script.specs.Program.{Pattern, Previous, Expression, Place, Context, Address}
 use Rattle.sedck_script.specs.Parts.{PlaceText, AddressText}
 use Rattle.sedck_script.specs.Items.{WrittenVerb, VerbText, CommandText}
-use Rattle.sedck_script.specs.PieceReading.{PatternText}
+use Rattle.sedck_script.specs.Private.PieceReading.{PatternText}
 
 -- what may stand between the addresses and the verb
 abbrev pub is_mark : ℕ → Bool

@@ -3,9 +3,9 @@ use Rattle.std.specs.Prelude.{◌≡◌, ℕ, ◌+◌, not, Bool, true, List, �
 use Rattle.std.specs.List.{list_any, starts_with}
 use Rattle.sedck_bre.specs.Brackets as brackets
 use Rattle.sedck_bre.specs.Brackets.{class_name, in_element}
-use Rattle.sedck_bre.specs.Reading.{◌>>=◌}
-use Rattle.sedck_bre.specs.BracketReading.{elements_at, set_of}
-use Rattle.sedck_bre.specs.Sets.{HasJust}
+use Rattle.sedck_bre.specs.Private.Reading.{◌>>=◌}
+use Rattle.sedck_bre.specs.Private.BracketReading.{elements_at, set_of}
+use Rattle.sedck_bre.specs.Private.Sets.{HasJust}
 use Rattle.sedck_bre.specs.declared.element.Class.{Class}
 use Rattle.sedck_bre.specs.declared.element.Class.TheVariants.{Upper, Lower, Alpha, Digit, Alnum, Xdigit, Space, Blank, Punct, Graph, Print, Cntrl}
 use Rattle.sedck_bre.specs.declared.element.Element.{Element}

@@ -2,7 +2,7 @@
 use Rattle.std.specs.Prelude.{◌≡◌, ℕ, ◌<◌, ◌≤◌, List, ◌∷◌, length, Option, Some, None, Contains}
 use Rattle.sedck_script.specs.Program.{Part, Text, Newline, Tab, Whole, Group}
 use Rattle.sedck_script.specs.Parts.{Replacement}
-use Rattle.sedck_script.specs.Reading.{EndsIn}
+use Rattle.sedck_script.specs.Private.Reading.{EndsIn}
 
 -- a group has at most this number
 abbrev pub IsGroupWithin : ℕ → Part → Type 0

@@ -3,7 +3,7 @@ use Rattle.std.specs.Prelude.{ℕ, zero, suc, ◌+◌, ◌^◌, ◌==◌, nat_eq
 use Rattle.std.specs.List.{list_any, starts_with}
 use Rattle.sedck_bre.specs.Text.{begins}
 use Rattle.sedck_bre.specs.Brackets.{Class, upper, lower, alpha, digit, alnum, xdigit, space, blank, punct, graph, print, cntrl, class_name, Element, One, Range, Members, is_listed}
-use Rattle.sedck_bre.specs.Reading.{◌>>=◌}
+use Rattle.sedck_bre.specs.Private.Reading.{◌>>=◌}
 
 -- one byte, a mark and a `]`
 abbrev pub symbol_at : ℕ → List ℕ → Option (ℕ × List ℕ)

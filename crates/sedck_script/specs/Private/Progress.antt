@@ -9,9 +9,9 @@ use Rattle.sedck_script.specs.Program.{Pattern, Address, NoAddress, One, Two, ad
 use Rattle.sedck_script.specs.Items.{WrittenVerb, Known, BranchTo, TestTo, Opening, VerbText, Takes, Item, Written, Closing, Items}
 use Rattle.sedck_script.specs.Faults.{StandsAt}
 pub use Rattle.sedck_script.specs.Faults.{BeginsCommand}
-use Rattle.sedck_script.specs.Reading.{EndsIn, HasLabels, AreLabelsOnce, label_place}
-use Rattle.sedck_script.specs.ItemReading.{Turn, Opens, Closes, Stays, item_of, commands_among, Nests, IsItemAt}
-use Rattle.sedck_script.specs.AddressReading.{IsEmptyAt}
+use Rattle.sedck_script.specs.Private.Reading.{EndsIn, HasLabels, AreLabelsOnce, label_place}
+use Rattle.sedck_script.specs.Private.ItemReading.{Turn, Opens, Closes, Stays, item_of, commands_among, Nests, IsItemAt}
+use Rattle.sedck_script.specs.Private.AddressReading.{IsEmptyAt}
 use Rattle.sedck_script.specs.declared.items.Progress.{Progress}
 use Rattle.sedck_script.specs.declared.verbs.Written.{Written as WrittenCode}
 use Rattle.sedck_script.specs.declared.verbs.Written.TheVariants as code

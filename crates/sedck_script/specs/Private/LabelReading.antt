@@ -4,7 +4,7 @@ use Rattle.sedck_script.specs.Cuts.{is_label_byte, IsEmptyOr}
 use Rattle.sedck_script.specs.Parts.{Ends, LabelText}
 use Rattle.sedck_script.specs.Items.{IsNoComment}
 use Rattle.sedck_script.specs.Faults.{FollowsLabel}
-use Rattle.sedck_script.specs.Reading.{EndsIn}
+use Rattle.sedck_script.specs.Private.Reading.{EndsIn}
 
 -- a label or none behind a branch or a test, and its end
 abbrev pub BranchText : List ℕ → Option (List ℕ) → List ℕ → Type 0

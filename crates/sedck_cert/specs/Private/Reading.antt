@@ -3,7 +3,7 @@ use Rattle.std.specs.Prelude.{◌≡◌, ℕ, zero, suc, ◌+◌, ◌≤◌, Lis
 use Rattle.std.specs.Borrow.{Bor}
 use Rattle.sedck_bre.specs.Bytes.{newline}
 use Rattle.sedck_script.specs.Names.{IsName}
-use Rattle.sedck_cert.specs.Cuts.{IsCut}
+use Rattle.sedck_cert.specs.Private.Cuts.{IsCut}
 use Rattle.sedck_cert.specs.Certificate.{Certificate}
 use Rattle.sedck_cert.specs.Text.{header, node_text}
 use Rattle.sedck_cert.specs.declared.versions.Version.{Version}

@@ -1,9 +1,9 @@
 -- How a whole expression is read, and where a part of its text lies. Only private contracts and proofs cite it.
 use Rattle.std.specs.Prelude.{◌≡◌, ℕ, ◌++◌, List, Option}
 use Rattle.sedck_bre.specs.Tree.{Tree}
-use Rattle.sedck_bre.specs.Reading.{◌>>=◌, Readers, set_before}
-use Rattle.sedck_bre.specs.BracketReading.{bracket_at}
-use Rattle.sedck_bre.specs.IntervalReading.{interval_at}
+use Rattle.sedck_bre.specs.Private.Reading.{◌>>=◌, Readers, set_before}
+use Rattle.sedck_bre.specs.Private.BracketReading.{bracket_at}
+use Rattle.sedck_bre.specs.Private.IntervalReading.{interval_at}
 
 -- the readers of bracket lists and of intervals
 abbrev pub full : Readers

@@ -4,7 +4,7 @@ use Rattle.std.specs.Str.Parse.{digits_value}
 use Rattle.sedck_bre.specs.Text.{begins}
 use Rattle.sedck_bre.specs.Brackets.{is_from}
 use Rattle.sedck_bre.specs.Shape.{is_empty}
-use Rattle.sedck_bre.specs.Reading.{◌>>=◌, begins_pair}
+use Rattle.sedck_bre.specs.Private.Reading.{◌>>=◌, begins_pair}
 
 abbrev pub digit_before : ℕ → List ℕ × List ℕ → List ℕ × List ℕ
 digit_before c (digits, rest) = (c ∷ digits, rest)
