@@ -208,7 +208,7 @@ def contracts(crate):
 
 class Book:
     def __init__(self):
-        self.blocks, self.heads, self.paths = {}, {}, {}
+        self.blocks, self.heads, self.paths, self.exports = {}, {}, {}, {}
         self.all_blocks = {}
         for crate in CRATES:
             specs = TOP / "crates" / crate / "specs"
@@ -220,6 +220,7 @@ class Book:
                 blocks, scope, head = definitions(path, module)
                 self.heads[module], self.paths[module] = head, path
                 self.all_blocks[module] = blocks
+                self.exports[module] = scope["words"]
                 own = {}
                 for block in blocks:
                     for name in block.names:
@@ -239,6 +240,9 @@ class Book:
         while todo:
             module, name = todo.pop()
             block = self.blocks.get((module, name))
+            if block is None and name in self.exports.get(module, {}):
+                todo.append(self.exports[module][name])
+                continue
             if block is not None:
                 if block not in seen:
                     seen.add(block)
@@ -256,10 +260,129 @@ class Book:
         return seen, types
 
 
+# In which order an expert of sed reads the files.
+ORDER = """
+cert.Headline
+flow.Run flow.Substitutes flow.Patterns
+bre.Match bre.Tree
+script.Program script.Names
+script.Spelling script.Items script.Resolution script.Parts script.Cuts
+bre.Shape bre.Brackets bre.WellFormed bre.Text bre.Bytes
+cert.Ranked flow.Flow flow.Nodes script.References bre.Rests
+cert.Certificate cert.Text cert.Versions cert.VersionOne flow.Words flow.VersionOne flow.LiteralKinds
+cert.Rejections
+cert.Bounds cert.StepLimit flow.Spaces
+search.Found search.Obstacle search.Rows search.NodeSet search.VersionOne
+script.Faults bre.Faults cert.Faults
+script.FaultWords bre.FaultWords cert.FaultText cli.Lines
+cli.Reports cli.Engines cli.Statuses cli.Faults cert.Streams
+bre.Lengths script.Shortest script.Invariant
+bre.View script.View script.ReplacementView cert.View
+bre.Laws script.Laws script.First flow.Laws flow.Examples cert.Laws search.Laws
+""".split()
+
+# What is promised, one group after another: a title, a sentence, and the contracts that it rests on.
+GROUPS = [
+    ("The headline", "`verify` and `judge` answer `Accepted` only for a script whose runs end and whose files are listed, and exactly for a "
+     "certificate that meets the definition.", [("sedck_cert", "verify", ("promise", "answer")), ("sedck_cert", "judge", ("promise", "answer"))]),
+    ("Why a certificate is rejected", "A rejection names the first reason that holds.", [("sedck_cert", "verify", ("why",)), ("sedck_cert", "check", None)]),
+    ("The bound", "The limit on the steps of a run.", [("sedck_cert", "judge", ("judged",)), ("sedck_cert", "bound", None), ("sedck_cert", "steady_runs_are_counted", None)]),
+    ("The search", "`search` finds a certificate, or a loop that rules out every certificate.", [("sedck_search", "search", None), ("sedck_search", "count_bits", None)]),
+    ("Refusals", "Which fault is reported of a text that is refused, and where.", [("sedck_cert", "judge", ("reported",)), ("sedck_bre", "parse", None), ("sedck_script", "parse", None),
+     ("sedck_cert", "read_cert", None), ("sedck_cert", "read_any", None), ("sedck_bre", "ReFault*", None), ("sedck_script", "ScriptFault*", None), ("sedck_cert", "CertFault*", None)]),
+    ("Reports and statuses", "What the program prints, and its status.", [("sedck_cli", "*", None), ("sedck_cert", "write_cert", None)]),
+    ("Certificates of version 1", "They are read, accepted where they were, and upgraded.", [("sedck_cert", "read_cert_one", None), ("sedck_cert", "upgrade*", None), ("sedck_cert", "CertOne*", None),
+     ("sedck_flow", "edges_were_there", None), ("sedck_flow", "kinds_agree", None), ("sedck_flow", "literal_kinds_stay", None), ("sedck_search", "obstacles_were_there", None)]),
+    ("The parts, and laws", "What the functions below promise those that call them, and what is proved of the definitions themselves.", [(crate, "*", None) for crate in CRATES]),
+]
+
+
+def short(module):
+    _, crate, _, *rest = module.split(".")
+    return crate[6:] + "." + ".".join(rest)
+
+
+def size(blocks):
+    return sum(sum(1 for line in block.lines if line.strip()) for block in blocks)
+
+
+def roots(book, crate, name, labels):
+    prefix = name.rstrip("*")
+    for contract in book.contracts:
+        if contract.crate == crate and (contract.name == name or name.endswith("*") and contract.name.startswith(prefix)):
+            for label, refs in contract.clauses.items():
+                if labels is None or label in labels:
+                    yield from refs
+
+
+def sentence(head):
+    text = " ".join(head)
+    end = re.search(r"\.(?= [A-Z(`]|$)", text)
+    return text[:end.start() + 1] if end else text
+
+
+def is_private(module):
+    return ".specs.Private" in module
+
+
+def page(book):
+    """The text of docs/BELIEVED.md."""
+    seen, seen_types, parts, totals = set(), set(), [], []
+    for title, what, contracts_of in GROUPS:
+        words = {r for root in contracts_of for r in roots(book, *root)}
+        reached, types = book.reach(words)
+        new = reached - seen
+        seen |= reached
+        rows = []
+        for module in sorted({b.module for b in new}, key=lambda m: ORDER.index(short(m))):
+            here = [b for b in new if b.module == module]
+            path = book.paths[module].relative_to(TOP)
+            rows.append(f"| [`{path.relative_to('crates')}`](../{path}) | {size(here)} | {sentence(book.heads[module])} |")
+        totals.append((title, size(new)))
+        parts.append(f"## {title}: {size(new)} lines\n\n{what}\n\n| file | lines | what it says |\n|---|---|---|\n" + "\n".join(rows))
+        new_types = sorted(((module, name) for module, name in types - seen_types if (module, name) in book.types), key=lambda t: CRATES.index(t[0].split(".")[1]))
+        seen_types |= types
+        if new_types:
+            names = ", ".join(f"`{module.split('.')[1]}::{name}` ({len(book.types[(module, name)][1].splitlines())})" for module, name in new_types)
+            parts[-1] += f"\n\nTypes of the code that these take, with their lines: {names}."
+    everything = sum(n for _, n in totals)
+    return f"""# What must be believed
+
+What the contracts say is proved; what their words mean is for a reader to judge. This page lists the definitions that the contracts of exported functions reach, in the order in which an expert of sed may read them: the headline first, and then, for each further promise, what it adds. Lines are those of the definitions with their comments, blank lines and imports left out: {totals[0][1]:,} for the headline, {everything:,} in all. In a file that serves several promises the lines are those that the promise adds.
+
+`python3 docs/believed.py` writes this page from the contracts and definitions, and `make examples` compares it. It also checks that no contract of an exported function reaches a definition in a folder `specs/Private`, and that each definition outside of these folders is reached: what stands in `specs/Private` is what functions inside a crate promise each other and what proofs use, and needn't be believed. How a value of a type with private fields represents its value (its `view` and `invariant`) is checked in the same way, and isn't listed. `docs/DEFINITIONS.md` explains the definitions.
+
+""" + "\n\n".join(parts) + "\n"
+
+
+def faults(book):
+    """What stands on the wrong shelf."""
+    wrong = []
+    reached, types = book.reach({r for c in book.contracts for refs in c.clauses.values() for r in refs})
+    for contract in book.contracts:
+        for label, refs in contract.clauses.items():
+            for block in book.reach(refs)[0]:
+                if is_private(block.module):
+                    wrong.append(f"{contract.crate}::{contract.name}, {label}: reaches {block.names[0]} of {short(block.module)}")
+    for module, blocks in book.all_blocks.items():
+        for block in blocks:
+            if not is_private(module) and block not in reached:
+                wrong.append(f"{short(module)}: no exported contract reaches {block.names[0] if block.names else block.rest[0]}")
+        if not is_private(module) and short(module) not in ORDER:
+            wrong.append(f"{short(module)}: not in the reading order of docs/believed.py")
+        if not is_private(module) and not book.heads[module]:
+            wrong.append(f"{short(module)}: has no head")
+    return wrong
+
+
 if __name__ == "__main__":
     book = Book()
-    reached, types = book.reach({r for c in book.contracts for refs in c.clauses.values() for r in refs})
-    for module, blocks in book.all_blocks.items():
-        hit = [b for b in blocks if b in reached]
-        size = lambda bs: sum(len([l for l in b.lines if l.strip()]) for b in bs)
-        print(f"{size(hit):5} of {size(blocks):5} {module[7:]:50}", "" if len(hit) == len(blocks) else "NOT: " + " ".join(b.names[0] if b.names else "?" for b in blocks if b not in reached))
+    if "--check" in sys.argv[1:]:
+        wrong = faults(book)
+        kept = TOP / "docs" / "BELIEVED.md"
+        if not kept.exists() or kept.read_text() != page(book):
+            wrong.append("docs/BELIEVED.md isn't what `python3 docs/believed.py` prints")
+        for line in wrong:
+            print(line)
+        sys.exit(1 if wrong else 0)
+    sys.stdout.write(page(book))

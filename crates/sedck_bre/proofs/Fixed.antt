@@ -3,7 +3,7 @@ use Rattle.std.proofs.Common.{◌≡◌, ℕ, zero, suc, ◌+◌, ◌-◌, ◌<�
 use Rattle.std.specs.Prelude.{◌==◌, nat_lt, nat_le, ◌&&◌}
 use Rattle.sedck_bre.specs.Text.{one_of}
 use Rattle.sedck_bre.specs.Tree.{Trees, Byte, Any, Ref, Nil, groups_in, is_in}
-use Rattle.sedck_bre.specs.Shape.{Level, Inside, Place, First, behind}
+use Rattle.sedck_bre.specs.Shape.{Level, Inside, Position, First, behind}
 use Rattle.sedck_bre.specs.Private.Reading.{◌>>=◌, Readers, at_end, plain, closed_by, escaped, backslash, set_before, tree_before, atom, with_sign, before_all, Lister, more, some_items, items, items_of}
 use Rattle.sedck_bre.proofs.ReadLemmas.{bind_holds, and_left, Takes, nat_lt_of, length_some}
 use Rattle.sedck_bre.proofs.Sound.{ItemRead, atom_sound, sign_sound, items_sound}
@@ -35,7 +35,7 @@ backslash_alike : (f g : List ℕ → Option (Trees × List ℕ)) (deep opened :
 backslash_alike f g deep opened closed [] e = refl
 backslash_alike f g deep opened closed (b ∷ text) e = escaped_alike f g deep opened closed b text e
 
-atom_alike : (readers : Readers) (f g : List ℕ → Option (Trees × List ℕ)) (level : Level) (place : Place) (deep opened : ℕ) (closed text : List ℕ)
+atom_alike : (readers : Readers) (f g : List ℕ → Option (Trees × List ℕ)) (level : Level) (place : Position) (deep opened : ℕ) (closed text : List ℕ)
     → Agree f g deep opened (length text)
     → atom readers f level place deep opened closed text ≡ atom readers g level place deep opened closed text
 atom_alike readers f g level place deep opened closed [] e = refl
@@ -46,11 +46,11 @@ atom_alike readers f g level place deep opened closed (b ∷ text) e =
 
 module _ (readers : Readers) (takes : Takes readers) where
   abbrev Alike : ℕ → ℕ → Type 0
-  Alike n m = (level : Level) (place : Place) (deep opened : ℕ) (closed text : List ℕ) → opened ≤ 99 → deep ≤ 32 → length text < n → length text < m
+  Alike n m = (level : Level) (place : Position) (deep opened : ℕ) (closed text : List ℕ) → opened ≤ 99 → deep ≤ 32 → length text < n → length text < m
       → items readers n level place deep opened closed text ≡ items readers m level place deep opened closed text
 
   -- what has been read takes a byte at least
-  item_held : (n : ℕ) (level : Level) (place : Place) (deep opened : ℕ) (closed text : List ℕ) → opened ≤ 99 → deep ≤ 32
+  item_held : (n : ℕ) (level : Level) (place : Position) (deep opened : ℕ) (closed text : List ℕ) → opened ≤ 99 → deep ≤ 32
       → IfSome (atom readers (items readers n Inside First (deep + 1) (opened + 1) closed) level place deep opened closed text >>= with_sign readers)
       (λ x. ItemRead level place deep opened closed text x.0 x.1)
   item_held n level place deep opened closed text few shallow =
@@ -62,10 +62,10 @@ module _ (readers : Readers) (takes : Takes readers) where
 
   -- two listers give the same on shorter texts
   abbrev SameBelow : Lister → Lister → ℕ → Type 0
-  SameBelow f g size = (level : Level) (place : Place) (deep opened : ℕ) (closed x : List ℕ) → opened ≤ 99 → deep ≤ 32 → length x < size
+  SameBelow f g size = (level : Level) (place : Position) (deep opened : ℕ) (closed x : List ℕ) → opened ≤ 99 → deep ≤ 32 → length x < size
       → f level place deep opened closed x ≡ g level place deep opened closed x
 
-  same_below : (n : ℕ) (g : Lister) (level : Level) (place : Place) (deep opened : ℕ) (closed text : List ℕ) → opened ≤ 99 → deep ≤ 32
+  same_below : (n : ℕ) (g : Lister) (level : Level) (place : Position) (deep opened : ℕ) (closed text : List ℕ) → opened ≤ 99 → deep ≤ 32
       → SameBelow (items readers n) g (length text)
       → some_items readers (items readers n) level place deep opened closed text ≡ some_items readers g level place deep opened closed text
   same_below n g level place deep opened closed text few shallow alike =
@@ -84,7 +84,7 @@ module _ (readers : Readers) (takes : Takes readers) where
       (closed ++ groups_in x.0) x.1 i.few shallow shorter)) in
       ap (λ o. cond (at_end text) (Some (Nil, text)) o) (same_more ∙ ap (λ a. a >>= with_sign readers >>= more g level place deep opened closed) same_atom)
 
-  open_alike : (n m : ℕ) → Alike n m → (level : Level) (place : Place) (deep opened : ℕ) (closed text : List ℕ) → opened ≤ 99 → deep ≤ 32
+  open_alike : (n m : ℕ) → Alike n m → (level : Level) (place : Position) (deep opened : ℕ) (closed text : List ℕ) → opened ≤ 99 → deep ≤ 32
       → length text < suc n → length text < suc m
       → some_items readers (items readers n) level place deep opened closed text ≡ some_items readers (items readers m) level place deep opened closed text
   open_alike n m alike level place deep opened closed text few shallow l k =
@@ -112,7 +112,7 @@ module _ (readers : Readers) (takes : Takes readers) where
       open_alike n m (alike_fuel n m) level place deep opened closed text few shallow l k
 
   -- the equation of items_of
-  pub items_step : (level : Level) (place : Place) (deep opened : ℕ) (closed text : List ℕ) → opened ≤ 99 → deep ≤ 32
+  pub items_step : (level : Level) (place : Position) (deep opened : ℕ) (closed text : List ℕ) → opened ≤ 99 → deep ≤ 32
       → items_of readers level place deep opened closed text ≡ some_items readers (items_of readers) level place deep opened closed text
   unfolding items items_of
   items_step level place deep opened closed text few shallow =

@@ -10,7 +10,7 @@ use Rattle.std.proofs.lemmas.List.{append-nil}
 use Rattle.sedck_bre.specs.Tree.{Tree, Trees, Any, Nil, Then, trees, groups_in, is_in}
 use Rattle.sedck_bre.specs.View.{tree}
 use Rattle.sedck_bre.specs.Private.Sequence.{sequence}
-use Rattle.sedck_bre.specs.Shape.{Level, Inside, Place, First, behind}
+use Rattle.sedck_bre.specs.Shape.{Level, Inside, Position, First, behind}
 use Rattle.sedck_bre.specs.Private.Reading.{◌>>=◌, begins_pair, at_end, atom, group_at, with_sign, before_all, more, items_of}
 use Rattle.sedck_bre.specs.Private.FullReading.{full}
 use Rattle.sedck_bre.specs.declared.tree.Bre.{Bre}
@@ -54,7 +54,7 @@ groups-push [] x = append-nil (groups_in (tree x))
 groups-push (y ∷ xs) x = ap (λ g. groups_in (tree y) ++ g) (groups-push xs x)
     ∙ sym (append_assoc (groups_in (tree y)) (groups_in (sequence xs)) (groups_in (tree x)))
 
-module _ (level : Level) (place : Place) (deep opened : ℕ) (closed text : List ℕ) (few : opened ≤ 99) (shallow : deep ≤ 32) (front : List Tree) where
+module _ (level : Level) (place : Position) (deep opened : ℕ) (closed text : List ℕ) (few : opened ≤ 99) (shallow : deep ≤ 32) (front : List Tree) where
   abbrev rest_read : Option (Trees × List ℕ)
   rest_read = items_of full level place deep opened closed text
 
@@ -88,7 +88,7 @@ module _ (level : Level) (place : Place) (deep opened : ℕ) (closed text : List
       ∙ ap (λ o. o >>= more (items_of full) level place deep opened closed) s))
 
 -- a dot is read
-pub any_read : (inner : List ℕ → Option (Trees × List ℕ)) (level : Level) (place : Place) (deep opened : ℕ) (closed text : List ℕ) → 0 < length text
+pub any_read : (inner : List ℕ → Option (Trees × List ℕ)) (level : Level) (place : Position) (deep opened : ℕ) (closed text : List ℕ) → 0 < length text
     → get_or text 0 0 ≡ 46
     → atom full inner level place deep opened closed text ≡ Some (Any, take (length text - 1) (drop 1 text))
 any_read inner level place deep opened closed [] l h = absurd (omega arith)
@@ -105,7 +105,7 @@ no_group text h e = ap (λ t. begins_pair 40 (92 ∷ t)) (rest_is text 1) ∙ go
     go (b ∷ d ∷ text) h e = rw h at e
 
 -- a group is read
-pub group_read : (inner : List ℕ → Option (Trees × List ℕ)) (level : Level) (place : Place) (deep opened : ℕ) (closed text : List ℕ)
+pub group_read : (inner : List ℕ → Option (Trees × List ℕ)) (level : Level) (place : Position) (deep opened : ℕ) (closed text : List ℕ)
     → begins_pair 40 text ≡ true
     → atom full inner level place deep opened closed text ≡ group_at inner deep opened (drop 2 text)
 group_read inner level place deep opened closed [] e = absurd (false≢true e)
@@ -115,7 +115,7 @@ group_read inner level place deep opened closed (b ∷ d ∷ text) e =
     rw (both.0, both.1) refl
 
 -- the same reading, from equal parts
-pub same_read : (level : Level) (deep : ℕ) (after : List ℕ) (f g : List Tree) (p q : Place) (m n : ℕ) (c d : List ℕ) → f ≡ g → p ≡ q → m ≡ n → c ≡ d
+pub same_read : (level : Level) (deep : ℕ) (after : List ℕ) (f g : List Tree) (p q : Position) (m n : ℕ) (c d : List ℕ) → f ≡ g → p ≡ q → m ≡ n → c ≡ d
     → with_front f (items_of full level p deep m c after) ≡ with_front g (items_of full level q deep n d after)
 same_read level deep after f g p q m n c d e1 e2 e3 e4 = rw (e1, e2, e3, e4) refl
 

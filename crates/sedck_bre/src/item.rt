@@ -8,7 +8,7 @@ ghost use Rattle.sedck_bre.specs.Shape as shape;
 ghost use Rattle.sedck_bre.specs.Private.Reading.{at_end, is_repeatable, plain, with_sign};
 ghost use Rattle.sedck_bre.specs.Private.FullReading.{full, set_at, IsTail};
 ghost use Rattle.sedck_bre.specs.Faults.{StandsAt, IsPlaced, IsOfText};
-ghost use Rattle.sedck_bre.specs.Private.Gives.{Gives, place_of, level_of};
+ghost use Rattle.sedck_bre.specs.Private.Gives.{Gives, position_of, level_of};
 
 use crate::bracket::bracket;
 use crate::fault::ReFault;
@@ -19,7 +19,7 @@ use std::alloc::Global;
 
 /// Where an item stands in its list.
 #[derive(Clone, Copy)]
-pub(crate) enum Place {
+pub(crate) enum Position {
     First,
     /// Right behind a `^` that is first.
     Anchored,
@@ -36,16 +36,16 @@ pub(crate) fn at_end(text: &[u8]) -> bool
     }
 }
 
-pub(crate) fn behind(place: Place, item: &Bre) -> Place
-    ensures { place_of result ≡ shape.behind (place_of place) (tree item.now) }
+pub(crate) fn behind(position: Position, item: &Bre) -> Position
+    ensures { position_of result ≡ shape.behind (position_of position) (tree item.now) }
 {
-    match place {
-        Place::First => match item {
-            Bre::Start => Place::Anchored,
-            Bre::Maybe(_) => Place::Anchored,
-            _ => Place::Later,
+    match position {
+        Position::First => match item {
+            Bre::Start => Position::Anchored,
+            Bre::Maybe(_) => Position::Anchored,
+            _ => Position::Later,
         },
-        _ => Place::Later,
+        _ => Position::Later,
     }
 }
 
@@ -62,17 +62,17 @@ pub(crate) fn is_repeatable(item: &Bre) -> bool
     }
 }
 
-pub(crate) fn plain(inside: bool, place: Place, last: bool, b: u8) -> Option<Bre>
-    ensures value { option_map tree result ≡ plain (level_of inside) (place_of place) last b }
+pub(crate) fn plain(inside: bool, position: Position, last: bool, b: u8) -> Option<Bre>
+    ensures value { option_map tree result ≡ plain (level_of inside) (position_of position) last b }
     ensures star { IfNone result (b ≡ 42) }
 {
     match b {
-        b'*' => match place {
-            Place::Later => None,
+        b'*' => match position {
+            Position::Later => None,
             _ => Some(Bre::Byte(b)),
         },
-        b'^' => match place {
-            Place::First => Some(if inside { Bre::Maybe(b) } else { Bre::Start }),
+        b'^' => match position {
+            Position::First => Some(if inside { Bre::Maybe(b) } else { Bre::Start }),
             _ => Some(Bre::Byte(b)),
         },
         b'$' => {
@@ -134,12 +134,12 @@ pub(crate) fn signed<'a>(
 }
 
 /// An interval where no item stands that it could repeat.
-pub(crate) fn misplaced(place: Place, start: usize) -> ReFault
+pub(crate) fn misplaced(position: Position, start: usize) -> ReFault
     ensures value { IsOfText result }
     ensures place { (whole : List ℕ) → StandsAt whole start "\\" → IsPlaced whole result }
 {
-    match place {
-        Place::Later => ReFault::DoubleRepeat { place: start },
+    match position {
+        Position::Later => ReFault::DoubleRepeat { place: start },
         _ => ReFault::NothingToRepeat { place: start },
     }
 }

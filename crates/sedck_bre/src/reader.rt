@@ -7,10 +7,10 @@ ghost use Rattle.sedck_bre.specs.Shape as shape;
 ghost use Rattle.sedck_bre.specs.Private.Reading.{begins_pair, at_end, items_of, atom, backslash, escaped, group_at};
 ghost use Rattle.sedck_bre.specs.Private.FullReading.{full, IsTail};
 ghost use Rattle.sedck_bre.specs.Faults.{StandsAt, IsPlaced};
-ghost use Rattle.sedck_bre.specs.Private.Gives.{Gives, place_of, level_of, ClosedIs};
+ghost use Rattle.sedck_bre.specs.Private.Gives.{Gives, position_of, level_of, ClosedIs};
 
 use crate::fault::ReFault;
-use crate::item::{Place, at_end, behind, is_escapable, misplaced, plain, set, signed};
+use crate::item::{Position, at_end, behind, is_escapable, misplaced, plain, set, signed};
 use crate::text::{begins_with, behind_pair, place_in};
 use crate::tree::Bre;
 use std::alloc::Global;
@@ -46,12 +46,12 @@ pub(crate) fn list<'a>(
     ensures place { IfErr result (λ fault. IsPlaced whole.now fault) }
 {
     let mut items = Vec::new(alloc);
-    let mut place = Place::First;
+    let mut position = Position::First;
     let mut rest = text;
     'items: while !at_end(rest) {
-        let (bare, sign) = atom(alloc, whole, inside, place, deep, groups, rest)?;
+        let (bare, sign) = atom(alloc, whole, inside, position, deep, groups, rest)?;
         let (item, after) = signed(alloc, whole, bare, sign)?;
-        place = behind(place, &item);
+        position = behind(position, &item);
         items.push(item)?;
         rest = after;
     }
@@ -64,7 +64,7 @@ fn atom<'a>(
     alloc: Global,
     whole: &[u8],
     inside: bool,
-    place: Place,
+    position: Position,
     deep: u8,
     groups: &mut Groups,
     text: &'a [u8],
@@ -73,7 +73,7 @@ fn atom<'a>(
     requires going { at_end text.now ≡ false }
     requires few { groups.old.opened ≤ 99 }
     requires shallow { deep ≤ 32 }
-    ensures value { (closed : List ℕ) → ClosedIs groups.old.closed closed → Gives (λ x. (tree x.0, x.1.now)) result (atom full (items_of full shape.Inside shape.First (deep + 1) (groups.old.opened + 1) closed) (level_of inside) (place_of place) deep groups.old.opened closed text.now) }
+    ensures value { (closed : List ℕ) → ClosedIs groups.old.closed closed → Gives (λ x. (tree x.0, x.1.now)) result (atom full (items_of full shape.Inside shape.First (deep + 1) (groups.old.opened + 1) closed) (level_of inside) (position_of position) deep groups.old.opened closed text.now) }
     ensures few { groups.new.opened ≤ 99 }
     ensures opened { IfOk result (λ x. groups.new.opened ≡ groups.old.opened + length (groups_in (tree x.0))) }
     ensures closed { (closed : List ℕ) → ClosedIs groups.old.closed closed → IfOk result (λ x. ClosedIs groups.new.closed (closed ++ groups_in (tree x.0))) }
@@ -84,7 +84,7 @@ fn atom<'a>(
     if begins_with(b'(', text) {
         group(alloc, whole, deep, groups, text)
     } else {
-        single(whole, inside, place, groups, text)
+        single(whole, inside, position, groups, text)
     }
 }
 
@@ -131,14 +131,14 @@ fn group<'a>(
 fn single<'a>(
     whole: &[u8],
     inside: bool,
-    place: Place,
+    position: Position,
     groups: &Groups,
     text: &'a [u8],
 ) -> Result<(Bre, &'a [u8]), ReFault>
     requires tail { IsTail whole.now text.now }
     requires going { at_end text.now ≡ false }
     requires other { begins_pair 40 text.now ≡ false }
-    ensures value { (inner : List ℕ → Option (Trees × List ℕ)) (deep opened : ℕ) (closed : List ℕ) → ClosedIs groups.now.closed closed → Gives (λ x. (tree x.0, x.1.now)) result (atom full inner (level_of inside) (place_of place) deep opened closed text.now) }
+    ensures value { (inner : List ℕ → Option (Trees × List ℕ)) (deep opened : ℕ) (closed : List ℕ) → ClosedIs groups.now.closed closed → Gives (λ x. (tree x.0, x.1.now)) result (atom full inner (level_of inside) (position_of position) deep opened closed text.now) }
     ensures groups { IfOk result (λ x. groups_in (tree x.0) ≡ []) }
     ensures shorter { IfOk result (λ x. length x.1.now < length text.now) }
     ensures tail { IfOk result (λ x. IsTail whole.now x.1.now) }
@@ -147,10 +147,10 @@ fn single<'a>(
     let start = place_in(whole, text);
     match text {
         [] => unreachable!(),
-        [b'\\', rest @ ..] => backslash(whole, place, start, groups, rest),
+        [b'\\', rest @ ..] => backslash(whole, position, start, groups, rest),
         [b'[', ..] => set(whole, text),
         [b'.', rest @ ..] => Ok((Bre::Any, rest)),
-        [b, rest @ ..] => match plain(inside, place, at_end(rest), *b) {
+        [b, rest @ ..] => match plain(inside, position, at_end(rest), *b) {
             Some(item) => Ok((item, rest)),
             None => Err(ReFault::DoubleRepeat { place: start }),
         },
@@ -160,7 +160,7 @@ fn single<'a>(
 /// What stands behind a backslash that opens no group.
 fn backslash<'a>(
     whole: &[u8],
-    place: Place,
+    position: Position,
     start: usize,
     groups: &Groups,
     text: &'a [u8],
@@ -177,19 +177,19 @@ fn backslash<'a>(
     let Some((b, rest)) = text.split_first() else {
         return Err(ReFault::TrailingBackslash { place: start });
     };
-    let item = escaped(place, start, groups, *b)?;
+    let item = escaped(position, start, groups, *b)?;
     Ok((item, rest))
 }
 
 /// What a byte behind a backslash stands for, where it opens no group.
-fn escaped(place: Place, start: usize, groups: &Groups, b: u8) -> Result<Bre, ReFault>
+fn escaped(position: Position, start: usize, groups: &Groups, b: u8) -> Result<Bre, ReFault>
     requires other { b ≢ 40 }
     ensures value { (inner : List ℕ → Option (Trees × List ℕ)) (deep opened : ℕ) (closed rest : List ℕ) → ClosedIs groups.now.closed closed → Gives (λ x. (tree x, rest)) result (escaped inner deep opened closed b rest) }
     ensures groups { IfOk result (λ x. groups_in (tree x) ≡ []) }
     ensures place { IfErr result (λ fault. (whole : List ℕ) → StandsAt whole start "\\" → IsPlaced whole fault) }
 {
     match b {
-        b'{' => Err(misplaced(place, start)),
+        b'{' => Err(misplaced(position, start)),
         b'1'..=b'9' => {
             let k = b - b'0';
             if groups.closed[k as usize] {

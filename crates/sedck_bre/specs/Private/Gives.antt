@@ -4,18 +4,18 @@ use Rattle.sedck_bre.specs.Tree.{is_in}
 use Rattle.sedck_bre.specs.Shape as shape
 use Rattle.sedck_bre.specs.Faults.{IsOfText}
 use Rattle.sedck_bre.specs.declared.fault.ReFault.{ReFault}
-use Rattle.sedck_bre.specs.declared.item.Place.{Place}
-use Rattle.sedck_bre.specs.declared.item.Place.TheVariants.{First, Anchored, Later}
+use Rattle.sedck_bre.specs.declared.item.Position.{Position}
+use Rattle.sedck_bre.specs.declared.item.Position.TheVariants.{First, Anchored, Later}
 
 -- what a function returned, seen by view, is what is read, unless memory ran out
 abbrev pub Gives : {X Y : Type 0} → (X → Y) → Result X ReFault → Option Y → Type 0
 Gives view (Ok x) read = read ≡ Some (view x)
 Gives view (Err fault) read = IsOfText fault → read ≡ None
 
-abbrev pub place_of : Place → shape.Place
-place_of First = shape.First
-place_of Anchored = shape.Anchored
-place_of Later = shape.Later
+abbrev pub position_of : Position → shape.Position
+position_of First = shape.First
+position_of Anchored = shape.Anchored
+position_of Later = shape.Later
 
 abbrev pub level_of : Bool → shape.Level
 level_of inside = if inside then shape.Inside else shape.Whole

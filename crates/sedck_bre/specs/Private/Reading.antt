@@ -2,7 +2,7 @@
 use Rattle.std.specs.Prelude.{ℕ, zero, suc, ◌+◌, ◌-◌, ◌==◌, nat_lt, nat_le, Bool, true, false, ◌&&◌, if◌then◌else◌, List, [], ◌∷◌, ◌++◌, length, drop, Option, Some, None, option_and_then}
 use Rattle.sedck_bre.specs.Text.{one_of, begins}
 use Rattle.sedck_bre.specs.Tree.{Tree, Trees, Byte, Any, Set, Start, End, Maybe, Group, Ref, Seq, Repeat, Nil, Then, groups_in, is_in}
-use Rattle.sedck_bre.specs.Shape.{Level, Whole, Inside, Place, First, is_first, is_later, behind}
+use Rattle.sedck_bre.specs.Shape.{Level, Whole, Inside, Position, First, is_first, is_later, behind}
 
 -- one step after another, where each may refuse the text
 infixl 10 ◌>>=◌
@@ -43,10 +43,10 @@ end_of Whole = End
 end_of Inside = Maybe 36
 
 -- a byte that is not escaped, where the flag says that it is the last of its list
-abbrev pub plain : Level → Place → Bool → ℕ → Option Tree
-plain level place last b =
-    if b == 42 then (if is_later place then None else Some (Byte b))
-    else if b == 94 then (if is_first place then Some (start_of level) else Some (Byte b))
+abbrev pub plain : Level → Position → Bool → ℕ → Option Tree
+plain level position last b =
+    if b == 42 then (if is_later position then None else Some (Byte b))
+    else if b == 94 then (if is_first position then Some (start_of level) else Some (Byte b))
     else if b == 36 then (if last then Some (end_of level) else Some (Byte b))
     else Some (Byte b)
 
@@ -79,13 +79,13 @@ abbrev pub tree_before : List ℕ → Tree → Option (Tree × List ℕ)
 tree_before rest t = Some (t, rest)
 
 -- an item without a sign of repetition
-abbrev pub atom : Readers → (List ℕ → Option (Trees × List ℕ)) → Level → Place → ℕ → ℕ → List ℕ → List ℕ → Option (Tree × List ℕ)
-atom readers inner level place deep opened closed [] = None
-atom readers inner level place deep opened closed (b ∷ text) =
+abbrev pub atom : Readers → (List ℕ → Option (Trees × List ℕ)) → Level → Position → ℕ → ℕ → List ℕ → List ℕ → Option (Tree × List ℕ)
+atom readers inner level position deep opened closed [] = None
+atom readers inner level position deep opened closed (b ∷ text) =
     if b == 92 then backslash inner deep opened closed text
     else if b == 91 then (readers.bracket (b ∷ text) >>= set_before)
     else if b == 46 then Some (Any, text)
-    else (plain level place (at_end text) b >>= tree_before text)
+    else (plain level position (at_end text) b >>= tree_before text)
 
 abbrev pub repeat_before : Tree → ℕ × Option ℕ × List ℕ → Option (Tree × List ℕ)
 repeat_before t (least, most, rest) = Some (Repeat t least most, rest)
@@ -103,25 +103,25 @@ with_sign readers (t, text) = if is_repeatable t then signed readers t text else
 abbrev pub before_all : Tree → Trees × List ℕ → Option (Trees × List ℕ)
 before_all t (ts, rest) = Some (Then t ts, rest)
 
--- how a list of items is read: from its level, the place, the open groups, the groups opened so far, those closed, and the text
+-- how a list of items is read: from its level, the position, the open groups, the groups opened so far, those closed, and the text
 abbrev pub Lister : Type 0
-Lister = Level → Place → ℕ → ℕ → List ℕ → List ℕ → Option (Trees × List ℕ)
+Lister = Level → Position → ℕ → ℕ → List ℕ → List ℕ → Option (Trees × List ℕ)
 
 -- the items behind the first
-abbrev pub more : Lister → Level → Place → ℕ → ℕ → List ℕ → Tree × List ℕ → Option (Trees × List ℕ)
-more list level place deep opened closed (t, rest) =
-    list level (behind place t) deep (opened + length (groups_in t)) (closed ++ groups_in t) rest >>= before_all t
+abbrev pub more : Lister → Level → Position → ℕ → ℕ → List ℕ → Tree × List ℕ → Option (Trees × List ℕ)
+more list level position deep opened closed (t, rest) =
+    list level (behind position t) deep (opened + length (groups_in t)) (closed ++ groups_in t) rest >>= before_all t
 
 abbrev pub some_items : Readers → Lister → Lister
-some_items readers list level place deep opened closed text =
+some_items readers list level position deep opened closed text =
     if at_end text then Some (Nil, text)
-    else (atom readers (list Inside First (deep + 1) (opened + 1) closed) level place deep opened closed text
-    >>= with_sign readers >>= more list level place deep opened closed)
+    else (atom readers (list Inside First (deep + 1) (opened + 1) closed) level position deep opened closed text
+    >>= with_sign readers >>= more list level position deep opened closed)
 
 -- The items up to the end of their list, and what follows it. The number bounds how deep the calls go.
 unfoldable pub items : Readers → ℕ → Lister
-items readers zero level place deep opened closed text = None
-items readers (suc n) level place deep opened closed text = some_items readers (items readers n) level place deep opened closed text
+items readers zero level position deep opened closed text = None
+items readers (suc n) level position deep opened closed text = some_items readers (items readers n) level position deep opened closed text
 
 -- a whole expression
 abbrev pub whole : Trees × List ℕ → Option Tree
@@ -133,4 +133,4 @@ read readers text = items readers (length text + 1) Whole First 0 0 [] text >>= 
 
 -- the items up to the end of their list, and what follows it
 unfoldable pub items_of : Readers → Lister
-items_of readers level place deep opened closed text = items readers (length text + 1) level place deep opened closed text
+items_of readers level position deep opened closed text = items readers (length text + 1) level position deep opened closed text

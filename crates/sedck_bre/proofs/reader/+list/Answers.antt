@@ -6,7 +6,7 @@ use Rattle.sedck_bre.specs.View.{tree}
 use Rattle.sedck_bre.specs.Private.Sequence.{sequence}
 use Rattle.sedck_bre.specs.Shape as shape
 use Rattle.sedck_bre.specs.Private.Reading.{at_end, items_of}
-use Rattle.sedck_bre.specs.Private.Gives.{Gives, place_of, level_of, ClosedIs}
+use Rattle.sedck_bre.specs.Private.Gives.{Gives, position_of, level_of, ClosedIs}
 use Rattle.sedck_bre.proofs.Loop.{group_read, groups-push, loop_ends, loop_goes, loop_fails, loop_fails_at, same_read, closed-push, closed_more}
 use Rattle.std.proofs.Math.ListN.{set}
 use Rattle.sedck_bre.specs.declared.tree.Bre.TheVariants as Bre
@@ -17,7 +17,7 @@ use Rattle.sedck_bre.proofs.reader.+list.Goals as goal
 
 pub list-returns-clause-value : goal.list-returns-clause-value
 list-returns-clause-value t c closed h =
-    sym (c.items.invariant.reads closed h) ∙ loop_ends (level_of c.args.inside) (place_of c.items.place) c.args.deep c.items.groups.opened
+    sym (c.items.invariant.reads closed h) ∙ loop_ends (level_of c.args.inside) (position_of c.items.position) c.args.deep c.items.groups.opened
     (closed ++ groups_in (sequence c.items.items.items)) c.items.rest.now
     c.items.invariant.few c.requires.shallow (map tree c.items.items.items) (sym c.at_end.ensures ∙ c.items-test.false)
 
@@ -42,10 +42,10 @@ list-items-preserved t c =
       reads = λ closed h.
           let g = closed ++ groups_in (sequence xs) in
           same_read (level_of c.args.inside) c.args.deep c.in_ok-item.after.now _ _ _ _ _ _ _ _
-          (ap (map tree) items ∙ map_push tree xs item) c.behind-place.ensures opened
+          (ap (map tree) items ∙ map_push tree xs item) c.behind-position.ensures opened
           (ap (λ ys. closed ++ groups_in (sequence ys)) items ∙ closed-push closed xs item)
           ∙ sym (loop_goes (level_of c.args.inside)
-          (place_of c.items.place) c.args.deep c.items.groups.opened g c.items.rest.now c.items.invariant.few c.requires.shallow (map tree xs)
+          (position_of c.items.position) c.args.deep c.items.groups.opened g c.items.rest.now c.items.invariant.few c.requires.shallow (map tree xs)
           (tree c.in_ok-bare.bare) (tree item) c.in_ok-bare.sign.now c.in_ok-item.after.now going
           (c.in_ok-bare.ensures.value g (c.items.invariant.closed closed h)) c.in_ok-item.ensures.value)
           ∙ c.items.invariant.reads closed h;
@@ -58,7 +58,7 @@ list-returns-in_err-bare-clause-value t c closed h =
     let going : at_end c.items.rest.now ≡ false = sym c.at_end.ensures ∙ c.items-test.true in
     rw (p.1, p.2) (λ bad. sym (c.items.invariant.reads closed h)
     ∙ loop_fails (level_of c.args.inside)
-    (place_of c.items.place) c.args.deep c.items.groups.opened g c.items.rest.now c.items.invariant.few c.requires.shallow
+    (position_of c.items.position) c.args.deep c.items.groups.opened g c.items.rest.now c.items.invariant.few c.requires.shallow
     (map tree c.items.items.items) going
     (c.in_err-bare.ensures.value g (c.items.invariant.closed closed h) bad))
 
@@ -69,7 +69,7 @@ list-returns-in_err-item-clause-value t c closed h =
     let going : at_end c.items.rest.now ≡ false = sym c.at_end.ensures ∙ c.items-test.true in
     rw (p.1, p.2) (λ bad. sym (c.items.invariant.reads closed h)
     ∙ loop_fails_at (level_of c.args.inside)
-    (place_of c.items.place) c.args.deep c.items.groups.opened g c.items.rest.now c.items.invariant.few c.requires.shallow (map tree c.items.items.items)
+    (position_of c.items.position) c.args.deep c.items.groups.opened g c.items.rest.now c.items.invariant.few c.requires.shallow (map tree c.items.items.items)
     (tree c.in_ok-bare.bare) c.in_ok-bare.sign.now going (c.in_ok-bare.ensures.value g (c.items.invariant.closed closed h)) (c.in_err-item.ensures.value bad))
 
 pub group-returns-clause-closed : goal.group-returns-clause-closed
@@ -92,7 +92,7 @@ pub atom-returns-then-begins_with-clause-value : goal.atom-returns-then-begins_w
 atom-returns-then-begins_with-clause-value t c closed h =
     subst (Gives (λ x. (tree x.0, x.1.now)) c.group.result)
     (sym (group_read (items_of full shape.Inside shape.First (c.args.deep + 1) (c.args.groups.now.opened + 1) closed) (level_of c.args.inside)
-    (place_of c.args.place) c.args.deep c.args.groups.now.opened closed c.args.text.now (sym c.begins_with.ensures.value ∙ c.if-begins_with.true)))
+    (position_of c.args.position) c.args.deep c.args.groups.now.opened closed c.args.text.now (sym c.begins_with.ensures.value ∙ c.if-begins_with.true)))
     (c.group.ensures.value closed h)
 
 pub group-list-requires : goal.group-list-requires

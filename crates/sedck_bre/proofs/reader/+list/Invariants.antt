@@ -5,7 +5,7 @@ use Rattle.sedck_bre.specs.Private.Sequence.{sequence}
 use Rattle.sedck_bre.specs.Shape as shape
 use Rattle.sedck_bre.specs.Private.Reading.{items_of}
 use Rattle.sedck_bre.specs.Private.FullReading.{full, IsTail}
-use Rattle.sedck_bre.specs.Private.Gives.{place_of, level_of, ClosedIs}
+use Rattle.sedck_bre.specs.Private.Gives.{position_of, level_of, ClosedIs}
 use Rattle.sedck_bre.proofs.Loop.{with_front}
 use Rattle.sedck_bre.proofs.reader.+list.Given as goal
 
@@ -26,7 +26,7 @@ invariant-list-items l = record {
   opened : l.groups.opened ≡ l.fn.groups.opened + length (groups_in (sequence l.items.items));
   closed : (closed : List ℕ) → ClosedIs l.fn.groups.closed closed → ClosedIs l.groups.closed (closed ++ groups_in (sequence l.items.items));
   reads : (closed : List ℕ) → ClosedIs l.fn.groups.closed closed →
-      with_front (map tree l.items.items) (items_of full (level_of l.inside) (place_of l.place) l.deep l.groups.opened
+      with_front (map tree l.items.items) (items_of full (level_of l.inside) (position_of l.position) l.deep l.groups.opened
       (closed ++ groups_in (sequence l.items.items)) l.rest)
       ≡ items_of full (level_of l.inside) shape.First l.deep l.fn.groups.opened closed l.text;
 }

@@ -1,5 +1,5 @@
 use Rattle.std.proofs.Common.{refl, get_or, take, drop, Some, ◌-◌, ◌≡◌, ◌<◌, length, sym, ap, ◌∙◌, subst, arith}
-use Rattle.sedck_bre.specs.Private.Gives.{place_of, level_of}
+use Rattle.sedck_bre.specs.Private.Gives.{position_of, level_of}
 use Rattle.sedck_bre.specs.Faults.{StandsAt}
 use Rattle.sedck_bre.proofs.Loop.{any_read, no_group}
 use Rattle.sedck_bre.proofs.ViewLemmas.{tree-Any}
@@ -15,7 +15,7 @@ returns-in-Some-clause-tail c = tail_rest c.args.whole.now c.args.text.now 1 c.r
 pub returns-in-46-clause-value : goal.returns-in-46-clause-value
 returns-in-46-clause-value c inner deep opened closed h =
     let byte : get_or c.args.text.now 0 0 ≡ 46 = omega arith in
-    any_read inner (level_of c.args.inside) (place_of c.args.place) deep opened closed c.args.text.now (omega arith) byte
+    any_read inner (level_of c.args.inside) (position_of c.args.position) deep opened closed c.args.text.now (omega arith) byte
     ∙ ap (λ x. Some (x, take (length c.args.text.now - 1) (drop 1 c.args.text.now))) (sym tree-Any)
 
 pub backslash-requires : goal.backslash-requires
