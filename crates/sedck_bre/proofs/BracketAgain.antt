@@ -4,7 +4,7 @@ use Rattle.std.specs.Prelude.{◌==◌, ◌&&◌, ◌||◌, ◌⊎◌, not, nat_
 use Rattle.std.proofs.lemmas.Bool.{false≢true, eqb-true, not-true}
 use Rattle.std.proofs.lemmas.Bool.Decides.{nat_tests}
 use Rattle.sedck_bre.specs.Text.{begins}
-use Rattle.sedck_bre.specs.Brackets.{Class, upper, lower, alpha, digit, alnum, xdigit, space, blank, punct, graph, print, cntrl, class_name, Element, One, Range, Members, is_plain, WritesByte, begins_range, WritesElement}
+use Rattle.sedck_bre.specs.Brackets.{Class, upper, lower, alpha, digit, alnum, xdigit, space, blank, punct, graph, print, cntrl, class_name, Element, One, Range, Members, is_bare, WritesByte, begins_range, WritesElement}
 use Rattle.sedck_bre.specs.Private.Reading.{◌>>=◌}
 use Rattle.sedck_bre.specs.Private.BracketReading.{symbol_at, byte_at, ranges, no_range, class_from, classes, one, range_to, range_or_one, element_at}
 use Rattle.sedck_bre.proofs.BracketLemmas.{plain_before, plain_open, plain_back, range_behind}
@@ -12,7 +12,7 @@ use Rattle.sedck_bre.proofs.BracketLemmas.{plain_before, plain_open, plain_back,
 -- ---- One byte
 
 -- a byte that stands for itself is read as such
-itself_again : (c : ℕ) (next : List ℕ) → is_plain c next ≡ true → byte_at (c ∷ next) ≡ Some (c, next)
+itself_again : (c : ℕ) (next : List ℕ) → is_bare c next ≡ true → byte_at (c ∷ next) ≡ Some (c, next)
 itself_again c next h = go (c == 91) (c == 92) refl refl
   where
     go : (a b : Bool) → (c == 91) ≡ a → (c == 92) ≡ b → byte_at (c ∷ next) ≡ Some (c, next)
@@ -145,7 +145,7 @@ range_dash y v s z (inr (inr (inr h))) no_bracket = ap (λ x. ranges (45 ∷ (x 
 before_dash : (u s t : List ℕ) (a : ℕ) → WritesByte u (45 ∷ s) a → WritesByte u (45 ∷ t) a
 before_dash u s t a (inl h) = inl (h.0, same a s t ∙ h.1)
   where
-    same : (a : ℕ) (s t : List ℕ) → is_plain a (45 ∷ t) ≡ is_plain a (45 ∷ s)
+    same : (a : ℕ) (s t : List ℕ) → is_bare a (45 ∷ t) ≡ is_bare a (45 ∷ s)
     same a s t = refl
 before_dash u s t a (inr h) = inr h
 

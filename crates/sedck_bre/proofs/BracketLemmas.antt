@@ -4,7 +4,7 @@ use Rattle.std.specs.Prelude.{◌==◌, ◌&&◌, ◌||◌, not, codes}
 use Rattle.std.proofs.lemmas.Bool.{false≢true, eqb-true}
 use Prim.Native.String.{String}
 use Rattle.sedck_bre.specs.Text.{is_in, one_of, begins}
-use Rattle.sedck_bre.specs.Brackets.{is_plain, begins_range}
+use Rattle.sedck_bre.specs.Brackets.{is_bare, begins_range}
 use Rattle.sedck_bre.specs.Private.BracketReading.{ranges}
 
 pub or_none : (a : Bool) → (a || false) ≡ true → a ≡ true
@@ -21,7 +21,7 @@ pub begins_before : (s : String) (v rest : List ℕ) → one_of s 93 ≡ false �
 begins_before s [] rest h = h
 begins_before s (c ∷ v) rest h = refl
 
-pub plain_before : (c : ℕ) (v rest : List ℕ) → is_plain c (v ++ 93 ∷ rest) ≡ is_plain c v
+pub plain_before : (c : ℕ) (v rest : List ℕ) → is_bare c (v ++ 93 ∷ rest) ≡ is_bare c v
 plain_before c v rest =
     ap (λ b. cond (c == 91) (not b) (cond (c == 92) (not (begins "n\\" (v ++ 93 ∷ rest))) true)) (begins_before ":.=" v rest refl)
     ∙ ap (λ b. cond (c == 91) (not (begins ":.=" v)) (cond (c == 92) (not b) true)) (begins_before "n\\" v rest refl)

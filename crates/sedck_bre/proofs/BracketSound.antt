@@ -5,7 +5,7 @@ use Rattle.std.specs.List.{starts_with}
 use Rattle.std.proofs.lemmas.Bool.{false≢true, eqb-true}
 use Prim.Native.String.{String}
 use Rattle.sedck_bre.specs.Text.{begins}
-use Rattle.sedck_bre.specs.Brackets.{Class, class_name, Element, One, Range, Members, is_plain, WritesByte, begins_range, IsInPlace, WritesElement, WritesElements}
+use Rattle.sedck_bre.specs.Brackets.{Class, class_name, Element, One, Range, Members, is_bare, WritesByte, begins_range, IsInPlace, WritesElement, WritesElements}
 use Rattle.sedck_bre.specs.Private.Reading.{◌>>=◌}
 use Rattle.sedck_bre.specs.Private.BracketReading.{symbol_at, byte_at, ranges, no_range, class_from, classes, one, range_to, range_or_one, element_at, before_elements, others, elements_at}
 use Rattle.sedck_bre.proofs.ReadLemmas.{bind_holds, cond_holds, and_left, nat_le_of}
@@ -27,7 +27,7 @@ symbol_takes mark (c ∷ d ∷ e ∷ text) =
 abbrev pub IsByteBefore : List ℕ → ℕ × List ℕ → Type 0
 IsByteBefore text x = (u : List ℕ) × (text ≡ u ++ x.1) × WritesByte u x.1 x.0
 
-itself : (c : ℕ) (text : List ℕ) → is_plain c text ≡ true → IsByteBefore (c ∷ text) (c, text)
+itself : (c : ℕ) (text : List ℕ) → is_bare c text ≡ true → IsByteBefore (c ∷ text) (c, text)
 itself c text h = (c ∷ [], refl, inl (refl, h))
 
 pub byte_takes : (text : List ℕ) → IfSome (byte_at text) (IsByteBefore text)
@@ -196,7 +196,7 @@ byte_element first text bracket dash =
         let is : d ≡ 93 = cc in
         absurd (false≢true (sym (ap (λ x. not (x == 93)) is) ∙ (and_left (c == 45) (not (d == 93)) h).1))
 
-    plain_dash : (a : ℕ) (s t : List ℕ) → is_plain a (45 ∷ s) ≡ is_plain a (45 ∷ t)
+    plain_dash : (a : ℕ) (s t : List ℕ) → is_bare a (45 ∷ s) ≡ is_bare a (45 ∷ t)
     plain_dash a s t = refl
 
     first_byte : (u s t : List ℕ) (a : ℕ) → WritesByte u (45 ∷ s) a → WritesByte u (45 ∷ t) a

@@ -3,7 +3,7 @@ pub mod Floor
 pub mod Reach
 pub mod Capped
 pub mod ViewLemmas
-pub mod Examples
+pub mod ExampleProofs
 pub mod GroupTexts
 pub mod LeastLength
 pub mod ReadLemmas
@@ -12,9 +12,7 @@ pub mod Fronts
 pub mod Again
 pub mod Fixed
 pub mod Loop
-pub mod ShapeRows
 pub mod Whole
-pub mod BracketRows
 pub mod Intervals
 pub mod BracketLemmas
 pub mod BracketSound

@@ -6,7 +6,7 @@ use Rattle.std.proofs.lemmas.Bool.{false≢true}
 use Rattle.std.specs.Prelude.{IsTrue, slice_index}
 use Prim.Native.String.{String}
 use Rattle.sedck_bre.specs.Text.{one_of, begins}
-use Rattle.sedck_bre.specs.Faults.{StandsAt}
+use Rattle.sedck_bre.specs.Faults.{HasOneAt}
 use Rattle.sedck_bre.specs.Shape.{is_empty}
 use Rattle.sedck_bre.specs.Private.FullReading.{IsTail}
 use Rattle.sedck_bre.specs.Private.BracketReading.{inside_at, bracket_at}
@@ -36,7 +36,7 @@ begins_index s [] h = absurd (false≢true h)
 begins_index s (c ∷ text) h = (omega arith, h)
 
 -- what stands at the place of a part that begins with one of these bytes
-pub stands_at : (whole text : List ℕ) (s : String) → IsTail whole text → IsTrue (begins s text) → StandsAt whole (length whole - length text) s
+pub stands_at : (whole text : List ℕ) (s : String) → IsTail whole text → IsTrue (begins s text) → HasOneAt whole (length whole - length text) s
 stands_at whole text s h b =
     let first = begins_index s text b in
     let size : length whole ≡ length h.front + length text = ap length h.made ∙ length-append h.front text in

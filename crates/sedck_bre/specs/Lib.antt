@@ -12,6 +12,7 @@ pub mod Brackets
 pub mod Faults
 pub mod FaultWords
 pub mod Laws
+pub mod Examples
 
 -- What functions inside the crate promise each other.
 pub mod Private

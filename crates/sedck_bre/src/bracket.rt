@@ -5,7 +5,7 @@ ghost use Rattle.sedck_bre.specs.Text.{begins};
 ghost use Rattle.sedck_bre.specs.Private.BracketReading.{ranges, no_range, range_end_at, byte_or_range_at, whole_class_at, equivalents_at, last_dash_at, element_at, bracket_at};
 ghost use Rattle.sedck_bre.specs.Private.FullReading.{IsTail};
 ghost use Rattle.sedck_bre.specs.Private.BracketCode.{element_of, Reads, HasElements, elements_of, signed, set_at};
-ghost use Rattle.sedck_bre.specs.Faults.{StandsAt, IsPlaced};
+ghost use Rattle.sedck_bre.specs.Faults.{HasOneAt, IsPlaced};
 ghost use Rattle.sedck_bre.specs.Private.Gives.{Gives};
 ghost use Rattle.sedck_bre.specs.Private.Sets.{HasJust};
 
@@ -159,7 +159,7 @@ fn is_over(first: bool, text: &[u8]) -> bool
 /// The set of the elements up to the closing bracket, and what follows it. The outer bracket and the text lie in the
 /// whole.
 fn elements<'a>(whole: &[u8], outer: usize, text: &'a [u8]) -> Result<(ByteSet, &'a [u8]), ReFault>
-    requires outer { StandsAt whole.now outer "[" }
+    requires outer { HasOneAt whole.now outer "[" }
     requires within { length text.now ≤ length whole.now }
     ensures value { MatchResult result (λ x. HasElements x.0.0 x.1.now (elements_of true text.now)) (λ _. elements_of true text.now ≡ None) }
     ensures shorter { IfOk result (λ x. length x.1.now ≤ length text.now) }
@@ -200,7 +200,7 @@ fn whole_set<'a>(
     complemented: bool,
     text: &'a [u8],
 ) -> Result<(ByteSet, &'a [u8]), ReFault>
-    requires outer { StandsAt whole.now outer "[" }
+    requires outer { HasOneAt whole.now outer "[" }
     requires within { length text.now ≤ length whole.now }
     ensures value { Gives (λ x. (x.0.0, x.1.now)) result (set_at complemented text.now) }
     ensures shorter { IfOk result (λ x. length x.1.now ≤ length text.now) }

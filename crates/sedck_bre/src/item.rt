@@ -7,7 +7,7 @@ ghost use Rattle.sedck_bre.specs.View.{tree};
 ghost use Rattle.sedck_bre.specs.Shape as shape;
 ghost use Rattle.sedck_bre.specs.Private.Reading.{at_end, is_repeatable, plain, with_sign};
 ghost use Rattle.sedck_bre.specs.Private.FullReading.{full, set_at, IsTail};
-ghost use Rattle.sedck_bre.specs.Faults.{StandsAt, IsPlaced, IsOfText};
+ghost use Rattle.sedck_bre.specs.Faults.{HasOneAt, IsPlaced, IsOfText};
 ghost use Rattle.sedck_bre.specs.Private.Gives.{Gives, position_of, level_of};
 
 use crate::bracket::bracket;
@@ -136,7 +136,7 @@ pub(crate) fn signed<'a>(
 /// An interval where no item stands that it could repeat.
 pub(crate) fn misplaced(position: Position, start: usize) -> ReFault
     ensures value { IsOfText result }
-    ensures place { (whole : List ℕ) → StandsAt whole start "\\" → IsPlaced whole result }
+    ensures place { (whole : List ℕ) → HasOneAt whole start "\\" → IsPlaced whole result }
 {
     match position {
         Position::Later => ReFault::DoubleRepeat { place: start },

@@ -6,7 +6,7 @@ ghost use Rattle.sedck_bre.specs.Private.Sequence.{sequence};
 ghost use Rattle.sedck_bre.specs.Shape as shape;
 ghost use Rattle.sedck_bre.specs.Private.Reading.{begins_pair, at_end, items_of, atom, backslash, escaped, group_at};
 ghost use Rattle.sedck_bre.specs.Private.FullReading.{full, IsTail};
-ghost use Rattle.sedck_bre.specs.Faults.{StandsAt, IsPlaced};
+ghost use Rattle.sedck_bre.specs.Faults.{HasOneAt, IsPlaced};
 ghost use Rattle.sedck_bre.specs.Private.Gives.{Gives, position_of, level_of, ClosedIs};
 
 use crate::fault::ReFault;
@@ -166,7 +166,7 @@ fn backslash<'a>(
     text: &'a [u8],
 ) -> Result<(Bre, &'a [u8]), ReFault>
     requires tail { IsTail whole.now text.now }
-    requires start { StandsAt whole.now start "\\" }
+    requires start { HasOneAt whole.now start "\\" }
     requires other { begins_pair 40 (92 ∷ text.now) ≡ false }
     ensures value { (inner : List ℕ → Option (Trees × List ℕ)) (deep opened : ℕ) (closed : List ℕ) → ClosedIs groups.now.closed closed → Gives (λ x. (tree x.0, x.1.now)) result (backslash inner deep opened closed text.now) }
     ensures groups { IfOk result (λ x. groups_in (tree x.0) ≡ []) }
@@ -186,7 +186,7 @@ fn escaped(position: Position, start: usize, groups: &Groups, b: u8) -> Result<B
     requires other { b ≢ 40 }
     ensures value { (inner : List ℕ → Option (Trees × List ℕ)) (deep opened : ℕ) (closed rest : List ℕ) → ClosedIs groups.now.closed closed → Gives (λ x. (tree x, rest)) result (escaped inner deep opened closed b rest) }
     ensures groups { IfOk result (λ x. groups_in (tree x) ≡ []) }
-    ensures place { IfErr result (λ fault. (whole : List ℕ) → StandsAt whole start "\\" → IsPlaced whole fault) }
+    ensures place { IfErr result (λ fault. (whole : List ℕ) → HasOneAt whole start "\\" → IsPlaced whole fault) }
 {
     match b {
         b'{' => Err(misplaced(position, start)),

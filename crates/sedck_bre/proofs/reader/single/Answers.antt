@@ -1,6 +1,6 @@
 use Rattle.std.proofs.Common.{refl, get_or, take, drop, Some, ◌-◌, ◌≡◌, ◌<◌, length, sym, ap, ◌∙◌, subst, arith}
 use Rattle.sedck_bre.specs.Private.Gives.{position_of, level_of}
-use Rattle.sedck_bre.specs.Faults.{StandsAt}
+use Rattle.sedck_bre.specs.Faults.{HasOneAt}
 use Rattle.sedck_bre.proofs.Loop.{any_read, no_group}
 use Rattle.sedck_bre.proofs.ViewLemmas.{tree-Any}
 use Rattle.sedck_bre.proofs.Tails.{tail_rest, stands_at, begins_first}
@@ -24,7 +24,7 @@ backslash-requires c =
     let some : 0 < length c.args.text.now = omega arith in
     record {
       tail = tail_rest c.args.whole.now c.args.text.now 1 c.requires.tail;
-      start = subst (λ p. StandsAt c.args.whole.now p "\\") (sym c.place_in-start.ensures.value)
+      start = subst (λ p. HasOneAt c.args.whole.now p "\\") (sym c.place_in-start.ensures.value)
           (stands_at c.args.whole.now c.args.text.now "\\" c.requires.tail (begins_first "\\" c.args.text.now some (rw byte refl)));
       other = no_group c.args.text.now byte c.requires.other;
     }

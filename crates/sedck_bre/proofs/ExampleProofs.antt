@@ -1,30 +1,23 @@
--- Worked expressions: their least lengths, and texts that they match or do not match.
+-- The worked examples of expressions hold.
 use Rattle.std.proofs.Common.{◌≡◌, ℕ, ◌≤◌, min, List, [], ◌∷◌, ◌++◌, length, Option, Some, None, refl, sym, arith, inl, inr, ◌⊎◌}
 use Rattle.std.specs.Prelude.{codes, map}
 use Rattle.std.proofs.lemmas.List.{append-nil}
 use Rattle.sedck_bre.specs.Tree.{Tree, Trees, Byte, Any, Set, Start, End, Maybe, Group, Ref, Seq, Repeat, Nil, Then, trees}
 use Rattle.sedck_bre.specs.Match.{Groups, no_groups, text_of, unset, IsWithin, Match, MatchAll, Language, with_text}
-use Rattle.sedck_bre.specs.Private.Bounds.{no_bounds, least}
-use Rattle.sedck_bre.specs.Lengths.{cap}
+use Rattle.std.specs.Prelude.{All}
+use Rattle.std.proofs.lemmas.List.Elements.{All-nil, All-cons}
+use Rattle.sedck_bre.specs.Shape.{Shape}
+use Rattle.sedck_bre.specs.Examples.{sequence_of, text_tree, star, spelled_texts, refused_texts, two_or_three, any_number, nested, ExamplesHold}
+use Rattle.sedck_bre.specs.Private.Reading.{read, items}
+use Rattle.sedck_bre.specs.Private.BracketReading.{bracket_at, elements_at}
+use Rattle.sedck_bre.specs.Private.IntervalReading.{interval_at}
+use Rattle.sedck_bre.specs.Private.FullReading.{full}
 use Rattle.sedck_bre.proofs.Floor.{least-floor}
-
-abbrev seq : List Tree → Tree
-seq ts = Seq (trees ts)
-
--- a text as a tree
-abbrev lit : List ℕ → Tree
-lit bs = Seq (trees (map Byte bs))
-
--- `\(ab\)\{2,3\}c*\1`
-abbrev ab_twice : Tree
-ab_twice = seq (Repeat (Group 1 (lit (codes "ab"))) 2 (Some 3) ∷ Repeat (Byte 99) 0 None ∷ Ref 1 ∷ [])
-
-ab_twice_least : least no_bounds ab_twice ≡ 6
-ab_twice_least = refl
+use Rattle.sedck_bre.proofs.Whole.{shape_of, none_of}
 
 -- nothing shorter than 6 is in its language
-ab_twice_floor : (w : List ℕ) → Language ab_twice w → 6 ≤ length w
-ab_twice_floor w h = least-floor ab_twice w (refl, tt) h
+two_or_three_floor : (w : List ℕ) → Language two_or_three w → 6 ≤ length w
+two_or_three_floor w h = least-floor two_or_three w (refl, tt) h
 
 -- steps of a match
 none : (e : Groups) → MatchAll Nil e [] e
@@ -44,16 +37,16 @@ no_times : (body : Tree) (most : Option ℕ) (e : Groups) → IsWithin 0 most 0 
 no_times body most e h = (0, h, (refl, refl))
 
 -- a group with a text of two bytes
-group_ab : (k a b : ℕ) (e : Groups) → Match (Group k (lit (a ∷ b ∷ []))) e (a ∷ b ∷ []) (with_text e k (a ∷ b ∷ []))
-group_ab k a b e = group k (lit (a ∷ b ∷ [])) e e (a ∷ b ∷ [])
+group_ab : (k a b : ℕ) (e : Groups) → Match (Group k (text_tree (a ∷ b ∷ []))) e (a ∷ b ∷ []) (with_text e k (a ∷ b ∷ []))
+group_ab k a b e = group k (text_tree (a ∷ b ∷ [])) e e (a ∷ b ∷ [])
     (next (Byte a) (Then (Byte b) Nil) e e e (a ∷ []) (b ∷ []) (byte a e) (next (Byte b) Nil e e e (b ∷ []) [] (byte b e) (none e)))
 
 -- `ababab` is
-ab_twice_match : Language ab_twice (codes "ababab")
-ab_twice_match =
+two_or_three_match : Language two_or_three (codes "ababab")
+two_or_three_match =
     let one : Groups = with_text no_groups 1 (codes "ab") in
     let two : Groups = with_text one 1 (codes "ab") in
-    let body : Tree = Group 1 (lit (codes "ab")) in (
+    let body : Tree = Group 1 (text_tree (codes "ab")) in (
       two,
       next (Repeat body 2 (Some 3)) (Then (Repeat (Byte 99) 0 None) (Then (Ref 1) Nil)) no_groups two two (codes "abab") (codes "ab") (
         2,
@@ -71,80 +64,22 @@ ab_twice_match =
           (next (Ref 1) Nil two two two (codes "ab") [] (refl, refl) (none two))),
     )
 
--- `\(ab\)*\1`
-abbrev ab_any : Tree
-ab_any = seq (Repeat (Group 1 (lit (codes "ab"))) 0 None ∷ Ref 1 ∷ [])
-
-ab_any_least : least no_bounds ab_any ≡ 0
-ab_any_least = refl
-
 -- the empty text is in its language: a group that took no part counts as empty
-ab_any_empty : Language ab_any []
-ab_any_empty = (
+any_number_empty : Language any_number []
+any_number_empty = (
   no_groups,
-  next (Repeat (Group 1 (lit (codes "ab"))) 0 None) (Then (Ref 1) Nil) no_groups no_groups no_groups [] []
-      (no_times (Group 1 (lit (codes "ab"))) None no_groups (omega arith))
+  next (Repeat (Group 1 (text_tree (codes "ab"))) 0 None) (Then (Ref 1) Nil) no_groups no_groups no_groups [] []
+      (no_times (Group 1 (text_tree (codes "ab"))) None no_groups (omega arith))
       (next (Ref 1) Nil no_groups no_groups no_groups [] [] (refl, refl) (none no_groups)),
 )
-
--- `\(^a\)`, `^a\{3\}$`, `[]x]`, `*a`, `^*`, `\(\(.\)\2\)\{255\}`, `\(\)`
-least_1 : least no_bounds (seq (Group 1 (seq (Maybe 94 ∷ Byte 97 ∷ [])) ∷ [])) ≡ 1
-least_1 = refl
-
-least_2 : least no_bounds (seq (Start ∷ Repeat (Byte 97) 3 (Some 3) ∷ End ∷ [])) ≡ 3
-least_2 = refl
-
-least_3 : least no_bounds (seq (Set (0 ∷ 72057594574798848 ∷ 0 ∷ 0 ∷ []) ∷ [])) ≡ 1
-least_3 = refl
-
-least_4 : least no_bounds (seq (Byte 42 ∷ Byte 97 ∷ [])) ≡ 2
-least_4 = refl
-
-least_5 : least no_bounds (seq (Start ∷ Byte 42 ∷ [])) ≡ 1
-least_5 = refl
-
-least_6 : least no_bounds (seq (Repeat (Group 1 (seq (Group 2 (seq (Any ∷ [])) ∷ Ref 2 ∷ []))) 255 (Some 255) ∷ [])) ≡ 510
-least_6 = refl
-
-least_7 : least no_bounds (seq (Group 1 (seq []) ∷ [])) ≡ 0
-least_7 = refl
-
--- `\(a\)\(\1\1\)\(\2\2\)`, `\(x\(a\)*\)\{2\}\2`, `\(a\{255\}\)\{0,1\}\1`
-least_8 : least no_bounds (seq (Group 1 (seq (Byte 97 ∷ [])) ∷ Group 2 (seq (Ref 1 ∷ Ref 1 ∷ [])) ∷ Group 3 (seq (Ref 2 ∷ Ref 2 ∷ [])) ∷ [])) ≡ 7
-least_8 = refl
-
-least_9 : least no_bounds (seq (Repeat (Group 1 (seq (Byte 120 ∷ Repeat (Group 2 (seq (Byte 97 ∷ []))) 0 None ∷ []))) 2 (Some 2) ∷ Ref 2 ∷ [])) ≡ 2
-least_9 = refl
-
-abbrev many : ℕ → Tree → Tree
-many k t = seq (Group k (seq (Repeat t 255 (Some 255) ∷ [])) ∷ [])
-
-least_10 : least no_bounds (seq (Repeat (Group 1 (seq (Repeat (Byte 97) 255 (Some 255) ∷ []))) 0 (Some 1) ∷ Ref 1 ∷ [])) ≡ 0
-least_10 = refl
-
--- `\(\(a\{255\}\)\{255\}\)\{255\}`
-least_11 : least no_bounds
-    (seq (Repeat (Group 1 (seq (Repeat (Group 2 (seq (Repeat (Byte 97) 255 (Some 255) ∷ []))) 255 (Some 255) ∷ []))) 255 (Some 255) ∷ [])) ≡ 16581375
-least_11 = refl
-
--- `\(\(\(a\{255\}\)\{255\}\)\{255\}\)\{2\}` is above the cap
-least_12 : min
-    (least no_bounds
-    (seq (Repeat
-    (Group 1 (seq (Repeat (Group 2 (seq (Repeat (Group 3 (seq (Repeat (Byte 97) 255 (Some 255) ∷ []))) 255 (Some 255) ∷ []))) 255 (Some 255) ∷ []))) 2
-    (Some 2) ∷ []))) cap ≡ 16777215
-least_12 = refl
 
 -- Whether a group keeps the texts of the groups inside it: after `\(\(a\)*b\)*` has matched `ab` and then `b`, group 2 has `a` or nothing, so both
 -- `abba` and `abb` are in the language of `\(\(a\)*b\)*\2`.
 abbrev inner_a : Tree
-inner_a = Group 2 (lit (codes "a"))
+inner_a = Group 2 (text_tree (codes "a"))
 
 abbrev inner : Tree
-inner = seq (Repeat inner_a 0 None ∷ Byte 98 ∷ [])
-
-abbrev kept_or_lost : Tree
-kept_or_lost = seq (Repeat (Group 1 inner) 0 None ∷ Ref 2 ∷ [])
+inner = sequence_of (star inner_a ∷ Byte 98 ∷ [])
 
 first_round : Match (Group 1 inner) no_groups (codes "ab") (with_text (with_text no_groups 2 (codes "a")) 1 (codes "ab"))
 first_round =
@@ -158,7 +93,7 @@ first_round =
         [],
         one,
         refl,
-        group 2 (lit (codes "a")) no_groups no_groups (codes "a")
+        group 2 (text_tree (codes "a")) no_groups no_groups (codes "a")
             (next (Byte 97) Nil no_groups no_groups no_groups (codes "a") [] (byte 97 no_groups) (none no_groups)),
         (refl, refl),
       ),
@@ -178,7 +113,7 @@ second_round e d h = (
 
 both_rounds : (d : Groups) → (d ≡ with_text (with_text no_groups 2 (codes "a")) 1 (codes "ab"))
     ⊎ (d ≡ unset inner (with_text (with_text no_groups 2 (codes "a")) 1 (codes "ab")))
-    → Language kept_or_lost (codes "abb" ++ text_of (with_text d 1 (codes "b")) 2)
+    → Language nested (codes "abb" ++ text_of (with_text d 1 (codes "b")) 2)
 both_rounds d h =
     let one : Groups = with_text (with_text no_groups 2 (codes "a")) 1 (codes "ab") in
     let two : Groups = with_text d 1 (codes "b") in
@@ -189,8 +124,45 @@ both_rounds d h =
           ((back, [], two, sym (append-nil back), (refl, refl), (refl, refl))),
     )
 
-kept : Language kept_or_lost (codes "abba")
+kept : Language nested (codes "abba")
 kept = both_rounds (with_text (with_text no_groups 2 (codes "a")) 1 (codes "ab")) (inl refl)
 
-lost : Language kept_or_lost (codes "abb")
+lost : Language nested (codes "abb")
 lost = both_rounds (unset inner (with_text (with_text no_groups 2 (codes "a")) 1 (codes "ab"))) (inr refl)
+
+-- Reading each text gives its tree, and so the text spells it; or reading gives nothing, and so the text spells no tree.
+abbrev AreRead : List (List ℕ × Tree) → Type 0
+AreRead [] = Unit {0}
+AreRead (example ∷ examples) = (read full example.0 ≡ Some example.1) × AreRead examples
+
+all_spelled : (examples : List (List ℕ × Tree)) → AreRead examples → All (λ example. Shape example.0 example.1) examples
+all_spelled [] h = All-nil (λ example. Shape example.0 example.1)
+all_spelled (example ∷ examples) h =
+    All-cons (λ x. Shape x.0 x.1) example examples (shape_of example.0 example.1 h.0) (all_spelled examples h.1)
+
+abbrev AreRefused : List (List ℕ) → Type 0
+AreRefused [] = Unit {0}
+AreRefused (text ∷ texts) = (read full text ≡ None) × AreRefused texts
+
+all_refused : (texts : List (List ℕ)) → AreRefused texts → All (λ text. (tree : Tree) → ¬ Shape text tree) texts
+all_refused [] h = All-nil (λ text. (tree : Tree) → ¬ Shape text tree)
+all_refused (text ∷ texts) h = All-cons (λ x. (tree : Tree) → ¬ Shape x tree) text texts (none_of text h.0) (all_refused texts h.1)
+
+are_read : AreRead spelled_texts
+unfolding read items bracket_at elements_at interval_at
+are_read = (refl, (refl, (refl, (refl, (refl, (refl, (refl, (refl, (refl, (refl, (refl, (refl, (refl, tt)))))))))))))
+
+are_refused : AreRefused refused_texts
+unfolding read items bracket_at elements_at interval_at
+are_refused = (refl, (refl, (refl, (refl, (refl, (refl, (refl, (refl, (refl, (refl, (refl, (refl, (refl, tt)))))))))))))
+
+pub examples_hold : ExamplesHold
+examples_hold = record {
+  spelled = all_spelled spelled_texts are_read;
+  refused = all_refused refused_texts are_refused;
+  matches = two_or_three_match;
+  no_shorter = two_or_three_floor;
+  took_no_part = any_number_empty;
+  kept = kept;
+  unset = lost;
+}

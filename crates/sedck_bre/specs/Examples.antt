@@ -1,0 +1,76 @@
+-- Worked examples of expressions: which texts spell which trees, which spell none, and what some of them match.
+use Rattle.std.specs.Prelude.{ℕ, ◌≤◌, List, [], ◌∷◌, length, map, All, Some, None, codes}
+use Rattle.sedck_bre.specs.Bytes.{dollar, caret, letter_a, letter_b, letter_c}
+use Rattle.sedck_bre.specs.Tree.{Tree, Byte, Any, Set, Start, End, Maybe, Group, Ref, Seq, Repeat, trees}
+use Rattle.sedck_bre.specs.Match.{Language}
+use Rattle.sedck_bre.specs.Shape.{Shape}
+
+abbrev pub sequence_of : List Tree → Tree
+sequence_of items = Seq (trees items)
+
+-- the bytes of a text, one after another
+abbrev pub text_tree : List ℕ → Tree
+text_tree text = sequence_of (map Byte text)
+
+abbrev pub star : Tree → Tree
+star item = Repeat item 0 None
+
+abbrev pub spelled_texts : List (List ℕ × Tree)
+spelled_texts =
+    -- the empty expression of a group or of a whole
+    ([], sequence_of [])
+    ∷ (codes "\\(\\)", sequence_of (Group 1 (sequence_of []) ∷ []))
+    -- a `*` that is first, or directly after a `^` that is, is a byte
+    ∷ (codes "*a", text_tree (codes "*a"))
+    ∷ (codes "^*", sequence_of (Start ∷ Byte 42 ∷ []))
+    ∷ (codes "a*", sequence_of (star (Byte letter_a) ∷ []))
+    -- anchors; elsewhere `^` and `$` are bytes, and at an edge of a group they may be either
+    ∷ (codes "^a$", sequence_of (Start ∷ Byte letter_a ∷ End ∷ []))
+    ∷ (codes "$a^", text_tree (codes "$a^"))
+    ∷ (codes "\\(^a\\)", sequence_of (Group 1 (sequence_of (Maybe caret ∷ Byte letter_a ∷ [])) ∷ []))
+    -- groups are numbered by where they open
+    ∷ (codes "\\(\\(.\\)\\2\\)*", sequence_of (star (Group 1 (sequence_of (Group 2 (sequence_of (Any ∷ [])) ∷ Ref 2 ∷ []))) ∷ []))
+    -- intervals
+    ∷ (codes "a\\{2\\}b\\{2,\\}c\\{0,3\\}",
+       sequence_of (Repeat (Byte letter_a) 2 (Some 2) ∷ Repeat (Byte letter_b) 2 None ∷ Repeat (Byte letter_c) 0 (Some 3) ∷ []))
+    -- `+`, `?`, `{` and bars have no meaning of their own
+    ∷ (codes "a+?{|}()", text_tree (codes "a+?{|}()"))
+    -- a `]` that is the first element of a list is a byte; so is a `-` that is the last
+    ∷ (codes "[]x]", sequence_of (Set (0 ∷ 72057594574798848 ∷ 0 ∷ 0 ∷ []) ∷ []))
+    ∷ (codes "[x-]", sequence_of (Set (35184372088832 ∷ 72057594037927936 ∷ 0 ∷ 0 ∷ []) ∷ []))
+    ∷ []
+
+abbrev pub refused_texts : List (List ℕ)
+refused_texts =
+    -- a GNU operator, a second sign of repetition, a reference to no group
+    codes "a\\+" ∷ codes "a**" ∷ codes "\\(a\\)\\2"
+    -- what isn't closed, or isn't opened
+    ∷ codes "\\(a" ∷ codes "a\\)" ∷ codes "[a" ∷ codes "a\\"
+    -- an interval with its bounds in the wrong order, or above 255
+    ∷ codes "a\\{2,1\\}" ∷ codes "a\\{256\\}"
+    -- a range backwards, one of three bytes, a class that isn't one, and one as the end of a range
+    ∷ codes "[z-a]" ∷ codes "[a-c-e]" ∷ codes "[[:alfa:]]" ∷ codes "[[:alpha:]-z]"
+    ∷ []
+
+-- `\(ab\)\{2,3\}c*\1`
+abbrev pub two_or_three : Tree
+two_or_three = sequence_of (Repeat (Group 1 (text_tree (codes "ab"))) 2 (Some 3) ∷ star (Byte letter_c) ∷ Ref 1 ∷ [])
+
+-- `\(ab\)*\1`
+abbrev pub any_number : Tree
+any_number = sequence_of (star (Group 1 (text_tree (codes "ab"))) ∷ Ref 1 ∷ [])
+
+-- `\(\(a\)*b\)*\2`
+abbrev pub nested : Tree
+nested = sequence_of (star (Group 1 (sequence_of (star (Group 2 (text_tree (codes "a"))) ∷ Byte letter_b ∷ []))) ∷ Ref 2 ∷ [])
+
+pub record ExamplesHold : Type 0 where
+  pub spelled : All (λ example. Shape example.0 example.1) spelled_texts
+  pub refused : All (λ text. (tree : Tree) → ¬ Shape text tree) refused_texts
+  pub matches : Language two_or_three (codes "ababab")
+  pub no_shorter : (text : List ℕ) → Language two_or_three text → 6 ≤ length text
+  -- a group that took no part counts as the empty text
+  pub took_no_part : Language any_number []
+  -- after the second round of its group, `ab` and then `b`, the group inside has its text still, or none
+  pub kept : Language nested (codes "abba")
+  pub unset : Language nested (codes "abb")
