@@ -127,7 +127,7 @@ plain e f r l =
       cost = rw (e, f) (omega (arith, l));
     }
 
-simple_cheap : {bytes text rest : List ℕ} {v : Verb} → Simple bytes v → length rest ≤ length text → IsCheap v text rest
+simple_cheap : {b : ℕ} {text rest : List ℕ} {v : Verb} → Simple b v → length rest ≤ length text → IsCheap v text rest
 simple_cheap w.line_number l = plain refl refl tt l
 simple_cheap w.delete l = plain refl refl tt l
 simple_cheap w.delete_first_line l = plain refl refl tt l

@@ -8,16 +8,15 @@ use Rattle.sedck_script.specs.Parts.{Ends, Number, Name, Flags}
 use Rattle.sedck_script.specs.Parts as p
 use Rattle.sedck_script.specs.Private.Reading.{EndsIn}
 use Rattle.sedck_script.proofs.Tails.{number_tail, tail_tail, tail_behind}
-use Rattle.sedck_script.proofs.Heads.{heads}
 use Rattle.sedck_script.proofs.PartsOne.{no_end, ends_no_number, ends_first, number_no_byte, digit_no_end, number_one}
 
 -- no flag begins with this byte
 pub no_flag_by : {q : Pattern} {ps : List Part} {b : ℕ} {text r : List ℕ} {s : Substitution} → b ≢ 103 → b ≢ 112 → b ≢ 119 → is_digit b ≡ false
     → is_blank b ≡ false → is_ending b ≡ false → Flags q ps (b ∷ text) s r → ⊥
 no_flag_by {b = b} f g h i j k (p.none e) = both_ways (is_blank b || is_ending b) (or_from (is_blank b) (is_ending b) j k) (ends_first e)
-no_flag_by f g h i j k (p.file e n) = h (heads e)
-no_flag_by f g h i j k (p.global e x y) = f (heads e)
-no_flag_by f g h i j k (p.print e x y) = g (heads e)
+no_flag_by f g h i j k (p.file e n) = h e
+no_flag_by f g h i j k (p.global e x y) = f e
+no_flag_by f g h i j k (p.print e x y) = g e
 no_flag_by f g h i j k (p.number a x y) = number_no_byte refl i a
 
 pub no_flag : {q : Pattern} {ps : List Part} {b : ℕ} {text behind r : List ℕ} {s : Substitution} → text ≡ b ∷ behind → b ≢ 103 → b ≢ 112 → b ≢ 119
@@ -28,8 +27,8 @@ file_inside : {q : Pattern} {ps : List Part} {b : ℕ} {text r : List ℕ} {s : 
     → Flags q ps (b ∷ text) s r → ⊥
 file_inside h n (p.none e) = no_end h refl e
 file_inside h n (p.file e m) = n _ _ m
-file_inside h n (p.global e x y) = omega (arith, heads e)
-file_inside h n (p.print e x y) = omega (arith, heads e)
+file_inside h n (p.global e x y) = omega (arith, e)
+file_inside h n (p.print e x y) = omega (arith, e)
 file_inside h n (p.number a x y) = number_no_byte h refl a
 
 -- a `w` without a name
@@ -40,9 +39,9 @@ no_file {q} {ps} {r = r} {s = s} e h n x = file_inside h n (subst (λ t. Flags q
 number_inside : {q : Pattern} {ps : List Part} {b : ℕ} {text r : List ℕ} {s : Substitution} → is_digit b ≡ true
     → ((n : ℕ) (rest : List ℕ) → Number (b ∷ text) n rest → ⊥) → Flags q ps (b ∷ text) s r → ⊥
 number_inside {b = b} h n (p.none e) = digit_no_end b h (ends_first e)
-number_inside h n (p.file e m) = false≢true (ap is_digit (sym (heads e)) ∙ h)
-number_inside h n (p.global e x y) = false≢true (ap is_digit (sym (heads e)) ∙ h)
-number_inside h n (p.print e x y) = false≢true (ap is_digit (sym (heads e)) ∙ h)
+number_inside h n (p.file e m) = false≢true (ap is_digit (sym e) ∙ h)
+number_inside h n (p.global e x y) = false≢true (ap is_digit (sym e) ∙ h)
+number_inside h n (p.print e x y) = false≢true (ap is_digit (sym e) ∙ h)
 number_inside h n (p.number a x y) = n _ _ a
 
 -- digits that are no number
@@ -53,9 +52,9 @@ no_number {q} {ps} {r = r} {s = s} e h n x = number_inside h (λ m rest a. n m r
 no_end_inside : {q : Pattern} {ps : List Part} {b : ℕ} {behind r : List ℕ} {s : Substitution} → b ≢ 103 → b ≢ 112 → b ≢ 119 → is_digit b ≡ false
     → ((rest : List ℕ) → Ends (b ∷ behind) rest → ⊥) → Flags q ps (b ∷ behind) s r → ⊥
 no_end_inside f g h i n (p.none e) = n _ e
-no_end_inside f g h i n (p.file e m) = h (heads e)
-no_end_inside f g h i n (p.global e x y) = f (heads e)
-no_end_inside f g h i n (p.print e x y) = g (heads e)
+no_end_inside f g h i n (p.file e m) = h e
+no_end_inside f g h i n (p.global e x y) = f e
+no_end_inside f g h i n (p.print e x y) = g e
 no_end_inside f g h i n (p.number a x y) = number_no_byte refl i a
 
 -- no end, and no flag
@@ -108,25 +107,25 @@ record BehindNumber (q : Pattern) (ps : List Part) (n : ℕ) (behind r : List �
 global_inside : {q : Pattern} {ps : List Part} {b : ℕ} {behind r : List ℕ} {s : Substitution} → b ≡ 103 → Flags q ps (b ∷ behind) s r
     → BehindGlobal q ps behind r s
 global_inside h (p.none e) = absurd (no_end h refl e)
-global_inside h (p.file e m) = absurd (omega (arith, heads e))
+global_inside h (p.file e m) = absurd (omega (arith, e))
 global_inside h (p.global {others = o} e x y) = record { others = o; flags = x; none = y; is = refl }
-global_inside h (p.print e x y) = absurd (omega (arith, heads e))
+global_inside h (p.print e x y) = absurd (omega (arith, e))
 global_inside h (p.number a x y) = absurd (number_no_byte h refl a)
 
 print_inside : {q : Pattern} {ps : List Part} {b : ℕ} {behind r : List ℕ} {s : Substitution} → b ≡ 112 → Flags q ps (b ∷ behind) s r
     → BehindPrint q ps behind r s
 print_inside h (p.none e) = absurd (no_end h refl e)
-print_inside h (p.file e m) = absurd (omega (arith, heads e))
-print_inside h (p.global e x y) = absurd (omega (arith, heads e))
+print_inside h (p.file e m) = absurd (omega (arith, e))
+print_inside h (p.global e x y) = absurd (omega (arith, e))
 print_inside h (p.print {others = o} e x y) = record { others = o; flags = x; none = y; is = refl }
 print_inside h (p.number a x y) = absurd (number_no_byte h refl a)
 
 nth_inside : {q : Pattern} {ps : List Part} {n : ℕ} {text behind r : List ℕ} {s : Substitution} → Number text n behind → Flags q ps text s r
     → BehindNumber q ps n behind r s
 nth_inside a (p.none e) = absurd (ends_no_number e a)
-nth_inside a (p.file e m) = absurd (number_no_byte (heads e) refl a)
-nth_inside a (p.global e x y) = absurd (number_no_byte (heads e) refl a)
-nth_inside a (p.print e x y) = absurd (number_no_byte (heads e) refl a)
+nth_inside a (p.file e m) = absurd (number_no_byte e refl a)
+nth_inside a (p.global e x y) = absurd (number_no_byte e refl a)
+nth_inside a (p.print e x y) = absurd (number_no_byte e refl a)
 nth_inside {q} {ps} {r = r} a (p.number {others = o} b x y) =
     let one = number_one b a in
     record { others = o; flags = subst (λ t. Flags q ps t o r) one.1 x; none = y; is = ap (λ k. record o { nth = Some k }) one.0 }

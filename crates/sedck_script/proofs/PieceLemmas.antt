@@ -13,7 +13,6 @@ use Rattle.sedck_script.specs.Parts.{IsPattern, previous, expression}
 use Rattle.sedck_script.specs.Private.PieceReading.{IsPiece, list_escape, PatternText}
 use Rattle.sedck_script.proofs.PartsOne.{expression_one}
 use Rattle.sedck_script.proofs.Tails.{tail_tail}
-use Rattle.sedck_script.proofs.Heads.{heads}
 use Rattle.std.proofs.lemmas.List.{nil_from_length}
 
 pub piece_tail : (d : ℕ) (text rest : List ℕ) (x : Piece) → IsPiece d text x rest → EndsIn text rest
@@ -169,7 +168,7 @@ pub list_pair : {d b m : ℕ} {text behind : List ℕ} → d ≢ 92 → list_esc
 list_pair {d} {b} {m} n k h = record {
   sound = λ e r x. subst (λ t. DelimitedList d t (m ∷ e) r) (sym h.0) (elim (escape_cases b m k) [
     | inl f ↦ rw f.1 (p.backslashes refl f.0 x)
-    | inr f ↦ rw f.1 (p.line refl h.1 (ap (λ c. c ∷ []) f.0) x)
+    | inr f ↦ rw f.1 (p.line refl h.1 f.0 x)
   ]);
   only = λ e r x. only_list_two n refl (subst (λ t. DelimitedList d t e r) h.0 x);
 }
@@ -188,7 +187,7 @@ no_list_pair n m k l (p.ends h) = n (sym h ∙ m)
 no_list_pair n m k l (p.byte f g h x) = g m
 no_list_pair n m k l (p.escaped f g h x) = k g
 no_list_pair n m k l (p.backslashes f g x) = let h = rw g at l in cc
-no_list_pair n m k l (p.line f g h x) = let e = heads h in let i = rw e at l in cc
+no_list_pair n m k l (p.line f g h x) = let e = h in let i = rw e at l in cc
 
 -- where an escape follows that means nothing
 pub list_broken : {d b : ℕ} {whole text bytes rest behind : List ℕ} → d ≢ 92 → ListPassed d whole text bytes rest

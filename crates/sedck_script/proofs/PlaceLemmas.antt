@@ -129,7 +129,7 @@ is_previous : {q : Pattern} → has_previous (q ∷ []) ≡ true → q ≡ Previ
 is_previous {q = Previous} h = refl
 is_previous {q = Expression tree} h = absurd (false≢true h)
 
-simple_plain : {text : List ℕ} {v : Verb} → Simple text v → has_previous (verb_patterns v) ≡ true → ⊥
+simple_plain : {b : ℕ} {v : Verb} → Simple b v → has_previous (verb_patterns v) ≡ true → ⊥
 simple_plain w.line_number h = false≢true h
 simple_plain w.delete h = false≢true h
 simple_plain w.delete_first_line h = false≢true h

@@ -1,10 +1,10 @@
 -- What the first byte of a verb says of it.
-use Rattle.std.proofs.Common.{◌≡◌, ◌≢◌, ℕ, Bool, true, false, not, ◌&&◌, eqb, List, [], ◌∷◌, Option, Some, refl, sym, ◌∙◌, subst, arith}
+use Rattle.std.proofs.Common.{◌≡◌, ◌≢◌, ℕ, Bool, true, false, not, ◌&&◌, eqb, List, ◌∷◌, Option, Some, refl, sym, ◌∙◌, subst, arith}
 use Rattle.std.proofs.lemmas.Bool.{false≢true, eq-eqb}
 use Rattle.std.proofs.lemmas.Option.{same_Some}
 use Rattle.sedck_bre.specs.Text.{is_in, one_of}
 use Rattle.sedck_script.specs.Program.{Address, NoAddress, One, Two, Verb}
-use Rattle.sedck_script.specs.Items.{WrittenVerb, Known, Opening, Simple, VerbText, Takes, IsNoBrace}
+use Rattle.sedck_script.specs.Items.{WrittenVerb, Known, Opening, Simple, VerbText, Takes}
 use Rattle.sedck_script.specs.Items as w
 use Rattle.sedck_script.specs.Faults.{verb_bytes}
 use Rattle.sedck_script.specs.Private.Progress.{is_none, is_two, takes}
@@ -47,7 +47,7 @@ none_is NoAddress true h = absurd (false≢true h)
 none_is (One x) n h = absurd (false≢true h)
 none_is (Two x y) n h = absurd (false≢true h)
 
-simple_byte : {b : ℕ} {v : Verb} → Simple (b ∷ []) v → IsVerbByte b (Known v)
+simple_byte : {b : ℕ} {v : Verb} → Simple b v → IsVerbByte b (Known v)
 simple_byte w.line_number = any_addresses 61 refl (λ a n. refl) (λ a n. tt) refl no_opening
 simple_byte w.delete = any_addresses 100 refl (λ a n. refl) (λ a n. tt) refl no_opening
 simple_byte w.delete_first_line = any_addresses 68 refl (λ a n. refl) (λ a n. tt) refl no_opening
@@ -84,17 +84,17 @@ byte_of e (w.label h l n f) = along (sym (heads e) ∙ h)
     })
 byte_of e (w.opening h) = along (sym (heads e) ∙ h)
     (record { known = refl; takes_so = λ a n h. tt; taken_so = λ a n h. refl; opens = λ e. refl; opening = λ e. refl })
-byte_of e (w.branch h l n f) = along (sym (heads e) ∙ heads h) (any_addresses 98 refl (λ a n. refl) (λ a n. tt) refl (λ e. cc e))
-byte_of e (w.branch_to_end h n f) = along (sym (heads e) ∙ heads h) (any_addresses 98 refl (λ a n. refl) (λ a n. tt) refl (λ e. cc e))
-byte_of e (w.test h l n f) = along (sym (heads e) ∙ heads h) (any_addresses 116 refl (λ a n. refl) (λ a n. tt) refl (λ e. cc e))
-byte_of e (w.test_to_end h n f) = along (sym (heads e) ∙ heads h) (any_addresses 116 refl (λ a n. refl) (λ a n. tt) refl (λ e. cc e))
-byte_of e (w.append h l g) = along (sym (heads e) ∙ heads h) (any_addresses 97 refl (λ a n. refl) (λ a n. tt) refl (λ e. cc e))
-byte_of e (w.change h l g) = along (sym (heads e) ∙ heads h) (any_addresses 99 refl (λ a n. refl) (λ a n. tt) refl (λ e. cc e))
-byte_of e (w.insert h l g) = along (sym (heads e) ∙ heads h) (any_addresses 105 refl (λ a n. refl) (λ a n. tt) refl (λ e. cc e))
-byte_of e (w.read h n) = along (sym (heads e) ∙ heads h) (any_addresses 114 refl (λ a n. refl) (λ a n. tt) refl (λ e. cc e))
-byte_of e (w.write h n) = along (sym (heads e) ∙ heads h) (any_addresses 119 refl (λ a n. refl) (λ a n. tt) refl (λ e. cc e))
-byte_of e (w.substitute h d x y z g f) = along (sym (heads e) ∙ heads h) (any_addresses 115 refl (λ a n. refl) (λ a n. tt) refl (λ e. cc e))
-byte_of e (w.transliterate h d x y l f) = along (sym (heads e) ∙ heads h) (any_addresses 121 refl (λ a n. refl) (λ a n. tt) refl (λ e. cc e))
+byte_of e (w.branch h l n f) = along (sym (heads e) ∙ h) (any_addresses 98 refl (λ a n. refl) (λ a n. tt) refl (λ e. cc e))
+byte_of e (w.branch_to_end h n f) = along (sym (heads e) ∙ h) (any_addresses 98 refl (λ a n. refl) (λ a n. tt) refl (λ e. cc e))
+byte_of e (w.test h l n f) = along (sym (heads e) ∙ h) (any_addresses 116 refl (λ a n. refl) (λ a n. tt) refl (λ e. cc e))
+byte_of e (w.test_to_end h n f) = along (sym (heads e) ∙ h) (any_addresses 116 refl (λ a n. refl) (λ a n. tt) refl (λ e. cc e))
+byte_of e (w.append h l g) = along (sym (heads e) ∙ h) (any_addresses 97 refl (λ a n. refl) (λ a n. tt) refl (λ e. cc e))
+byte_of e (w.change h l g) = along (sym (heads e) ∙ h) (any_addresses 99 refl (λ a n. refl) (λ a n. tt) refl (λ e. cc e))
+byte_of e (w.insert h l g) = along (sym (heads e) ∙ h) (any_addresses 105 refl (λ a n. refl) (λ a n. tt) refl (λ e. cc e))
+byte_of e (w.read h n) = along (sym (heads e) ∙ h) (any_addresses 114 refl (λ a n. refl) (λ a n. tt) refl (λ e. cc e))
+byte_of e (w.write h n) = along (sym (heads e) ∙ h) (any_addresses 119 refl (λ a n. refl) (λ a n. tt) refl (λ e. cc e))
+byte_of e (w.substitute h d x y z g f) = along (sym (heads e) ∙ h) (any_addresses 115 refl (λ a n. refl) (λ a n. tt) refl (λ e. cc e))
+byte_of e (w.transliterate h d x y l f) = along (sym (heads e) ∙ h) (any_addresses 121 refl (λ a n. refl) (λ a n. tt) refl (λ e. cc e))
 
 pub same_byte : {a b : ℕ} {o : Option ℕ} → o ≡ Some a → o ≡ Some b → a ≡ b
 same_byte e f = same_Some _ _ (sym e ∙ f)

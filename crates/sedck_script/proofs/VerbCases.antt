@@ -8,7 +8,7 @@ use Rattle.sedck_bre.specs.Text.{is_in, one_of}
 use Rattle.sedck_script.specs.Cuts.{is_blank, Longest}
 use Rattle.sedck_script.specs.Program.{Verb, Label}
 use Rattle.sedck_script.specs.Parts.{Ends, LabelText, Name, GivenText}
-use Rattle.sedck_script.specs.Items.{WrittenVerb, Known, BranchTo, TestTo, Opening, Simple, VerbText, IsNoBrace, IsNoComment}
+use Rattle.sedck_script.specs.Items.{WrittenVerb, Known, BranchTo, TestTo, Simple, VerbText, IsNoBrace}
 use Rattle.sedck_script.specs.Items as w
 use Rattle.sedck_script.specs.Faults.{verb_bytes}
 use Rattle.sedck_script.specs.Private.Reading.{label_place}
@@ -87,7 +87,7 @@ no_name b h n verb rest x = elim (cases_Bool (eqb b 114)) [
 ]
 
 -- a verb that takes nothing, and doesn't end
-pub simple_no_end : {b : ℕ} {text : List ℕ} {simple : Verb} → Simple (b ∷ []) simple → ((r : List ℕ) → Ends text r → ⊥)
+pub simple_no_end : {b : ℕ} {text : List ℕ} {simple : Verb} → Simple b simple → ((r : List ℕ) → Ends text r → ⊥)
     → (verb : WrittenVerb) (rest : List ℕ) → VerbText (b ∷ text) verb rest → ⊥
 simple_no_end s n verb rest (w.simple x e) = n rest e
 simple_no_end s n verb rest x = differ 0 (class_of x) refl (sym (simple_class s) ∙ begins x)

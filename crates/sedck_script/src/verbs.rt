@@ -39,7 +39,7 @@ pub enum Written<'a> {
 
 /// The verb of a byte, if it takes nothing.
 fn simple_verb<'a>(b: u8) -> Option<Verb<'a>>
-    ensures some { IfSome result (λ verb. Simple (b ∷ []) (verb_of verb)) }
+    ensures some { IfSome result (λ verb. Simple b (verb_of verb)) }
     ensures none { IfNone result (one_of "=dDgGhHlnNpPqx" b ≡ false) }
 {
     match b {

@@ -1,14 +1,14 @@
-use Rattle.std.proofs.Common.{[], ◌∷◌, ap, sym, ◌∙◌, subst, arith}
+use Rattle.std.proofs.Common.{sym, ◌∙◌, subst, arith}
 use Rattle.sedck_script.specs.Program.{Text}
 use Rattle.sedck_script.specs.Parts.{EscapedPart, line, tabulator, group, other}
 use Rattle.sedck_script.proofs.ReplacementLemmas.{digit_group}
 use Rattle.sedck_script.proofs.replacements.escaped_part.Goals as goal
 
 pub returns-then-b-eq110-clause-read : goal.returns-then-b-eq110-clause-read
-returns-then-b-eq110-clause-read c = (line (ap (λ b. b ∷ []) c.if-b-eq110.true), tt)
+returns-then-b-eq110-clause-read c = (line c.if-b-eq110.true, tt)
 
 pub returns-then-b-eq116-clause-read : goal.returns-then-b-eq116-clause-read
-returns-then-b-eq116-clause-read c = (tabulator (ap (λ b. b ∷ []) c.if-b-eq116.true), tt)
+returns-then-b-eq116-clause-read c = (tabulator c.if-b-eq116.true, tt)
 
 pub returns-then-not-is_digit-clause-read : goal.returns-then-not-is_digit-clause-read
 returns-then-not-is_digit-clause-read c = (

@@ -1,4 +1,3 @@
-use Rattle.std.proofs.Common.{[], ◌∷◌, ap}
 use Rattle.sedck_script.specs.Items.{read, write}
 use Rattle.sedck_script.proofs.VerbCases.{write_byte, no_name}
 use Rattle.sedck_script.proofs.verbs.file_verb.Goals as goal
@@ -7,7 +6,7 @@ pub returns-in_default-clause-refused : goal.returns-in_default-clause-refused
 returns-in_default-clause-refused c = no_name c.args.verb c.requires c.in_default.ensures.none
 
 pub returns-then-verb-eq114-clause-read : goal.returns-then-verb-eq114-clause-read
-returns-then-verb-eq114-clause-read c = read (ap (λ b. b ∷ []) c.if-verb-eq114.true) c.in-Some.ensures.read
+returns-then-verb-eq114-clause-read c = read c.if-verb-eq114.true c.in-Some.ensures.read
 
 pub returns-clause-read : goal.returns-clause-read
-returns-clause-read c = write (ap (λ b. b ∷ []) (write_byte c.args.verb c.requires c.if-verb-eq114.false)) c.in-Some.ensures.read
+returns-clause-read c = write (write_byte c.args.verb c.requires c.if-verb-eq114.false) c.in-Some.ensures.read

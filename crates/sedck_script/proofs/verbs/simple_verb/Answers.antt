@@ -1,11 +1,11 @@
-use Rattle.std.proofs.Common.{ℕ, [], ◌∷◌, sym, subst, ◌≡◌}
+use Rattle.std.proofs.Common.{ℕ, sym, subst, ◌≡◌}
 use Rattle.sedck_script.specs.Program.{Verb}
 use Rattle.sedck_script.specs.Items.{Simple}
 use Rattle.sedck_script.specs.Items as w
 use Rattle.sedck_script.proofs.verbs.simple_verb.Goals as goal
 
-here : {b c : ℕ} {verb : Verb} → b ≡ c → Simple (c ∷ []) verb → Simple (b ∷ []) verb
-here {verb = verb} e x = subst (λ k. Simple (k ∷ []) verb) (sym e) x
+here : {b c : ℕ} {verb : Verb} → b ≡ c → Simple c verb → Simple b verb
+here {verb = verb} e x = subst (λ k. Simple k verb) (sym e) x
 
 pub returns-in-61-clause-some : goal.returns-in-61-clause-some
 returns-in-61-clause-some c = here c.in-61.is w.line_number
