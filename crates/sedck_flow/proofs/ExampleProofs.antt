@@ -11,13 +11,13 @@ use Rattle.sedck_script.specs.Program.{Expression, Part, Group as Reference}
 use Rattle.sedck_flow.specs.Run.{Machine, At}
 use Rattle.sedck_flow.specs.declared.graph.Node.{Node}
 use Rattle.sedck_flow.specs.declared.graph.Kind.TheVariants.{Shorten, Keep}
-use Rattle.sedck_flow.specs.Substitutes.{Found}
+use Rattle.sedck_flow.specs.Substitutes.{Occurrence}
 use Rattle.sedck_flow.specs.Words.{edge_words}
 use Rattle.sedck_flow.specs.Examples.{ExamplesHold, one_x, any_xs, replacing, delete_matches, a_then_b, one_c, replacing_previous, replace_previous, b_in_group, replace_once, group_in_dashes, edge}
 use Rattle.sedck_flow.proofs.States.{at_inj}
 
 -- an empty match, and what stands behind it
-abbrev empty_before : List ℕ → Found
+abbrev empty_before : List ℕ → Occurrence
 empty_before behind = record { whole = []; groups = no_groups; behind = behind }
 
 edge_text : edge_words (edge 1 false true 2 true true Shorten) ≡ codes "1 0 1 2 1 1 shorten"

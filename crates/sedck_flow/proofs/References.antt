@@ -10,7 +10,7 @@ use Rattle.sedck_bre.proofs.DifferentGroups.{AreDifferentTopGroups}
 use Rattle.sedck_script.specs.References.{HasNoWhole, named_groups, IsNotIn, AreDistinct, AreTopGroups, KeepsGroups}
 use Rattle.sedck_script.specs.Program.{Pattern, Previous, Expression, Part, Text, Newline, Tab, Whole, Group, literal_length}
 use Rattle.sedck_flow.specs.Flow.{IsWholeAlone}
-use Rattle.sedck_flow.specs.Substitutes.{Found, replacement}
+use Rattle.sedck_flow.specs.Substitutes.{Occurrence, replacement}
 
 -- holds or fails
 abbrev pub Decided : Type 0 → Type 0
@@ -19,7 +19,7 @@ Decided P = P ⊎ (¬ P)
 -- ---- Lengths
 
 -- its literal parts and the texts of the groups, one after another
-pub length-replacement : (m : Found) (parts : List Part) → HasNoWhole parts
+pub length-replacement : (m : Occurrence) (parts : List Part) → HasNoWhole parts
     → length (replacement parts m) ≡ literal_length parts + texts_length m.groups (named_groups parts)
 length-replacement m [] h = refl
 length-replacement m (Text bytes ∷ parts) h = length-append bytes (replacement parts m) ∙ omega (arith, length-replacement m parts h)
@@ -29,7 +29,7 @@ length-replacement m (Whole ∷ parts) h = absurd h
 length-replacement m (Group k ∷ parts) h = length-append (text_of m.groups k) (replacement parts m) ∙ omega (arith, length-replacement m parts h)
 
 -- `&` alone puts the match back
-pub length-alone : (m : Found) (parts : List Part) → IsWholeAlone parts → length (replacement parts m) ≡ length m.whole
+pub length-alone : (m : Occurrence) (parts : List Part) → IsWholeAlone parts → length (replacement parts m) ≡ length m.whole
 length-alone m [] h = absurd h
 length-alone m (Whole ∷ []) h = omega (arith, length-append m.whole [])
 length-alone m (Whole ∷ part ∷ parts) h = absurd h
