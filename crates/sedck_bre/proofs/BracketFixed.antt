@@ -80,7 +80,7 @@ elements_step first text =
     (bind_alike (element_at first text) (others (elements_at (length text))) (others elements_of) (Shorter text) (element_shorter first text)
     (λ x s. ap (λ o. o >>= before_elements x.0) (alike (length text) (length x.1 + 1) false x.1 s (omega arith))))
 
--- what stands behind the opening bracket
+-- what follows the opening bracket
 inside_is : (text : List ℕ) → inside_at text ≡ cond (begins "^" text) (set_at true (drop 1 text)) (set_at false text)
 unfolding elements_of
 inside_is text = go (begins "^" text) refl

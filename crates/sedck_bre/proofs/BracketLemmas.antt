@@ -74,7 +74,7 @@ is_closing_front [] = false
 is_closing_front (c ∷ []) = c == 93
 is_closing_front (c ∷ d ∷ _) = (c == 93) || ((c == 45) && (d == 93))
 
--- whether a range begins there can be told from the text up to the closing bracket
+-- whether a range begins there is known from the text up to the closing bracket
 pub range_before : (v rest : List ℕ) → is_closing_front v ≡ false → ranges (v ++ 93 ∷ rest) ≡ false → begins_range v ≡ false
 range_before [] rest h k = refl
 range_before (c ∷ []) rest h k = refl

@@ -23,7 +23,7 @@ symbol_takes mark (c ∷ d ∷ e ∷ text) =
     ∙ ap (λ x. c ∷ mark ∷ x ∷ text) (eqb-true e 93 both.1))
     (λ _. tt)
 
--- a byte is written at the front of the text, before the rest
+-- a byte is written at the start of the text, before the rest
 abbrev pub IsByteBefore : List ℕ → ℕ × List ℕ → Type 0
 IsByteBefore text x = (u : List ℕ) × (text ≡ u ++ x.1) × WritesByte u x.1 x.0
 
@@ -63,7 +63,7 @@ writes_before u v rest c (inr h) = inr h
 
 -- ---- One element
 
--- the element is written at the front of the text, whatever elements come up to the closing bracket
+-- the element is written at the start of the text, whatever elements come up to the closing bracket
 abbrev IsElementBefore : Bool → List ℕ → Element × List ℕ → Type 0
 IsElementBefore first text x = (u : List ℕ) × (text ≡ u ++ x.1)
     × ((v rest : List ℕ) → x.1 ≡ v ++ 93 ∷ rest → is_closing_front v ≡ false → WritesElement first u v x.0)

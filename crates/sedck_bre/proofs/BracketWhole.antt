@@ -111,7 +111,7 @@ bracket_again u words rest h member = ap (λ x. bracket_at (x ++ rest)) h.writte
 
 -- ---- What is read is a bracket list
 
--- a bracket list stands at the front of the text
+-- a bracket list is at the start of the text
 abbrev pub IsListBefore : List ℕ → List ℕ × List ℕ → Type 0
 IsListBefore text x = (u : List ℕ) × (text ≡ u ++ x.1) × (is_empty u ≡ false) × IsBracketList u x.0 × HasMember x.0
 

@@ -35,7 +35,7 @@ begins_index : (s : String) (text : List ℕ) → IsTrue (begins s text) → (0 
 begins_index s [] h = absurd (false≢true h)
 begins_index s (c ∷ text) h = (omega arith, h)
 
--- what stands at the place of a part that begins with one of these bytes
+-- what is at the place of a part that begins with one of these bytes
 pub stands_at : (whole text : List ℕ) (s : String) → IsTail whole text → IsTrue (begins s text) → HasOneAt whole (length whole - length text) s
 stands_at whole text s h b =
     let first = begins_index s text b in

@@ -51,7 +51,7 @@ fault_place (TooDeep place) = Some place
 fault_place (TooManyGroups place) = Some place
 fault_place OutOfMemory = None
 
--- what stands behind the name
+-- what follows the name
 abbrev pub place_words : Option ℕ → List ℕ
 place_words None = codes ""
 place_words (Some place) = codes " at " ++ decimal place

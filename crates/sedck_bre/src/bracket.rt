@@ -128,7 +128,7 @@ fn last_dash(text: &[u8]) -> Result<(Element, &[u8]), Flaw>
     }
 }
 
-/// The element at the front, and what follows it.
+/// The element at the start, and what follows it.
 fn next_element(first: bool, text: &[u8]) -> Result<(Element, &[u8]), Flaw>
     ensures read { Reads (λ x. (element_of x.0, x.1.now)) result (element_at first text.now) }
     ensures ended { length text.now ≡ 0 → result ≡ Err Flaw.Unclosed }
@@ -224,7 +224,7 @@ fn begins_with_caret(text: &[u8]) -> bool
     }
 }
 
-/// The set of the bracket list at the front, and what follows its closing bracket.
+/// The set of the bracket list at the start, and what follows its closing bracket.
 pub(crate) fn bracket<'a>(whole: &[u8], text: &'a [u8]) -> Result<(ByteSet, &'a [u8]), ReFault>
     requires tail { IsTail whole.now text.now }
     requires opens { begins "[" text.now ≡ true }

@@ -1,3 +1,5 @@
+//! Why a text is no expression, and where.
+
 ghost use Rattle.std.specs.Prelude.{◌≡◌, Some};
 ghost use Rattle.sedck_bre.specs.declared.fault.ReFault.TheVariants.{OutOfMemory};
 
@@ -84,7 +86,7 @@ impl ReFault {
         }
     }
 
-    /// The place, which every fault but want of memory has.
+    /// The place, which every fault but `OutOfMemory` has.
     pub fn place(self) -> Option<usize>
         ensures { result ≡ fault_place self }
     {

@@ -6,7 +6,7 @@ ghost use Rattle.sedck_bre.specs.Private.IntervalReading.{number_at, most_at, bo
 
 use crate::text::begins_with;
 
-/// The number at the front, where it has a digit and is at most 255, and what follows it.
+/// The number at the start, where it has a digit and is at most 255, and what follows it.
 fn number(text: &[u8]) -> Option<(u8, &[u8])>
     ensures { option_map (λ x. (x.0, x.1.now)) result ≡ number_at text.now }
 {
@@ -36,7 +36,7 @@ fn begins_with_comma(text: &[u8]) -> bool
     }
 }
 
-/// What stands behind the comma of an interval: the second number and the end.
+/// What follows the comma of an interval: the second number and the end.
 fn most(least: u8, text: &[u8]) -> Option<(u8, Option<u8>, &[u8])>
     ensures { option_map (λ x. (x.0, x.1, x.2.now)) result ≡ most_at least text.now }
 {
@@ -48,7 +48,7 @@ fn most(least: u8, text: &[u8]) -> Option<(u8, Option<u8>, &[u8])>
     }
 }
 
-/// What stands behind the opening of an interval.
+/// What follows the opening of an interval.
 fn bounds(text: &[u8]) -> Option<(u8, Option<u8>, &[u8])>
     ensures { option_map (λ x. (x.0, x.1, x.2.now)) result ≡ bounds_at text.now }
 {
@@ -66,7 +66,7 @@ fn bounds(text: &[u8]) -> Option<(u8, Option<u8>, &[u8])>
     most(least, after)
 }
 
-/// The bounds of the interval at the front, and what follows it.
+/// The bounds of the interval at the start, and what follows it.
 #[tactic(auto, unfolding(crate::specs::Private::IntervalReading::interval_at))]
 pub(crate) fn interval(text: &[u8]) -> Option<(u8, Option<u8>, &[u8])>
     ensures { option_map (λ x. (x.0, x.1, x.2.now)) result ≡ interval_at text.now }

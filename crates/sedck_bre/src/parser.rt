@@ -1,3 +1,5 @@
+//! From a text to the expression that it spells.
+
 ghost use Rattle.std.specs.Prelude.{◌≡◌, IfOk, IfErr};
 ghost use Rattle.sedck_bre.specs.Tree.{Tree};
 ghost use Rattle.sedck_bre.specs.Shape.{Shape};
@@ -8,7 +10,7 @@ use crate::reader::{Groups, list};
 use crate::tree::{Bre, Expr};
 use std::alloc::Global;
 
-/// The expression that the text spells. Of several faults the one that is met first is told.
+/// The expression that the text spells. Of several faults the one that is met first is reported.
 pub fn parse(alloc: Global, text: &[u8]) -> Result<Expr, ReFault>
     ensures shape { IfOk result (λ e. Shape text.now e) }
     ensures only { IfOk result (λ e. (t : Tree) → Shape text.now t → t ≡ e) }

@@ -157,7 +157,7 @@ fn single<'a>(
     }
 }
 
-/// What stands behind a backslash that opens no group.
+/// What follows a backslash that opens no group.
 fn backslash<'a>(
     whole: &[u8],
     position: Position,

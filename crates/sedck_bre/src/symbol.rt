@@ -51,7 +51,7 @@ pub(crate) fn class(text: &[u8]) -> Option<(Class, &[u8])>
     None
 }
 
-/// What follows the name of the class and its `:]`, if they stand at the front.
+/// What follows the name of the class and its `:]`, if they are at the start.
 fn behind_name(class: Class, text: &[u8]) -> Option<&[u8]>
     ensures { option_map (λ x. x.now) result ≡ behind_name (class_of class) text.now }
 {

@@ -1,3 +1,5 @@
+//! Expressions as trees, and what is kept with a whole one.
+
 ghost use Rattle.std.specs.Prelude.{◌≡◌};
 ghost use Rattle.sedck_bre.specs.View.{tree};
 ghost use Rattle.sedck_bre.specs.Tree.{group_count};

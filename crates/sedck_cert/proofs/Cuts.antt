@@ -64,7 +64,7 @@ words_on text a b mid rest is more = is ∙ ap (λ t. a ++ 32 ∷ t) more ∙ si
 words_apart : (text a b rest : List ℕ) → text ≡ (a ++ codes " " ++ b) ++ 32 ∷ rest → text ≡ a ++ 32 ∷ (b ++ 32 ∷ rest)
 words_apart text a b rest is = is ∙ simp append_assoc
 
--- what stands behind the word
+-- what follows the word
 abbrev pub FindsBehind : List ℕ → List ℕ → Option (Bor (List ℕ)) → Type 0
 FindsBehind text word r = MatchOption r ((rest : List ℕ) → text ≡ word ++ 32 ∷ rest → ⊥) (λ rest. text ≡ word ++ 32 ∷ rest.now)
 

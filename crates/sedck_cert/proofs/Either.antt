@@ -1,4 +1,4 @@
--- Texts of either version: one certificate at most, and none where the version that the text tells has none.
+-- Texts of either version: one certificate at most, and none where the version that the text names has none.
 use Rattle.std.proofs.Common.{◌≡◌, ◌⊎◌, inl, inr, ℕ, List, get_or, Bool, true, false, Result, Ok, Err, IfOk, IfErr, arith, sym, ◌∙◌, ap, subst}
 use Rattle.sedck_cert.specs.Certificate.{Certificate}
 use Rattle.sedck_cert.specs.Text.{header, IsTextOf}
@@ -20,7 +20,7 @@ use Rattle.sedck_cert.proofs.Texts.{header-one_line}
 use Rattle.sedck_cert.proofs.Pieces.{header_first}
 use Rattle.sedck_cert.proofs.Again.{lines_one, text_of_one}
 
--- ---- The version that a text tells
+-- ---- The version that a text names
 
 headers_differ : header One ≡ header Two → ⊥
 headers_differ e = let digits : 49 ≡ 50 = ap (λ t. get_or t 6 0) e in omega (arith, digits)
@@ -81,7 +81,7 @@ refused_two text fault silent (inr (none, is)) = inr (
   (Two, silent, is),
 )
 
--- what the reader of version 2 answers where the text doesn't tell version 1
+-- what the reader of version 2 answers where the text doesn't name version 1
 pub two_only : (text : List ℕ) (r : Result Certificate CertFault) → IfOk r (IsTextOf Two text)
     → IfOk r (λ cert. (other : Certificate) → SpellsCertificate text other → other ≡ cert)
 two_only text (Ok cert) h = λ other spells. spelled_one text cert other (inl h) spells

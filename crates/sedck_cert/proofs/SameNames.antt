@@ -1,4 +1,4 @@
--- Two rising lists of the same names are one list.
+-- Two sorted lists of the same names are one list.
 use Rattle.std.proofs.Common.{◌≡◌, ◌↔◌, ℕ, suc, List, [], ◌∷◌, Contains, refl, sym, ap, ◌∙◌, subst, inl, inr, arith}
 use Rattle.std.specs.List.{AllByRecursion}
 use Rattle.std.specs.declared.cmp.Ordering.TheVariants.{Less, Greater}
@@ -27,7 +27,7 @@ behind name other names all h = All-contains (IsBefore name) names other (All-fr
 never_before : (name : List ℕ) → IsBefore name name → ⊥
 never_before name h = let turned : Less ≡ Greater = sym h ∙ nat_list_cmp_total.antisymm name name ∙ ap ordering_reverse h in cc
 
--- of two rising lists with the same names the first names are the same
+-- of two sorted lists with the same names the first names are the same
 first_same : (a b : List ℕ) (xs ys : List (List ℕ)) → Rises (a ∷ xs) → Rises (b ∷ ys) → Contains (b ∷ ys) a → Contains (a ∷ xs) b → a ≡ b
 first_same a b xs ys rise_a rise_b has_a has_b =
     elim (Contains-cons_cases a xs b has_b) [

@@ -4,13 +4,13 @@ use Rattle.std.proofs.lemmas.List.{take_rest}
 use Rattle.std.proofs.KnownBytes.{Appends-trans}
 use Rattle.std.specs.Io.KnownBytes.{Appends}
 
--- a front of the text is written, and this is the rest of it
+-- a prefix of the text is written, and this is the rest of it
 pub record IsPartWritten (before after : Option (List ℕ)) (text rest : List ℕ) : Type 0 where
   pub front : List ℕ
   pub is_text : text ≡ front ++ rest
   pub taken : Appends before after front
 
--- so many bytes of the rest are written too
+-- this many bytes of the rest are written too
 pub more_written : (before mid after : Option (List ℕ)) (text rest : List ℕ) (count : ℕ) → IsPartWritten before mid text rest
     → Appends mid after (take count rest)
     → IsPartWritten before after text (take (length rest - count) (drop count rest))

@@ -22,7 +22,7 @@ appends_join (Some as') None c xs ys h k = absurd h
 appends_join (Some as') (Some bs) None xs ys h k = absurd k
 appends_join (Some as') (Some bs) (Some cs) xs ys h k = k ∙ ap (λ t. t ++ ys) h ∙ append_assoc as' xs ys
 
--- a front of a longer text
+-- a prefix of a longer text
 pub begins_longer : (a b : Option (List ℕ)) (text rest : List ℕ) → AppendsFront a b text → AppendsFront a b (text ++ rest)
 begins_longer a b text rest h = (h.0, (h.1.0 ++ rest, ap (λ t. t ++ rest) h.1.1 ∙ append_assoc h.0 h.1.0 rest), h.2)
 

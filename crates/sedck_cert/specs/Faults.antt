@@ -14,7 +14,7 @@ use Rattle.sedck_cert.specs.declared.reading.CertFault.TheVariants.{BadHeader, B
 pub data Due : Type 0 where
   Header : Due
   Count : Due
-  -- the line of this node, and so many nodes behind it
+  -- the line of this node, and how many nodes follow it
   Node : ℕ → ℕ → Due
   -- the count of a list, where the names so far have this many bytes with their newlines
   Names : Files → ℕ → Due
@@ -23,7 +23,7 @@ pub data Due : Type 0 where
   Last : Due
   Nothing : Due
 
--- a rising name after the one before, if there is one
+-- a later name after the one before, if there is one
 abbrev pub Rises : List (List ℕ) → List ℕ → Type 0
 Rises [] name = Unit {0}
 Rises (before ∷ more) name = IsBefore before name

@@ -7,10 +7,10 @@ abbrev pub TellsFailure : {T E : Type 0} → Result T E → Bool → Bool → Ty
 TellsFailure (Ok x) before after = after ≡ before
 TellsFailure (Err e) before after = IsTrue after
 
--- the bytes are the front of the text
+-- the bytes are a prefix of the text
 abbrev pub IsFrontOf : List ℕ → List ℕ → Type 0
 IsFrontOf front text = (rest : List ℕ) × (text ≡ front ++ rest)
 
--- known bytes grow by a front of the text
+-- known bytes grow by a prefix of the text
 abbrev pub AppendsFront : Option (List ℕ) → Option (List ℕ) → List ℕ → Type 0
 AppendsFront before after text = (front : List ℕ) × IsFrontOf front text × Appends before after front

@@ -120,7 +120,7 @@ fn size_with(names: &[Vec<u8>], mut size: usize) -> Option<usize>
     Some(size)
 }
 
-/// All ranks are within the limit: their type sees to that, but only reading each one tells it to the proof.
+/// All ranks are within the limit: their type sees to that, but only reading each one shows it to the proof.
 fn know_limits(ranks: &[Option<(u16, u16)>])
     ensures { All AreWithin ranks.now }
 {

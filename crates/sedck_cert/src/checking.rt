@@ -19,7 +19,7 @@ use sedck_script::Script;
 /// Why a certificate is rejected.
 #[derive(Clone, Copy, Debug)]
 pub enum Rejection {
-    /// The number of commands is another than the script's.
+    /// The number of commands is other than the script's.
     WrongCount,
     /// One of the two starts has no ranks.
     StartUnranked,

@@ -36,7 +36,7 @@ pub enum CertFault {
     BadCount { line: usize },
     /// The line isn't the next node's in its one spelling, with ranks of at most 65535.
     BadNode { line: usize },
-    /// The line isn't the count of a list, at most 4095, or the next name, rising and within the limit on bytes.
+    /// The line isn't the count of a list, at most 4095, or the next name, after the one before and within the limit on bytes.
     BadNames { line: usize },
     /// The line isn't `end`, or something stands behind it: then the line is the one after.
     BadEnd { line: usize },
@@ -59,7 +59,7 @@ impl CertFault {
         }
     }
 
-    /// The name that is printed beside the number.
+    /// The name that is printed with the number.
     pub fn name(self) -> &'static str
         ensures { result.now ≡ name_of self }
     {
@@ -73,7 +73,7 @@ impl CertFault {
         }
     }
 
-    /// The line, counted from 1. Want of memory has none.
+    /// The line, counted from 1. Running out of memory has none.
     pub fn line(self) -> Option<usize>
         ensures { result ≡ line_of self }
     {
@@ -146,7 +146,7 @@ pub fn read_any(alloc: Global, text: &[u8]) -> Result<Cert, CertFault>
     // What is read is the certificate that the text spells, and it spells no other.
     ensures read { IfOk result (SpellsCertificate text.now) }
     ensures only { IfOk result (λ cert. (other : Certificate) → SpellsCertificate text.now other → other ≡ cert) }
-    // Unless memory runs out, a text is refused only where it spells no certificate, by the rules of the version that its first line tells.
+    // Unless memory runs out, a text is refused only where it spells no certificate, by the rules of the version that its first line says.
     ensures refused { IfErr result (λ fault. fault ≡ CertFault.OutOfMemory
         ⊎ (((other : Certificate) → ¬ SpellsCertificate text.now other) × IsFaultIn text.now fault)) }
     ensures placed { IfErr result (λ fault. IfSome (line_of fault) (IsLineOf text.now)) }

@@ -1,4 +1,4 @@
-//! What is read from and written to, with failures that stay told.
+//! What is read from and written to, with failures that are remembered.
 
 ghost use Rattle.std.specs.Prelude.{◌≡◌, ◌<◌, ◌≤◌, ℕ, List, length, Option, Bool, IfOk, OnOk, OnErr, false, decimal};
 ghost use Rattle.std.specs.Io.KnownBytes.{ReadConsumes, WriteAppends, Appends};
@@ -18,7 +18,7 @@ pub trait Source {
     /// Whether a read has failed.
     ghost has_failed: { Self → Bool };
 
-    /// Reads into the front of `buf`. None into some room is the end.
+    /// Reads into the start of `buf`. None into some room is the end.
     fn read(&mut self, buf: &mut [u8]) -> Result<usize, Failed>
         ensures bound { IfOk result (λ count. count ≤ length buf.new) }
         ensures bytes { ReadConsumes (left self.old) (left self.new) result buf.new }
@@ -37,7 +37,7 @@ pub trait Sink {
     /// Whether a write has failed.
     ghost has_failed: { Self → Bool };
 
-    /// Takes the front of `bytes`, and some of it where there is any.
+    /// Takes a prefix of `bytes`, and some of it where there is any.
     fn write(&mut self, bytes: &[u8]) -> Result<usize, Failed>
         ensures bound { IfOk result (λ count. count ≤ length bytes.now) }
         ensures some { IfOk result (λ count. 0 < length bytes.now → 0 < count) }
@@ -51,7 +51,7 @@ pub trait Sink {
 
 /// Writes all of the bytes.
 pub fn write_all<W: Sink>(out: &mut W, bytes: &[u8]) -> Result<(), Failed>
-    // Where what was taken is known, it grows by all of the bytes, or on an error by a front of them.
+    // Where what was taken is known, it grows by all of the bytes, or on an error by a prefix of them.
     ensures written { OnOk result (Appends (W.taken out.old) (W.taken out.new) bytes.now) }
     ensures begun { OnErr result (AppendsFront (W.taken out.old) (W.taken out.new) bytes.now) }
     ensures failure { TellsFailure result (W.has_failed out.old) (W.has_failed out.new) }

@@ -24,7 +24,7 @@ impl Version {
         }
     }
 
-    /// How many nodes a script with so many commands has.
+    /// How many nodes a script with this many commands has.
     pub fn node_count(self, commands: u16) -> u16
         requires { commands ≤ 4095 }
         ensures { result ≡ nodes_in self commands }

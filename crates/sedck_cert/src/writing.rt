@@ -15,7 +15,7 @@ use sedck_flow::Node;
 pub fn write_cert<W: Sink>(cert: &Cert, out: &mut W) -> Result<(), Failed>
     ensures written { OnOk result (Appends (W.taken out.old) (W.taken out.new) (certificate_text cert.now)) }
 
-    // After an error a front of the text was taken.
+    // After an error a prefix of the text was taken.
     ensures begun { OnErr result ((front : List ℕ) × IsFrontOf front (certificate_text cert.now) × Appends (W.taken out.old) (W.taken out.new) front) }
     ensures failure { TellsFailure result (W.has_failed out.old) (W.has_failed out.new) }
 {

@@ -181,7 +181,7 @@ stays_in_order m (n ∷ numbers) order =
     by_order head further (inr (inr more)) =
         rw (with_more m n numbers more) (headed n _ (heads_with n m numbers more head) (further m))
 
--- the list has the number beside those that it had
+-- the list has the number and those that it had
 pub adds_number : (m : ℕ) (numbers : List ℕ) → AddsNumber m numbers (with_number m numbers)
 adds_number m numbers = record { in_order = stays_in_order m numbers; same = has_one m numbers }
 

@@ -16,7 +16,7 @@ use Rattle.sedck_flow.specs.Words.{edge_words}
 use Rattle.sedck_flow.specs.Examples.{ExamplesHold, one_x, any_xs, replacing, delete_matches, a_then_b, one_c, replacing_previous, replace_previous, b_in_group, replace_once, group_in_dashes, edge}
 use Rattle.sedck_flow.proofs.States.{at_inj}
 
--- an empty match, and what stands behind it
+-- an empty match, and what follows it
 abbrev empty_before : List ℕ → Occurrence
 empty_before behind = record { whole = []; groups = no_groups; behind = behind }
 

@@ -1,4 +1,4 @@
--- States of a run are told apart, and are the same only where their machines are.
+-- States of a run are distinguished, and are the same only where their machines are.
 use Rattle.std.proofs.Common.{◌≡◌}
 use Rattle.sedck_flow.specs.Run.{Machine, At, Done}
 

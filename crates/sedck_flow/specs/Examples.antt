@@ -89,7 +89,7 @@ pub record ExamplesHold : Type 0 where
   pub not_keeps : ¬ Flow (delete_matches one_x) (edge 1 false false 2 true false Keep)
   pub keeps : Flow (delete_matches any_xs) (edge 1 false false 2 true false Keep)
   pub not_shortens : ¬ Flow (delete_matches any_xs) (edge 1 false false 2 true false Shorten)
-  -- no other step than one that reads a line comes to the last one
+  -- no other step than one that reads a line ends on the last line
   pub stays_before_last : ¬ Flow (delete_matches one_x) (edge 1 false false 2 true true Shorten)
   -- `t` resets the flag where it is set, and goes on where it isn't
   pub test_taken : Flow (delete_matches one_x) (edge 2 true true 0 false true Keep)

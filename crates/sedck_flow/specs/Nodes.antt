@@ -36,6 +36,6 @@ node_index n = 4 * n.at + (if n.flag then 2 else 0) + (if n.last then 1 else 0)
 abbrev pub nth_node : ℕ → Node
 nth_node index = record { at = index / 4; flag = index / 2 % 2 == 1; last = index % 2 == 1 }
 
--- how many nodes a script with so many commands has: four for each command, and four for its end
+-- how many nodes a script with this many commands has: four for each command, and four for its end
 abbrev pub node_count : ℕ → ℕ
 node_count commands = 4 * (commands + 1)

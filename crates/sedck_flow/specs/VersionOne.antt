@@ -50,7 +50,7 @@ node_index_one n = 2 * n.at + (if n.flag then 1 else 0)
 abbrev pub nth_node_one : ℕ → NodeOne
 nth_node_one index = record { at = index / 2; flag = index % 2 == 1 }
 
--- how many nodes a script with so many commands has
+-- how many nodes a script with this many commands has
 abbrev pub node_count_one : ℕ → ℕ
 node_count_one commands = 2 * (commands + 1)
 

@@ -88,7 +88,7 @@ impl Node {
     }
 }
 
-/// How many nodes a script with so many commands has.
+/// How many nodes a script with this many commands has.
 pub fn node_count(commands: usize) -> usize
     requires { commands < 65536 }
     ensures { result ≡ count_of_nodes commands }

@@ -3,12 +3,12 @@
 ghost use Rattle.sedck_flow.specs.Laws.{NodesAreNumbered, StepsFollowEdges, KindsAgree, LiteralKindsStay, EdgesWereThere, EdgesStayInside, RunsGoOn, FilesAreNamed};
 ghost use Rattle.sedck_flow.specs.Examples.{ExamplesHold};
 
-/// The index of a node tells its place in the order of nodes, and each number is the index of one node.
+/// The index of a node is its position in the order of nodes, and each number is the index of one node.
 pub fn nodes_are_numbered()
     ensures { NodesAreNumbered }
 {}
 
-/// Each step from one command to another follows an edge of the flow graph, and the edge's kind tells the truth.
+/// Each step from one command to another follows an edge of the flow graph, and the edge's kind is true of it.
 pub fn steps_follow_edges()
     ensures { StepsFollowEdges }
 {}
@@ -34,7 +34,7 @@ pub fn edges_stay_inside()
     ensures { EdgesStayInside }
 {}
 
-/// A run that hasn't come to its end can take a further step: nothing is cut short by the definitions.
+/// A run that hasn't ended can take a further step: nothing is cut short by the definitions.
 pub fn runs_go_on()
     ensures { RunsGoOn }
 {}

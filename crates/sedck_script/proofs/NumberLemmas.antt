@@ -29,7 +29,7 @@ digits_more digits i v lt all e =
     let more = digits_value_more 10 digits i lt in
     limit_step _ v (get_or digits i 0 - 48) e ∙ ap (λ n. min n 4294967296) (ap (λ d. digits_value 10 (take i digits) * 10 + d) (sym digit) ∙ sym more)
 
--- what a number says of the digits at the front
+-- what a number says of the digits at the start
 pub record AreNumber (digits : List ℕ) : Type 0 where
   pub some : 0 < length digits
   pub positive : 0 < digits_value 10 digits

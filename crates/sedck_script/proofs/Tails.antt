@@ -23,7 +23,7 @@ pub stands_behind : (front tail : List ℕ) (b : ℕ) → slice_get (front ++ b 
 stands_behind [] tail b = refl
 stands_behind (x ∷ front) tail b = stands_behind front tail b
 
--- the byte at the front of a tail stands where the tail begins
+-- the byte at the start of a tail stands where the tail begins
 pub stands_at_tail : {whole text behind : List ℕ} {b : ℕ} → EndsIn whole text → text ≡ b ∷ behind → slice_get whole (length whole - length text) ≡ Some b
 stands_at_tail {whole} {text} {behind} {b} h e =
     let same : whole ≡ h.0 ++ b ∷ behind = h.1 ∙ ap (λ t. h.0 ++ t) e in

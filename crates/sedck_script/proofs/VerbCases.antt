@@ -1,4 +1,4 @@
--- What stands behind a verb's byte, by its byte.
+-- What follows a verb's byte, by its byte.
 use Rattle.std.proofs.Common.{◌≡◌, ◌≢◌, ℕ, Bool, true, false, eqb, ◌||◌, List, [], ◌∷◌, Option, Some, None, is_some, refl, ap, sym, ◌∙◌, subst, inl, inr, ◌⊎◌}
 use Rattle.std.specs.List.{list_all}
 use Rattle.std.specs.Borrow.{Bor}
@@ -165,7 +165,7 @@ pub verb_behind : {b c : ℕ} {text behind rest : List ℕ} {verb : WrittenVerb}
     → VerbText (c ∷ behind) verb rest
 verb_behind {rest = rest} {verb = verb} e h x = byte_along h (subst (λ t. VerbText t verb rest) e x)
 
--- a verb from its byte and what stands behind it
+-- a verb from its byte and what follows it
 pub verb_here : {b c : ℕ} {text behind rest : List ℕ} {verb : WrittenVerb} → text ≡ b ∷ behind → b ≡ c → VerbText (c ∷ behind) verb rest
     → VerbText text verb rest
 verb_here {behind = behind} {rest = rest} {verb = verb} e h x = subst (λ t. VerbText t verb rest) (sym (e ∙ ap (λ k. k ∷ behind) h)) x

@@ -1,4 +1,4 @@
--- What stands behind a verb's byte.
+-- What follows a verb's byte.
 use Rattle.std.proofs.Common.{◌≡◌, ◌≢◌, ℕ, ◌≤◌, List, ◌∷◌, length, refl, ap, sym, ◌∙◌, subst}
 use Rattle.std.specs.Prelude.{IsTrue}
 use Rattle.sedck_script.specs.Cuts.{is_delimiter}
@@ -14,7 +14,7 @@ use Rattle.sedck_script.proofs.PartsOne.{list_one, replacement_one}
 use Rattle.sedck_script.proofs.WholeOne.{class_of, begins, differ}
 use Rattle.sedck_script.proofs.Tails.{tail_tail, list_tail}
 
--- what stands behind the delimiter of a `s`
+-- what follows the delimiter of a `s`
 record SubstituteInside (d : ℕ) (opened : List ℕ) (rest : List ℕ) : Type 0 where
   behind : List ℕ
   flags : List ℕ
@@ -69,7 +69,7 @@ substitute_no_flags {d} q k e only z n verb rest x =
     let two = replacement_one k (subst (λ t. Replacement d t i.parts i.flags) one.1 i.replacement) z in
     n i.pattern i.parts i.substitution rest (subst (λ t. Flags i.pattern i.parts t i.substitution rest) two.1 i.others)
 
--- what stands behind the delimiter of a `y`
+-- what follows the delimiter of a `y`
 record TransliterateInside (d : ℕ) (opened rest : List ℕ) : Type 0 where
   after : List ℕ
   from : List ℕ

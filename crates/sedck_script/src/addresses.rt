@@ -71,7 +71,7 @@ fn custom_context<'a>(
     context(alloc, whole, opening, *delimiter, behind)
 }
 
-/// The address that begins here, the place of its expression where that is empty, and what stands behind it.
+/// The address that begins here, the place of its expression where that is empty, and what follows it.
 fn place_here<'a>(
     alloc: Global,
     whole: &[u8],
@@ -103,7 +103,7 @@ fn place_here<'a>(
     }
 }
 
-/// The address at the front, where one begins here.
+/// The address at the start, where one begins here.
 fn place_at<'a>(
     alloc: Global,
     whole: &[u8],
@@ -127,7 +127,7 @@ fn place_at<'a>(
     Ok(Some(found))
 }
 
-/// What stands behind a comma and the blanks round it.
+/// What follows a comma and the blanks round it.
 fn behind_comma(text: &[u8]) -> Option<&[u8]>
     ensures some { IfSome result (λ second. IsBehindComma text.now second.now) }
     ensures none { IfNone result (HasNoComma text.now) }
@@ -167,7 +167,7 @@ fn second_at<'a>(
     Ok(Some(found))
 }
 
-/// The addresses at the front, the place of their first empty expression, and what stands behind them.
+/// The addresses at the start, the place of their first empty expression, and what follows them.
 pub fn address_at<'a>(
     alloc: Global,
     whole: &[u8],

@@ -29,7 +29,7 @@ const COMMAND_LIMIT: usize = 4095;
 /// How many blocks may be open.
 const DEPTH_LIMIT: usize = 64;
 
-/// The blanks and `!` at the front, and what stands behind them.
+/// The blanks and `!` at the start, and what follows them.
 fn split_marks(text: &[u8]) -> (&[u8], &[u8])
     ensures { Longest is_mark text.now result.0.now result.1.now }
 {
@@ -102,7 +102,7 @@ fn empty_verb(verb: &Written, behind: usize) -> Option<usize>
     None
 }
 
-/// The verb at the front, where a command with these addresses may go on with it, and what stands behind it.
+/// The verb at the start, where a command with these addresses may go on with it, and what follows it.
 fn allowed_verb<'a>(
     alloc: Global,
     whole: &[u8],
@@ -128,7 +128,7 @@ fn allowed_verb<'a>(
     verb_at(alloc, whole, labels, text)
 }
 
-/// The command at the front, the place of its first empty expression, and what stands behind it.
+/// The command at the start, the place of its first empty expression, and what follows it.
 pub fn command_at<'a>(
     alloc: Global,
     whole: &[u8],

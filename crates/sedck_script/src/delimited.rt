@@ -30,7 +30,7 @@ pub enum Piece {
     Pair(u8),
 }
 
-/// The first piece of a delimited part, and what stands behind it. A part without an end is told at its opening.
+/// The first piece of a delimited part, and what follows it. A part without an end is reported at its opening.
 pub fn piece_at<'a>(
     whole: &[u8],
     opening: usize,
@@ -127,7 +127,7 @@ fn expression_fault(place: usize, fault: ReFault) -> ScriptFault
     }
 }
 
-/// The pattern up to the first delimiter that no backslash escapes, and what stands behind it.
+/// The pattern up to the first delimiter that no backslash escapes, and what follows it.
 pub fn pattern<'a>(
     alloc: Global,
     whole: &[u8],
@@ -152,7 +152,7 @@ pub fn pattern<'a>(
     }
 }
 
-/// One list of a `y` command, and what stands behind it.
+/// One list of a `y` command, and what follows it.
 pub fn delimited_list<'a>(
     alloc: Global,
     whole: &[u8],

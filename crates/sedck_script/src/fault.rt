@@ -7,31 +7,54 @@ use sedck_bre::ReFault;
 use std::alloc::{AllocError, AllocFailed};
 use std::fmt;
 
-/// What is wrong with a script's text. A place is a byte offset in the text.
+/// What is wrong with a script's text. A place is a byte offset from 0 to the text's length.
 #[derive(Clone, Copy, Debug, PartialEq, Eq)]
 pub enum ScriptFault {
+    /// More than 1,048,576 bytes. Place: 1,048,576.
     TooLong { place: usize },
+    /// A byte 0. Place: the first one.
     NulByte { place: usize },
+    /// No verb where one is due, or none after an address or `!`, as in `1~2p`. Place: the byte there, or the end.
     UnknownCommand { place: usize },
+    /// A line number 0 or above 4,294,967,295, or no address after a comma, as in `1,+2p`. Place: where the address is due.
     BadAddress { place: usize },
+    /// More addresses than the verb takes, or `!` before `:`, `}` or `#`, as in `1,2q`. Place: the verb.
     TooManyAddresses { place: usize },
+    /// The expression is refused, as in `s/a\{2/x/`. Place: its first byte; `fault` has its own place in the expression.
     BadExpression { place: usize, fault: ReFault },
+    /// A delimiter is missing, or is a newline or a backslash, as in `s/a/b`. Place: the verb, or the address.
     Unterminated { place: usize },
+    /// An escape that no replacement has, or a group that the expression lacks, as in `s/a/\1/`. Place: the backslash.
     BadReplacement { place: usize },
+    /// A flag that is unknown or repeated, or a number 0 or above 4,294,967,295, as in `s/a/b/I`. Place: the flag.
     BadFlag { place: usize },
+    /// Another escape in a list of `y`, or lists of different lengths, as in `y/a/bc/`. Place: the backslash, or the verb.
     BadTransliteration { place: usize },
+    /// No text for `a`, `c` or `i`. Place: the verb.
     MissingText { place: usize },
+    /// No file name, as in `s/a/b/w`. Place: the verb, or the flag `w`.
     MissingName { place: usize },
+    /// No label after `:`, or a byte that no label may hold. Place: where the label is due, or that byte.
     BadLabel { place: usize },
+    /// A label is defined again, as in `:a;:a`. Place: the second one.
     DuplicateLabel { place: usize },
+    /// A branch or a test to a label that isn't defined, as in `b z`. Place: the label, in the first of them.
     UnknownLabel { place: usize },
+    /// A `}` without `{`. Place: the `}`.
     UnopenedBlock { place: usize },
+    /// The script ends inside a block. Place: the innermost open `{`.
     UnclosedBlock { place: usize },
+    /// A `{` inside 64 others. Place: that `{`.
     TooDeep { place: usize },
+    /// The 4,096th command. Place: its verb.
     TooManyCommands { place: usize },
+    /// A byte that may not follow a command, as in `p p`. Place: that byte.
     ExtraText { place: usize },
+    /// An empty expression in a script where every one is empty, as in `s//x/`. Place: after its opening delimiter.
     NoPreviousExpression { place: usize },
+    /// A backslash before a delimiter that can't be escaped. Place: the backslash.
     EscapedDelimiter { place: usize },
+    /// A growth was refused.
     OutOfMemory,
 }
 
@@ -100,7 +123,7 @@ impl ScriptFault {
         }
     }
 
-    /// The place, which every fault but want of memory has.
+    /// The place, which every fault but `OutOfMemory` has.
     pub fn place(self) -> Option<usize>
         ensures { result ≡ fault_place self }
     {

@@ -31,7 +31,7 @@ pub enum Flag<'a> {
     End,
 }
 
-/// The flag at the front, and what stands behind it.
+/// The flag at the start, and what follows it.
 fn flag_at<'a>(whole: &[u8], text: &'a [u8]) -> Result<(Flag<'a>, &'a [u8]), ScriptFault>
     requires { EndsIn whole.now text.now }
     ensures read { IfOk result (λ x. IsFlag text.now x.0 x.1.now) }

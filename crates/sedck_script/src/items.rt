@@ -34,14 +34,14 @@ pub struct Progress<'a> {
     pub empty: Option<usize>,
 }
 
-/// What may stand between commands, and what stands behind it.
+/// What may stand between commands, and what follows it.
 fn split_separators(text: &[u8]) -> (&[u8], &[u8])
     ensures { Longest is_separator text.now result.0.now result.1.now }
 {
     text.split_at(separators_len(text))
 }
 
-/// Reads the `}` at the front with its end.
+/// Reads the `}` at the start with its end.
 fn close_block<'a>(
     text: &[u8],
     begins: &[u8],
@@ -102,7 +102,7 @@ fn push_command<'a>(
     Ok(())
 }
 
-/// Adds a command and the place of its first empty expression. A `{` that it ends with stands at the place.
+/// Adds a command and the place of its first empty expression. A `{` that it ends with is at the place.
 fn note_command<'a>(
     progress: &mut Progress<'a>,
     command: WrittenCommand<'a>,
@@ -124,7 +124,7 @@ fn note_command<'a>(
     push_command(&mut progress.items, command)
 }
 
-/// Reads the command at the front with its end.
+/// Reads the command at the start with its end.
 fn add_command<'a>(
     alloc: Global,
     text: &[u8],
@@ -151,7 +151,7 @@ fn add_command<'a>(
     Ok(rest)
 }
 
-/// Reads the comment, the `}` or the command at the front.
+/// Reads the comment, the `}` or the command at the start.
 fn next_item<'a>(
     alloc: Global,
     text: &[u8],

@@ -13,14 +13,14 @@ use crate::bytes::{is_ending, is_spacing, label_len, split_blanks};
 use crate::ends::end_of_command;
 use crate::fault::ScriptFault;
 
-/// The bytes of a label at the front, and what stands behind them.
+/// The bytes of a label at the start, and what follows them.
 fn split_label(text: &[u8]) -> (&[u8], &[u8])
     ensures { Longest is_label_byte text.now result.0.now result.1.now }
 {
     text.split_at(label_len(text))
 }
 
-/// The bytes of a label behind blanks, their place, and what stands behind them. There may be none.
+/// The bytes of a label behind blanks, their place, and what follows them. There may be none.
 fn label_parts<'a>(whole: &[u8], text: &'a [u8]) -> (&'a [u8], usize, &'a [u8])
     requires { IsBehindVerb (one_of ":bt") whole.now text.now }
     ensures parts { IsLabelAt text.now result.0.now result.2.now }
@@ -50,7 +50,7 @@ fn check_behind_definition(whole: &[u8], behind: &[u8]) -> Result<(), ScriptFaul
     Ok(())
 }
 
-/// The label that is defined, its place, and what stands behind it.
+/// The label that is defined, its place, and what follows it.
 pub fn defined_label<'a>(
     whole: &[u8],
     text: &'a [u8],

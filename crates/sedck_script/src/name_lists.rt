@@ -86,7 +86,7 @@ fn name_of<'a>(command: &Command<'a>, access: Access) -> Option<&'a [u8]>
     }
 }
 
-/// The names of the files that the commands read, or write: each once, rising by bytes.
+/// The names of the files that the commands read, or write: each once, sorted by bytes.
 pub fn sorted_names<'a>(
     alloc: Global,
     commands: &[Command<'a>],

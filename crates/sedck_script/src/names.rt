@@ -13,7 +13,7 @@ pub fn split_line(text: &[u8]) -> (&[u8], &[u8])
     text.split_at(line_len(text))
 }
 
-/// The file name behind the blanks at the front, and what stands from the end of its line on.
+/// The file name behind the blanks at the start, and the text from the end of its line on.
 pub fn name(text: &[u8]) -> Option<(&[u8], &[u8])>
     ensures read { IfSome result (λ x. Name text.now x.0.now x.1.now) }
     ensures none { IfNone result ((name : List ℕ) (rest : List ℕ) → Name text.now name rest → ⊥) }

@@ -13,7 +13,7 @@ use crate::bytes::digits_len;
 /// One more than the greatest number.
 const NUMBER_LIMIT: u64 = 4_294_967_296;
 
-/// The digits at the front, and what stands behind them.
+/// The digits at the start, and what follows them.
 fn split_digits(text: &[u8]) -> (&[u8], &[u8])
     ensures { Longest is_digit text.now result.0.now result.1.now }
 {
@@ -32,7 +32,7 @@ fn value_of(digits: &[u8]) -> u64
     value
 }
 
-/// The number at the front, and what stands behind its digits.
+/// The number at the start, and what follows its digits.
 pub fn number(text: &[u8]) -> Option<(u32, &[u8])>
     ensures read { IfSome result (λ x. Number text.now x.0 x.1.now) }
     ensures none { IfNone result ((n : ℕ) (rest : List ℕ) → Number text.now n rest → ⊥) }

@@ -73,7 +73,7 @@ fn commands<'a>(alloc: Global, text: &'a [u8]) -> Result<Vec<Command<'a>>, Scrip
 /// The script that the text spells.
 ///
 /// A text spells one script at most (POSIX.1-2024 XCU sed). It is read in time linear in it, but for the sorting of at
-/// most 4,095 names. Fault 1 is told first, then 2, then what is met from left to right, then 17, 15 and 21.
+/// most 4,095 names. Fault 1 is reported first, then 2, then what is met from left to right, then 17, 15 and 21.
 pub fn parse<'a>(alloc: Global, text: &'a [u8]) -> Result<Script<'a>, ScriptFault>
     ensures spelled { IfOk result (λ script. Spells text.now script) }
     ensures only { IfOk result (λ script. (other : Program) → Spells text.now other → other ≡ script) }

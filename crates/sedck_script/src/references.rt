@@ -9,7 +9,7 @@ ghost use Rattle.sedck_script.specs.View.{pattern_of, part_of};
 
 use crate::script::{Part, Pattern};
 
-/// Whether a replacement that keeps the groups of the bits may keep this one beside them.
+/// Whether a replacement that keeps the groups of the bits may keep this one as well.
 fn may_keep(pattern: &Pattern, groups: u16, k: u8) -> bool
     requires { k ≤ 9 }
     ensures { result ≡ may_keep (pattern_of pattern.now) groups k }

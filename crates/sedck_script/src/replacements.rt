@@ -25,7 +25,7 @@ pub fn greatest_group(pattern: &Pattern) -> u8
     }
 }
 
-/// The bytes at the front that stand for themselves, and what stands behind them.
+/// The bytes at the start that stand for themselves, and what follows them.
 fn split_plain(delimiter: u8, text: &[u8]) -> (&[u8], &[u8])
     ensures { Longest (is_plain delimiter) text.now result.0.now result.1.now }
 {
@@ -56,7 +56,7 @@ fn escaped_part<'a>(b: u8, itself: &'a [u8], greatest: u8) -> Option<Part<'a>>
     Some(Part::Group(b - b'0'))
 }
 
-/// The first part of a replacement, or none at its end, and what stands behind it.
+/// The first part of a replacement, or none at its end, and what follows it.
 fn next_part<'a>(
     whole: &[u8],
     opening: usize,
@@ -92,7 +92,7 @@ fn next_part<'a>(
     }
 }
 
-/// The replacement up to the first delimiter that no backslash escapes, and what stands behind it.
+/// The replacement up to the first delimiter that no backslash escapes, and what follows it.
 pub fn replacement<'a>(
     alloc: Global,
     whole: &[u8],

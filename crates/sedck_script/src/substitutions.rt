@@ -20,7 +20,7 @@ use crate::replacements::{greatest_group, replacement};
 use crate::script::{Substitution, Verb};
 use std::alloc::Global;
 
-/// The delimiter behind a verb, and what stands behind it.
+/// The delimiter behind a verb, and what follows it.
 fn opening_delimiter<'a>(opening: usize, text: &'a [u8]) -> Result<(u8, &'a [u8]), ScriptFault>
     ensures read { IfOk result (λ x. (text.now ≡ x.0 ∷ x.1.now) × IsTrue (is_delimiter x.0)) }
     ensures refused { IfErr result (λ fault. (delimiter : ℕ) (rest : List ℕ) → text.now ≡ delimiter ∷ rest → IsTrue (is_delimiter delimiter) → ⊥) }
@@ -71,7 +71,7 @@ pub fn substitution<'a>(
     Ok((Verb::Substitute(substitution), rest))
 }
 
-/// The two lists of a `y`, which are equally long, and what stands behind them.
+/// The two lists of a `y`, which are equally long, and what follows them.
 fn equal_lists<'a>(
     alloc: Global,
     whole: &[u8],

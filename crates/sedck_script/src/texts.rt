@@ -5,7 +5,7 @@ ghost use Rattle.sedck_script.specs.Parts.{Lines, GivenText};
 
 use crate::bytes::split_blanks;
 
-/// What stands behind the lines at the front.
+/// What follows the lines at the start.
 fn behind_lines(text: &[u8]) -> &[u8]
     ensures { (bytes : List ℕ) × Lines text.now bytes result.now }
 {
@@ -24,7 +24,7 @@ fn behind_lines(text: &[u8]) -> &[u8]
     rest
 }
 
-/// The lines at the front, up to the first newline that no backslash escapes, and what stands from there on.
+/// The lines at the start, up to the first newline that no backslash escapes, and the text from there on.
 pub fn split_lines(text: &[u8]) -> (&[u8], &[u8])
     ensures { Lines text.now result.0.now result.1.now }
 {

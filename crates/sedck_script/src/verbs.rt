@@ -202,9 +202,9 @@ fn jump<'a>(whole: &[u8], verb: u8, text: &'a [u8]) -> Result<(Written<'a>, &'a 
     }
 }
 
-/// The verb at the front with what it takes, and the rest of the text from its end on.
+/// The verb at the start with what it takes, and the rest of the text from its end on.
 ///
-/// The labels are those that stand before it: one of them may not be defined again. That is told before the end of the
+/// The labels are those that stand before it: one of them may not be defined again. That is reported before the end of the
 /// command is looked at.
 pub fn verb_at<'a>(
     alloc: Global,

@@ -34,7 +34,7 @@ element_of (Members class) = brackets.Members (class_of class)
 abbrev pub closed_name : brackets.Class → List ℕ
 closed_name class = class_name class ++ codes ":]"
 
--- what follows the closed name, if it stands at the front
+-- what follows the closed name, if it is at the start
 abbrev pub behind_name : brackets.Class → List ℕ → Option (List ℕ)
 behind_name class text = if starts_with nat_eq text (closed_name class) then Some (drop (length (closed_name class)) text) else None
 

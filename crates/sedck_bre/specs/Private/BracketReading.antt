@@ -10,11 +10,11 @@ abbrev pub symbol_at : ℕ → List ℕ → Option (ℕ × List ℕ)
 symbol_at mark (c ∷ d ∷ e ∷ text) = if (d == mark) && (e == 93) then Some (c, text) else None
 symbol_at mark _ = None
 
--- the byte that a bracket c begins, from what stands behind the bracket
+-- the byte that a bracket c begins, from what follows the bracket
 abbrev pub opened_at : ℕ → List ℕ → Option (ℕ × List ℕ)
 opened_at c text = if begins "." text then symbol_at 46 (drop 1 text) else if begins ":=" text then None else Some (c, text)
 
--- the byte that a backslash c begins, from what stands behind the backslash
+-- the byte that a backslash c begins, from what follows the backslash
 abbrev pub escaped_at : ℕ → List ℕ → Option (ℕ × List ℕ)
 escaped_at c text = if begins "n" text then Some (10, drop 1 text) else if begins "\\" text then Some (92, drop 1 text) else Some (c, text)
 
@@ -55,15 +55,15 @@ range_or_one (a, text) = if ranges text then range_end_at a (drop 1 text) else S
 abbrev pub byte_or_range_at : List ℕ → Option (Element × List ℕ)
 byte_or_range_at text = byte_at text >>= range_or_one
 
--- a class, from what stands behind its `[:`
+-- a class, from what follows its `[:`
 abbrev pub whole_class_at : List ℕ → Option (Element × List ℕ)
 whole_class_at text = class_from classes text >>= no_range
 
--- an equivalence class, from what stands behind its `[=`
+-- an equivalence class, from what follows its `[=`
 abbrev pub equivalents_at : List ℕ → Option (Element × List ℕ)
 equivalents_at text = symbol_at 61 text >>= one >>= no_range
 
--- a `-` that isn't first, from what stands behind it
+-- a `-` that isn't first, from what follows it
 abbrev pub last_dash_at : List ℕ → Option (Element × List ℕ)
 last_dash_at text = if begins "]" text then Some (One 45, text) else None
 
@@ -98,7 +98,7 @@ abbrev pub set_of : Bool → List Element × List ℕ → Option (List ℕ × Li
 set_of complement (es, text) =
     if list_any (λ w. not (w == 0)) (words_of (is_listed complement es)) then Some (words_of (is_listed complement es), text) else None
 
--- what stands behind the opening bracket
+-- what follows the opening bracket
 abbrev pub inside_at : List ℕ → Option (List ℕ × List ℕ)
 inside_at text =
     if begins "^" text then (elements_at (length text) true (drop 1 text) >>= set_of true)

@@ -9,7 +9,7 @@ use Rattle.sedck_bre.specs.Private.Reading.{◌>>=◌, begins_pair}
 abbrev pub digit_before : ℕ → List ℕ × List ℕ → List ℕ × List ℕ
 digit_before c (digits, rest) = (c ∷ digits, rest)
 
--- the digits at the front, and what follows them
+-- the digits at the start, and what follows them
 abbrev pub digits_at : List ℕ → List ℕ × List ℕ
 digits_at [] = ([], [])
 digits_at (c ∷ text) = if is_from 48 57 c then digit_before c (digits_at text) else ([], c ∷ text)
@@ -20,7 +20,7 @@ number_of (digits, rest) = if not (is_empty digits) && nat_le (digits_value 10 d
 abbrev pub number_at : List ℕ → Option (ℕ × List ℕ)
 number_at text = number_of (digits_at text)
 
--- what stands behind the comma
+-- what follows the comma
 abbrev pub most_of : ℕ → ℕ × List ℕ → Option (ℕ × Option ℕ × List ℕ)
 most_of least (most, rest) = if begins_pair 125 rest && nat_le least most then Some (least, Some most, drop 2 rest) else None
 

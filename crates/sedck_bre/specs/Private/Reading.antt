@@ -9,7 +9,7 @@ infixl 10 ◌>>=◌
 abbrev pub ◌>>=◌ : {A B : Type 0} → Option A → (A → Option B) → Option B
 o >>= f = option_and_then f o
 
--- how a bracket list and an interval are read from the front of a text
+-- how a bracket list and an interval are read from the start of a text
 pub record Readers : Type 0 where
   pub bracket : List ℕ → Option (List ℕ × List ℕ)
   pub interval : List ℕ → Option (ℕ × Option ℕ × List ℕ)
@@ -58,7 +58,7 @@ closed_by k (ts, rest) = if begins_pair 41 rest then Some (Group k (Seq ts), dro
 abbrev pub group_at : (List ℕ → Option (Trees × List ℕ)) → ℕ → ℕ → List ℕ → Option (Tree × List ℕ)
 group_at inner deep opened text = if nat_lt deep 32 && nat_lt opened 99 then inner text >>= closed_by (opened + 1) else None
 
--- what stands behind a backslash
+-- what follows a backslash
 abbrev pub escaped : (List ℕ → Option (Trees × List ℕ)) → ℕ → ℕ → List ℕ → ℕ → List ℕ → Option (Tree × List ℕ)
 escaped inner deep opened closed b text =
     if b == 40 then group_at inner deep opened text

@@ -39,7 +39,7 @@ abbrev pub node_texts : Version → ℕ → List (Option (ℕ × ℕ)) → List 
 node_texts v node [] = []
 node_texts v node (ranks ∷ more) = node_text v node ranks ∷ node_texts v (suc node) more
 
--- due where so many nodes are left
+-- due where this many nodes are left
 abbrev pub nodes_due : ℕ → ℕ → Due
 nodes_due node zero = Names Reads 0
 nodes_due node (suc left) = Node node left
@@ -48,7 +48,7 @@ nodes_due node (suc left) = Node node left
 abbrev pub list_texts : Files → List (List ℕ) → List (List ℕ)
 list_texts files names = (list_word files ++ decimal (length names)) ∷ names
 
--- due where so many names are left
+-- due where this many names are left
 abbrev pub names_due : Files → ℕ → List (List ℕ) → ℕ → Due
 names_due files zero before size = after_list files size
 names_due files (suc left) before size = Name files (suc left) before size
@@ -63,7 +63,7 @@ abbrev pub certificate_lines : Version → Certificate → List (List ℕ)
 certificate_lines v c =
     header v ∷ (codes "commands " ++ decimal c.commands) ∷ (node_texts v 0 c.ranks ++ (list_texts Reads c.reads ++ (list_texts Writes c.writes ++ codes "end" ∷ [])))
 
--- rising names behind the one before, if there is one, and within the limit on bytes
+-- sorted names behind the one before, if there is one, and within the limit on bytes
 abbrev pub AreNext : List (List ℕ) → List (List ℕ) → ℕ → Type 0
 AreNext before [] size = size ≤ 1048576
 AreNext before (name ∷ names) size = IsName name × Rises before name × (size + length name + 1 ≤ 1048576) × AreNext (name ∷ []) names (size + length name + 1)

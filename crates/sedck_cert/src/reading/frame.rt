@@ -15,7 +15,7 @@ use super::lines::Lines;
 use super::numbers::count;
 use crate::versions::Version;
 
-/// The line that tells the version.
+/// The line that says the version.
 pub fn header(lines: &mut Lines, version: Version) -> Result<(), CertFault>
     ensures read { OnOk result (Leads version Header lines.old (header_of version ∷ []) lines.new Count) }
     ensures refused { IfErr result (Stops version Header lines.old) }

@@ -69,7 +69,7 @@ fn list_count(lines: &mut Lines, files: Files) -> Result<u16, CertFault>
     next_count(lines, files.word()).ok_or(CertFault::BadNames { line })
 }
 
-/// The name in the next line, where names of so many bytes came before it.
+/// The name in the next line, where names of this many bytes came before it.
 fn name_line<'a>(
     lines: &mut Lines<'a>,
     before: Option<&[u8]>,
@@ -91,7 +91,7 @@ fn name_line<'a>(
     }
 }
 
-/// Whether the name may stand behind the one before, where names of so many bytes came before it.
+/// Whether the name may stand behind the one before, where names of this many bytes came before it.
 pub fn is_next_name(before: Option<&[u8]>, name: &[u8], size: usize) -> bool
     requires { size ≤ NAMES_LIMIT }
     ensures { IsTrue result ↔ (IsName name.now × Rises (one_before before.entry) name.now × (size + length name.now + 1 ≤ NAMES_LIMIT)) }

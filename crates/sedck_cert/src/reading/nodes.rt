@@ -16,7 +16,7 @@ use super::numbers::number;
 use crate::versions::Version;
 use std::alloc::Global;
 
-/// The ranks of all nodes of a script with so many commands.
+/// The ranks of all nodes of a script with this many commands.
 pub fn nodes(
     alloc: Global,
     lines: &mut Lines,
@@ -64,7 +64,7 @@ fn node_ranks(text: &[u8], version: Version, index: u16) -> Option<Option<(u16, 
     ranks(behind_words(text, version, index)?)
 }
 
-/// What stands behind the words of the node with this index, a space between them.
+/// What follows the words of the node with this index, a space between them.
 fn behind_words(text: &[u8], version: Version, index: u16) -> Option<&[u8]>
     ensures { MatchOption result ((rest : List ℕ) → text.now ≡ words_in version index ++ 32 ∷ rest → ⊥) (λ rest. text.now ≡ words_in version index ++ 32 ∷ rest.now) }
 {
@@ -74,7 +74,7 @@ fn behind_words(text: &[u8], version: Version, index: u16) -> Option<&[u8]>
     }
 }
 
-/// What stands behind the node, a space between them.
+/// What follows the node, a space between them.
 fn behind_node(text: &[u8], node: sedck_flow::Node) -> Option<&[u8]>
     ensures { MatchOption result ((rest : List ℕ) → text.now ≡ node_words node ++ 32 ∷ rest → ⊥) (λ rest. text.now ≡ node_words node ++ 32 ∷ rest.now) }
 {
@@ -82,21 +82,21 @@ fn behind_node(text: &[u8], node: sedck_flow::Node) -> Option<&[u8]>
     behind_flag(behind_flag(flag, node.flag)?, node.last)
 }
 
-/// What stands behind the node of version 1 with this index, a space between them.
+/// What follows the node of version 1 with this index, a space between them.
 fn behind_node_one(text: &[u8], index: u16) -> Option<&[u8]>
     ensures { MatchOption result ((rest : List ℕ) → text.now ≡ node_words_one (nth_node_one index) ++ 32 ∷ rest → ⊥) (λ rest. text.now ≡ node_words_one (nth_node_one index) ++ 32 ∷ rest.now) }
 {
     behind_flag(behind_number(text, index / 2)?, index % 2 == 1)
 }
 
-/// What stands behind the flag, or behind what the node says of the last line, a space between them.
+/// What follows the flag, or what the node says of the last line, a space between them.
 fn behind_flag(text: &[u8], flag: bool) -> Option<&[u8]>
     ensures { MatchOption result ((rest : List ℕ) → text.now ≡ flag_text flag ++ 32 ∷ rest → ⊥) (λ rest. text.now ≡ flag_text flag ++ 32 ∷ rest.now) }
 {
     behind_number(text, u16::from(flag))
 }
 
-/// What stands behind the number, a space between them.
+/// What follows the number, a space between them.
 fn behind_number(text: &[u8], wanted: u16) -> Option<&[u8]>
     ensures { MatchOption result ((rest : List ℕ) → text.now ≡ decimal wanted ++ 32 ∷ rest → ⊥) (λ rest. text.now ≡ decimal wanted ++ 32 ∷ rest.now) }
 {

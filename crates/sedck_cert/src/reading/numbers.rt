@@ -25,7 +25,7 @@ pub fn number(text: &[u8], most: u16) -> Option<u16>
     Some(value as u16)
 }
 
-/// What stands behind the word.
+/// What follows the word.
 fn behind<'a>(text: &'a [u8], word: &[u8]) -> Option<&'a [u8]>
     ensures { MatchOption result ((rest : List ℕ) → text.now ≡ word.now ++ rest → ⊥) (λ rest. text.now ≡ word.now ++ rest.now) }
 {

@@ -28,16 +28,16 @@ AreIncreasing [] = Unit {0}
 AreIncreasing (m ∷ []) = Unit {0}
 AreIncreasing (m ∷ n ∷ numbers) = (m < n) × AreIncreasing (n ∷ numbers)
 
--- the list has this number beside those that it had
+-- the list has this number and those that it had
 pub record AddsNumber (number : ℕ) (before after : List ℕ) : Type 0 where
   pub in_order : AreIncreasing before → AreIncreasing after
   pub same : (x : ℕ) → Contains after x ↔ ((x ≡ number) ⊎ Contains before x)
 
--- the list has the edge of this kind to this node beside those that it had
+-- the list has the edge of this kind to this node and those that it had
 abbrev pub AddsEdge : Kind → Node → List ℕ → List ℕ → Type 0
 AddsEdge kind to before after = AddsNumber (edge_number kind to) before after
 
--- the list has the edges on which a line is read from the one node to the other, beside those that it had
+-- the list has the edges on which a line is read from the one node to the other, and those that it had
 pub record AddsLine (from to : Node) (before after : List ℕ) : Type 0 where
   pub in_order : AreIncreasing before → AreIncreasing after
   pub same : (kind : Kind) (n : Node)

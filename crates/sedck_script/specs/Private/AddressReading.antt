@@ -39,7 +39,7 @@ BeginsPlace text = (b : ℕ) × (more : List ℕ) × (text ≡ b ∷ more) × (b
 abbrev pub BeginsNoPlace : List ℕ → Type 0
 BeginsNoPlace text = IsEmptyOr (λ b. not (begins_address b)) text
 
--- each command of the text has this address, and this is what stands behind it
+-- each command of the text has this address, and this is what follows it
 abbrev pub IsOnlyAddress : List ℕ → Address → List ℕ → Type 0
 IsOnlyAddress text address rest = (other : Address) (behind marks begins left : List ℕ) (verb : WrittenVerb)
     → AddressText text other behind → Longest is_mark behind marks begins → VerbText begins verb left → (other ≡ address) × (behind ≡ rest)
@@ -48,7 +48,7 @@ IsOnlyAddress text address rest = (other : Address) (behind marks begins left : 
 abbrev pub IsNoCommand : List ℕ → Type 0
 IsNoCommand text = (address : Address) (negated : Bool) (verb : WrittenVerb) (rest : List ℕ) → CommandText text address negated verb rest → ⊥
 
--- behind the blanks at the front stand a comma and blanks, and then the second text
+-- behind the blanks at the start stand a comma and blanks, and then the second text
 pub record IsBehindComma (text second : List ℕ) : Type 0 where
   pub comma : ℕ
   pub blanks : List ℕ
@@ -58,7 +58,7 @@ pub record IsBehindComma (text second : List ℕ) : Type 0 where
   pub is_comma : comma ≡ 44
   pub behind : Longest is_blank more front second
 
--- behind the blanks at the front stands no comma
+-- behind the blanks at the start stands no comma
 abbrev pub HasNoComma : List ℕ → Type 0
 HasNoComma text = (blanks more : List ℕ) (b : ℕ) → Longest is_blank text blanks (b ∷ more) → b ≡ 44 → ⊥
 

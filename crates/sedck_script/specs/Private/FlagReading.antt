@@ -6,7 +6,7 @@ use Rattle.sedck_script.specs.declared.flags.Seen.{Seen}
 use Rattle.sedck_script.specs.declared.flags.Flag.{Flag}
 use Rattle.sedck_script.specs.declared.flags.Flag.TheVariants as flag
 
--- the first flag, or the end of the command, and what stands behind it
+-- the first flag, or the end of the command, and what follows it
 abbrev pub IsFlag : List ℕ → Flag → List ℕ → Type 0
 IsFlag text flag.Global rest = text ≡ 103 ∷ rest
 IsFlag text flag.Print rest = text ≡ 112 ∷ rest

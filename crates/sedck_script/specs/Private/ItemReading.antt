@@ -46,7 +46,7 @@ Turned Closes P zero = ⊥
 Turned Closes P (suc depth) = P depth
 Turned Stays P depth = P depth
 
--- where so many blocks are open, the items close each block, and open none too deep
+-- where this many blocks are open, the items close each block, and open none too deep
 abbrev pub Nests : List Item → ℕ → Type 0
 Nests [] depth = depth ≡ 0
 Nests (item ∷ items) depth = Turned (turn_of item) (Nests items) depth

@@ -4,7 +4,7 @@ use Rattle.std.specs.Int.RustNames.{bit_or}
 use Rattle.sedck_bre.specs.Rests.{is_top_group, names}
 use Rattle.sedck_script.specs.Program.{Pattern, Previous, Expression, Part, Text, Newline, Tab, Whole, Group}
 
--- whether a replacement that keeps the groups of the bits may keep this one beside them
+-- whether a replacement that keeps the groups of the bits may keep this one as well
 abbrev pub may_keep : Pattern → ℕ → ℕ → Bool
 may_keep Previous bits k = false
 may_keep (Expression own) bits k = is_top_group own k && not (names bits k)

@@ -15,7 +15,7 @@ BranchText text None rest = IsNoComment text × Ends text rest
 abbrev pub IsBehindVerb : (ℕ → Bool) → List ℕ → List ℕ → Type 0
 IsBehindVerb test whole text = (verb : ℕ) × EndsIn whole (verb ∷ text) × IsTrue (test verb)
 
--- what stands behind a label and its verb in the whole, or behind the verb where the label is missing
+-- what follows a label and its verb in the whole, or behind the verb where the label is missing
 pub record IsBehindLabel (whole text : List ℕ) : Type 0 where
   pub tail : EndsIn whole text
   pub follows : FollowsLabel whole (length whole - length text)

@@ -12,7 +12,7 @@ accessed access.Write v = write_names v
 abbrev pub all_accessed : Access → List Command → List (List ℕ)
 all_accessed a cs = flat_map (λ c. accessed a c.verb) cs
 
--- rising names with another one, where there is one
+-- sorted names with another one, where there is one
 abbrev pub with_any : Option (List ℕ) → List (List ℕ) → List (List ℕ)
 with_any None names = names
 with_any (Some name) names = with_name name names

@@ -9,14 +9,14 @@ use Rattle.sedck_script.specs.declared.fault.ScriptFault.TheVariants as fault
 use Rattle.sedck_script.specs.declared.delimited.Piece.{Piece}
 use Rattle.sedck_script.specs.declared.delimited.Piece.TheVariants as piece
 
--- the first piece of a delimited part, and what stands behind it
+-- the first piece of a delimited part, and what follows it
 abbrev pub IsPiece : ℕ → List ℕ → Piece → List ℕ → Type 0
 IsPiece delimiter text piece.End rest = text ≡ delimiter ∷ rest
 IsPiece delimiter text (piece.Byte b) rest = (text ≡ b ∷ rest) × (b ≢ delimiter) × (b ≢ backslash) × (b ≢ newline)
 IsPiece delimiter text piece.Escaped rest = (text ≡ backslash ∷ delimiter ∷ rest) × IsTrue (can_be_escaped delimiter)
 IsPiece delimiter text (piece.Pair b) rest = (text ≡ backslash ∷ b ∷ rest) × (b ≢ delimiter)
 
--- a pattern behind its opening delimiter, and what stands behind it
+-- a pattern behind its opening delimiter, and what follows it
 abbrev pub PatternText : ℕ → List ℕ → Pattern → List ℕ → Type 0
 PatternText delimiter text pattern rest = (expression : List ℕ) × DelimitedExpression delimiter text expression rest × IsPattern expression pattern
 

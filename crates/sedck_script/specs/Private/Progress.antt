@@ -61,7 +61,7 @@ AreAllowed given negated depth count text = (verb : WrittenVerb) (rest : List �
 
 -- ---- Items
 
--- These items have been read, so many blocks are open, and rest is left.
+-- These items have been read, this many blocks are open, and rest is left.
 pub record IsFront (text : List ℕ) (items : List Item) (depth : ℕ) (rest : List ℕ) : Type 0 where
   pub tail : EndsIn text rest
   pub sound : (more : List Item) → Items rest more → Items text (items ++ more)
