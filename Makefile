@@ -1,4 +1,4 @@
-# sedck: two commands do everything on a machine that has the Rattle toolchain: `make demo` and `make test`.
+# sedck, on a machine that has the Rattle toolchain: `make demo` builds it and shows it, `make test` proves and tests everything.
 
 RT ?= rt
 PREFIX ?= /usr/local
@@ -8,7 +8,7 @@ EXAMPLE = next-line-loop
 
 all: build
 
-# `rt run` proves and builds the crates below the program where they have changed, then the program, and runs it once.
+# `rt run` proves and builds the program and the crates that it uses, where they have changed, and runs it once.
 build:
 	@echo "Proving and building sedck (a first build proves everything: 20 to 40 processor minutes) ..."
 	cd crates/sedck && $(RT) run -- check ../../examples/$(EXAMPLE).sed ../../examples/$(EXAMPLE).cert > /dev/null
@@ -27,12 +27,12 @@ test: build/refuse.so
 	@cp crates/sedck/out/sedck build/sedck.new && mv build/sedck.new build/sedck
 	@echo "Checking the examples with the program that the gate built ..."
 	sh examples/check.sh
-	@echo "Refusing each request for memory in turn, and writing reports to streams that take none ..."
+	@echo "Refusing each request for memory in turn, and writing reports to streams that accept nothing ..."
 	python3 tests/refusals.py crates/sedck_refusals/out/sedck_refusals build/sedck build/refuse.so
 	sh tests/streams.sh build/sedck
 
 examples: build
-	@echo "Checking the examples: answers, certificates, and what the documents show ..."
+	@echo "Checking the examples: answers, certificates, and each command that the documents show ..."
 	sh examples/check.sh
 
 # `sedck_refusals` makes one call twice; the library refuses one request for memory of the program that it is loaded into.
@@ -46,7 +46,7 @@ build/refuse.so: tests/refuse.c
 	$(CC) -O2 -Wall -Wextra -shared -fPIC -o build/refuse.so tests/refuse.c
 
 streams: build
-	@echo "Writing reports to streams that take none ..."
+	@echo "Writing reports to streams that accept nothing ..."
 	sh tests/streams.sh build/sedck
 
 bench: build
@@ -60,5 +60,5 @@ install: build
 	install -m 644 docs/sedck.1 $(DESTDIR)$(PREFIX)/share/man/man1/sedck.1
 
 clean:
-	@echo "Removing what was built and what checks kept ..."
+	@echo "Removing what was built, and what checks left in crates/*/out ..."
 	rm -rf build out crates/*/out

@@ -1,10 +1,10 @@
 #!/usr/bin/env python3
-"""Measures `sedck` on large inputs: wall time and peak memory, the best and the middle of several runs.
+"""Measures `sedck` on large inputs: wall time, the best and the median of several runs, and peak memory.
 
     python3 bench/run.py build/sedck [RUNS]
 
 Each input is made here, in a folder of its own. A run is timed from its start to its end; its output goes to
-/dev/null, and its status is compared. The peak of its resident memory is what GNU time tells, where it is there.
+/dev/null, and its status is compared. Peak resident memory is measured with GNU time, where that is installed.
 """
 
 import os
@@ -36,7 +36,7 @@ def certificate(commands, ranks, reads=(), writes=(), version=2):
 
 
 def names(count, size):
-    """`count` names that rise, of `size` bytes with their newlines in all."""
+    """`count` increasing names, of `size` bytes with their newlines in all."""
     each, rest = divmod(size, count)
     return [b"%05d" % i + b"n" * (each - 6 + (i < rest)) for i in range(count)]
 
@@ -67,11 +67,11 @@ def inputs():
     yield "a megabyte of one expression", b"/" + b"e" * (SCRIPT_LIMIT - 3) + b"/p", one, 0
     few = names(COMMANDS, SCRIPT_LIMIT - 2 * COMMANDS)
     written = certificate(COMMANDS, lambda at, flag: (0, COMMANDS - at), (), few)
-    yield "4,095 names written, falling", b"".join(b"w " + name + b"\n" for name in reversed(few)), written, 0
+    yield "4,095 names written, in decreasing order", b"".join(b"w " + name + b"\n" for name in reversed(few)), written, 0
 
 
 def forward_branches(draw):
-    """Labels, each but the last followed by a branch, a test or a substitution; their targets are drawn among those behind."""
+    """Labels, each but the last followed by a branch, a test or a substitution; their targets are drawn among the labels after it."""
     out = []
     for i in range(2047):
         out.append(b":l%d\n" % i)
@@ -92,7 +92,7 @@ def scripts():
     yield "4,095 of `G`", b"G\n" * COMMANDS, 0
     yield "4,095 of `$!N`", b"$!N\n" * COMMANDS, 0
     loops = b"".join(b":a%d\ns/x//\nta%d\n" % (i, i) for i in range(COMMANDS // 3))
-    yield "1,365 loops with ranks, one behind another", loops, 0
+    yield "1,365 loops with ranks, one after another", loops, 0
     inner = b"".join(b":b%d\ns/x//\ntb%d\n" % (i, i) for i in range(1363))
     yield "1,363 loops with ranks inside one that reads", b":a\n" + inner + b"n\nba\n", 0
     idle = b"".join(b":a%d\ns/a/b/\nta%d\n" % (i, i) for i in range(COMMANDS // 3))
@@ -115,12 +115,12 @@ def measure(program, folder, words, status):
     done = subprocess.run([program, *words], cwd=folder, stdout=subprocess.DEVNULL)
     seconds = time.perf_counter() - begin
     if done.returncode != status:
-        raise SystemExit("status %d in place of %d" % (done.returncode, status))
+        raise SystemExit("status %d instead of %d" % (done.returncode, status))
     return seconds * 1000
 
 
 def peak(program, folder):
-    """The peak in MiB, told by GNU time: a child of this process would count the memory of Python."""
+    """The peak in MiB, measured with GNU time: a child of this process would count the memory of Python."""
     if not os.path.exists("/usr/bin/time"):
         return "-"
     done = subprocess.run(["/usr/bin/time", "-f", "%M", program, "check", "script", "cert"], cwd=folder,

@@ -1,6 +1,6 @@
 #!/bin/sh
 # Checks the examples by what README.md says: the answer in each row of its tables, each certificate as `rank`
-# writes it, and what each command of the documents' console blocks prints. Needs build/sedck.
+# writes it, and what each command prints that the documents show. Needs build/sedck.
 # Says what failed, and ends with status 1 on any failure.
 
 CDPATH= cd -- "$(dirname -- "$0")/.." || exit 1
@@ -23,7 +23,7 @@ fail() {
 cell() { printf '%s\n' "$row" | awk -F ' *[|] *' -v at="$1" '{ gsub("`", ""); print $at }'; }
 answer_of() { cell 4 | awk '{ gsub(", ", "\n"); print }'; }
 
-# Asks sedck: the arguments are the status and the text that are due, and then its words.
+# Asks sedck: the arguments are the status and the text that are due, and then those of sedck.
 ask() {
     due_status=$1 due_text=$2
     shift 2
@@ -46,29 +46,42 @@ while IFS= read -r row; do
     ask 0 "$(answer_of; printf '%s\n' "$lists")" check "$name.sed" "$name.cert"
 done < rows
 
-# The second table: words, status, text.
+# The second table: arguments, status, text.
 grep -E '^\| `(rank|check|files|graph) ' README.md > others
 while IFS= read -r row; do
-    # The words are names of files and hold no blanks.
+    # The arguments are names of files and contain no blanks.
     # shellcheck disable=SC2046
     ask "$(cell 3)" "$(answer_of)" $(cell 2)
 done < others
 
 for script in *.sed; do
-    cat rows others | grep -q -e "\`${script%.sed}\`" -e " $script" || fail "$script stands in no table of README.md"
+    cat rows others | grep -q -e "\`${script%.sed}\`" -e " $script" || fail "$script is in no table of README.md"
 done
+
+# Runs each command of the file `shown`, and compares what they print with it.
+run_shown() {
+    grep -q '^[$] ' shown || fail "$1 shows no command"
+    sed -n 's/^[$] //p' shown | while IFS= read -r command; do
+        printf '$ %s\n' "$command"
+        sh -c "$command" 2>&1 < /dev/null
+    done > printed
+    diff shown printed >&2 || fail "$1 shows (<) what isn't printed (>)"
+}
 
 # Each command of the console blocks, with all that it prints.
 cd .. || exit 1
 PATH=$scratch/build:$PATH
 for document in README.md examples/README.md docs/RECIPES.md; do
     awk '/^```/ { on = ($0 == "```console"); next } on' "$documents/$document" > shown
-    sed -n 's/^[$] //p' shown | while IFS= read -r command; do
-        printf '$ %s\n' "$command"
-        sh -c "$command" 2>&1 < /dev/null
-    done > printed
-    diff shown printed >&2 || fail "$document shows (<) what isn't printed (>)"
+    run_shown "$document"
 done
+
+# Those of the manual page, in the folder of the examples: a command that goes on in a line with `> ` is one line.
+cd examples || exit 1
+awk '/^\.SH/ { page = ($2 == "EXAMPLES") } /^\.R[SE]/ { on = (page && $1 == ".RS"); next } on' "$documents/docs/sedck.1" |
+    sed -e 's/\\-/-/g' -e 's/\\e/\\/g' |
+    awk '/^> / { text = text substr($0, 2); next } NR > 1 { print text } { text = $0 } END { print text }' > shown
+run_shown docs/sedck.1
 
 [ $failures -eq 0 ] || exit 1
 echo "examples: all are answered as they should be"

@@ -4,8 +4,8 @@ usage: refusals.py CALLS SEDCK SHIM
 
 CALLS is crates/sedck_refusals as built, which makes one call twice and prints both answers; SEDCK is the program itself; SHIM is
 refuse.c as built. The first answer of a call must be out of memory alone, by the name that the call has for it, or the expected
-one; the second, with ample memory, the expected one. SEDCK must end with status 4, its line for out of memory and no report, or
-as expected. What is expected is worked out by hand from the rules of docs/GRAMMAR.md and docs/FORMATS.md.
+one; the second, with ample memory, must be the expected one. SEDCK must end with status 4, its line for out of memory and no
+report, or as expected. What is expected was worked out by hand from the rules of docs/GRAMMAR.md and docs/FORMATS.md.
 """
 
 import concurrent.futures
@@ -28,7 +28,7 @@ READING = "r x"
 
 
 def both(ranks):
-    """The ranks of the nodes of version 1, each given to both nodes that it has become."""
+    """The ranks of the nodes of version 1, each given to both nodes of version 2."""
     return {f"{node} {last}": ranks[node] for node in ranks for last in (0, 1)}
 
 
@@ -210,7 +210,7 @@ OF_ENGINE = ["out of memory\n"]
 
 
 def calls():
-    """Each call as its words, the expected answer and the names for out of memory."""
+    """Each call as its arguments, the expected answer and the names for out of memory."""
     for text, answer in EXPRESSIONS:
         yield ["expression", text], answer + "\n", OF_EXPRESSION
     yield ["script", PARTS], READ_PARTS, OF_SCRIPT
@@ -254,7 +254,7 @@ def calls():
     yield ["rank", GROWING], f"{GROWING_LOOP}no\n", OF_ENGINE
 
 
-# ---- The program, by its words, the texts of its files, and the status, the report and the line on standard error expected
+# ---- The program: its arguments, the texts of its files, and the status, the report and the line on standard error expected
 
 
 def programs():
@@ -292,11 +292,11 @@ BEFORE, DURING, NEVER = range(3)
 
 
 class Wrong(Exception):
-    """A run that isn't as it must be."""
+    """A run that isn't as expected."""
 
 
 def run(program, shim, words, request, folder=".", errors=subprocess.STDOUT):
-    """What a run with this request refused prints, on both streams in order unless they are apart, and its status. Request 0 is none."""
+    """The status of a run with this request refused, and what it prints: both streams in order, unless they are apart. Request 0 is none."""
     done = subprocess.run(
         [os.path.abspath(program), *words],
         cwd=folder,
@@ -310,50 +310,50 @@ def run(program, shim, words, request, folder=".", errors=subprocess.STDOUT):
     return done.returncode, done.stdout.decode(), (done.stderr or b"").decode()
 
 
-def parts(told):
+def parts(output):
     """The two answers of a run."""
-    first, mark, second = told.removeprefix("first\n").partition("again\n")
-    if not told.startswith("first\n") or not mark:
+    first, mark, second = output.removeprefix("first\n").partition("again\n")
+    if not output.startswith("first\n") or not mark:
         raise Wrong("no two answers")
     return first, second
 
 
-def judged(told, status, expected, names):
+def judged(output, status, expected, names):
     """Where the refusal fell, and whether the first answer is out of memory. It must be that, or as expected."""
-    if told == REFUSED + "out of memory\n" and status == 4:
+    if output == REFUSED + "out of memory\n" and status == 4:
         return BEFORE, True
-    first, second = parts(told.removeprefix(REFUSED))
+    first, second = parts(output.removeprefix(REFUSED))
     if status != 0:
         raise Wrong(f"status {status}")
     if REFUSED not in first:
         if first != expected or (REFUSED not in second and second != expected):
-            raise Wrong("another answer with ample memory")
-        return (BEFORE if told.startswith(REFUSED) else NEVER), False
+            raise Wrong("not the expected answer with ample memory")
+        return (BEFORE if output.startswith(REFUSED) else NEVER), False
     first = first.replace(REFUSED, "", 1)
     if second != expected:
-        raise Wrong("another answer with ample memory after a refusal")
+        raise Wrong("not the expected answer with ample memory after a refusal")
     if first != expected and first not in names:
         raise Wrong("neither out of memory alone nor the expected answer")
     return DURING, first in names
 
 
 def call_in_turn(program, shim, words, expected, names):
-    """How many requests were refused in the call, and how many of these were answered by out of memory."""
+    """How many requests were refused in the call, and how many of these were answered with out of memory."""
     refused = {BEFORE: 0, DURING: 0}
     answered = 0
     request = 0
     while True:
-        status, told, _ = run(program, shim, words, request)
+        status, output, _ = run(program, shim, words, request)
         try:
-            where, out_of_memory = judged(told, status, expected, names)
-            if request == 0 and (where != NEVER or REFUSED in told):
-                raise Wrong("a refusal without a request for one")
+            where, out_of_memory = judged(output, status, expected, names)
+            if request == 0 and (where != NEVER or REFUSED in output):
+                raise Wrong("a refusal that wasn't asked for")
             if where == BEFORE and refused[DURING]:
-                raise Wrong("a refusal before the call behind one in it")
+                raise Wrong("a refusal before the call, after one in it")
             if where == NEVER and request > 0 and refused[BEFORE] == 0:
-                raise Wrong("no request was refused before the call, where there are some")
+                raise Wrong("no request was refused before the call, and there must be some")
         except Wrong as wrong:
-            raise Wrong(f"request {request}: {wrong}; status {status}, told {told!r}") from None
+            raise Wrong(f"request {request}: {wrong}; status {status}, printed {output!r}") from None
         if where == NEVER and request > 0:
             return refused[DURING], answered
         if where != NEVER:
@@ -363,7 +363,7 @@ def call_in_turn(program, shim, words, expected, names):
 
 
 def program_in_turn(program, shim, words, files, expected):
-    """How many requests were refused in all, and how many of these were answered by out of memory."""
+    """How many requests were refused in all, and how many of these were answered with out of memory."""
     answered = 0
     request = 0
     with tempfile.TemporaryDirectory() as folder:
@@ -373,11 +373,11 @@ def program_in_turn(program, shim, words, files, expected):
         while True:
             status, report, errors = run(program, shim, words, request, folder, subprocess.PIPE)
             is_refused = errors.startswith(REFUSED)
-            told = (status, report, errors.removeprefix(REFUSED))
-            if is_refused and told == (4, "", "sedck: out of memory\n"):
+            seen = (status, report, errors.removeprefix(REFUSED))
+            if is_refused and seen == (4, "", "sedck: out of memory\n"):
                 answered += 1
-            elif told != expected or is_refused and request == 0:
-                raise Wrong(f"request {request}: status {status}, reported {report!r}, told {errors!r}")
+            elif seen != expected or is_refused and request == 0:
+                raise Wrong(f"request {request}: status {status}, report {report!r}, standard error {errors!r}")
             if request > 0 and not is_refused:
                 return request - 1, answered
             request += 1
@@ -402,7 +402,7 @@ def main():
             continue
         total += refused
         answered_by_kind[kind] = answered_by_kind.get(kind, 0) + answered
-        print(f"{refused:4} requests refused, {answered:4} answered by out of memory: {kind} {text!r}")
+        print(f"{refused:4} requests refused, {answered:4} answered with out of memory: {kind} {text!r}")
     for kind, answered in answered_by_kind.items():
         if answered == 0:
             failures += 1

@@ -1,6 +1,6 @@
-/* Refuses one request for memory of the program that this library is loaded into by LD_PRELOAD: the one whose number stands in
- * REFUSE. Requests are counted from 1, from the program's start on. A refusal is reported by a line on standard error.
- * The other requests go to the C library, by names that glibc has for this use. */
+/* Refuses one request for memory of the program that this library is loaded into by LD_PRELOAD: the one whose number is in
+ * REFUSE. Requests are counted from 1, from the program's start. A refusal is reported by a line on standard error.
+ * The other requests go to the C library, by the names that glibc has for this use. */
 #include <errno.h>
 #include <stddef.h>
 #include <stdlib.h>
@@ -10,7 +10,7 @@ extern void *__libc_malloc(size_t size);
 extern void *__libc_calloc(size_t count, size_t size);
 extern void *__libc_realloc(void *block, size_t size);
 
-/* 0 until the first request, since no constructor need have run by then. */
+/* 0 until the first request, since no constructor may have run before. */
 static long refused_request;
 static long requests;
 

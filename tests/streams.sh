@@ -1,7 +1,7 @@
 #!/bin/sh
 # Reports that can't be written: each command's output goes to a full device, and to a pipe that nobody reads, once with
-# SIGPIPE as the shell has it and once with SIGPIPE ignored. The program ignores SIGPIPE itself, so it must answer status 4
-# with its line on standard error each time, and must not be killed.
+# SIGPIPE as the shell has it and once with SIGPIPE ignored. The program ignores SIGPIPE itself, so it must end with status 4
+# and its line on standard error each time, and must not be killed.
 #
 # usage: streams.sh PROGRAM
 set -u
@@ -14,7 +14,7 @@ printf ':a\nb a\n' > "$folder/loop"
 "$program" rank "$folder/script" > "$folder/certificate" || exit 1
 failures=0
 
-# wanted STATUS LINE WHAT: compares the status and the lines on standard error of the command before
+# wanted STATUS LINE WHAT: compares the status of the last command and its lines on standard error
 wanted() {
     if [ "$(cat "$folder/status")" != "$1" ] || [ "$(cat "$folder/errors")" != "$2" ]; then
         echo "FAILED: $3: status $(cat "$folder/status"), $(cat "$folder/errors")"
@@ -22,18 +22,18 @@ wanted() {
     fi
 }
 
-# full WORDS: standard output is a device that takes no byte
+# full ARGUMENTS: standard output is a device that accepts no byte
 full() {
     "$program" "$@" > /dev/full 2> "$folder/errors"
     echo $? > "$folder/status"
     wanted 4 "sedck: cannot write" "$* to a full device"
 }
 
-# unread WORDS: standard output is a pipe whose reader has gone before the program starts
+# unread ARGUMENTS: standard output is a pipe whose reader has gone before the program starts
 unread() {
     rm -f "$folder/gone"
     mkfifo "$folder/gone"
-    # The first descriptor reads and writes, so that the second can be opened without a reader of its own; then the first is closed.
+    # The first descriptor reads and writes, so that the second can be opened with no other reader; then the first is closed.
     exec 3<> "$folder/gone"
     exec 4> "$folder/gone"
     exec 3>&-
@@ -60,7 +60,7 @@ trap '' PIPE
 note=', SIGPIPE ignored'
 each unread
 
-# Streams that don't matter: one that takes the report, and one to which a refusal writes nothing.
+# Streams that can't fail: a file that accepts the report, and a full device to which a refusal writes nothing.
 "$program" files "$folder/script" > "$folder/report" 2> "$folder/errors"
 echo $? > "$folder/status"
 wanted 0 "" "files to a file"
