@@ -36,7 +36,7 @@ pub reads_listed : (p : Program) → ListsNames (reads p) (NamesForReading p)
 reads_listed p =
     let all : List (List ℕ) = flat_map (λ (c : Command). read_names c.verb) p.commands in
     record {
-      rising = sorted_names-rise all;
+      increasing = sorted_names-rise all;
       same = λ name. (
         λ h. named read_names p.commands name ((sorted_names-same all name).0 h),
         λ (at, c, e, h). (sorted_names-same all name).1 (listed read_names p.commands name at c e h),
@@ -47,7 +47,7 @@ pub writes_listed : (p : Program) → ListsNames (writes p) (NamesForWriting p)
 writes_listed p =
     let all : List (List ℕ) = flat_map (λ (c : Command). write_names c.verb) p.commands in
     record {
-      rising = sorted_names-rise all;
+      increasing = sorted_names-rise all;
       same = λ name. (
         λ h. named write_names p.commands name ((sorted_names-same all name).0 h),
         λ (at, c, e, h). (sorted_names-same all name).1 (listed write_names p.commands name at c e h),
@@ -58,5 +58,5 @@ writes_listed p =
 pub only_list : (IsNamed : List ℕ → Type 0) (sorted names : List (List ℕ)) → ListsNames sorted IsNamed → (names ≡ sorted) ↔ ListsNames names IsNamed
 only_list IsNamed sorted names lists = (
   λ same. subst (λ x. ListsNames x IsNamed) (sym same) lists,
-  λ other. rising-same names sorted other.rising lists.rising (λ x. (λ h. (lists.same x).1 ((other.same x).0 h), λ h. (other.same x).1 ((lists.same x).0 h))),
+  λ other. rising-same names sorted other.increasing lists.increasing (λ x. (λ h. (lists.same x).1 ((other.same x).0 h), λ h. (other.same x).1 ((lists.same x).0 h))),
 )

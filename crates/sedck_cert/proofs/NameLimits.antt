@@ -7,7 +7,7 @@ use Rattle.std.proofs.lemmas.List.{length-map}
 use Rattle.std.proofs.lemmas.List.Elements.{All-from_recursion, recursion_from_All}
 use Rattle.std.proofs.lemmas.List.Kept.{AllPairs-cons}
 use Rattle.std.proofs.lemmas.List.Sums.{sum_by-cons}
-use Rattle.sedck_script.specs.Names.{IsName, IsBefore, AreRising, AreNames, names_size}
+use Rattle.sedck_script.specs.Names.{IsName, IsBefore, AreIncreasing, AreNames, names_size}
 use Rattle.sedck_cert.specs.View.{names_of}
 use Rattle.sedck_cert.specs.Private.Reading.{AreNext}
 use Rattle.sedck_cert.proofs.Texts.{IsBeforeAll, behind_all, rising_parts, first_rises}
@@ -15,7 +15,7 @@ use Rattle.sedck_cert.proofs.Texts.{IsBeforeAll, behind_all, rising_parts, first
 record AreRight (before names : List (List ℕ)) (size : ℕ) : Type 0 where
   pub each : AllByRecursion IsName names
   pub behind : IsBeforeAll before names
-  pub rising : AreRising names
+  pub increasing : AreIncreasing names
   pub within : size + names_size names ≤ 1048576
 
 size-cons : (name : List ℕ) (names : List (List ℕ)) (size : ℕ) → size + length name + 1 + names_size names ≡ size + names_size (name ∷ names)
@@ -25,7 +25,7 @@ next_right : (names before : List (List ℕ)) (size : ℕ) → AreNext before na
 next_right [] before size h = record {
   each = tt;
   behind = elim before as (λ b. IsBeforeAll b []) [ [] ↦ tt | b ∷ more ↦ tt ];
-  rising = λ i j d low high. absurd (omega arith);
+  increasing = λ i j d low high. absurd (omega arith);
   within = omega arith;
 }
 next_right (name ∷ names) before size h =
@@ -33,30 +33,30 @@ next_right (name ∷ names) before size h =
     record {
       each = (h.0, more.each);
       behind = behind_all before name names h.1 more.behind;
-      rising = AllPairs-cons IsBefore name names (All-from_recursion (IsBefore name) names more.behind) more.rising;
+      increasing = AllPairs-cons IsBefore name names (All-from_recursion (IsBefore name) names more.behind) more.increasing;
       within = omega (arith, size-cons name names size, more.within);
     }
 
 right_next : (names before : List (List ℕ)) (size : ℕ) → AreRight before names size → AreNext before names size
 right_next [] before size h = omega (arith, h.within)
 right_next (name ∷ names) before size h =
-    let parts = rising_parts name names h.rising in (
+    let parts = rising_parts name names h.increasing in (
       h.each.0,
       first_rises before name names h.behind,
       omega (arith, size-cons name names size, h.within),
       right_next names (name ∷ []) (size + length name + 1)
-          (record { each = h.each.1; behind = parts.0; rising = parts.1; within = omega (arith, size-cons name names size, h.within) }),
+          (record { each = h.each.1; behind = parts.0; increasing = parts.1; within = omega (arith, size-cons name names size, h.within) }),
     )
 
 pub names_next : (names : List (List ℕ)) (size : ℕ) → AreNames names → size + names_size names ≤ 1048576 → AreNext [] names size
 names_next names size h small = right_next names [] size
-    (record { each = recursion_from_All IsName names h.each; behind = tt; rising = h.rising; within = small })
+    (record { each = recursion_from_All IsName names h.each; behind = tt; increasing = h.increasing; within = small })
 
 pub next_names : (names : List (Vec ℕ Global)) (size : ℕ) → length names ≤ 4095 → AreNext [] (names_of names) size → AreNames (names_of names)
 next_names names size few h =
     let right = next_right (names_of names) [] size h in
     let e = length-map names (λ (n : Vec ℕ Global). n.items) in
-    record { each = All-from_recursion IsName (names_of names) right.each; rising = right.rising; count = omega arith }
+    record { each = All-from_recursion IsName (names_of names) right.each; increasing = right.increasing; count = omega arith }
 
 pub left_cons : (names : List (Vec ℕ Global)) (i : ℕ) (name : Vec ℕ Global) → i < length names → name ≡ get_or names i name
     → names_of (drop i names) ≡ name.items ∷ names_of (drop (i + 1) names)

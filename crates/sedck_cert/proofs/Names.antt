@@ -6,7 +6,7 @@ use Rattle.std.proofs.lemmas.Grind.{common_steps}
 use Rattle.sedck_script.specs.Names.{IsName}
 use Rattle.sedck_cert.specs.View.{names_of}
 use Rattle.sedck_cert.specs.Private.Cuts.{IsCut}
-use Rattle.sedck_cert.specs.Faults.{Due, Name, list_word, Rises, after_list, after_name, IsWrong}
+use Rattle.sedck_cert.specs.Faults.{Due, Name, list_word, ComesAfter, after_list, after_name, IsWrong}
 use Rattle.sedck_cert.specs.declared.versions.Version.{Version}
 use Rattle.sedck_cert.specs.Private.Reading.{Leads, names_due, list_texts}
 use Rattle.sedck_cert.specs.declared.reading.lines.Lines.{Lines}
@@ -14,7 +14,7 @@ use Rattle.sedck_cert.specs.declared.reading.names.Files.{Files}
 use Rattle.sedck_cert.proofs.Leads.{leads_on, wrong_line}
 
 pub wrong_name : (v : Version) (files : Files) (left : ℕ) (before : List (List ℕ)) (size : ℕ) (rest text more : List ℕ) → IsCut 10 rest text more
-    → ¬ (IsName text × Rises before text × (size + length text + 1 ≤ 1048576)) → IsWrong v (Name files (suc left) before size) rest
+    → ¬ (IsName text × ComesAfter before text × (size + length text + 1 ≤ 1048576)) → IsWrong v (Name files (suc left) before size) rest
 wrong_name v files left before size rest text more cut none =
     wrong_line v (Name files (suc left) before size) rest text more cut (λ next due. none (due.0, due.1, due.2))
 

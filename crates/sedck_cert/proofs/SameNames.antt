@@ -5,15 +5,15 @@ use Rattle.std.specs.declared.cmp.Ordering.TheVariants.{Less, Greater}
 use Rattle.std.specs.Ordering.{ordering_reverse}
 use Rattle.std.proofs.lemmas.Cmp.{nat_list_cmp_total}
 use Rattle.std.proofs.lemmas.List.Elements.{All-from_recursion, All-contains, recursion_from_All}
-use Rattle.sedck_script.specs.Names.{IsBefore, AreRising}
+use Rattle.sedck_script.specs.Names.{IsBefore, AreIncreasing}
 use Rattle.sedck_script.proofs.SortedNames.{Contains-cons_cases, Contains-cons_more}
 
 -- each name is before all behind it
-abbrev Rises : List (List ℕ) → Type 0
-Rises [] = Unit {0}
-Rises (name ∷ names) = AllByRecursion (IsBefore name) names × Rises names
+abbrev ComesAfter : List (List ℕ) → Type 0
+ComesAfter [] = Unit {0}
+ComesAfter (name ∷ names) = AllByRecursion (IsBefore name) names × ComesAfter names
 
-rises_of : (names : List (List ℕ)) → AreRising names → Rises names
+rises_of : (names : List (List ℕ)) → AreIncreasing names → ComesAfter names
 rises_of [] h = tt
 rises_of (name ∷ names) h = (
   recursion_from_All (IsBefore name) names (λ k d below. h 0 (suc k) d (omega arith) (omega arith)),
@@ -28,7 +28,7 @@ never_before : (name : List ℕ) → IsBefore name name → ⊥
 never_before name h = let turned : Less ≡ Greater = sym h ∙ nat_list_cmp_total.antisymm name name ∙ ap ordering_reverse h in cc
 
 -- of two sorted lists with the same names the first names are the same
-first_same : (a b : List ℕ) (xs ys : List (List ℕ)) → Rises (a ∷ xs) → Rises (b ∷ ys) → Contains (b ∷ ys) a → Contains (a ∷ xs) b → a ≡ b
+first_same : (a b : List ℕ) (xs ys : List (List ℕ)) → ComesAfter (a ∷ xs) → ComesAfter (b ∷ ys) → Contains (b ∷ ys) a → Contains (a ∷ xs) b → a ≡ b
 first_same a b xs ys rise_a rise_b has_a has_b =
     elim (Contains-cons_cases a xs b has_b) [
       | inl same ↦ same
@@ -39,14 +39,14 @@ first_same a b xs ys rise_a rise_b has_a has_b =
     ]
 
 -- a name behind the first is behind the other list's first
-still_behind : (a b x : List ℕ) (xs ys : List (List ℕ)) → a ≡ b → Rises (a ∷ xs) → Contains xs x → Contains (b ∷ ys) x → Contains ys x
+still_behind : (a b x : List ℕ) (xs ys : List (List ℕ)) → a ≡ b → ComesAfter (a ∷ xs) → Contains xs x → Contains (b ∷ ys) x → Contains ys x
 still_behind a b x xs ys same rise has within =
     elim (Contains-cons_cases b ys x within) [
       | inl here ↦ absurd (never_before a (subst (λ y. IsBefore a y) (sym here ∙ sym same) (behind a x xs rise.0 has)))
       | inr later ↦ later
     ]
 
-same_rising : (xs ys : List (List ℕ)) → Rises xs → Rises ys → ((x : List ℕ) → Contains xs x ↔ Contains ys x) → xs ≡ ys
+same_rising : (xs ys : List (List ℕ)) → ComesAfter xs → ComesAfter ys → ((x : List ℕ) → Contains xs x ↔ Contains ys x) → xs ≡ ys
 same_rising [] [] ra rb same = refl
 same_rising [] (b ∷ ys) ra rb same = absurd (omega (arith, ((same b).1 (0, omega arith, refl)).1))
 same_rising (a ∷ xs) [] ra rb same = absurd (omega (arith, ((same a).0 (0, omega arith, refl)).1))
@@ -57,5 +57,5 @@ same_rising (a ∷ xs) (b ∷ ys) ra rb same =
       λ h. still_behind b a x ys xs (sym first) rb h ((same x).1 (Contains-cons_more b ys x h)),
     )) in cc
 
-pub rising-same : (xs ys : List (List ℕ)) → AreRising xs → AreRising ys → ((x : List ℕ) → Contains xs x ↔ Contains ys x) → xs ≡ ys
+pub rising-same : (xs ys : List (List ℕ)) → AreIncreasing xs → AreIncreasing ys → ((x : List ℕ) → Contains xs x ↔ Contains ys x) → xs ≡ ys
 rising-same xs ys ra rb same = same_rising xs ys (rises_of xs ra) (rises_of ys rb) same

@@ -8,12 +8,12 @@ use Rattle.std.proofs.lemmas.List.Elements.{recursion_from_All, All-from_recursi
 use Rattle.std.proofs.lemmas.List.Kept.{AllPairs-cons}
 use Rattle.std.proofs.lemmas.Fmt.{decimal_injective}
 use Rattle.std.proofs.lemmas.List.{append_cancel_left}
-use Rattle.sedck_script.specs.Names.{IsName, IsBefore, AreRising, AreNames, names_size}
+use Rattle.sedck_script.specs.Names.{IsName, IsBefore, AreIncreasing, AreNames, names_size}
 use Rattle.sedck_flow.specs.Words.{flag_text}
 use Rattle.sedck_script.proofs.SortedNames.{all_later}
 use Rattle.sedck_cert.specs.Certificate.{Certificate, IsCertificate, nodes_in, AreWithin}
 use Rattle.sedck_cert.specs.Text.{line, header, node_lines, name_lines, text_in, IsOneLine, words_in, node_text, ranks_text}
-use Rattle.sedck_cert.specs.Faults.{Due, Header, Count, Node, Names, Last, Nothing, AreDue, Rises, joined_lines, list_word, after_list, after_count, after_name, after_node}
+use Rattle.sedck_cert.specs.Faults.{Due, Header, Count, Node, Names, Last, Nothing, AreDue, ComesAfter, joined_lines, list_word, after_list, after_count, after_name, after_node}
 use Rattle.sedck_cert.specs.Private.Reading.{node_texts, nodes_due, list_texts, names_due, certificate_lines}
 use Rattle.sedck_cert.specs.declared.versions.Version.{Version}
 use Rattle.sedck_cert.specs.declared.versions.Version.TheVariants.{One, Two}
@@ -139,11 +139,11 @@ IsBeforeAll (before ∷ more) names = AllByRecursion (IsBefore before) names
 record AreListed (files : Files) (before names : List (List ℕ)) (size : ℕ) (next : Due) : Type 0 where
   pub each : AllByRecursion IsName names
   pub behind : IsBeforeAll before names
-  pub rising : AreRising names
+  pub increasing : AreIncreasing names
   pub leads : next ≡ after_list files (size + names_size names)
   pub within : size + names_size names ≤ 1048576
 
-pub behind_all : (before : List (List ℕ)) (name : List ℕ) (names : List (List ℕ)) → Rises before name → AllByRecursion (IsBefore name) names
+pub behind_all : (before : List (List ℕ)) (name : List ℕ) (names : List (List ℕ)) → ComesAfter before name → AllByRecursion (IsBefore name) names
     → IsBeforeAll before (name ∷ names)
 behind_all [] name names e h = tt
 behind_all (b ∷ more) name names e h = (e, all_later b name names e h)
@@ -153,12 +153,12 @@ names_listed : (v : Version) (files : Files) (names before : List (List ℕ)) (s
 names_listed v files [] before size next small h = record {
   each = tt;
   behind = elim before as (λ b. IsBeforeAll b []) [ [] ↦ tt | b ∷ more ↦ tt ];
-  rising = λ i j d low high. absurd (omega arith);
+  increasing = λ i j d low high. absurd (omega arith);
   leads = h ∙ ap (after_list files) (omega arith);
   within = omega arith;
 }
 names_listed v files (name ∷ names) before size next small h =
-    let due : IsName name × Rises before name × (size + length name + 1 ≤ 1048576)
+    let due : IsName name × ComesAfter before name × (size + length name + 1 ≤ 1048576)
     × (h.1 ≡ after_name files (length names) name (size + length name + 1)) = h.2 in
     let size' : ℕ = size + length name + 1 in
     let behind : AreDue v (names_due files (length names) (name ∷ []) size') names next =
@@ -168,7 +168,7 @@ names_listed v files (name ∷ names) before size next small h =
     record {
       each = (due.0, more.each);
       behind = behind_all before name names due.1 more.behind;
-      rising = AllPairs-cons IsBefore name names (All-from_recursion (IsBefore name) names more.behind) more.rising;
+      increasing = AllPairs-cons IsBefore name names (All-from_recursion (IsBefore name) names more.behind) more.increasing;
       leads = more.leads ∙ ap (after_list files) sum;
       within = omega (arith, sum, more.within);
     }
@@ -187,19 +187,19 @@ list_law v files names size next small few h =
     (append_cancel_left (list_word files) (decimal (length names)) (decimal count.0) count.2) in
     let due : h.1 ≡ names_due files (length names) [] size = count.3 ∙ after_count-due files count.0 size ∙ ap (λ n. names_due files n [] size) (sym long) in
     let listed = names_listed v files names [] size next small (subst (λ d. AreDue v d names next) due h.3) in
-    (record { each = All-from_recursion IsName names listed.each; rising = listed.rising; count = few }, listed.leads, listed.within)
+    (record { each = All-from_recursion IsName names listed.each; increasing = listed.increasing; count = few }, listed.leads, listed.within)
 
-pub rising_parts : (name : List ℕ) (names : List (List ℕ)) → AreRising (name ∷ names) → AllByRecursion (IsBefore name) names × AreRising names
+pub rising_parts : (name : List ℕ) (names : List (List ℕ)) → AreIncreasing (name ∷ names) → AllByRecursion (IsBefore name) names × AreIncreasing names
 rising_parts name names h = (
   recursion_from_All (IsBefore name) names (λ k d within. h 0 (suc k) d (omega arith) (omega arith)),
   λ i j d low high. h (suc i) (suc j) d (omega arith) (omega arith),
 )
 
-pub first_rises : (before : List (List ℕ)) (name : List ℕ) (names : List (List ℕ)) → IsBeforeAll before (name ∷ names) → Rises before name
+pub first_rises : (before : List (List ℕ)) (name : List ℕ) (names : List (List ℕ)) → IsBeforeAll before (name ∷ names) → ComesAfter before name
 first_rises [] name names h = tt
 first_rises (b ∷ more) name names h = h.0
 
-names_are_due : (v : Version) (files : Files) (names before : List (List ℕ)) (size : ℕ) → AllByRecursion IsName names → IsBeforeAll before names → AreRising names
+names_are_due : (v : Version) (files : Files) (names before : List (List ℕ)) (size : ℕ) → AllByRecursion IsName names → IsBeforeAll before names → AreIncreasing names
     → size + names_size names ≤ 1048576 → AreDue v (names_due files (length names) before size) names (after_list files (size + names_size names))
 names_are_due v files [] before size each behind rising small = ap (after_list files) (omega arith)
 names_are_due v files (name ∷ names) before size each behind rising small =
@@ -220,7 +220,7 @@ list_is_due v files names size are small = (
   after_count files (length names) size,
   (length names, are.count, refl, refl),
   subst (λ d. AreDue v d names (after_list files (size + names_size names))) (sym (after_count-due files (length names) size))
-      (names_are_due v files names [] size (recursion_from_All IsName names are.each) tt are.rising small),
+      (names_are_due v files names [] size (recursion_from_All IsName names are.each) tt are.increasing small),
 )
 
 -- ---- The whole

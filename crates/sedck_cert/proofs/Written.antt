@@ -2,7 +2,7 @@
 use Rattle.std.proofs.Common.{◌≡◌, ℕ, ◌+◌, ◌<◌, ◌≤◌, ◌/◌, ◌%◌, ◌^◌, List, [], ◌∷◌, ◌++◌, decimal, Option, Some, None, Result, Ok, Err, OnOk, OnErr, append_assoc, sym, ◌∙◌, ap, subst}
 use Rattle.std.specs.Io.KnownBytes.{Appends}
 use Rattle.std.proofs.lemmas.Fmt.{decimal_digit, decimal_step}
-use Rattle.sedck_cert.specs.Streams.{AppendsFront}
+use Rattle.sedck_cert.specs.Streams.{AppendsPrefix}
 
 pub on_err : {A E : Type 0} (r : Result A E) (P : Type 0) → P → OnErr r P
 on_err (Ok x) P h = tt
@@ -23,11 +23,11 @@ appends_join (Some as') (Some bs) None xs ys h k = absurd k
 appends_join (Some as') (Some bs) (Some cs) xs ys h k = k ∙ ap (λ t. t ++ ys) h ∙ append_assoc as' xs ys
 
 -- a prefix of a longer text
-pub begins_longer : (a b : Option (List ℕ)) (text rest : List ℕ) → AppendsFront a b text → AppendsFront a b (text ++ rest)
+pub begins_longer : (a b : Option (List ℕ)) (text rest : List ℕ) → AppendsPrefix a b text → AppendsPrefix a b (text ++ rest)
 begins_longer a b text rest h = (h.0, (h.1.0 ++ rest, ap (λ t. t ++ rest) h.1.1 ∙ append_assoc h.0 h.1.0 rest), h.2)
 
 -- a front behind what was taken
-pub begins_later : (a b c : Option (List ℕ)) (front text : List ℕ) → Appends a b front → AppendsFront b c text → AppendsFront a c (front ++ text)
+pub begins_later : (a b c : Option (List ℕ)) (front text : List ℕ) → Appends a b front → AppendsPrefix b c text → AppendsPrefix a c (front ++ text)
 begins_later a b c front text h k = (front ++ k.0, (k.1.0, ap (λ t. front ++ t) k.1.1 ∙ sym (append_assoc front k.0 k.1.0)), appends_join a b c front k.0 h k.2)
 
 -- the decimal of a number with more digits than one
@@ -39,9 +39,9 @@ pub written_digit : {E : Type 0} (r : Result (Unit {0}) E) (a b : Option (List �
     → OnOk r (Appends a b (decimal n))
 written_digit r a b n small h = subst (λ t. OnOk r (Appends a b t)) (sym (decimal_digit n small)) h
 
-pub begun_digit : {E : Type 0} (r : Result (Unit {0}) E) (a b : Option (List ℕ)) (n : ℕ) → n < 10 → OnErr r (AppendsFront a b ((48 + n) ∷ []))
-    → OnErr r (AppendsFront a b (decimal n))
-begun_digit r a b n small h = subst (λ t. OnErr r (AppendsFront a b t)) (sym (decimal_digit n small)) h
+pub begun_digit : {E : Type 0} (r : Result (Unit {0}) E) (a b : Option (List ℕ)) (n : ℕ) → n < 10 → OnErr r (AppendsPrefix a b ((48 + n) ∷ []))
+    → OnErr r (AppendsPrefix a b (decimal n))
+begun_digit r a b n small h = subst (λ t. OnErr r (AppendsPrefix a b t)) (sym (decimal_digit n small)) h
 
 pub written_more : {E : Type 0} (r : Result (Unit {0}) E) (a b c : Option (List ℕ)) (n : ℕ) → 10 ≤ n → n < 2 ^ 64 → Appends a b (decimal (n / 10))
     → OnOk r (Appends b c ((48 + n % 10) ∷ [])) → OnOk r (Appends a c (decimal n))
@@ -49,21 +49,21 @@ written_more r a b c n more small h k = on_ok_then r (Appends b c ((48 + n % 10)
     (λ last. subst (Appends a c) (sym (decimal-more n more small)) (appends_join a b c (decimal (n / 10)) ((48 + n % 10) ∷ []) h last))
 
 pub begun_more : {E : Type 0} (r : Result (Unit {0}) E) (a b c : Option (List ℕ)) (n : ℕ) → 10 ≤ n → n < 2 ^ 64 → Appends a b (decimal (n / 10))
-    → OnErr r (AppendsFront b c ((48 + n % 10) ∷ [])) → OnErr r (AppendsFront a c (decimal n))
-begun_more r a b c n more small h k = on_err_then r (AppendsFront b c ((48 + n % 10) ∷ [])) (AppendsFront a c (decimal n)) k
-    (λ last. subst (AppendsFront a c) (sym (decimal-more n more small)) (begins_later a b c (decimal (n / 10)) ((48 + n % 10) ∷ []) h last))
+    → OnErr r (AppendsPrefix b c ((48 + n % 10) ∷ [])) → OnErr r (AppendsPrefix a c (decimal n))
+begun_more r a b c n more small h k = on_err_then r (AppendsPrefix b c ((48 + n % 10) ∷ [])) (AppendsPrefix a c (decimal n)) k
+    (λ last. subst (AppendsPrefix a c) (sym (decimal-more n more small)) (begins_later a b c (decimal (n / 10)) ((48 + n % 10) ∷ []) h last))
 
-pub begins_digits : (a b : Option (List ℕ)) (n : ℕ) → 10 ≤ n → n < 2 ^ 64 → AppendsFront a b (decimal (n / 10)) → AppendsFront a b (decimal n)
-begins_digits a b n more small h = subst (AppendsFront a b) (sym (decimal-more n more small))
+pub begins_digits : (a b : Option (List ℕ)) (n : ℕ) → 10 ≤ n → n < 2 ^ 64 → AppendsPrefix a b (decimal (n / 10)) → AppendsPrefix a b (decimal n)
+begins_digits a b n more small h = subst (AppendsPrefix a b) (sym (decimal-more n more small))
     (begins_longer a b (decimal (n / 10)) ((48 + n % 10) ∷ []) h)
 
 -- the middle piece of a text
 pub begins_at : (a b c : Option (List ℕ)) (front piece rest text : List ℕ) → text ≡ front ++ (piece ++ rest) → Appends a b front
-    → AppendsFront b c piece → AppendsFront a c text
-begins_at a b c front piece rest text is h k = subst (AppendsFront a c) (sym is) (begins_later a b c front (piece ++ rest) h (begins_longer b c piece rest k))
+    → AppendsPrefix b c piece → AppendsPrefix a c text
+begins_at a b c front piece rest text is h k = subst (AppendsPrefix a c) (sym is) (begins_later a b c front (piece ++ rest) h (begins_longer b c piece rest k))
 
-pub begins_first : (a b : Option (List ℕ)) (piece rest text : List ℕ) → text ≡ piece ++ rest → AppendsFront a b piece → AppendsFront a b text
-begins_first a b piece rest text is h = subst (AppendsFront a b) (sym is) (begins_longer a b piece rest h)
+pub begins_first : (a b : Option (List ℕ)) (piece rest text : List ℕ) → text ≡ piece ++ rest → AppendsPrefix a b piece → AppendsPrefix a b text
+begins_first a b piece rest text is h = subst (AppendsPrefix a b) (sym is) (begins_longer a b piece rest h)
 
 -- the last piece
 pub written_last : {E : Type 0} (r : Result (Unit {0}) E) (a b c : Option (List ℕ)) (front piece text : List ℕ) → text ≡ front ++ piece
@@ -72,9 +72,9 @@ written_last r a b c front piece text is h k = on_ok_then r (Appends b c piece) 
     (λ last. subst (Appends a c) (sym is) (appends_join a b c front piece h last))
 
 pub begun_last : {E : Type 0} (r : Result (Unit {0}) E) (a b c : Option (List ℕ)) (front piece text : List ℕ) → text ≡ front ++ piece
-    → Appends a b front → OnErr r (AppendsFront b c piece) → OnErr r (AppendsFront a c text)
-begun_last r a b c front piece text is h k = on_err_then r (AppendsFront b c piece) (AppendsFront a c text) k
-    (λ last. subst (AppendsFront a c) (sym is) (begins_later a b c front piece h last))
+    → Appends a b front → OnErr r (AppendsPrefix b c piece) → OnErr r (AppendsPrefix a c text)
+begun_last r a b c front piece text is h k = on_err_then r (AppendsPrefix b c piece) (AppendsPrefix a c text) k
+    (λ last. subst (AppendsPrefix a c) (sym is) (begins_later a b c front piece h last))
 
 -- the last of three pieces
 pub written_third : {E : Type 0} (r : Result (Unit {0}) E) (a b c d : Option (List ℕ)) (p q s text : List ℕ) → text ≡ p ++ (q ++ s) → Appends a b p
@@ -82,12 +82,12 @@ pub written_third : {E : Type 0} (r : Result (Unit {0}) E) (a b c d : Option (Li
 written_third r a b c d p q s text is h k l = written_last r a c d (p ++ q) s text (is ∙ sym (append_assoc p q s)) (appends_join a b c p q h k) l
 
 pub begun_third : {E : Type 0} (r : Result (Unit {0}) E) (a b c d : Option (List ℕ)) (p q s text : List ℕ) → text ≡ p ++ (q ++ s) → Appends a b p
-    → Appends b c q → OnErr r (AppendsFront c d s) → OnErr r (AppendsFront a d text)
+    → Appends b c q → OnErr r (AppendsPrefix c d s) → OnErr r (AppendsPrefix a d text)
 begun_third r a b c d p q s text is h k l = begun_last r a c d (p ++ q) s text (is ∙ sym (append_assoc p q s)) (appends_join a b c p q h k) l
 
 -- the third of four pieces, and the last
 pub begins_third : (a b c d : Option (List ℕ)) (p q s rest text : List ℕ) → text ≡ p ++ (q ++ (s ++ rest)) → Appends a b p → Appends b c q
-    → AppendsFront c d s → AppendsFront a d text
+    → AppendsPrefix c d s → AppendsPrefix a d text
 begins_third a b c d p q s rest text is h k l = begins_at a c d (p ++ q) s rest text (is ∙ sym (append_assoc p q (s ++ rest))) (appends_join a b c p q h k) l
 
 pub written_fourth : {E : Type 0} (r : Result (Unit {0}) E) (a b c d e : Option (List ℕ)) (p q s u text : List ℕ) → text ≡ p ++ (q ++ (s ++ u))
@@ -96,6 +96,6 @@ written_fourth r a b c d e p q s u text is h k l m =
     written_third r a c d e (p ++ q) s u text (is ∙ sym (append_assoc p q (s ++ u))) (appends_join a b c p q h k) l m
 
 pub begun_fourth : {E : Type 0} (r : Result (Unit {0}) E) (a b c d e : Option (List ℕ)) (p q s u text : List ℕ) → text ≡ p ++ (q ++ (s ++ u))
-    → Appends a b p → Appends b c q → Appends c d s → OnErr r (AppendsFront d e u) → OnErr r (AppendsFront a e text)
+    → Appends a b p → Appends b c q → Appends c d s → OnErr r (AppendsPrefix d e u) → OnErr r (AppendsPrefix a e text)
 begun_fourth r a b c d e p q s u text is h k l m =
     begun_third r a c d e (p ++ q) s u text (is ∙ sym (append_assoc p q (s ++ u))) (appends_join a b c p q h k) l m

@@ -24,9 +24,9 @@ pub data Due : Type 0 where
   Nothing : Due
 
 -- a later name after the one before, if there is one
-abbrev pub Rises : List (List ℕ) → List ℕ → Type 0
-Rises [] name = Unit {0}
-Rises (before ∷ more) name = IsBefore before name
+abbrev pub ComesAfter : List (List ℕ) → List ℕ → Type 0
+ComesAfter [] name = Unit {0}
+ComesAfter (before ∷ more) name = IsBefore before name
 
 -- behind a list comes the other one, or the end
 abbrev pub after_list : Files → ℕ → Due
@@ -58,7 +58,7 @@ IsDue v (Node node left) text next =
 IsDue v (Names files size) text next = (n : ℕ) × (n ≤ 4095) × (text ≡ list_word files ++ decimal n) × (next ≡ after_count files n size)
 IsDue v (Name files zero before size) text next = ⊥
 IsDue v (Name files (suc left) before size) text next =
-    IsName text × Rises before text × (size + length text + 1 ≤ 1048576) × (next ≡ after_name files left text (size + length text + 1))
+    IsName text × ComesAfter before text × (size + length text + 1 ≤ 1048576) × (next ≡ after_name files left text (size + length text + 1))
 IsDue v Last text next = (text ≡ codes "end") × (next ≡ Nothing)
 IsDue v Nothing text next = ⊥
 

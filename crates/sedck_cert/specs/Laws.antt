@@ -1,5 +1,5 @@
 -- What is proved of certificates and runs alone.
-use Rattle.std.specs.Prelude.{◌≡◌, ℕ, ◌+◌, ◌*◌, ◌≤◌, List, length}
+use Rattle.std.specs.Prelude.{◌≡◌, ◌↔◌, ℕ, ◌+◌, ◌*◌, ◌≤◌, List, length}
 use Rattle.sedck_script.specs.Invariant.{AreWellFormed}
 use Rattle.sedck_script.specs.Program.{Program}
 use Rattle.sedck_script.specs.Names.{reads, writes}
@@ -17,9 +17,10 @@ use Rattle.sedck_flow.specs.declared.graph.Node.{Node}
 use Rattle.sedck_cert.specs.StepLimit.{greatest_first, greatest_second, step_limit}
 use Rattle.sedck_flow.specs.Spaces.{bytes_of}
 
--- the sorted names of a script are a list of just the names that its commands name
+-- the sorted names of a script are the one list of just the names that its commands name
 abbrev pub NamesAreListed : Type 0
-NamesAreListed = (p : Program) → ListsNames (reads p) (NamesForReading p) × ListsNames (writes p) (NamesForWriting p)
+NamesAreListed = (p : Program) (names : List (List ℕ))
+    → (ListsNames names (NamesForReading p) ↔ (names ≡ reads p)) × (ListsNames names (NamesForWriting p) ↔ (names ≡ writes p))
 
 -- no run of a ranked script has more steps than its limit
 abbrev pub RanksBoundRuns : Type 0

@@ -6,7 +6,6 @@ pub use Rattle.sedck_flow.specs.Run
 pub use Rattle.sedck_flow.specs.Nodes
 pub use Rattle.sedck_flow.specs.Flow
 pub use Rattle.sedck_flow.specs.Spaces
-
 -- What the public contracts cite, in reading order.
 pub mod Headline
 pub mod Certificate
@@ -21,9 +20,7 @@ pub mod Faults
 pub mod FaultText
 pub mod Streams
 pub mod Laws
-
 -- What is said of certificates of version 1 alone.
 pub mod VersionOne
-
 -- What functions inside the crate promise each other.
 pub mod Private

@@ -3,14 +3,14 @@ use Rattle.std.specs.Prelude.{◌≡◌, ℕ, Bool, IsTrue, List, ◌++◌, Opti
 use Rattle.std.specs.Io.KnownBytes.{Appends}
 
 -- on an error it has failed; else it has failed only if it had before
-abbrev pub TellsFailure : {T E : Type 0} → Result T E → Bool → Bool → Type 0
-TellsFailure (Ok x) before after = after ≡ before
-TellsFailure (Err e) before after = IsTrue after
+abbrev pub ReportsFailure : {T E : Type 0} → Result T E → Bool → Bool → Type 0
+ReportsFailure (Ok x) before after = after ≡ before
+ReportsFailure (Err e) before after = IsTrue after
 
 -- the bytes are a prefix of the text
-abbrev pub IsFrontOf : List ℕ → List ℕ → Type 0
-IsFrontOf front text = (rest : List ℕ) × (text ≡ front ++ rest)
+abbrev pub IsPrefixOf : List ℕ → List ℕ → Type 0
+IsPrefixOf front text = (rest : List ℕ) × (text ≡ front ++ rest)
 
 -- known bytes grow by a prefix of the text
-abbrev pub AppendsFront : Option (List ℕ) → Option (List ℕ) → List ℕ → Type 0
-AppendsFront before after text = (front : List ℕ) × IsFrontOf front text × Appends before after front
+abbrev pub AppendsPrefix : Option (List ℕ) → Option (List ℕ) → List ℕ → Type 0
+AppendsPrefix before after text = (front : List ℕ) × IsPrefixOf front text × Appends before after front

@@ -2,7 +2,7 @@
 
 ghost use Rattle.sedck_cert.specs.Laws.{NamesAreListed, RanksBoundRuns, SteadyRunsAreCounted, TextsAreLimited, UpgradesAreAccepted, UpgradesKeepRanks};
 
-/// The sorted names of a script are a list of just the names that its commands name.
+/// The sorted names of a script are the one list of just the names that its commands name.
 pub fn names_are_listed()
     ensures { NamesAreListed }
 {}

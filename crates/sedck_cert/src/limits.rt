@@ -1,7 +1,8 @@
-//! How many steps a script's runs take at most.
+//! How many steps a script's runs take at most. The function that answers it is in `bounding`: a type and a function whose
+//! names differ only in case can't be in one file.
 
-/// A limit on the steps of any run: so many for each byte of the input's lines, newlines not counted,
-/// so many for each line, and so many besides.
+/// A limit on the steps of any run: `per_byte` for each byte of the input's lines, newlines not counted,
+/// `per_line` for each line, plus `fixed`.
 #[derive(Clone, Copy, Debug, PartialEq, Eq)]
 pub struct Bound {
     pub per_byte: u64,

@@ -2,7 +2,7 @@
 
 ghost use Rattle.std.specs.Prelude.{◌≡◌, ◌<◌, ◌≤◌, ℕ, List, length, Option, Bool, IfOk, OnOk, OnErr, false, decimal};
 ghost use Rattle.std.specs.Io.KnownBytes.{ReadConsumes, WriteAppends, Appends};
-ghost use Rattle.sedck_cert.specs.Streams.{TellsFailure, AppendsFront};
+ghost use Rattle.sedck_cert.specs.Streams.{ReportsFailure, AppendsPrefix};
 
 use std::io::{Read, Write};
 
@@ -22,7 +22,7 @@ pub trait Source {
     fn read(&mut self, buf: &mut [u8]) -> Result<usize, Failed>
         ensures bound { IfOk result (λ count. count ≤ length buf.new) }
         ensures bytes { ReadConsumes (left self.old) (left self.new) result buf.new }
-        ensures failure { TellsFailure result (has_failed self.old) (has_failed self.new) };
+        ensures failure { ReportsFailure result (has_failed self.old) (has_failed self.new) };
 
     /// Whether a read has failed.
     fn failed(&self) -> bool
@@ -42,7 +42,7 @@ pub trait Sink {
         ensures bound { IfOk result (λ count. count ≤ length bytes.now) }
         ensures some { IfOk result (λ count. 0 < length bytes.now → 0 < count) }
         ensures bytes { WriteAppends (taken self.old) (taken self.new) result bytes.now }
-        ensures failure { TellsFailure result (has_failed self.old) (has_failed self.new) };
+        ensures failure { ReportsFailure result (has_failed self.old) (has_failed self.new) };
 
     /// Whether a write has failed.
     fn failed(&self) -> bool
@@ -53,8 +53,8 @@ pub trait Sink {
 pub fn write_all<W: Sink>(out: &mut W, bytes: &[u8]) -> Result<(), Failed>
     // Where what was taken is known, it grows by all of the bytes, or on an error by a prefix of them.
     ensures written { OnOk result (Appends (W.taken out.old) (W.taken out.new) bytes.now) }
-    ensures begun { OnErr result (AppendsFront (W.taken out.old) (W.taken out.new) bytes.now) }
-    ensures failure { TellsFailure result (W.has_failed out.old) (W.has_failed out.new) }
+    ensures begun { OnErr result (AppendsPrefix (W.taken out.old) (W.taken out.new) bytes.now) }
+    ensures failure { ReportsFailure result (W.has_failed out.old) (W.has_failed out.new) }
 {
     let mut rest = bytes;
     while !rest.is_empty() {
@@ -67,8 +67,8 @@ pub fn write_all<W: Sink>(out: &mut W, bytes: &[u8]) -> Result<(), Failed>
 /// Writes the decimal of the number. It takes no memory.
 pub fn write_decimal<W: Sink>(out: &mut W, number: usize) -> Result<(), Failed>
     ensures written { OnOk result (Appends (W.taken out.old) (W.taken out.new) (decimal number)) }
-    ensures begun { OnErr result (AppendsFront (W.taken out.old) (W.taken out.new) (decimal number)) }
-    ensures failure { TellsFailure result (W.has_failed out.old) (W.has_failed out.new) }
+    ensures begun { OnErr result (AppendsPrefix (W.taken out.old) (W.taken out.new) (decimal number)) }
+    ensures failure { ReportsFailure result (W.has_failed out.old) (W.has_failed out.new) }
 {
     if number < 10 {
         return write_all(out, &[b'0' + number as u8]);

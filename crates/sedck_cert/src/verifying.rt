@@ -1,7 +1,7 @@
 //! From two texts to the verdict.
 
 ghost use Rattle.std.specs.Prelude.{◌≡◌, IfOk};
-ghost use Rattle.sedck_cert.specs.Headline.{Stand, IsSafe, IsAccepted, IsAnswered, IsWantOfMemory, IsJudged, IsLimit, IsVerdict, SaysWhy, ReportsFault, verdict_of};
+ghost use Rattle.sedck_cert.specs.Headline.{SpellBoth, IsSafe, IsAccepted, IsAnswered, IsOutOfMemory, IsJudged, IsLimit, IsVerdict, SaysWhy, ReportsFault, verdict_of};
 
 use crate::bounding::limit;
 use crate::certificate::Cert;
@@ -34,8 +34,8 @@ pub struct Judged<'a> {
 /// there is a number of steps that no run of the script exceeds. And every file that a run creates,
 /// writes or reads by a command stands in the certificate's lists.
 pub fn judge<'a>(alloc: Global, script: &'a [u8], certificate: &[u8]) -> Result<Judged<'a>, Fault>
-    ensures promise { IsAccepted (verdict_of result) → Stand script.now certificate.now IsSafe }
-    ensures answer { (¬ IsWantOfMemory (verdict_of result)) → IsAnswered script.now certificate.now (verdict_of result) }
+    ensures promise { IsAccepted (verdict_of result) → SpellBoth script.now certificate.now IsSafe }
+    ensures answer { (¬ IsOutOfMemory (verdict_of result)) → IsAnswered script.now certificate.now (verdict_of result) }
     ensures reported { ReportsFault script.now certificate.now (verdict_of result) }
     ensures judged { IfOk result (IsJudged script.now certificate.now) }
 {
@@ -76,8 +76,8 @@ fn with_verdict<'a>(script: Script<'a>, cert: Cert) -> Judged<'a>
 /// there is a number of steps that no run of the script exceeds. And every file that a run creates,
 /// writes or reads by a command stands in the certificate's lists.
 pub fn verify(alloc: Global, script: &[u8], certificate: &[u8]) -> Result<Verdict, Fault>
-    ensures promise { IsAccepted result → Stand script.now certificate.now IsSafe }
-    ensures answer { (¬ IsWantOfMemory result) → IsAnswered script.now certificate.now result }
+    ensures promise { IsAccepted result → SpellBoth script.now certificate.now IsSafe }
+    ensures answer { (¬ IsOutOfMemory result) → IsAnswered script.now certificate.now result }
     ensures why { SaysWhy script.now certificate.now result }
     ensures reported { ReportsFault script.now certificate.now result }
 {

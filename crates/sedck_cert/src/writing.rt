@@ -2,7 +2,7 @@
 
 ghost use Rattle.std.specs.Prelude.{◌≡◌, ◌++◌, ◌≤◌, ◌∷◌, [], ◌/◌, ◌%◌, length, OnOk, OnErr, decimal, codes, ℕ, List};
 ghost use Rattle.std.specs.Io.KnownBytes.{Appends};
-ghost use Rattle.sedck_cert.specs.Streams.{TellsFailure, IsFrontOf, AppendsFront};
+ghost use Rattle.sedck_cert.specs.Streams.{ReportsFailure, IsPrefixOf, AppendsPrefix};
 ghost use Rattle.sedck_cert.specs.Text.{line, header, ranks_text, node_text, node_lines, name_lines, files_text, certificate_text};
 ghost use Rattle.sedck_cert.specs.View.{names_of};
 ghost use Rattle.sedck_cert.specs.declared.versions.Version.TheVariants.{Two};
@@ -16,8 +16,8 @@ pub fn write_cert<W: Sink>(cert: &Cert, out: &mut W) -> Result<(), Failed>
     ensures written { OnOk result (Appends (W.taken out.old) (W.taken out.new) (certificate_text cert.now)) }
 
     // After an error a prefix of the text was taken.
-    ensures begun { OnErr result ((front : List ℕ) × IsFrontOf front (certificate_text cert.now) × Appends (W.taken out.old) (W.taken out.new) front) }
-    ensures failure { TellsFailure result (W.has_failed out.old) (W.has_failed out.new) }
+    ensures begun { OnErr result ((front : List ℕ) × IsPrefixOf front (certificate_text cert.now) × Appends (W.taken out.old) (W.taken out.new) front) }
+    ensures failure { ReportsFailure result (W.has_failed out.old) (W.has_failed out.new) }
 {
     write_head(out, cert.commands())?;
     write_nodes(out, cert.ranks())?;
@@ -28,8 +28,8 @@ pub fn write_cert<W: Sink>(cert: &Cert, out: &mut W) -> Result<(), Failed>
 /// Writes the decimal of the number, and a byte behind it.
 fn write_field<W: Sink>(out: &mut W, number: u16, end: u8) -> Result<(), Failed>
     ensures written { OnOk result (Appends (W.taken out.old) (W.taken out.new) (decimal number ++ end ∷ [])) }
-    ensures begun { OnErr result (AppendsFront (W.taken out.old) (W.taken out.new) (decimal number ++ end ∷ [])) }
-    ensures failure { TellsFailure result (W.has_failed out.old) (W.has_failed out.new) }
+    ensures begun { OnErr result (AppendsPrefix (W.taken out.old) (W.taken out.new) (decimal number ++ end ∷ [])) }
+    ensures failure { ReportsFailure result (W.has_failed out.old) (W.has_failed out.new) }
 {
     write_decimal(out, usize::from(number))?;
     write_all(out, &[end])
@@ -38,8 +38,8 @@ fn write_field<W: Sink>(out: &mut W, number: u16, end: u8) -> Result<(), Failed>
 /// Writes the text as a line.
 fn write_line<W: Sink>(out: &mut W, text: &[u8]) -> Result<(), Failed>
     ensures written { OnOk result (Appends (W.taken out.old) (W.taken out.new) (line text.now)) }
-    ensures begun { OnErr result (AppendsFront (W.taken out.old) (W.taken out.new) (line text.now)) }
-    ensures failure { TellsFailure result (W.has_failed out.old) (W.has_failed out.new) }
+    ensures begun { OnErr result (AppendsPrefix (W.taken out.old) (W.taken out.new) (line text.now)) }
+    ensures failure { ReportsFailure result (W.has_failed out.old) (W.has_failed out.new) }
 {
     write_all(out, text)?;
     write_all(out, b"\n")
@@ -48,8 +48,8 @@ fn write_line<W: Sink>(out: &mut W, text: &[u8]) -> Result<(), Failed>
 /// Writes what ends a node's line.
 fn write_ranks<W: Sink>(out: &mut W, ranks: Option<(u16, u16)>) -> Result<(), Failed>
     ensures written { OnOk result (Appends (W.taken out.old) (W.taken out.new) (line (ranks_text ranks))) }
-    ensures begun { OnErr result (AppendsFront (W.taken out.old) (W.taken out.new) (line (ranks_text ranks))) }
-    ensures failure { TellsFailure result (W.has_failed out.old) (W.has_failed out.new) }
+    ensures begun { OnErr result (AppendsPrefix (W.taken out.old) (W.taken out.new) (line (ranks_text ranks))) }
+    ensures failure { ReportsFailure result (W.has_failed out.old) (W.has_failed out.new) }
 {
     let Some((first, second)) = ranks else {
         return write_line(out, b"-");
@@ -60,8 +60,8 @@ fn write_ranks<W: Sink>(out: &mut W, ranks: Option<(u16, u16)>) -> Result<(), Fa
 
 fn write_node<W: Sink>(out: &mut W, index: u16, ranks: Option<(u16, u16)>) -> Result<(), Failed>
     ensures written { OnOk result (Appends (W.taken out.old) (W.taken out.new) (line (node_text Two index ranks))) }
-    ensures begun { OnErr result (AppendsFront (W.taken out.old) (W.taken out.new) (line (node_text Two index ranks))) }
-    ensures failure { TellsFailure result (W.has_failed out.old) (W.has_failed out.new) }
+    ensures begun { OnErr result (AppendsPrefix (W.taken out.old) (W.taken out.new) (line (node_text Two index ranks))) }
+    ensures failure { ReportsFailure result (W.has_failed out.old) (W.has_failed out.new) }
 {
     let node = Node::nth(usize::from(index));
     write_field(out, node.at, b' ')?;
@@ -73,8 +73,8 @@ fn write_node<W: Sink>(out: &mut W, index: u16, ranks: Option<(u16, u16)>) -> Re
 fn write_nodes<W: Sink>(out: &mut W, ranks: &[Option<(u16, u16)>]) -> Result<(), Failed>
     requires { length ranks.now ≤ 16384 }
     ensures written { OnOk result (Appends (W.taken out.old) (W.taken out.new) (node_lines Two 0 ranks.now)) }
-    ensures begun { OnErr result (AppendsFront (W.taken out.old) (W.taken out.new) (node_lines Two 0 ranks.now)) }
-    ensures failure { TellsFailure result (W.has_failed out.old) (W.has_failed out.new) }
+    ensures begun { OnErr result (AppendsPrefix (W.taken out.old) (W.taken out.new) (node_lines Two 0 ranks.now)) }
+    ensures failure { ReportsFailure result (W.has_failed out.old) (W.has_failed out.new) }
 {
     for (node, pair) in ranks.iter().enumerate() {
         write_node(out, node as u16, *pair)?;
@@ -85,8 +85,8 @@ fn write_nodes<W: Sink>(out: &mut W, ranks: &[Option<(u16, u16)>]) -> Result<(),
 /// Writes what stands before the nodes.
 fn write_head<W: Sink>(out: &mut W, commands: u16) -> Result<(), Failed>
     ensures written { OnOk result (Appends (W.taken out.old) (W.taken out.new) (line (header Two) ++ line (codes "commands " ++ decimal commands))) }
-    ensures begun { OnErr result (AppendsFront (W.taken out.old) (W.taken out.new) (line (header Two) ++ line (codes "commands " ++ decimal commands))) }
-    ensures failure { TellsFailure result (W.has_failed out.old) (W.has_failed out.new) }
+    ensures begun { OnErr result (AppendsPrefix (W.taken out.old) (W.taken out.new) (line (header Two) ++ line (codes "commands " ++ decimal commands))) }
+    ensures failure { ReportsFailure result (W.has_failed out.old) (W.has_failed out.new) }
 {
     write_all(out, b"sedck 2\ncommands ")?;
     write_field(out, commands, b'\n')
@@ -97,8 +97,8 @@ fn write_files<W: Sink>(out: &mut W, reads: &[Vec<u8>], writes: &[Vec<u8>]) -> R
     requires few { length reads.now ≤ 4095 }
     requires fewer { length writes.now ≤ 4095 }
     ensures written { OnOk result (Appends (W.taken out.old) (W.taken out.new) (files_text (names_of reads.now) (names_of writes.now))) }
-    ensures begun { OnErr result (AppendsFront (W.taken out.old) (W.taken out.new) (files_text (names_of reads.now) (names_of writes.now))) }
-    ensures failure { TellsFailure result (W.has_failed out.old) (W.has_failed out.new) }
+    ensures begun { OnErr result (AppendsPrefix (W.taken out.old) (W.taken out.new) (files_text (names_of reads.now) (names_of writes.now))) }
+    ensures failure { ReportsFailure result (W.has_failed out.old) (W.has_failed out.new) }
 {
     write_names(out, b"read ", reads)?;
     write_names(out, b"write ", writes)
@@ -108,8 +108,8 @@ fn write_files<W: Sink>(out: &mut W, reads: &[Vec<u8>], writes: &[Vec<u8>]) -> R
 fn write_names<W: Sink>(out: &mut W, word: &[u8], names: &[Vec<u8>]) -> Result<(), Failed>
     requires { length names.now ≤ 4095 }
     ensures written { OnOk result (Appends (W.taken out.old) (W.taken out.new) (line (word.now ++ decimal (length (names_of names.now))) ++ name_lines (names_of names.now))) }
-    ensures begun { OnErr result (AppendsFront (W.taken out.old) (W.taken out.new) (line (word.now ++ decimal (length (names_of names.now))) ++ name_lines (names_of names.now))) }
-    ensures failure { TellsFailure result (W.has_failed out.old) (W.has_failed out.new) }
+    ensures begun { OnErr result (AppendsPrefix (W.taken out.old) (W.taken out.new) (line (word.now ++ decimal (length (names_of names.now))) ++ name_lines (names_of names.now))) }
+    ensures failure { ReportsFailure result (W.has_failed out.old) (W.has_failed out.new) }
 {
     write_all(out, word)?;
     write_field(out, names.len() as u16, b'\n')?;
@@ -118,8 +118,8 @@ fn write_names<W: Sink>(out: &mut W, word: &[u8], names: &[Vec<u8>]) -> Result<(
 
 fn write_lines<W: Sink>(out: &mut W, names: &[Vec<u8>]) -> Result<(), Failed>
     ensures written { OnOk result (Appends (W.taken out.old) (W.taken out.new) (name_lines (names_of names.now))) }
-    ensures begun { OnErr result (AppendsFront (W.taken out.old) (W.taken out.new) (name_lines (names_of names.now))) }
-    ensures failure { TellsFailure result (W.has_failed out.old) (W.has_failed out.new) }
+    ensures begun { OnErr result (AppendsPrefix (W.taken out.old) (W.taken out.new) (name_lines (names_of names.now))) }
+    ensures failure { ReportsFailure result (W.has_failed out.old) (W.has_failed out.new) }
 {
     for name in names {
         write_line(out, name)?;

@@ -12,7 +12,7 @@ use Rattle.sedck_script.specs.declared.fault.ScriptFault.TheVariants as script
 use Rattle.sedck_cert.specs.Certificate.{Certificate}
 use Rattle.sedck_cert.specs.Text.{line, files_text, certificate_text}
 use Rattle.sedck_cert.specs.Versions.{SpellsCertificate, IsFaultIn}
-use Rattle.sedck_cert.specs.Headline.{SpellsOnly, IsTextOfOnly, IsAnswered, IsWantOfMemory, IsScriptFaultOf, ReportsFault, IsLimit, IsJudged}
+use Rattle.sedck_cert.specs.Headline.{SpellsOnly, IsTextOfOnly, IsAnswered, IsOutOfMemory, IsScriptFaultOf, ReportsFault, IsLimit, IsJudged}
 use Rattle.sedck_cert.specs.declared.checking.Verdict.TheVariants.{Accepted}
 use Rattle.sedck_cert.specs.declared.limits.Bound.{Bound}
 use Rattle.sedck_cert.specs.declared.verifying.Judged.{Judged}
@@ -134,7 +134,7 @@ parse_refused source out script_failed out_failed IsReport text why is refused r
 -- a script or a certificate that `judge` refuses
 pub judge_refused : (source written out : Option (List ℕ)) (script_failed cert_failed out_failed : Bool) (IsReport : Outcome → List ℕ → Type 0)
     (text bytes : List ℕ) (why : Fault) → IsRead 1048577 source text → IsRead 1572865 written bytes
-    → ((¬ IsWantOfMemory (Err why)) → IsAnswered text bytes (Err why)) → ReportsFault text bytes (Err why)
+    → ((¬ IsOutOfMemory (Err why)) → IsAnswered text bytes (Err why)) → ReportsFault text bytes (Err why)
     → EngineAnswers
     (record {
       script = Some (record { bytes = source; failed = script_failed });

@@ -8,8 +8,8 @@ use Rattle.sedck_script.specs.declared.fault.ScriptFault.TheVariants as script
 use Rattle.sedck_cert.specs.Certificate.{Certificate}
 use Rattle.sedck_cert.specs.Text.{certificate_text}
 use Rattle.sedck_cert.specs.Versions.{SpellsCertificate, IsFaultIn}
-use Rattle.sedck_cert.specs.Headline.{SpellsOnly, IsTextOfOnly, Stand, IsVerdict, IsScriptFaultOf}
-use Rattle.sedck_cert.specs.Streams.{AppendsFront}
+use Rattle.sedck_cert.specs.Headline.{SpellsOnly, IsTextOfOnly, SpellBoth, IsVerdict, IsScriptFaultOf}
+use Rattle.sedck_cert.specs.Streams.{AppendsPrefix}
 use Rattle.sedck_cert.specs.declared.reading.CertFault.{CertFault}
 use Rattle.sedck_cert.specs.declared.reading.CertFault.TheVariants as cert
 use Rattle.sedck_cert.specs.declared.checking.Verdict.{Verdict}
@@ -33,7 +33,7 @@ verdict_outcome (Rejected why) = No
 -- the report of a check of these bytes, and its outcome
 abbrev pub ChecksTo : List ℕ → List ℕ → Outcome → List ℕ → Type 0
 ChecksTo text bytes outcome report = (verdict : Verdict) × (outcome ≡ verdict_outcome verdict)
-    × Stand text bytes (λ p c. IsVerdict p c verdict × IsCheckReport p c verdict report)
+    × SpellBoth text bytes (λ p c. IsVerdict p c verdict × IsCheckReport p c verdict report)
 
 -- the same where the script alone is read
 pub record OfScript (text : List ℕ) (Holds : Program → Type 0) : Type 0 where
@@ -128,5 +128,5 @@ EngineAnswers s IsReport (Err (fault.Certificate why)) = Keeps s.out.before s.ou
 EngineAnswers s IsReport (Err (fault.Read input.Script)) = Keeps s.out.before s.out.after × OfInput s.script (λ script. IsTrue script.failed)
 EngineAnswers s IsReport (Err (fault.Read input.Certificate)) = Keeps s.out.before s.out.after × OfInput s.certificate (λ c. IsTrue c.failed)
 EngineAnswers s IsReport (Err fault.Write) = IsTrue s.out.failed
-    × ((outcome : Outcome) × (report : List ℕ) × IsReport outcome report × AppendsFront s.out.before s.out.after report)
+    × ((outcome : Outcome) × (report : List ℕ) × IsReport outcome report × AppendsPrefix s.out.before s.out.after report)
 EngineAnswers s IsReport (Err fault.OutOfMemory) = Keeps s.out.before s.out.after

@@ -4,7 +4,7 @@ ghost use Rattle.std.specs.Prelude.{◌++◌, OnOk, decimal, codes};
 ghost use Rattle.std.specs.Io.KnownBytes.{Appends};
 ghost use Rattle.sedck_script.specs.FaultWords.{fault_words, cause_words};
 ghost use Rattle.sedck_cert.specs.FaultText.{fault_text};
-ghost use Rattle.sedck_cert.specs.Streams.{TellsFailure};
+ghost use Rattle.sedck_cert.specs.Streams.{ReportsFailure};
 ghost use Rattle.sedck_cli.specs.Lines.{refusal_words, refusal_line};
 ghost use Rattle.sedck_cli.specs.Places.{place_behind};
 ghost use Rattle.sedck_cli.specs.Reports.{input_text};
@@ -18,7 +18,7 @@ use sedck_script::ScriptFault;
 /// Writes the refusal's line.
 pub(crate) fn write_refusal<E: Sink>(err: &mut E, refusal: Refusal) -> Result<(), Failed>
     ensures written { OnOk result (Appends (E.taken err.old) (E.taken err.new) (refusal_line refusal)) }
-    ensures failure { TellsFailure result (E.has_failed err.old) (E.has_failed err.new) }
+    ensures failure { ReportsFailure result (E.has_failed err.old) (E.has_failed err.new) }
 {
     write_all(err, b"sedck: ")?;
     write_words(err, refusal)?;
@@ -28,7 +28,7 @@ pub(crate) fn write_refusal<E: Sink>(err: &mut E, refusal: Refusal) -> Result<()
 /// Writes what the refusal says.
 fn write_words<E: Sink>(err: &mut E, refusal: Refusal) -> Result<(), Failed>
     ensures written { OnOk result (Appends (E.taken err.old) (E.taken err.new) (refusal_words refusal)) }
-    ensures failure { TellsFailure result (E.has_failed err.old) (E.has_failed err.new) }
+    ensures failure { ReportsFailure result (E.has_failed err.old) (E.has_failed err.new) }
 {
     match refusal {
         Refusal::Usage => write_all(
@@ -46,7 +46,7 @@ fn write_words<E: Sink>(err: &mut E, refusal: Refusal) -> Result<(), Failed>
 /// Writes which input can't be read.
 fn write_unread<E: Sink>(err: &mut E, input: Input) -> Result<(), Failed>
     ensures written { OnOk result (Appends (E.taken err.old) (E.taken err.new) (codes "cannot read " ++ input_text input)) }
-    ensures failure { TellsFailure result (E.has_failed err.old) (E.has_failed err.new) }
+    ensures failure { ReportsFailure result (E.has_failed err.old) (E.has_failed err.new) }
 {
     match input {
         Input::Script => write_all(err, b"cannot read script"),
@@ -57,7 +57,7 @@ fn write_unread<E: Sink>(err: &mut E, input: Input) -> Result<(), Failed>
 /// Writes the fault of a script, with what is wrong in its expression.
 fn write_script_fault<E: Sink>(err: &mut E, fault: ScriptFault) -> Result<(), Failed>
     ensures written { OnOk result (Appends (E.taken err.old) (E.taken err.new) (codes "script " ++ fault_words fault)) }
-    ensures failure { TellsFailure result (E.has_failed err.old) (E.has_failed err.new) }
+    ensures failure { ReportsFailure result (E.has_failed err.old) (E.has_failed err.new) }
 {
     write_all(err, b"script fault ")?;
     write_fault(err, fault.number(), fault.name())?;
@@ -68,7 +68,7 @@ fn write_script_fault<E: Sink>(err: &mut E, fault: ScriptFault) -> Result<(), Fa
 /// Writes what is wrong in the expression, where the fault is an expression's.
 fn write_cause<E: Sink>(err: &mut E, fault: ScriptFault) -> Result<(), Failed>
     ensures written { OnOk result (Appends (E.taken err.old) (E.taken err.new) (cause_words fault)) }
-    ensures failure { TellsFailure result (E.has_failed err.old) (E.has_failed err.new) }
+    ensures failure { ReportsFailure result (E.has_failed err.old) (E.has_failed err.new) }
 {
     let ScriptFault::BadExpression { fault, .. } = fault else {
         return Ok(());
@@ -81,7 +81,7 @@ fn write_cause<E: Sink>(err: &mut E, fault: ScriptFault) -> Result<(), Failed>
 /// Writes the fault of a certificate.
 fn write_certificate_fault<E: Sink>(err: &mut E, fault: CertFault) -> Result<(), Failed>
     ensures written { OnOk result (Appends (E.taken err.old) (E.taken err.new) (codes "certificate " ++ fault_text fault)) }
-    ensures failure { TellsFailure result (E.has_failed err.old) (E.has_failed err.new) }
+    ensures failure { ReportsFailure result (E.has_failed err.old) (E.has_failed err.new) }
 {
     write_all(err, b"certificate fault ")?;
     write_fault(err, fault.number(), fault.name())?;
@@ -91,7 +91,7 @@ fn write_certificate_fault<E: Sink>(err: &mut E, fault: CertFault) -> Result<(),
 /// Writes the number and the name of a fault.
 fn write_fault<E: Sink>(err: &mut E, number: u8, name: &str) -> Result<(), Failed>
     ensures written { OnOk result (Appends (E.taken err.old) (E.taken err.new) (decimal number ++ (codes " " ++ name.now))) }
-    ensures failure { TellsFailure result (E.has_failed err.old) (E.has_failed err.new) }
+    ensures failure { ReportsFailure result (E.has_failed err.old) (E.has_failed err.new) }
 {
     write_decimal(err, usize::from(number))?;
     write_all(err, b" ")?;
@@ -101,7 +101,7 @@ fn write_fault<E: Sink>(err: &mut E, number: u8, name: &str) -> Result<(), Faile
 /// Writes the place behind the words that lead to it, where there is one.
 fn write_place<E: Sink>(err: &mut E, words: &[u8], place: Option<usize>) -> Result<(), Failed>
     ensures written { OnOk result (Appends (E.taken err.old) (E.taken err.new) (place_behind words.now place)) }
-    ensures failure { TellsFailure result (E.has_failed err.old) (E.has_failed err.new) }
+    ensures failure { ReportsFailure result (E.has_failed err.old) (E.has_failed err.new) }
 {
     let Some(place) = place else {
         return Ok(());

@@ -14,7 +14,7 @@ pub mod VerbCases
 pub mod FlagLemmas
 pub mod ReplacementLemmas
 pub mod FirstIsWhole
-pub mod Rows
+pub mod ExampleProofs
 pub mod Nesting
 pub mod BackLemmas
 pub mod AddressLemmas

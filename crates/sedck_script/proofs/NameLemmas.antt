@@ -13,7 +13,7 @@ use Rattle.std.proofs.lemmas.Bool.{false≢true}
 use Rattle.std.proofs.lemmas.Cmp.{nat_list_cmp_total}
 use Rattle.std.specs.Prelude.{option_to_list}
 use Rattle.std.proofs.Math.Seq.{drop-cons}
-use Rattle.sedck_script.specs.Names.{IsBefore, AreRising, placed, with_name, sorted_names}
+use Rattle.sedck_script.specs.Names.{IsBefore, AreIncreasing, placed, with_name, sorted_names}
 use Rattle.sedck_script.specs.View.{verb_of, command_of}
 use Rattle.sedck_script.specs.Private.NameReading.{accessed, all_accessed, with_any}
 use Rattle.sedck_script.specs.declared.script.Command.{Command}
@@ -34,7 +34,7 @@ map_length [] = refl
 map_length (x ∷ xs) = ap suc (map_length xs)
 
 -- what is before the name stands in front of what isn't
-pub rising_split : (xs : List (Bor (List ℕ))) (name : List ℕ) → AreRising (map (λ n. n.now) xs) → IsPartitionedBy (λ n. is_lt (slice_cmp nat_cmp n.now name)) xs
+pub rising_split : (xs : List (Bor (List ℕ))) (name : List ℕ) → AreIncreasing (map (λ n. n.now) xs) → IsPartitionedBy (λ n. is_lt (slice_cmp nat_cmp n.now name)) xs
 rising_split xs name rising i j d le lt h = elim (same_or_less i j le) [
   | inl same ↦ subst (λ k. is_lt (slice_cmp nat_cmp (get_or xs k d).now name) ≡ true) (sym same) h
   | inr less ↦ (

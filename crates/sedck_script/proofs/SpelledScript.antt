@@ -152,7 +152,7 @@ writes_bounded (c ∷ cs) h = let more = writes_bounded cs h.1 in (
 are_names : (names : List (List ℕ)) → AllByRecursion IsName names → length names ≤ 4095 → AreNames (sorted_names names)
 are_names names h l = record {
   each = All-from_recursion IsName _ (sorted_all names h);
-  rising = sorted_names-rise names;
+  increasing = sorted_names-rise names;
   count = omega (arith, sorted_length names, l);
 }
 

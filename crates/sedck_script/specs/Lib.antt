@@ -24,6 +24,7 @@ pub mod Faults
 pub mod FaultWords
 pub mod First
 pub mod Laws
+pub mod Examples
 
 -- What functions inside the crate promise each other.
 pub mod Private

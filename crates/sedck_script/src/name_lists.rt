@@ -5,7 +5,7 @@ ghost use Rattle.std.specs.Cmp.Lexicographic.{slice_cmp};
 ghost use Rattle.std.specs.Ordering.{is_lt, nat_cmp};
 ghost use Rattle.std.specs.Prelude.{◌<◌, ◌≡◌, ◌≤◌, List, OnOk, false, length, map, slice_index_or, true, ℕ, IfErr, IfOk, option_to_list};
 ghost use Rattle.std.specs.Option.{option_copied};
-ghost use Rattle.sedck_script.specs.Names.{AreRising, with_name, sorted_names as sorted};
+ghost use Rattle.sedck_script.specs.Names.{AreIncreasing, with_name, sorted_names as sorted};
 ghost use Rattle.sedck_script.specs.View.{verb_of, command_of};
 ghost use Rattle.sedck_script.specs.Private.NameReading.{accessed, all_accessed, with_any};
 
@@ -22,7 +22,7 @@ fn is_before(a: &[u8], b: &[u8]) -> bool
 
 /// The place of a name in a sorted list: behind those that are before it.
 fn place_among(names: &[&[u8]], name: &[u8]) -> usize
-    requires { AreRising (map (λ n. n.now) names.now) }
+    requires { AreIncreasing (map (λ n. n.now) names.now) }
     ensures within { result ≤ length names.now }
     ensures before { (k : ℕ) (d : Bor (List ℕ)) → k < result → is_lt (slice_cmp nat_cmp (slice_index_or names.now k d).now name.now) ≡ true }
     ensures behind { (d : Bor (List ℕ)) → result < length names.now → is_lt (slice_cmp nat_cmp (slice_index_or names.now result d).now name.now) ≡ false }
@@ -42,7 +42,7 @@ fn place_among(names: &[&[u8]], name: &[u8]) -> usize
 
 /// Adds a name at its place in a sorted list, unless it is there.
 fn insert_name<'a>(names: &mut Vec<&'a [u8]>, name: &'a [u8]) -> Result<(), ScriptFault>
-    requires { AreRising (map (λ n. n.now) names.old.items) }
+    requires { AreIncreasing (map (λ n. n.now) names.old.items) }
     ensures ok { OnOk result (map (λ n. n.now) names.new.items ≡ with_name name.now (map (λ n. n.now) names.old.items)) }
     ensures memory { IfErr result (λ fault. fault ≡ ScriptFault.OutOfMemory) }
 {
@@ -58,7 +58,7 @@ fn insert_name<'a>(names: &mut Vec<&'a [u8]>, name: &'a [u8]) -> Result<(), Scri
 
 /// Adds a name, where there is one.
 fn insert_any<'a>(names: &mut Vec<&'a [u8]>, name: Option<&'a [u8]>) -> Result<(), ScriptFault>
-    requires { AreRising (map (λ n. n.now) names.old.items) }
+    requires { AreIncreasing (map (λ n. n.now) names.old.items) }
     ensures ok { OnOk result (map (λ n. n.now) names.new.items ≡ with_any (option_copied name.entry) (map (λ n. n.now) names.old.items)) }
     ensures memory { IfErr result (λ fault. fault ≡ ScriptFault.OutOfMemory) }
 {

@@ -7,7 +7,7 @@ use Rattle.sedck_cert.specs.Private.Cuts.{IsCut}
 use Rattle.sedck_cert.specs.Certificate.{Certificate}
 use Rattle.sedck_cert.specs.Text.{header, node_text}
 use Rattle.sedck_cert.specs.declared.versions.Version.{Version}
-use Rattle.sedck_cert.specs.Faults.{Due, Names, Node, Name, AreDue, IsRefused, Rises, after_list, list_word, fault_at, joined_lines}
+use Rattle.sedck_cert.specs.Faults.{Due, Names, Node, Name, AreDue, IsRefused, ComesAfter, after_list, list_word, fault_at, joined_lines}
 use Rattle.sedck_cert.specs.declared.reading.names.Files.{Files}
 use Rattle.sedck_cert.specs.declared.reading.names.Files.TheVariants.{Reads, Writes}
 use Rattle.sedck_cert.specs.declared.reading.lines.Lines.{Lines}
@@ -66,4 +66,4 @@ certificate_lines v c =
 -- sorted names behind the one before, if there is one, and within the limit on bytes
 abbrev pub AreNext : List (List ℕ) → List (List ℕ) → ℕ → Type 0
 AreNext before [] size = size ≤ 1048576
-AreNext before (name ∷ names) size = IsName name × Rises before name × (size + length name + 1 ≤ 1048576) × AreNext (name ∷ []) names (size + length name + 1)
+AreNext before (name ∷ names) size = IsName name × ComesAfter before name × (size + length name + 1 ≤ 1048576) × AreNext (name ∷ []) names (size + length name + 1)

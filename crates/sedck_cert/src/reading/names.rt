@@ -4,7 +4,7 @@ ghost use Rattle.std.specs.Prelude.{◌≡◌, ◌⊎◌, ◌↔◌, ◌+◌, �
 ghost use Rattle.sedck_script.specs.Names.{IsName};
 ghost use Rattle.sedck_cert.specs.View.{names_of};
 ghost use Rattle.sedck_cert.specs.declared.versions.Version.{Version};
-ghost use Rattle.sedck_cert.specs.Faults.{Names, Name, Rises, list_word, after_list, after_name};
+ghost use Rattle.sedck_cert.specs.Faults.{Names, Name, ComesAfter, list_word, after_list, after_name};
 ghost use Rattle.sedck_cert.specs.Private.Reading.{Leads, Stops, list_texts, names_due, one_before};
 
 use super::CertFault;
@@ -94,7 +94,7 @@ fn name_line<'a>(
 /// Whether the name may stand behind the one before, where names of this many bytes came before it.
 pub fn is_next_name(before: Option<&[u8]>, name: &[u8], size: usize) -> bool
     requires { size ≤ NAMES_LIMIT }
-    ensures { IsTrue result ↔ (IsName name.now × Rises (one_before before.entry) name.now × (size + length name.now + 1 ≤ NAMES_LIMIT)) }
+    ensures { IsTrue result ↔ (IsName name.now × ComesAfter (one_before before.entry) name.now × (size + length name.now + 1 ≤ NAMES_LIMIT)) }
 {
     is_name(name) && rises(before, name) && name.len() < NAMES_LIMIT - size
 }
@@ -112,7 +112,7 @@ fn has(text: &[u8], byte: u8) -> bool
 }
 
 fn rises(before: Option<&[u8]>, name: &[u8]) -> bool
-    ensures { IsTrue result ↔ Rises (one_before before.entry) name.now }
+    ensures { IsTrue result ↔ ComesAfter (one_before before.entry) name.now }
 {
     match before {
         None => true,

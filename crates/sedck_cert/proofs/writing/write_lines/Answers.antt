@@ -1,7 +1,7 @@
 use Rattle.std.proofs.Common.{sym, subst, ◌∙◌}
 use Rattle.std.specs.Io.KnownBytes.{Appends}
 use Rattle.sedck_cert.specs.Text.{line}
-use Rattle.sedck_cert.specs.Streams.{AppendsFront}
+use Rattle.sedck_cert.specs.Streams.{AppendsPrefix}
 use Rattle.sedck_cert.proofs.Written.{on_err, begins_at, appends_join}
 use Rattle.sedck_cert.proofs.Pieces.{name_lines-at, name_lines-more}
 use Rattle.sedck_cert.proofs.writing.write_lines.Goals as goal
@@ -10,7 +10,7 @@ pub returns-in_err-write_line-clause-begun : goal.returns-in_err-write_line-clau
 returns-in_err-write_line-clause-begun g c = on_err c.from_residual.result _
     (begins_at _ _ _ _ _ _ _
     (name_lines-at c.args.names.now c.loop-name.name-index c.name-item.result c.loop-name-test.true c.name-item.is) c.loop-name.invariant.0
-    (subst (λ t. AppendsFront (g.W.Sink.taken c.loop-name.out) (g.W.Sink.taken c.write_line.new.out)
+    (subst (λ t. AppendsPrefix (g.W.Sink.taken c.loop-name.out) (g.W.Sink.taken c.write_line.new.out)
     (line t)) c.deref.ensures.value c.in_err-write_line.ensures.begun))
 
 pub loop-name-preserved : goal.loop-name-preserved

@@ -2,7 +2,7 @@ use Rattle.std.proofs.Common.{◌≡◌, ◌∙◌, ◌-◌, suc, map, drop, ap,
 use Rattle.std.proofs.Math.Seq.{drop-length}
 use Rattle.std.specs.Option.{option_copied}
 use Rattle.sedck_script.specs.View.{verb_of, command_of}
-use Rattle.sedck_script.specs.Names.{AreRising, sorted_names}
+use Rattle.sedck_script.specs.Names.{AreIncreasing, sorted_names}
 use Rattle.sedck_script.specs.declared.script.Command.{Command}
 use Rattle.sedck_script.specs.Private.NameReading.{accessed, all_accessed, with_any}
 use Rattle.sedck_script.proofs.SortedNames.{sorted_names-rise}
@@ -17,7 +17,7 @@ loop-place-init c = record {
 }
 
 pub insert_any-requires : goal.insert_any-requires
-insert_any-requires c = subst AreRising (sym c.loop-place.invariant.sorted)
+insert_any-requires c = subst AreIncreasing (sym c.loop-place.invariant.sorted)
     (sorted_names-rise (all_accessed c.args.access (map command_of (drop c.loop-place.place c.args.commands.now))))
 
 pub loop-place-preserved : goal.loop-place-preserved

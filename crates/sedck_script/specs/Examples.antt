@@ -1,0 +1,49 @@
+-- Worked examples of scripts: what some texts spell, part by part.
+use Rattle.std.specs.Prelude.{ℕ, Bool, true, false, List, [], ◌∷◌, Some, codes}
+use Rattle.sedck_bre.specs.Bytes.{newline, slash, backslash}
+use Rattle.sedck_script.specs.Program.{Verb, NoAddress, One, Last, Part, Text, Whole, Newline, Label, Branch, Block, NextAppend, Print, Command}
+use Rattle.sedck_script.specs.Parts.{DelimitedExpression, DelimitedList, Replacement, EscapedPart, GivenText}
+use Rattle.sedck_script.specs.Items.{WrittenVerb, Known, BranchTo, Opening, Item, Written, Closing, Items}
+use Rattle.sedck_script.specs.Resolution.{Resolves}
+
+-- a command without addresses, as it is written and as it is resolved
+abbrev pub plain_item : WrittenVerb → Item
+plain_item verb = Written NoAddress false verb
+
+abbrev pub plain_command : Verb → Command
+plain_command verb = record { address = NoAddress; negated = false; verb = verb }
+
+-- `:a;N;b a`
+abbrev pub join_items : List Item
+join_items = plain_item (Known (Label (codes "a"))) ∷ plain_item (Known NextAppend) ∷ plain_item (BranchTo (Some (codes "a"))) ∷ []
+
+abbrev pub join_commands : List Command
+join_commands = plain_command (Label (codes "a")) ∷ plain_command NextAppend ∷ plain_command (Branch 0) ∷ []
+
+-- `$!{p}`
+abbrev pub block_items : List Item
+block_items = Written (One Last) true Opening ∷ plain_item (Known Print) ∷ Closing ∷ []
+
+abbrev pub block_commands : List Command
+block_commands = record { address = One Last; negated = true; verb = Block 2 } ∷ plain_command Print ∷ []
+
+pub record ExamplesHold : Type 0 where
+  pub join : Items (codes ":a;N;b a") join_items
+  -- the branch leads to the label's command
+  pub join_leads : Resolves join_commands [] 0 join_items join_commands
+  -- a `}` may follow a command at once
+  pub block : Items (codes "$!{p}") block_items
+  -- the block's target is the place after its `}`
+  pub block_leads : Resolves block_commands [] 0 block_items block_commands
+  -- the expression `a/b` after `s/`, written `a\/b`
+  pub escaped_slash : DelimitedExpression slash (codes "a\\/b/x/") (codes "a/b") (codes "x/")
+  -- where a bar is the delimiter, none can be written in the expression
+  pub no_escaped_bar : (expression rest : List ℕ) → ¬ DelimitedExpression 124 (codes "a\\|b|c|") expression rest
+  -- the second list of `y/abc/\n\\\//` is a newline, a backslash and a slash
+  pub list_escapes : DelimitedList slash (codes "\\n\\\\\\//") (newline ∷ backslash ∷ slash ∷ []) []
+  -- the replacement `x&\n` has three parts
+  pub parts : Replacement slash (codes "x&\\n/") (Text (codes "x") ∷ Whole ∷ Newline ∷ []) []
+  -- `\U` is no part of a replacement
+  pub no_case_conversion : (part : Part) → ¬ EscapedPart 85 part
+  -- a backslash and a blank alone are no text of `a`, `c` or `i`
+  pub no_text : (bytes rest : List ℕ) → ¬ GivenText (codes "\\ ") bytes rest
