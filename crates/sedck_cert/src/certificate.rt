@@ -7,7 +7,8 @@ ghost use Rattle.sedck_cert.specs.View.{names_of, certificate_of};
 ghost use Rattle.sedck_cert.specs.Private.Fields.{with_parts};
 ghost use Rattle.sedck_cert.specs.declared.versions.Version.TheVariants.{Two};
 
-use crate::reading::{NAMES_LIMIT, is_next_name};
+use crate::limits::NAMES_LIMIT;
+use crate::reading::is_next_name;
 use crate::versions::Version;
 use std::marker::Model;
 

@@ -18,8 +18,8 @@ mod numbers;
 
 use self::frame::{command_count, ending, header, next_is};
 use self::lines::Lines;
+pub use self::names::is_next_name;
 use self::names::{Files, names};
-pub use self::names::{NAMES_LIMIT, is_next_name};
 use self::nodes::nodes;
 use crate::certificate::{Cert, Parts};
 use crate::version_one::{CertOne, upgrade};

@@ -6,7 +6,6 @@ pub use Rattle.sedck_bre.specs.WellFormed
 pub use Rattle.sedck_bre.specs.Lengths
 pub use Rattle.sedck_bre.specs.Rests
 pub use Rattle.sedck_bre.specs.Shape
-
 -- What the public contracts cite, in reading order.
 pub mod Program
 pub mod View
@@ -25,6 +24,5 @@ pub mod FaultWords
 pub mod First
 pub mod Laws
 pub mod Examples
-
 -- What functions inside the crate promise each other.
 pub mod Private

@@ -17,17 +17,12 @@ ghost use Rattle.sedck_script.specs.View.{address_of};
 use crate::addresses::address_at;
 use crate::bytes::marks_len;
 use crate::fault::ScriptFault;
+use crate::limits::{COMMAND_LIMIT, DEPTH_LIMIT};
 use crate::script::{Address, Pattern, Verb};
 use crate::verbs::{Written, verb_at};
 use crate::written::WrittenCommand;
 use indexmap::IndexMap;
 use std::alloc::Global;
-
-/// How many commands a script may have.
-const COMMAND_LIMIT: usize = 4095;
-
-/// How many blocks may be open.
-const DEPTH_LIMIT: usize = 64;
 
 /// The blanks and `!` at the start, and what follows them.
 fn split_marks(text: &[u8]) -> (&[u8], &[u8])

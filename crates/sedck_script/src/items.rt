@@ -2,6 +2,7 @@
 
 ghost use Rattle.std.specs.Prelude.{false, ◌≡◌, ◌≢◌, ◌<◌, ◌≤◌, ◌+◌, ◌++◌, [], ◌∷◌, ℕ, List, length, map, IfOk, IfErr, OnOk};
 ghost use Rattle.std.specs.Option.{option_or};
+ghost use Rattle.sedck_bre.specs.Bytes.{closing_brace};
 ghost use Rattle.sedck_script.specs.Cuts.{is_separator, Longest};
 ghost use Rattle.sedck_script.specs.Items.{Items};
 ghost use Rattle.sedck_script.specs.Faults.{IsPlaced};
@@ -48,7 +49,7 @@ fn close_block<'a>(
     behind: &'a [u8],
     progress: &mut Progress<'a>,
 ) -> Result<&'a [u8], ScriptFault>
-    requires begins { begins.now ≡ 125 ∷ behind.now }
+    requires begins { begins.now ≡ closing_brace ∷ behind.now }
     requires progress { IsProgress text.now begins.now progress.old }
     ensures progress { IfOk result (λ rest. IsProgress text.now rest.now progress.new) }
     ensures shorter { IfOk result (λ rest. length rest.now < length begins.now) }

@@ -29,6 +29,7 @@ mod items;
 mod label_places;
 mod labels;
 pub mod laws;
+mod limits;
 mod name_lists;
 mod names;
 mod numbers;

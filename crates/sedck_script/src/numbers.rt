@@ -9,9 +9,7 @@ ghost use Rattle.sedck_script.specs.Cuts.{is_digit, Longest};
 ghost use Rattle.sedck_script.specs.Parts.{Number};
 
 use crate::bytes::digits_len;
-
-/// One more than the greatest number.
-const NUMBER_LIMIT: u64 = 4_294_967_296;
+use crate::limits::NUMBER_LIMIT;
 
 /// The digits at the start, and what follows them.
 fn split_digits(text: &[u8]) -> (&[u8], &[u8])

@@ -11,14 +11,12 @@ ghost use Rattle.sedck_script.specs.Faults.{IsPlaced, IsFirstZero};
 use crate::expressions::{has_expression, is_quiet};
 use crate::fault::ScriptFault;
 use crate::items::{Progress, items};
+use crate::limits::TEXT_LIMIT;
 use crate::name_lists::{Access, sorted_names};
 use crate::resolving::linked;
 use crate::script::{Command, Script};
 use memchr::memchr;
 use std::alloc::Global;
-
-/// How many bytes a script's text may have.
-pub const TEXT_LIMIT: usize = 1_048_576;
 
 /// Whether the text may be a script's: it isn't too long, and holds no byte 0.
 fn check_text(text: &[u8]) -> Result<(), ScriptFault>

@@ -1,6 +1,7 @@
 //! The verbs with delimited parts: `s` and `y`.
 
 ghost use Rattle.std.specs.Prelude.{◌≡◌, ◌≢◌, ◌≤◌, ℕ, List, ◌∷◌, length, drop, IsTrue, IfOk, IfErr};
+ghost use Rattle.sedck_bre.specs.Bytes.{letter_s, letter_y};
 ghost use Rattle.sedck_script.specs.Cuts.{is_delimiter};
 ghost use Rattle.sedck_script.specs.Program as clean;
 ghost use Rattle.sedck_script.specs.Items.{WrittenVerb, Known, VerbText};
@@ -44,11 +45,11 @@ pub fn substitution<'a>(
     text: &'a [u8],
 ) -> Result<(Verb<'a>, &'a [u8]), ScriptFault>
     requires tail { EndsIn whole.now text.now }
-    requires stands { StandsAt whole.now place 115 }
-    requires here { drop place whole.now ≡ 115 ∷ text.now }
-    ensures read { IfOk result (λ x. VerbText (115 ∷ text.now) (Known (verb_of x.0)) x.1.now) }
+    requires stands { StandsAt whole.now place letter_s }
+    requires here { drop place whole.now ≡ letter_s ∷ text.now }
+    ensures read { IfOk result (λ x. VerbText (letter_s ∷ text.now) (Known (verb_of x.0)) x.1.now) }
     ensures plain { IfOk result (λ x. (name : List ℕ) → verb_of x.0 ≢ clean.Label name) }
-    ensures refused { IfErr result (λ fault. fault ≢ ScriptFault.OutOfMemory → (verb : WrittenVerb) (rest : List ℕ) → VerbText (115 ∷ text.now) verb rest → ⊥) }
+    ensures refused { IfErr result (λ fault. fault ≢ ScriptFault.OutOfMemory → (verb : WrittenVerb) (rest : List ℕ) → VerbText (letter_s ∷ text.now) verb rest → ⊥) }
     ensures placed { IfErr result (λ fault. IsPlaced whole.now fault) }
 {
     let (delimiter, opened) = opening_delimiter(place, text)?;
@@ -81,7 +82,7 @@ fn equal_lists<'a>(
 ) -> Result<(Vec<u8>, Vec<u8>, &'a [u8]), ScriptFault>
     requires delimiter { IsTrue (is_delimiter delimiter) }
     requires tail { EndsIn whole.now text.now }
-    requires stands { StandsAt whole.now place 121 }
+    requires stands { StandsAt whole.now place letter_y }
     ensures read { IfOk result (λ x. AreLists delimiter text.now x.0.items x.1.items x.2.now) }
     ensures refused { IfErr result (λ fault. fault ≢ ScriptFault.OutOfMemory → (from to rest : List ℕ) → AreLists delimiter text.now from to rest → ⊥) }
     ensures placed { IfErr result (λ fault. IsPartPlaced place whole.now fault) }
@@ -102,11 +103,11 @@ pub fn transliteration<'a>(
     text: &'a [u8],
 ) -> Result<(Verb<'a>, &'a [u8]), ScriptFault>
     requires tail { EndsIn whole.now text.now }
-    requires stands { StandsAt whole.now place 121 }
-    requires here { drop place whole.now ≡ 121 ∷ text.now }
-    ensures read { IfOk result (λ x. VerbText (121 ∷ text.now) (Known (verb_of x.0)) x.1.now) }
+    requires stands { StandsAt whole.now place letter_y }
+    requires here { drop place whole.now ≡ letter_y ∷ text.now }
+    ensures read { IfOk result (λ x. VerbText (letter_y ∷ text.now) (Known (verb_of x.0)) x.1.now) }
     ensures plain { IfOk result (λ x. (name : List ℕ) → verb_of x.0 ≢ clean.Label name) }
-    ensures refused { IfErr result (λ fault. fault ≢ ScriptFault.OutOfMemory → (verb : WrittenVerb) (rest : List ℕ) → VerbText (121 ∷ text.now) verb rest → ⊥) }
+    ensures refused { IfErr result (λ fault. fault ≢ ScriptFault.OutOfMemory → (verb : WrittenVerb) (rest : List ℕ) → VerbText (letter_y ∷ text.now) verb rest → ⊥) }
     ensures placed { IfErr result (λ fault. IsPlaced whole.now fault) }
 {
     let (delimiter, opened) = opening_delimiter(place, text)?;

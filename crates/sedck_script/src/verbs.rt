@@ -1,6 +1,7 @@
 //! Verbs with what they take.
 
 ghost use Rattle.std.specs.Prelude.{◌≡◌, ◌≢◌, ◌⊎◌, ◌-◌, ℕ, List, [], ◌∷◌, false, length, drop, IsTrue, IfOk, IfErr, IfSome, IfNone};
+ghost use Rattle.sedck_bre.specs.Bytes.{colon};
 ghost use Rattle.sedck_bre.specs.Text.{is_in, one_of};
 ghost use Rattle.sedck_script.specs.Program as clean;
 ghost use Rattle.sedck_script.specs.Items.{WrittenVerb, Known, Simple, VerbText, IsNoBrace};
@@ -169,11 +170,11 @@ fn definition<'a>(
     labels: &IndexMap<&'a [u8], usize>,
     text: &'a [u8],
 ) -> Result<(Written<'a>, &'a [u8]), ScriptFault>
-    requires { EndsIn whole.now (58 ∷ text.now) }
-    ensures read { IfOk result (λ x. VerbText (58 ∷ text.now) (written_verb x.0) x.1.now) }
+    requires { EndsIn whole.now (colon ∷ text.now) }
+    ensures read { IfOk result (λ x. VerbText (colon ∷ text.now) (written_verb x.0) x.1.now) }
     ensures fresh { IfOk result (λ x. DefinesKnown labels.now (written_verb x.0) → ⊥) }
     ensures label { IfOk result (λ x. IsWrittenAt whole.now x.0) }
-    ensures refused { IfErr result (λ fault. (verb : WrittenVerb) (rest : List ℕ) → VerbText (58 ∷ text.now) verb rest → DefinesKnown labels.now verb) }
+    ensures refused { IfErr result (λ fault. (verb : WrittenVerb) (rest : List ℕ) → VerbText (colon ∷ text.now) verb rest → DefinesKnown labels.now verb) }
     ensures placed { IfErr result (λ fault. IsPlaced whole.now fault) }
 {
     let (name, place, behind) = defined_label(whole, text)?;

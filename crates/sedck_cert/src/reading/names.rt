@@ -10,10 +10,8 @@ ghost use Rattle.sedck_cert.specs.Private.Reading.{Leads, Stops, list_texts, nam
 use super::CertFault;
 use super::frame::next_count;
 use super::lines::Lines;
+use crate::limits::NAMES_LIMIT;
 use std::alloc::Global;
-
-/// The most bytes that the names of both lists take, with a newline each.
-pub const NAMES_LIMIT: usize = 1_048_576;
 
 /// Which of the two lists of files.
 #[derive(Clone, Copy)]
