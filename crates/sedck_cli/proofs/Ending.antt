@@ -1,5 +1,5 @@
 -- From what an engine answers to the program's status and output.
-use Rattle.std.proofs.Common.{◌≡◌, ◌⊎◌, ◌<◌, ℕ, Bool, List, Option, Some, None, Err, refl, inl, inr, lit<, subst}
+use Rattle.std.proofs.Common.{◌≡◌, ◌⊎◌, ◌<◌, ℕ, Bool, List, Option, Some, None, IfSome, Err, refl, inl, inr, lit<, subst}
 use Rattle.std.specs.Io.KnownBytes.{Keeps, Appends}
 use Rattle.sedck_cli.specs.declared.answer.Outcome.{Outcome}
 use Rattle.sedck_cli.specs.declared.answer.Outcome.TheVariants.{No}
@@ -8,8 +8,8 @@ use Rattle.sedck_cli.specs.declared.answer.RunFault.{RunFault}
 use Rattle.sedck_cli.specs.declared.answer.RunFault.TheVariants as fault
 use Rattle.sedck_cli.specs.declared.command_line.Refusal.{Refusal}
 use Rattle.sedck_cli.specs.declared.command_line.Refusal.TheVariants.{Usage, Run}
-use Rattle.sedck_cli.specs.Engines.{ChecksTo, ListsFilesTo, ListsGraphTo, RanksTo, UpgradesTo, EngineAnswers, Reading, OfBytes}
-use Rattle.sedck_cli.specs.Statuses.{status_of, Asked, Check, Files, Graph, Rank, Upgrade, Nothing, IsReportFor, Reports, BreaksOff, Leaves, IsFor}
+use Rattle.sedck_cli.specs.Engines.{ChecksTo, ListsFilesTo, ListsGraphTo, RanksTo, UpgradesTo, EngineAnswers, Reading, OfBytes, OfInput}
+use Rattle.sedck_cli.specs.Statuses.{status_of, Asked, Check, Files, Graph, Rank, Upgrade, Nothing, IsReportFor, Reports, BreaksOff, Leaves, IsReadFor, IsFor}
 
 -- ---- Reports of what was asked for
 
@@ -45,18 +45,28 @@ pub answered : (asked : Asked) (IsReport : Outcome → List ℕ → Type 0) (bef
     → ((report : List ℕ) × IsReport outcome report × Appends before after report) → Reports asked before after outcome
 answered asked IsReport before after outcome are is = (is.0, are outcome is.0 is.1, is.2)
 
+-- an engine's inputs are read for what was asked
+abbrev pub AreReadFor : Asked → Option Reading → Option Reading → Type 0
+AreReadFor asked script certificate =
+    IfSome script (λ _. IsReadFor asked input.Script) × IfSome certificate (λ _. IsReadFor asked input.Certificate)
+
+-- what holds of each reading, where one is there
+of_input : (reading : Option Reading) (Holds : Reading → Type 0) (Fact : Type 0) → IfSome reading (λ _. Fact) → OfInput reading Holds → Fact
+of_input None Holds Fact fact is = absurd is
+of_input (Some reading) Holds Fact fact is = fact
+
 -- an engine's fault
 pub stopped : (asked : Asked) (IsReport : Outcome → List ℕ → Type 0) (script certificate : Option Reading) (before after : Option (List ℕ))
-    (failed : Bool) (why : RunFault) → ((refusal : Refusal) → IsFor asked refusal) → AreReports asked IsReport
+    (failed : Bool) (why : RunFault) → AreReadFor asked script certificate → AreReports asked IsReport
     → EngineAnswers (record { script = script; certificate = certificate; out = record { before = before; after = after; failed = failed } }) IsReport (Err why)
     → Leaves asked before after (Err (Run why))
-stopped asked IsReport script certificate before after failed (fault.Script why) any are is = (is.0, any (Run (fault.Script why)))
-stopped asked IsReport script certificate before after failed (fault.Certificate why) any are is = (is.0, any (Run (fault.Certificate why)))
-stopped asked IsReport script certificate before after failed (fault.Read input.Script) any are is = (is.0, any (Run (fault.Read input.Script)))
-stopped asked IsReport script certificate before after failed (fault.Read input.Certificate) any are is =
-    (is.0, any (Run (fault.Read input.Certificate)))
-stopped asked IsReport script certificate before after failed fault.Write any are is = (is.1.0, is.1.1, are is.1.0 is.1.1 is.1.2, is.1.3)
-stopped asked IsReport script certificate before after failed fault.OutOfMemory any are is = (is, any (Run fault.OutOfMemory))
+stopped asked IsReport script certificate before after failed (fault.Script why) read are is = (is.0, of_input script _ _ read.0 is.1)
+stopped asked IsReport script certificate before after failed (fault.Certificate why) read are is = (is.0, of_input certificate _ _ read.1 is.2)
+stopped asked IsReport script certificate before after failed (fault.Read input.Script) read are is = (is.0, of_input script _ _ read.0 is.1)
+stopped asked IsReport script certificate before after failed (fault.Read input.Certificate) read are is =
+    (is.0, of_input certificate _ _ read.1 is.1)
+stopped asked IsReport script certificate before after failed fault.Write read are is = (is.1.0, is.1.1, are is.1.0 is.1.1 is.1.2, is.1.3)
+stopped asked IsReport script certificate before after failed fault.OutOfMemory read are is = (is, tt)
 
 -- ---- Statuses
 
@@ -91,6 +101,15 @@ never_no Nothing before after reports = absurd reports.1
 -- where nothing is asked for, there is no report
 pub no_report : (asked : Asked) (before after : Option (List ℕ)) (outcome : Outcome) → asked ≡ Nothing → Reports asked before after outcome → ⊥
 no_report asked before after outcome is reports = subst (λ a. IsReportFor a outcome reports.0) is reports.1
+
+-- no refusal speaks of an input that isn't read
+pub is_for : (asked : Asked) (before after : Option (List ℕ)) (refusal : Refusal) → Leaves asked before after (Err refusal) → IsFor asked refusal
+is_for asked before after (Run (fault.Script why)) left = left.1
+is_for asked before after (Run (fault.Certificate why)) left = left.1
+is_for asked before after Usage left = left.1
+is_for asked before after (Run (fault.Read read)) left = left.1
+is_for asked before after (Run fault.Write) left = tt
+is_for asked before after (Run fault.OutOfMemory) left = left.1
 
 -- and a refusal has its status
 refused_words : (before after : Option (List ℕ)) (refusal : Refusal) → Leaves Nothing before after (Err refusal) → (status_of refusal ≡ 3) ⊎ (status_of refusal ≡ 4)

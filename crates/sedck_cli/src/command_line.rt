@@ -3,7 +3,7 @@
 ghost use Rattle.std.specs.Prelude.{◌≡◌, ◌≢◌, ◌⊎◌, ◌<◌, ◌≤◌, true, false, Ok, Err, IfOk, IfErr};
 ghost use Rattle.std.specs.Io.KnownBytes.{Keeps, Appends};
 ghost use Rattle.sedck_cli.specs.Statuses.{status_of, asked, asked_of_one, Check, Files as TheFiles, Graph, Rank, Upgrade, Nothing, Reports, BreaksOff, Leaves, IsOfWords, begins_with_hyphen, has_option};
-ghost use Rattle.sedck_cli.specs.Lines.{refusal_line, SaysRefusal};
+ghost use Rattle.sedck_cli.specs.Lines.{refusal_line, SaysRefusal, SaysRefusalFor};
 ghost use Rattle.sedck_cli.specs.Requests.{request_asks, asked_by};
 ghost use Rattle.sedck_cli.specs.declared.command_line.Refusal.TheVariants.{Run};
 ghost use Rattle.sedck_cli.specs.declared.answer.RunFault.TheVariants as fault;
@@ -109,8 +109,9 @@ pub fn program<R: Files + AllocGlobal, W: Sink, E: Sink>(
     // A refusal writes nothing, but where writing fails.
     ensures refused { 1 < result → result < 4 → Keeps (W.taken out.old) (W.taken out.new) }
     ensures failed { result ≡ 4 → Keeps (W.taken out.old) (W.taken out.new) ⊎ BreaksOff (asked words.now) (W.taken out.old) (W.taken out.new) }
-    // Its line stands on standard error, unless a write of it has failed.
-    ensures reported { 1 < result → E.has_failed err.new ≡ false → SaysRefusal result (E.taken err.old) (E.taken err.new) }
+    // Its line is on standard error, unless a write of it has failed. It speaks of no input but those that are read for
+    // what was asked.
+    ensures reported { 1 < result → E.has_failed err.new ≡ false → SaysRefusalFor (asked words.now) result (E.taken err.old) (E.taken err.new) }
     ensures silent { result < 2 → Keeps (E.taken err.old) (E.taken err.new) }
 {
     match answer(rt, words, out) {

@@ -7,4 +7,4 @@ pub returns-in-Ok : goal.returns-in-Ok
 returns-in-Ok g c = answered Check _ _ _ c.in-Ok.outcome (of_check _ _) c.in-Ok.ensures
 
 pub returns : goal.returns
-returns g c = stopped Check _ (Some _) (Some _) _ _ _ c.in-Err.fault (λ _. tt {0}) (of_check _ _) c.in-Err.ensures
+returns g c = stopped Check _ (Some _) (Some _) _ _ _ c.in-Err.fault (tt {0}, tt {0}) (of_check _ _) c.in-Err.ensures
