@@ -9,7 +9,11 @@ use Rattle.sedck_cli.specs.declared.answer.RunFault.TheVariants as fault
 use Rattle.sedck_cli.specs.declared.command_line.Refusal.{Refusal}
 use Rattle.sedck_cli.specs.declared.command_line.Refusal.TheVariants.{Usage, Run}
 use Rattle.sedck_cli.specs.Engines.{ChecksTo, ListsFilesTo, ListsGraphTo, RanksTo, UpgradesTo, EngineAnswers, Reading, OfBytes, OfInput}
-use Rattle.sedck_cli.specs.Statuses.{status_of, Asked, Check, Files, Graph, Rank, Upgrade, Nothing, IsReportFor, Reports, BreaksOff, Leaves, IsReadFor, IsFor}
+use Rattle.sedck_cli.specs.Private.Requests.{report_asked}
+use Rattle.sedck_cli.specs.Private.Engines.{ReportsScriptTo}
+use Rattle.sedck_cli.specs.declared.engines.ScriptReport.{ScriptReport}
+use Rattle.sedck_cli.specs.declared.engines.ScriptReport.TheVariants.{Files, Graph, Rank}
+use Rattle.sedck_cli.specs.Statuses.{status_of, Asked, Check, Files as the_files, Graph as the_graph, Rank as the_rank, Upgrade, Nothing, IsReportFor, Reports, BreaksOff, Leaves, IsReadFor, IsFor}
 
 -- ---- Reports of what was asked for
 
@@ -28,14 +32,17 @@ of_check script cert outcome report is =
     let one = some_bytes script (λ text. OfBytes cert (λ bytes. ChecksTo text bytes outcome report)) is in
     let both = some_bytes cert (λ bytes. ChecksTo one.0 bytes outcome report) one.1 in (one.0, both.0, both.1)
 
-pub of_files : (script : Option (List ℕ)) → AreReports Files (λ outcome report. OfBytes script (λ text. ListsFilesTo text outcome report))
-of_files script outcome report is = some_bytes script (λ text. ListsFilesTo text outcome report) is
+pub of_report : (kind : ScriptReport) (script : Option (List ℕ))
+    → AreReports (report_asked kind) (λ outcome report. OfBytes script (λ text. ReportsScriptTo kind text outcome report))
+of_report Files script outcome report is = some_bytes script (λ text. ListsFilesTo text outcome report) is
+of_report Graph script outcome report is = some_bytes script (λ text. ListsGraphTo text outcome report) is
+of_report Rank script outcome report is = some_bytes script (λ text. RanksTo text outcome report) is
 
-pub of_graph : (script : Option (List ℕ)) → AreReports Graph (λ outcome report. OfBytes script (λ text. ListsGraphTo text outcome report))
-of_graph script outcome report is = some_bytes script (λ text. ListsGraphTo text outcome report) is
-
-pub of_rank : (script : Option (List ℕ)) → AreReports Rank (λ outcome report. OfBytes script (λ text. RanksTo text outcome report))
-of_rank script outcome report is = some_bytes script (λ text. RanksTo text outcome report) is
+-- a report reads its script
+pub reads_script : (kind : ScriptReport) → IsReadFor (report_asked kind) input.Script
+reads_script Files = refl
+reads_script Graph = refl
+reads_script Rank = refl
 
 pub of_upgrade : (cert : Option (List ℕ)) → AreReports Upgrade (λ outcome report. OfBytes cert (λ bytes. UpgradesTo bytes outcome report))
 of_upgrade cert outcome report is = some_bytes cert (λ bytes. UpgradesTo bytes outcome report) is
@@ -90,11 +97,11 @@ broken_off asked before after (Run fault.Write) left = inr left
 broken_off asked before after (Run fault.OutOfMemory) left = inl left.0
 
 -- only a check and a search may answer no
-pub never_no : (asked : Asked) (before after : Option (List ℕ)) → Reports asked before after No → (asked ≡ Check) ⊎ (asked ≡ Rank)
+pub never_no : (asked : Asked) (before after : Option (List ℕ)) → Reports asked before after No → (asked ≡ Check) ⊎ (asked ≡ the_rank)
 never_no Check before after reports = inl refl
-never_no Files before after reports = let yes = reports.1.1.0 in cc
-never_no Graph before after reports = let yes = reports.1.1.0 in cc
-never_no Rank before after reports = inr refl
+never_no the_files before after reports = let yes = reports.1.1.0 in cc
+never_no the_graph before after reports = let yes = reports.1.1.0 in cc
+never_no the_rank before after reports = inr refl
 never_no Upgrade before after reports = let yes = reports.1.1.0 in cc
 never_no Nothing before after reports = absurd reports.1
 

@@ -3,7 +3,7 @@
 ghost use Rattle.std.specs.Prelude.{◌≡◌, ◌++◌, IfOk, OnOk, ◌<◌, ◌≤◌, length, map, decimal, codes, string_bytes};
 ghost use Rattle.sedck_cert.specs.Headline.{IsLimit};
 ghost use Rattle.sedck_cert.specs.Text.{line, name_lines, files_text};
-ghost use Rattle.sedck_cli.specs.Graph.{AddsEdgesFrom};
+ghost use Rattle.sedck_cli.specs.Private.Graph.{AddsEdgesFrom};
 ghost use Rattle.sedck_cli.specs.Reports.{IsCheckReport, IsFilesReport, IsGraphReport, rejection_words, bound_line};
 
 use sedck_cert::{Bound, Cert, Judged, Rejection, Verdict};
