@@ -25,11 +25,12 @@ use Rattle.sedck_cli.specs.declared.answer.Outcome.{Outcome}
 use Rattle.sedck_cli.specs.declared.answer.Outcome.TheVariants.{Yes}
 use Rattle.sedck_cli.specs.Engines.{verdict_outcome, ChecksTo, ListsFilesTo, ListsGraphTo, EngineAnswers, OfBytes, OfScript, UpgradesTo, IsRefusedScript, IsRefusedCertificate, RanksTo, Reading, Writing, Streams}
 use Rattle.sedck_cli.specs.Private.Engines.{IsRead, IsScriptReport, ReportsScriptTo, WritesReport}
-use Rattle.sedck_cli.specs.Private.Faults.{run_fault, script_fault, certificate_fault}
+use Rattle.sedck_cli.specs.Faults.{run_fault, script_fault, certificate_fault}
 use Rattle.sedck_cli.specs.declared.answer.RunFault.{RunFault}
 use Rattle.sedck_cli.specs.declared.engines.ScriptReport.{ScriptReport}
 use Rattle.sedck_cli.specs.declared.engines.ScriptReport.TheVariants.{Files, Graph, Rank}
-use Rattle.sedck_cli.specs.Reports.{IsCheckReport, IsFilesReport, IsGraphReport, IsBoundLine, IsRankReport, bound_line}
+use Rattle.sedck_cli.specs.Reports.{IsCheckReport, IsFilesReport, IsGraphReport, IsBoundLine, IsRankReport}
+use Rattle.sedck_cli.specs.Private.Reports.{bound_line}
 
 -- an error that is this one
 pub err_is : {T E : Type 0} (r : Result T E) (e : E) → IsErrAnd r (λ x. x ≡ e) → r ≡ Err e

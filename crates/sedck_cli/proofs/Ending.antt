@@ -13,7 +13,8 @@ use Rattle.sedck_cli.specs.Private.Requests.{report_asked}
 use Rattle.sedck_cli.specs.Private.Engines.{ReportsScriptTo}
 use Rattle.sedck_cli.specs.declared.engines.ScriptReport.{ScriptReport}
 use Rattle.sedck_cli.specs.declared.engines.ScriptReport.TheVariants.{Files, Graph, Rank}
-use Rattle.sedck_cli.specs.Statuses.{status_of, Asked, Check, Files as the_files, Graph as the_graph, Rank as the_rank, Upgrade, Nothing, IsReportFor, Reports, BreaksOff, Leaves, IsReadFor, IsFor}
+use Rattle.sedck_cli.specs.Statuses.{status_of, Asked, Check, Files as the_files, Graph as the_graph, Rank as the_rank, Upgrade, Nothing, IsReportFor, Reports, BreaksOff, IsReadFor, IsFor}
+use Rattle.sedck_cli.specs.Private.Requests.{Leaves}
 
 -- ---- Reports of what was asked for
 

@@ -8,6 +8,7 @@ pub use Rattle.sedck_cert.specs.Headline
 pub use Rattle.sedck_search.specs.Found
 pub mod Reports
 pub mod Engines
+pub mod Faults
 pub mod Statuses
 pub mod Lines
 -- What functions inside the crate promise each other.

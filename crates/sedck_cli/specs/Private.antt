@@ -1,6 +1,4 @@
-pub mod Faults
 pub mod Engines
-pub mod Graph
-pub mod Rank
+pub mod Reports
 pub mod Requests
 pub mod Places

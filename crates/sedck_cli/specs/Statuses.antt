@@ -1,9 +1,9 @@
 -- The exit statuses of the program, and what stands on its output at each, this project's own.
-use Rattle.std.specs.Prelude.{◌==◌, ◌≡◌, ℕ, Bool, false, List, [], ◌∷◌, Option, Some, None, IfSome, Result, Ok, Err, String, string_bytes, codes, if◌then◌else◌}
+use Rattle.std.specs.Prelude.{◌==◌, ◌≡◌, ℕ, Bool, false, List, [], ◌∷◌, Option, Some, None, IfSome, String, string_bytes, codes, if◌then◌else◌}
 use Rattle.std.specs.List.{list_any}
 use Rattle.std.specs.Str.{bytes_eq}
 use Rattle.std.specs.declared.alloc.Global.{Global}
-use Rattle.std.specs.Io.KnownBytes.{Keeps, Appends}
+use Rattle.std.specs.Io.KnownBytes.{Appends}
 use Rattle.sedck_cert.specs.Streams.{AppendsFront}
 use Rattle.sedck_cli.specs.Engines.{ChecksTo, ListsFilesTo, ListsGraphTo, RanksTo, UpgradesTo}
 use Rattle.sedck_cli.specs.declared.answer.Outcome.{Outcome}
@@ -93,12 +93,6 @@ IsReadFor Nothing read = ⊥
 -- the refusal speaks of no input but those that are read
 abbrev pub IsFor : Asked → Refusal → Type 0
 IsFor asked refusal = IfSome (input_of refusal) (IsReadFor asked)
-
--- what stands on the output after an answer
-abbrev pub Leaves : Asked → Option (List ℕ) → Option (List ℕ) → Result Outcome Refusal → Type 0
-Leaves asked before after (Ok outcome) = Reports asked before after outcome
-Leaves asked before after (Err (Run fault.Write)) = BreaksOff asked before after
-Leaves asked before after (Err refusal) = Keeps before after × IsFor asked refusal
 
 abbrev pub begins_with_hyphen : List ℕ → Bool
 begins_with_hyphen [] = false

@@ -2,7 +2,7 @@
 
 ghost use Rattle.std.specs.Prelude.{◌≡◌, Some};
 ghost use Rattle.sedck_cli.specs.declared.answer.RunFault.TheVariants.{OutOfMemory};
-ghost use Rattle.sedck_cli.specs.Private.Faults.{run_fault, script_fault, certificate_fault};
+ghost use Rattle.sedck_cli.specs.Faults.{run_fault, script_fault, certificate_fault};
 
 use sedck_cert::{CertFault, Fault};
 use sedck_script::ScriptFault;

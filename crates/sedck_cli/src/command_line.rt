@@ -2,7 +2,8 @@
 
 ghost use Rattle.std.specs.Prelude.{◌≡◌, ◌≢◌, ◌⊎◌, ◌<◌, ◌≤◌, true, false, Ok, Err, IfOk, IfErr};
 ghost use Rattle.std.specs.Io.KnownBytes.{Keeps, Appends};
-ghost use Rattle.sedck_cli.specs.Statuses.{status_of, asked, asked_of_one, Check, Rank, Upgrade, Nothing, Reports, BreaksOff, Leaves, IsOfWords, begins_with_hyphen, has_option};
+ghost use Rattle.sedck_cli.specs.Statuses.{status_of, asked, asked_of_one, Check, Rank, Upgrade, Nothing, Reports, BreaksOff, IsOfWords, begins_with_hyphen, has_option};
+ghost use Rattle.sedck_cli.specs.Private.Requests.{Leaves};
 ghost use Rattle.sedck_cli.specs.Lines.{refusal_line, SaysRefusal, SaysRefusalFor};
 ghost use Rattle.sedck_cli.specs.Private.Requests.{report_asked, request_asks, asked_by};
 ghost use Rattle.sedck_cli.specs.declared.command_line.Refusal.TheVariants.{Run};

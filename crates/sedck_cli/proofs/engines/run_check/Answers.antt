@@ -1,5 +1,5 @@
 use Rattle.std.proofs.Common.{Some}
-use Rattle.sedck_cli.specs.Private.Faults.{run_fault}
+use Rattle.sedck_cli.specs.Faults.{run_fault}
 use Rattle.sedck_cli.proofs.Answering.{err_is, judge_refused, checks_to, reported, sliced}
 use Rattle.sedck_cli.proofs.engines.run_check.Goals as goal
 

@@ -1,5 +1,5 @@
 use Rattle.std.proofs.Common.{Some, None}
-use Rattle.sedck_cli.specs.Private.Faults.{script_fault}
+use Rattle.sedck_cli.specs.Faults.{script_fault}
 use Rattle.sedck_cert.proofs.Promise.{script_reported}
 use Rattle.sedck_cli.proofs.Answering.{err_is, parse_refused, reports_script_to, reported, sliced}
 use Rattle.sedck_cli.proofs.engines.run_script.Goals as goal

@@ -1,5 +1,5 @@
 use Rattle.std.proofs.Common.{Some, None, ◌∙◌}
-use Rattle.sedck_cli.specs.Private.Faults.{certificate_fault}
+use Rattle.sedck_cli.specs.Faults.{certificate_fault}
 use Rattle.sedck_cli.proofs.Answering.{err_is, read_refused, upgrades_to, reported, sliced}
 use Rattle.sedck_cli.proofs.engines.run_upgrade.Goals as goal
 
