@@ -23,10 +23,14 @@ use Rattle.sedck_cert.specs.declared.reading.CertFault.TheVariants as cert
 use Rattle.sedck_cert.proofs.TextLength.{text_length_of_spelled, front_is_whole}
 use Rattle.sedck_cli.specs.declared.answer.Outcome.{Outcome}
 use Rattle.sedck_cli.specs.declared.answer.Outcome.TheVariants.{Yes}
-use Rattle.sedck_cli.specs.Engines.{verdict_outcome, ChecksTo, EngineAnswers, OfBytes, OfScript, UpgradesTo, IsRefusedScript, IsRefusedCertificate, RanksTo, found_outcome}
+use Rattle.sedck_cli.specs.Engines.{verdict_outcome, ChecksTo, ListsFilesTo, ListsGraphTo, EngineAnswers, OfBytes, OfScript, UpgradesTo, IsRefusedScript, IsRefusedCertificate, RanksTo, Reading, Writing, Streams}
+use Rattle.sedck_cli.specs.Private.Engines.{IsRead, IsScriptReport, ReportsScriptTo, WritesReport}
 use Rattle.sedck_cli.specs.Faults.{run_fault, script_fault, certificate_fault}
-use Rattle.sedck_cli.specs.Reports.{IsCheckReport, IsBoundLine, IsRankReport, bound_line}
-use Rattle.sedck_search.specs.declared.answer.Found.{Found}
+use Rattle.sedck_cli.specs.declared.answer.RunFault.{RunFault}
+use Rattle.sedck_cli.specs.declared.engines.ScriptReport.{ScriptReport}
+use Rattle.sedck_cli.specs.declared.engines.ScriptReport.TheVariants.{Files, Graph, Rank}
+use Rattle.sedck_cli.specs.Reports.{IsCheckReport, IsFilesReport, IsGraphReport, IsBoundLine, IsRankReport}
+use Rattle.sedck_cli.specs.Private.Reports.{bound_line}
 
 -- an error that is this one
 pub err_is : {T E : Type 0} (r : Result T E) (e : E) → IsErrAnd r (λ x. x ≡ e) → r ≡ Err e
@@ -35,15 +39,9 @@ err_is (Err x) e is = ap Err is
 
 -- ---- What was read
 
--- the text is what was read of these bytes, where they are known
-pub record IsRead (limit : ℕ) (known : Option (List ℕ)) (text : List ℕ) : Type 0 where
-  pub front : IfSome known (λ t. text ≡ take limit t)
-  pub within : length text ≤ limit
-
 -- the same text, as a slice of it
-pub is_read : (limit : ℕ) (known : Option (List ℕ)) (text items : List ℕ) → text ≡ items → IfSome known (λ t. items ≡ take limit t)
-    → length items ≤ limit → IsRead limit known text
-is_read limit known text items same front within = subst (IsRead limit known) (sym same) (record { front = front; within = within })
+pub sliced : (limit : ℕ) (known : Option (List ℕ)) (text items : List ℕ) → text ≡ items → IsRead limit known items → IsRead limit known text
+sliced limit known text items same is = subst (IsRead limit known) (sym same) is
 
 -- what holds of all bytes of which the text was read
 pub of_bytes : (limit : ℕ) (known : Option (List ℕ)) (text : List ℕ) (Holds : List ℕ → Type 0) → IsRead limit known text
@@ -210,19 +208,19 @@ of_script : (whole text : List ℕ) (p : Program) (Holds : Program → Type 0) �
 of_script whole text p Holds front spelled only holds =
     record { program = p; spelled = spells_whole whole text p front (record { spells = spelled; only = only }); holds = holds }
 
-pub lists_to : (IsReport : Program → List ℕ → Type 0) (known : Option (List ℕ)) (text : List ℕ) (p : Program) (report : List ℕ)
-    → IsRead 1048577 known text → Spells text p → ((q : Program) → Spells text q → q ≡ p) → IsReport p report
-    → OfBytes known (λ t. (Yes ≡ Yes) × OfScript t (λ q. IsReport q report))
-lists_to IsReport known text p report is spelled only holds =
-    of_bytes 1048577 known text (λ t. (Yes ≡ Yes) × OfScript t (λ q. IsReport q report)) is
-    (λ whole front. (refl, of_script whole text p (λ q. IsReport q report) front spelled only holds))
-
--- the report of what the search found
-pub ranks_to : (known : Option (List ℕ)) (text : List ℕ) (p : Program) (found : Found) (report : List ℕ) → IsRead 1048577 known text → Spells text p
-    → ((q : Program) → Spells text q → q ≡ p) → IsRankReport p found report → OfBytes known (λ t. RanksTo t (found_outcome found) report)
-ranks_to known text p found report is spelled only holds =
-    of_bytes 1048577 known text (λ t. RanksTo t (found_outcome found) report) is
-    (λ whole front. (found, refl, of_script whole text p (λ q. IsRankReport q found report) front spelled only holds))
+-- the report on the script that was read
+pub reports_script_to : (kind : ScriptReport) (known : Option (List ℕ)) (text : List ℕ) (p : Program) (outcome : Outcome) (report : List ℕ)
+    → IsRead 1048577 known text → Spells text p → ((q : Program) → Spells text q → q ≡ p) → IsScriptReport kind p outcome report
+    → OfBytes known (λ t. ReportsScriptTo kind t outcome report)
+reports_script_to Files known text p outcome report is spelled only holds =
+    of_bytes 1048577 known text (λ t. ListsFilesTo t outcome report) is
+    (λ whole front. (holds.0, of_script whole text p (λ q. IsFilesReport q report) front spelled only holds.1))
+reports_script_to Graph known text p outcome report is spelled only holds =
+    of_bytes 1048577 known text (λ t. ListsGraphTo t outcome report) is
+    (λ whole front. (holds.0, of_script whole text p (λ q. IsGraphReport q report) front spelled only holds.1))
+reports_script_to Rank known text p outcome report is spelled only holds =
+    of_bytes 1048577 known text (λ t. RanksTo t outcome report) is
+    (λ whole front. (holds.0, holds.1, of_script whole text p (λ q. IsRankReport q holds.0 report) front spelled only holds.2))
 
 -- the text of the certificate that was read
 pub upgrades_to : (known : Option (List ℕ)) (bytes : List ℕ) (c : Certificate) → IsRead 1572865 known bytes → SpellsCertificate bytes c
@@ -233,3 +231,12 @@ upgrades_to known bytes c is written only =
       refl,
       record { cert = c; written = text_of_whole whole bytes c front (record { is_text = written; only = only }); holds = refl },
     ))
+
+-- the report, once it is written
+pub reported : (script certificate : Option Reading) (out : Writing) (IsReport : Outcome → List ℕ → Type 0) (outcome : Outcome) (report : List ℕ)
+    (result : Result Outcome RunFault) → IsReport outcome report → WritesReport out outcome report result
+    → EngineAnswers (record { script = script; certificate = certificate; out = out }) IsReport result
+reported script certificate out IsReport outcome report (Ok written) is writes = (report, subst (λ o. IsReport o report) (sym writes.0) is, writes.1)
+reported script certificate out IsReport outcome report (Err why) is writes =
+    let s : Streams = record { script = script; certificate = certificate; out = out } in
+    subst (λ w. EngineAnswers s IsReport (Err w)) (sym writes.0) (writes.1, (outcome, report, is, writes.2))

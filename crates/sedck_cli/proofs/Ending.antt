@@ -1,5 +1,5 @@
 -- From what an engine answers to the program's status and output.
-use Rattle.std.proofs.Common.{◌≡◌, ◌⊎◌, ◌<◌, ℕ, Bool, List, Option, Some, None, Err, refl, inl, inr, lit<, subst}
+use Rattle.std.proofs.Common.{◌≡◌, ◌⊎◌, ◌<◌, ℕ, Bool, List, Option, Some, None, IfSome, Err, refl, inl, inr, lit<, subst}
 use Rattle.std.specs.Io.KnownBytes.{Keeps, Appends}
 use Rattle.sedck_cli.specs.declared.answer.Outcome.{Outcome}
 use Rattle.sedck_cli.specs.declared.answer.Outcome.TheVariants.{No}
@@ -8,8 +8,13 @@ use Rattle.sedck_cli.specs.declared.answer.RunFault.{RunFault}
 use Rattle.sedck_cli.specs.declared.answer.RunFault.TheVariants as fault
 use Rattle.sedck_cli.specs.declared.command_line.Refusal.{Refusal}
 use Rattle.sedck_cli.specs.declared.command_line.Refusal.TheVariants.{Usage, Run}
-use Rattle.sedck_cli.specs.Engines.{ChecksTo, ListsFilesTo, ListsGraphTo, RanksTo, UpgradesTo, EngineAnswers, Reading, OfBytes}
-use Rattle.sedck_cli.specs.Statuses.{status_of, Asked, Check, Files, Graph, Rank, Upgrade, Nothing, IsReportFor, Reports, BreaksOff, Leaves, IsFor}
+use Rattle.sedck_cli.specs.Engines.{ChecksTo, ListsFilesTo, ListsGraphTo, RanksTo, UpgradesTo, EngineAnswers, Reading, OfBytes, OfInput}
+use Rattle.sedck_cli.specs.Private.Requests.{report_asked}
+use Rattle.sedck_cli.specs.Private.Engines.{ReportsScriptTo}
+use Rattle.sedck_cli.specs.declared.engines.ScriptReport.{ScriptReport}
+use Rattle.sedck_cli.specs.declared.engines.ScriptReport.TheVariants.{Files, Graph, Rank}
+use Rattle.sedck_cli.specs.Statuses.{status_of, Asked, Check, Files as the_files, Graph as the_graph, Rank as the_rank, Upgrade, Nothing, IsReportFor, Reports, BreaksOff, IsReadFor, IsFor}
+use Rattle.sedck_cli.specs.Private.Requests.{Leaves}
 
 -- ---- Reports of what was asked for
 
@@ -28,14 +33,17 @@ of_check script cert outcome report is =
     let one = some_bytes script (λ text. OfBytes cert (λ bytes. ChecksTo text bytes outcome report)) is in
     let both = some_bytes cert (λ bytes. ChecksTo one.0 bytes outcome report) one.1 in (one.0, both.0, both.1)
 
-pub of_files : (script : Option (List ℕ)) → AreReports Files (λ outcome report. OfBytes script (λ text. ListsFilesTo text outcome report))
-of_files script outcome report is = some_bytes script (λ text. ListsFilesTo text outcome report) is
+pub of_report : (kind : ScriptReport) (script : Option (List ℕ))
+    → AreReports (report_asked kind) (λ outcome report. OfBytes script (λ text. ReportsScriptTo kind text outcome report))
+of_report Files script outcome report is = some_bytes script (λ text. ListsFilesTo text outcome report) is
+of_report Graph script outcome report is = some_bytes script (λ text. ListsGraphTo text outcome report) is
+of_report Rank script outcome report is = some_bytes script (λ text. RanksTo text outcome report) is
 
-pub of_graph : (script : Option (List ℕ)) → AreReports Graph (λ outcome report. OfBytes script (λ text. ListsGraphTo text outcome report))
-of_graph script outcome report is = some_bytes script (λ text. ListsGraphTo text outcome report) is
-
-pub of_rank : (script : Option (List ℕ)) → AreReports Rank (λ outcome report. OfBytes script (λ text. RanksTo text outcome report))
-of_rank script outcome report is = some_bytes script (λ text. RanksTo text outcome report) is
+-- a report reads its script
+pub reads_script : (kind : ScriptReport) → IsReadFor (report_asked kind) input.Script
+reads_script Files = refl
+reads_script Graph = refl
+reads_script Rank = refl
 
 pub of_upgrade : (cert : Option (List ℕ)) → AreReports Upgrade (λ outcome report. OfBytes cert (λ bytes. UpgradesTo bytes outcome report))
 of_upgrade cert outcome report is = some_bytes cert (λ bytes. UpgradesTo bytes outcome report) is
@@ -45,18 +53,28 @@ pub answered : (asked : Asked) (IsReport : Outcome → List ℕ → Type 0) (bef
     → ((report : List ℕ) × IsReport outcome report × Appends before after report) → Reports asked before after outcome
 answered asked IsReport before after outcome are is = (is.0, are outcome is.0 is.1, is.2)
 
+-- an engine's inputs are read for what was asked
+abbrev pub AreReadFor : Asked → Option Reading → Option Reading → Type 0
+AreReadFor asked script certificate =
+    IfSome script (λ _. IsReadFor asked input.Script) × IfSome certificate (λ _. IsReadFor asked input.Certificate)
+
+-- what holds of each reading, where one is there
+of_input : (reading : Option Reading) (Holds : Reading → Type 0) (Fact : Type 0) → IfSome reading (λ _. Fact) → OfInput reading Holds → Fact
+of_input None Holds Fact fact is = absurd is
+of_input (Some reading) Holds Fact fact is = fact
+
 -- an engine's fault
 pub stopped : (asked : Asked) (IsReport : Outcome → List ℕ → Type 0) (script certificate : Option Reading) (before after : Option (List ℕ))
-    (failed : Bool) (why : RunFault) → ((refusal : Refusal) → IsFor asked refusal) → AreReports asked IsReport
+    (failed : Bool) (why : RunFault) → AreReadFor asked script certificate → AreReports asked IsReport
     → EngineAnswers (record { script = script; certificate = certificate; out = record { before = before; after = after; failed = failed } }) IsReport (Err why)
     → Leaves asked before after (Err (Run why))
-stopped asked IsReport script certificate before after failed (fault.Script why) any are is = (is.0, any (Run (fault.Script why)))
-stopped asked IsReport script certificate before after failed (fault.Certificate why) any are is = (is.0, any (Run (fault.Certificate why)))
-stopped asked IsReport script certificate before after failed (fault.Read input.Script) any are is = (is.0, any (Run (fault.Read input.Script)))
-stopped asked IsReport script certificate before after failed (fault.Read input.Certificate) any are is =
-    (is.0, any (Run (fault.Read input.Certificate)))
-stopped asked IsReport script certificate before after failed fault.Write any are is = (is.1.0, is.1.1, are is.1.0 is.1.1 is.1.2, is.1.3)
-stopped asked IsReport script certificate before after failed fault.OutOfMemory any are is = (is, any (Run fault.OutOfMemory))
+stopped asked IsReport script certificate before after failed (fault.Script why) read are is = (is.0, of_input script _ _ read.0 is.1)
+stopped asked IsReport script certificate before after failed (fault.Certificate why) read are is = (is.0, of_input certificate _ _ read.1 is.2)
+stopped asked IsReport script certificate before after failed (fault.Read input.Script) read are is = (is.0, of_input script _ _ read.0 is.1)
+stopped asked IsReport script certificate before after failed (fault.Read input.Certificate) read are is =
+    (is.0, of_input certificate _ _ read.1 is.1)
+stopped asked IsReport script certificate before after failed fault.Write read are is = (is.1.0, is.1.1, are is.1.0 is.1.1 is.1.2, is.1.3)
+stopped asked IsReport script certificate before after failed fault.OutOfMemory read are is = (is, tt)
 
 -- ---- Statuses
 
@@ -80,17 +98,26 @@ broken_off asked before after (Run fault.Write) left = inr left
 broken_off asked before after (Run fault.OutOfMemory) left = inl left.0
 
 -- only a check and a search may answer no
-pub never_no : (asked : Asked) (before after : Option (List ℕ)) → Reports asked before after No → (asked ≡ Check) ⊎ (asked ≡ Rank)
+pub never_no : (asked : Asked) (before after : Option (List ℕ)) → Reports asked before after No → (asked ≡ Check) ⊎ (asked ≡ the_rank)
 never_no Check before after reports = inl refl
-never_no Files before after reports = let yes = reports.1.1.0 in cc
-never_no Graph before after reports = let yes = reports.1.1.0 in cc
-never_no Rank before after reports = inr refl
+never_no the_files before after reports = let yes = reports.1.1.0 in cc
+never_no the_graph before after reports = let yes = reports.1.1.0 in cc
+never_no the_rank before after reports = inr refl
 never_no Upgrade before after reports = let yes = reports.1.1.0 in cc
 never_no Nothing before after reports = absurd reports.1
 
 -- where nothing is asked for, there is no report
 pub no_report : (asked : Asked) (before after : Option (List ℕ)) (outcome : Outcome) → asked ≡ Nothing → Reports asked before after outcome → ⊥
 no_report asked before after outcome is reports = subst (λ a. IsReportFor a outcome reports.0) is reports.1
+
+-- no refusal speaks of an input that isn't read
+pub is_for : (asked : Asked) (before after : Option (List ℕ)) (refusal : Refusal) → Leaves asked before after (Err refusal) → IsFor asked refusal
+is_for asked before after (Run (fault.Script why)) left = left.1
+is_for asked before after (Run (fault.Certificate why)) left = left.1
+is_for asked before after Usage left = left.1
+is_for asked before after (Run (fault.Read read)) left = left.1
+is_for asked before after (Run fault.Write) left = tt
+is_for asked before after (Run fault.OutOfMemory) left = left.1
 
 -- and a refusal has its status
 refused_words : (before after : Option (List ℕ)) (refusal : Refusal) → Leaves Nothing before after (Err refusal) → (status_of refusal ≡ 3) ⊎ (status_of refusal ≡ 4)

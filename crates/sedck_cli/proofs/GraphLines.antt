@@ -13,7 +13,7 @@ use Rattle.sedck_flow.proofs.NodeLemmas.{index-before, node_same}
 use Rattle.sedck_cert.specs.Text.{line}
 use Rattle.sedck_cert.proofs.CheckingLemmas.{leaves_below}
 use Rattle.sedck_cli.specs.Reports.{edge_lines}
-use Rattle.sedck_cli.specs.Graph.{AddsEdgesFrom}
+use Rattle.sedck_cli.specs.Private.Reports.{AddsEdgesFrom}
 
 -- the edges of the nodes so far have been added
 pub record IsGraphUpTo (p : Program) (index : ℕ) (before after : List ℕ) : Type 0 where

@@ -7,7 +7,7 @@ use Rattle.sedck_script.specs.declared.fault.ScriptFault.{ScriptFault}
 use Rattle.sedck_cert.specs.FaultText.{fault_text, number_of, name_of, place_text}
 use Rattle.sedck_cert.specs.Faults.{line_of}
 use Rattle.sedck_cert.specs.declared.reading.CertFault.{CertFault}
-use Rattle.sedck_cli.specs.Places.{place_behind}
+use Rattle.sedck_cli.specs.Private.Places.{place_behind}
 
 -- number and name, as they are written
 abbrev pub fault_front : ℕ → List ℕ → List ℕ

@@ -1,4 +1,4 @@
--- What an engine makes of the faults below it. Only private contracts and proofs cite it.
+-- The fault of an engine where a fault below it ends its work, as `RunFault::from` answers it.
 use Rattle.sedck_script.specs.declared.fault.ScriptFault.{ScriptFault}
 use Rattle.sedck_script.specs.declared.fault.ScriptFault.TheVariants as script
 use Rattle.sedck_cert.specs.declared.reading.CertFault.{CertFault}

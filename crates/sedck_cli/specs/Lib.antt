@@ -1,3 +1,4 @@
+-- What the public contracts cite, in reading order.
 pub use Rattle.sedck_script.specs.Program
 pub use Rattle.sedck_flow.specs.Nodes
 pub use Rattle.sedck_flow.specs.Flow
@@ -6,11 +7,9 @@ pub use Rattle.sedck_cert.specs.Certificate
 pub use Rattle.sedck_cert.specs.Headline
 pub use Rattle.sedck_search.specs.Found
 pub mod Reports
-pub mod Graph
-pub mod Rank
 pub mod Engines
 pub mod Faults
 pub mod Statuses
-pub mod Requests
 pub mod Lines
-pub mod Places
+-- What functions inside the crate promise each other.
+pub mod Private

@@ -8,7 +8,7 @@ use Rattle.sedck_cli.specs.declared.answer.RunFault.TheVariants as fault
 use Rattle.sedck_cli.specs.declared.command_line.Refusal.{Refusal}
 use Rattle.sedck_cli.specs.declared.command_line.Refusal.TheVariants.{Usage, Run}
 use Rattle.sedck_cli.specs.Reports.{input_text}
-use Rattle.sedck_cli.specs.Statuses.{status_of}
+use Rattle.sedck_cli.specs.Statuses.{status_of, Asked, IsFor}
 
 abbrev pub refusal_words : Refusal → List ℕ
 refusal_words Usage = codes "usage: sedck rank SCRIPT, check SCRIPT CERT, files SCRIPT, graph SCRIPT, upgrade CERT"
@@ -25,3 +25,8 @@ refusal_line refusal = line (codes "sedck: " ++ refusal_words refusal)
 -- the line of a refusal with this status was written
 abbrev pub SaysRefusal : ℕ → Option (List ℕ) → Option (List ℕ) → Type 0
 SaysRefusal status before after = (refusal : Refusal) × (status_of refusal ≡ status) × Appends before after (refusal_line refusal)
+
+-- and the refusal speaks of no input but those that are read for what was asked
+abbrev pub SaysRefusalFor : Asked → ℕ → Option (List ℕ) → Option (List ℕ) → Type 0
+SaysRefusalFor asked status before after =
+    (refusal : Refusal) × (status_of refusal ≡ status) × IsFor asked refusal × Appends before after (refusal_line refusal)

@@ -38,11 +38,6 @@ rejection_words WritesDiffer = codes "rejected 6 writes-differ"
 abbrev pub bound_words : Bound → List ℕ
 bound_words b = codes "bound " ++ decimal b.per_byte ++ codes " " ++ decimal b.per_line ++ codes " " ++ decimal b.fixed
 
--- the line of a bound, if there is one
-abbrev pub bound_line : Option Bound → List ℕ
-bound_line None = []
-bound_line (Some b) = line (bound_words b)
-
 -- the line of the bound where the certificate is steady, and nothing where it isn't
 abbrev pub IsBoundLine : Program → Certificate → List ℕ → Type 0
 IsBoundLine p c text = (IsSteady p c × ((b : Bound) × IsBoundOf c b × (text ≡ line (bound_words b)))) ⊎ ((¬ IsSteady p c) × (text ≡ []))

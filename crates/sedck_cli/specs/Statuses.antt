@@ -1,12 +1,14 @@
 -- The exit statuses of the program, and what stands on its output at each, this project's own.
-use Rattle.std.specs.Prelude.{◌==◌, ℕ, Bool, false, List, [], ◌∷◌, Option, Result, Ok, Err, String, string_bytes, codes, if◌then◌else◌}
+use Rattle.std.specs.Prelude.{◌==◌, ◌≡◌, ℕ, Bool, false, List, [], ◌∷◌, Option, Some, None, IfSome, String, string_bytes, codes, if◌then◌else◌}
 use Rattle.std.specs.List.{list_any}
 use Rattle.std.specs.Str.{bytes_eq}
 use Rattle.std.specs.declared.alloc.Global.{Global}
-use Rattle.std.specs.Io.KnownBytes.{Keeps, Appends}
-use Rattle.sedck_cert.specs.Streams.{AppendsPrefix}
+use Rattle.std.specs.Io.KnownBytes.{Appends}
+use Rattle.sedck_cert.specs.Streams.{AppendsFront}
 use Rattle.sedck_cli.specs.Engines.{ChecksTo, ListsFilesTo, ListsGraphTo, RanksTo, UpgradesTo}
 use Rattle.sedck_cli.specs.declared.answer.Outcome.{Outcome}
+use Rattle.sedck_cli.specs.declared.answer.Input.{Input}
+use Rattle.sedck_cli.specs.declared.answer.Input.TheVariants as input
 use Rattle.sedck_cli.specs.declared.answer.RunFault.TheVariants as fault
 use Rattle.sedck_cli.specs.declared.command_line.Refusal.{Refusal}
 use Rattle.sedck_cli.specs.declared.command_line.Refusal.TheVariants.{Usage, Run}
@@ -70,16 +72,27 @@ IsOfWords Usage = Unit {0}
 IsOfWords (Run fault.OutOfMemory) = Unit {0}
 IsOfWords (Run _) = ⊥
 
--- where nothing is asked for, no file is read
-abbrev pub IsFor : Asked → Refusal → Type 0
-IsFor Nothing refusal = IsOfWords refusal
-IsFor _ refusal = Unit {0}
+-- the input that a refusal speaks of
+abbrev pub input_of : Refusal → Option Input
+input_of (Run (fault.Script why)) = Some input.Script
+input_of (Run (fault.Certificate why)) = Some input.Certificate
+input_of Usage = None
+input_of (Run (fault.Read input)) = Some input
+input_of (Run fault.Write) = None
+input_of (Run fault.OutOfMemory) = None
 
--- what stands on the output after an answer
-abbrev pub Leaves : Asked → Option (List ℕ) → Option (List ℕ) → Result Outcome Refusal → Type 0
-Leaves asked before after (Ok outcome) = Reports asked before after outcome
-Leaves asked before after (Err (Run fault.Write)) = BreaksOff asked before after
-Leaves asked before after (Err refusal) = Keeps before after × IsFor asked refusal
+-- what is asked for reads this input
+abbrev pub IsReadFor : Asked → Input → Type 0
+IsReadFor Check read = Unit {0}
+IsReadFor Files read = read ≡ input.Script
+IsReadFor Graph read = read ≡ input.Script
+IsReadFor Rank read = read ≡ input.Script
+IsReadFor Upgrade read = read ≡ input.Certificate
+IsReadFor Nothing read = ⊥
+
+-- the refusal speaks of no input but those that are read
+abbrev pub IsFor : Asked → Refusal → Type 0
+IsFor asked refusal = IfSome (input_of refusal) (IsReadFor asked)
 
 abbrev pub begins_with_hyphen : List ℕ → Bool
 begins_with_hyphen [] = false

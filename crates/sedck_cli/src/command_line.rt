@@ -2,14 +2,15 @@
 
 ghost use Rattle.std.specs.Prelude.{◌≡◌, ◌≢◌, ◌⊎◌, ◌<◌, ◌≤◌, true, false, Ok, Err, IfOk, IfErr};
 ghost use Rattle.std.specs.Io.KnownBytes.{Keeps, Appends};
-ghost use Rattle.sedck_cli.specs.Statuses.{status_of, asked, asked_of_one, Check, Files as TheFiles, Graph, Rank, Upgrade, Nothing, Reports, BreaksOff, Leaves, IsOfWords, begins_with_hyphen, has_option};
-ghost use Rattle.sedck_cli.specs.Lines.{refusal_line, SaysRefusal};
-ghost use Rattle.sedck_cli.specs.Requests.{request_asks, asked_by};
+ghost use Rattle.sedck_cli.specs.Statuses.{status_of, asked, asked_of_one, Check, Rank, Upgrade, Nothing, Reports, BreaksOff, IsOfWords, begins_with_hyphen, has_option};
+ghost use Rattle.sedck_cli.specs.Private.Requests.{Leaves};
+ghost use Rattle.sedck_cli.specs.Lines.{refusal_line, SaysRefusal, SaysRefusalFor};
+ghost use Rattle.sedck_cli.specs.Private.Requests.{report_asked, request_asks, asked_by};
 ghost use Rattle.sedck_cli.specs.declared.command_line.Refusal.TheVariants.{Run};
 ghost use Rattle.sedck_cli.specs.declared.answer.RunFault.TheVariants as fault;
 
 use crate::answer::{Input, Outcome, RunFault};
-use crate::engines::{run_check, run_files, run_graph, run_rank, run_upgrade};
+use crate::engines::{ScriptReport, run_check, run_script, run_upgrade};
 use crate::refusal_line::write_refusal;
 use clap::error::ErrorKind;
 use clap::{Arg, Command};
@@ -31,6 +32,14 @@ impl From<AllocError> for Refusal {
 
     fn from(_error: AllocError) -> Refusal {
         Refusal::Run(RunFault::OutOfMemory)
+    }
+}
+
+impl From<RunFault> for Refusal {
+    ghost from_gives = { λ fault refusal. refusal ≡ Run fault };
+
+    fn from(fault: RunFault) -> Refusal {
+        Refusal::Run(fault)
     }
 }
 
@@ -69,19 +78,14 @@ impl Refusal {
     }
 }
 
-/// What the words ask for.
+/// What the words ask for, with the paths of its files.
 enum Request<'a> {
     Check {
         script: &'a str,
         certificate: &'a str,
     },
-    Files {
-        script: &'a str,
-    },
-    Graph {
-        script: &'a str,
-    },
-    Rank {
+    Report {
+        kind: ScriptReport,
         script: &'a str,
     },
     Upgrade {
@@ -109,11 +113,12 @@ pub fn program<R: Files + AllocGlobal, W: Sink, E: Sink>(
     // A refusal writes nothing, but where writing fails.
     ensures refused { 1 < result → result < 4 → Keeps (W.taken out.old) (W.taken out.new) }
     ensures failed { result ≡ 4 → Keeps (W.taken out.old) (W.taken out.new) ⊎ BreaksOff (asked words.now) (W.taken out.old) (W.taken out.new) }
-    // Its line stands on standard error, unless a write of it has failed.
-    ensures reported { 1 < result → E.has_failed err.new ≡ false → SaysRefusal result (E.taken err.old) (E.taken err.new) }
+    // Its line is on standard error, unless a write of it has failed. It speaks of no input but those that are read for
+    // what was asked.
+    ensures reported { 1 < result → E.has_failed err.new ≡ false → SaysRefusalFor (asked words.now) result (E.taken err.old) (E.taken err.new) }
     ensures silent { result < 2 → Keeps (E.taken err.old) (E.taken err.new) }
 {
-    match answer(rt, words, out) {
+    match run(rt, words, out) {
         Ok(Outcome::Yes) => 0,
         Ok(Outcome::No) => 1,
         Err(refusal) => refusal.tell(err),
@@ -137,8 +142,8 @@ pub fn flushed<W: Write + Drop, E: Sink>(status: u8, mut out: W, err: &mut E) ->
     }
 }
 
-/// What the words ask for is done.
-fn answer<R: Files + AllocGlobal, W: Sink>(
+/// Does what the words ask for.
+fn run<R: Files + AllocGlobal, W: Sink>(
     rt: &R,
     words: &[String],
     out: &mut W,
@@ -146,19 +151,17 @@ fn answer<R: Files + AllocGlobal, W: Sink>(
     ensures leaves { Leaves (asked words.now) (W.taken out.old) (W.taken out.new) result }
     ensures option { has_option words.now ≡ true → result ≡ Err Refusal.Usage }
 {
-    match read_words(rt.alloc(), words)? {
+    match read_request(rt.alloc(), words)? {
         Request::Check {
             script,
             certificate,
         } => check(rt, script, certificate, out),
-        Request::Files { script } => files(rt, script, out),
-        Request::Graph { script } => graph(rt, script, out),
-        Request::Rank { script } => rank(rt, script, out),
+        Request::Report { kind, script } => report(rt, kind, script, out),
         Request::Upgrade { certificate } => upgrade(rt, certificate, out),
     }
 }
 
-/// Both files are opened before either is read.
+/// Checks the script with the certificate. Both files are opened before either is read.
 fn check<R: Files + AllocGlobal, W: Sink>(
     rt: &R,
     script: &str,
@@ -169,54 +172,23 @@ fn check<R: Files + AllocGlobal, W: Sink>(
 {
     let mut script = open(rt, script, Input::Script)?;
     let mut certificate = open(rt, certificate, Input::Certificate)?;
-    match run_check(rt.alloc(), &mut script, &mut certificate, out) {
-        Ok(outcome) => Ok(outcome),
-        Err(fault) => Err(Refusal::Run(fault)),
-    }
+    Ok(run_check(rt.alloc(), &mut script, &mut certificate, out)?)
 }
 
-fn files<R: Files + AllocGlobal, W: Sink>(
+/// Reports on the script.
+fn report<R: Files + AllocGlobal, W: Sink>(
     rt: &R,
+    kind: ScriptReport,
     script: &str,
     out: &mut W,
 ) -> Result<Outcome, Refusal>
-    ensures { Leaves TheFiles (W.taken out.old) (W.taken out.new) result }
+    ensures { Leaves (report_asked kind) (W.taken out.old) (W.taken out.new) result }
 {
     let mut script = open(rt, script, Input::Script)?;
-    match run_files(rt.alloc(), &mut script, out) {
-        Ok(outcome) => Ok(outcome),
-        Err(fault) => Err(Refusal::Run(fault)),
-    }
+    Ok(run_script(rt.alloc(), kind, &mut script, out)?)
 }
 
-fn graph<R: Files + AllocGlobal, W: Sink>(
-    rt: &R,
-    script: &str,
-    out: &mut W,
-) -> Result<Outcome, Refusal>
-    ensures { Leaves Graph (W.taken out.old) (W.taken out.new) result }
-{
-    let mut script = open(rt, script, Input::Script)?;
-    match run_graph(rt.alloc(), &mut script, out) {
-        Ok(outcome) => Ok(outcome),
-        Err(fault) => Err(Refusal::Run(fault)),
-    }
-}
-
-fn rank<R: Files + AllocGlobal, W: Sink>(
-    rt: &R,
-    script: &str,
-    out: &mut W,
-) -> Result<Outcome, Refusal>
-    ensures { Leaves Rank (W.taken out.old) (W.taken out.new) result }
-{
-    let mut script = open(rt, script, Input::Script)?;
-    match run_rank(rt.alloc(), &mut script, out) {
-        Ok(outcome) => Ok(outcome),
-        Err(fault) => Err(Refusal::Run(fault)),
-    }
-}
-
+/// Upgrades the certificate.
 fn upgrade<R: Files + AllocGlobal, W: Sink>(
     rt: &R,
     certificate: &str,
@@ -225,12 +197,10 @@ fn upgrade<R: Files + AllocGlobal, W: Sink>(
     ensures { Leaves Upgrade (W.taken out.old) (W.taken out.new) result }
 {
     let mut certificate = open(rt, certificate, Input::Certificate)?;
-    match run_upgrade(rt.alloc(), &mut certificate, out) {
-        Ok(outcome) => Ok(outcome),
-        Err(fault) => Err(Refusal::Run(fault)),
-    }
+    Ok(run_upgrade(rt.alloc(), &mut certificate, out)?)
 }
 
+/// Opens the file that is this input.
 fn open<R: Files>(rt: &R, path: &str, input: Input) -> Result<FromRead<R::File>, Refusal>
     ensures { IfErr result (λ refusal. refusal ≡ Refusal.Run (RunFault.Read input)) }
 {
@@ -240,14 +210,14 @@ fn open<R: Files>(rt: &R, path: &str, input: Input) -> Result<FromRead<R::File>,
     }
 }
 
-/// Reads the words. `clap` says whether they have a form; what they then ask for is read from the words themselves, so
-/// that no theorem rests on `clap`. There are no options: any word that begins with a hyphen is refused.
-fn read_words<'a>(alloc: Global, words: &'a [String]) -> Result<Request<'a>, Refusal>
+/// What the words ask for. `clap` says whether they are of a known form; the request is then read from the words
+/// themselves, so that no theorem rests on `clap`. There are no options: any word that begins with a hyphen is refused.
+fn read_request<'a>(alloc: Global, words: &'a [String]) -> Result<Request<'a>, Refusal>
     ensures asked { IfOk result (λ request. request_asks request ≡ asked words.now) }
     ensures refused { IfErr result IsOfWords }
     ensures option { has_option words.now ≡ true → result ≡ Err Refusal.Usage }
 {
-    if holds_option(words) {
+    if contains_option(words) {
         return Err(Refusal::Usage);
     }
     command(alloc)?.try_get_matches_from(words)?;
@@ -257,7 +227,7 @@ fn read_words<'a>(alloc: Global, words: &'a [String]) -> Result<Request<'a>, Ref
     }
 }
 
-/// What the words ask for.
+/// What the words ask for, by the first one and their number.
 fn request_of<'a>(words: &'a [String]) -> Option<Request<'a>>
     ensures { asked_by result ≡ asked words.now }
 {
@@ -276,16 +246,23 @@ fn request_of_one<'a>(name: &str, file: &'a str) -> Option<Request<'a>>
     ensures { asked_by result ≡ asked_of_one name.now }
 {
     match name {
-        "files" => Some(Request::Files { script: file }),
-        "graph" => Some(Request::Graph { script: file }),
-        "rank" => Some(Request::Rank { script: file }),
+        "files" => Some(report_of(ScriptReport::Files, file)),
+        "graph" => Some(report_of(ScriptReport::Graph, file)),
+        "rank" => Some(report_of(ScriptReport::Rank, file)),
         "upgrade" => Some(Request::Upgrade { certificate: file }),
         _ => None,
     }
 }
 
+/// A report on this script.
+fn report_of<'a>(kind: ScriptReport, script: &'a str) -> Request<'a>
+    ensures { request_asks result ≡ report_asked kind }
+{
+    Request::Report { kind, script }
+}
+
 /// Whether a word begins with a hyphen.
-fn holds_option(words: &[String]) -> bool
+fn contains_option(words: &[String]) -> bool
     ensures { result ≡ has_option words.now }
 {
     words.iter().any(|word| is_option(word))
@@ -301,21 +278,21 @@ fn is_option(word: &str) -> bool
 /// The forms that the words may have.
 fn command<'a>(alloc: Global) -> Result<Command<'a>, AllocError> {
     let certificate = Arg::new(alloc, "certificate").required(true);
-    let check = of_file(alloc, "check", "script")?.arg(certificate)?;
+    let check = subcommand(alloc, "check", "script")?.arg(certificate)?;
     Command::new(alloc, "sedck")
         .no_binary_name(true)
         .disable_help_flag(true)
         .disable_help_subcommand(true)
         .subcommand_required(true)
         .subcommand(check)?
-        .subcommand(of_file(alloc, "files", "script")?)?
-        .subcommand(of_file(alloc, "graph", "script")?)?
-        .subcommand(of_file(alloc, "rank", "script")?)?
-        .subcommand(of_file(alloc, "upgrade", "certificate")?)
+        .subcommand(subcommand(alloc, "files", "script")?)?
+        .subcommand(subcommand(alloc, "graph", "script")?)?
+        .subcommand(subcommand(alloc, "rank", "script")?)?
+        .subcommand(subcommand(alloc, "upgrade", "certificate")?)
 }
 
-/// A subcommand whose first word is this file.
-fn of_file<'a>(alloc: Global, name: &'a str, file: &'a str) -> Result<Command<'a>, AllocError> {
+/// The subcommand with this name. Its first word is this file.
+fn subcommand<'a>(alloc: Global, name: &'a str, file: &'a str) -> Result<Command<'a>, AllocError> {
     Command::new(alloc, name)
         .disable_help_flag(true)
         .arg(Arg::new(alloc, file).required(true))

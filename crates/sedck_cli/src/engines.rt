@@ -1,7 +1,8 @@
 //! The engines: each reads from sources, and writes one report to a sink.
 
-ghost use Rattle.std.specs.Prelude.{◌≡◌, Some, None};
+ghost use Rattle.std.specs.Prelude.{◌≡◌, Some, None, IfOk};
 ghost use Rattle.sedck_cli.specs.Engines.{verdict_outcome, ChecksTo, ListsFilesTo, ListsGraphTo, RanksTo, found_outcome, UpgradesTo, EngineAnswers, OfBytes};
+ghost use Rattle.sedck_cli.specs.Private.Engines.{IsScriptReport, ReportsScriptTo, WritesReport};
 
 use crate::answer::{Input, Outcome, RunFault};
 use crate::input::read_whole;
@@ -9,15 +10,27 @@ use crate::rank::{certificate_report, rank_report};
 use crate::report::{check_report, files_report, graph_report};
 use sedck_cert::streams::{Sink, Source, write_all};
 use sedck_cert::{Verdict, judge, read_any};
-use sedck_script::parse;
+use sedck_script::{Script, parse};
 use sedck_search::{Found, search};
-use std::alloc::Global;
+use std::alloc::{AllocError, Global};
 
 /// How many bytes of a script are read: one more than it may have.
 const SCRIPT_READ: usize = 1_048_577;
 
-/// How many bytes of a certificate are read: more than one may have.
+/// How many bytes of a certificate are read: 1.5 MiB and one more. No certificate's text has more than 1,388,247, so
+/// what is longer spells none, however it goes on.
 const CERTIFICATE_READ: usize = 1_572_865;
+
+/// What is reported of a script alone.
+#[derive(Clone, Copy, Debug, PartialEq, Eq)]
+pub(crate) enum ScriptReport {
+    /// The files that it reads and writes.
+    Files,
+    /// Its flow graph.
+    Graph,
+    /// A certificate that was found for it, or a loop.
+    Rank,
+}
 
 /// Judges the certificate for the script, and writes the verdict.
 pub fn run_check<R: Source, C: Source, W: Sink>(
@@ -38,10 +51,7 @@ pub fn run_check<R: Source, C: Source, W: Sink>(
     let certificate = read_whole(alloc, cert, CERTIFICATE_READ, Input::Certificate)?;
     let judged = judge(alloc, &text, &certificate)?;
     let report = check_report(alloc, &judged)?;
-    let Ok(()) = write_all(out, &report) else {
-        return Err(RunFault::Write);
-    };
-    Ok(outcome_of(judged.verdict))
+    write_report(out, &report, outcome_of(judged.verdict))
 }
 
 /// Writes the names of the files that the script reads and writes.
@@ -58,13 +68,7 @@ pub fn run_files<R: Source, W: Sink>(
         })
         (λ outcome report. OfBytes (R.left script.old) (λ text. ListsFilesTo text outcome report)) result }
 {
-    let text = read_whole(alloc, script, SCRIPT_READ, Input::Script)?;
-    let script = parse(alloc, &text)?;
-    let report = files_report(alloc, &script)?;
-    let Ok(()) = write_all(out, &report) else {
-        return Err(RunFault::Write);
-    };
-    Ok(Outcome::Yes)
+    run_script(alloc, ScriptReport::Files, script, out)
 }
 
 /// Writes the script's flow graph.
@@ -81,13 +85,7 @@ pub fn run_graph<R: Source, W: Sink>(
         })
         (λ outcome report. OfBytes (R.left script.old) (λ text. ListsGraphTo text outcome report)) result }
 {
-    let text = read_whole(alloc, script, SCRIPT_READ, Input::Script)?;
-    let script = parse(alloc, &text)?;
-    let report = graph_report(alloc, &script)?;
-    let Ok(()) = write_all(out, &report) else {
-        return Err(RunFault::Write);
-    };
-    Ok(Outcome::Yes)
+    run_script(alloc, ScriptReport::Graph, script, out)
 }
 
 /// Searches for ranks, and writes the certificate that was found, or the loop that rules all out.
@@ -104,14 +102,7 @@ pub fn run_rank<R: Source, W: Sink>(
         })
         (λ outcome report. OfBytes (R.left script.old) (λ text. RanksTo text outcome report)) result }
 {
-    let text = read_whole(alloc, script, SCRIPT_READ, Input::Script)?;
-    let script = parse(alloc, &text)?;
-    let found = search(alloc, &script)?;
-    let report = rank_report(alloc, &found)?;
-    let Ok(()) = write_all(out, &report) else {
-        return Err(RunFault::Write);
-    };
-    Ok(outcome_of_found(&found))
+    run_script(alloc, ScriptReport::Rank, script, out)
 }
 
 /// Writes the text of the certificate that is read, in version 2, whichever its version was.
@@ -131,10 +122,58 @@ pub fn run_upgrade<C: Source, W: Sink>(
     let text = read_whole(alloc, cert, CERTIFICATE_READ, Input::Certificate)?;
     let cert = read_any(alloc, &text)?;
     let report = certificate_report(alloc, &cert)?;
-    let Ok(()) = write_all(out, &report) else {
-        return Err(RunFault::Write);
-    };
-    Ok(Outcome::Yes)
+    write_report(out, &report, Outcome::Yes)
+}
+
+/// Reads a script, and writes the report on it.
+pub(crate) fn run_script<R: Source, W: Sink>(
+    alloc: Global,
+    kind: ScriptReport,
+    script: &mut R,
+    out: &mut W,
+) -> Result<Outcome, RunFault>
+    ensures { EngineAnswers
+        (record {
+          script = Some (record { bytes = R.left script.old; failed = R.has_failed script.new });
+          certificate = None;
+          out = record { before = W.taken out.old; after = W.taken out.new; failed = W.has_failed out.new };
+        })
+        (λ outcome report. OfBytes (R.left script.old) (λ text. ReportsScriptTo kind text outcome report)) result }
+{
+    let text = read_whole(alloc, script, SCRIPT_READ, Input::Script)?;
+    let script = parse(alloc, &text)?;
+    let (report, outcome) = script_report(alloc, kind, &script)?;
+    write_report(out, &report, outcome)
+}
+
+/// The report on the script, and what it says in one word.
+fn script_report(
+    alloc: Global,
+    kind: ScriptReport,
+    script: &Script,
+) -> Result<(Vec<u8>, Outcome), AllocError>
+    ensures { IfOk result (λ made. IsScriptReport kind script.now made.1 made.0.items) }
+{
+    match kind {
+        ScriptReport::Files => Ok((files_report(alloc, script)?, Outcome::Yes)),
+        ScriptReport::Graph => Ok((graph_report(alloc, script)?, Outcome::Yes)),
+        ScriptReport::Rank => {
+            let found = search(alloc, script)?;
+            Ok((rank_report(alloc, &found)?, outcome_of_found(&found)))
+        }
+    }
+}
+
+/// Writes the report, and answers its outcome.
+fn write_report<W: Sink>(out: &mut W, report: &[u8], outcome: Outcome) -> Result<Outcome, RunFault>
+    ensures { WritesReport
+        (record { before = W.taken out.old; after = W.taken out.new; failed = W.has_failed out.new })
+        outcome report.now result }
+{
+    match write_all(out, report) {
+        Ok(()) => Ok(outcome),
+        Err(_) => Err(RunFault::Write),
+    }
 }
 
 /// Yes for ranks, and no for a loop.

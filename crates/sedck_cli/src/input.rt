@@ -1,6 +1,7 @@
 //! Reading an input whole.
 
-ghost use Rattle.std.specs.Prelude.{◌≡◌, ◌⊎◌, ◌≤◌, length, take, IfOk, IfErr, IfSome, IsTrue, vec_len};
+ghost use Rattle.std.specs.Prelude.{◌≡◌, ◌⊎◌, IfOk, IfErr, IsTrue, vec_len};
+ghost use Rattle.sedck_cli.specs.Private.Engines.{IsRead};
 
 use crate::answer::{Input, RunFault};
 use sedck_cert::streams::Source;
@@ -9,7 +10,7 @@ use std::alloc::{AllocError, Global};
 /// How many bytes one read asks for.
 const BLOCK: usize = 65_536;
 
-/// `len` bytes 0. A function, for its clause on the length.
+/// `len` zero bytes. A function, for its clause on the length.
 fn zeros(alloc: Global, len: usize) -> Result<Vec<u8>, AllocError>
     ensures { IfOk result (λ bytes. vec_len bytes ≡ len) }
 {
@@ -23,8 +24,7 @@ pub(crate) fn read_whole<S: Source>(
     limit: usize,
     input: Input,
 ) -> Result<Vec<u8>, RunFault>
-    ensures read { IfOk result (λ bytes. IfSome (S.left source.old) (λ text. bytes.items ≡ take limit text)) }
-    ensures within { IfOk result (λ bytes. length bytes.items ≤ limit) }
+    ensures read { IfOk result (λ bytes. IsRead limit (S.left source.old) bytes.items) }
     ensures refused { IfErr result (λ fault. fault ≡ RunFault.OutOfMemory
         ⊎ ((fault ≡ RunFault.Read input) × IsTrue (S.has_failed source.new))) }
 {

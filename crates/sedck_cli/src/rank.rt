@@ -3,7 +3,7 @@
 ghost use Rattle.std.specs.Prelude.{◌≡◌, IfOk, length, suc};
 ghost use Rattle.sedck_cert.specs.Text.{certificate_text};
 ghost use Rattle.sedck_cli.specs.Reports.{form_words, found_text, loop_text};
-ghost use Rattle.sedck_cli.specs.Rank.{IsWritten};
+ghost use Rattle.sedck_cli.specs.Private.Reports.{IsWritten};
 
 use crate::report::add_line;
 use sedck_cert::streams::FromWrite;

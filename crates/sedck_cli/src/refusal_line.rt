@@ -6,7 +6,7 @@ ghost use Rattle.sedck_script.specs.FaultWords.{fault_words, cause_words};
 ghost use Rattle.sedck_cert.specs.FaultText.{fault_text};
 ghost use Rattle.sedck_cert.specs.Streams.{ReportsFailure};
 ghost use Rattle.sedck_cli.specs.Lines.{refusal_words, refusal_line};
-ghost use Rattle.sedck_cli.specs.Places.{place_behind};
+ghost use Rattle.sedck_cli.specs.Private.Places.{place_behind};
 ghost use Rattle.sedck_cli.specs.Reports.{input_text};
 
 use crate::answer::{Input, RunFault};

@@ -3,8 +3,9 @@
 ghost use Rattle.std.specs.Prelude.{◌≡◌, ◌++◌, IfOk, OnOk, ◌<◌, ◌≤◌, length, map, decimal, codes, string_bytes};
 ghost use Rattle.sedck_cert.specs.Headline.{IsLimit};
 ghost use Rattle.sedck_cert.specs.Text.{line, name_lines, files_text};
-ghost use Rattle.sedck_cli.specs.Graph.{AddsEdgesFrom};
-ghost use Rattle.sedck_cli.specs.Reports.{IsCheckReport, IsFilesReport, IsGraphReport, rejection_words, bound_line};
+ghost use Rattle.sedck_cli.specs.Private.Reports.{AddsEdgesFrom};
+ghost use Rattle.sedck_cli.specs.Reports.{IsCheckReport, IsFilesReport, IsGraphReport, rejection_words};
+ghost use Rattle.sedck_cli.specs.Private.Reports.{bound_line};
 
 use sedck_cert::{Bound, Cert, Judged, Rejection, Verdict};
 use sedck_flow::{Node, edges_of, node_count};

@@ -1,5 +1,5 @@
-use Rattle.std.proofs.Common.{arith}
-use Rattle.sedck_cli.proofs.Ending.{refusal_status, broken_off, never_no, no_report, of_words}
+use Rattle.std.proofs.Common.{arith, sym}
+use Rattle.sedck_cli.proofs.Ending.{refusal_status, broken_off, never_no, no_report, of_words, is_for}
 use Rattle.sedck_cli.proofs.command_line.program.Goals as goal
 
 pub returns-in-Ok-Yes-clause-yes : goal.returns-in-Ok-Yes-clause-yes
@@ -37,3 +37,7 @@ returns-in-Err-clause-never_no g c is = let above = refusal_status c.in-Err.refu
 
 pub returns-in-Err-clause-failed : goal.returns-in-Err-clause-failed
 returns-in-Err-clause-failed g c is = broken_off _ _ _ c.in-Err.refusal c.in-Err.ensures.leaves
+
+pub returns-in-Err-clause-reported : goal.returns-in-Err-clause-reported
+returns-in-Err-clause-reported g c above sound =
+    (c.in-Err.refusal, sym c.tell.ensures.status, is_for _ _ _ c.in-Err.refusal c.in-Err.ensures.leaves, c.tell.ensures.line sound)

@@ -1,0 +1,4 @@
+pub mod Engines
+pub mod Reports
+pub mod Requests
+pub mod Places

@@ -1,0 +1,36 @@
+-- The steps of an engine. Only private contracts and proofs cite it.
+use Rattle.std.specs.Prelude.{◌≡◌, ◌≤◌, ℕ, IsTrue, List, length, take, Option, IfSome, Result, Ok, Err}
+use Rattle.std.specs.Io.KnownBytes.{Appends}
+use Rattle.sedck_script.specs.Program.{Program}
+use Rattle.sedck_cert.specs.Streams.{AppendsFront}
+use Rattle.sedck_search.specs.declared.answer.Found.{Found}
+use Rattle.sedck_cli.specs.declared.answer.Outcome.{Outcome}
+use Rattle.sedck_cli.specs.declared.answer.Outcome.TheVariants.{Yes}
+use Rattle.sedck_cli.specs.declared.answer.RunFault.{RunFault}
+use Rattle.sedck_cli.specs.declared.answer.RunFault.TheVariants as fault
+use Rattle.sedck_cli.specs.declared.engines.ScriptReport.{ScriptReport}
+use Rattle.sedck_cli.specs.declared.engines.ScriptReport.TheVariants.{Files, Graph, Rank}
+use Rattle.sedck_cli.specs.Reports.{IsFilesReport, IsGraphReport, IsRankReport}
+use Rattle.sedck_cli.specs.Engines.{ListsFilesTo, ListsGraphTo, RanksTo, found_outcome, Writing}
+
+-- the text is what was read of an input's bytes, where they are known
+pub record IsRead (limit : ℕ) (known : Option (List ℕ)) (text : List ℕ) : Type 0 where
+  pub front : IfSome known (λ bytes. text ≡ take limit bytes)
+  pub within : length text ≤ limit
+
+-- the report on a script, and its outcome
+abbrev pub IsScriptReport : ScriptReport → Program → Outcome → List ℕ → Type 0
+IsScriptReport Files p outcome report = (outcome ≡ Yes) × IsFilesReport p report
+IsScriptReport Graph p outcome report = (outcome ≡ Yes) × IsGraphReport p report
+IsScriptReport Rank p outcome report = (found : Found) × (outcome ≡ found_outcome found) × IsRankReport p found report
+
+-- the same of a text
+abbrev pub ReportsScriptTo : ScriptReport → List ℕ → Outcome → List ℕ → Type 0
+ReportsScriptTo Files text outcome report = ListsFilesTo text outcome report
+ReportsScriptTo Graph text outcome report = ListsGraphTo text outcome report
+ReportsScriptTo Rank text outcome report = RanksTo text outcome report
+
+-- the whole report is written, or a front of it and a write has failed
+abbrev pub WritesReport : Writing → Outcome → List ℕ → Result Outcome RunFault → Type 0
+WritesReport out outcome report (Ok written) = (written ≡ outcome) × Appends out.before out.after report
+WritesReport out outcome report (Err why) = (why ≡ fault.Write) × IsTrue out.failed × AppendsFront out.before out.after report
