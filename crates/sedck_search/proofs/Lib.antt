@@ -1,17 +1,17 @@
-pub mod RowSets
+pub mod NodeSets
 mod Totals
 mod LaneCounts
-mod RowBits
+mod NodeBits
 mod NextNode
 pub mod Paths
 pub mod Counts
-pub mod GoneOver
-pub mod Meeting
-pub mod WayLemmas
-pub mod Walks
-pub mod Loops
+pub mod Scans
+pub mod Frontiers
+pub mod DistanceLemmas
+pub mod ShortestLoops
+pub mod ClosedWalks
 pub mod Ranks
 pub mod RuledOut
 mod PlainWalks
 mod OtherSide
-mod TurnedRows
+mod TurnedSets

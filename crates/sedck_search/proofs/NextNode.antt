@@ -5,8 +5,8 @@ use Rattle.std.specs.Int.{bit_at, w64, trailing_zeros}
 use Rattle.std.proofs.lemmas.Bool.{cases_lt}
 use Rattle.std.proofs.lemmas.Nat.{and_le_l}
 use Rattle.std.proofs.lemmas.Nat.Bits.{bit_at-lt, bit_at-zero, bit_at_and, bit_at_mask_inside, bit_at_mask_below, ones_shl, bit_at-trailing_zeros}
-use Rattle.sedck_search.specs.Rows.{has, IsRow, IsNext}
-use Rattle.sedck_search.proofs.RowBits.{has_at, word_below, none_behind}
+use Rattle.sedck_search.specs.Private.NodeSet.{has, IsNodeSet, IsNext}
+use Rattle.sedck_search.proofs.NodeBits.{has_at, word_below, none_behind}
 
 -- The word has the bits of word j of the row whose nodes aren't before the given one, and no other; and no node lies between that one and word j.
 record IsFirstWord (words : List ℕ) (from j word : ℕ) : Type 0 where
@@ -84,7 +84,7 @@ first_word words from =
       none = λ i above below. absurd (omega (arith, above, below));
     }
 
-pub first_next : (words row : List ℕ) (from : ℕ) → words ≡ row → IsRow words → from / 64 < 256 → from_bit (slice_index words (from / 64)) (from % 64) ≢ 0
+pub first_next : (words row : List ℕ) (from : ℕ) → words ≡ row → IsNodeSet words → from / 64 < 256 → from_bit (slice_index words (from / 64)) (from % 64) ≢ 0
     → IsNext row from (64 * (from / 64) + trailing_zeros w64 (from_bit (slice_index words (from / 64)) (from % 64)))
 first_next words row from is good inside some =
     let less = and_le_l (slice_index words (from / 64)) ((2 ^ 64 - 1) * 2 ^ (from % 64) % 2 ^ 64) in
@@ -108,7 +108,7 @@ later_word words row from j is behind none = record {
   none = λ i above below. ap (λ r. has r i) is ∙ none i above below;
 }
 
-pub later_next : (words row : List ℕ) (from j : ℕ) → words ≡ row → IsRow words → j < 256 → from / 64 + 1 ≤ j
+pub later_next : (words row : List ℕ) (from j : ℕ) → words ≡ row → IsNodeSet words → j < 256 → from / 64 + 1 ≤ j
     → ((i : ℕ) → from ≤ i → i < 64 * j → has row i ≡ false) → slice_index words j ≢ 0
     → IsNext row from (64 * j + trailing_zeros w64 (slice_index words j))
 later_next words row from j is good inside behind none some =
@@ -122,5 +122,5 @@ later_none words row from j is behind none zeroes i above below =
     ap (λ r. has r i) (sym is) ∙ none_in_word words from j (slice_index words j) (later_word words row from j is behind none) zeroes i above below
 
 -- no node lies behind the last word
-pub last_none : (words row : List ℕ) → words ≡ row → IsRow words → (i : ℕ) → 256 ≤ i / 64 → has row i ≡ false
+pub last_none : (words row : List ℕ) → words ≡ row → IsNodeSet words → (i : ℕ) → 256 ≤ i / 64 → has row i ≡ false
 last_none words row is good i behind = ap (λ r. has r i) (sym is) ∙ none_behind words i (omega (arith, behind, good.long))

@@ -9,10 +9,10 @@ use Rattle.sedck_flow.specs.declared.graph.Edge.{Edge}
 use Rattle.sedck_flow.specs.declared.graph.Kind.{Kind}
 use Rattle.sedck_flow.specs.declared.graph.Kind.TheVariants.{Consume, Keep}
 use Rattle.sedck_search.specs.Obstacle.{IsPath}
-use Rattle.sedck_search.specs.OtherSide.{turned, turned_edge, IsLastAlone, AsksNotForLast}
-use Rattle.sedck_search.specs.Reaching.{IsFollowed, AreFollowed, Reaches}
-use Rattle.sedck_search.specs.declared.along.Along.{Along}
-use Rattle.sedck_search.specs.declared.along.Along.TheVariants.{Every, Unread, Kept}
+use Rattle.sedck_search.specs.Private.OtherSide.{turned, turned_edge, IsLastAlone, AsksNotForLast}
+use Rattle.sedck_search.specs.Private.Reaching.{IsFollowed, AreFollowed, Reaches}
+use Rattle.sedck_search.specs.declared.filter.EdgeFilter.{EdgeFilter}
+use Rattle.sedck_search.specs.declared.filter.EdgeFilter.TheVariants.{Every, Unread, Kept}
 
 -- ---- What is selected
 
@@ -85,7 +85,7 @@ module _ (p : Program) (never : AsksNotForLast p) where
 
   -- ---- Paths
 
-  followed_unread : (along : Along) → along ≢ Every → (kind : Kind) → IsFollowed along kind → kind ≢ Consume
+  followed_unread : (filter : EdgeFilter) → filter ≢ Every → (kind : Kind) → IsFollowed filter kind → kind ≢ Consume
   followed_unread Every other kind h = absurd (other refl)
   followed_unread Unread other kind h = h
   followed_unread Kept other kind h = λ reads. differ (h' kind h reads)
@@ -96,17 +96,17 @@ module _ (p : Program) (never : AsksNotForLast p) where
       differ : Keep ≡ Consume → ⊥
       differ is = cc
 
-  module _ (along : Along) (other : along ≢ Every) where
-    path_turned : (from : Node) (path : List (Kind × Node)) (to : Node) → IsPath p from path to → AreFollowed along path
-        → Reaches p along (turned from) (turned to)
+  module _ (filter : EdgeFilter) (other : filter ≢ Every) where
+    path_turned : (from : Node) (path : List (Kind × Node)) (to : Node) → IsPath p from path to → AreFollowed filter path
+        → Reaches p filter (turned from) (turned to)
     path_turned from [] to is followed = ([], ap turned is, tt)
     path_turned from (edge ∷ path) to is followed =
         let rest = path_turned edge.1 path to is.1 followed.1 in
         let e : Edge = record { from = from; to = edge.1; kind = edge.0 } in (
           (edge.0, turned edge.1) ∷ rest.0,
-          (flow_turned e (followed_unread along other edge.0 followed.0) is.0, rest.1),
+          (flow_turned e (followed_unread filter other edge.0 followed.0) is.0, rest.1),
           (followed.0, rest.2),
         )
 
-    pub reaches_turned : (n m : Node) → Reaches p along n m → Reaches p along (turned n) (turned m)
+    pub reaches_turned : (n m : Node) → Reaches p filter n m → Reaches p filter (turned n) (turned m)
     reaches_turned n m r = path_turned n r.0 m r.1 r.2

@@ -10,9 +10,9 @@ use Rattle.sedck_flow.specs.declared.graph.Kind.{Kind}
 use Rattle.sedck_flow.proofs.Inside.{inside}
 use Rattle.sedck_flow.proofs.NodeLemmas as nodes
 use Rattle.sedck_search.specs.Obstacle.{IsPath}
-use Rattle.sedck_search.specs.Reaching.{IsFollowed, AreFollowed, Reaches, FollowedEdge, IsIn, IsClosed}
-use Rattle.sedck_search.specs.declared.along.Along.{Along}
-use Rattle.sedck_search.specs.declared.along.Along.TheVariants.{Every}
+use Rattle.sedck_search.specs.Private.Reaching.{IsFollowed, AreFollowed, Reaches, FollowedEdge, IsIn, IsClosed}
+use Rattle.sedck_search.specs.declared.filter.EdgeFilter.{EdgeFilter}
+use Rattle.sedck_search.specs.declared.filter.EdgeFilter.TheVariants.{Every}
 
 -- ---- Nodes and their places among all nodes
 
@@ -38,30 +38,30 @@ module _ (p : Program) where
   path_inside targets (edge ∷ path) n m is h =
       path_inside targets path edge.1 m is.1 (inside p targets (record { from = n; to = edge.1; kind = edge.0 }) is.0).1
 
-  module _ (along : Along) where
-    pub followed-append : (a b : List (Kind × Node)) → AreFollowed along a → AreFollowed along b → AreFollowed along (a ++ b)
+  module _ (filter : EdgeFilter) where
+    pub followed-append : (a b : List (Kind × Node)) → AreFollowed filter a → AreFollowed filter b → AreFollowed filter (a ++ b)
     followed-append [] b h k = k
     followed-append (edge ∷ a) b h k = (h.0, followed-append a b h.1 k)
 
-    pub reaches_self : (n : Node) → Reaches p along n n
+    pub reaches_self : (n : Node) → Reaches p filter n n
     reaches_self n = ([], refl, tt)
 
-    pub reaches-trans : (a b c : Node) → Reaches p along a b → Reaches p along b c → Reaches p along a c
+    pub reaches-trans : (a b c : Node) → Reaches p filter a b → Reaches p filter b c → Reaches p filter a c
     reaches-trans a b c h k = (h.0 ++ k.0, path-append a b c h.0 k.0 h.1 k.1, followed-append h.0 k.0 h.2 k.2)
 
-    pub reaches_edge : (e : Edge) → FollowedEdge p along e → Reaches p along e.from e.to
+    pub reaches_edge : (e : Edge) → FollowedEdge p filter e → Reaches p filter e.from e.to
     reaches_edge e h = ((e.kind, e.to) ∷ [], (h.0, refl), (h.1, tt))
 
     -- by an edge that leaves it
-    pub reaches_from : (n : Node) (e : Edge) → FlowFrom p n e → IsFollowed along e.kind → Reaches p along n e.to
-    reaches_from n e flow followed = subst (λ m. Reaches p along m e.to) flow.1 (reaches_edge e (flow.0, followed))
+    pub reaches_from : (n : Node) (e : Edge) → FlowFrom p n e → IsFollowed filter e.kind → Reaches p filter n e.to
+    reaches_from n e flow followed = subst (λ m. Reaches p filter m e.to) flow.1 (reaches_edge e (flow.0, followed))
 
     -- what a node of a closed row reaches is in the row
-    pub closed_reaches : (row : List ℕ) → IsClosed p along row → (path : List (Kind × Node)) (n m : Node) → IsPath p n path m → AreFollowed along path
+    pub closed_reaches : (row : List ℕ) → IsClosed p filter row → (path : List (Kind × Node)) (n m : Node) → IsPath p n path m → AreFollowed filter path
         → IsIn row n → IsIn row m
     closed_reaches row closed [] n m is followed h = subst (IsIn row) is h
     closed_reaches row closed (edge ∷ path) n m is followed h =
         closed_reaches row closed path edge.1 m is.1 followed.1 (closed (record { from = n; to = edge.1; kind = edge.0 }) (is.0, followed.0) h)
 
-    pub reaches_inside : AreTargetsWithin p → (n m : Node) → Reaches p along n m → n.at ≤ length p.commands → m.at ≤ length p.commands
+    pub reaches_inside : AreTargetsWithin p → (n m : Node) → Reaches p filter n m → n.at ≤ length p.commands → m.at ≤ length p.commands
     reaches_inside targets n m h k = path_inside targets h.0 n m h.1 k

@@ -21,14 +21,14 @@ use Rattle.sedck_cert.specs.declared.versions.Version.TheVariants.{Two}
 use Rattle.sedck_cert.specs.Certificate.{Certificate, IsCertificate, AreWithin}
 use Rattle.sedck_cert.specs.Ranked.{ranks_at, Lowers, ListsNames, IsRanked, Accepts}
 use Rattle.sedck_search.specs.Obstacle.{IsReachable}
-use Rattle.sedck_search.specs.Reaching.{HasCount, HasNoCount, AreCounted}
-use Rattle.sedck_search.specs.Closing.{Closes}
-use Rattle.sedck_search.specs.Ranking.{ranks_of_counts, ranks_from}
-use Rattle.sedck_search.specs.declared.along.Along.TheVariants.{Unread, Kept}
+use Rattle.sedck_search.specs.Private.Reaching.{HasCount, HasNoCount, AreCounted}
+use Rattle.sedck_search.specs.Private.Closing.{Closes}
+use Rattle.sedck_search.specs.Private.Ranking.{ranks_of_counts, ranks_from}
+use Rattle.sedck_search.specs.declared.filter.EdgeFilter.TheVariants.{Unread, Kept}
 use Rattle.sedck_search.proofs.Paths.{reaches_edge}
 use Rattle.sedck_search.proofs.Counts.{count_falls}
-use Rattle.sedck_search.proofs.WayLemmas.{way_at}
-use Rattle.sedck_search.proofs.Loops.{count_of, reachable_on}
+use Rattle.sedck_search.proofs.DistanceLemmas.{distance_at}
+use Rattle.sedck_search.proofs.ClosedWalks.{count_of, reachable_on}
 
 pub ranks_from-length : (firsts seconds : List ℕ) → length firsts ≡ length seconds → length (ranks_from firsts seconds) ≡ length firsts
 ranks_from-length [] seconds e = refl
@@ -123,7 +123,7 @@ module _ (p : Program) (script : IsScript p) (firsts seconds : List ℕ) (are_fi
           let is : (f.count, s.count) ≡ before = same_Some _ _ (sym (ranks_of_node e.from f s) ∙ has) in
           ((f'.count, s'.count), ranks_of_node e.to f' s', subst (λ b. Lowers e.kind b (f'.count, s'.count)) is (lowers e flow f s f' s' e.kind refl))
       meets_from e flow (inr (none, zero_count)) before has =
-          let second = way_at p seconds are_seconds.long e.from (inside p script.targets e flow).0 in
+          let second = distance_at p seconds are_seconds.long e.from (inside p script.targets e flow).0 in
           absurd (no_ranks (sym (counts_at e.from 0 second.0 zero_count second.1) ∙ has))
         where
           no_ranks : {r : ℕ × ℕ} → None ≡ Some r → ⊥

@@ -6,15 +6,16 @@
 //! project's own.
 #![tactic(auto)]
 
-mod along;
 mod answer;
 mod counting;
+mod distances;
+mod filter;
 pub mod laws;
+mod loops;
+mod node_set;
+mod reaching;
 pub mod rows;
 mod searching;
-mod spreading;
-mod walking;
-mod ways;
 
 pub use answer::{Form, Found, Walk};
 pub use searching::search;

@@ -4,17 +4,17 @@ ghost use Rattle.std.specs.Prelude.{◌≡◌, IfOk, length, map};
 ghost use Rattle.sedck_cert.specs.Ranked.{Accepts};
 ghost use Rattle.sedck_cert.specs.View.{names_of};
 ghost use Rattle.sedck_search.specs.Found.{IsFound};
-ghost use Rattle.sedck_search.specs.Reaching.{AreCounted};
-ghost use Rattle.sedck_search.specs.Closing.{Closes};
-ghost use Rattle.sedck_search.specs.Ranking.{ranks_from};
+ghost use Rattle.sedck_search.specs.Private.Reaching.{AreCounted};
+ghost use Rattle.sedck_search.specs.Private.Closing.{Closes};
+ghost use Rattle.sedck_search.specs.Private.Ranking.{ranks_from};
 ghost use Rattle.sedck_flow.specs.declared.graph.Edge.{Edge};
 ghost use Rattle.sedck_flow.specs.declared.graph.Kind.TheVariants.{Keep, Grow};
-ghost use Rattle.sedck_search.specs.declared.along.Along.TheVariants.{Kept, Unread};
+ghost use Rattle.sedck_search.specs.declared.filter.EdgeFilter.TheVariants.{Kept, Unread};
 
-use crate::along::Along;
 use crate::answer::{Form, Found};
 use crate::counting::counts_of;
-use crate::walking::{first_closing, loop_from};
+use crate::filter::EdgeFilter;
+use crate::loops::{first_closing, loop_from};
 use sedck_cert::Cert;
 use sedck_flow::Kind;
 use sedck_script::Script;
@@ -27,11 +27,11 @@ use std::alloc::{AllocError, Global};
 pub fn search(alloc: Global, script: &Script) -> Result<Found, AllocError>
     ensures { IfOk result (IsFound script.now) }
 {
-    let seconds = counts_of(alloc, script, Along::Kept)?;
+    let seconds = counts_of(alloc, script, EdgeFilter::Kept)?;
     if let Some(edge) = first_closing(script, Kind::Keep, &seconds) {
         return Ok(Found::Loop(loop_from(alloc, script, Form::Idle, edge)?));
     }
-    let firsts = counts_of(alloc, script, Along::Unread)?;
+    let firsts = counts_of(alloc, script, EdgeFilter::Unread)?;
     if let Some(edge) = first_closing(script, Kind::Grow, &firsts) {
         return Ok(Found::Loop(loop_from(alloc, script, Form::Growing, edge)?));
     }

@@ -5,7 +5,7 @@ use Rattle.std.proofs.lemmas.Option.{same_Some, none-some, slice_get_past}
 use Rattle.sedck_script.specs.Program.{Command}
 use Rattle.sedck_script.specs.View.{command_of}
 use Rattle.sedck_flow.proofs.EdgesLemmas.{read_command}
-use Rattle.sedck_search.specs.OtherSide.{IsLastAlone}
+use Rattle.sedck_search.specs.Private.OtherSide.{IsLastAlone}
 use Rattle.sedck_search.proofs.counting.asks_for_last.Goals as goal
 
 pub loop-command-preserved : goal.loop-command-preserved

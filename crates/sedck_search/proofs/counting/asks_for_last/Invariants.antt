@@ -1,7 +1,7 @@
 use Rattle.std.proofs.Common.{◌≡◌, ◌<◌, ℕ}
 use Rattle.std.specs.Prelude.{Some, slice_get}
 use Rattle.sedck_script.specs.Program.{Command}
-use Rattle.sedck_search.specs.OtherSide.{IsLastAlone}
+use Rattle.sedck_search.specs.Private.OtherSide.{IsLastAlone}
 use Rattle.sedck_search.proofs.counting.asks_for_last.Given as goal
 
 -- none of the commands so far

@@ -1,15 +1,15 @@
 use Rattle.std.proofs.Common.{◌≡◌, sym, ◌∙◌, subst, arith}
 use Rattle.std.specs.Prelude.{set}
 use Rattle.std.proofs.lemmas.Option.{get_or_from_slice_get, same_Some}
-use Rattle.sedck_search.specs.Reaching.{ArePartlyCounted}
-use Rattle.sedck_search.proofs.GoneOver.{entry_is, set_same, set_other}
+use Rattle.sedck_search.specs.Private.Reaching.{ArePartlyCounted}
+use Rattle.sedck_search.proofs.Scans.{entry_is, set_same, set_other}
 use Rattle.sedck_search.proofs.Counts.{counted_set}
 use Rattle.sedck_search.proofs.counting.count_at.Goals as goal
 
 pub returns-then-counts-index-clause-counted : goal.returns-then-counts-index-clause-counted
 returns-then-counts-index-clause-counted c =
-    subst (λ i. ArePartlyCounted c.args.script.now c.args.along (set c.args.counts.now i c.count_node.result)) c.nth.ensures
-    (counted_set c.args.script.now c.args.along c.args.counts.now c.requires.counted c.nth.result
+    subst (λ i. ArePartlyCounted c.args.script.now c.args.filter (set c.args.counts.now i c.count_node.result)) c.nth.ensures
+    (counted_set c.args.script.now c.args.filter c.args.counts.now c.requires.counted c.nth.result
     (omega (arith, c.nth.ensures, c.requires.inside)) c.count_node.result c.count_node.ensures.count c.count_node.ensures.positive c.count_node.ensures.within
     (entry_is c.args.counts.now c.nth.result c.args.index 65535 (sym c.nth.ensures)
     (omega (arith, c.requires.counted.long, c.requires.inside)) c.if-counts-index.true))

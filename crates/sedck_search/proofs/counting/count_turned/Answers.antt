@@ -3,12 +3,12 @@ use Rattle.std.specs.Prelude.{set}
 use Rattle.sedck_flow.specs.Nodes.{node_index, nth_node}
 use Rattle.sedck_flow.specs.declared.graph.Node.{Node}
 use Rattle.sedck_flow.proofs.NodeLemmas.{index-nth, inside_below}
-use Rattle.sedck_search.specs.OtherSide.{turned}
-use Rattle.sedck_search.specs.Reaching.{ArePartlyCounted}
-use Rattle.sedck_search.proofs.RowSets.{count_within}
-use Rattle.sedck_search.proofs.GoneOver.{entry_is}
+use Rattle.sedck_search.specs.Private.OtherSide.{turned}
+use Rattle.sedck_search.specs.Private.Reaching.{ArePartlyCounted}
+use Rattle.sedck_search.proofs.NodeSets.{count_within}
+use Rattle.sedck_search.proofs.Scans.{entry_is}
 use Rattle.sedck_search.proofs.Counts.{counted_is, counted_set}
-use Rattle.sedck_search.proofs.TurnedRows.{turned_count, turned_place}
+use Rattle.sedck_search.proofs.TurnedSets.{turned_count, turned_place}
 use Rattle.sedck_search.proofs.counting.count_turned.Goals as goal
 use Rattle.sedck_search.proofs.counting.count_turned.Goals.{then-count-ne0+then-count+then-counts-step, else-count-ne0}
 
@@ -19,7 +19,7 @@ loop-step-preserved c =
           let p = c.args.script.now in
           let k : ℕ = c.loop-step.step in
           let counts = c.loop-step.counts in
-          let partly : ArePartlyCounted p c.args.along counts = c.loop-step.invariant in
+          let partly : ArePartlyCounted p c.args.filter counts = c.loop-step.invariant in
           let n : Node = nth_node (2 * k) in
           let m : Node = turned n in
           let place : node_index m ≡ 2 * k + 1 = turned_place k in
@@ -28,13 +28,13 @@ loop-step-preserved c =
           let m_inside : m.at ≤ length p.commands = n_inside in
           let count : ℕ = get_or counts (2 * k) 0 in
           let positive : 0 < count = omega (arith, w.if-count-ne0.true) in
-          let is = counted_is p c.args.along counts partly n n_inside count (entry_is counts n (2 * k) count (sym (index-nth (2 * k))) (omega (arith, below)) refl)
+          let is = counted_is p c.args.filter counts partly n n_inside count (entry_is counts n (2 * k) count (sym (index-nth (2 * k))) (omega (arith, below)) refl)
           positive w.if-count.true in
           let within : count ≤ 16384 = omega (arith, count_within is.row is.reach.is_row, is.counts) in
           let marked = entry_is counts m (2 * k + 1) 65535 (sym place) below w.if-counts-step.true in
           rw w.counts-is
-          (subst (λ i. ArePartlyCounted p c.args.along (set counts i count)) place
-          (counted_set p c.args.along counts partly m m_inside count (turned_count p c.requires.never c.args.along c.requires.along n count is) positive within
+          (subst (λ i. ArePartlyCounted p c.args.filter (set counts i count)) place
+          (counted_set p c.args.filter counts partly m m_inside count (turned_count p c.requires.never c.args.filter c.requires.filter n count is) positive within
           marked))
       | else-count-ne0 w ↦ rw w.counts-is c.loop-step.invariant
     ]

@@ -6,20 +6,20 @@ use Rattle.sedck_script.specs.Program.{Program}
 use Rattle.sedck_script.specs.View.{command_of}
 use Rattle.sedck_flow.specs.Nodes.{start, node_index, node_count}
 use Rattle.sedck_flow.specs.declared.graph.Node.{Node}
-use Rattle.sedck_search.specs.declared.along.Along.{Along}
-use Rattle.sedck_search.specs.declared.along.Along.TheVariants.{Every}
+use Rattle.sedck_search.specs.declared.filter.EdgeFilter.{EdgeFilter}
+use Rattle.sedck_search.specs.declared.filter.EdgeFilter.TheVariants.{Every}
 use Rattle.sedck_search.specs.Obstacle.{IsReachable}
-use Rattle.sedck_search.specs.Rows.{has, IsEmpty}
-use Rattle.sedck_search.specs.Reaching.{IsClosed, IsIn, HasCount, HasNoCount, IsUncounted, ArePartlyCounted}
-use Rattle.sedck_search.specs.Spreading.{HasGrown}
+use Rattle.sedck_search.specs.Private.NodeSet.{has, IsEmpty}
+use Rattle.sedck_search.specs.Private.Reaching.{IsClosed, IsIn, HasCount, HasNoCount, IsUncounted, ArePartlyCounted}
+use Rattle.sedck_search.specs.Private.Frontier.{AddsReached}
 use Rattle.sedck_search.proofs.Paths.{closed_reaches, all_followed}
-use Rattle.sedck_search.proofs.GoneOver.{place_in, entries_push}
+use Rattle.sedck_search.proofs.Scans.{place_in, entries_push}
 use Rattle.sedck_search.proofs.counting.mark_reached.Goals as goal
 use Rattle.sedck_search.proofs.counting.mark_reached.Goals.{then-has, else-has}
 
 -- a node is marked exactly where it is reached
-module _ (p : Program) (none half row marks : List ℕ) (empty : IsEmpty none) (closed : IsClosed p Every row) (before : HasGrown p Every (start false) none half)
-    (behind : HasGrown p Every (start true) half row)
+module _ (p : Program) (none half row marks : List ℕ) (empty : IsEmpty none) (closed : IsClosed p Every row) (before : AddsReached p Every (start false) none half)
+    (behind : AddsReached p Every (start true) half row)
     (long : length marks ≡ node_count (length p.commands))
     (entries : (i : ℕ) → i < length marks → slice_get marks i ≡ Some (if has row i then 65535 else 0)) where
   -- both starts are in the row
@@ -27,11 +27,11 @@ module _ (p : Program) (none half row marks : List ℕ) (empty : IsEmpty none) (
   starts false = behind.kept (start false) before.node
   starts true = behind.node
 
-  marked : (along : Along) → ArePartlyCounted p along marks
-  marked along = record { long = long; each = λ n inside. by_bit n inside (has row (node_index n)) refl }
+  marked : (filter : EdgeFilter) → ArePartlyCounted p filter marks
+  marked filter = record { long = long; each = λ n inside. by_bit n inside (has row (node_index n)) refl }
     where
       by_bit : (n : Node) → n.at ≤ length p.commands → (b : Bool) → has row (node_index n) ≡ b
-          → (IsReachable p n × (HasCount p along marks n ⊎ IsUncounted marks n)) ⊎ HasNoCount p marks n
+          → (IsReachable p n × (HasCount p filter marks n ⊎ IsUncounted marks n)) ⊎ HasNoCount p marks n
       by_bit n inside true is = inl (
         elim (behind.reached n is) [
           | inl old ↦ elim (before.reached n old) [
@@ -55,14 +55,14 @@ returns-clause-marks c =
     let inv = c.loop-index.invariant in
     let end : c.loop-index.index ≡ node_count (length c.args.script.now.commands) =
     omega (arith, count, c.loop-index-test.false, c.loop-index.auto.index-end) in
-    marked c.args.script.now c.new-row.result c.spread.new.row c.spread-2.new.row c.loop-index.marks.items c.new-row.ensures.nodes c.spread-2.ensures.closed
-    (rw c.start.ensures at c.spread.ensures.grown) (rw c.start-2.ensures at c.spread-2.ensures.grown) (inv.long ∙ end) (λ i below. inv.entries i (omega (arith, below, inv.long)))
+    marked c.args.script.now c.new-row.result c.add_reached.new.row c.add_reached-2.new.row c.loop-index.marks.items c.new-row.ensures.nodes c.add_reached-2.ensures.closed
+    (rw c.start.ensures at c.add_reached.ensures.grown) (rw c.start-2.ensures at c.add_reached-2.ensures.grown) (inv.long ∙ end) (λ i below. inv.entries i (omega (arith, below, inv.long)))
 
 -- one mark more
 pub loop-index-preserved : goal.loop-index-preserved
 loop-index-preserved c =
     let inv = c.loop-index.invariant in
-    let row = c.spread-2.new.row in
+    let row = c.add_reached-2.new.row in
     let mark : ℕ → ℕ = λ i. if has row i then 65535 else 0 in
     let is : c.if-has.push ≡ mark c.loop-index.index = elim c.if-has.branch [
       | then-has w ↦ w.push-is ∙ ap (λ b. if b then 65535 else 0) (sym w.if-has.true ∙ c.has.ensures.value)

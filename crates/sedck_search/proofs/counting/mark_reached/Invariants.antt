@@ -1,6 +1,6 @@
 use Rattle.std.proofs.Common.{◌≡◌, ℕ, ◌<◌, length}
 use Rattle.std.specs.Prelude.{Some, slice_get, if◌then◌else◌}
-use Rattle.sedck_search.specs.Rows.{has}
+use Rattle.sedck_search.specs.Private.NodeSet.{has}
 use Rattle.sedck_search.proofs.counting.mark_reached.Given as goal
 
 -- the marks so far

@@ -6,9 +6,9 @@ use Rattle.sedck_flow.specs.Nodes.{node_index}
 use Rattle.sedck_flow.specs.Flow.{FlowFrom}
 use Rattle.sedck_flow.specs.declared.graph.Node.{Node}
 use Rattle.sedck_flow.specs.declared.graph.Edge.{Edge}
-use Rattle.sedck_search.specs.Reaching.{IsFollowed, FollowedEdge, IsOnlyTarget}
-use Rattle.sedck_search.specs.declared.along.Along.{Along}
-use Rattle.sedck_search.proofs.GoneOver.{gone_next, gone_over_more, gone_end, edge_coming}
+use Rattle.sedck_search.specs.Private.Reaching.{IsFollowed, FollowedEdge, IsOnlyTarget}
+use Rattle.sedck_search.specs.declared.filter.EdgeFilter.{EdgeFilter}
+use Rattle.sedck_search.proofs.Scans.{scan_next, scan_more, scan_end, edge_coming}
 use Rattle.sedck_search.proofs.counting.only_target.Goals as goal
 
 -- the first followed edge
@@ -16,10 +16,10 @@ pub loop-edge-preserved-in_default-2 : goal.loop-edge-preserved-in_default-2
 loop-edge-preserved-in_default-2 c =
     let p = c.args.script.now in
     let e = c.in-Some.edge in
-    let gone = gone_next p c.args.node c.loop-edge.yielded c.loop-edge.edge-iterator c.next.new.self e c.in-Some.ensures.steps c.loop-edge.invariant.edges in
-    let flow = edge_coming p c.args.node c.loop-edge.yielded c.next.new.self e gone in
+    let scan = scan_next p c.args.node c.loop-edge.yielded c.loop-edge.edge-iterator c.next.new.self e c.in-Some.ensures.steps c.loop-edge.invariant.edges in
+    let flow = edge_coming p c.args.node c.loop-edge.yielded c.next.new.self e scan in
     record {
-      edges = gone_over_more p c.args.node c.loop-edge.yielded c.next.new.self e gone
+      edges = scan_more p c.args.node c.loop-edge.yielded c.next.new.self e scan
           (λ f held followed. absurd (none-some _ (sym c.in_default.is ∙ held followed))) (λ _. ap Some c.index-to.ensures);
       some = λ to is. (e, (flow.0, c.follows.ensures.0 c.if-follows.true), flow.1, sym c.index-to.ensures ∙ same_Some _ _ is);
     }
@@ -29,20 +29,20 @@ pub loop-edge-preserved-in_default : goal.loop-edge-preserved-in_default
 loop-edge-preserved-in_default c =
     let p = c.args.script.now in
     let e = c.in-Some.edge in
-    let gone = gone_next p c.args.node c.loop-edge.yielded c.loop-edge.edge-iterator c.next.new.self e c.in-Some.ensures.steps c.loop-edge.invariant.edges in
-    let flow = edge_coming p c.args.node c.loop-edge.yielded c.next.new.self e gone in
+    let scan = scan_next p c.args.node c.loop-edge.yielded c.loop-edge.edge-iterator c.next.new.self e c.in-Some.ensures.steps c.loop-edge.invariant.edges in
+    let flow = edge_coming p c.args.node c.loop-edge.yielded c.next.new.self e scan in
     let same : Some c.in-Some-only.first ≡ Some c.index-to.result = ap Some c.if-first-to.false in
     record {
-      edges = gone_over_more p c.args.node c.loop-edge.yielded c.next.new.self e gone
+      edges = scan_more p c.args.node c.loop-edge.yielded c.next.new.self e scan
           (λ f held followed. sym same ∙ sym c.in-Some-only.is ∙ held followed) (λ _. ap Some c.index-to.ensures);
       some = λ to is. (e, (flow.0, c.follows.ensures.0 c.if-follows.true), flow.1, sym c.index-to.ensures ∙ same_Some _ _ is);
     }
 
-only_of : (p : Program) (along : Along) (n : Node) (o : Option ℕ)
-    → ((to : ℕ) → o ≡ Some to → (e : Edge) × FollowedEdge p along e × (e.from ≡ n) × (node_index e.to ≡ to))
-    → ((e : Edge) → FlowFrom p n e → IsFollowed along e.kind → o ≡ Some (node_index e.to)) → IfSome o (IsOnlyTarget p along n)
-only_of p along n None some all = tt
-only_of p along n (Some to) some all =
+only_of : (p : Program) (filter : EdgeFilter) (n : Node) (o : Option ℕ)
+    → ((to : ℕ) → o ≡ Some to → (e : Edge) × FollowedEdge p filter e × (e.from ≡ n) × (node_index e.to ≡ to))
+    → ((e : Edge) → FlowFrom p n e → IsFollowed filter e.kind → o ≡ Some (node_index e.to)) → IfSome o (IsOnlyTarget p filter n)
+only_of p filter n None some all = tt
+only_of p filter n (Some to) some all =
     let x = some to refl in
     record {
       edge = x.0;
@@ -55,5 +55,5 @@ only_of p along n (Some to) some all =
 -- behind the last edge all lead to one node
 pub returns : goal.returns
 returns c =
-    only_of c.args.script.now c.args.along c.args.node c.loop-edge.only c.loop-edge.invariant.some
-    (gone_end c.args.script.now c.args.node c.loop-edge.yielded c.loop-edge.edge-iterator c.in-None.ensures.steps.0 c.loop-edge.invariant.edges)
+    only_of c.args.script.now c.args.filter c.args.node c.loop-edge.only c.loop-edge.invariant.some
+    (scan_end c.args.script.now c.args.node c.loop-edge.yielded c.loop-edge.edge-iterator c.in-None.ensures.steps.0 c.loop-edge.invariant.edges)

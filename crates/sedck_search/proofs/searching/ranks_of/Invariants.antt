@@ -1,6 +1,6 @@
 use Rattle.std.proofs.Common.{◌≡◌}
 use Rattle.std.specs.Prelude.{take}
-use Rattle.sedck_search.specs.Ranking.{ranks_from}
+use Rattle.sedck_search.specs.Private.Ranking.{ranks_from}
 use Rattle.sedck_search.proofs.searching.ranks_of.Given as goal
 
 -- the ranks so far

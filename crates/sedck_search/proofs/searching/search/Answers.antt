@@ -1,9 +1,9 @@
 use Rattle.std.proofs.Common.{sym, ◌∙◌, subst}
 use Rattle.sedck_flow.specs.declared.graph.Edge.{Edge}
 use Rattle.sedck_flow.specs.declared.graph.Kind.TheVariants.{Keep, Grow}
-use Rattle.sedck_search.specs.Closing.{Closes, IsFirstClosing}
+use Rattle.sedck_search.specs.Private.Closing.{Closes, IsFirstClosing}
 use Rattle.sedck_search.specs.declared.answer.Form.TheVariants.{Idle, Growing}
-use Rattle.sedck_search.proofs.Loops.{closes_back, idle_loop, growing_loop}
+use Rattle.sedck_search.proofs.ClosedWalks.{closes_back, idle_loop, growing_loop}
 use Rattle.sedck_search.proofs.searching.search.Goals as goal
 
 pub loop_from-requires-clause-closing : goal.loop_from-requires-clause-closing

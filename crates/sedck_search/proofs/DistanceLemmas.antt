@@ -1,0 +1,226 @@
+-- Ways are as long as shortest paths.
+use Rattle.std.proofs.Common.{◌≡◌, ◌≢◌, ◌⊎◌, ℕ, zero, suc, ◌+◌, ◌<◌, ◌≤◌, List, [], ◌∷◌, ◌++◌, length, get_or, Contains, refl, sym, ap, ◌∙◌, subst, subst₂, inl, inr, arith}
+use Rattle.std.specs.Prelude.{Some, slice_get, set, eqb, if◌then◌else◌, Bool, true, false}
+use Rattle.std.proofs.lemmas.List.{length-set}
+use Rattle.std.proofs.lemmas.Bool.{cases_eq, ne_eqb}
+use Rattle.std.proofs.lemmas.Bool.Decides.{eqb_tells}
+use Rattle.std.proofs.lemmas.List.Elements.{Contains-append_right}
+use Rattle.std.proofs.lemmas.Option.{slice_get-get_or, slice_get_within, get_or_from_slice_get, same_Some}
+use Rattle.sedck_script.specs.Invariant.{IsScript}
+use Rattle.sedck_script.specs.Program.{Program}
+use Rattle.sedck_script.proofs.SortedNames.{Contains-cons_cases}
+use Rattle.sedck_flow.specs.Nodes.{node_index, node_count}
+use Rattle.sedck_flow.specs.declared.graph.Node.{Node}
+use Rattle.sedck_flow.specs.declared.graph.Edge.{Edge}
+use Rattle.sedck_flow.specs.declared.graph.Kind.{Kind}
+use Rattle.sedck_flow.proofs.Inside.{inside}
+use Rattle.sedck_flow.proofs.NodeLemmas.{node_same, index_below}
+use Rattle.sedck_search.proofs.Scans.{set_same, set_other}
+use Rattle.sedck_search.specs.Obstacle.{IsPath}
+use Rattle.sedck_search.specs.Private.Reaching.{AreFollowed, FollowedEdge}
+use Rattle.sedck_search.specs.Private.Distances.{HasDistance, HasNeighborWithin, ArePathLengths, AreDistances}
+use Rattle.sedck_search.specs.declared.filter.EdgeFilter.{EdgeFilter}
+
+-- ---- A list with all numbers up to one is longer than it
+
+-- a list without one of its elements
+record IsWithout (x : ℕ) (xs ys : List ℕ) : Type 0 where
+  long : length xs ≡ suc (length ys)
+  others : (v : ℕ) → v ≢ x → Contains xs v → Contains ys v
+
+contains_more : (y : ℕ) (ys : List ℕ) (v : ℕ) → Contains ys v → Contains (y ∷ ys) v
+contains_more y ys v h = Contains-append_right (y ∷ []) ys v h
+
+without_head : (x y : ℕ) (xs : List ℕ) → Contains (y ∷ xs) x → (Contains xs x → (ys : List ℕ) × IsWithout x xs ys) → (x ≡ y) ⊎ (x ≢ y)
+    → (ys : List ℕ) × IsWithout x (y ∷ xs) ys
+without_head x y xs h rest (inl same) = (
+  xs,
+  record {
+    long = refl;
+    others = λ v other c. elim (Contains-cons_cases y xs v c) [ inl is ↦ absurd (other (sym is ∙ sym same)) | inr behind ↦ behind ];
+  },
+)
+without_head x y xs h rest (inr other) = elim (Contains-cons_cases y xs x h) [
+  | inl is ↦ absurd (other (sym is))
+  | inr behind ↦ let less = rest behind in (
+    y ∷ less.0,
+    record {
+      long = ap suc less.1.long;
+      others = λ v differs c. elim (Contains-cons_cases y xs v c) [
+        | inl is ↦ (0, omega arith, is)
+        | inr more ↦ contains_more y less.0 v (less.1.others v differs more)
+      ];
+    },
+  )
+]
+
+without : (x : ℕ) (xs : List ℕ) → Contains xs x → (ys : List ℕ) × IsWithout x xs ys
+without x [] (k, below, is) = absurd (omega (arith, below))
+without x (y ∷ xs) h = without_head x y xs h (without x xs) (cases_eq x y)
+
+pub longer_than_all : (k : ℕ) (xs : List ℕ) → ((v : ℕ) → v ≤ k → Contains xs v) → k < length xs
+longer_than_all zero xs all = let one = all 0 (omega arith) in omega (arith, one.1)
+longer_than_all (suc k) xs all =
+    let less = without (suc k) xs (all (suc k) (omega arith)) in
+    omega (arith, less.1.long, longer_than_all k less.0 (λ v below. less.1.others v (λ is. absurd (omega (arith, below, is))) (all v (omega arith))))
+
+-- ---- Ways
+
+-- each node of the script has a distance or a mark
+pub distance_at : (p : Program) (distances : List ℕ) → length distances ≡ node_count (length p.commands) → (n : Node) → n.at ≤ length p.commands
+    → (distance : ℕ) × HasDistance distances n distance
+distance_at p distances long n inside =
+    let below : node_index n < length distances = omega (arith, long, index_below n (length p.commands) inside) in
+    (get_or distances (node_index n) 0, slice_get-get_or distances (node_index n) 0 below)
+
+pub eqb_same : (n : ℕ) → eqb n n ≡ true
+eqb_same n = elim (eqb_tells n n) [ inl (is, _) ↦ is | inr (_, other) ↦ absurd (other refl) ]
+
+-- the distances before any is shortened: none but that of the node itself
+abbrev pub first_distance : ℕ → ℕ → ℕ
+first_distance to i = if eqb i to then 0 else 65535
+
+first_distance-zero : (to i : ℕ) → first_distance to i ≡ 0 → i ≡ to
+first_distance-zero to i e =
+    elim (cases_eq i to) [ inl same ↦ same | inr other ↦ absurd (omega (arith, sym e ∙ ap (λ b. if b then 0 else 65535) (ne_eqb i to other))) ]
+
+pub some_distances : (p : Program) (filter : EdgeFilter) (to : Node) (distances : List ℕ) → length distances ≡ node_count (length p.commands) → to.at ≤ length p.commands
+    → ((i : ℕ) → i < length distances → slice_get distances i ≡ Some (first_distance (node_index to) i)) → ArePathLengths p filter to distances
+some_distances p filter to distances long to_inside entries = record {
+  long = long;
+  small = λ n distance has. bounded (node_index to) (node_index n) distance (value n distance has);
+  here = entries (node_index to) (omega (arith, long, index_below to (length p.commands) to_inside))
+      ∙ ap Some (ap (λ b. if b then 0 else 65535) (eqb_same (node_index to)));
+  only = λ n has. node_same n to (first_distance-zero (node_index to) (node_index n) (value n 0 has));
+  on = λ n distance has small. absurd (middle (node_index to) (node_index n) distance (value n (suc distance) has) small);
+}
+  where
+    value : (n : Node) (distance : ℕ) → HasDistance distances n distance → first_distance (node_index to) (node_index n) ≡ distance
+    value n distance has = same_Some _ _ (sym (entries (node_index n) (slice_get_within distances (node_index n) distance has)) ∙ has)
+
+    bounded : (to i distance : ℕ) → first_distance to i ≡ distance → distance ≤ 65535
+    bounded to i distance e = by_test (eqb i to) refl
+      where
+        by_test : (b : Bool) → eqb i to ≡ b → distance ≤ 65535
+        by_test true is = omega (arith, sym e ∙ ap (λ b. if b then 0 else 65535) is)
+        by_test false is = omega (arith, sym e ∙ ap (λ b. if b then 0 else 65535) is)
+
+    middle : (to i distance : ℕ) → first_distance to i ≡ suc distance → suc distance < 65535 → ⊥
+    middle to i distance e small = by_test (eqb i to) refl
+      where
+        by_test : (b : Bool) → eqb i to ≡ b → ⊥
+        by_test true is = omega (arith, sym e ∙ ap (λ b. if b then 0 else 65535) is)
+        by_test false is = omega (arith, sym e ∙ ap (λ b. if b then 0 else 65535) is, small)
+
+-- a distance is shortened
+module _ (p : Program) (filter : EdgeFilter) (to : Node) (distances : List ℕ) (h : ArePathLengths p filter to distances) (n : Node) (distance old : ℕ)
+    (was : HasDistance distances n old) (shorter : suc distance < old) (goes : HasNeighborWithin p filter distances n distance) where
+  below : node_index n < length distances
+  below = slice_get_within distances (node_index n) old was
+
+  goes_on_set : (m : Node) (limit : ℕ) → HasNeighborWithin p filter distances m limit → HasNeighborWithin p filter (set distances (node_index n) (suc distance)) m limit
+  goes_on_set m limit g = elim (cases_eq (node_index g.edge.to) (node_index n)) [
+    | inl same ↦
+        let is : g.distance ≡ old = same_Some _ _ (sym g.has_distance ∙ ap (slice_get distances) same ∙ was) in
+        record {
+          edge = g.edge;
+          followed = g.followed;
+          leaves = g.leaves;
+          distance = suc distance;
+          has_distance = ap (slice_get (set distances (node_index n) (suc distance))) same ∙ set_same distances (node_index n) (suc distance) below;
+          nearer = omega (arith, is, shorter, g.nearer);
+        }
+    | inr other ↦ record {
+      edge = g.edge;
+      followed = g.followed;
+      leaves = g.leaves;
+      distance = g.distance;
+      has_distance = set_other distances (node_index n) (node_index g.edge.to) (suc distance) other ∙ g.has_distance;
+      nearer = g.nearer;
+    }
+  ]
+
+  pub distances_set : ArePathLengths p filter to (set distances (node_index n) (suc distance))
+  distances_set = record {
+    long = length-set distances (node_index n) (suc distance) ∙ h.long;
+    small = λ m v has. elim (cases_eq (node_index m) (node_index n)) [
+      | inl same ↦ omega (
+        arith,
+        same_Some _ _ (sym (set_same distances (node_index n) (suc distance) below) ∙ ap (slice_get (set distances (node_index n) (suc distance))) (sym same)
+            ∙ has),
+        shorter,
+        h.small n old was,
+      )
+      | inr other ↦ h.small m v (sym (set_other distances (node_index n) (node_index m) (suc distance) other) ∙ has)
+    ];
+    here = elim (cases_eq (node_index to) (node_index n)) [
+      | inl same ↦ absurd (omega (arith, shorter, same_Some _ _ (sym was ∙ ap (slice_get distances) (sym same) ∙ h.here)))
+      | inr other ↦ set_other distances (node_index n) (node_index to) (suc distance) other ∙ h.here
+    ];
+    only = λ m has. elim (cases_eq (node_index m) (node_index n)) [
+      | inl same ↦ absurd
+          (omega (
+            arith,
+            same_Some _ _ (sym (set_same distances (node_index n) (suc distance) below)
+                ∙ ap (slice_get (set distances (node_index n) (suc distance))) (sym same) ∙ has),
+          ))
+      | inr other ↦ h.only m (sym (set_other distances (node_index n) (node_index m) (suc distance) other) ∙ has)
+    ];
+    on = λ m v has small. elim (cases_eq (node_index m) (node_index n)) [
+      | inl same ↦
+          let is : suc distance ≡ suc v = same_Some _ _ (sym (set_same distances (node_index n) (suc distance) below)
+          ∙ ap (slice_get (set distances (node_index n) (suc distance))) (sym same) ∙ has) in
+          subst₂ (λ k l. HasNeighborWithin p filter (set distances (node_index n) (suc distance)) k l) (sym (node_same m n same)) (let e : distance ≡ v = omega (arith, is) in e)
+          (goes_on_set n distance goes)
+      | inr other ↦ goes_on_set m v (h.on m v (sym (set_other distances (node_index n) (node_index m) (suc distance) other) ∙ has) small)
+    ];
+  }
+
+module _ (p : Program) (script : IsScript p) (filter : EdgeFilter) (to : Node) (distances : List ℕ) (h : AreDistances p filter to distances) where
+  -- the next distance is shorter by one
+  pub next_distance : (n : Node) (distance : ℕ) → HasDistance distances n (suc distance) → suc distance < 65535 → (e : Edge) × FollowedEdge p filter e × (e.from ≡ n) × HasDistance distances e.to distance
+  next_distance n distance has within =
+      let g = h.some.on n distance has within in
+      let same : g.distance ≡ distance = omega (arith, g.nearer, h.settled n g.edge g.followed g.leaves (suc distance) g.distance has g.has_distance) in
+      (g.edge, g.followed, g.leaves, subst (HasDistance distances g.edge.to) same g.has_distance)
+
+  contained : (n : Node) (distance v : ℕ) → HasDistance distances n distance → v ≡ distance → Contains distances v
+  contained n distance v has same =
+      let x : HasDistance distances n v = subst (HasDistance distances n) (sym same) has in
+      (node_index n, slice_get_within distances (node_index n) v x, get_or_from_slice_get distances (node_index n) v v x)
+
+  -- so there are all shorter distances
+  all_below : (d : ℕ) (n : Node) → HasDistance distances n d → d < 65535 → (v : ℕ) → v ≤ d → Contains distances v
+  all_below zero n has within v below = contained n 0 v has (omega (arith, below))
+  all_below (suc d) n has within v below =
+      let next = next_distance n d has within in
+      elim (cases_eq v (suc d)) [
+        | inl same ↦ contained n (suc d) v has same
+        | inr other ↦ all_below d next.0.to next.3 (omega (arith, within)) v (omega (arith, below, other))
+      ]
+
+  -- and none is longer than the list
+  pub distance_below : (n : Node) (distance : ℕ) → HasDistance distances n distance → distance < 65535 → distance < 16384
+  distance_below n distance has within = omega (arith, longer_than_all distance distances (all_below distance n has within), h.some.long, script.count)
+
+  -- a path to the node gives a distance that isn't longer
+  pub distance_least : (path : List (Kind × Node)) (n : Node) → IsPath p n path to → AreFollowed filter path → n.at ≤ length p.commands
+      → (distance : ℕ) × HasDistance distances n distance × (distance ≤ length path) × (distance < 65535)
+  distance_least [] n is followed n_inside = (0, subst (λ k. HasDistance distances k 0) (sym is) h.some.here, omega arith, omega arith)
+  distance_least (edge ∷ path) n is followed n_inside =
+      let e : Edge = record { from = n; to = edge.1; kind = edge.0 } in
+      let next = distance_least path edge.1 is.1 followed.1 (inside p script.targets e is.0).1 in
+      let here = distance_at p distances h.some.long n n_inside in
+      let less : here.0 ≤ suc next.0 = h.settled n e (is.0, followed.0) refl here.0 next.0 here.1 next.1 in
+      (here.0, here.1, omega (arith, less, next.2), omega (arith, less, distance_below edge.1 next.0 next.1 next.3))
+
+-- one more entry
+pub entries_push : (f : ℕ → ℕ) (xs : List ℕ) (i v : ℕ) → length xs ≡ i → ((j : ℕ) → j < i → slice_get xs j ≡ Some (f j)) → v ≡ f i → (j : ℕ)
+    → j < i + 1 → slice_get (xs ++ v ∷ []) j ≡ Some (f j)
+entries_push f [] i v long h is zero below = ap Some (is ∙ ap f (sym long))
+entries_push f [] i v long h is (suc j) below = absurd (omega (arith, long, below))
+entries_push f (x ∷ xs) zero v long h is j below = absurd (omega (arith, long))
+entries_push f (x ∷ xs) (suc i) v long h is zero below = h 0 (omega arith)
+entries_push f (x ∷ xs) (suc i) v long h is (suc j) below =
+    entries_push (λ k. f (suc k)) xs i v (let e : length xs ≡ i = omega (arith, long) in e) (λ k less. h (suc k) (omega (arith, less))) is j
+    (omega (arith, below))

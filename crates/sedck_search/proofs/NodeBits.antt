@@ -1,0 +1,133 @@
+-- A node of a row as a bit of a word.
+use Rattle.std.proofs.Common.{◌≡◌, ◌≢◌, ℕ, zero, suc, ◌+◌, ◌-◌, ◌*◌, ◌/◌, ◌%◌, ◌^◌, ◌<◌, ◌≤◌, Bool, true, false, cond, List, length, set, replicate, inl, inr, refl, sym, ap, ◌∙◌, arith, get_or-set_other, get_or-set_same, length-set}
+use lib.Count.{ones}
+use Rattle.std.specs.Prelude.{slice_index, bit_and, bit_or, ◌==◌}
+use Rattle.std.specs.Int.{bit_at, w64}
+use Rattle.std.proofs.lemmas.Bool.{cases_eq}
+use Rattle.std.proofs.lemmas.Nat.Bits.{bit_at-lt, bit_at-zero, bit_at_set_same, bit_at_set_other, bit_at_clear_same, bit_at_clear_other}
+use Rattle.std.proofs.lemmas.Nat.{or_lt, and_le_l}
+use Rattle.std.proofs.lemmas.List.{get_or_past}
+use Rattle.std.proofs.lemmas.List.Elements.{All-get_or, All-set, All-replicate}
+use Rattle.sedck_search.specs.Rows.{bit_count}
+use Rattle.sedck_search.specs.Private.NodeSet.{has, IsNodeSet, IsEmpty, HasChanged}
+
+abbrev pub bit_of : Bool → ℕ
+bit_of b = cond b 1 0
+
+bit_test : (bit : ℕ) → bit < 2 → bit ≡ bit_of (bit == 1)
+bit_test zero l = refl
+bit_test (suc zero) l = refl
+bit_test (suc (suc bit)) l = absurd (omega arith)
+
+-- bit k of word j is node 64 * j + k
+pub node_bit : (words : List ℕ) (j k : ℕ) → k < 64 → bit_at (slice_index words j) k ≡ bit_of (has words (64 * j + k))
+unfolding has
+node_bit words j k l =
+    let at : (64 * j + k) / 64 ≡ j = omega arith in
+    let low : (64 * j + k) % 64 ≡ k = omega arith in
+    bit_test (bit_at (slice_index words j) k) (bit_at-lt (slice_index words j) k)
+    ∙ sym (ap (λ m. bit_of (bit_at (slice_index words m) ((64 * j + k) % 64) == 1)) at ∙ ap (λ m. bit_of (bit_at (slice_index words j) m == 1)) low)
+
+-- a node by its word and bit
+pub at_node : (words : List ℕ) (i : ℕ) → bit_at (slice_index words (i / 64)) (i % 64) ≡ bit_of (has words i)
+unfolding has
+at_node words i = bit_test (bit_at (slice_index words (i / 64)) (i % 64)) (bit_at-lt (slice_index words (i / 64)) (i % 64))
+
+pub has_by_bit : (words : List ℕ) (i : ℕ) (now : Bool) → bit_at (slice_index words (i / 64)) (i % 64) ≡ bit_of now → has words i ≡ now
+unfolding has
+has_by_bit words i true e = ap (λ m. m == 1) e
+has_by_bit words i false e = ap (λ m. m == 1) e
+
+pub has_at : (words : List ℕ) (j k : ℕ) (now : Bool) → k < 64 → bit_at (slice_index words j) k ≡ bit_of now → has words (64 * j + k) ≡ now
+has_at words j k now l e =
+    let at : (64 * j + k) / 64 ≡ j = omega arith in
+    let low : (64 * j + k) % 64 ≡ k = omega arith in
+    has_by_bit words (64 * j + k) now (ap (λ m. bit_at (slice_index words m) ((64 * j + k) % 64)) at ∙ ap (λ m. bit_at (slice_index words j) m) low ∙ e)
+
+-- no node lies behind the words
+pub none_behind : (words : List ℕ) (i : ℕ) → length words ≤ i / 64 → has words i ≡ false
+none_behind words i l =
+    has_by_bit words i false (ap (λ m. bit_at m (i % 64)) (get_or_past words (i / 64) 0 l) ∙ bit_at-zero (i % 64))
+
+-- ---- One word changes
+
+pub changed_row : (words : List ℕ) (j word : ℕ) → word < 2 ^ 64 → IsNodeSet words → IsNodeSet (set words j word)
+changed_row words j word small row = record {
+  long = omega (arith, length-set words j word, row.long);
+  small = All-set (λ w. w < 2 ^ 64) words j word small row.small;
+}
+
+same_place : (i node : ℕ) → i / 64 ≡ node / 64 → i % 64 ≡ node % 64 → i ≡ node
+same_place i node word bit = omega (arith, word, bit)
+
+-- a word with another bit at the node's place
+pub changed_word : (words : List ℕ) (node word : ℕ) (now : Bool) → node / 64 < length words → bit_at word (node % 64) ≡ bit_of now
+    → ((k : ℕ) → k < 64 → k ≢ node % 64 → bit_at word k ≡ bit_at (slice_index words (node / 64)) k) → HasChanged words (set words (node / 64) word) node now
+changed_word words node word now inside bit kept = record {
+  at = has_by_bit after node now (ap (λ m. bit_at m (node % 64)) (get_or-set_same words (node / 64) word 0 inside) ∙ bit);
+  others = λ i other. has_by_bit after i (has words i) (elim (cases_eq (i / 64) (node / 64)) [
+    | inl same ↦ in_word i other same
+    | inr apart ↦ ap (λ m. bit_at m (i % 64)) (get_or-set_other words (node / 64) (i / 64) word 0 apart) ∙ at_node words i
+  ]);
+}
+  where
+    after : List ℕ
+    after = set words (node / 64) word
+
+    in_word : (i : ℕ) → i ≢ node → i / 64 ≡ node / 64 → bit_at (slice_index after (i / 64)) (i % 64) ≡ bit_of (has words i)
+    in_word i other same =
+        let low : i % 64 < 64 = omega arith in
+        ap (λ j. bit_at (slice_index after j) (i % 64)) same ∙ ap (λ m. bit_at m (i % 64)) (get_or-set_same words (node / 64) word 0 inside)
+        ∙ kept (i % 64) low (λ e. other (same_place i node same e)) ∙ ap (λ j. bit_at (slice_index words j) (i % 64)) (sym same) ∙ at_node words i
+
+pub word_below : (words : List ℕ) → IsNodeSet words → (j : ℕ) → j < 256 → slice_index words j < 2 ^ 64
+word_below words row j l = All-get_or (λ w. w < 2 ^ 64) words j 0 (omega (arith, l, row.long)) row.small
+
+-- the node's word with its bit set
+abbrev pub with_bit : List ℕ → ℕ → ℕ
+with_bit words node = bit_or (slice_index words (node / 64)) (1 * 2 ^ (node % 64) % 2 ^ 64)
+
+pub inserted_row : (words : List ℕ) (node : ℕ) → node < 16384 → IsNodeSet words → IsNodeSet (set words (node / 64) (with_bit words node))
+inserted_row words node l row =
+    let bit : 1 * 2 ^ (node % 64) % 2 ^ 64 < 2 ^ 64 = omega arith in
+    changed_row words (node / 64) (with_bit words node)
+    (or_lt 64 (slice_index words (node / 64)) (1 * 2 ^ (node % 64) % 2 ^ 64) (word_below words row (node / 64) (omega arith)) bit) row
+
+pub inserted : (words : List ℕ) (node : ℕ) → node < 16384 → IsNodeSet words → HasChanged words (set words (node / 64) (with_bit words node)) node true
+inserted words node l row =
+    let low : node % 64 < 64 = omega arith in
+    changed_word words node (with_bit words node) true (omega (arith, row.long)) (bit_at_set_same w64 (slice_index words (node / 64)) (node % 64) low)
+    (λ k _ other. bit_at_set_other w64 (slice_index words (node / 64)) (node % 64) low k other)
+
+-- the node's word with its bit cleared
+abbrev pub without_bit : List ℕ → ℕ → ℕ
+without_bit words node = bit_and (slice_index words (node / 64)) (2 ^ 64 - 1 - 1 * 2 ^ (node % 64) % 2 ^ 64)
+
+pub removed_row : (words : List ℕ) (node : ℕ) → node < 16384 → IsNodeSet words → IsNodeSet (set words (node / 64) (without_bit words node))
+removed_row words node l row =
+    let most = and_le_l (slice_index words (node / 64)) (2 ^ 64 - 1 - 1 * 2 ^ (node % 64) % 2 ^ 64) in
+    let below = word_below words row (node / 64) (omega arith) in
+    changed_row words (node / 64) (without_bit words node) (omega (arith, most, below)) row
+
+pub removed : (words : List ℕ) (node : ℕ) → node < 16384 → IsNodeSet words → HasChanged words (set words (node / 64) (without_bit words node)) node false
+removed words node l row =
+    let low : node % 64 < 64 = omega arith in
+    changed_word words node (without_bit words node) false (omega (arith, row.long)) (bit_at_clear_same w64 (slice_index words (node / 64)) (node % 64) low)
+    (λ k below other. bit_at_clear_other w64 (slice_index words (node / 64)) (node % 64) low k below other)
+
+-- ---- No node
+
+pub empty_row : IsNodeSet (replicate 256 0)
+empty_row = record { long = refl; small = All-replicate (λ w. w < 2 ^ 64) 256 0 (omega arith) }
+
+zero_at : (n j : ℕ) → slice_index (replicate n 0) j ≡ 0
+zero_at zero j = refl
+zero_at (suc n) zero = refl
+zero_at (suc n) (suc j) = zero_at n j
+
+pub empty_nodes : IsEmpty (replicate 256 0)
+empty_nodes node = has_by_bit (replicate 256 0) node false (ap (λ m. bit_at m (node % 64)) (zero_at 256 (node / 64)) ∙ bit_at-zero (node % 64))
+
+pub empty_count : bit_count (replicate 256 0) ≡ 0
+unfolding ones
+empty_count = refl

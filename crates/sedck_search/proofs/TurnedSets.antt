@@ -1,0 +1,196 @@
+-- A row of nodes, each turned to the other side of the last line, has as many nodes.
+use Rattle.std.proofs.Common.{◌≡◌, ◌≢◌, ◌⊎◌, ℕ, zero, suc, ◌+◌, ◌*◌, ◌/◌, ◌<◌, ◌≤◌, Bool, true, false, List, replicate, set, refl, sym, ap, ◌∙◌, subst, inl, inr, arith}
+use Rattle.std.specs.Prelude.{not, ◌%◌, ◌==◌, if◌then◌else◌}
+use Rattle.std.proofs.lemmas.Bool.{cases_eq, cases_lt, true≢false}
+use Rattle.sedck_script.specs.Program.{Program}
+use Rattle.sedck_flow.specs.Nodes.{node_index, nth_node}
+use Rattle.sedck_flow.specs.declared.graph.Node.{Node}
+use Rattle.sedck_flow.proofs.NodeLemmas.{node_same, index-nth, parts-nth}
+use Rattle.sedck_search.specs.Rows.{bit_count}
+use Rattle.sedck_search.specs.Private.NodeSet.{has, IsNodeSet, HasChanged}
+use Rattle.sedck_search.specs.Private.OtherSide.{turned, AsksNotForLast}
+use Rattle.sedck_search.specs.Private.Reaching.{IsIn, Reaches, IsReachCount}
+use Rattle.sedck_search.specs.declared.filter.EdgeFilter.{EdgeFilter}
+use Rattle.sedck_search.specs.declared.filter.EdgeFilter.TheVariants.{Every}
+use Rattle.sedck_search.proofs.NodeBits.{inserted, inserted_row, with_bit, bit_of, empty_row, empty_nodes, empty_count}
+use Rattle.sedck_search.proofs.NodeSets.{fewer_or_same, inserted_count, node_inside}
+use Rattle.sedck_search.proofs.OtherSide.{reaches_turned}
+
+-- ---- A row of the numbers that pass a test
+
+-- how many numbers below n pass the test
+pub counted : (ℕ → Bool) → ℕ → ℕ
+counted test zero = 0
+counted test (suc n) = bit_of (test n) + counted test n
+
+record IsRowOf (test : ℕ → Bool) (n : ℕ) (row : List ℕ) : Type 0 where
+  is_row : IsNodeSet row
+  below : (i : ℕ) → has row i ≡ true → (i < n) × (test i ≡ true)
+  passes : (i : ℕ) → i < n → test i ≡ true → has row i ≡ true
+  counts : bit_count row ≡ counted test n
+
+not_both : {b : Bool} → b ≡ true → b ≡ false → ⊥
+not_both h k = true≢false (sym h ∙ k)
+
+less_or_same : (i n : ℕ) → i < suc n → (i < n) ⊎ (i ≡ n)
+less_or_same i n below = elim (cases_lt i n) [ inl less ↦ inl less | inr more ↦ inr (omega (arith, below, more)) ]
+
+none_of : (test : ℕ → Bool) → IsRowOf test zero (replicate 256 0)
+unfolding counted
+none_of test = record {
+  is_row = empty_row;
+  below = λ i h. absurd (not_both h (empty_nodes i));
+  passes = λ i less _. absurd (omega (arith, less));
+  counts = empty_count;
+}
+
+-- one number more, which doesn't pass
+without : (test : ℕ → Bool) (n : ℕ) (row : List ℕ) → IsRowOf test n row → test n ≡ false → IsRowOf test (suc n) row
+unfolding counted
+without test n row h fails = record {
+  is_row = h.is_row;
+  below = λ i x. (omega (arith, (h.below i x).0), (h.below i x).1);
+  passes = λ i less passes. elim (less_or_same i n less) [
+    | inl below ↦ h.passes i below passes
+    | inr same ↦ absurd (not_both passes (ap test same ∙ fails))
+  ];
+  counts = omega (arith, h.counts, ap bit_of fails);
+}
+
+-- or one that does
+module _ (test : ℕ → Bool) (n : ℕ) (row : List ℕ) (h : IsRowOf test n row) (passed : test n ≡ true) (inside : n < 16384) where
+  abbrev more : List ℕ
+  more = set row (n / 64) (with_bit row n)
+
+  is_more : IsNodeSet more
+  is_more = inserted_row row n inside h.is_row
+
+  changed : HasChanged row more n true
+  changed = inserted row n inside h.is_row
+
+  absent : (b : Bool) → has row n ≡ b → has row n ≡ false
+  absent false e = e
+  absent true e = absurd (omega (arith, (h.below n e).0))
+
+  with_number : IsRowOf test (suc n) more
+  unfolding counted
+  with_number = record {
+    is_row = is_more;
+    below = λ i x. elim (cases_eq i n) [
+      | inl same ↦ (omega (arith, same), ap test same ∙ passed)
+      | inr other ↦ let old = h.below i (sym (changed.others i other) ∙ x) in (omega (arith, old.0), old.1)
+    ];
+    passes = λ i less passes. elim (less_or_same i n less) [
+      | inl below ↦ changed.others i (λ same. omega (arith, below, same)) ∙ h.passes i below passes
+      | inr same ↦ ap (has more) same ∙ changed.at
+    ];
+    counts = omega (arith, h.counts, ap bit_of passed, inserted_count row more h.is_row is_more n changed (absent (has row n) refl));
+  }
+
+row_of : (test : ℕ → Bool) (n : ℕ) → n ≤ 16384 → (row : List ℕ) × IsRowOf test n row
+row_of test zero within = (replicate 256 0, none_of test)
+row_of test (suc n) within = by_test (row_of test n (omega (arith, within))) (test n) refl
+  where
+    by_test : (row : List ℕ) × IsRowOf test n row → (b : Bool) → test n ≡ b → (row : List ℕ) × IsRowOf test (suc n) row
+    by_test row false fails = (row.0, without test n row.0 row.1 fails)
+    by_test row true passes = (more test n row.0 row.1 passes (omega (arith, within)), with_number test n row.0 row.1 passes (omega (arith, within)))
+
+-- a row counts the numbers that it has
+row_counts : (a : List ℕ) → IsNodeSet a → bit_count a ≡ counted (has a) 16384
+row_counts a is_row =
+    let r = row_of (has a) 16384 (omega arith) in
+    let fewer = fewer_or_same r.0 a r.1.is_row is_row (λ i x. (r.1.below i x).1) in
+    let more = fewer_or_same a r.0 is_row r.1.is_row (λ i x. let inside = node_inside a is_row i x in r.1.passes i (omega (arith, inside)) x) in
+    omega (arith, fewer, more, r.1.counts)
+
+-- ---- Turned nodes
+
+turned_index : ℕ → ℕ
+turned_index i = node_index (turned (nth_node i))
+
+last_bit : (i : ℕ) → (if i % 2 == 1 then 1 else 0) ≡ i % 2
+last_bit i = (parts-nth (nth_node i) i (index-nth i)).2
+
+other_bit : (b : Bool) → (if not b then 1 else 0) + (if b then 1 else 0) ≡ 1
+other_bit true = refl
+other_bit false = refl
+
+turned_is : (i : ℕ) → turned_index i + 2 * (i % 2) ≡ i + 1
+unfolding turned_index
+turned_is i = omega (arith, index-nth i, last_bit i, other_bit (i % 2 == 1))
+
+turned_at : (n : Node) → turned_index (node_index n) ≡ node_index (turned n)
+unfolding turned_index
+turned_at n = ap (λ m. node_index (turned m)) (node_same (nth_node (node_index n)) n (index-nth (node_index n)))
+
+not_not : (b : Bool) → not (not b) ≡ b
+not_not true = refl
+not_not false = refl
+
+turned_twice : (n : Node) → turned (turned n) ≡ n
+turned_twice n = ap (λ last. record n { last = last }) (not_not n.last)
+
+-- two at a time, as many pass
+double : ℕ → ℕ
+double zero = zero
+double (suc k) = suc (suc (double k))
+
+double_is : (k : ℕ) → double k ≡ 2 * k
+unfolding double
+double_is zero = refl
+double_is (suc k) = omega (arith, double_is k)
+
+turned_counts : (test : ℕ → Bool) (k : ℕ) → counted (λ i. test (turned_index i)) (double k) ≡ counted test (double k)
+unfolding counted double
+turned_counts test zero = refl
+turned_counts test (suc k) =
+    let even : turned_index (double k) ≡ suc (double k) = omega (arith, turned_is (double k), double_is k) in
+    let odd : turned_index (suc (double k)) ≡ double k = omega (arith, turned_is (suc (double k)), double_is k) in
+    omega (
+      arith,
+      ap (λ i. bit_of (test i)) even,
+      ap (λ i. bit_of (test i)) odd,
+      turned_counts test k,
+    )
+
+pub turned_place : (k : ℕ) → node_index (turned (nth_node (2 * k))) ≡ 2 * k + 1
+unfolding turned_index
+turned_place k = let is : turned_index (2 * k) ≡ 2 * k + 1 = omega (arith, turned_is (2 * k)) in is
+
+-- ---- What a turned node reaches
+
+pub turned_count : (p : Program) → AsksNotForLast p → (filter : EdgeFilter) → filter ≢ Every → (n : Node) (count : ℕ) → IsReachCount p filter n count
+    → IsReachCount p filter (turned n) count
+turned_count p never filter other n count x = record {
+  row = r.0;
+  reach = record { is_row = r.1.is_row; same = λ m. (forth m, back m) };
+  counts = r.1.counts ∙ same_counts ∙ sym (row_counts x.row x.reach.is_row) ∙ x.counts;
+}
+  where
+    test : ℕ → Bool
+    test i = has x.row (turned_index i)
+
+    r : (row : List ℕ) × IsRowOf test 16384 row
+    r = row_of test 16384 (omega arith)
+
+    same_counts : counted test 16384 ≡ counted (has x.row) 16384
+    same_counts = subst (λ k. counted test k ≡ counted (has x.row) k) (double_is 8192) (turned_counts (has x.row) 8192)
+
+    test_at : (m : Node) → test (node_index m) ≡ has x.row (node_index (turned m))
+    test_at m = ap (has x.row) (turned_at m)
+
+    forth : (m : Node) → IsIn r.0 m → Reaches p filter (turned n) m
+    forth m in_row =
+        let to = (x.reach.same (turned m)).0 (sym (test_at m) ∙ (r.1.below (node_index m) in_row).1) in
+        subst (Reaches p filter (turned n)) (turned_twice m) (reaches_turned p never filter other n (turned m) to)
+
+    back : (m : Node) → Reaches p filter (turned n) m → IsIn r.0 m
+    back m to =
+        let from = subst (λ k. Reaches p filter k (turned m)) (turned_twice n) (reaches_turned p never filter other (turned n) m to) in
+        let has_turned = (x.reach.same (turned m)).1 from in
+        let inside = node_inside x.row x.reach.is_row (node_index (turned m)) has_turned in
+        let near : node_index m ≤ node_index (turned m) + 1 = omega (arith, turned_at m, turned_is (node_index m)) in
+        r.1.passes (node_index m) (below_row (node_index m) (node_index (turned m)) (turned_at m) inside) (test_at m ∙ has_turned)
+      where
+        below_row : (i j : ℕ) → turned_index i ≡ j → j / 64 < 256 → i < 16384
+        below_row i j is inside = omega (arith, is, inside, turned_is i)

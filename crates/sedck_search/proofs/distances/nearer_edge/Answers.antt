@@ -1,0 +1,64 @@
+use Rattle.std.proofs.Common.{◌<◌, length, sym, ◌∙◌, arith}
+use Rattle.std.proofs.lemmas.Bool.{true≢false}
+use Rattle.sedck_search.proofs.Scans.{scan_next, scan_more, scan_end, edge_coming, target_coming, place_in, entry_is, entry_of}
+use Rattle.sedck_search.proofs.distances.nearer_edge.Goals.{else-follows-via-then-follows+else-distances-index, else-follows-via-else-follows}
+use Rattle.sedck_search.proofs.distances.nearer_edge.Goals as goal
+
+pub bounds-distances-index : goal.bounds-distances-index
+bounds-distances-index c =
+    let p = c.args.script.now in
+    let scan = scan_next p c.args.node c.loop-edge.yielded c.loop-edge.edge-iterator c.next.new.self c.in-Some.edge c.in-Some.ensures.steps
+    c.loop-edge.invariant in
+    omega (
+      arith,
+      c.index.ensures,
+      place_in p c.args.distances.now c.requires.long c.in-Some.edge.to
+          (target_coming p c.args.node c.requires.script c.loop-edge.yielded c.next.new.self c.in-Some.edge scan),
+    )
+
+pub returns-then-distances-index-clause-followed : goal.returns-then-distances-index-clause-followed
+returns-then-distances-index-clause-followed c =
+    let p = c.args.script.now in
+    let scan = scan_next p c.args.node c.loop-edge.yielded c.loop-edge.edge-iterator c.next.new.self c.in-Some.edge c.in-Some.ensures.steps
+    c.loop-edge.invariant in
+    ((edge_coming p c.args.node c.loop-edge.yielded c.next.new.self c.in-Some.edge scan).0, c.follows.ensures.0 c.if-follows.true)
+
+pub returns-then-distances-index-clause-leaves : goal.returns-then-distances-index-clause-leaves
+returns-then-distances-index-clause-leaves c =
+    let p = c.args.script.now in
+    let scan = scan_next p c.args.node c.loop-edge.yielded c.loop-edge.edge-iterator c.next.new.self c.in-Some.edge c.in-Some.ensures.steps
+    c.loop-edge.invariant in
+    (edge_coming p c.args.node c.loop-edge.yielded c.next.new.self c.in-Some.edge scan).1
+
+pub returns-then-distances-index-clause-distance : goal.returns-then-distances-index-clause-distance
+returns-then-distances-index-clause-distance c =
+    let p = c.args.script.now in
+    let scan = scan_next p c.args.node c.loop-edge.yielded c.loop-edge.edge-iterator c.next.new.self c.in-Some.edge c.in-Some.ensures.steps
+    c.loop-edge.invariant in
+    let below : c.index.result < length c.args.distances.now =
+    omega (
+      arith,
+      c.index.ensures,
+      place_in p c.args.distances.now c.requires.long c.in-Some.edge.to
+          (target_coming p c.args.node c.requires.script c.loop-edge.yielded c.next.new.self c.in-Some.edge scan),
+    ) in
+    entry_is c.args.distances.now c.in-Some.edge.to c.index.result c.args.distance c.index.ensures below c.if-distances-index.true
+
+-- this edge isn't such a one
+pub loop-edge-preserved : goal.loop-edge-preserved
+loop-edge-preserved c =
+    let p = c.args.script.now in
+    let scan = scan_next p c.args.node c.loop-edge.yielded c.loop-edge.edge-iterator c.next.new.self c.in-Some.edge c.in-Some.ensures.steps
+    c.loop-edge.invariant in
+    scan_more p c.args.node c.loop-edge.yielded c.next.new.self c.in-Some.edge scan (λ f h. h) (λ followed has. elim c.else-follows.branch [
+      | else-follows-via-then-follows+else-distances-index w ↦ w.if-distances-index.false
+          (entry_of c.args.distances.now c.in-Some.edge.to w.index.result c.args.distance w.index.ensures has)
+      | else-follows-via-else-follows w ↦ absurd (true≢false (sym (c.follows.ensures.1 followed) ∙ w.if-follows.false))
+    ])
+
+-- there is such an edge
+pub unreachable-requires : goal.unreachable-requires
+unreachable-requires c =
+    let some = c.requires.some in
+    scan_end c.args.script.now c.args.node c.loop-edge.yielded c.loop-edge.edge-iterator c.in-None.ensures.steps.0 c.loop-edge.invariant some.0
+    (some.1.0, some.2) some.1.1 some.3

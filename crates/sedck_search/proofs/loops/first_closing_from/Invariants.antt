@@ -1,0 +1,7 @@
+use Rattle.sedck_search.specs.Private.Closing.{Closes}
+use Rattle.sedck_search.proofs.Scans.{AreScanned}
+use Rattle.sedck_search.proofs.loops.first_closing_from.Given as goal
+
+-- none of the edges so far closes a walk
+abbrev pub invariant-loop-edge : goal.invariant-loop-edge
+invariant-loop-edge l = AreScanned l.script l.fn.node l.yielded l.edge-iterator (λ e. ¬ Closes l.script l.fn.kind l.counts e)

@@ -1,0 +1,82 @@
+use Rattle.std.proofs.Common.{◌≡◌, ◌<◌, ◌+◌, ◌-◌, ℕ, suc, [], ◌∷◌, ◌++◌, refl, sym, ap, ◌∙◌, subst, subst₂, arith}
+use Rattle.std.specs.Prelude.{slice_get}
+use Rattle.std.proofs.lemmas.Option.{get_or_from_slice_get}
+use Rattle.sedck_flow.specs.declared.graph.Edge.{Edge}
+use Rattle.sedck_search.specs.Private.Distances.{HasDistance, AreDistances}
+use Rattle.sedck_search.specs.Private.ShortestLoop.{IsNearest}
+use Rattle.sedck_search.proofs.DistanceLemmas.{next_distance}
+use Rattle.sedck_search.proofs.ShortestLoops.{IsWalking, walking_begins, walking_goes_on, near_small, shortest_loop}
+use Rattle.sedck_search.proofs.loops.loop_from.Goals as goal
+
+pub loop-step-init : goal.loop-step-init
+loop-step-init c =
+    let p = c.args.script.now in
+    let distances = c.in_ok-distances.distances.items in
+    let first : Edge = c.nearest-first.result in
+    let near = subst (λ w. IsNearest p w c.args.closing first) c.deref.ensures.value c.nearest-first.ensures in
+    let distance : c.index-distance.result.now ≡ near.distance = c.index-distance.ensures
+    ∙ get_or_from_slice_get distances c.index.result near.distance c.index-distance.result.now (ap (slice_get distances) c.index.ensures ∙ near.has_distance) in
+    let nodes : c.push-2.new.self.items ≡ first.from ∷ first.to ∷ [] = c.in_ok-push-2.ensures.items
+    ∙ ap (λ l. l ++ first.to ∷ []) (c.in_ok-push.ensures.items ∙ ap (λ l. l ++ first.from ∷ []) c.new-nodes.ensures.items) in
+    let kinds : c.push-3.new.self.items ≡ first.kind ∷ [] = c.in_ok-push-3.ensures.items ∙ ap (λ l. l ++ first.kind ∷ []) c.new-kinds.ensures.items in
+    record {
+      first = first;
+      near = near;
+      distance = distance;
+      walking = subst₂ (λ n k. IsWalking p c.back_filter-filter.result distances first n k first.to 0 (c.index-distance.result.now - 0)) (sym nodes) (sym kinds)
+          (walking_begins p c.requires.script c.back_filter-filter.result distances first near.is_edge (c.index-distance.result.now - 0)
+          (subst (HasDistance distances first.to) (let e : near.distance ≡ c.index-distance.result.now - 0 = omega (arith, distance) in e) near.has_distance));
+    }
+
+pub nearer_edge-edge-requires-clause-inside : goal.nearer_edge-edge-requires-clause-inside
+nearer_edge-edge-requires-clause-inside c = c.loop-step.invariant.walking.inside
+
+-- the distance is left by one edge more
+pub nearer_edge-edge-requires-clause-some : goal.nearer_edge-edge-requires-clause-some
+nearer_edge-edge-requires-clause-some c =
+    let p = c.args.script.now in
+    let distances = c.in_ok-distances.distances.items in
+    let inv = c.loop-step.invariant in
+    let left : ℕ = c.index-distance.result.now - 1 - c.loop-step.step in
+    let same : c.index-distance.result.now - c.loop-step.step ≡ suc left = omega (arith, c.loop-step-test.true) in
+    let are_distances = subst (λ a. AreDistances p a c.args.closing.from distances) c.back_filter-filter.ensures c.in_ok-distances.ensures in
+    let small : suc left < 65535 =
+    omega (arith, near_small p c.requires.script c.args.form c.args.closing inv.first distances are_distances c.requires.closing inv.near, inv.distance) in
+    let next = next_distance p c.requires.script c.back_filter-filter.result c.args.closing.from distances c.in_ok-distances.ensures c.loop-step.at left
+    (subst (HasDistance distances c.loop-step.at) same inv.walking.has_distance) small in
+    (next.0, next.1, next.2, subst (λ w. HasDistance w next.0.to left) (sym c.deref-in-loop-step.ensures.value) next.3)
+
+pub loop-step-preserved : goal.loop-step-preserved
+loop-step-preserved c =
+    let p = c.args.script.now in
+    let distances = c.in_ok-distances.distances.items in
+    let inv = c.loop-step.invariant in
+    let e : Edge = c.nearer_edge-edge.result in
+    let left : ℕ = c.index-distance.result.now - 1 - c.loop-step.step in
+    let same : left ≡ c.index-distance.result.now - (c.loop-step.step + 1) = omega (arith, c.loop-step-test.true) in
+    let has = subst (HasDistance distances e.to) same (subst (λ w. HasDistance w e.to left) c.deref-in-loop-step.ensures.value c.nearer_edge-edge.ensures.distance) in
+    record {
+      first = inv.first;
+      near = inv.near;
+      distance = inv.distance;
+      walking = subst₂ (λ n k. IsWalking p c.back_filter-filter.result distances inv.first n k e.to (c.loop-step.step + 1)
+          (c.index-distance.result.now - (c.loop-step.step + 1))) (sym c.in_ok-push-4.ensures.items) (sym c.in_ok-push-5.ensures.items)
+          (walking_goes_on p c.requires.script c.back_filter-filter.result distances inv.first c.loop-step.nodes.items c.loop-step.kinds.items c.loop-step.at
+          c.loop-step.step (c.index-distance.result.now - c.loop-step.step)
+          (c.index-distance.result.now - (c.loop-step.step + 1)) e inv.walking c.nearer_edge-edge.ensures.followed c.nearer_edge-edge.ensures.leaves has);
+    }
+
+-- the distance is scan
+pub returns : goal.returns
+returns c =
+    let p = c.args.script.now in
+    let distances = c.in_ok-distances.distances.items in
+    let inv = c.loop-step.invariant in
+    let none : c.index-distance.result.now - c.loop-step.step ≡ 0 = omega (arith, c.loop-step-test.false) in
+    let scan : c.loop-step.step ≡ inv.near.distance = omega (arith, c.loop-step-test.false, c.loop-step.auto.step-end, inv.distance) in
+    let walking =
+    subst₂ (λ a l. IsWalking p a distances inv.first c.loop-step.nodes.items c.loop-step.kinds.items c.loop-step.at c.loop-step.step l)
+    c.back_filter-filter.ensures none inv.walking in
+    shortest_loop p c.requires.script c.args.form c.args.closing inv.first distances c.loop-step.nodes.items c.loop-step.kinds.items c.loop-step.at c.loop-step.step
+    (record { nodes = c.loop-step.nodes; kinds = c.loop-step.kinds; form = c.args.form })
+    (subst (λ a. AreDistances p a c.args.closing.from distances) c.back_filter-filter.ensures c.in_ok-distances.ensures) c.requires.closing inv.near walking scan refl refl refl

@@ -1,0 +1,14 @@
+use Rattle.std.proofs.Common.{◌≡◌, ◌-◌}
+use Rattle.sedck_flow.specs.declared.graph.Edge.{Edge}
+use Rattle.sedck_search.specs.Private.ShortestLoop.{IsNearest}
+use Rattle.sedck_search.proofs.ShortestLoops.{IsWalking}
+use Rattle.sedck_search.proofs.loops.loop_from.Given as goal
+
+-- the walk so far, and how far it is to its node
+abbrev pub invariant-loop-step : goal.invariant-loop-step
+invariant-loop-step l = record {
+  first : Edge;
+  near : IsNearest l.script l.distances.items l.fn.closing first;
+  distance : l.distance ≡ near.distance;
+  walking : IsWalking l.script l.filter l.distances.items first l.nodes.items l.kinds.items l.at l.step (l.distance - l.step);
+}

@@ -1,6 +1,0 @@
-use Rattle.std.proofs.Common.{◌≡◌, ℕ, ◌*◌, ◌<◌, ◌≤◌, false}
-use Rattle.sedck_search.specs.Rows.{has}
-use Rattle.sedck_search.proofs.rows.Row.next_from.Given as goal
-
-abbrev pub invariant-loop-at : goal.invariant-loop-at
-invariant-loop-at l = (i : ℕ) → l.from ≤ i → i < 64 * l.at → has l.self i ≡ false

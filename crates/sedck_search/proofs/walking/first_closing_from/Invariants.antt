@@ -1,7 +1,0 @@
-use Rattle.sedck_search.specs.Closing.{Closes}
-use Rattle.sedck_search.proofs.GoneOver.{AreGoneOver}
-use Rattle.sedck_search.proofs.walking.first_closing_from.Given as goal
-
--- none of the edges so far closes a walk
-abbrev pub invariant-loop-edge : goal.invariant-loop-edge
-invariant-loop-edge l = AreGoneOver l.script l.fn.node l.yielded l.edge-iterator (λ e. ¬ Closes l.script l.fn.kind l.counts e)

@@ -1,0 +1,121 @@
+//! How far it is from each node to one of them.
+
+ghost use Rattle.std.specs.Prelude.{◌≡◌, ◌≢◌, ℕ, suc, true, false, ◌+◌, ◌*◌, ◌<◌, ◌≤◌, length, slice_get, IfOk};
+ghost use Rattle.sedck_script.specs.Invariant.{IsScript};
+ghost use Rattle.sedck_flow.specs.Nodes.{node_index, node_count};
+ghost use Rattle.sedck_flow.specs.declared.graph.Edge.{Edge};
+ghost use Rattle.sedck_flow.specs.declared.graph.Node.{Node};
+ghost use Rattle.sedck_search.specs.Private.Reaching.{FollowedEdge};
+ghost use Rattle.sedck_search.specs.Private.Distances.{ArePathLengths, AreDistances, HasNeighborWithin, HasDistance, IsSettled, total};
+
+use crate::filter::EdgeFilter;
+use sedck_flow::{Edge, Node, edges_of, node_count};
+use sedck_script::Script;
+use std::alloc::{AllocError, Global};
+
+/// The mark of a node without a distance: more than any distance.
+const NONE: u16 = u16::MAX;
+
+/// How many followed edges it takes at least from each node to this one.
+pub(crate) fn distances_to(
+    alloc: Global,
+    script: &Script,
+    filter: EdgeFilter,
+    to: Node,
+) -> Result<Vec<u16>, AllocError>
+    requires script { IsScript script.now }
+    requires inside { to.at ≤ length script.now.commands }
+    ensures { IfOk result (λ distances. AreDistances script.now filter to distances.items) }
+{
+    let mut distances = Vec::new(alloc);
+    for index in 0..node_count(script.commands().len()) {
+        distances.push(if index == to.index() { 0 } else { NONE })?;
+    }
+    while relax_all(script, filter, to, &mut distances) {}
+    Ok(distances)
+}
+
+/// Shortens the distance of each node by the nodes that its edges lead to, from the last node on. It answers whether
+/// any is shorter now. `_to` is there for the contract alone: the node that the distances lead to.
+fn relax_all(script: &Script, filter: EdgeFilter, _to: Node, distances: &mut [u16]) -> bool
+    requires script { IsScript script.now }
+    requires some { ArePathLengths script.now filter _to distances.old }
+    ensures some { ArePathLengths script.now filter _to distances.new }
+    ensures shorter { result ≡ true → total distances.new < total distances.old }
+    ensures settled { result ≡ false → (n : Node) → IsSettled script.now filter distances.new n }
+{
+    let mut shorter = false;
+    for step in 0..distances.len() {
+        let index = distances.len() - 1 - step;
+        if relax_at(script, filter, _to, index, distances) {
+            shorter = true;
+        }
+    }
+    shorter
+}
+
+/// Shortens the distance of the node with the place, and answers whether it is shorter now.
+/// `_to` is there for the contract alone.
+fn relax_at(
+    script: &Script,
+    filter: EdgeFilter,
+    _to: Node,
+    index: usize,
+    distances: &mut [u16],
+) -> bool
+    requires script { IsScript script.now }
+    requires inside { index < node_count (length script.now.commands) }
+    requires some { ArePathLengths script.now filter _to distances.old }
+    ensures some { ArePathLengths script.now filter _to distances.new }
+    ensures shorter { result ≡ true → total distances.new < total distances.old }
+    ensures same { result ≡ false → distances.new ≡ distances.old }
+    ensures settled { result ≡ false → (n : Node) → node_index n ≡ index → IsSettled script.now filter distances.old n }
+{
+    let distance = relaxed(script, filter, Node::nth(index), distances);
+    if distance >= distances[index] {
+        return false;
+    }
+    distances[index] = distance;
+    true
+}
+
+/// The shortest distance from the node that its edges give.
+fn relaxed(script: &Script, filter: EdgeFilter, node: Node, distances: &[u16]) -> u16
+    requires script { IsScript script.now }
+    requires inside { node.at ≤ length script.now.commands }
+    requires long { length distances.now ≡ node_count (length script.now.commands) }
+    ensures least { (e : Edge) → FollowedEdge script.now filter e → e.from ≡ node → (after : ℕ) → HasDistance distances.now e.to after → result ≤ suc after }
+    ensures some { result < 65535 → (distance : ℕ) × (result ≡ suc distance) × HasNeighborWithin script.now filter distances.now node distance }
+{
+    let mut least = NONE;
+    for edge in edges_of(script, node) {
+        if filter.follows(edge.kind) {
+            least = least.min(distances[edge.to.index()].saturating_add(1));
+        }
+    }
+    least
+}
+
+/// The first followed edge from the node to one from which the distance is so long.
+pub(crate) fn nearer_edge(
+    script: &Script,
+    filter: EdgeFilter,
+    node: Node,
+    distance: u16,
+    distances: &[u16],
+) -> Edge
+    requires script { IsScript script.now }
+    requires inside { node.at ≤ length script.now.commands }
+    requires long { length distances.now ≡ node_count (length script.now.commands) }
+    requires some { (e : Edge) × FollowedEdge script.now filter e × (e.from ≡ node) × HasDistance distances.now e.to distance }
+    ensures followed { FollowedEdge script.now filter result }
+    ensures leaves { result.from ≡ node }
+    ensures distance { HasDistance distances.now result.to distance }
+{
+    for edge in edges_of(script, node) {
+        if filter.follows(edge.kind) && distances[edge.to.index()] == distance {
+            return edge;
+        }
+    }
+    unreachable!()
+}

@@ -1,0 +1,30 @@
+//! Which edges are followed.
+
+ghost use Rattle.std.specs.Prelude.{◌↔◌, IsTrue};
+ghost use Rattle.sedck_search.specs.Private.Reaching.{IsFollowed};
+
+use sedck_flow::Kind;
+
+/// Which edges are followed from node to node.
+#[derive(Clone, Copy, Debug, PartialEq, Eq)]
+pub(crate) enum EdgeFilter {
+    /// Those of every kind.
+    Every,
+    /// Those on which no line is read.
+    Unread,
+    /// Those on which the pattern space is kept.
+    Kept,
+}
+
+impl EdgeFilter {
+    /// Whether edges of the kind are followed.
+    pub(crate) fn follows(self, kind: Kind) -> bool
+        ensures { IsTrue result ↔ IsFollowed self kind }
+    {
+        match self {
+            EdgeFilter::Every => true,
+            EdgeFilter::Unread => kind != Kind::Consume,
+            EdgeFilter::Kept => kind == Kind::Keep,
+        }
+    }
+}

@@ -1,0 +1,122 @@
+//! Sets of nodes, one bit a node.
+
+ghost use Rattle.std.specs.Prelude.{◌≡◌, ◌<◌, ◌≤◌, true, false, not, length, MatchOption};
+ghost use Rattle.sedck_search.specs.Rows.{bit_count};
+ghost use Rattle.sedck_search.specs.Private.NodeSet.{has, IsNodeSet, IsEmpty, HasChanged, HasNoneFrom, IsNext};
+
+use crate::rows::count_bits;
+use std::marker::Model;
+
+/// A set of nodes, one bit a node: those of 4,095 commands and the script's end, four each. It knows how many nodes it has.
+#[derive(Drop)]
+pub(crate) struct NodeSet {
+    words: [u64; 256],
+    count: usize,
+}
+
+impl Model for NodeSet {
+    ghost use Rattle.std.specs.Prelude.{◌≡◌, ℕ, List};
+
+    ghost Value = { List ℕ };
+
+    ghost use Rattle.sedck_search.specs.Rows.{bit_count};
+    ghost use Rattle.sedck_search.specs.Private.NodeSet.{IsNodeSet};
+
+    ghost view = { λ a. a.words };
+
+    ghost invariant = { λ a. IsNodeSet a.words × (a.count ≡ bit_count a.words) };
+}
+
+impl NodeSet {
+    /// No node.
+    pub(crate) fn new() -> NodeSet
+        ensures nodes { IsEmpty result }
+        ensures count { bit_count result ≡ 0 }
+        ensures row { IsNodeSet result }
+    {
+        NodeSet {
+            words: [0; 256],
+            count: 0,
+        }
+    }
+
+    /// Takes all nodes out.
+    pub(crate) fn clear(&mut self)
+        ensures nodes { IsEmpty self.new }
+        ensures count { bit_count self.new ≡ 0 }
+        ensures row { IsNodeSet self.new }
+    {
+        self.words = [0; 256];
+        self.count = 0;
+    }
+
+    /// Whether the node is in the set.
+    pub(crate) fn has(&self, node: usize) -> bool
+        requires { node < 16384 }
+        ensures value { result ≡ has self.now node }
+        ensures row { IsNodeSet self.now }
+    {
+        let words = &self.words;
+        (words[node / 64] >> (node % 64)) & 1 == 1
+    }
+
+    /// Puts the node into the set. It answers whether it wasn't there.
+    pub(crate) fn insert(&mut self, node: usize) -> bool
+        requires { node < 16384 }
+        ensures new { result ≡ not (has self.old node) }
+        ensures same { result ≡ false → self.new ≡ self.old }
+        ensures changed { HasChanged self.old self.new node true }
+        ensures row { IsNodeSet self.new }
+    {
+        if self.has(node) {
+            return false;
+        }
+        self.words[node / 64] |= 1 << (node % 64);
+        self.count += 1;
+        true
+    }
+
+    /// Takes the node out of the set, which has it.
+    pub(crate) fn remove(&mut self, node: usize)
+        requires inside { node < 16384 }
+        requires present { has self.old node ≡ true }
+        ensures changed { HasChanged self.old self.new node false }
+        ensures row { IsNodeSet self.new }
+    {
+        self.words[node / 64] &= !(1 << (node % 64));
+        self.count -= 1;
+    }
+
+    /// The first node of the set from this one on.
+    pub(crate) fn next_from(&self, from: usize) -> Option<usize>
+        ensures { MatchOption result (HasNoneFrom self.now from) (λ next. IsNext self.now from next) }
+    {
+        if self.count == 0 {
+            return None;
+        }
+        let words = &self.words;
+        let first = from / 64;
+        if first >= 256 {
+            return None;
+        }
+        let word = words[first] & (u64::MAX << (from % 64));
+        if word != 0 {
+            return Some(64 * first + word.trailing_zeros() as usize);
+        }
+        for at in first + 1..256 {
+            let word = words[at];
+            if word != 0 {
+                return Some(64 * at + word.trailing_zeros() as usize);
+            }
+        }
+        None
+    }
+
+    /// The number of nodes in the set.
+    pub(crate) fn count(&self) -> usize
+        ensures value { result ≡ bit_count self.now }
+        ensures row { IsNodeSet self.now }
+    {
+        count_bits(&self.words) as usize
+    }
+}
