@@ -53,7 +53,7 @@ of_bytes limit (Some whole) text Holds is holds = holds whole is.front
 whole_script : (whole text : List ℕ) → text ≡ take 1048577 whole → length text ≤ 1048576 → text ≡ whole
 whole_script whole text is fits = is ∙ take_all 1048577 whole (omega (arith, length-take 1048577 whole, ap length is))
 
--- and one that is longer is the front of longer bytes
+-- and one that is longer is a prefix of longer bytes
 long_script : (whole text : List ℕ) → text ≡ take 1048577 whole → 1048576 < length text → 1048576 < length whole
 long_script whole text is long = omega (arith, length-take 1048577 whole, ap length is)
 

@@ -4,7 +4,7 @@ use Rattle.std.specs.List.{list_any}
 use Rattle.std.specs.Str.{bytes_eq}
 use Rattle.std.specs.declared.alloc.Global.{Global}
 use Rattle.std.specs.Io.KnownBytes.{Appends}
-use Rattle.sedck_cert.specs.Streams.{AppendsFront}
+use Rattle.sedck_cert.specs.Streams.{AppendsPrefix}
 use Rattle.sedck_cli.specs.Engines.{ChecksTo, ListsFilesTo, ListsGraphTo, RanksTo, UpgradesTo}
 use Rattle.sedck_cli.specs.declared.answer.Outcome.{Outcome}
 use Rattle.sedck_cli.specs.declared.answer.Input.{Input}
@@ -62,7 +62,7 @@ IsReportFor Nothing outcome report = ⊥
 abbrev pub Reports : Asked → Option (List ℕ) → Option (List ℕ) → Outcome → Type 0
 Reports asked before after outcome = (report : List ℕ) × IsReportFor asked outcome report × Appends before after report
 
--- only a front of such a report was
+-- only a prefix of such a report was
 abbrev pub BreaksOff : Asked → Option (List ℕ) → Option (List ℕ) → Type 0
 BreaksOff asked before after = (outcome : Outcome) × (report : List ℕ) × IsReportFor asked outcome report × AppendsPrefix before after report
 

@@ -37,7 +37,7 @@ impl fmt::Display for Input {
     }
 }
 
-/// Why there is no report. `OutOfMemory` stands in place of each fault below that is want of memory.
+/// Why there is no report. `OutOfMemory` stands in place of each fault below that is running out of memory.
 #[derive(Clone, Copy, Debug, Drop, Error)]
 pub enum RunFault {
     #[error("script {0}")]

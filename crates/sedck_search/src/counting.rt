@@ -110,7 +110,7 @@ fn count_marked(script: &Script, filter: EdgeFilter, back: &mut [u16], counts: &
 }
 
 /// Counts what each second marked node reaches, from this one on. Each node is counted behind those that it leads to, as far
-/// as that goes; the answer doesn't hang on the order.
+/// as that goes; the answer doesn't depend on the order.
 fn count_half(
     script: &Script,
     filter: EdgeFilter,

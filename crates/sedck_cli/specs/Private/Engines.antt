@@ -2,7 +2,7 @@
 use Rattle.std.specs.Prelude.{◌≡◌, ◌≤◌, ℕ, IsTrue, List, length, take, Option, IfSome, Result, Ok, Err}
 use Rattle.std.specs.Io.KnownBytes.{Appends}
 use Rattle.sedck_script.specs.Program.{Program}
-use Rattle.sedck_cert.specs.Streams.{AppendsFront}
+use Rattle.sedck_cert.specs.Streams.{AppendsPrefix}
 use Rattle.sedck_search.specs.declared.answer.Found.{Found}
 use Rattle.sedck_cli.specs.declared.answer.Outcome.{Outcome}
 use Rattle.sedck_cli.specs.declared.answer.Outcome.TheVariants.{Yes}
@@ -30,7 +30,7 @@ ReportsScriptTo Files text outcome report = ListsFilesTo text outcome report
 ReportsScriptTo Graph text outcome report = ListsGraphTo text outcome report
 ReportsScriptTo Rank text outcome report = RanksTo text outcome report
 
--- the whole report is written, or a front of it and a write has failed
+-- the whole report is written, or a prefix of it and a write has failed
 abbrev pub WritesReport : Writing → Outcome → List ℕ → Result Outcome RunFault → Type 0
 WritesReport out outcome report (Ok written) = (written ≡ outcome) × Appends out.before out.after report
-WritesReport out outcome report (Err why) = (why ≡ fault.Write) × IsTrue out.failed × AppendsFront out.before out.after report
+WritesReport out outcome report (Err why) = (why ≡ fault.Write) × IsTrue out.failed × AppendsPrefix out.before out.after report
