@@ -278,7 +278,7 @@ script.FaultWords bre.FaultWords cert.FaultText cli.Lines
 cli.Reports cli.Engines cli.Statuses cli.Faults cert.Streams
 bre.Lengths script.Shortest script.Invariant
 bre.View script.View script.ReplacementView cert.View
-bre.Laws script.Laws script.First flow.Laws flow.Examples cert.Laws search.Laws
+bre.Laws bre.Examples script.Laws script.First script.Examples flow.Laws flow.Examples cert.Laws search.Laws
 """.split()
 
 # What is promised, one group after another: a title, a sentence, and the contracts that it rests on.

@@ -1,6 +1,6 @@
 #!/bin/sh
 # Checks the examples by what README.md says: the answer in each row of its tables, each certificate as `rank`
-# writes it, and what each command prints that the documents show. Needs build/sedck.
+# writes it, what each command prints that the documents show, and docs/BELIEVED.md. Needs build/sedck and Python 3.
 # Says what failed, and ends with status 1 on any failure.
 
 CDPATH= cd -- "$(dirname -- "$0")/.." || exit 1
@@ -82,6 +82,9 @@ awk '/^\.SH/ { page = ($2 == "EXAMPLES") } /^\.R[SE]/ { on = (page && $1 == ".RS
     sed -e 's/\\-/-/g' -e 's/\\e/\\/g' |
     awk '/^> / { text = text substr($0, 2); next } NR > 1 { print text } { text = $0 } END { print text }' > shown
 run_shown docs/sedck.1
+
+# The list of what must be believed is made from the contracts, and no exported contract reaches a private definition.
+python3 "$documents/docs/believed.py" --check >&2 || fail "docs/BELIEVED.md or a folder specs/Private isn't as it should be"
 
 [ $failures -eq 0 ] || exit 1
 echo "examples: all are answered as they should be"

@@ -1,4 +1,4 @@
--- How the code's values stand to what is read of a bracket list. Only private contracts and proofs cite it.
+-- How the code's values stand to what is read of a bracket list.
 use Rattle.std.specs.Prelude.{◌≡◌, ℕ, ◌+◌, not, Bool, true, List, ◌++◌, codes, length, drop, nat_eq, if◌then◌else◌, Option, Some, None, Result, Ok, Err}
 use Rattle.std.specs.List.{list_any, starts_with}
 use Rattle.sedck_bre.specs.Brackets as brackets

@@ -1,4 +1,4 @@
--- A way to read a bracket list. Only private contracts and proofs cite it.
+-- A way to read a bracket list.
 use Rattle.std.specs.Prelude.{ℕ, zero, suc, ◌+◌, ◌^◌, ◌==◌, nat_eq, nat_le, Bool, true, false, not, ◌&&◌, if◌then◌else◌, List, [], ◌∷◌, ◌++◌, length, drop, Option, Some, None, codes}
 use Rattle.std.specs.List.{list_any, starts_with}
 use Rattle.sedck_bre.specs.Text.{begins}

@@ -1,4 +1,4 @@
--- How a whole expression is read, and where a part of its text lies. Only private contracts and proofs cite it.
+-- How a whole expression is read, and where a part of its text lies.
 use Rattle.std.specs.Prelude.{◌≡◌, ℕ, ◌++◌, List, Option}
 use Rattle.sedck_bre.specs.Tree.{Tree}
 use Rattle.sedck_bre.specs.Private.Reading.{◌>>=◌, Readers, set_before}

@@ -1,4 +1,4 @@
--- A way to read an interval. Only private contracts and proofs cite it.
+-- A way to read an interval.
 use Rattle.std.specs.Prelude.{ℕ, nat_le, not, ◌&&◌, if◌then◌else◌, List, [], ◌∷◌, drop, Option, Some, None}
 use Rattle.std.specs.Str.Parse.{digits_value}
 use Rattle.sedck_bre.specs.Text.{begins}

@@ -1,4 +1,4 @@
--- Sets of bytes by their bits. Only private contracts and proofs cite it.
+-- Sets of bytes by their bits.
 use Rattle.std.specs.Prelude.{◌≡◌, ℕ, ◌+◌, ◌*◌, ◌<◌, ◌/◌, ◌%◌, ◌==◌, ◌&&◌, Bool, not, List, nat_lt, if◌then◌else◌, slice_index}
 use Rattle.std.specs.Int.{bit_at}
 use Rattle.std.specs.List.{list_any}

@@ -1,4 +1,4 @@
--- What the parts of the checker find of some edges. Only private contracts and proofs cite it.
+-- What the parts of the checker find of some edges.
 use Rattle.std.specs.Prelude.{◌≡◌, ◌≢◌, None, Option, MatchOption}
 use Rattle.sedck_flow.specs.Flow.{IsEarlier}
 use Rattle.sedck_flow.specs.declared.graph.Edge.{Edge}

@@ -1,4 +1,4 @@
--- Words for the reader alone: only private contracts and proofs cite them.
+-- Words for the reader alone.
 use Rattle.std.specs.Prelude.{◌≡◌, ℕ, List, ◌∷◌, ◌++◌, Contains}
 
 -- the text is cut at its first such byte

@@ -1,4 +1,4 @@
--- Words for the reader alone: only private contracts and proofs cite them.
+-- Words for the reader alone.
 use Rattle.std.specs.Prelude.{◌≡◌, ℕ, zero, suc, ◌+◌, ◌≤◌, List, [], ◌∷◌, ◌++◌, length, Option, None, Some, decimal, codes}
 use Rattle.std.specs.Borrow.{Bor}
 use Rattle.sedck_bre.specs.Bytes.{newline}

@@ -1,4 +1,4 @@
--- The steps of an engine. Only private contracts and proofs cite it.
+-- The steps of an engine.
 use Rattle.std.specs.Prelude.{◌≡◌, ◌≤◌, ℕ, IsTrue, List, length, take, Option, IfSome, Result, Ok, Err}
 use Rattle.std.specs.Io.KnownBytes.{Appends}
 use Rattle.sedck_script.specs.Program.{Program}

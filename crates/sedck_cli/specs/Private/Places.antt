@@ -1,4 +1,4 @@
--- A place behind the words that lead to it. Only private contracts cite it.
+-- A place behind the words that lead to it.
 use Rattle.std.specs.Prelude.{ℕ, List, [], ◌++◌, Option, Some, None, decimal}
 
 -- the words and the place, or nothing where there is no place

@@ -1,4 +1,4 @@
--- Parts of the reports. Only private contracts and proofs cite it.
+-- Parts of the reports.
 use Rattle.std.specs.Prelude.{◌≡◌, ℕ, suc, List, [], ◌++◌, Option, Some, None, length}
 use Rattle.sedck_script.specs.Program.{Program}
 use Rattle.sedck_flow.specs.Flow.{FlowFrom, ListsEdges}

@@ -1,4 +1,4 @@
--- What a request asks for, and what it leaves on the output. Only private contracts and proofs cite it.
+-- What a request asks for, and what it leaves on the output.
 use Rattle.std.specs.Prelude.{ℕ, List, Option, Some, None, Result, Ok, Err}
 use Rattle.std.specs.Io.KnownBytes.{Keeps}
 use Rattle.sedck_cli.specs.Statuses.{Asked, Check, Files, Graph, Rank, Upgrade, Nothing, Reports, BreaksOff, IsFor}

@@ -1,4 +1,4 @@
--- The edges that leave one node by their numbers, put in order one by one. Only private contracts and proofs cite it.
+-- The edges that leave one node by their numbers, put in order one by one.
 use Rattle.std.specs.Prelude.{◌≡◌, ◌⊎◌, ◌↔◌, ℕ, suc, zero, ◌+◌, ◌*◌, ◌/◌, ◌%◌, ◌<◌, List, [], ◌∷◌, Contains}
 use Rattle.sedck_flow.specs.Flow.{kind_index, ReadsLine}
 use Rattle.sedck_flow.specs.Nodes.{node_index, nth_node, with_last}

@@ -1,4 +1,4 @@
--- The least rest of a match. Only private contracts and proofs cite it.
+-- The least rest of a match.
 use Rattle.std.specs.Prelude.{ℕ, ◌<◌, ◌≤◌}
 use Rattle.sedck_bre.specs.Lengths.{cap}
 use Rattle.sedck_bre.specs.WellFormed.{IsWellFormed}

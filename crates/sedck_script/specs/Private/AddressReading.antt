@@ -1,4 +1,4 @@
--- What the readers of addresses say of what they read. Only private contracts cite it.
+-- What the readers of addresses say of what they read.
 use Rattle.std.specs.Prelude.{◌≡◌, ℕ, Bool, true, false, not, ◌||◌, ◌==◌, List, [], ◌∷◌, Option, Some, None, IsTrue}
 use Rattle.sedck_script.specs.Cuts.{bang, is_blank, is_delimiter, IsEmptyOr, Longest}
 pub use Rattle.sedck_script.specs.Faults.{begins_address}

@@ -1,4 +1,4 @@
--- Which expressions the commands have. Only private contracts cite it.
+-- Which expressions the commands have.
 use Rattle.std.specs.Prelude.{Bool, true, false, ◌||◌, List, [], ◌∷◌, flat_map}
 use Rattle.sedck_bre.specs.Tree.{Tree}
 use Rattle.sedck_script.specs.Program.{Command, pattern_expressions, address_patterns, verb_patterns}

@@ -1,4 +1,4 @@
--- What the readers of flags say of what they read. Only private contracts cite it.
+-- What the readers of flags say of what they read.
 use Rattle.std.specs.Prelude.{◌≡◌, ℕ, List, ◌∷◌, Option}
 use Rattle.sedck_script.specs.Program.{Pattern, Part, Substitution}
 use Rattle.sedck_script.specs.Parts.{Ends, Number, Name}

@@ -1,4 +1,4 @@
--- What the readers of items, and the resolver of their labels, say of them. Only private contracts cite it.
+-- What the readers of items, and the resolver of their labels, say of them.
 use Rattle.std.specs.Prelude.{◌≡◌, ℕ, suc, zero, ◌<◌, List, [], ◌∷◌, ◌++◌, Option, Some, None, unwrap_or}
 use Rattle.std.specs.Borrow.{Bor}
 use Rattle.std.specs.HashMap.{HashMap}

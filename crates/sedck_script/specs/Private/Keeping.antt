@@ -1,4 +1,4 @@
--- What the reader of a replacement's groups says, part after part. Only private contracts and proofs cite it.
+-- What the reader of a replacement's groups says, part after part.
 use Rattle.std.specs.Prelude.{ℕ, ◌^◌, Bool, false, not, ◌&&◌, List, [], ◌∷◌, Option, Some, None, if◌then◌else◌}
 use Rattle.std.specs.Int.RustNames.{bit_or}
 use Rattle.sedck_bre.specs.Rests.{is_top_group, names}

@@ -1,4 +1,4 @@
--- What the readers of labels say of what they read. Only private contracts cite it.
+-- What the readers of labels say of what they read.
 use Rattle.std.specs.Prelude.{ℕ, ◌-◌, Bool, not, List, ◌∷◌, length, Option, Some, None, IsTrue}
 use Rattle.sedck_script.specs.Cuts.{is_label_byte, IsEmptyOr}
 use Rattle.sedck_script.specs.Parts.{Ends, LabelText}

@@ -1,4 +1,4 @@
--- The names that commands read, or write. Only private contracts and proofs cite it.
+-- The names that commands read, or write.
 use Rattle.std.specs.Prelude.{ℕ, List, Option, Some, None, flat_map}
 use Rattle.sedck_script.specs.Program.{Verb, Command}
 use Rattle.sedck_script.specs.Names.{read_names, write_names, with_name}

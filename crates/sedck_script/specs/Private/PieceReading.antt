@@ -1,4 +1,4 @@
--- What the readers of delimited parts say of what they read. Only private contracts cite it.
+-- What the readers of delimited parts say of what they read.
 use Rattle.std.specs.Prelude.{◌≡◌, ◌≢◌, ℕ, ◌==◌, List, ◌∷◌, Option, Some, None, IsTrue, if◌then◌else◌}
 use Rattle.sedck_script.specs.Cuts.{newline, backslash, can_be_escaped}
 use Rattle.sedck_script.specs.Program.{Pattern}

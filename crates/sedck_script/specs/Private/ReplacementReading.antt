@@ -1,4 +1,4 @@
--- What the readers of replacements say of what they read. Only private contracts cite it.
+-- What the readers of replacements say of what they read.
 use Rattle.std.specs.Prelude.{◌≡◌, ℕ, ◌<◌, ◌≤◌, List, ◌∷◌, length, Option, Some, None, Contains}
 use Rattle.sedck_script.specs.Program.{Part, Text, Newline, Tab, Whole, Group}
 use Rattle.sedck_script.specs.Parts.{Replacement}

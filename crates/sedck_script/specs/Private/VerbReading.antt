@@ -1,4 +1,4 @@
--- What the readers of verbs say of what they read. Only private contracts cite it.
+-- What the readers of verbs say of what they read.
 use Rattle.std.specs.Prelude.{◌≡◌, ℕ, List, length, Some, option_copied}
 use Rattle.std.specs.Borrow.{Bor}
 use Rattle.std.specs.HashMap.{HashMap}
