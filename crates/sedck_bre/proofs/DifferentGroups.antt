@@ -9,8 +9,8 @@ use Rattle.sedck_bre.specs.WellFormed.{CountsFrom, IsWellFormed}
 use Rattle.sedck_bre.specs.Rests.{is_item, is_top_group, texts_length, HasRest, IsLeastRest}
 use Rattle.sedck_bre.specs.Private.Bounds.{no_bounds, least, after_all, outside_picked}
 use Rattle.sedck_bre.proofs.LeastLemmas.{CountsFrom-right}
-use Rattle.sedck_bre.proofs.Floor.{floor_all, least-floor}
-use Rattle.sedck_bre.proofs.Reach.{least-met}
+use Rattle.sedck_bre.proofs.LeastFloor.{floor_all, least-floor}
+use Rattle.sedck_bre.proofs.LeastReached.{least-met}
 use Rattle.sedck_bre.proofs.NamedSums.{item_sum, items_sum, without, items_sum-below, items_sum-grows, later_item}
 use Rattle.sedck_bre.proofs.LeastRest.{lengths, outside-floor, outside-split, least-rest}
 

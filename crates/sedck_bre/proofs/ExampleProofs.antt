@@ -12,8 +12,8 @@ use Rattle.sedck_bre.specs.Private.Reading.{read, items}
 use Rattle.sedck_bre.specs.Private.BracketReading.{bracket_at, elements_at}
 use Rattle.sedck_bre.specs.Private.IntervalReading.{interval_at}
 use Rattle.sedck_bre.specs.Private.FullReading.{full}
-use Rattle.sedck_bre.proofs.Floor.{least-floor}
-use Rattle.sedck_bre.proofs.Whole.{shape_of, none_of}
+use Rattle.sedck_bre.proofs.LeastFloor.{least-floor}
+use Rattle.sedck_bre.proofs.WholeReading.{shape_of, none_of}
 
 -- nothing shorter than 6 is in its language
 two_or_three_floor : (w : List ℕ) → Language two_or_three w → 6 ≤ length w

@@ -12,9 +12,9 @@ use Rattle.sedck_bre.specs.Rests.{names, named, NamesTopGroups, texts_length, Ha
 use Rattle.sedck_bre.specs.Private.Bounds.{Bounds, no_bounds, least, after, least_all, after_all, own_beside, outside_picked, outside}
 use Rattle.sedck_bre.specs.Lengths.{cap, IsLeastSize, HasLength}
 use Rattle.sedck_bre.proofs.LeastLemmas.{CountsFrom-left, CountsFrom-right, FreshFrom, after-fresh, after_all-below, with_bound-same}
-use Rattle.sedck_bre.proofs.Floor.{Reaches, floor, floor_all, least-floor}
-use Rattle.sedck_bre.proofs.Reach.{least-met}
-use Rattle.sedck_bre.proofs.Untouched.{all_leave}
+use Rattle.sedck_bre.proofs.LeastFloor.{Reaches, floor, floor_all, least-floor}
+use Rattle.sedck_bre.proofs.LeastReached.{least-met}
+use Rattle.sedck_bre.proofs.UntouchedGroups.{all_leave}
 use Rattle.sedck_bre.proofs.NamedSums.{item_sum, items_sum, texts_sum, sum_of-none, items_sum-grows, same_sums}
 
 -- how long each group's text is

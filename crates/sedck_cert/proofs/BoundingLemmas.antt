@@ -18,7 +18,7 @@ use Rattle.sedck_cert.specs.Ranked.{ranks_at, IsSteady, NeverGrows}
 use Rattle.sedck_cert.specs.StepLimit.{greatest_first, greatest_second}
 use Rattle.sedck_cert.specs.Bounds.{IsBoundOf, BoundsRuns}
 use Rattle.sedck_cert.specs.declared.limits.Bound.{Bound}
-use Rattle.sedck_cert.proofs.Counted.{steady_counted}
+use Rattle.sedck_cert.proofs.SteadyRunsCounted.{steady_counted}
 
 -- the edges are these, of which none so far grows
 pub record HasNoGrowUpTo (IsEdge : Edge → Type 0) (done coming : List Edge) : Type 0 where

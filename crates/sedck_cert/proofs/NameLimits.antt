@@ -10,7 +10,7 @@ use Rattle.std.proofs.lemmas.List.Sums.{sum_by-cons}
 use Rattle.sedck_script.specs.Names.{IsName, IsBefore, AreIncreasing, AreNames, names_size}
 use Rattle.sedck_cert.specs.View.{names_of}
 use Rattle.sedck_cert.specs.Private.Reading.{AreNext}
-use Rattle.sedck_cert.proofs.Texts.{IsBeforeAll, behind_all, rising_parts, first_rises}
+use Rattle.sedck_cert.proofs.LinesAreText.{IsBeforeAll, behind_all, rising_parts, first_rises}
 
 record AreRight (before names : List (List ℕ)) (size : ℕ) : Type 0 where
   pub each : AllByRecursion IsName names

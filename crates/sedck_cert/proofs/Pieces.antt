@@ -10,7 +10,7 @@ use Rattle.sedck_flow.specs.Words.{flag_text, node_words}
 use Rattle.sedck_flow.specs.Nodes.{node_index, nth_node}
 use Rattle.sedck_flow.specs.declared.graph.Node.{Node}
 use Rattle.sedck_flow.proofs.NodeLemmas.{node_same, index-nth}
-use Rattle.sedck_cert.proofs.Cuts.{flag_text-digit}
+use Rattle.sedck_cert.proofs.CutLemmas.{flag_text-digit}
 use Rattle.sedck_cert.specs.View.{names_of}
 use Rattle.sedck_cert.specs.Text.{line, header, ranks_text, node_text, node_lines, name_lines, files_text, text_in, certificate_text}
 use Rattle.sedck_cert.specs.declared.versions.Version.{Version}

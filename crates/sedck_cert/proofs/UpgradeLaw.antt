@@ -11,7 +11,7 @@ use Rattle.sedck_flow.specs.VersionOne.{NodeOne, plain_node, plain_edge, start_o
 use Rattle.sedck_flow.specs.declared.graph.Node.{Node}
 use Rattle.sedck_flow.specs.declared.graph.Kind.{Kind}
 use Rattle.sedck_flow.specs.declared.graph.Kind.TheVariants.{Consume, Shorten, Keep, Grow}
-use Rattle.sedck_flow.proofs.Agree.{literal_kinds_stay}
+use Rattle.sedck_flow.proofs.KindsAgree.{literal_kinds_stay}
 use Rattle.sedck_flow.proofs.PlainEdges.{plain}
 use Rattle.sedck_cert.specs.Certificate.{Certificate}
 use Rattle.sedck_cert.specs.Ranked.{ranks_at, Lowers, Accepts}

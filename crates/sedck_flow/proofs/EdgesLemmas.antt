@@ -20,8 +20,8 @@ use Rattle.sedck_flow.specs.declared.graph.Edge.{Edge}
 use Rattle.sedck_flow.specs.declared.graph.Kind.{Kind}
 use Rattle.sedck_flow.specs.declared.graph.Kind.TheVariants.{Keep}
 use Rattle.sedck_flow.proofs.EdgeListLemmas.{lists_edges, lists_none, lists_more, lists_same}
-use Rattle.sedck_flow.proofs.Inside.{target_at}
-use Rattle.sedck_flow.proofs.Follows.{IsKnown, known_at}
+use Rattle.sedck_flow.proofs.EdgesInside.{target_at}
+use Rattle.sedck_flow.proofs.StepsFollowEdges.{IsKnown, known_at}
 
 -- ---- What is still to come
 

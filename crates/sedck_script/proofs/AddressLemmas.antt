@@ -6,8 +6,8 @@ use Rattle.sedck_script.specs.Program.{Place, Last}
 use Rattle.sedck_script.specs.Parts.{Number, PlaceText}
 use Rattle.sedck_script.specs.Parts as p
 use Rattle.sedck_script.specs.Private.AddressReading.{ContextText, CustomText}
-use Rattle.sedck_script.proofs.PartsOne.{number_no_byte}
-use Rattle.sedck_script.proofs.Heads.{heads, tails}
+use Rattle.sedck_script.proofs.UniqueParts.{number_no_byte}
+use Rattle.sedck_script.proofs.FirstBytes.{heads, tails}
 
 pub last_text : {text rest : List ℕ} {b : ℕ} → text ≡ b ∷ rest → b ≡ 36 → PlaceText text Last rest
 last_text {rest = rest} e h = subst (λ t. PlaceText t Last rest) (sym e) (p.last h)

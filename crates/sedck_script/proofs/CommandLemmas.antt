@@ -9,10 +9,10 @@ use Rattle.sedck_script.specs.Parts as p
 use Rattle.sedck_script.specs.Items.{WrittenVerb, VerbText, Takes, CommandText}
 use Rattle.sedck_script.specs.Private.Reading.{EndsIn}
 use Rattle.sedck_script.specs.Private.AddressReading.{is_mark, has_previous, IsEmptyAt, IsOnlyAddress}
-use Rattle.sedck_script.proofs.Cuts.{longest_one}
-use Rattle.sedck_script.proofs.Tails.{tail_tail}
-use Rattle.sedck_script.proofs.ItemsOne.{longest_along, verb_along}
-use Rattle.sedck_script.proofs.AddressOnly.{place_tail, second_tail}
+use Rattle.sedck_script.proofs.LongestRuns.{longest_one}
+use Rattle.sedck_script.proofs.OffsetLemmas.{tail_tail}
+use Rattle.sedck_script.proofs.UniqueItems.{longest_along, verb_along}
+use Rattle.sedck_script.proofs.UniqueAddresses.{place_tail, second_tail}
 
 pub address_tail : {text rest : List ℕ} {a : Address} → AddressText text a rest → EndsIn text rest
 address_tail p.none = ([], refl)

@@ -7,8 +7,8 @@ use Rattle.sedck_script.specs.Program.{Pattern, Part, Substitution}
 use Rattle.sedck_script.specs.Parts.{Ends, Number, Name, Flags}
 use Rattle.sedck_script.specs.Parts as p
 use Rattle.sedck_script.specs.Private.Reading.{EndsIn}
-use Rattle.sedck_script.proofs.Tails.{number_tail, tail_tail, tail_behind}
-use Rattle.sedck_script.proofs.PartsOne.{no_end, ends_no_number, ends_first, number_no_byte, digit_no_end, number_one}
+use Rattle.sedck_script.proofs.OffsetLemmas.{number_tail, tail_tail, tail_behind}
+use Rattle.sedck_script.proofs.UniqueParts.{no_end, ends_no_number, ends_first, number_no_byte, digit_no_end, number_one}
 
 -- no flag begins with this byte
 pub no_flag_by : {q : Pattern} {ps : List Part} {b : ℕ} {text r : List ℕ} {s : Substitution} → b ≢ 103 → b ≢ 112 → b ≢ 119 → is_digit b ≡ false

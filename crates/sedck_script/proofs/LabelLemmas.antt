@@ -7,8 +7,8 @@ use Rattle.sedck_script.specs.Parts.{Ends, LabelText}
 use Rattle.sedck_script.specs.Items.{IsNoComment, IsNoBrace}
 use Rattle.sedck_script.specs.Private.Reading.{IsLabelAt}
 use Rattle.sedck_script.specs.Private.LabelReading.{BranchText}
-use Rattle.sedck_script.proofs.Cuts.{longest_one}
-use Rattle.sedck_script.proofs.WholeOne.{label_or_end}
+use Rattle.sedck_script.proofs.LongestRuns.{longest_one}
+use Rattle.sedck_script.proofs.UniqueVerbs.{label_or_end}
 
 pub label_same : {text f g r s : List ℕ} → IsLabelAt text f r → LabelText text g s → (f ≡ g) × (r ≡ s)
 label_same {text} {f} {g} {r} {s} l m = longest_one l.run (subst (λ t. Longest is_label_byte t g s) (longest_one m.skipped l.skipped).1 m.run)

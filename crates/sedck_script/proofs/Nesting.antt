@@ -5,7 +5,7 @@ use Rattle.sedck_script.specs.Items.{Known, Item, Written, Closing}
 use Rattle.sedck_script.specs.Resolution.{Defines, AreLabelsDistinct, Resolves, done, known, branch, test, opening, closing}
 use Rattle.sedck_script.specs.Private.Reading.{IsLabelOf, AreLabelsOnce}
 use Rattle.sedck_script.specs.Private.ItemReading.{commands_among, Turn, Opens, Closes, Stays, turn_of, Turned, Nests}
-use Rattle.sedck_script.proofs.ResolvesOne.{verbs_same}
+use Rattle.sedck_script.proofs.UniqueCommands.{verbs_same}
 
 pub resolves_nests : {A cs : List Command} {blocks : List ℕ} {place : ℕ} {items : List Item} → Resolves A blocks place items cs → Nests items (length blocks)
 resolves_nests done = refl

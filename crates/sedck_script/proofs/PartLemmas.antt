@@ -3,8 +3,8 @@ use Rattle.std.proofs.Common.{◌≡◌, ◌≢◌, ℕ, ◌<◌, not, List, [],
 use Rattle.sedck_script.specs.Cuts.{is_newline, is_blank, Longest}
 use Rattle.sedck_script.specs.Parts.{Name, Lines, GivenText, BeginsPlainly}
 use Rattle.sedck_script.specs.Parts as p
-use Rattle.sedck_script.proofs.Cuts.{longest_one}
-use Rattle.sedck_script.proofs.Heads.{heads}
+use Rattle.sedck_script.proofs.LongestRuns.{longest_one}
+use Rattle.sedck_script.proofs.FirstBytes.{heads}
 use Rattle.std.proofs.lemmas.List.{nil_from_length}
 
 pub name_some : {text blanks begins front rest name r : List ℕ} → Longest is_blank text blanks begins

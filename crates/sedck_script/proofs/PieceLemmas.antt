@@ -11,8 +11,8 @@ use Rattle.sedck_bre.specs.Shape.{Shape}
 use Rattle.sedck_script.specs.Program.{Pattern, Previous, Expression}
 use Rattle.sedck_script.specs.Parts.{IsPattern, previous, expression}
 use Rattle.sedck_script.specs.Private.PieceReading.{IsPiece, list_escape, PatternText}
-use Rattle.sedck_script.proofs.PartsOne.{expression_one}
-use Rattle.sedck_script.proofs.Tails.{tail_tail}
+use Rattle.sedck_script.proofs.UniqueParts.{expression_one}
+use Rattle.sedck_script.proofs.OffsetLemmas.{tail_tail}
 use Rattle.std.proofs.lemmas.List.{nil_from_length}
 
 pub piece_tail : (d : ℕ) (text rest : List ℕ) (x : Piece) → IsPiece d text x rest → EndsIn text rest

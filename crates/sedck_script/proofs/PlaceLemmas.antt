@@ -23,12 +23,12 @@ use Rattle.sedck_script.specs.Private.PieceReading.{PatternText, IsPartPlaced}
 use Rattle.sedck_script.specs.Private.AddressReading.{is_mark, IsBehindComma, BeginsNoPlace, has_previous}
 use Rattle.sedck_script.specs.Private.LabelReading.{IsBehindVerb, IsBehindLabel}
 use Rattle.sedck_script.specs.Private.Progress.{written_patterns}
-use Rattle.sedck_script.proofs.Tails.{tail_behind, tail_length, stands_at_tail, take_front}
-use Rattle.sedck_script.proofs.PartsOne.{digit_no_end, number_first}
-use Rattle.sedck_script.proofs.Spelled.{flags_pattern}
+use Rattle.sedck_script.proofs.OffsetLemmas.{tail_behind, tail_length, stands_at_tail, take_front}
+use Rattle.sedck_script.proofs.UniqueParts.{digit_no_end, number_first}
+use Rattle.sedck_script.proofs.SpelledIsSound.{flags_pattern}
 use Rattle.sedck_script.proofs.VerbBytes.{same_byte, byte_of}
-use Rattle.sedck_script.proofs.ItemsOne.{place_first}
-use Rattle.sedck_script.proofs.Heads.{heads}
+use Rattle.sedck_script.proofs.UniqueItems.{place_first}
+use Rattle.sedck_script.proofs.FirstBytes.{heads}
 
 -- where a tail begins, the text is cut into what stands before it and the tail
 pub cut_at : {whole text : List ℕ} (h : EndsIn whole text) → (take (length whole - length text) whole ≡ h.0) × (drop (length whole - length text) whole ≡ text)

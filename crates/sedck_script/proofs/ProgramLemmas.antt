@@ -19,8 +19,8 @@ use Rattle.sedck_script.specs.Private.ExpressionReading.{has_some}
 use Rattle.sedck_script.specs.declared.written.WrittenItem.{WrittenItem}
 use Rattle.sedck_script.proofs.Nesting.{resolves_nests, resolves_length, label_written, labels_once}
 use Rattle.sedck_script.proofs.SortedNames.{Contains-cons_cases, Contains-cons_more}
-use Rattle.sedck_script.proofs.ItemsOne.{items_one}
-use Rattle.sedck_script.proofs.ResolvesOne.{commands_one}
+use Rattle.sedck_script.proofs.UniqueItems.{items_one}
+use Rattle.sedck_script.proofs.UniqueCommands.{commands_one}
 
 -- a text without items spells no program
 pub no_program : {text : List ℕ} → HasNoItems text → (other : Program) → Spells text other → ⊥

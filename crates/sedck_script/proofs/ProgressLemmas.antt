@@ -14,14 +14,14 @@ use Rattle.sedck_script.specs.Private.VerbReading.{DefinesKnown}
 use Rattle.sedck_script.specs.Private.ItemReading.{item_of, Turn, Opens, Closes, Stays, commands_among, verb_turn, Turned, Nests}
 use Rattle.sedck_script.specs.Private.Progress.{IsFront, IsProgress, HasNoItems, BeginsCommand, IsBeyond}
 use Rattle.sedck_script.specs.declared.items.Progress.{Progress}
-use Rattle.sedck_script.proofs.Cuts.{longest_one}
-use Rattle.sedck_script.proofs.Heads.{tails, heads}
-use Rattle.sedck_script.proofs.Tails.{tail_cut, tail_tail, tail_length, verb_text_tail, verb_text_shorter, stands_behind}
+use Rattle.sedck_script.proofs.LongestRuns.{longest_one}
+use Rattle.sedck_script.proofs.FirstBytes.{tails, heads}
+use Rattle.sedck_script.proofs.OffsetLemmas.{tail_cut, tail_tail, tail_length, verb_text_tail, verb_text_shorter, stands_behind}
 use Rattle.sedck_script.proofs.LabelPlaces.{get_front, get_seam}
-use Rattle.sedck_script.proofs.PartsOne.{ends_one}
+use Rattle.sedck_script.proofs.UniqueParts.{ends_one}
 use Rattle.sedck_script.proofs.CommandLemmas.{address_tail}
 use Rattle.sedck_script.proofs.StateLemmas.{among_append, Deeper}
-use Rattle.sedck_script.proofs.ItemsOne.{longest_along, ends_along, items_along, command_along, command_one, no_command_other, no_command_end, empty_is_not}
+use Rattle.sedck_script.proofs.UniqueItems.{longest_along, ends_along, items_along, command_along, command_one, no_command_other, no_command_end, empty_is_not}
 
 -- ---- Separators
 

@@ -13,10 +13,10 @@ use Rattle.sedck_script.specs.declared.delimited.Piece.{Piece}
 use Rattle.sedck_script.specs.declared.delimited.Piece.TheVariants as piece
 use Rattle.sedck_script.specs.Private.PieceReading.{IsPiece}
 use Rattle.sedck_script.specs.Private.ReplacementReading.{IsGroupWithin, HasGroupsUpTo, IsFirstPart}
-use Rattle.sedck_script.proofs.Cuts.{longest_one}
-use Rattle.sedck_script.proofs.Heads.{heads}
-use Rattle.sedck_script.proofs.Tails.{tail_cut, tail_tail}
-use Rattle.sedck_script.proofs.PartsOne.{plain_first, no_plain, escaped_one}
+use Rattle.sedck_script.proofs.LongestRuns.{longest_one}
+use Rattle.sedck_script.proofs.FirstBytes.{heads}
+use Rattle.sedck_script.proofs.OffsetLemmas.{tail_cut, tail_tail}
+use Rattle.sedck_script.proofs.UniqueParts.{plain_first, no_plain, escaped_one}
 use Rattle.sedck_script.proofs.PieceLemmas.{SomePiece}
 
 no_line : (d b : ℕ) → is_plain d b ≡ true → b ≢ 10

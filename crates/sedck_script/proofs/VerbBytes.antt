@@ -8,7 +8,7 @@ use Rattle.sedck_script.specs.Items.{WrittenVerb, Known, Opening, Simple, VerbTe
 use Rattle.sedck_script.specs.Items as w
 use Rattle.sedck_script.specs.Faults.{verb_bytes}
 use Rattle.sedck_script.specs.Private.Progress.{is_none, is_two, takes}
-use Rattle.sedck_script.proofs.Heads.{heads}
+use Rattle.sedck_script.proofs.FirstBytes.{heads}
 
 pub record IsVerbByte (b : ℕ) (v : WrittenVerb) : Type 0 where
   pub known : is_in b verb_bytes ≡ true

@@ -14,9 +14,9 @@ use Rattle.sedck_script.specs.Faults.{verb_bytes}
 use Rattle.sedck_script.specs.Private.Reading.{label_place}
 use Rattle.sedck_script.specs.Private.LabelReading.{BranchText}
 use Rattle.sedck_script.specs.Private.VerbReading.{DefinesKnown}
-use Rattle.sedck_script.proofs.Cuts.{longest_one}
-use Rattle.sedck_script.proofs.PartsOne.{label_one}
-use Rattle.sedck_script.proofs.WholeOne.{class_of, begins, differ, simple_class}
+use Rattle.sedck_script.proofs.LongestRuns.{longest_one}
+use Rattle.sedck_script.proofs.UniqueParts.{label_one}
+use Rattle.sedck_script.proofs.UniqueVerbs.{class_of, begins, differ, simple_class}
 use Rattle.sedck_script.proofs.FlagLemmas.{some_of}
 
 aci_cases : (b : ℕ) → one_of "aci" b ≡ true → (b ≡ 97) ⊎ ((b ≡ 99) ⊎ (b ≡ 105))

@@ -10,9 +10,9 @@ use Rattle.sedck_script.specs.Private.PieceReading.{PatternText}
 use Rattle.sedck_script.specs.Private.Reading.{EndsIn}
 use Rattle.sedck_script.specs.Private.VerbReading.{AreLists}
 use Rattle.sedck_script.specs.Private.ReplacementReading.{HasGroupsUpTo}
-use Rattle.sedck_script.proofs.PartsOne.{list_one, replacement_one}
-use Rattle.sedck_script.proofs.WholeOne.{class_of, begins, differ}
-use Rattle.sedck_script.proofs.Tails.{tail_tail, list_tail}
+use Rattle.sedck_script.proofs.UniqueParts.{list_one, replacement_one}
+use Rattle.sedck_script.proofs.UniqueVerbs.{class_of, begins, differ}
+use Rattle.sedck_script.proofs.OffsetLemmas.{tail_tail, list_tail}
 
 -- what follows the delimiter of a `s`
 record SubstituteInside (d : ℕ) (opened : List ℕ) (rest : List ℕ) : Type 0 where

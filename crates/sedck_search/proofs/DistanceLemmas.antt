@@ -13,7 +13,7 @@ use Rattle.sedck_flow.specs.Nodes.{node_index, node_count}
 use Rattle.sedck_flow.specs.declared.graph.Node.{Node}
 use Rattle.sedck_flow.specs.declared.graph.Edge.{Edge}
 use Rattle.sedck_flow.specs.declared.graph.Kind.{Kind}
-use Rattle.sedck_flow.proofs.Inside.{inside}
+use Rattle.sedck_flow.proofs.EdgesInside.{inside}
 use Rattle.sedck_flow.proofs.NodeLemmas.{node_same, index_below}
 use Rattle.sedck_search.proofs.Scans.{set_same, set_other}
 use Rattle.sedck_search.specs.Obstacle.{IsPath}

@@ -7,7 +7,7 @@ use Rattle.sedck_flow.specs.Flow.{FlowFrom}
 use Rattle.sedck_flow.specs.declared.graph.Node.{Node}
 use Rattle.sedck_flow.specs.declared.graph.Edge.{Edge}
 use Rattle.sedck_flow.specs.declared.graph.Kind.{Kind}
-use Rattle.sedck_flow.proofs.Inside.{inside}
+use Rattle.sedck_flow.proofs.EdgesInside.{inside}
 use Rattle.sedck_flow.proofs.NodeLemmas as nodes
 use Rattle.sedck_search.specs.Obstacle.{IsPath}
 use Rattle.sedck_search.specs.Private.Reaching.{IsFollowed, AreFollowed, Reaches, FollowedEdge, IsIn, IsClosed}

@@ -8,8 +8,8 @@ use Rattle.sedck_script.specs.Invariant.{IsScript}
 use Rattle.sedck_script.specs.Program.{Program}
 use Rattle.sedck_script.specs.Names.{AreNames, names_size, reads, writes}
 use Rattle.sedck_flow.specs.Run.{NamesForReading, NamesForWriting}
-use Rattle.sedck_flow.proofs.Inside.{inside}
-use Rattle.sedck_cert.proofs.Listed.{reads_listed, writes_listed}
+use Rattle.sedck_flow.proofs.EdgesInside.{inside}
+use Rattle.sedck_cert.proofs.NamesListed.{reads_listed, writes_listed}
 use Rattle.std.proofs.lemmas.List.Elements.{All-nil, All-cons}
 use Rattle.sedck_flow.specs.Nodes.{start, node_index, node_count}
 use Rattle.sedck_flow.specs.Flow.{Flow}

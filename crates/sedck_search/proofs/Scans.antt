@@ -9,7 +9,7 @@ use Rattle.sedck_script.specs.Invariant.{IsScript}
 use Rattle.sedck_script.specs.Program.{Program}
 use Rattle.sedck_flow.specs.Nodes.{node_index, node_count}
 use Rattle.sedck_flow.specs.Flow.{FlowFrom, ListsEdges}
-use Rattle.sedck_flow.proofs.Inside.{inside}
+use Rattle.sedck_flow.proofs.EdgesInside.{inside}
 use Rattle.sedck_flow.proofs.NodeLemmas.{index_below}
 use Rattle.sedck_flow.specs.declared.graph.Node.{Node}
 use Rattle.sedck_flow.specs.declared.graph.Edge.{Edge}

@@ -7,7 +7,7 @@ use Rattle.sedck_flow.specs.Flow.{Flow}
 use Rattle.sedck_flow.specs.declared.graph.Node.{Node}
 use Rattle.sedck_flow.specs.declared.graph.Edge.{Edge}
 use Rattle.sedck_flow.specs.declared.graph.Kind.{Kind}
-use Rattle.sedck_flow.proofs.Inside.{inside}
+use Rattle.sedck_flow.proofs.EdgesInside.{inside}
 use Rattle.sedck_search.specs.Obstacle.{IsPath, IsWalk, walk_edges}
 use Rattle.sedck_search.specs.Private.Reaching.{AreFollowed, FollowedEdge}
 use Rattle.sedck_search.specs.Private.Distances.{HasDistance, AreDistances}

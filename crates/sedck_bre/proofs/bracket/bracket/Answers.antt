@@ -6,8 +6,8 @@ use Rattle.sedck_bre.specs.Private.FullReading.{IsTail}
 use Rattle.sedck_bre.specs.Private.BracketReading.{bracket_at, inside_at}
 use Rattle.sedck_bre.specs.Private.BracketCode.{set_at}
 use Rattle.sedck_bre.specs.Private.Gives.{Gives}
-use Rattle.sedck_bre.proofs.BracketFixed.{inside_complement, inside_plain}
-use Rattle.sedck_bre.proofs.Tails.{bracket_is, bracket_tail}
+use Rattle.sedck_bre.proofs.BracketFuel.{inside_complement, inside_plain}
+use Rattle.sedck_bre.proofs.OffsetLemmas.{bracket_is, bracket_tail}
 use Rattle.sedck_bre.proofs.bracket.bracket.Goals as goal
 
 -- the set and what follows it

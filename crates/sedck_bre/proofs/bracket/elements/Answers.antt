@@ -1,8 +1,8 @@
 use Rattle.std.proofs.Common.{◌∙◌, ◌++◌, ◌∷◌, [], sym, ap, arith, Some}
 use Rattle.sedck_bre.specs.Brackets.{in_element}
 use Rattle.sedck_bre.specs.Private.BracketCode.{element_of, is_of}
-use Rattle.sedck_bre.proofs.BracketFixed.{read_shorter, elements_end, elements_go, elements_fail}
-use Rattle.sedck_bre.proofs.BracketLoop.{just_push}
+use Rattle.sedck_bre.proofs.BracketFuel.{read_shorter, elements_end, elements_go, elements_fail}
+use Rattle.sedck_bre.proofs.SetLoop.{just_push}
 use Rattle.sedck_bre.proofs.bracket.elements.Goals as goal
 
 pub elements-smaller : goal.elements-smaller

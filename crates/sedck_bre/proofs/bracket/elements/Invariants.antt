@@ -2,7 +2,7 @@ use Rattle.std.proofs.Common.{◌≡◌, ◌≤◌, true, List, length}
 use Rattle.sedck_bre.specs.Brackets.{Element}
 use Rattle.sedck_bre.specs.Private.Sets.{HasJust}
 use Rattle.sedck_bre.specs.Private.BracketCode.{is_of, elements_of}
-use Rattle.sedck_bre.proofs.BracketFixed.{with_elements}
+use Rattle.sedck_bre.proofs.BracketFuel.{with_elements}
 use Rattle.sedck_bre.proofs.bracket.elements.Given as goal
 
 abbrev pub invariant-elements : goal.invariant-elements

@@ -1,6 +1,6 @@
 use Rattle.std.proofs.Common.{◌∙◌, sym}
 use Rattle.sedck_bre.specs.Private.BracketCode.{is_of}
-use Rattle.sedck_bre.proofs.BracketLoop.{set_given, set_empty}
+use Rattle.sedck_bre.proofs.SetLoop.{set_given, set_empty}
 use Rattle.sedck_bre.proofs.bracket.whole_set.Goals as goal
 
 pub returns-then-is_empty-clause-value : goal.returns-then-is_empty-clause-value

@@ -1,5 +1,5 @@
 use Rattle.std.proofs.Common.{◌≤◌, ◌<◌, ◌∙◌, sym, arith, length, get_or}
-use Rattle.sedck_bre.proofs.Numbers.{number_none, number_large, number_some, capped_over}
+use Rattle.sedck_bre.proofs.NumberReading.{number_none, number_large, number_some, capped_over}
 use Rattle.sedck_bre.proofs.interval.number.Goals as goal
 use Rattle.sedck_bre.proofs.interval.number.Goals.{in_default, in_default-2, in_default-3}
 

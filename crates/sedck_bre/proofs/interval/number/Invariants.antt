@@ -1,5 +1,5 @@
 use Rattle.std.proofs.Common.{◌≡◌, ◌≤◌, length}
-use Rattle.sedck_bre.proofs.Numbers.{capped_from}
+use Rattle.sedck_bre.proofs.NumberReading.{capped_from}
 use Rattle.sedck_bre.proofs.interval.number.Given as goal
 
 abbrev pub invariant-digits : goal.invariant-digits

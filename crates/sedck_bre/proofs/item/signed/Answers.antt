@@ -1,6 +1,6 @@
 use Rattle.std.proofs.Common.{sym, subst}
 use Rattle.sedck_bre.specs.Private.FullReading.{IsTail}
-use Rattle.sedck_bre.proofs.Tails.{tail_drop, interval_tail, interval_shorter}
+use Rattle.sedck_bre.proofs.OffsetLemmas.{tail_drop, interval_tail, interval_shorter}
 use Rattle.sedck_bre.proofs.item.signed.Goals as goal
 
 pub returns-then-begins_with_star-clause-tail : goal.returns-then-begins_with_star-clause-tail

@@ -5,7 +5,7 @@ use Rattle.sedck_bre.specs.Lengths.{cap}
 use Rattle.sedck_bre.specs.View.{tree}
 use Rattle.sedck_bre.specs.Private.Sequence.{sequence}
 use Rattle.sedck_bre.specs.Private.Bounds.{no_bounds, Holds, least, after, own, outside}
-use Rattle.sedck_bre.proofs.Capped.{outside-push, after-push, own-named, own-other, capped_sum}
+use Rattle.sedck_bre.proofs.CappedSums.{outside-push, after-push, own-named, own-other, capped_sum}
 use Rattle.sedck_bre.proofs.outside.least_outside_of.Goals.{then-not-is_named, else-not-is_named}
 use Rattle.sedck_bre.proofs.outside.least_outside_of.Goals as goal
 

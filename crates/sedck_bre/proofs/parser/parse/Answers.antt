@@ -10,7 +10,7 @@ use Rattle.sedck_bre.specs.Private.Sequence.{sequence}
 use Rattle.sedck_bre.specs.Shape.{Whole, First, Shape}
 use Rattle.sedck_bre.specs.Private.Reading.{read, items_of}
 use Rattle.sedck_bre.specs.Private.FullReading.{full}
-use Rattle.sedck_bre.proofs.Whole.{read-none, read-over, read-rest, shape_of, only_of, none_of, none_closed}
+use Rattle.sedck_bre.proofs.WholeReading.{read-none, read-over, read-rest, shape_of, only_of, none_of, none_closed}
 use Rattle.sedck_bre.proofs.ViewLemmas.{tree-Seq}
 use Rattle.sedck_bre.proofs.parser.parse.Goals as goal
 use Rattle.std.proofs.lemmas.List.{nil_from_length}

@@ -7,12 +7,12 @@ use Rattle.sedck_bre.specs.Private.Sequence.{sequence}
 use Rattle.sedck_bre.specs.Shape as shape
 use Rattle.sedck_bre.specs.Private.Reading.{at_end, items_of}
 use Rattle.sedck_bre.specs.Private.Gives.{Gives, position_of, level_of, ClosedIs}
-use Rattle.sedck_bre.proofs.Loop.{group_read, groups-push, loop_ends, loop_goes, loop_fails, loop_fails_at, same_read, closed-push, closed_more}
+use Rattle.sedck_bre.proofs.ItemLoop.{group_read, groups-push, loop_ends, loop_goes, loop_fails, loop_fails_at, same_read, closed-push, closed_more}
 use Rattle.std.proofs.Math.ListN.{set}
 use Rattle.sedck_bre.specs.declared.tree.Bre.TheVariants as Bre
 use Rattle.sedck_bre.proofs.ViewLemmas.{tree-Seq, tree-Group}
 use Rattle.sedck_bre.specs.Private.FullReading.{full, IsTail}
-use Rattle.sedck_bre.proofs.Tails.{tail_drop}
+use Rattle.sedck_bre.proofs.OffsetLemmas.{tail_drop}
 use Rattle.sedck_bre.proofs.reader.+list.Goals as goal
 
 pub list-returns-clause-value : goal.list-returns-clause-value

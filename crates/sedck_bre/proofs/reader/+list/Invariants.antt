@@ -6,7 +6,7 @@ use Rattle.sedck_bre.specs.Shape as shape
 use Rattle.sedck_bre.specs.Private.Reading.{items_of}
 use Rattle.sedck_bre.specs.Private.FullReading.{full, IsTail}
 use Rattle.sedck_bre.specs.Private.Gives.{position_of, level_of, ClosedIs}
-use Rattle.sedck_bre.proofs.Loop.{with_front}
+use Rattle.sedck_bre.proofs.ItemLoop.{with_front}
 use Rattle.sedck_bre.proofs.reader.+list.Given as goal
 
 abbrev pub decreases-list : goal.decreases-list

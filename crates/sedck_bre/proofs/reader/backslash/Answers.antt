@@ -1,5 +1,5 @@
 use Rattle.std.proofs.Common.{◌∷◌, []}
-use Rattle.sedck_bre.proofs.Tails.{tail_split}
+use Rattle.sedck_bre.proofs.OffsetLemmas.{tail_split}
 use Rattle.sedck_bre.proofs.reader.backslash.Goals as goal
 
 pub returns-clause-tail : goal.returns-clause-tail

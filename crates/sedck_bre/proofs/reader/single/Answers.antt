@@ -1,9 +1,9 @@
 use Rattle.std.proofs.Common.{refl, get_or, take, drop, Some, ◌-◌, ◌≡◌, ◌<◌, length, sym, ap, ◌∙◌, subst, arith}
 use Rattle.sedck_bre.specs.Private.Gives.{position_of, level_of}
 use Rattle.sedck_bre.specs.Faults.{HasOneAt}
-use Rattle.sedck_bre.proofs.Loop.{any_read, no_group}
+use Rattle.sedck_bre.proofs.ItemLoop.{any_read, no_group}
 use Rattle.sedck_bre.proofs.ViewLemmas.{tree-Any}
-use Rattle.sedck_bre.proofs.Tails.{tail_rest, stands_at, begins_first}
+use Rattle.sedck_bre.proofs.OffsetLemmas.{tail_rest, stands_at, begins_first}
 use Rattle.sedck_bre.proofs.reader.single.Goals as goal
 
 pub returns-in-46-clause-tail : goal.returns-in-46-clause-tail

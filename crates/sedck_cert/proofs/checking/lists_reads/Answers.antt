@@ -1,7 +1,7 @@
 use Rattle.std.proofs.Common.{sym, ◌∙◌}
 use Rattle.sedck_script.specs.Names.{reads as names_of_script}
 use Rattle.sedck_flow.specs.Run.{NamesForReading}
-use Rattle.sedck_cert.proofs.Listed.{reads_listed, only_list}
+use Rattle.sedck_cert.proofs.NamesListed.{reads_listed, only_list}
 use Rattle.sedck_cert.proofs.checking.lists_reads.Goals as goal
 
 -- the sorted names of the script are the only list

@@ -1,7 +1,7 @@
 use Rattle.std.proofs.Common.{sym, ◌∙◌}
 use Rattle.sedck_script.specs.Names.{writes as names_of_script}
 use Rattle.sedck_flow.specs.Run.{NamesForWriting}
-use Rattle.sedck_cert.proofs.Listed.{writes_listed, only_list}
+use Rattle.sedck_cert.proofs.NamesListed.{writes_listed, only_list}
 use Rattle.sedck_cert.proofs.checking.lists_writes.Goals as goal
 
 -- the sorted names of the script are the only list

@@ -1,6 +1,6 @@
 use Rattle.std.proofs.Common.{inr, refl}
-use Rattle.sedck_script.proofs.Outcomes.{if_err_from}
-use Rattle.sedck_cert.proofs.Either.{IsRefusedInAny, spelled_one, refused_one, two_only, two_refused}
+use Rattle.sedck_script.proofs.ResultLemmas.{if_err_from}
+use Rattle.sedck_cert.proofs.EitherVersion.{IsRefusedInAny, spelled_one, refused_one, two_only, two_refused}
 use Rattle.sedck_cert.proofs.reading.read_any.Goals as goal
 
 pub returns-then-not-says_version_one-clause-only : goal.returns-then-not-says_version_one-clause-only

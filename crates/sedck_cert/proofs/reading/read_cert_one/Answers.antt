@@ -1,12 +1,12 @@
 use Rattle.std.proofs.Common.{◌≡◌, ◌⊎◌, IfSome, sym, ◌∙◌}
-use Rattle.sedck_script.proofs.Outcomes.{if_err_from}
+use Rattle.sedck_script.proofs.ResultLemmas.{if_err_from}
 use Rattle.sedck_cert.specs.Certificate.{Certificate}
 use Rattle.sedck_cert.specs.Text.{IsTextOf}
 use Rattle.sedck_cert.specs.Faults.{IsFaultOf, IsLineOf, line_of}
 use Rattle.sedck_cert.specs.declared.versions.Version.TheVariants.{One}
 use Rattle.sedck_cert.specs.declared.reading.CertFault.TheVariants.{OutOfMemory}
-use Rattle.sedck_cert.proofs.Again.{text_of_one}
-use Rattle.sedck_cert.proofs.Whole.{refused_none, refused_placed}
+use Rattle.sedck_cert.proofs.UniqueTexts.{text_of_one}
+use Rattle.sedck_cert.proofs.WholeReading.{refused_none, refused_placed}
 use Rattle.sedck_cert.proofs.reading.read_cert_one.Goals as goal
 
 pub returns-clause-only : goal.returns-clause-only

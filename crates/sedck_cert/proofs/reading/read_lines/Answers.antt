@@ -4,10 +4,10 @@ use Rattle.sedck_cert.specs.View.{names_of}
 use Rattle.sedck_cert.specs.Faults.{Count, Node, Names, Last, IsFaultOf}
 use Rattle.sedck_cert.specs.declared.reading.names.Files.TheVariants.{Reads, Writes}
 use Rattle.sedck_cert.specs.declared.reading.CertFault.TheVariants.{OutOfMemory}
-use Rattle.sedck_script.proofs.Outcomes.{if_err_from}
-use Rattle.sedck_cert.proofs.Leads.{leads_on}
-use Rattle.sedck_cert.proofs.Whole.{fault_later, fault_in_each, whole_is, whole_text}
-use Rattle.sedck_cert.proofs.Names.{names-few}
+use Rattle.sedck_script.proofs.ResultLemmas.{if_err_from}
+use Rattle.sedck_cert.proofs.LineLemmas.{leads_on}
+use Rattle.sedck_cert.proofs.WholeReading.{fault_later, fault_in_each, whole_is, whole_text}
+use Rattle.sedck_cert.proofs.NameLines.{names-few}
 use Rattle.sedck_cert.proofs.reading.read_lines.Goals as goal
 
 pub returns-in_err-commands-clause-refused : goal.returns-in_err-commands-clause-refused

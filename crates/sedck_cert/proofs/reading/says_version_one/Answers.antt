@@ -1,4 +1,4 @@
-use Rattle.sedck_cert.proofs.Either.{says_by_test}
+use Rattle.sedck_cert.proofs.EitherVersion.{says_by_test}
 use Rattle.sedck_cert.proofs.reading.says_version_one.Goals as goal
 
 pub returns : goal.returns

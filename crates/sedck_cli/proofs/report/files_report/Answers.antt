@@ -4,7 +4,7 @@ use Rattle.std.specs.Borrow.{Bor}
 use Rattle.std.proofs.lemmas.List.{length-map}
 use Rattle.sedck_script.specs.Names.{reads, writes}
 use Rattle.sedck_cert.specs.Text.{line, name_lines, files_text}
-use Rattle.sedck_cert.proofs.Listed.{reads_listed, writes_listed}
+use Rattle.sedck_cert.proofs.NamesListed.{reads_listed, writes_listed}
 use Rattle.sedck_cli.proofs.report.files_report.Goals as goal
 
 abbrev part : List ℕ → List (Bor (List ℕ)) → List ℕ

@@ -1,7 +1,7 @@
 use Rattle.sedck_script.specs.Parts.{none, one}
-use Rattle.sedck_script.proofs.Outcomes.{if_err_from}
-use Rattle.sedck_script.proofs.Tails.{tail_tail}
-use Rattle.sedck_script.proofs.AddressOnly.{only_none, only_one, only_two, two_read, no_first, no_second, place_tail, place_found, none_found, second_found, no_comma_found}
+use Rattle.sedck_script.proofs.ResultLemmas.{if_err_from}
+use Rattle.sedck_script.proofs.OffsetLemmas.{tail_tail}
+use Rattle.sedck_script.proofs.UniqueAddresses.{only_none, only_one, only_two, two_read, no_first, no_second, place_tail, place_found, none_found, second_found, no_comma_found}
 use Rattle.sedck_script.proofs.addresses.address_at.Goals as goal
 
 pub returns-in_err-from-clause-refused : goal.returns-in_err-from-clause-refused

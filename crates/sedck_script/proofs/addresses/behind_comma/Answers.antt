@@ -1,6 +1,6 @@
 use Rattle.std.proofs.Common.{subst, arith}
 use Rattle.sedck_script.specs.Cuts.{is_blank, Longest}
-use Rattle.sedck_script.proofs.AddressOnly.{no_comma_end, no_comma}
+use Rattle.sedck_script.proofs.UniqueAddresses.{no_comma_end, no_comma}
 use Rattle.sedck_script.proofs.addresses.behind_comma.Goals as goal
 
 pub returns-in_default-clause-none : goal.returns-in_default-clause-none

@@ -1,6 +1,6 @@
 use Rattle.std.proofs.Common.{refl, ap}
 use Rattle.sedck_script.specs.View.{pattern_of}
-use Rattle.sedck_script.proofs.Outcomes.{if_err_from}
+use Rattle.sedck_script.proofs.ResultLemmas.{if_err_from}
 use Rattle.sedck_script.proofs.PlaceLemmas.{empty_place}
 use Rattle.sedck_script.proofs.addresses.context.Goals as goal
 use Rattle.sedck_script.proofs.addresses.context.Goals.{in-Previous, in-Expr}

@@ -1,6 +1,6 @@
 use Rattle.std.proofs.Common.{subst}
 use Rattle.sedck_script.specs.Private.Reading.{EndsIn}
-use Rattle.sedck_script.proofs.Outcomes.{if_err_more}
+use Rattle.sedck_script.proofs.ResultLemmas.{if_err_more}
 use Rattle.sedck_script.proofs.AddressLemmas.{custom_delimiter}
 use Rattle.sedck_script.proofs.addresses.custom_context.Goals as goal
 

@@ -2,8 +2,8 @@ use Rattle.std.proofs.Common.{◌∷◌, refl, ap, ◌∙◌, subst, inl, arith}
 use Rattle.sedck_script.specs.Private.Reading.{EndsIn}
 use Rattle.sedck_script.proofs.PlaceLemmas.{no_number_place, unread_address, part_placed}
 use Rattle.sedck_script.specs.Parts.{line}
-use Rattle.sedck_script.proofs.Outcomes.{if_ok_more, if_err_more, if_err_both}
-use Rattle.sedck_script.proofs.Tails.{tail_behind, stands_at_tail}
+use Rattle.sedck_script.proofs.ResultLemmas.{if_ok_more, if_err_more, if_err_both}
+use Rattle.sedck_script.proofs.OffsetLemmas.{tail_behind, stands_at_tail}
 use Rattle.sedck_script.proofs.AddressLemmas.{last_text, slash_text, slash_only, custom_text, custom_only, no_line}
 use Rattle.sedck_script.proofs.addresses.place_here.Goals as goal
 

@@ -1,8 +1,8 @@
 use Rattle.std.proofs.Common.{inr}
-use Rattle.sedck_script.proofs.Outcomes.{if_err_from}
-use Rattle.sedck_script.proofs.Tails.{tail_length}
+use Rattle.sedck_script.proofs.ResultLemmas.{if_err_from}
+use Rattle.sedck_script.proofs.OffsetLemmas.{tail_length}
 use Rattle.sedck_script.proofs.PlaceLemmas.{no_second_place}
-use Rattle.sedck_script.proofs.AddressOnly.{comma_tail, no_place, none_found, place_found}
+use Rattle.sedck_script.proofs.UniqueAddresses.{comma_tail, no_place, none_found, place_found}
 use Rattle.sedck_script.proofs.addresses.second_at.Goals as goal
 
 pub place_at-requires : goal.place_at-requires

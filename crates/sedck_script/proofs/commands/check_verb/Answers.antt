@@ -3,7 +3,7 @@ use Rattle.std.proofs.lemmas.Bool.{false≢true}
 use Rattle.sedck_bre.specs.Text.{is_in}
 use Rattle.sedck_script.specs.Faults.{verb_bytes}
 use Rattle.sedck_script.specs.View.{address_of}
-use Rattle.sedck_script.proofs.Tails.{stands_at_tail}
+use Rattle.sedck_script.proofs.OffsetLemmas.{stands_at_tail}
 use Rattle.sedck_script.proofs.VerbBytes.{byte_of, same_byte, not_taken}
 use Rattle.sedck_script.proofs.commands.check_verb.Goals.{else-verb-eq123-via-then-verb-eq123+else-depth-ge-DEPTH_LIMIT, else-verb-eq123-via-else-verb-eq123}
 use Rattle.sedck_script.proofs.commands.check_verb.Goals as goal

@@ -3,8 +3,8 @@ use Rattle.sedck_script.specs.Program.{address_patterns}
 use Rattle.sedck_script.specs.View.{address_of}
 use Rattle.sedck_script.specs.Private.VerbReading.{written_verb}
 use Rattle.sedck_script.specs.Private.Progress.{written_patterns}
-use Rattle.sedck_script.proofs.Outcomes.{if_err_from}
-use Rattle.sedck_script.proofs.Tails.{tail_cut, tail_tail, tail_length}
+use Rattle.sedck_script.proofs.ResultLemmas.{if_err_from}
+use Rattle.sedck_script.proofs.OffsetLemmas.{tail_cut, tail_tail, tail_length}
 use Rattle.sedck_script.proofs.PlaceLemmas.{verb_due, empty_verb_place}
 use Rattle.sedck_script.proofs.CommandLemmas.{address_tail, command_parts, empty_append, takes_along}
 use Rattle.sedck_script.proofs.commands.command_at.Goals as goal

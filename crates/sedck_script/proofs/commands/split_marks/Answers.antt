@@ -1,5 +1,5 @@
 use Rattle.sedck_script.specs.Private.AddressReading.{is_mark}
-use Rattle.sedck_script.proofs.Cuts.{longest_parts}
+use Rattle.sedck_script.proofs.LongestRuns.{longest_parts}
 use Rattle.sedck_script.proofs.commands.split_marks.Goals as goal
 
 pub returns : goal.returns

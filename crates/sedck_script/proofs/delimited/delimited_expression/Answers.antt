@@ -1,7 +1,7 @@
 use Rattle.std.proofs.Common.{[], ◌∷◌, ◌++◌, ◌∙◌, ap, subst, append_assoc}
 use Rattle.sedck_script.specs.Private.PieceReading.{IsPiece}
-use Rattle.sedck_script.proofs.Outcomes.{if_err_each}
-use Rattle.sedck_script.proofs.WholeOne.{no_backslash}
+use Rattle.sedck_script.proofs.ResultLemmas.{if_err_each}
+use Rattle.sedck_script.proofs.UniqueVerbs.{no_backslash}
 use Rattle.sedck_script.proofs.PieceLemmas.{piece_tail, expression_more, expression_byte, expression_escaped, expression_pair, expression_end, expression_stuck, expression_broken}
 use Rattle.sedck_script.proofs.delimited.delimited_expression.Goals as goal
 

@@ -1,8 +1,8 @@
 use Rattle.std.proofs.Common.{◌≡◌, None, refl, ap, sym, subst}
 use Rattle.sedck_script.specs.Private.PieceReading.{IsPiece, list_escape}
-use Rattle.sedck_script.proofs.Tails.{stands_at_tail}
-use Rattle.sedck_script.proofs.Outcomes.{if_err_each}
-use Rattle.sedck_script.proofs.WholeOne.{no_backslash}
+use Rattle.sedck_script.proofs.OffsetLemmas.{stands_at_tail}
+use Rattle.sedck_script.proofs.ResultLemmas.{if_err_each}
+use Rattle.sedck_script.proofs.UniqueVerbs.{no_backslash}
 use Rattle.sedck_script.proofs.PieceLemmas.{piece_tail, list_more, list_byte, list_escaped, list_pair, list_end, list_stuck, list_broken}
 use Rattle.sedck_script.proofs.delimited.delimited_list.Goals as goal
 

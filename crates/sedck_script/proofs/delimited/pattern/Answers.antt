@@ -1,9 +1,9 @@
 use Rattle.std.proofs.Common.{refl, sym, subst, arith}
 use Rattle.sedck_bre.specs.Shape.{Shape}
 use Rattle.sedck_bre.specs.Faults.{IsPlaced}
-use Rattle.sedck_script.proofs.Tails.{tail_behind}
+use Rattle.sedck_script.proofs.OffsetLemmas.{tail_behind}
 use Rattle.sedck_script.proofs.PlaceLemmas.{refused_expression}
-use Rattle.sedck_script.proofs.WholeOne.{no_backslash}
+use Rattle.sedck_script.proofs.UniqueVerbs.{no_backslash}
 use Rattle.sedck_script.proofs.PieceLemmas.{pattern_none, pattern_some, pattern_none_only, pattern_some_only, no_pattern}
 use Rattle.sedck_script.proofs.delimited.pattern.Goals as goal
 

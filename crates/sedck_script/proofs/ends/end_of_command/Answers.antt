@@ -1,5 +1,5 @@
 use Rattle.std.proofs.Common.{◌∙◌, sym}
-use Rattle.sedck_script.proofs.Ending.{no_end, extra_stands}
+use Rattle.sedck_script.proofs.CommandEnds.{no_end, extra_stands}
 use Rattle.sedck_script.proofs.ends.end_of_command.Goals as goal
 
 pub returns-then-not-is_ending-clause-refused : goal.returns-then-not-is_ending-clause-refused

@@ -1,6 +1,6 @@
 use Rattle.std.proofs.Common.{refl, ◌∙◌, sym}
-use Rattle.sedck_script.proofs.Outcomes.{if_err_always}
-use Rattle.sedck_script.proofs.Tails.{stands_at_tail}
+use Rattle.sedck_script.proofs.ResultLemmas.{if_err_always}
+use Rattle.sedck_script.proofs.OffsetLemmas.{stands_at_tail}
 use Rattle.sedck_script.proofs.PlaceLemmas.{extra_digit, cut_at, unread_verb}
 use Rattle.sedck_script.proofs.VerbCases.{no_name}
 use Rattle.sedck_script.proofs.FlagLemmas.{no_flag, no_file, no_number, no_flags_end}

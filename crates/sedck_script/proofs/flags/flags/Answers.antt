@@ -1,6 +1,6 @@
 use Rattle.std.proofs.Common.{refl, ◌∙◌, sym, subst}
 use Rattle.sedck_script.specs.Private.FlagReading.{IsFlag}
-use Rattle.sedck_script.proofs.Tails.{stands_at_tail}
+use Rattle.sedck_script.proofs.OffsetLemmas.{stands_at_tail}
 use Rattle.sedck_script.proofs.PlaceLemmas.{extra_number}
 use Rattle.sedck_script.proofs.FlagLemmas.{FlagsPassed, flags_global, flags_print, flags_nth, global_twice, print_twice, nth_twice, none_of, flags_end, flags_file}
 use Rattle.sedck_script.proofs.flags.flags.Goals as goal

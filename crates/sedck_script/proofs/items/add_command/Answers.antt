@@ -6,8 +6,8 @@ use Rattle.sedck_script.specs.View.{address_of}
 use Rattle.sedck_script.specs.Private.VerbReading.{written_verb, DefinesKnown}
 use Rattle.sedck_script.specs.Private.ItemReading.{item_of, commands_among, IsItemAt}
 use Rattle.sedck_script.specs.Private.Progress.{IsBeyond, NotesLabel, patterns_of, item_patterns}
-use Rattle.sedck_script.proofs.Outcomes.{if_err_from}
-use Rattle.sedck_script.proofs.Tails.{tail_length}
+use Rattle.sedck_script.proofs.ResultLemmas.{if_err_from}
+use Rattle.sedck_script.proofs.OffsetLemmas.{tail_length}
 use Rattle.sedck_script.proofs.ProgressLemmas.{front_refused, front_command, command_shorter, brace_stands}
 use Rattle.sedck_script.proofs.StateLemmas.{among_append, patterns_push, labels_noted, blocks_noted}
 use Rattle.sedck_script.proofs.CommandLemmas.{empty_append}

@@ -6,8 +6,8 @@ use Rattle.sedck_script.specs.Faults.{StandsAt}
 use Rattle.sedck_script.specs.Cuts.{brace}
 use Rattle.sedck_script.specs.Private.ItemReading.{item_of, IsItemAt}
 use Rattle.sedck_script.specs.Private.Progress.{IsFront}
-use Rattle.sedck_script.proofs.Outcomes.{if_err_from}
-use Rattle.sedck_script.proofs.Tails.{tail_behind, stands_at_tail}
+use Rattle.sedck_script.proofs.ResultLemmas.{if_err_from}
+use Rattle.sedck_script.proofs.OffsetLemmas.{tail_behind, stands_at_tail}
 use Rattle.sedck_script.proofs.ProgressLemmas.{front_unopened, front_unended, front_closing}
 use Rattle.sedck_script.proofs.StateLemmas.{among_closing, patterns_closing, opened_front}
 use Rattle.sedck_script.proofs.items.close_block.Goals as goal

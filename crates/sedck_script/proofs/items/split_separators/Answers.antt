@@ -1,5 +1,5 @@
 use Rattle.sedck_script.specs.Cuts.{is_separator}
-use Rattle.sedck_script.proofs.Cuts.{longest_parts}
+use Rattle.sedck_script.proofs.LongestRuns.{longest_parts}
 use Rattle.sedck_script.proofs.items.split_separators.Goals as goal
 
 pub returns : goal.returns

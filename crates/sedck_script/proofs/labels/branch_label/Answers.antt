@@ -1,6 +1,6 @@
 use Rattle.std.proofs.Common.{arith}
 use Rattle.sedck_bre.specs.Text.{one_of}
-use Rattle.sedck_script.proofs.Outcomes.{if_err_always}
+use Rattle.sedck_script.proofs.ResultLemmas.{if_err_always}
 use Rattle.sedck_script.proofs.LabelLemmas.{no_branch_end, no_branch_label}
 use Rattle.sedck_script.proofs.labels.branch_label.Goals as goal
 

@@ -1,5 +1,5 @@
 use Rattle.std.proofs.Common.{◌∙◌, sym}
-use Rattle.sedck_script.proofs.Ending.{no_end}
+use Rattle.sedck_script.proofs.CommandEnds.{no_end}
 use Rattle.sedck_script.proofs.PlaceLemmas.{no_label_place}
 use Rattle.sedck_script.proofs.LabelLemmas.{end_without_label}
 use Rattle.sedck_script.proofs.labels.check_no_label.Goals as goal

@@ -2,7 +2,7 @@ use Rattle.std.proofs.Common.{◌≡◌, ℕ, ◌+◌, ◌-◌, sym, subst, arit
 use Rattle.sedck_script.specs.Faults.{IsPlaced}
 use Rattle.sedck_script.specs.declared.fault.ScriptFault.TheVariants.{BadLabel}
 use Rattle.sedck_bre.specs.Text.{one_of}
-use Rattle.sedck_script.proofs.Outcomes.{if_err_always}
+use Rattle.sedck_script.proofs.ResultLemmas.{if_err_always}
 use Rattle.sedck_script.proofs.PlaceLemmas.{no_label_place}
 use Rattle.sedck_script.proofs.LabelLemmas.{no_label_there, no_definition}
 use Rattle.sedck_script.proofs.labels.defined_label.Goals as goal

@@ -1,5 +1,5 @@
 use Rattle.std.proofs.Common.{length, ap, length-append, arith, refl}
-use Rattle.sedck_script.proofs.Tails.{tail_behind, tail_cut, tail_tail, tail_length}
+use Rattle.sedck_script.proofs.OffsetLemmas.{tail_behind, tail_cut, tail_tail, tail_length}
 use Rattle.sedck_script.proofs.PlaceLemmas.{behind_label, label_begins}
 use Rattle.sedck_script.proofs.labels.label_parts.Goals as goal
 

@@ -1,6 +1,6 @@
 use Rattle.std.proofs.Common.{not}
 use Rattle.sedck_script.specs.Cuts.{is_newline}
-use Rattle.sedck_script.proofs.Cuts.{longest_parts}
+use Rattle.sedck_script.proofs.LongestRuns.{longest_parts}
 use Rattle.sedck_script.proofs.names.split_line.Goals as goal
 
 pub returns : goal.returns

@@ -5,8 +5,8 @@ use Rattle.sedck_script.specs.View.{command_of}
 use Rattle.sedck_script.specs.Private.Fields.{program_from}
 use Rattle.sedck_script.specs.Spelling.{Spells}
 use Rattle.sedck_script.specs.declared.name_lists.Access.TheVariants.{Read, Write}
-use Rattle.sedck_script.proofs.ItemsOne.{whole_one}
-use Rattle.sedck_script.proofs.SpelledScript.{spelled_script}
+use Rattle.sedck_script.proofs.UniqueItems.{whole_one}
+use Rattle.sedck_script.proofs.SpelledIsScript.{spelled_script}
 use Rattle.sedck_script.proofs.parsing.parse.Goals as goal
 
 pub new-requires-clause-script : goal.new-requires-clause-script

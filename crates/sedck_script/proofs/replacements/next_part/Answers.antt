@@ -1,9 +1,9 @@
 use Rattle.std.proofs.Common.{subst}
 use Rattle.sedck_script.specs.View.{part_of}
 use Rattle.sedck_script.specs.Private.PieceReading.{IsPiece}
-use Rattle.sedck_script.proofs.Outcomes.{if_err_always}
-use Rattle.sedck_script.proofs.Tails.{stands_at_tail}
-use Rattle.sedck_script.proofs.WholeOne.{no_backslash}
+use Rattle.sedck_script.proofs.ResultLemmas.{if_err_always}
+use Rattle.sedck_script.proofs.OffsetLemmas.{stands_at_tail}
+use Rattle.sedck_script.proofs.UniqueVerbs.{no_backslash}
 use Rattle.sedck_script.proofs.ReplacementLemmas.{replacement_stuck, replacement_broken, first_whole, first_run, first_escaped, first_pair}
 use Rattle.sedck_script.proofs.replacements.next_part.Goals as goal
 

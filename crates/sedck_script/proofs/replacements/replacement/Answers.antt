@@ -3,7 +3,7 @@ use Rattle.std.specs.Prelude.{option_map}
 use Rattle.std.proofs.lemmas.List.{map_push}
 use Rattle.sedck_script.specs.View.{part_of}
 use Rattle.sedck_script.specs.Private.ReplacementReading.{IsNextPart}
-use Rattle.sedck_script.proofs.Outcomes.{if_err_each}
+use Rattle.sedck_script.proofs.ResultLemmas.{if_err_each}
 use Rattle.sedck_script.proofs.ReplacementLemmas.{parts_more, parts_end, parts_stuck}
 use Rattle.sedck_script.proofs.replacements.replacement.Goals as goal
 

@@ -1,5 +1,5 @@
 use Rattle.sedck_script.specs.Parts.{is_plain}
-use Rattle.sedck_script.proofs.Cuts.{longest_parts}
+use Rattle.sedck_script.proofs.LongestRuns.{longest_parts}
 use Rattle.sedck_script.proofs.replacements.split_plain.Goals as goal
 
 pub returns : goal.returns

@@ -1,7 +1,7 @@
 use Rattle.std.proofs.Common.{inl, inr, sym, subst}
 use Rattle.std.specs.Prelude.{All, Any}
 use Rattle.sedck_script.specs.Private.ItemReading.{item_of, item_label, IsLostLabel, IsKnownLabel, IsItemAt}
-use Rattle.sedck_script.proofs.Outcomes.{if_err_from, if_err_more}
+use Rattle.sedck_script.proofs.ResultLemmas.{if_err_from, if_err_more}
 use Rattle.sedck_script.proofs.resolving.linked.Goals as goal
 
 pub resolve-requires-clause-known : goal.resolve-requires-clause-known

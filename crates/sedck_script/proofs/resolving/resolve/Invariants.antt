@@ -2,7 +2,7 @@ use Rattle.std.proofs.Common.{length, map, reverse}
 use Rattle.std.specs.Prelude.{All}
 use Rattle.sedck_script.specs.View.{command_of}
 use Rattle.sedck_script.specs.Private.ItemReading.{item_of, IsKnownLabel, item_label}
-use Rattle.sedck_script.proofs.BackLemmas.{IsBack}
+use Rattle.sedck_script.proofs.ResolvingLemmas.{IsBack}
 use Rattle.sedck_script.proofs.resolving.resolve.Given as goal
 
 abbrev pub invariant-loop-item : goal.invariant-loop-item

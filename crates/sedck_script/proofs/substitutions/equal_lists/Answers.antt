@@ -1,7 +1,7 @@
 use Rattle.std.proofs.Common.{arith}
-use Rattle.sedck_script.proofs.Tails.{tail_tail, list_tail}
-use Rattle.sedck_script.proofs.Outcomes.{if_err_from}
-use Rattle.sedck_script.proofs.WholeOne.{no_backslash}
+use Rattle.sedck_script.proofs.OffsetLemmas.{tail_tail, list_tail}
+use Rattle.sedck_script.proofs.ResultLemmas.{if_err_from}
+use Rattle.sedck_script.proofs.UniqueVerbs.{no_backslash}
 use Rattle.sedck_script.proofs.VerbLemmas.{no_second_list, unequal_lists}
 use Rattle.sedck_script.proofs.substitutions.equal_lists.Goals as goal
 

@@ -5,12 +5,12 @@ use Rattle.std.proofs.lemmas.List.Elements.{All-from_recursion}
 use Rattle.sedck_script.specs.Private.Reading.{EndsIn}
 use Rattle.sedck_script.specs.View.{pattern_of, part_of}
 use Rattle.sedck_script.specs.Invariant.{IsPart}
-use Rattle.sedck_script.proofs.Tails.{tail_length, tail_tail, tail_behind, expression_tail, replacement_tail}
-use Rattle.sedck_script.proofs.Outcomes.{if_err_each, if_err_from}
+use Rattle.sedck_script.proofs.OffsetLemmas.{tail_length, tail_tail, tail_behind, expression_tail, replacement_tail}
+use Rattle.sedck_script.proofs.ResultLemmas.{if_err_each, if_err_from}
 use Rattle.sedck_script.proofs.PlaceLemmas.{part_placed, unread_verb}
-use Rattle.sedck_script.proofs.WholeOne.{no_backslash}
+use Rattle.sedck_script.proofs.UniqueVerbs.{no_backslash}
 use Rattle.sedck_script.proofs.VerbLemmas.{substitute_read, substitute_no_delimiter, substitute_no_pattern, substitute_no_parts, substitute_no_flags}
-use Rattle.sedck_script.proofs.Bounds.{replacement_parts, replacement_size}
+use Rattle.sedck_script.proofs.SizesWithin.{replacement_parts, replacement_size}
 use Rattle.sedck_script.proofs.substitutions.substitution.Goals as goal
 
 pub returns-in_err-delimiter-clause-placed : goal.returns-in_err-delimiter-clause-placed

@@ -1,8 +1,8 @@
 use Rattle.std.proofs.Common.{refl}
-use Rattle.sedck_script.proofs.Tails.{tail_tail, tail_behind}
-use Rattle.sedck_script.proofs.Outcomes.{if_err_each, if_err_from}
+use Rattle.sedck_script.proofs.OffsetLemmas.{tail_tail, tail_behind}
+use Rattle.sedck_script.proofs.ResultLemmas.{if_err_each, if_err_from}
 use Rattle.sedck_script.proofs.PlaceLemmas.{part_placed, unread_verb}
-use Rattle.sedck_script.proofs.WholeOne.{no_backslash}
+use Rattle.sedck_script.proofs.UniqueVerbs.{no_backslash}
 use Rattle.sedck_script.proofs.VerbLemmas.{transliterate_read, transliterate_no_delimiter, transliterate_no_lists, transliterate_no_end, lists_tail}
 use Rattle.sedck_script.proofs.substitutions.transliteration.Goals as goal
 

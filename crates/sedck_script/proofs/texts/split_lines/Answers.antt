@@ -1,5 +1,5 @@
 use Rattle.std.proofs.Common.{refl}
-use Rattle.sedck_script.proofs.Tails.{lines_tail, tail_length, lines_parts}
+use Rattle.sedck_script.proofs.OffsetLemmas.{lines_tail, tail_length, lines_parts}
 use Rattle.sedck_script.proofs.texts.split_lines.Goals as goal
 
 pub overflow_sub-text : goal.overflow_sub-text

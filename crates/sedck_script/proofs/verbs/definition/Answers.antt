@@ -1,7 +1,7 @@
 use Rattle.std.proofs.Common.{refl, ◌∙◌, ap, sym, is_some}
 use Rattle.sedck_script.specs.Items.{label}
-use Rattle.sedck_script.proofs.Tails.{tail_behind, tail_tail, label_text_tail}
-use Rattle.sedck_script.proofs.Outcomes.{if_err_always}
+use Rattle.sedck_script.proofs.OffsetLemmas.{tail_behind, tail_tail, label_text_tail}
+use Rattle.sedck_script.proofs.ResultLemmas.{if_err_always}
 use Rattle.sedck_script.proofs.VerbCases.{no_definition_at, no_definition_end, defines_known}
 use Rattle.sedck_script.proofs.verbs.definition.Goals as goal
 

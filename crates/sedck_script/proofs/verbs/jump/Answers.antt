@@ -1,6 +1,6 @@
 use Rattle.std.proofs.Common.{inl, inr, sym}
 use Rattle.std.specs.Prelude.{option_copied}
-use Rattle.sedck_script.proofs.Outcomes.{if_err_each}
+use Rattle.sedck_script.proofs.ResultLemmas.{if_err_each}
 use Rattle.sedck_script.proofs.VerbCases.{branch_read, test_read, byte_along, no_jump}
 use Rattle.sedck_script.proofs.verbs.jump.Goals as goal
 

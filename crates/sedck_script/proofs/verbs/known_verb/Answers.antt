@@ -1,7 +1,7 @@
 use Rattle.std.proofs.Common.{◌≡◌, ℕ, true, false, ◌∷◌, ◌∙◌, ap, sym, subst, arith}
 use Rattle.sedck_bre.specs.Text.{one_of}
 use Rattle.sedck_script.specs.Faults.{begins_address, IsPlaced}
-use Rattle.sedck_script.proofs.Outcomes.{if_err_both}
+use Rattle.sedck_script.proofs.ResultLemmas.{if_err_both}
 use Rattle.sedck_script.proofs.PlaceLemmas.{unread_verb}
 use Rattle.sedck_script.proofs.VerbCases.{unknown_byte}
 use Rattle.sedck_script.proofs.verbs.known_verb.Goals as goal

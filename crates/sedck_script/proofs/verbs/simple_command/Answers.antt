@@ -4,7 +4,7 @@ use Rattle.std.proofs.lemmas.Option.{slice_get_within}
 use Rattle.sedck_bre.specs.Text.{is_in}
 use Rattle.sedck_script.specs.Items.{simple}
 use Rattle.sedck_script.specs.Faults.{verb_bytes}
-use Rattle.sedck_script.proofs.Outcomes.{if_err_each}
+use Rattle.sedck_script.proofs.ResultLemmas.{if_err_each}
 use Rattle.sedck_script.proofs.VerbBytes.{byte_of, same_byte}
 use Rattle.sedck_script.proofs.VerbCases.{simple_no_end}
 use Rattle.sedck_script.proofs.verbs.simple_command.Goals as goal

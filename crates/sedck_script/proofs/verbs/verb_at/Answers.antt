@@ -1,10 +1,10 @@
 use Rattle.std.proofs.Common.{◌∷◌, refl, ap, ◌∙◌, subst}
 use Rattle.sedck_script.specs.Private.Reading.{EndsIn}
 use Rattle.sedck_script.specs.Items.{opening}
-use Rattle.sedck_script.proofs.Tails.{tail_behind, stands_at_tail}
+use Rattle.sedck_script.proofs.OffsetLemmas.{tail_behind, stands_at_tail}
 use Rattle.sedck_script.proofs.PlaceLemmas.{cut_at}
 use Rattle.sedck_script.proofs.VerbCases.{verb_here, verb_behind}
-use Rattle.sedck_script.proofs.Outcomes.{if_ok_more, if_err_more}
+use Rattle.sedck_script.proofs.ResultLemmas.{if_ok_more, if_err_more}
 use Rattle.sedck_script.proofs.verbs.verb_at.Goals as goal
 
 pub definition-requires : goal.definition-requires

@@ -5,7 +5,7 @@ use Rattle.sedck_script.specs.Invariant.{IsScript}
 use Rattle.sedck_script.specs.Program.{Program}
 use Rattle.sedck_flow.specs.Nodes.{node_index}
 use Rattle.sedck_flow.specs.declared.graph.Node.{Node}
-use Rattle.sedck_flow.proofs.Inside.{inside}
+use Rattle.sedck_flow.proofs.EdgesInside.{inside}
 use Rattle.sedck_flow.proofs.NodeLemmas.{node_same}
 use Rattle.sedck_search.specs.Private.NodeSet.{has}
 use Rattle.sedck_search.specs.Private.Reaching.{IsIn, IsOnlyTarget, IsReachCount}

@@ -2,7 +2,7 @@ use Rattle.std.proofs.Common.{◌≡◌, sym, subst}
 use Rattle.sedck_flow.specs.Flow.{Flow}
 use Rattle.sedck_flow.specs.declared.graph.Node.{Node}
 use Rattle.sedck_flow.specs.declared.graph.Edge.{Edge}
-use Rattle.sedck_flow.proofs.Inside.{inside}
+use Rattle.sedck_flow.proofs.EdgesInside.{inside}
 use Rattle.sedck_search.specs.Private.Reaching.{IsFollowed, IsIn}
 use Rattle.sedck_search.specs.Private.Frontier.{IsFollowedFrom}
 use Rattle.sedck_search.proofs.Paths.{index_below}

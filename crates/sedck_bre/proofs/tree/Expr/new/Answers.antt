@@ -5,8 +5,8 @@ use Rattle.sedck_bre.specs.View.{tree}
 use Rattle.sedck_bre.specs.Private.Bounds.{no_bounds, least}
 use Rattle.sedck_bre.specs.WellFormed.{IsWellFormed}
 use Rattle.sedck_bre.specs.Tree.{Tree}
-use Rattle.sedck_bre.proofs.Floor.{least-floor}
-use Rattle.sedck_bre.proofs.Reach.{least-met}
+use Rattle.sedck_bre.proofs.LeastFloor.{least-floor}
+use Rattle.sedck_bre.proofs.LeastReached.{least-met}
 use Rattle.sedck_bre.proofs.tree.Expr.new.Goals as goal
 
 is_least : (t : Tree) (n : ℕ) → IsWellFormed t → n ≡ min (least no_bounds t) cap → IsLeastSize (HasLength t) n

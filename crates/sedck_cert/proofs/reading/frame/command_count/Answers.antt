@@ -1,7 +1,7 @@
 use Rattle.std.proofs.Common.{refl, codes}
 use Rattle.sedck_cert.specs.Faults.{Count}
 use Rattle.sedck_cert.specs.Private.Reading.{Stops}
-use Rattle.sedck_cert.proofs.Leads.{wrong_count, stops_here, refused_or, none_of}
+use Rattle.sedck_cert.proofs.LineLemmas.{wrong_count, stops_here, refused_or, none_of}
 use Rattle.sedck_cert.proofs.reading.frame.command_count.Goals as goal
 
 pub returns-clause-refused : goal.returns-clause-refused

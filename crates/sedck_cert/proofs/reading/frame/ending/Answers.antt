@@ -1,6 +1,6 @@
 use Rattle.std.proofs.Common.{refl, codes, [], ◌∷◌, arith, ◌<◌, length}
 use Rattle.sedck_cert.specs.Faults.{Last, Nothing}
-use Rattle.sedck_cert.proofs.Leads.{wrong_word, stops_here, leads_one, leads_stops}
+use Rattle.sedck_cert.proofs.LineLemmas.{wrong_word, stops_here, leads_one, leads_stops}
 use Rattle.sedck_cert.proofs.reading.frame.ending.Goals as goal
 
 pub returns-then-not-next_is-clause-refused : goal.returns-then-not-next_is-clause-refused

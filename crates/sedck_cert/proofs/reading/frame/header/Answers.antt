@@ -1,6 +1,6 @@
 use Rattle.std.proofs.Common.{refl}
 use Rattle.sedck_cert.specs.Faults.{Header}
-use Rattle.sedck_cert.proofs.Leads.{wrong_word, stops_here}
+use Rattle.sedck_cert.proofs.LineLemmas.{wrong_word, stops_here}
 use Rattle.sedck_cert.proofs.reading.frame.header.Goals as goal
 
 pub returns-else-next_is-clause-refused : goal.returns-else-next_is-clause-refused

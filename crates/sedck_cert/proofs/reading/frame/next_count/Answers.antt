@@ -1,5 +1,5 @@
 use Rattle.std.proofs.Common.{◌++◌, ◌≤◌, decimal}
-use Rattle.sedck_cert.proofs.Leads.{no_cut, next_by_line}
+use Rattle.sedck_cert.proofs.LineLemmas.{no_cut, next_by_line}
 use Rattle.sedck_cert.proofs.reading.frame.next_count.Goals as goal
 
 pub returns-in_err-next : goal.returns-in_err-next

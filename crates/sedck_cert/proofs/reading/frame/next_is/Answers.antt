@@ -2,8 +2,8 @@ use Rattle.std.proofs.Common.{ℕ, List, Bool, true, false, ◌≡◌, ◌≢◌
 use Rattle.std.specs.Bool.{OnFalse, MatchBool}
 use Rattle.std.specs.Cmp.Lexicographic.{told_text}
 use Rattle.sedck_cert.specs.Private.Cuts.{IsCut}
-use Rattle.sedck_cert.proofs.Cuts.{cut_one}
-use Rattle.sedck_cert.proofs.Leads.{no_cut}
+use Rattle.sedck_cert.proofs.CutLemmas.{cut_one}
+use Rattle.sedck_cert.proofs.LineLemmas.{no_cut}
 use Rattle.sedck_cert.proofs.reading.frame.next_is.Goals as goal
 
 other : (rest line more text : List ℕ) (r : Bool) → IsCut 10 rest line more → MatchBool r (line ≡ text) (line ≢ text)

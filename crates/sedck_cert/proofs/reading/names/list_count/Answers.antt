@@ -2,7 +2,7 @@ use Rattle.std.proofs.Common.{ℕ, refl}
 use Rattle.sedck_cert.specs.Faults.{Names, list_word}
 use Rattle.sedck_cert.specs.Private.Reading.{Stops}
 use Rattle.sedck_cert.specs.declared.versions.Version.{Version}
-use Rattle.sedck_cert.proofs.Leads.{wrong_count, stops_here, refused_or, none_of}
+use Rattle.sedck_cert.proofs.LineLemmas.{wrong_count, stops_here, refused_or, none_of}
 use Rattle.sedck_cert.proofs.reading.names.list_count.Goals as goal
 
 pub returns-clause-refused : goal.returns-clause-refused

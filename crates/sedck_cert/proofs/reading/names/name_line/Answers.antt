@@ -1,8 +1,8 @@
 use Rattle.std.proofs.Common.{◌≡◌, suc, true, false, refl}
 use Rattle.sedck_cert.specs.Faults.{Name}
 use Rattle.sedck_cert.specs.Private.Reading.{one_before}
-use Rattle.sedck_cert.proofs.Leads.{wrong_none, stops_here}
-use Rattle.sedck_cert.proofs.Names.{wrong_name}
+use Rattle.sedck_cert.proofs.LineLemmas.{wrong_none, stops_here}
+use Rattle.sedck_cert.proofs.NameLines.{wrong_name}
 use Rattle.sedck_cert.proofs.reading.names.name_line.Goals as goal
 
 pub returns-in_default-clause-refused : goal.returns-in_default-clause-refused

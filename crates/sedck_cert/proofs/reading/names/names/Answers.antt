@@ -4,9 +4,9 @@ use Rattle.sedck_cert.specs.Faults.{Names}
 use Rattle.sedck_cert.specs.declared.versions.Version.{Version}
 use Rattle.sedck_cert.specs.Private.Reading.{Stops, one_before}
 use Rattle.sedck_cert.specs.declared.reading.CertFault.TheVariants.{OutOfMemory}
-use Rattle.sedck_script.proofs.Outcomes.{if_err_from}
-use Rattle.sedck_cert.proofs.Leads.{leads_stops}
-use Rattle.sedck_cert.proofs.Names.{leads_name, names_due-more, leads_no_names, leads_all_names}
+use Rattle.sedck_script.proofs.ResultLemmas.{if_err_from}
+use Rattle.sedck_cert.proofs.LineLemmas.{leads_stops}
+use Rattle.sedck_cert.proofs.NameLines.{leads_name, names_due-more, leads_no_names, leads_all_names}
 use Rattle.sedck_cert.proofs.reading.names.names.Goals as goal
 
 pub loop-before-init : goal.loop-before-init

@@ -1,6 +1,6 @@
 use Rattle.std.proofs.Common.{◌≡◌, rules}
 use Rattle.std.specs.Prelude.{if◌then◌else◌}
-use Rattle.sedck_cert.proofs.Cuts.{flag_text-digit}
+use Rattle.sedck_cert.proofs.CutLemmas.{flag_text-digit}
 use Rattle.sedck_cert.proofs.reading.nodes.behind_flag.Goals as goal
 
 pub returns : goal.returns

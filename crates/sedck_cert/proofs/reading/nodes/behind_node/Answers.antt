@@ -1,6 +1,6 @@
 use Rattle.std.specs.Prelude.{◌++◌, codes, decimal, Some, None}
 use Rattle.sedck_flow.specs.Words.{flag_text}
-use Rattle.sedck_cert.proofs.Cuts.{first_missing, behind_both}
+use Rattle.sedck_cert.proofs.CutLemmas.{first_missing, behind_both}
 use Rattle.sedck_cert.proofs.reading.nodes.behind_node.Goals as goal
 
 -- the last bit is missing where the place and the flag are

@@ -1,6 +1,6 @@
 use Rattle.std.specs.Prelude.{decimal, ◌/◌, ◌%◌, ◌==◌}
 use Rattle.sedck_flow.specs.Words.{flag_text}
-use Rattle.sedck_cert.proofs.Cuts.{first_missing, behind_both}
+use Rattle.sedck_cert.proofs.CutLemmas.{first_missing, behind_both}
 use Rattle.sedck_cert.proofs.reading.nodes.behind_node_one.Goals as goal
 
 pub returns-in_err-behind_number : goal.returns-in_err-behind_number

@@ -1,6 +1,6 @@
 use Rattle.sedck_cert.specs.Certificate.{AreWithin}
 use Rattle.sedck_cert.specs.Text.{node_text}
-use Rattle.sedck_cert.proofs.Leads.{no_cut, next_by_line}
+use Rattle.sedck_cert.proofs.LineLemmas.{no_cut, next_by_line}
 use Rattle.sedck_cert.proofs.reading.nodes.next_ranks.Goals as goal
 
 pub returns-in_err-next : goal.returns-in_err-next

@@ -1,8 +1,8 @@
 use Rattle.std.proofs.Common.{ℕ, refl}
 use Rattle.sedck_cert.specs.Faults.{Node}
 use Rattle.sedck_cert.specs.Private.Reading.{Stops}
-use Rattle.sedck_cert.proofs.Leads.{stops_here, refused_or, none_of}
-use Rattle.sedck_cert.proofs.Nodes.{wrong_node}
+use Rattle.sedck_cert.proofs.LineLemmas.{stops_here, refused_or, none_of}
+use Rattle.sedck_cert.proofs.NodeLines.{wrong_node}
 use Rattle.sedck_cert.proofs.reading.nodes.node_line.Goals as goal
 
 pub returns-clause-refused : goal.returns-clause-refused

@@ -1,5 +1,5 @@
 use Rattle.sedck_cert.specs.Text.{words_in}
-use Rattle.sedck_cert.proofs.Cuts.{ranks_behind}
+use Rattle.sedck_cert.proofs.CutLemmas.{ranks_behind}
 use Rattle.sedck_cert.proofs.reading.nodes.node_ranks.Goals as goal
 
 pub returns : goal.returns

@@ -5,9 +5,9 @@ use Rattle.sedck_cert.specs.Certificate.{AreWithin, nodes_in}
 use Rattle.sedck_cert.specs.Faults.{Node}
 use Rattle.sedck_cert.specs.Private.Reading.{Stops, node_texts}
 use Rattle.sedck_cert.specs.declared.reading.CertFault.TheVariants.{OutOfMemory}
-use Rattle.sedck_script.proofs.Outcomes.{if_err_from}
-use Rattle.sedck_cert.proofs.Leads.{leads_stops}
-use Rattle.sedck_cert.proofs.Nodes.{leads_node, nodes_due-more}
+use Rattle.sedck_script.proofs.ResultLemmas.{if_err_from}
+use Rattle.sedck_cert.proofs.LineLemmas.{leads_stops}
+use Rattle.sedck_cert.proofs.NodeLines.{leads_node, nodes_due-more}
 use Rattle.sedck_cert.proofs.reading.nodes.nodes.Goals as goal
 
 pub returns-in_err-node_line-clause-refused : goal.returns-in_err-node_line-clause-refused

@@ -1,4 +1,4 @@
-use Rattle.sedck_cert.proofs.Cuts.{ranks_parts}
+use Rattle.sedck_cert.proofs.CutLemmas.{ranks_parts}
 use Rattle.sedck_cert.proofs.reading.nodes.ranks.Goals as goal
 
 pub returns-in_err-number : goal.returns-in_err-number

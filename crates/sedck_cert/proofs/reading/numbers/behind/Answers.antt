@@ -1,7 +1,7 @@
 use Rattle.std.proofs.Common.{ℕ, List, Option, Some, None, MatchOption, length, take, drop, true, false, ◌≡◌, ◌+◌, ◌++◌}
 use Rattle.std.specs.Borrow.{Bor}
 use Rattle.std.specs.Str.{bytes_eq}
-use Rattle.sedck_cert.proofs.Words.{other_front, same_front}
+use Rattle.sedck_cert.proofs.WordLemmas.{other_front, same_front}
 use Rattle.sedck_cert.proofs.reading.numbers.behind.Goals as goal
 
 cases : (text word : List ℕ) (r : Option (Bor (List ℕ)))

@@ -1,4 +1,4 @@
-use Rattle.sedck_cert.proofs.Words.{counted}
+use Rattle.sedck_cert.proofs.WordLemmas.{counted}
 use Rattle.sedck_cert.proofs.reading.numbers.count.Goals as goal
 
 pub returns : goal.returns

@@ -7,7 +7,7 @@ use Rattle.sedck_cert.specs.declared.versions.Version.{Version}
 use Rattle.sedck_cert.specs.Faults.{Due, Node, after_node, IsWrong}
 use Rattle.sedck_cert.specs.Private.Reading.{Leads, node_texts, nodes_due}
 use Rattle.sedck_cert.specs.declared.reading.lines.Lines.{Lines}
-use Rattle.sedck_cert.proofs.Leads.{leads_on, wrong_cuts}
+use Rattle.sedck_cert.proofs.LineLemmas.{leads_on, wrong_cuts}
 
 pub node_texts-push : (v : Version) (node : ℕ) (all : List (Option (ℕ × ℕ))) (ranks : Option (ℕ × ℕ))
     → node_texts v node (all ++ ranks ∷ []) ≡ node_texts v node all ++ node_text v (node + length all) ranks ∷ []

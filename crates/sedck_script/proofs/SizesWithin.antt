@@ -14,7 +14,7 @@ use Rattle.sedck_script.specs.Names.{IsName, names_size, read_names, write_names
 use Rattle.sedck_script.specs.Invariant.{IsPart, IsReplacement}
 use Rattle.sedck_script.specs.Private.Reading.{EndsIn}
 use Rattle.sedck_script.proofs.SortedNames.{Contains-cons_cases, Contains-cons_more}
-use Rattle.sedck_script.proofs.Tails.{tail_cut, tail_tail, tail_behind, tail_length, ends_tail, expression_tail, replacement_tail, number_tail, verb_text_tail}
+use Rattle.sedck_script.proofs.OffsetLemmas.{tail_cut, tail_tail, tail_behind, tail_length, ends_tail, expression_tail, replacement_tail, number_tail, verb_text_tail}
 
 -- ---- Replacements
 

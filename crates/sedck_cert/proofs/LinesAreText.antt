@@ -19,10 +19,10 @@ use Rattle.sedck_cert.specs.declared.versions.Version.{Version}
 use Rattle.sedck_cert.specs.declared.versions.Version.TheVariants.{One, Two}
 use Rattle.sedck_cert.specs.declared.reading.names.Files.{Files}
 use Rattle.sedck_cert.specs.declared.reading.names.Files.TheVariants.{Reads, Writes}
-use Rattle.sedck_cert.proofs.Cuts.{decimal-lacks}
-use Rattle.sedck_cert.proofs.Nodes.{after_node-due}
-use Rattle.sedck_cert.proofs.Names.{after_name-due}
-use Rattle.sedck_cert.proofs.Leads.{joined_lines-append, are_due-append}
+use Rattle.sedck_cert.proofs.CutLemmas.{decimal-lacks}
+use Rattle.sedck_cert.proofs.NodeLines.{after_node-due}
+use Rattle.sedck_cert.proofs.NameLines.{after_name-due}
+use Rattle.sedck_cert.proofs.LineLemmas.{joined_lines-append, are_due-append}
 
 -- ---- The text
 

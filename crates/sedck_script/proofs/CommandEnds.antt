@@ -5,8 +5,8 @@ use Rattle.sedck_script.specs.Cuts.{is_blank, is_ending, IsEmptyOr, Longest}
 use Rattle.sedck_script.specs.Parts.{Ends}
 use Rattle.sedck_script.specs.Faults.{StandsWhere, is_extra}
 use Rattle.sedck_script.specs.Private.Reading.{EndsIn}
-use Rattle.sedck_script.proofs.Cuts.{longest_one}
-use Rattle.sedck_script.proofs.Tails.{tail_cut, tail_tail, stands_at_tail}
+use Rattle.sedck_script.proofs.LongestRuns.{longest_one}
+use Rattle.sedck_script.proofs.OffsetLemmas.{tail_cut, tail_tail, stands_at_tail}
 
 no_ending : (rest : List ℕ) → 1 ≤ length rest → is_ending (get_or rest 0 0) ≡ false → IsEmptyOr is_ending rest → ⊥
 no_ending [] some other h = absurd (omega arith)

@@ -11,7 +11,7 @@ use Rattle.sedck_cert.specs.declared.versions.Version.{Version}
 use Rattle.sedck_cert.specs.Private.Reading.{Leads, names_due, list_texts}
 use Rattle.sedck_cert.specs.declared.reading.lines.Lines.{Lines}
 use Rattle.sedck_cert.specs.declared.reading.names.Files.{Files}
-use Rattle.sedck_cert.proofs.Leads.{leads_on, wrong_line}
+use Rattle.sedck_cert.proofs.LineLemmas.{leads_on, wrong_line}
 
 pub wrong_name : (v : Version) (files : Files) (left : ℕ) (before : List (List ℕ)) (size : ℕ) (rest text more : List ℕ) → IsCut 10 rest text more
     → ¬ (IsName text × ComesAfter before text × (size + length text + 1 ≤ 1048576)) → IsWrong v (Name files (suc left) before size) rest

@@ -11,9 +11,9 @@ use Rattle.sedck_cert.specs.declared.reading.lines.Lines.{Lines}
 use Rattle.sedck_cert.specs.declared.reading.names.Files.TheVariants.{Reads, Writes}
 use Rattle.sedck_cert.specs.declared.reading.CertFault.{CertFault}
 use Rattle.sedck_cert.specs.declared.reading.CertFault.TheVariants.{OutOfMemory}
-use Rattle.sedck_cert.proofs.Leads.{leads_on, leads_stops}
-use Rattle.sedck_cert.proofs.Again.{fault_of_none}
-use Rattle.sedck_cert.proofs.Texts.{list_law, certificate_lines-joined}
+use Rattle.sedck_cert.proofs.LineLemmas.{leads_on, leads_stops}
+use Rattle.sedck_cert.proofs.UniqueTexts.{fault_of_none}
+use Rattle.sedck_cert.proofs.LinesAreText.{list_law, certificate_lines-joined}
 
 -- ---- Faults
 

@@ -12,7 +12,7 @@ use Rattle.sedck_bre.specs.Private.FullReading.{IsTail}
 use Rattle.sedck_bre.specs.Private.BracketReading.{inside_at, bracket_at}
 use Rattle.sedck_bre.specs.Private.IntervalReading.{interval_at}
 use Rattle.sedck_bre.proofs.Intervals.{interval_takes}
-use Rattle.sedck_bre.proofs.BracketWhole.{bracket_takes}
+use Rattle.sedck_bre.proofs.WholeBracket.{bracket_takes}
 
 pub tail_drop : (whole text : List ℕ) (n : ℕ) → IsTail whole text → IsTail whole (drop n text)
 tail_drop whole text n h = record {

@@ -16,11 +16,11 @@ use Rattle.sedck_script.specs.Spelling.{Spells}
 use Rattle.sedck_script.specs.Names.{IsName, AreNames, names_size, read_names, write_names, placed, with_name, sorted_names}
 use Rattle.sedck_script.specs.Invariant.{IsReplacement, IsScript}
 use Rattle.sedck_script.specs.Private.Reading.{EndsIn}
-use Rattle.sedck_script.proofs.Tails.{tail_cut, tail_tail, tail_behind, tail_length, ends_tail, verb_text_tail}
+use Rattle.sedck_script.proofs.OffsetLemmas.{tail_cut, tail_tail, tail_behind, tail_length, ends_tail, verb_text_tail}
 use Rattle.sedck_script.proofs.CommandLemmas.{address_tail}
-use Rattle.sedck_script.proofs.Spelled.{spelled_targets, spelled_formed, spelled_transliterations}
+use Rattle.sedck_script.proofs.SpelledIsSound.{spelled_targets, spelled_formed, spelled_transliterations}
 use Rattle.sedck_script.proofs.SortedNames.{sorted_names-rise, with_all}
-use Rattle.sedck_script.proofs.Bounds.{verb_cost, IsBounded, IsCheapWritten, verb_cheap}
+use Rattle.sedck_script.proofs.SizesWithin.{verb_cost, IsBounded, IsCheapWritten, verb_cheap}
 
 -- ---- Items
 

@@ -6,7 +6,7 @@ use Rattle.sedck_bre.specs.Tree.{Trees, Byte, Any, Ref, Nil, groups_in, is_in}
 use Rattle.sedck_bre.specs.Shape.{Level, Inside, Position, First, behind}
 use Rattle.sedck_bre.specs.Private.Reading.{◌>>=◌, Readers, at_end, plain, closed_by, escaped, backslash, set_before, tree_before, atom, with_sign, before_all, Lister, more, some_items, items, items_of}
 use Rattle.sedck_bre.proofs.ReadLemmas.{bind_holds, and_left, Takes, nat_lt_of, length_some}
-use Rattle.sedck_bre.proofs.Sound.{ItemRead, atom_sound, sign_sound, items_sound}
+use Rattle.sedck_bre.proofs.ReadingSound.{ItemRead, atom_sound, sign_sound, items_sound}
 
 pub bind_alike : {A B : Type 0} (o : Option A) (f g : A → Option B) (Q : A → Type 0) → IfSome o Q → ((x : A) → Q x → f x ≡ g x) → (o >>= f) ≡ (o >>= g)
 bind_alike None f g Q h e = refl

@@ -16,9 +16,9 @@ use Rattle.sedck_bre.specs.Private.FullReading.{full}
 use Rattle.sedck_bre.specs.declared.tree.Bre.{Bre}
 use Rattle.sedck_bre.proofs.ReadLemmas.{Takes, Reads, and_left}
 use Rattle.sedck_bre.proofs.Intervals.{interval_takes, interval_again}
-use Rattle.sedck_bre.proofs.BracketWhole.{bracket_takes, bracket_again}
-use Rattle.sedck_bre.proofs.Fixed.{items_step}
-use Rattle.sedck_bre.proofs.Tails.{rest_is}
+use Rattle.sedck_bre.proofs.WholeBracket.{bracket_takes, bracket_again}
+use Rattle.sedck_bre.proofs.ReadingFuel.{items_step}
+use Rattle.sedck_bre.proofs.OffsetLemmas.{rest_is}
 
 pub full_takes : Takes full
 full_takes = record { bracket = bracket_takes; interval = interval_takes }

@@ -15,10 +15,10 @@ use Rattle.sedck_cert.specs.declared.versions.Version.{Version}
 use Rattle.sedck_cert.specs.declared.versions.Version.TheVariants.{One, Two}
 use Rattle.sedck_cert.specs.declared.reading.CertFault.{CertFault}
 use Rattle.sedck_cert.specs.declared.reading.CertFault.TheVariants.{OutOfMemory}
-use Rattle.sedck_cert.proofs.Leads.{line-behind}
-use Rattle.sedck_cert.proofs.Texts.{header-one_line}
+use Rattle.sedck_cert.proofs.LineLemmas.{line-behind}
+use Rattle.sedck_cert.proofs.LinesAreText.{header-one_line}
 use Rattle.sedck_cert.proofs.Pieces.{header_first}
-use Rattle.sedck_cert.proofs.Again.{lines_one, text_of_one}
+use Rattle.sedck_cert.proofs.UniqueTexts.{lines_one, text_of_one}
 
 -- ---- The version that a text names
 

@@ -6,10 +6,10 @@ use Rattle.sedck_bre.specs.Shape.{Whole, First, Shape}
 use Rattle.sedck_bre.specs.Private.Reading.{◌>>=◌, items_of, whole, read}
 use Rattle.sedck_bre.specs.Private.FullReading.{full}
 use Rattle.sedck_bre.specs.Private.Gives.{ClosedIs}
-use Rattle.sedck_bre.proofs.Sound.{read_sound}
+use Rattle.sedck_bre.proofs.ReadingSound.{read_sound}
 use Rattle.sedck_bre.specs.Laws.{TextsHaveOneTree}
-use Rattle.sedck_bre.proofs.Again.{read_again, one_shape}
-use Rattle.sedck_bre.proofs.Loop.{full_takes, full_reads}
+use Rattle.sedck_bre.proofs.ReadingComplete.{read_again, one_shape}
+use Rattle.sedck_bre.proofs.ItemLoop.{full_takes, full_reads}
 
 pub read-items : (text : List ℕ) → read full text ≡ (items_of full Whole First 0 0 [] text >>= whole)
 unfolding read items_of

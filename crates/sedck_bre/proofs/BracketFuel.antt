@@ -8,10 +8,10 @@ use Rattle.sedck_bre.specs.Private.Reading.{◌>>=◌}
 use Rattle.sedck_bre.specs.Private.BracketReading.{symbol_at, byte_at, ranges, no_range, classes, class_from, one, range_to, range_end_at, range_or_one, byte_or_range_at, whole_class_at, equivalents_at, last_dash_at, element_at, before_elements, others, elements_at, set_of, inside_at}
 use Rattle.sedck_bre.specs.Private.BracketCode.{elements_of, set_at}
 use Rattle.sedck_bre.proofs.ReadLemmas.{bind_holds, cond_holds, and_left}
-use Rattle.sedck_bre.proofs.Fixed.{bind_alike}
+use Rattle.sedck_bre.proofs.ReadingFuel.{bind_alike}
 use Rattle.sedck_bre.proofs.BracketLemmas.{one_front}
 use Rattle.sedck_bre.proofs.BracketSound.{IsByteBefore, symbol_takes, byte_takes, class_takes, no_range_takes}
-use Rattle.sedck_bre.proofs.BracketWhole.{byte_some}
+use Rattle.sedck_bre.proofs.WholeBracket.{byte_some}
 
 -- ---- What follows an element is shorter than the text
 

@@ -9,7 +9,7 @@ use Rattle.sedck_cert.specs.Private.Cuts.{IsCut}
 use Rattle.sedck_cert.specs.Private.Reading.{IsNext, Leads, Stops}
 use Rattle.sedck_cert.specs.declared.reading.lines.Lines.{Lines}
 use Rattle.sedck_cert.specs.declared.reading.CertFault.{CertFault}
-use Rattle.sedck_cert.proofs.Cuts.{cut_one, has_byte}
+use Rattle.sedck_cert.proofs.CutLemmas.{cut_one, has_byte}
 
 pub line-behind : (text rest : List ℕ) → line text ++ rest ≡ text ++ 10 ∷ rest
 line-behind text rest = append_assoc text (10 ∷ []) rest

@@ -12,7 +12,7 @@ use Rattle.sedck_bre.specs.Private.Sets.{some_word}
 use Rattle.sedck_bre.proofs.ReadLemmas.{bind_holds, cond_holds}
 use Rattle.sedck_bre.proofs.BracketLemmas.{one_front, begins_before, is_closing_front}
 use Rattle.sedck_bre.proofs.BracketSound.{AreElementsBefore, elements_take, written_front}
-use Rattle.sedck_bre.proofs.BracketAgain.{element_again}
+use Rattle.sedck_bre.proofs.BracketComplete.{element_again}
 use Rattle.sedck_bre.proofs.BracketSets.{words_members, words_set, set_same, member_tested, tested_member}
 
 -- ---- The elements are read again

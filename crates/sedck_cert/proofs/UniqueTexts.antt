@@ -12,9 +12,9 @@ use Rattle.sedck_cert.specs.Private.Reading.{node_texts, list_texts, certificate
 use Rattle.sedck_cert.specs.declared.reading.names.Files.{Files}
 use Rattle.sedck_cert.specs.declared.reading.names.Files.TheVariants.{Reads, Writes}
 use Rattle.sedck_cert.specs.declared.reading.CertFault.{CertFault}
-use Rattle.sedck_cert.proofs.Cuts.{parts_one, has_byte, dash_lacks, decimal-lacks}
-use Rattle.sedck_cert.proofs.Leads.{line-behind}
-use Rattle.sedck_cert.proofs.Texts.{certificate_lines-joined, certificate_is_due}
+use Rattle.sedck_cert.proofs.CutLemmas.{parts_one, has_byte, dash_lacks, decimal-lacks}
+use Rattle.sedck_cert.proofs.LineLemmas.{line-behind}
+use Rattle.sedck_cert.proofs.LinesAreText.{certificate_lines-joined, certificate_is_due}
 
 -- the first lines of one text, and what is behind them
 pub lines_one : (a b r s : List ℕ) → IsOneLine a → IsOneLine b → line a ++ r ≡ line b ++ s → (a ≡ b) × (r ≡ s)
