@@ -1,14 +1,15 @@
 //! A certificate, as the program holds it.
 
-ghost use Rattle.std.specs.Prelude.{◌≡◌, ◌↔◌, ◌+◌, ◌≤◌, All, IsSome, IfSome, MatchOption};
-ghost use Rattle.sedck_script.specs.Names.{AreNames, names_size};
+ghost use Rattle.std.specs.Prelude.{◌≡◌, ◌↔◌, ◌+◌, ◌≤◌, length, Contains, All, IsTrue, IsSome, IfSome, MatchOption};
+ghost use Rattle.sedck_script.specs.Names.{AreNames, IsName, names_size};
 ghost use Rattle.sedck_cert.specs.Certificate.{IsCertificate, AreWithin};
 ghost use Rattle.sedck_cert.specs.View.{names_of, certificate_of};
+ghost use Rattle.sedck_cert.specs.Faults.{ComesAfter};
 ghost use Rattle.sedck_cert.specs.Private.Fields.{with_parts};
+ghost use Rattle.sedck_cert.specs.Private.Reading.{one_before};
 ghost use Rattle.sedck_cert.specs.declared.versions.Version.TheVariants.{Two};
 
 use crate::limits::NAMES_LIMIT;
-use crate::reading::is_next_name;
 use crate::versions::Version;
 use std::marker::Model;
 
@@ -119,6 +120,35 @@ fn size_with(names: &[Vec<u8>], mut size: usize) -> Option<usize>
         before = Some(name.as_slice());
     }
     Some(size)
+}
+
+/// Whether the name may follow the one before, where all names before it have this many bytes with their newlines.
+pub(crate) fn is_next_name(before: Option<&[u8]>, name: &[u8], size: usize) -> bool
+    requires { size ≤ NAMES_LIMIT }
+    ensures { IsTrue result ↔ (IsName name.now × ComesAfter (one_before before.entry) name.now × (size + length name.now + 1 ≤ NAMES_LIMIT)) }
+{
+    is_name(name) && comes_after(before, name) && name.len() < NAMES_LIMIT - size
+}
+
+fn is_name(name: &[u8]) -> bool
+    ensures { IsTrue result ↔ IsName name.now }
+{
+    !name.is_empty() && !has(name, b'\n') && !has(name, 0)
+}
+
+fn has(text: &[u8], byte: u8) -> bool
+    ensures { IsTrue result ↔ Contains text.now byte }
+{
+    text.contains(&byte)
+}
+
+fn comes_after(before: Option<&[u8]>, name: &[u8]) -> bool
+    ensures { IsTrue result ↔ ComesAfter (one_before before.entry) name.now }
+{
+    match before {
+        None => true,
+        Some(before) => before.cmp(name).is_lt(),
+    }
 }
 
 /// All ranks are within the limit: their type sees to that, but only reading each one shows it to the proof.

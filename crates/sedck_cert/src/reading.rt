@@ -18,7 +18,6 @@ mod numbers;
 
 use self::frame::{command_count, ending, header, next_is};
 use self::lines::Lines;
-pub use self::names::is_next_name;
 use self::names::{Files, names};
 use self::nodes::nodes;
 use crate::certificate::{Cert, Parts};

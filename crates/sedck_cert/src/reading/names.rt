@@ -1,15 +1,15 @@
 //! The lists of names.
 
-ghost use Rattle.std.specs.Prelude.{◌≡◌, ◌⊎◌, ◌↔◌, ◌+◌, ◌≤◌, ◌++◌, decimal, ℕ, suc, List, [], ◌∷◌, length, Contains, Option, IfOk, IfErr, IsTrue};
-ghost use Rattle.sedck_script.specs.Names.{IsName};
+ghost use Rattle.std.specs.Prelude.{◌≡◌, ◌⊎◌, ◌+◌, ◌≤◌, ◌++◌, decimal, ℕ, suc, List, [], ◌∷◌, length, Option, IfOk, IfErr};
 ghost use Rattle.sedck_cert.specs.View.{names_of};
 ghost use Rattle.sedck_cert.specs.declared.versions.Version.{Version};
-ghost use Rattle.sedck_cert.specs.Faults.{Names, Name, ComesAfter, list_word, after_list, after_name};
+ghost use Rattle.sedck_cert.specs.Faults.{Names, Name, list_word, after_list, after_name};
 ghost use Rattle.sedck_cert.specs.Private.Reading.{Leads, Stops, list_texts, names_due, one_before};
 
 use super::CertFault;
 use super::frame::next_count;
 use super::lines::Lines;
+use crate::certificate::is_next_name;
 use crate::limits::NAMES_LIMIT;
 use std::alloc::Global;
 
@@ -86,34 +86,5 @@ fn name_line<'a>(
         Ok(name)
     } else {
         Err(fault)
-    }
-}
-
-/// Whether the name may stand behind the one before, where names of this many bytes came before it.
-pub fn is_next_name(before: Option<&[u8]>, name: &[u8], size: usize) -> bool
-    requires { size ≤ NAMES_LIMIT }
-    ensures { IsTrue result ↔ (IsName name.now × ComesAfter (one_before before.entry) name.now × (size + length name.now + 1 ≤ NAMES_LIMIT)) }
-{
-    is_name(name) && rises(before, name) && name.len() < NAMES_LIMIT - size
-}
-
-fn is_name(name: &[u8]) -> bool
-    ensures { IsTrue result ↔ IsName name.now }
-{
-    !name.is_empty() && !has(name, b'\n') && !has(name, 0)
-}
-
-fn has(text: &[u8], byte: u8) -> bool
-    ensures { IsTrue result ↔ Contains text.now byte }
-{
-    text.contains(&byte)
-}
-
-fn rises(before: Option<&[u8]>, name: &[u8]) -> bool
-    ensures { IsTrue result ↔ ComesAfter (one_before before.entry) name.now }
-{
-    match before {
-        None => true,
-        Some(before) => before.cmp(name).is_lt(),
     }
 }
