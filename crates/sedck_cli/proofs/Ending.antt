@@ -87,7 +87,7 @@ refusal_status (Run (fault.Read input)) = lit< tt
 refusal_status (Run fault.Write) = lit< tt
 refusal_status (Run fault.OutOfMemory) = lit< tt
 
--- a refusal leaves nothing, or the front of a report
+-- a refusal leaves nothing, or a prefix of a report
 pub broken_off : (asked : Asked) (before after : Option (List ℕ)) (refusal : Refusal) → Leaves asked before after (Err refusal)
     → Keeps before after ⊎ BreaksOff asked before after
 broken_off asked before after (Run (fault.Script why)) left = inl left.0

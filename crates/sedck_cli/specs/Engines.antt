@@ -73,7 +73,7 @@ pub record IsRefusedScript (text : List ℕ) (why : ScriptFault) : Type 0 where
   pub none : (p : Program) → ¬ Spells text p
   pub is_fault : IsScriptFaultOf text why
 
--- what is read of a certificate's bytes: more than one may have
+-- what is read of a certificate's bytes: more than any certificate has
 abbrev pub certificate_read : List ℕ → List ℕ
 certificate_read bytes = take 1572865 bytes
 
@@ -117,7 +117,7 @@ abbrev pub IsScript : Option Reading → Type 0
 IsScript None = Unit {0}
 IsScript (Some script) = OfBytes script.bytes (λ text. (p : Program) × Spells text p)
 
--- The whole report is written; after a failed write the front of one is, and after any other fault nothing is. A fault says
+-- The whole report is written; after a failed write a prefix of one is, and after any other fault nothing is. A fault says
 -- what is wrong with the bytes that were read, or which stream has failed.
 abbrev pub EngineAnswers : Streams → (Outcome → List ℕ → Type 0) → Result Outcome RunFault → Type 0
 EngineAnswers s IsReport (Ok outcome) = (report : List ℕ) × IsReport outcome report × Appends s.out.before s.out.after report

@@ -62,11 +62,11 @@ IsReportFor Nothing outcome report = ⊥
 abbrev pub Reports : Asked → Option (List ℕ) → Option (List ℕ) → Outcome → Type 0
 Reports asked before after outcome = (report : List ℕ) × IsReportFor asked outcome report × Appends before after report
 
--- only a front of such a report was
+-- only a prefix of such a report was
 abbrev pub BreaksOff : Asked → Option (List ℕ) → Option (List ℕ) → Type 0
 BreaksOff asked before after = (outcome : Outcome) × (report : List ℕ) × IsReportFor asked outcome report × AppendsFront before after report
 
--- the words are of no form, or memory ran out
+-- the words are of no known form, or memory ran out
 abbrev pub IsOfWords : Refusal → Type 0
 IsOfWords Usage = Unit {0}
 IsOfWords (Run fault.OutOfMemory) = Unit {0}

@@ -3,9 +3,8 @@
 ghost use Rattle.std.specs.Prelude.{◌≡◌, ◌≢◌, ◌⊎◌, ◌<◌, ◌≤◌, true, false, Ok, Err, IfOk, IfErr};
 ghost use Rattle.std.specs.Io.KnownBytes.{Keeps, Appends};
 ghost use Rattle.sedck_cli.specs.Statuses.{status_of, asked, asked_of_one, Check, Rank, Upgrade, Nothing, Reports, BreaksOff, IsOfWords, begins_with_hyphen, has_option};
-ghost use Rattle.sedck_cli.specs.Private.Requests.{Leaves};
 ghost use Rattle.sedck_cli.specs.Lines.{refusal_line, SaysRefusal, SaysRefusalFor};
-ghost use Rattle.sedck_cli.specs.Private.Requests.{report_asked, request_asks, asked_by};
+ghost use Rattle.sedck_cli.specs.Private.Requests.{report_asked, request_asks, asked_by, Leaves};
 ghost use Rattle.sedck_cli.specs.declared.command_line.Refusal.TheVariants.{Run};
 ghost use Rattle.sedck_cli.specs.declared.answer.RunFault.TheVariants as fault;
 
@@ -23,7 +22,9 @@ use std::io::Write;
 /// Why the program answers neither yes nor no.
 #[derive(Clone, Copy, Debug, Drop)]
 pub enum Refusal {
+    /// The words are of no known form, or one begins with a hyphen.
     Usage,
+    /// The work that the words ask for has ended with this fault.
     Run(RunFault),
 }
 
@@ -94,7 +95,7 @@ enum Request<'a> {
 }
 
 /// The whole program for the words after its name, and its exit status: 0 for yes, 1 for no, 2 where the script or the
-/// certificate is refused, 3 for words of no form, 4 where a stream fails or memory runs out.
+/// certificate is refused, 3 for words of no known form, 4 where a stream fails or memory runs out.
 ///
 /// Which words `clap` takes, and which files are opened, is shown by tests.
 pub fn program<R: Files + AllocGlobal, W: Sink, E: Sink>(
@@ -275,7 +276,7 @@ fn is_option(word: &str) -> bool
     matches!(word.as_bytes(), [b'-', ..])
 }
 
-/// The forms that the words may have.
+/// The known forms of the words.
 fn command<'a>(alloc: Global) -> Result<Command<'a>, AllocError> {
     let certificate = Arg::new(alloc, "certificate").required(true);
     let check = subcommand(alloc, "check", "script")?.arg(certificate)?;

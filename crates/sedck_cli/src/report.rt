@@ -3,9 +3,8 @@
 ghost use Rattle.std.specs.Prelude.{◌≡◌, ◌++◌, IfOk, OnOk, ◌<◌, ◌≤◌, length, map, decimal, codes, string_bytes};
 ghost use Rattle.sedck_cert.specs.Headline.{IsLimit};
 ghost use Rattle.sedck_cert.specs.Text.{line, name_lines, files_text};
-ghost use Rattle.sedck_cli.specs.Private.Reports.{AddsEdgesFrom};
+ghost use Rattle.sedck_cli.specs.Private.Reports.{AddsEdgesFrom, bound_line};
 ghost use Rattle.sedck_cli.specs.Reports.{IsCheckReport, IsFilesReport, IsGraphReport, rejection_words};
-ghost use Rattle.sedck_cli.specs.Private.Reports.{bound_line};
 
 use sedck_cert::{Bound, Cert, Judged, Rejection, Verdict};
 use sedck_flow::{Node, edges_of, node_count};
@@ -24,7 +23,7 @@ pub(crate) fn check_report(alloc: Global, judged: &Judged) -> Result<Vec<u8>, Al
     }
 }
 
-/// That the certificate is accepted, with its bound, if it has one, and its names.
+/// The report on an accepted certificate: its bound, if there is one, and its names.
 fn accepted_report(alloc: Global, bound: Option<Bound>, cert: &Cert) -> Result<Vec<u8>, AllocError>
     ensures { IfOk result (λ report. report.items ≡ line (codes "accepted") ++ bound_line bound ++ files_text cert.now.reads cert.now.writes) }
 {
@@ -52,7 +51,7 @@ fn add_bound(alloc: Global, report: &mut Vec<u8>, bound: Option<Bound>) -> Resul
     Ok(())
 }
 
-/// The first reason why the certificate is rejected.
+/// The report on a rejected certificate: the first reason why.
 fn rejected_report(alloc: Global, why: Rejection) -> Result<Vec<u8>, AllocError>
     ensures { IfOk result (λ report. report.items ≡ line (rejection_words why)) }
 {

@@ -15,7 +15,7 @@ use Rattle.sedck_cli.specs.Engines.{ListsFilesTo, ListsGraphTo, RanksTo, found_o
 
 -- the text is what was read of an input's bytes, where they are known
 pub record IsRead (limit : ℕ) (known : Option (List ℕ)) (text : List ℕ) : Type 0 where
-  pub front : IfSome known (λ bytes. text ≡ take limit bytes)
+  pub prefix : IfSome known (λ bytes. text ≡ take limit bytes)
   pub within : length text ≤ limit
 
 -- the report on a script, and its outcome
@@ -30,7 +30,7 @@ ReportsScriptTo Files text outcome report = ListsFilesTo text outcome report
 ReportsScriptTo Graph text outcome report = ListsGraphTo text outcome report
 ReportsScriptTo Rank text outcome report = RanksTo text outcome report
 
--- the whole report is written, or a front of it and a write has failed
+-- the whole report is written, or a prefix of it and a write has failed
 abbrev pub WritesReport : Writing → Outcome → List ℕ → Result Outcome RunFault → Type 0
 WritesReport out outcome report (Ok written) = (written ≡ outcome) × Appends out.before out.after report
 WritesReport out outcome report (Err why) = (why ≡ fault.Write) × IsTrue out.failed × AppendsFront out.before out.after report
