@@ -176,28 +176,28 @@ fn check<R: Files + AllocGlobal, W: Sink>(
     Ok(run_check(rt.alloc(), &mut script, &mut certificate, out)?)
 }
 
-/// Reports on the script.
+/// Reports on the script at the path.
 fn report<R: Files + AllocGlobal, W: Sink>(
     rt: &R,
     kind: ScriptReport,
-    script: &str,
+    path: &str,
     out: &mut W,
 ) -> Result<Outcome, Refusal>
     ensures { Leaves (report_asked kind) (W.taken out.old) (W.taken out.new) result }
 {
-    let mut script = open(rt, script, Input::Script)?;
+    let mut script = open(rt, path, Input::Script)?;
     Ok(run_script(rt.alloc(), kind, &mut script, out)?)
 }
 
-/// Upgrades the certificate.
+/// Upgrades the certificate at the path.
 fn upgrade<R: Files + AllocGlobal, W: Sink>(
     rt: &R,
-    certificate: &str,
+    path: &str,
     out: &mut W,
 ) -> Result<Outcome, Refusal>
     ensures { Leaves Upgrade (W.taken out.old) (W.taken out.new) result }
 {
-    let mut certificate = open(rt, certificate, Input::Certificate)?;
+    let mut certificate = open(rt, path, Input::Certificate)?;
     Ok(run_upgrade(rt.alloc(), &mut certificate, out)?)
 }
 
