@@ -114,8 +114,7 @@ pub fn program<R: Files + AllocGlobal, W: Sink, E: Sink>(
     // A refusal writes nothing, but where writing fails.
     ensures refused { 1 < result → result < 4 → Keeps (W.taken out.old) (W.taken out.new) }
     ensures failed { result ≡ 4 → Keeps (W.taken out.old) (W.taken out.new) ⊎ BreaksOff (asked words.now) (W.taken out.old) (W.taken out.new) }
-    // Its line is on standard error, unless a write of it has failed. It speaks of no input but those that are read for
-    // what was asked.
+    // Its line, unless a write of it has failed. It speaks of no input but those that are read for what was asked.
     ensures reported { 1 < result → E.has_failed err.new ≡ false → SaysRefusalFor (asked words.now) result (E.taken err.old) (E.taken err.new) }
     ensures silent { result < 2 → Keeps (E.taken err.old) (E.taken err.new) }
 {
