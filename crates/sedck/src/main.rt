@@ -1,8 +1,7 @@
 //! The program `sedck`: its words, its standard streams and its exit status. All else stands in `sedck_cli`.
 #![tactic(auto)]
 
-use sedck_cert::streams::FromWrite;
-use sedck_cli::{Refusal, RunFault, flushed, program};
+use sedck_cli::{FromWrite, Refusal, RunFault, flushed, program};
 use std::env;
 use std::io::ErrorKind;
 use std::process::ExitCode;
@@ -18,7 +17,7 @@ fn main(rt: HostRuntime) -> ExitCode {
     ExitCode::from(flushed(status, out.into_inner(), &mut err))
 }
 
-/// The words after the program's name. Any that is not UTF-8 is of no form.
+/// The words after the program's name. Any that is not UTF-8 is of no known form.
 fn words(rt: &(impl Env + AllocGlobal)) -> Result<Vec<String>, Refusal> {
     match env::args(rt) {
         Ok(words) => Ok(words.skip(1).collect(rt.alloc())?),

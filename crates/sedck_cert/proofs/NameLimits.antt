@@ -1,5 +1,5 @@
 -- Names are within their limits where each may stand behind those before it.
-use Rattle.std.proofs.Common.{◌≡◌, ℕ, suc, ◌+◌, ◌<◌, ◌≤◌, List, [], ◌∷◌, length, get_or, drop, Vec, add-one, sym, ap, arith}
+use Rattle.std.proofs.Common.{◌≡◌, ℕ, suc, ◌+◌, ◌<◌, ◌≤◌, List, [], ◌∷◌, length, map, get_or, drop, Vec, add-one, sym, ap, arith}
 use Rattle.std.proofs.Math.Seq.{drop-cons}
 use Rattle.std.specs.declared.alloc.Global.{Global}
 use Rattle.std.specs.List.{AllByRecursion}
@@ -58,6 +58,6 @@ next_names names size few h =
     let e = length-map names (λ (n : Vec ℕ Global). n.items) in
     record { each = All-from_recursion IsName (names_of names) right.each; increasing = right.increasing; count = omega arith }
 
-pub left_cons : (names : List (Vec ℕ Global)) (i : ℕ) (name : Vec ℕ Global) → i < length names → name ≡ get_or names i name
-    → names_of (drop i names) ≡ name.items ∷ names_of (drop (i + 1) names)
-left_cons names i name within is = rw (add-one, drop-cons names i name within) (ap (λ (n : Vec ℕ Global). n.items ∷ names_of (drop (suc i) names)) (sym is))
+pub left_cons : {A : Type 0} (items : A → List ℕ) (names : List A) (i : ℕ) (name : A) → i < length names → name ≡ get_or names i name
+    → map items (drop i names) ≡ items name ∷ map items (drop (i + 1) names)
+left_cons items names i name within is = rw (add-one, drop-cons names i name within) (ap (λ n. items n ∷ map items (drop (suc i) names)) (sym is))

@@ -1,5 +1,5 @@
 -- The pieces of a certificate's text, in the order in which they are written.
-use Rattle.std.proofs.Common.{◌≡◌, ℕ, suc, ◌+◌, ◌<◌, ◌≤◌, List, [], ◌∷◌, ◌++◌, length, get_or, take, drop, decimal, codes, Option, Some, Vec, append_assoc, append-nil, refl, sym, ◌∙◌, ap, arith}
+use Rattle.std.proofs.Common.{◌≡◌, ℕ, suc, ◌+◌, ◌<◌, ◌≤◌, List, [], ◌∷◌, ◌++◌, length, map, get_or, take, drop, decimal, codes, Option, Some, Vec, append_assoc, append-nil, refl, sym, ◌∙◌, ap, arith}
 use Rattle.std.specs.Prelude.{Bool, if◌then◌else◌}
 use Rattle.std.proofs.Math.Seq.{drop-cons}
 use Rattle.std.specs.declared.alloc.Global.{Global}
@@ -65,31 +65,28 @@ name_lines-append : (xs ys : List (List ℕ)) → name_lines (xs ++ ys) ≡ name
 name_lines-append [] ys = refl
 name_lines-append (x ∷ xs) ys = ap (λ t. line x ++ t) (name_lines-append xs ys) ∙ sym (append_assoc (line x) (name_lines xs) (name_lines ys))
 
-names_of-append : (xs ys : List (Vec ℕ Global)) → names_of (xs ++ ys) ≡ names_of xs ++ names_of ys
-names_of-append xs ys = map-append (λ n. n.items) xs ys
+pub name_lines-at : {A : Type 0} (items : A → List ℕ) (names : List A) (i : ℕ) (name : A) → i < length names → name ≡ get_or names i name
+    → name_lines (map items names) ≡ name_lines (map items (take i names)) ++ (line (items name) ++ name_lines (map items (drop (i + 1) names)))
+name_lines-at items names i name within is =
+    ap (λ t. name_lines (map items t)) (sym (take-append-drop i names)) ∙ ap name_lines (map-append items (take i names) (drop i names))
+    ∙ name_lines-append (map items (take i names)) (map items (drop i names))
+    ∙ ap (λ t. name_lines (map items (take i names)) ++ name_lines t) (left_cons items names i name within is)
 
-pub name_lines-at : (names : List (Vec ℕ Global)) (i : ℕ) (name : Vec ℕ Global) → i < length names → name ≡ get_or names i name
-    → name_lines (names_of names) ≡ name_lines (names_of (take i names)) ++ (line name.items ++ name_lines (names_of (drop (i + 1) names)))
-name_lines-at names i name within is =
-    ap (λ t. name_lines (names_of t)) (sym (take-append-drop i names)) ∙ ap name_lines (names_of-append (take i names) (drop i names))
-    ∙ name_lines-append (names_of (take i names)) (names_of (drop i names))
-    ∙ ap (λ t. name_lines (names_of (take i names)) ++ name_lines t) (left_cons names i name within is)
+pub name_lines-more : {A : Type 0} (items : A → List ℕ) (names : List A) (i : ℕ) (name : A) → i < length names → name ≡ get_or names i name
+    → name_lines (map items (take (i + 1) names)) ≡ name_lines (map items (take i names)) ++ line (items name)
+name_lines-more items names i name within is =
+    ap (λ t. name_lines (map items t)) (take_more names i name within) ∙ ap name_lines (map-append items (take i names) (get_or names i name ∷ []))
+    ∙ name_lines-append (map items (take i names)) (map items (get_or names i name ∷ []))
+    ∙ ap (λ n. name_lines (map items (take i names)) ++ name_lines (items n ∷ [])) (sym is)
+    ∙ ap (λ t. name_lines (map items (take i names)) ++ t) (append-nil (line (items name)))
 
-pub name_lines-more : (names : List (Vec ℕ Global)) (i : ℕ) (name : Vec ℕ Global) → i < length names → name ≡ get_or names i name
-    → name_lines (names_of (take (i + 1) names)) ≡ name_lines (names_of (take i names)) ++ line name.items
-name_lines-more names i name within is =
-    ap (λ t. name_lines (names_of t)) (take_more names i name within) ∙ ap name_lines (names_of-append (take i names) (get_or names i name ∷ []))
-    ∙ name_lines-append (names_of (take i names)) (names_of (get_or names i name ∷ []))
-    ∙ ap (λ (n : Vec ℕ Global). name_lines (names_of (take i names)) ++ name_lines (n.items ∷ [])) (sym is)
-    ∙ ap (λ t. name_lines (names_of (take i names)) ++ t) (append-nil (line name.items))
-
-pub list_pieces : (word names : List ℕ) (n m : ℕ) → n ≡ m → line (word ++ decimal m) ++ names ≡ word ++ ((decimal n ++ 10 ∷ []) ++ names)
-list_pieces word names n m same =
-    append_assoc (word ++ decimal m) (10 ∷ []) names ∙ append_assoc word (decimal m) (10 ∷ names)
-    ∙ ap (λ t. word ++ t) (sym (append_assoc (decimal m) (10 ∷ []) names) ∙ ap (λ k. (decimal k ++ 10 ∷ []) ++ names) (sym same))
-
-pub length-names_of : (names : List (Vec ℕ Global)) → length names ≡ length (names_of names)
-length-names_of names = sym (length-map names (λ n. n.items))
+pub list_pieces : {A : Type 0} (items : A → List ℕ) (word : List ℕ) (names : List A)
+    → line (word ++ decimal (length (map items names))) ++ name_lines (map items names)
+    ≡ word ++ (decimal (length names) ++ (codes "\n" ++ name_lines (map items names)))
+list_pieces items word names =
+    append_assoc (word ++ decimal (length (map items names))) (10 ∷ []) (name_lines (map items names))
+    ∙ append_assoc word (decimal (length (map items names))) (10 ∷ name_lines (map items names))
+    ∙ ap (λ n. word ++ (decimal n ++ (10 ∷ name_lines (map items names)))) (length-map names items)
 
 pub head_pieces : (n : ℕ) → line (header Two) ++ line (codes "commands " ++ decimal n) ≡ codes "sedck 2\ncommands " ++ (decimal n ++ 10 ∷ [])
 head_pieces n = refl
@@ -122,9 +119,6 @@ header_first v c =
 
 pub few_ranks : (c : Certificate) (ranks : List (Option (ℕ × ℕ))) → IsCertificate Two c → ranks ≡ c.ranks → length ranks ≤ 16384
 few_ranks c ranks h is = omega (arith, h.nodes, h.commands, ap length is)
-
-pub few_names : (names : List (Vec ℕ Global)) (list : List (List ℕ)) → AreNames list → names_of names ≡ list → length names ≤ 4095
-few_names names list h is = omega (arith, h.count, ap length is, length-names_of names)
 
 -- the pieces as they are at hand
 pub pieces_at : (c : Certificate) (n : ℕ) (ranks : List (Option (ℕ × ℕ))) (reads writes : List (List ℕ)) → n ≡ c.commands → ranks ≡ c.ranks

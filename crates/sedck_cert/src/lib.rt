@@ -20,4 +20,4 @@ pub use limits::Bound;
 pub use reading::{CertFault, read_any, read_cert, read_cert_one};
 pub use verifying::{Fault, Judged, judge, verify};
 pub use version_one::{CertOne, upgrade};
-pub use writing::write_cert;
+pub use writing::{write_cert, write_files};

@@ -1,15 +1,15 @@
 //! From a certificate to its text.
 
-ghost use Rattle.std.specs.Prelude.{◌≡◌, ◌++◌, ◌≤◌, ◌∷◌, [], ◌/◌, ◌%◌, length, OnOk, OnErr, decimal, codes, ℕ, List};
+ghost use Rattle.std.specs.Prelude.{◌++◌, ◌≤◌, ◌∷◌, [], length, map, OnOk, OnErr, decimal, codes, ℕ, List};
 ghost use Rattle.std.specs.Io.KnownBytes.{Appends};
 ghost use Rattle.sedck_cert.specs.Streams.{ReportsFailure, IsPrefixOf, AppendsPrefix};
 ghost use Rattle.sedck_cert.specs.Text.{line, header, ranks_text, node_text, node_lines, name_lines, files_text, certificate_text};
-ghost use Rattle.sedck_cert.specs.View.{names_of};
 ghost use Rattle.sedck_cert.specs.declared.versions.Version.TheVariants.{Two};
 
 use crate::certificate::Cert;
 use crate::streams::{Failed, Sink, write_all, write_decimal};
 use sedck_flow::Node;
+use std::convert::AsSlice;
 
 /// Writes the certificate's text. It takes no memory.
 pub fn write_cert<W: Sink>(cert: &Cert, out: &mut W) -> Result<(), Failed>
@@ -92,12 +92,17 @@ fn write_head<W: Sink>(out: &mut W, commands: u16) -> Result<(), Failed>
     write_field(out, commands, b'\n')
 }
 
-/// Writes both lists.
-fn write_files<W: Sink>(out: &mut W, reads: &[Vec<u8>], writes: &[Vec<u8>]) -> Result<(), Failed>
-    requires few { length reads.now ≤ 4095 }
-    requires fewer { length writes.now ≤ 4095 }
-    ensures written { OnOk result (Appends (W.taken out.old) (W.taken out.new) (files_text (names_of reads.now) (names_of writes.now))) }
-    ensures begun { OnErr result (AppendsPrefix (W.taken out.old) (W.taken out.new) (files_text (names_of reads.now) (names_of writes.now))) }
+/// Writes the lists of the names that are read and written, as certificates and reports have them. It takes no memory.
+pub fn write_files<W: Sink, N: AsSlice<u8>>(
+    out: &mut W,
+    reads: &[N],
+    writes: &[N],
+) -> Result<(), Failed>
+    ensures written { OnOk result (Appends (W.taken out.old) (W.taken out.new)
+        (files_text (map N.items reads.now) (map N.items writes.now))) }
+    // After an error a prefix of the text was taken.
+    ensures begun { OnErr result (AppendsPrefix (W.taken out.old) (W.taken out.new)
+        (files_text (map N.items reads.now) (map N.items writes.now))) }
     ensures failure { ReportsFailure result (W.has_failed out.old) (W.has_failed out.new) }
 {
     write_names(out, b"read ", reads)?;
@@ -105,24 +110,27 @@ fn write_files<W: Sink>(out: &mut W, reads: &[Vec<u8>], writes: &[Vec<u8>]) -> R
 }
 
 /// Writes the lines of a list.
-fn write_names<W: Sink>(out: &mut W, word: &[u8], names: &[Vec<u8>]) -> Result<(), Failed>
-    requires { length names.now ≤ 4095 }
-    ensures written { OnOk result (Appends (W.taken out.old) (W.taken out.new) (line (word.now ++ decimal (length (names_of names.now))) ++ name_lines (names_of names.now))) }
-    ensures begun { OnErr result (AppendsPrefix (W.taken out.old) (W.taken out.new) (line (word.now ++ decimal (length (names_of names.now))) ++ name_lines (names_of names.now))) }
+fn write_names<W: Sink, N: AsSlice<u8>>(out: &mut W, word: &[u8], names: &[N]) -> Result<(), Failed>
+    ensures written { OnOk result (Appends (W.taken out.old) (W.taken out.new)
+        (line (word.now ++ decimal (length (map N.items names.now))) ++ name_lines (map N.items names.now))) }
+    ensures begun { OnErr result (AppendsPrefix (W.taken out.old) (W.taken out.new)
+        (line (word.now ++ decimal (length (map N.items names.now))) ++ name_lines (map N.items names.now))) }
     ensures failure { ReportsFailure result (W.has_failed out.old) (W.has_failed out.new) }
 {
     write_all(out, word)?;
-    write_field(out, names.len() as u16, b'\n')?;
+    write_decimal(out, names.len())?;
+    write_all(out, b"\n")?;
     write_lines(out, names)
 }
 
-fn write_lines<W: Sink>(out: &mut W, names: &[Vec<u8>]) -> Result<(), Failed>
-    ensures written { OnOk result (Appends (W.taken out.old) (W.taken out.new) (name_lines (names_of names.now))) }
-    ensures begun { OnErr result (AppendsPrefix (W.taken out.old) (W.taken out.new) (name_lines (names_of names.now))) }
+/// Writes each name as a line.
+fn write_lines<W: Sink, N: AsSlice<u8>>(out: &mut W, names: &[N]) -> Result<(), Failed>
+    ensures written { OnOk result (Appends (W.taken out.old) (W.taken out.new) (name_lines (map N.items names.now))) }
+    ensures begun { OnErr result (AppendsPrefix (W.taken out.old) (W.taken out.new) (name_lines (map N.items names.now))) }
     ensures failure { ReportsFailure result (W.has_failed out.old) (W.has_failed out.new) }
 {
     for name in names {
-        write_line(out, name)?;
+        write_line(out, name.as_slice())?;
     }
     Ok(())
 }

@@ -47,9 +47,9 @@ sliced limit known text items same is = subst (IsRead limit known) (sym same) is
 pub of_bytes : (limit : ℕ) (known : Option (List ℕ)) (text : List ℕ) (Holds : List ℕ → Type 0) → IsRead limit known text
     → ((whole : List ℕ) → text ≡ take limit whole → Holds whole) → OfBytes known Holds
 of_bytes limit None text Holds is holds = (text, holds text (sym (take_all limit text is.within)))
-of_bytes limit (Some whole) text Holds is holds = holds whole is.front
+of_bytes limit (Some whole) text Holds is holds = holds whole is.prefix
 
--- a front that isn't longer than a script may be is the whole
+-- a prefix that isn't longer than a script may be is the whole
 whole_script : (whole text : List ℕ) → text ≡ take 1048577 whole → length text ≤ 1048576 → text ≡ whole
 whole_script whole text is fits = is ∙ take_all 1048577 whole (omega (arith, length-take 1048577 whole, ap length is))
 

@@ -73,7 +73,7 @@ pub record IsRefusedScript (text : List ℕ) (why : ScriptFault) : Type 0 where
   pub none : (p : Program) → ¬ Spells text p
   pub is_fault : IsScriptFaultOf text why
 
--- what is read of a certificate's bytes: more than one may have
+-- what is read of a certificate's bytes: more than any certificate has
 abbrev pub certificate_read : List ℕ → List ℕ
 certificate_read bytes = take 1572865 bytes
 

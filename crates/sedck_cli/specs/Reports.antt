@@ -50,7 +50,7 @@ IsCheckReport p c (Rejected why) report = report ≡ line (rejection_words why)
 
 -- ---- files and graph
 
--- the names of the script's commands, read and written, each once and rising
+-- the names of the script's commands, read and written, each once and increasing
 pub record IsFilesReport (p : Program) (report : List ℕ) : Type 0 where
   pub reads : List (List ℕ)
   pub writes : List (List ℕ)

@@ -66,7 +66,7 @@ Reports asked before after outcome = (report : List ℕ) × IsReportFor asked ou
 abbrev pub BreaksOff : Asked → Option (List ℕ) → Option (List ℕ) → Type 0
 BreaksOff asked before after = (outcome : Outcome) × (report : List ℕ) × IsReportFor asked outcome report × AppendsPrefix before after report
 
--- the words are of no form, or memory ran out
+-- the words are of no known form, or memory ran out
 abbrev pub IsOfWords : Refusal → Type 0
 IsOfWords Usage = Unit {0}
 IsOfWords (Run fault.OutOfMemory) = Unit {0}

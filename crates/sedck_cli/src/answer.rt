@@ -10,17 +10,21 @@ use std::alloc::AllocError;
 use std::fmt;
 use thiserror::Error;
 
-/// What a report says in one word: no for a loop or a rejection alone.
+/// What a report says in one word.
 #[derive(Clone, Copy, Debug, PartialEq, Eq)]
 pub enum Outcome {
+    /// The certificate is accepted, or what was asked for is reported.
     Yes,
+    /// The certificate is rejected, or a loop rules all certificates out.
     No,
 }
 
-/// Which input can't be read.
+/// What an engine reads.
 #[derive(Clone, Copy, Debug, PartialEq, Eq)]
 pub enum Input {
+    /// The bytes of a script.
     Script,
+    /// The bytes of a certificate.
     Certificate,
 }
 
@@ -37,17 +41,22 @@ impl fmt::Display for Input {
     }
 }
 
-/// Why there is no report. `OutOfMemory` stands in place of each fault below that is running out of memory.
+/// Why there is no whole report.
 #[derive(Clone, Copy, Debug, Drop, Error)]
 pub enum RunFault {
+    /// The bytes that were read spell no script. This is never a script's `OutOfMemory`.
     #[error("script {0}")]
     Script(ScriptFault),
+    /// The bytes that were read spell no certificate. This is never a certificate's `OutOfMemory`.
     #[error("certificate {0}")]
     Certificate(CertFault),
+    /// A read of this input has failed.
     #[error("cannot read {0}")]
     Read(Input),
+    /// A write of the report has failed.
     #[error("cannot write")]
     Write,
+    /// Memory ran out, in this crate or below.
     #[error("out of memory")]
     OutOfMemory,
 }

@@ -3,9 +3,8 @@
 ghost use Rattle.std.specs.Prelude.{◌≡◌, ◌≢◌, ◌⊎◌, ◌<◌, ◌≤◌, true, false, Ok, Err, IfOk, IfErr};
 ghost use Rattle.std.specs.Io.KnownBytes.{Keeps, Appends};
 ghost use Rattle.sedck_cli.specs.Statuses.{status_of, asked, asked_of_one, Check, Rank, Upgrade, Nothing, Reports, BreaksOff, IsOfWords, begins_with_hyphen, has_option};
-ghost use Rattle.sedck_cli.specs.Private.Requests.{Leaves};
 ghost use Rattle.sedck_cli.specs.Lines.{refusal_line, SaysRefusal, SaysRefusalFor};
-ghost use Rattle.sedck_cli.specs.Private.Requests.{report_asked, request_asks, asked_by};
+ghost use Rattle.sedck_cli.specs.Private.Requests.{report_asked, request_asks, asked_by, Leaves};
 ghost use Rattle.sedck_cli.specs.declared.command_line.Refusal.TheVariants.{Run};
 ghost use Rattle.sedck_cli.specs.declared.answer.RunFault.TheVariants as fault;
 
@@ -23,7 +22,9 @@ use std::io::Write;
 /// Why the program answers neither yes nor no.
 #[derive(Clone, Copy, Debug, Drop)]
 pub enum Refusal {
+    /// The words are of no known form, or one begins with a hyphen.
     Usage,
+    /// The work that the words ask for has ended with this fault.
     Run(RunFault),
 }
 
@@ -94,7 +95,7 @@ enum Request<'a> {
 }
 
 /// The whole program for the words after its name, and its exit status: 0 for yes, 1 for no, 2 where the script or the
-/// certificate is refused, 3 for words of no form, 4 where a stream fails or memory runs out.
+/// certificate is refused, 3 for words of no known form, 4 where a stream fails or memory runs out.
 ///
 /// Which words `clap` takes, and which files are opened, is shown by tests.
 pub fn program<R: Files + AllocGlobal, W: Sink, E: Sink>(
@@ -113,8 +114,7 @@ pub fn program<R: Files + AllocGlobal, W: Sink, E: Sink>(
     // A refusal writes nothing, but where writing fails.
     ensures refused { 1 < result → result < 4 → Keeps (W.taken out.old) (W.taken out.new) }
     ensures failed { result ≡ 4 → Keeps (W.taken out.old) (W.taken out.new) ⊎ BreaksOff (asked words.now) (W.taken out.old) (W.taken out.new) }
-    // Its line is on standard error, unless a write of it has failed. It speaks of no input but those that are read for
-    // what was asked.
+    // Its line, unless a write of it has failed. It speaks of no input but those that are read for what was asked.
     ensures reported { 1 < result → E.has_failed err.new ≡ false → SaysRefusalFor (asked words.now) result (E.taken err.old) (E.taken err.new) }
     ensures silent { result < 2 → Keeps (E.taken err.old) (E.taken err.new) }
 {
@@ -175,28 +175,28 @@ fn check<R: Files + AllocGlobal, W: Sink>(
     Ok(run_check(rt.alloc(), &mut script, &mut certificate, out)?)
 }
 
-/// Reports on the script.
+/// Reports on the script at the path.
 fn report<R: Files + AllocGlobal, W: Sink>(
     rt: &R,
     kind: ScriptReport,
-    script: &str,
+    path: &str,
     out: &mut W,
 ) -> Result<Outcome, Refusal>
     ensures { Leaves (report_asked kind) (W.taken out.old) (W.taken out.new) result }
 {
-    let mut script = open(rt, script, Input::Script)?;
+    let mut script = open(rt, path, Input::Script)?;
     Ok(run_script(rt.alloc(), kind, &mut script, out)?)
 }
 
-/// Upgrades the certificate.
+/// Upgrades the certificate at the path.
 fn upgrade<R: Files + AllocGlobal, W: Sink>(
     rt: &R,
-    certificate: &str,
+    path: &str,
     out: &mut W,
 ) -> Result<Outcome, Refusal>
     ensures { Leaves Upgrade (W.taken out.old) (W.taken out.new) result }
 {
-    let mut certificate = open(rt, certificate, Input::Certificate)?;
+    let mut certificate = open(rt, path, Input::Certificate)?;
     Ok(run_upgrade(rt.alloc(), &mut certificate, out)?)
 }
 
@@ -275,7 +275,7 @@ fn is_option(word: &str) -> bool
     matches!(word.as_bytes(), [b'-', ..])
 }
 
-/// The forms that the words may have.
+/// The known forms of the words.
 fn command<'a>(alloc: Global) -> Result<Command<'a>, AllocError> {
     let certificate = Arg::new(alloc, "certificate").required(true);
     let check = subcommand(alloc, "check", "script")?.arg(certificate)?;

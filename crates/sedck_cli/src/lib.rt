@@ -12,3 +12,4 @@ mod report;
 pub use answer::{Input, Outcome, RunFault};
 pub use command_line::{Refusal, flushed, program};
 pub use engines::{run_check, run_files, run_graph, run_rank, run_upgrade};
+pub use sedck_cert::streams::FromWrite;

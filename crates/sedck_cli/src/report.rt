@@ -1,13 +1,13 @@
 //! The reports, as bytes.
 
-ghost use Rattle.std.specs.Prelude.{◌≡◌, ◌++◌, IfOk, OnOk, ◌<◌, ◌≤◌, length, map, decimal, codes, string_bytes};
+ghost use Rattle.std.specs.Prelude.{◌≡◌, ◌++◌, IfOk, OnOk, ◌≤◌, length, map, codes, string_bytes};
 ghost use Rattle.sedck_cert.specs.Headline.{IsLimit};
-ghost use Rattle.sedck_cert.specs.Text.{line, name_lines, files_text};
-ghost use Rattle.sedck_cli.specs.Private.Reports.{AddsEdgesFrom};
+ghost use Rattle.sedck_cert.specs.Text.{line, files_text};
+ghost use Rattle.sedck_cli.specs.Private.Reports.{AddsEdgesFrom, bound_line};
 ghost use Rattle.sedck_cli.specs.Reports.{IsCheckReport, IsFilesReport, IsGraphReport, rejection_words};
-ghost use Rattle.sedck_cli.specs.Private.Reports.{bound_line};
 
-use sedck_cert::{Bound, Cert, Judged, Rejection, Verdict};
+use sedck_cert::streams::FromWrite;
+use sedck_cert::{Bound, Cert, Judged, Rejection, Verdict, write_files};
 use sedck_flow::{Node, edges_of, node_count};
 use sedck_script::Script;
 use std::alloc::{AllocError, Global};
@@ -24,16 +24,14 @@ pub(crate) fn check_report(alloc: Global, judged: &Judged) -> Result<Vec<u8>, Al
     }
 }
 
-/// That the certificate is accepted, with its bound, if it has one, and its names.
+/// The report on an accepted certificate: its bound, if there is one, and its names.
 fn accepted_report(alloc: Global, bound: Option<Bound>, cert: &Cert) -> Result<Vec<u8>, AllocError>
     ensures { IfOk result (λ report. report.items ≡ line (codes "accepted") ++ bound_line bound ++ files_text cert.now.reads cert.now.writes) }
 {
     let mut report = Vec::new(alloc);
     add_line(&mut report, b"accepted")?;
     add_bound(alloc, &mut report, bound)?;
-    add_names(alloc, &mut report, "read", cert.reads())?;
-    add_names(alloc, &mut report, "write", cert.writes())?;
-    Ok(report)
+    with_files(report, cert.reads(), cert.writes())
 }
 
 /// Adds the line of the bound, if there is one.
@@ -52,7 +50,7 @@ fn add_bound(alloc: Global, report: &mut Vec<u8>, bound: Option<Bound>) -> Resul
     Ok(())
 }
 
-/// The first reason why the certificate is rejected.
+/// The report on a rejected certificate: the first reason why.
 fn rejected_report(alloc: Global, why: Rejection) -> Result<Vec<u8>, AllocError>
     ensures { IfOk result (λ report. report.items ≡ line (rejection_words why)) }
 {
@@ -66,10 +64,7 @@ fn rejected_report(alloc: Global, why: Rejection) -> Result<Vec<u8>, AllocError>
 pub(crate) fn files_report(alloc: Global, script: &Script) -> Result<Vec<u8>, AllocError>
     ensures { IfOk result (λ report. IsFilesReport script.now report.items) }
 {
-    let mut report = Vec::new(alloc);
-    add_names(alloc, &mut report, "read", script.reads())?;
-    add_names(alloc, &mut report, "write", script.writes())?;
-    Ok(report)
+    with_files(Vec::new(alloc), script.reads(), script.writes())
 }
 
 /// The number of the script's commands, and each edge of its flow graph on a line, in order.
@@ -117,23 +112,19 @@ fn rejection_text(alloc: Global, why: Rejection) -> Result<String, AllocError>
     }
 }
 
-/// Adds how many names there are, and each on a line.
-fn add_names<N: AsSlice<u8>>(
-    alloc: Global,
-    report: &mut Vec<u8>,
-    word: &str,
-    names: &[N],
-) -> Result<(), AllocError>
-    ensures { OnOk result (report.new.items
-        ≡ report.old.items ++ (line (word.now ++ codes " " ++ decimal (length names.now)) ++ name_lines (map N.items names.now))) }
+/// The report with the lists of the names that are read and written.
+fn with_files<N: AsSlice<u8>>(
+    report: Vec<u8>,
+    reads: &[N],
+    writes: &[N],
+) -> Result<Vec<u8>, AllocError>
+    ensures { IfOk result (λ whole. whole.items ≡ report.items ++ files_text (map N.items reads.now) (map N.items writes.now)) }
 {
-    let count = names.len();
-    let head = format!(in alloc; "{word} {count}")?;
-    add_line(report, head.as_bytes())?;
-    for name in names {
-        add_line(report, name.as_slice())?;
+    let mut out = FromWrite::new(report);
+    match write_files(&mut out, reads, writes) {
+        Ok(()) => Ok(out.into_inner()),
+        Err(_) => Err(AllocError),
     }
-    Ok(())
 }
 
 /// Adds the text as a line.

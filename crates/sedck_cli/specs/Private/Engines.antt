@@ -15,7 +15,7 @@ use Rattle.sedck_cli.specs.Engines.{ListsFilesTo, ListsGraphTo, RanksTo, found_o
 
 -- the text is what was read of an input's bytes, where they are known
 pub record IsRead (limit : ℕ) (known : Option (List ℕ)) (text : List ℕ) : Type 0 where
-  pub front : IfSome known (λ bytes. text ≡ take limit bytes)
+  pub prefix : IfSome known (λ bytes. text ≡ take limit bytes)
   pub within : length text ≤ limit
 
 -- the report on a script, and its outcome

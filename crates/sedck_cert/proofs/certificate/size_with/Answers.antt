@@ -9,7 +9,7 @@ use Rattle.sedck_cert.proofs.certificate.size_with.Goals as goal
 pub returns-then-not-is_next_name : goal.returns-then-not-is_next_name
 returns-then-not-is_next_name c are small =
     let left = c.loop-name.invariant.0.0 (names_next (names_of c.args.names.now) c.args.size are small) in
-    let first = left_cons c.args.names.now c.loop-name.name-index c.name-item.result c.loop-name-test.true c.name-item.is
+    let first = left_cons (λ n. n.items) c.args.names.now c.loop-name.name-index c.name-item.result c.loop-name-test.true c.name-item.is
     ∙ ap (λ t. t ∷ names_of (drop (c.loop-name.name-index + 1) c.args.names.now)) (sym c.deref.ensures.value) in
     let next = subst (λ t. AreNext (one_before c.loop-name.before) t c.loop-name.size) first left in
     let yes' : IsTrue c.is_next_name.result = c.is_next_name.ensures.1 (next.0, next.1, next.2) in

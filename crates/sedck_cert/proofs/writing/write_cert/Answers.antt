@@ -1,6 +1,6 @@
 use Rattle.std.proofs.Common.{refl}
 use Rattle.sedck_cert.proofs.Written.{on_err, begins_first, begins_at, begins_third, written_fourth, begun_fourth}
-use Rattle.sedck_cert.proofs.Pieces.{pieces_at, few_ranks, few_names}
+use Rattle.sedck_cert.proofs.Pieces.{pieces_at, few_ranks}
 use Rattle.sedck_cert.proofs.writing.write_cert.Goals as goal
 
 pub returns-in_err-write_head-clause-begun : goal.returns-in_err-write_head-clause-begun
@@ -15,12 +15,6 @@ returns-in_err-write_nodes-clause-begun g c = on_err c.from_residual-in_err-writ
     (begins_at _ _ _ _ _ _ _
     (pieces_at c.args.cert.now _ _ _ _ c.commands.ensures c.ranks.ensures.ranks refl refl) c.in_ok-write_head.ensures.written
     c.in_err-write_nodes.ensures.begun)
-
-pub write_files-requires-clause-few : goal.write_files-requires-clause-few
-write_files-requires-clause-few g c = few_names c.reads.result.now _ c.ranks.ensures.certificate.reads c.reads.ensures
-
-pub write_files-requires-clause-fewer : goal.write_files-requires-clause-fewer
-write_files-requires-clause-fewer g c = few_names c.writes.result.now _ c.ranks.ensures.certificate.writes c.writes.ensures
 
 pub returns-in_err-write_files-clause-begun : goal.returns-in_err-write_files-clause-begun
 returns-in_err-write_files-clause-begun g c = on_err c.from_residual-in_err-write_files.result _

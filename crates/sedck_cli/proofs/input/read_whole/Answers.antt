@@ -14,7 +14,7 @@ loop-input-preserved g c =
 
 pub returns-clause-read : goal.returns-clause-read
 returns-clause-read g c = record {
-  front = elim c.loop-input-test.branch [
+  prefix = elim c.loop-input-test.branch [
     | else-loop-input-test w ↦ read_to_limit _ (g.S.Source.left c.loop-input.source) _ _ c.loop-input.invariant.0 (omega (arith, c.loop-input.bytes.ok.0))
     | then-loop-input-test+in-Ok+then-count-eq0 w ↦
         let room : 0 < length w.read.new.buf = grind (arith, common_steps, w.min-room.ensures) in
