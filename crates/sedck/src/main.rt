@@ -12,7 +12,7 @@ fn main(rt: HostRuntime) -> ExitCode {
     let mut err = FromWrite::new(rt.stderr());
     let status = match words(&rt) {
         Ok(words) => program(&rt, &words, &mut out, &mut err),
-        Err(refusal) => refusal.tell(&mut err),
+        Err(refusal) => refusal.report(&mut err),
     };
     ExitCode::from(flushed(status, out.into_inner(), &mut err))
 }

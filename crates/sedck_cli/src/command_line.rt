@@ -69,7 +69,7 @@ impl Refusal {
 
     /// Writes the refusal in one line, and answers the exit status, which is the same where the line can't be written.
     /// It takes no memory.
-    pub fn tell<E: Sink>(self, err: &mut E) -> u8
+    pub fn report<E: Sink>(self, err: &mut E) -> u8
         ensures status { result ≡ status_of self }
         // The line stands there, unless a write has failed.
         ensures line { E.has_failed err.new ≡ false → Appends (E.taken err.old) (E.taken err.new) (refusal_line self) }
@@ -121,7 +121,7 @@ pub fn program<R: Files + AllocGlobal, W: Sink, E: Sink>(
     match run(rt, words, out) {
         Ok(Outcome::Yes) => 0,
         Ok(Outcome::No) => 1,
-        Err(refusal) => refusal.tell(err),
+        Err(refusal) => refusal.report(err),
     }
 }
 
@@ -138,7 +138,7 @@ pub fn flushed<W: Write + Drop, E: Sink>(status: u8, mut out: W, err: &mut E) ->
     }
     match out.flush() {
         Ok(()) => status,
-        Err(_) => Refusal::Run(RunFault::Write).tell(err),
+        Err(_) => Refusal::Run(RunFault::Write).report(err),
     }
 }
 

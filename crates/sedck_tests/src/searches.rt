@@ -1,4 +1,4 @@
-//! Which ranks the search gives, which of equally short loops it tells, and that it answers at all.
+//! Which ranks the search gives, which of equally short loops it reports, and that it answers at all.
 mod counts;
 mod large;
 mod loops;
@@ -40,7 +40,7 @@ fn loop_of(rt: &impl Abort, alloc: Global, walk: &Walk) -> String {
     lines
 }
 
-/// Whether these lines are told of the script: one for each node with ranks, or those of the loop.
+/// Whether these lines are reported of the script: one for each node with ranks, or those of the loop.
 fn is_told(rt: &impl Abort, alloc: Global, text: &[u8], lines: &str) {
     let script = script_of(rt, alloc, text);
     let told = match search(alloc, &script).expect(rt, "memory") {
@@ -56,7 +56,7 @@ fn is_told(rt: &impl Abort, alloc: Global, text: &[u8], lines: &str) {
     assert_eq!(rt; told.as_str(), lines);
 }
 
-/// A script, and what is told of it, also where it has a newline for each semicolon.
+/// A script, and what is reported of it, also where it has a newline for each semicolon.
 type Row = (&'static [u8], &'static str);
 
 fn are_told(rt: &impl Abort, alloc: Global, rows: &[Row]) {

@@ -1,4 +1,4 @@
-//! Long texts, made of short ones, and what is told of texts that are read.
+//! Long texts, made of short ones, and what is reported of texts that are read.
 use sedck_script::Script;
 use std::alloc::Global;
 use std::process::Abort;
@@ -6,7 +6,7 @@ use std::process::Abort;
 /// A part of a text, and how many times it stands there.
 pub type Part = (&'static [u8], usize);
 
-/// The parts one after another, each so many times.
+/// The parts one after another, each this many times.
 pub fn repeated(rt: &impl Abort, alloc: Global, parts: &[Part]) -> Vec<u8> {
     let mut text = Vec::new(alloc);
     for (part, times) in parts {

@@ -126,7 +126,7 @@ static FAULTS: [(CertFault, &'static str); 6] = [
     (CertFault::OutOfMemory, "fault 6 out-of-memory"),
 ];
 
-/// Whether there is a certificate with so many nodes and these names to read.
+/// Whether there is a certificate with this many nodes and these names to read.
 fn is_made(rt: &impl Abort, alloc: Global, commands: u16, nodes: u16, names: &[&[u8]]) -> bool {
     let mut ranks = Vec::new(alloc);
     for _ in 0..nodes {

@@ -5,7 +5,7 @@ use bstr::ByteSlice;
 use std::alloc::Global;
 use std::process::Abort;
 
-/// A part of a text, what stands in its place, and the number and the line of the fault; zeros for none.
+/// A part of a text, what replaces it, and the number and the line of the fault; zeros for none.
 pub type Row = (&'static [u8], &'static [u8], u8, usize);
 
 /// Whether the changed texts have these faults by the reader of their version, and by the reader of both.

@@ -1,4 +1,4 @@
-//! What the engines tell and write.
+//! What the engines report and write.
 use super::runs::{Engine, NEVER, is_answered};
 use super::{
     ACCEPTED, EMPTY_CERTIFICATE, LOOP, LOOP_CERTIFICATE, LOOP_GRAPH, OLD_EMPTY_CERTIFICATE,
@@ -7,7 +7,7 @@ use super::{
 use std::alloc::Global;
 use std::process::Abort;
 
-/// The texts of a script and a certificate, and what is told and written.
+/// The texts of a script and a certificate, and what is reported and written.
 type Row = (&'static str, &'static str, &'static str, &'static str);
 
 fn are_answered(rt: &impl Abort, alloc: Global, engine: &Engine, rows: &[Row]) {
@@ -200,7 +200,7 @@ fn answers(rt: HostRuntime) {
     }
 }
 
-/// A part of the loop's certificate, what stands in its place, and what is told and written.
+/// A part of the loop's certificate, what replaces it, and what is reported and written.
 static CHANGED: [Row; 8] = [
     (
         "0 0 0 2 2\n",
@@ -281,7 +281,7 @@ static OLD_CHANGED: [Row; 5] = [
     ),
 ];
 
-/// The first length that has this fault, the one behind the last, and what is told.
+/// The first length that has this fault, the one behind the last, and what is reported.
 type Cut = (usize, usize, &'static str);
 
 static CUT: [Cut; 21] = [
@@ -325,7 +325,7 @@ static OLD_CUT: [Cut; 13] = [
     (88, 92, "certificate fault 5 bad-end at line 13"),
 ];
 
-/// Whether the certificate's text, with each part changed, is answered as the rows tell.
+/// Whether the certificate's text, with each part changed, is answered as the rows say.
 fn changed_are_answered(rt: &impl Abort, alloc: Global, text: &str, rows: &[Row]) {
     for (old, new, told, report) in rows {
         let certificate = text.replace(alloc, *old, *new).expect(rt, "memory");
@@ -334,7 +334,7 @@ fn changed_are_answered(rt: &impl Abort, alloc: Global, text: &str, rows: &[Row]
     }
 }
 
-/// Whether the beginnings of the certificate's text are refused as the rows tell.
+/// Whether the beginnings of the certificate's text are refused as the rows say.
 fn cut_are_refused(rt: &impl Abort, alloc: Global, text: &str, rows: &[Cut]) {
     for (first, end, told) in rows {
         for length in *first..*end {

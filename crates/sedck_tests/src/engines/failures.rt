@@ -124,7 +124,7 @@ fn failing_sources(rt: HostRuntime) {
     }
 }
 
-/// Whether the write behind the front of a report is said to have failed, and nothing more went out.
+/// Whether the write behind a prefix of a report is said to have failed, and nothing more went out.
 fn fails_behind(rt: &impl Abort, alloc: Global, engine: &Engine, script: &str, front: &str) {
     let (texts, ends) = ((script, LOOP_CERTIFICATE), (AMPLE, AMPLE, front.len()));
     let answer = ("cannot write", front);
@@ -156,7 +156,7 @@ fn failing_sinks(rt: HostRuntime) {
 }
 
 /// The engine, whether the long text is the certificate's, how much is given of the script and of the certificate before reads fail,
-/// and what is told: what lies behind the limit is never read.
+/// and what is reported: what lies behind the limit is never read.
 static LIMITS: [(Engine, bool, usize, usize, &'static str); 7] = [
     (Engine::Check, false, 1_048_576, AMPLE, "cannot read script"),
     (

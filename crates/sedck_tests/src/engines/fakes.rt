@@ -1,4 +1,4 @@
-//! Sources and sinks, and readers and writers of std, that fail when they are told to.
+//! Sources and sinks, and readers and writers of std, that fail when they are asked to.
 
 ghost use Rattle.std.specs.Prelude.{None, false};
 

@@ -194,7 +194,7 @@ static OLD_REJECTED: [Row; 11] = [
         NO_FILES,
         "rejected 5 reads-differ\n",
     ),
-    // the old nodes can't tell the last line
+    // the old nodes don't know the last line
     (
         ":a;$!N;$!ba",
         3,
@@ -344,7 +344,7 @@ static REJECTED: [Row; 9] = [
     ),
 ];
 
-/// What stands behind the node among the nodes that have ranks.
+/// What follows the node among the nodes that have ranks.
 fn ranks_of<'a>(nodes: &'a str, node: &str) -> &'a str {
     for line in nodes.split(", ") {
         if let Some(ranks) = line.strip_prefix(node) {
@@ -404,7 +404,7 @@ fn are_judged(
     is_run(rt, folder, words, AMPLE, (status, report, ""));
 }
 
-/// What is told of the row's certificate.
+/// What is reported of the row's certificate.
 fn report_of(rt: &impl Abort, alloc: Global, row: &Row, is_accepted: bool) -> String {
     let (_, _, _, lists, line) = row;
     let report = if is_accepted {

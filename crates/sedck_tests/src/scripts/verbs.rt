@@ -4,7 +4,7 @@ use sedck_script::{Part, Verb};
 use std::alloc::Global;
 use std::process::Abort;
 
-/// A command's letter, the text or the name that it takes, and where it leads to, beside the next command.
+/// A command's letter, the text or the name that it takes, and where it leads to, and to the next command.
 type Word<'a> = (u8, &'a [u8], usize);
 
 type Words = &'static [Word<'static>];

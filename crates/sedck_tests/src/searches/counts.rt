@@ -7,7 +7,7 @@ fn have_bits(rt: &impl Abort, words: &[u64], bits: u64) {
     assert_eq!(rt; count_bits(words), bits, "{words:?}");
 }
 
-/// A number of words, and the bits of so many full words.
+/// A number of words, and the bits of this many full words.
 static FULL: [(usize, u64); 9] = [
     (0, 0),
     (1, 64),

@@ -48,8 +48,8 @@ fn ranks(rt: HostRuntime) {
     is_told(&rt, rt.alloc(), text.as_bytes(), &ranks);
 }
 
-/// What stands before a piece, the piece, its copies, what stands behind them, and the loop that is told: the first of
-/// many idle loops one behind the other, the first of many growing ones, and a loop that goes over all commands.
+/// What stands before a piece, the piece, its copies, what follows them, and the loop that is reported: the first of
+/// many idle loops one behind the other, the first of many growing ones, and a loop through all commands.
 static LOOPS: [(&'static str, &'static str, u16, &'static str, &'static str); 3] = [
     (
         "p\ns/x//\n",

@@ -5,4 +5,4 @@ use Rattle.sedck_cli.proofs.command_line.flushed.Goals as goal
 
 -- the line of a failed write
 pub returns-clause-reported : goal.returns-clause-reported
-returns-clause-reported g c differs sound = (Run Write, sym c.tell.ensures.status, c.tell.ensures.line sound)
+returns-clause-reported g c differs sound = (Run Write, sym c.report.ensures.status, c.report.ensures.line sound)

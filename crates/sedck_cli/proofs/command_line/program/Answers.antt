@@ -24,20 +24,20 @@ pub returns-in-Ok-No-clause-nothing : goal.returns-in-Ok-No-clause-nothing
 returns-in-Ok-No-clause-nothing g c is = absurd (no_report _ _ _ _ is c.in-Ok-No.ensures.leaves)
 
 pub returns-in-Err-clause-nothing : goal.returns-in-Err-clause-nothing
-returns-in-Err-clause-nothing g c is = rw c.tell.ensures.status (of_words _ _ _ c.in-Err.refusal is c.in-Err.ensures.leaves)
+returns-in-Err-clause-nothing g c is = rw c.report.ensures.status (of_words _ _ _ c.in-Err.refusal is c.in-Err.ensures.leaves)
 
 pub returns-in-Err-clause-yes : goal.returns-in-Err-clause-yes
-returns-in-Err-clause-yes g c is = let above = refusal_status c.in-Err.refusal in absurd (omega (arith, c.tell.ensures.status))
+returns-in-Err-clause-yes g c is = let above = refusal_status c.in-Err.refusal in absurd (omega (arith, c.report.ensures.status))
 
 pub returns-in-Err-clause-no : goal.returns-in-Err-clause-no
-returns-in-Err-clause-no g c is = let above = refusal_status c.in-Err.refusal in absurd (omega (arith, c.tell.ensures.status))
+returns-in-Err-clause-no g c is = let above = refusal_status c.in-Err.refusal in absurd (omega (arith, c.report.ensures.status))
 
 pub returns-in-Err-clause-never_no : goal.returns-in-Err-clause-never_no
-returns-in-Err-clause-never_no g c is = let above = refusal_status c.in-Err.refusal in absurd (omega (arith, c.tell.ensures.status))
+returns-in-Err-clause-never_no g c is = let above = refusal_status c.in-Err.refusal in absurd (omega (arith, c.report.ensures.status))
 
 pub returns-in-Err-clause-failed : goal.returns-in-Err-clause-failed
 returns-in-Err-clause-failed g c is = broken_off _ _ _ c.in-Err.refusal c.in-Err.ensures.leaves
 
 pub returns-in-Err-clause-reported : goal.returns-in-Err-clause-reported
 returns-in-Err-clause-reported g c above sound =
-    (c.in-Err.refusal, sym c.tell.ensures.status, is_for _ _ _ c.in-Err.refusal c.in-Err.ensures.leaves, c.tell.ensures.line sound)
+    (c.in-Err.refusal, sym c.report.ensures.status, is_for _ _ _ c.in-Err.refusal c.in-Err.ensures.leaves, c.report.ensures.line sound)
