@@ -7,15 +7,21 @@
 #![tactic(auto)]
 
 mod answer;
+mod components;
 mod counting;
 mod distances;
 mod filter;
+mod kept_sets;
 pub mod laws;
 mod loops;
 mod node_set;
+mod order;
+mod other_side;
+mod reachable;
 mod reaching;
 pub mod rows;
 mod searching;
+mod sets;
 
 pub use answer::{Form, Found, Walk};
 pub use searching::search;

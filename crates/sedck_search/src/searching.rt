@@ -15,6 +15,7 @@ use crate::answer::{Form, Found};
 use crate::counting::counts_of;
 use crate::filter::EdgeFilter;
 use crate::loops::{first_closing, loop_from};
+use crate::reachable::reachable_marks;
 use sedck_cert::Cert;
 use sedck_flow::Kind;
 use sedck_script::Script;
@@ -27,11 +28,12 @@ use std::alloc::{AllocError, Global};
 pub fn search(alloc: Global, script: &Script) -> Result<Found, AllocError>
     ensures { IfOk result (IsFound script.now) }
 {
-    let seconds = counts_of(alloc, script, EdgeFilter::Kept)?;
+    let marks = reachable_marks(alloc, script)?;
+    let seconds = counts_of(alloc, script, EdgeFilter::Kept, &marks)?;
     if let Some(edge) = first_closing(script, Kind::Keep, &seconds) {
         return Ok(Found::Loop(loop_from(alloc, script, Form::Idle, edge)?));
     }
-    let firsts = counts_of(alloc, script, EdgeFilter::Unread)?;
+    let firsts = counts_of(alloc, script, EdgeFilter::Unread, &marks)?;
     if let Some(edge) = first_closing(script, Kind::Grow, &firsts) {
         return Ok(Found::Loop(loop_from(alloc, script, Form::Growing, edge)?));
     }

@@ -1,5 +1,5 @@
 -- Sets of nodes as bits in words: node i is bit i mod 64 of word i / 64. Nodes are numbered by their order.
-use Rattle.std.specs.Prelude.{◌≡◌, ◌≢◌, ℕ, ◌/◌, ◌%◌, ◌<◌, ◌≤◌, ◌^◌, ◌==◌, Bool, true, false, List, length, slice_index, All}
+use Rattle.std.specs.Prelude.{◌≡◌, ◌≢◌, ◌⊎◌, ℕ, ◌/◌, ◌%◌, ◌<◌, ◌≤◌, ◌^◌, ◌==◌, Bool, true, false, List, length, slice_index, bit_or, All}
 use Rattle.std.specs.Int.{bit_at}
 
 -- whether the row has the node; no node lies behind its words
@@ -27,3 +27,14 @@ HasNoneFrom words from = (i : ℕ) → from ≤ i → has words i ≡ false
 -- the first node of the row from this one on
 abbrev pub IsNext : List ℕ → ℕ → ℕ → Type 0
 IsNext words from next = (from ≤ next) × (next < 16384) × (has words next ≡ true) × ((k : ℕ) → from ≤ k → k < next → has words k ≡ false)
+
+-- a set has just the nodes of two others
+pub record IsUnion (left right both : List ℕ) : Type 0 where
+  pub has_left : (i : ℕ) → has left i ≡ true → has both i ≡ true
+  pub has_right : (i : ℕ) → has right i ≡ true → has both i ≡ true
+  pub no_other : (i : ℕ) → has both i ≡ true → (has left i ≡ true) ⊎ (has right i ≡ true)
+
+-- each word has the bits of two others
+pub record AreWordsOfBoth (left right both : List ℕ) : Type 0 where
+  pub long : length both ≡ length left
+  pub each : (j : ℕ) → j < length left → slice_index both j ≡ bit_or (slice_index left j) (slice_index right j)

@@ -23,5 +23,5 @@ returns-clause-changed c =
     subst (λ before. HasChanged before (set c.self.inside.words (c.args.node / 64) (with_bit c.self.inside.words c.args.node)) c.args.node true) c.self.view_is
     (inserted c.self.inside.words c.args.node c.requires c.self.invariant.0)
 
-pub returns-clause-row : goal.returns-clause-row
-returns-clause-row c = inserted_row c.self.inside.words c.args.node c.requires c.self.invariant.0
+pub returns-clause-is_set : goal.returns-clause-is_set
+returns-clause-is_set c = inserted_row c.self.inside.words c.args.node c.requires c.self.invariant.0

@@ -8,5 +8,5 @@ invariant_of-result c = (empty_row, sym empty_count)
 pub returns-clause-nodes : goal.returns-clause-nodes
 returns-clause-nodes c = empty_nodes
 
-pub returns-clause-row : goal.returns-clause-row
-returns-clause-row c = empty_row
+pub returns-clause-is_set : goal.returns-clause-is_set
+returns-clause-is_set c = empty_row

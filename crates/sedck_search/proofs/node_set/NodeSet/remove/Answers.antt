@@ -23,5 +23,5 @@ returns-clause-changed c =
     (without_bit c.self.inside.words c.args.node)) c.args.node false) c.self.view_is
     (removed c.self.inside.words c.args.node c.requires.inside c.self.invariant.0)
 
-pub returns-clause-row : goal.returns-clause-row
-returns-clause-row c = removed_row c.self.inside.words c.args.node c.requires.inside c.self.invariant.0
+pub returns-clause-is_set : goal.returns-clause-is_set
+returns-clause-is_set c = removed_row c.self.inside.words c.args.node c.requires.inside c.self.invariant.0
