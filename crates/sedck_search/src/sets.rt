@@ -86,13 +86,17 @@ fn start_from_target(
     ensures closed { IsClosed script.now filter reached.new }
     ensures reached { (m : Node) → IsIn reached.new m → Reaches script.now filter node m }
 {
-    reached.clear();
+    let mut size = 0;
     for edge in edges_of(script, node) {
         if filter.follows(edge.kind)
             && let Some(set) = kept.of(edge.to.index(), counts)
-            && set.len() > reached.len()
+            && set.len() > size
         {
             reached.copy_from(set);
+            size = set.len();
         }
+    }
+    if size == 0 {
+        reached.clear();
     }
 }

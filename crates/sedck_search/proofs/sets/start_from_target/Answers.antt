@@ -28,9 +28,9 @@ loop-edge-preserved-in-loop-edge c =
     (subst (λ i. IsKeptFor c.args.kept.now.sets.items c.args.counts.now i c.in-Some-of.set.now) c.index.ensures c.in-Some-of.ensures.0) in
     record {
       edges = scan_more p c.args.node c.loop-edge.yielded c.next.new.self e scan (λ f h. h) tt;
-      is_set = c.copy_from.ensures.is_set;
-      closed = subst (IsClosed p c.args.filter) (sym c.copy_from.ensures.same) kept.0;
-      reached = λ m x. reaches-trans p c.args.filter c.args.node e.to m
+      is_set = λ _. c.copy_from.ensures.is_set;
+      closed = λ _. subst (IsClosed p c.args.filter) (sym c.copy_from.ensures.same) kept.0;
+      reached = λ _ m x. reaches-trans p c.args.filter c.args.node e.to m
           (reaches_from p c.args.filter c.args.node e (edge_coming p c.args.node c.loop-edge.yielded c.next.new.self e scan)
           (c.follows.ensures.0 c.if-follows.true)) (kept.1 m (subst (λ s. IsIn s m) c.copy_from.ensures.same x));
     }
