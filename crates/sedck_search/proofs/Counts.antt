@@ -21,24 +21,24 @@ use Rattle.sedck_flow.proofs.NodeLemmas.{node_same, node_at}
 use Rattle.sedck_search.proofs.Scans.{set_same, set_other}
 use Rattle.sedck_search.proofs.Paths.{reaches_self, reaches-trans, reaches_edge, closed_reaches}
 
--- rows are compared node by node
+-- sets are compared node by node
 pub nodes_within : (a b : List ℕ) → ((m : Node) → IsIn a m → IsIn b m) → (i : ℕ) → has a i ≡ true → has b i ≡ true
 nodes_within a b h i x = let n = node_at i in subst (λ k. has b k ≡ true) n.1 (h n.0 (subst (λ k. has a k ≡ true) (sym n.1) x))
 
 module _ (p : Program) (filter : EdgeFilter) where
   reach_within : (n m : Node) {a b : ℕ} (x : IsReachCount p filter n a) (y : IsReachCount p filter m b) → Reaches p filter n m → (i : ℕ)
-      → has y.row i ≡ true → has x.row i ≡ true
-  reach_within n m x y r = nodes_within y.row x.row (λ k h. (x.reach.same k).1 (reaches-trans p filter n m k r ((y.reach.same k).0 h)))
+      → has y.members i ≡ true → has x.members i ≡ true
+  reach_within n m x y r = nodes_within y.members x.members (λ k h. (x.reach.same k).1 (reaches-trans p filter n m k r ((y.reach.same k).0 h)))
 
   -- a node reaches at least as many as each that it reaches
   pub count_falls : (n m : Node) (a b : ℕ) → IsReachCount p filter n a → IsReachCount p filter m b → Reaches p filter n m → b ≤ a
   count_falls n m a b x y r =
-      omega (arith, fewer_or_same y.row x.row y.reach.is_row x.reach.is_row (reach_within n m x y r), x.counts, y.counts)
+      omega (arith, fewer_or_same y.members x.members y.reach.is_set x.reach.is_set (reach_within n m x y r), x.counts, y.counts)
 
   -- where it reaches as many, it is reached from there
   pub same_count : (n m : Node) (a b : ℕ) → IsReachCount p filter n a → IsReachCount p filter m b → Reaches p filter n m → a ≡ b → Reaches p filter m n
   same_count n m a b x y r same =
-      (y.reach.same n).0 (same_nodes y.row x.row y.reach.is_row x.reach.is_row (reach_within n m x y r) (y.counts ∙ sym same ∙ sym x.counts)
+      (y.reach.same n).0 (same_nodes y.members x.members y.reach.is_set x.reach.is_set (reach_within n m x y r) (y.counts ∙ sym same ∙ sym x.counts)
       (node_index n) ((x.reach.same n).1 (reaches_self p filter n)))
 
   -- ---- Sets that no followed edge leaves
@@ -47,24 +47,24 @@ module _ (p : Program) (filter : EdgeFilter) where
   pub closed_reached : (set : List ℕ) → IsNodeSet set → IsClosed p filter set → (n m : Node) → Reaches p filter n m → IsIn set m
       → IsReachCount p filter m (bit_count set) → (k : Node) → IsIn set k → Reaches p filter n k
   closed_reached set is_set closed n m r has_m x k has_k =
-      let within : (i : ℕ) → has x.row i ≡ true → has set i ≡ true =
-      nodes_within x.row set (λ j h. let to : Reaches p filter m j = (x.reach.same j).0 h in
+      let within : (i : ℕ) → has x.members i ≡ true → has set i ≡ true =
+      nodes_within x.members set (λ j h. let to : Reaches p filter m j = (x.reach.same j).0 h in
       closed_reaches p filter set closed to.0 m j to.1 to.2 has_m) in
       reaches-trans p filter n m k r ((x.reach.same k).0
-      (same_nodes x.row set x.reach.is_row is_set within x.counts (node_index k) has_k))
+      (same_nodes x.members set x.reach.is_set is_set within x.counts (node_index k) has_k))
 
   -- a closed set with the node, of nodes that it reaches, is all that it reaches
   pub closed_reach : (set : List ℕ) → IsNodeSet set → IsClosed p filter set → (n : Node) → IsIn set n → ((m : Node) → IsIn set m → Reaches p filter n m)
       → IsReachOf p filter n set
   closed_reach set is_set closed n has_n reached =
-      record { is_row = is_set; same = λ m. (reached m, λ to. closed_reaches p filter set closed to.0 n m to.1 to.2 has_n) }
+      record { is_set = is_set; same = λ m. (reached m, λ to. closed_reaches p filter set closed to.0 n m to.1 to.2 has_n) }
 
   pub reach_closed : (n : Node) (set : List ℕ) → IsReachOf p filter n set → IsClosed p filter set
   reach_closed n set reach e followed x =
       (reach.same e.to).1 (reaches-trans p filter n e.from e.to ((reach.same e.from).0 x) (reaches_edge p filter e followed))
 
   pub reach_count : (n : Node) (set : List ℕ) → IsReachOf p filter n set → IsReachCount p filter n (bit_count set)
-  reach_count n set reach = record { row = set; reach = reach; counts = refl }
+  reach_count n set reach = record { members = set; reach = reach; counts = refl }
 
   -- ---- Nodes that are counted
 

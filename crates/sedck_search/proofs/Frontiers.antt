@@ -14,7 +14,7 @@ use Rattle.sedck_search.proofs.NodeSets.{inserted_count, removed_count, count_wi
 use Rattle.sedck_flow.proofs.NodeLemmas.{node_same, node_at}
 use Rattle.sedck_search.proofs.Paths.{reaches_self, reaches-trans}
 
--- ---- Nodes put into a row
+-- ---- Nodes put into a set
 
 -- the nodes that were in a row stay in it
 pub changed_keeps : (a b : List ℕ) (n : Node) → HasChanged a b (node_index n) true → (m : Node) → IsIn a m → IsIn b m
@@ -35,7 +35,7 @@ changed_new a b n h m x =
 not_both : {b : Bool} → b ≡ true → b ≡ false → ⊥
 not_both h k = true≢false (sym h ∙ k)
 
--- what is in a row without the node was in the row
+-- what is in a row without the node was in the set
 pub removed_was : (a b : List ℕ) (m : Node) → HasChanged a b (node_index m) false → (k : Node) → IsIn b k → IsIn a k
 removed_was a b m removed k w =
     elim (cases_eq (node_index k) (node_index m)) [
@@ -43,8 +43,8 @@ removed_was a b m removed k w =
       | inr other ↦ sym (removed.others (node_index k) other) ∙ w
     ]
 
-module _ (n : Node) (row frontier row' frontier' : List ℕ) (sets : AreSearchSets row frontier) (is_row' : IsNodeSet row') (is_frontier' : IsNodeSet frontier')
-    (absent : has row (node_index n) ≡ false) (r : HasChanged row row' (node_index n) true) (w : HasChanged frontier frontier' (node_index n) true) where
+module _ (n : Node) (members frontier members' frontier' : List ℕ) (sets : AreSearchSets members frontier) (is_set' : IsNodeSet members') (is_frontier' : IsNodeSet frontier')
+    (absent : has members (node_index n) ≡ false) (r : HasChanged members members' (node_index n) true) (w : HasChanged frontier frontier' (node_index n) true) where
   -- a node that isn't reached doesn't wait
   idle : has frontier (node_index n) ≡ false
   idle = by_bit (has frontier (node_index n)) refl
@@ -54,36 +54,36 @@ module _ (n : Node) (row frontier row' frontier' : List ℕ) (sets : AreSearchSe
       by_bit false e = e
 
   -- a node that wasn't there is added
-  pub added_new : (first first' : ℕ) → first' ≤ first → first' ≤ node_index n → AddsNode n row frontier row' frontier' first first'
+  pub added_new : (first first' : ℕ) → first' ≤ first → first' ≤ node_index n → AddsNode n members frontier members' frontier' first first'
   added_new first first' less least = record {
-    kept = changed_keeps row row' n r;
+    kept = changed_keeps members members' n r;
     waits_on = changed_keeps frontier frontier' n w;
-    new = λ m h. elim (changed_new row row' n r m h) [ inl before ↦ inl before | inr same ↦ inr (subst (IsIn frontier') (sym same) w.at) ];
+    new = λ m h. elim (changed_new members members' n r m h) [ inl before ↦ inl before | inr same ↦ inr (subst (IsIn frontier') (sym same) w.at) ];
     waits = λ m h. elim (changed_new frontier frontier' n w m h) [
       | inl before ↦ inl before
-      | inr same ↦ inr (same, subst (IsIn row') (sym same) r.at, omega (arith, least, ap node_index same))
+      | inr same ↦ inr (same, subst (IsIn members') (sym same) r.at, omega (arith, least, ap node_index same))
     ];
     earlier = less;
     room = omega (
       arith,
-      inserted_count row row' sets.is_row is_row' (node_index n) r absent,
+      inserted_count members members' sets.is_set is_set' (node_index n) r absent,
       inserted_count frontier frontier' sets.is_frontier is_frontier' (node_index n) w idle,
     );
   }
 
-  pub sets_new : AreSearchSets row' frontier'
+  pub sets_new : AreSearchSets members' frontier'
   sets_new = record {
-    is_row = is_row';
+    is_set = is_set';
     is_frontier = is_frontier';
     among = λ m h. elim (changed_new frontier frontier' n w m h) [
-      | inl before ↦ changed_keeps row row' n r m (sets.among m before)
-      | inr same ↦ subst (IsIn row') (sym same) r.at
+      | inl before ↦ changed_keeps members members' n r m (sets.among m before)
+      | inr same ↦ subst (IsIn members') (sym same) r.at
     ];
   }
 
 -- the node was there
-pub added_none : (n : Node) (row frontier : List ℕ) (first : ℕ) → AddsNode n row frontier row frontier first first
-added_none n row frontier first = record {
+pub added_none : (n : Node) (members frontier : List ℕ) (first : ℕ) → AddsNode n members frontier members frontier first first
+added_none n members frontier first = record {
   kept = λ m x. x;
   waits_on = λ m x. x;
   new = λ m x. inl x;
@@ -95,8 +95,8 @@ added_none n row frontier first = record {
 -- ---- Targets of a node
 
 module _ (p : Program) (filter : EdgeFilter) (from : Node) where
-  pub targets_none : (row frontier : List ℕ) (first : ℕ) → AddsTargets p filter from row frontier row frontier first first
-  targets_none row frontier first = record {
+  pub targets_none : (members frontier : List ℕ) (first : ℕ) → AddsTargets p filter from members frontier members frontier first first
+  targets_none members frontier first = record {
     kept = λ n x. x;
     waits_on = λ n x. x;
     new = λ n x. inl x;
@@ -168,22 +168,22 @@ module _ (p : Program) (filter : EdgeFilter) (from : Node) where
 
 -- ---- All that a node reaches
 
--- the row so far, while nodes wait
-pub record IsSearch (p : Program) (filter : EdgeFilter) (n : Node) (before row frontier : List ℕ) (first : ℕ) : Type 0 where
-  pub sets : AreSearchSets row frontier
-  pub kept : (m : Node) → IsIn before m → IsIn row m
-  pub node : IsIn row n
-  pub reached : (m : Node) → IsIn row m → IsIn before m ⊎ Reaches p filter n m
+-- the set so far, while nodes wait
+pub record IsSearch (p : Program) (filter : EdgeFilter) (n : Node) (before members frontier : List ℕ) (first : ℕ) : Type 0 where
+  pub sets : AreSearchSets members frontier
+  pub kept : (m : Node) → IsIn before m → IsIn members m
+  pub node : IsIn members n
+  pub reached : (m : Node) → IsIn members m → IsIn before m ⊎ Reaches p filter n m
   pub waits : (m : Node) → IsIn frontier m → Reaches p filter n m
-  pub closed : (e : Edge) → FollowedEdge p filter e → IsIn row e.from → has frontier (node_index e.from) ≡ false → IsIn row e.to
+  pub closed : (e : Edge) → FollowedEdge p filter e → IsIn members e.from → has frontier (node_index e.from) ≡ false → IsIn members e.to
   pub front : (m : Node) → IsIn frontier m → first ≤ node_index m
 
 module _ (p : Program) (filter : EdgeFilter) (n : Node) (before : List ℕ) where
   -- at first the node alone waits
-  pub search_begins : (row none frontier : List ℕ) (first first' : ℕ) → IsClosed p filter before → IsEmpty none → AreSearchSets row frontier
-      → AddsNode n before none row frontier first first' → IsIn row n
-      → IsSearch p filter n before row frontier first'
-  search_begins row none frontier first first' closed empty sets h node = record {
+  pub search_begins : (members none frontier : List ℕ) (first first' : ℕ) → IsClosed p filter before → IsEmpty none → AreSearchSets members frontier
+      → AddsNode n before none members frontier first first' → IsIn members n
+      → IsSearch p filter n before members frontier first'
+  search_begins members none frontier first first' closed empty sets h node = record {
     sets = sets;
     kept = h.kept;
     node = node;
@@ -199,11 +199,11 @@ module _ (p : Program) (filter : EdgeFilter) (n : Node) (before : List ℕ) wher
       only : (m : Node) → IsIn frontier m → (m ≡ n) × (first' ≤ node_index m)
       only m w = elim (h.waits m w) [ inl old ↦ absurd (not_both old (empty (node_index m))) | inr (same, _, least) ↦ (same, least) ]
 
-  module _ (row frontier frontier' row'' frontier'' : List ℕ) (first first'' : ℕ) (m : Node) (s : IsSearch p filter n before row frontier first)
+  module _ (members frontier frontier' members'' frontier'' : List ℕ) (first first'' : ℕ) (m : Node) (s : IsSearch p filter n before members frontier first)
       (has_m : IsIn frontier m) (none_before : (k : ℕ) → first ≤ k → k < node_index m → has frontier k ≡ false)
       (removed : HasChanged frontier frontier' (node_index m) false)
-      (sets : AreSearchSets row'' frontier'') (h : AddsTargets p filter m row frontier' row'' frontier'' (node_index m) first'')
-      (added : (e : Edge) → FollowedEdge p filter e → e.from ≡ m → IsIn row'' e.to) where
+      (sets : AreSearchSets members'' frontier'') (h : AddsTargets p filter m members frontier' members'' frontier'' (node_index m) first'')
+      (added : (e : Edge) → FollowedEdge p filter e → e.from ≡ m → IsIn members'' e.to) where
     waited : (k : Node) → IsIn frontier' k → IsIn frontier k
     waited k w = removed_was frontier frontier' m removed k w
 
@@ -223,7 +223,7 @@ module _ (p : Program) (filter : EdgeFilter) (n : Node) (before : List ℕ) wher
       | inr (_, least) ↦ least
     ]
 
-    closed_next : (e : Edge) → FollowedEdge p filter e → IsIn row'' e.from → has frontier'' (node_index e.from) ≡ false → IsIn row'' e.to
+    closed_next : (e : Edge) → FollowedEdge p filter e → IsIn members'' e.from → has frontier'' (node_index e.from) ≡ false → IsIn members'' e.to
     closed_next e followed x idle =
         elim (h.new e.from x) [
           | inr (_, inl w) ↦ absurd (not_both w idle)
@@ -231,14 +231,14 @@ module _ (p : Program) (filter : EdgeFilter) (n : Node) (before : List ℕ) wher
           | inl old ↦ by_bit old (has frontier (node_index e.from)) refl
         ]
       where
-        by_bit : IsIn row e.from → (b : Bool) → has frontier (node_index e.from) ≡ b → IsIn row'' e.to
+        by_bit : IsIn members e.from → (b : Bool) → has frontier (node_index e.from) ≡ b → IsIn members'' e.to
         by_bit old false w = h.kept e.to (s.closed e followed old w)
         by_bit old true w = elim (cases_eq (node_index e.from) (node_index m)) [
           | inl same ↦ added e followed (node_same e.from m same)
           | inr other ↦ absurd (not_both (h.waits_on e.from (removed.others (node_index e.from) other ∙ w)) idle)
         ]
 
-    pub search_goes_on : IsSearch p filter n before row'' frontier'' first''
+    pub search_goes_on : IsSearch p filter n before members'' frontier'' first''
     search_goes_on = record {
       sets = sets;
       kept = λ k x. h.kept k (s.kept k x);
@@ -249,21 +249,21 @@ module _ (p : Program) (filter : EdgeFilter) (n : Node) (before : List ℕ) wher
       front = front_next;
     }
 
-    -- the rows have less room
-    pub search_shrinks : IsNodeSet frontier' → bit_count frontier'' + 2 * (16384 - bit_count row'') < bit_count frontier + 2 * (16384 - bit_count row)
+    -- the sets have less room
+    pub search_shrinks : IsNodeSet frontier' → bit_count frontier'' + 2 * (16384 - bit_count members'') < bit_count frontier + 2 * (16384 - bit_count members)
     search_shrinks is_frontier' =
         omega (
           arith,
           h.room,
           removed_count frontier frontier' s.sets.is_frontier is_frontier' (node_index m) removed has_m,
-          count_within row s.sets.is_row,
-          count_within row'' sets.is_row,
+          count_within members s.sets.is_set,
+          count_within members'' sets.is_set,
         )
 
   -- where none waits any more
-  pub search_ends : (row frontier : List ℕ) (first : ℕ) → IsSearch p filter n before row frontier first
-      → ((i : ℕ) → first ≤ i → has frontier i ≡ false) → IsClosed p filter row × AddsReached p filter n before row
-  search_ends row frontier first s none = (
+  pub search_ends : (members frontier : List ℕ) (first : ℕ) → IsSearch p filter n before members frontier first
+      → ((i : ℕ) → first ≤ i → has frontier i ≡ false) → IsClosed p filter members × AddsReached p filter n before members
+  search_ends members frontier first s none = (
     (λ e followed x. s.closed e followed x (idle e.from (has frontier (node_index e.from)) refl)),
     record { kept = s.kept; node = s.node; reached = s.reached },
   )
@@ -272,9 +272,9 @@ module _ (p : Program) (filter : EdgeFilter) (n : Node) (before : List ℕ) wher
       idle k false e = e
       idle k true e = none (node_index k) (s.front k e)
 
-  pub frontier_empty : (row frontier : List ℕ) (first : ℕ) → IsSearch p filter n before row frontier first
+  pub frontier_empty : (members frontier : List ℕ) (first : ℕ) → IsSearch p filter n before members frontier first
       → ((i : ℕ) → first ≤ i → has frontier i ≡ false) → IsEmpty frontier
-  frontier_empty row frontier first s none i = go (has frontier i) refl
+  frontier_empty members frontier first s none i = go (has frontier i) refl
     where
       go : (b : Bool) → has frontier i ≡ b → has frontier i ≡ false
       go false e = e

@@ -14,6 +14,7 @@ mod filter;
 mod kept_sets;
 pub mod laws;
 mod loops;
+mod members;
 mod node_set;
 mod order;
 mod other_side;

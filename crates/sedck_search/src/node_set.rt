@@ -2,9 +2,9 @@
 
 ghost use Rattle.std.specs.Prelude.{◌≡◌, ◌<◌, ◌≤◌, true, false, not, length, MatchOption};
 ghost use Rattle.sedck_search.specs.Rows.{bit_count};
-ghost use Rattle.sedck_search.specs.Private.NodeSet.{has, IsNodeSet, IsEmpty, HasChanged, HasNoneFrom, IsNext, IsUnion, AreWordsOfBoth};
+ghost use Rattle.sedck_search.specs.Private.NodeSet.{has, IsNodeSet, IsEmpty, HasChanged, HasNoneFrom, IsNext, IsUnion};
 
-use crate::rows::count_bits;
+use crate::rows::{both, count_bits};
 use std::marker::Model;
 
 /// A set of nodes, one bit a node: those of 4,095 commands and the script's end, four each. It knows how many nodes it has.
@@ -138,15 +138,4 @@ impl NodeSet {
     {
         self.count
     }
-}
-
-/// The bits of both.
-fn both(left: &[u64; 256], right: &[u64; 256]) -> [u64; 256]
-    ensures { AreWordsOfBoth left.now right.now result }
-{
-    let mut words = *left;
-    for at in 0..256 {
-        words[at] |= right[at];
-    }
-    words
 }

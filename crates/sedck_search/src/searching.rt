@@ -23,7 +23,7 @@ use std::alloc::{AllocError, Global};
 
 /// Searches for ranks. Where a loop rules them out, it answers the loop: an idle one where there is one, and else a growing one.
 ///
-/// Only nodes that one of the two starts reaches are looked at. The first rank of a node is the number of nodes that it reaches
+/// Only nodes that one of the two starts reaches are visited. The first rank of a node is the number of nodes that it reaches
 /// without reading a line, the second the number of those that it reaches while the pattern space is kept, itself among them each time.
 pub fn search(alloc: Global, script: &Script) -> Result<Found, AllocError>
     ensures { IfOk result (IsFound script.now) }

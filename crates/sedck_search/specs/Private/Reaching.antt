@@ -31,24 +31,24 @@ Reaches p filter from to = (path : List (Kind × Node)) × IsPath p from path to
 abbrev pub FollowedEdge : Program → EdgeFilter → Edge → Type 0
 FollowedEdge p filter e = Flow p e × IsFollowed filter e.kind
 
--- a node is in the row
+-- a node is in the set
 abbrev pub IsIn : List ℕ → Node → Type 0
-IsIn row n = has row (node_index n) ≡ true
+IsIn members n = has members (node_index n) ≡ true
 
--- no followed edge leads out of the row
+-- no followed edge leads out of the set
 abbrev pub IsClosed : Program → EdgeFilter → List ℕ → Type 0
-IsClosed p filter row = (e : Edge) → FollowedEdge p filter e → IsIn row e.from → IsIn row e.to
+IsClosed p filter members = (e : Edge) → FollowedEdge p filter e → IsIn members e.from → IsIn members e.to
 
--- the row has just the nodes that the node reaches
-pub record IsReachOf (p : Program) (filter : EdgeFilter) (n : Node) (row : List ℕ) : Type 0 where
-  pub is_row : IsNodeSet row
-  pub same : (m : Node) → IsIn row m ↔ Reaches p filter n m
+-- the set has just the nodes that the node reaches
+pub record IsReachOf (p : Program) (filter : EdgeFilter) (n : Node) (members : List ℕ) : Type 0 where
+  pub is_set : IsNodeSet members
+  pub same : (m : Node) → IsIn members m ↔ Reaches p filter n m
 
 -- the node reaches so many nodes, itself among them
 pub record IsReachCount (p : Program) (filter : EdgeFilter) (n : Node) (count : ℕ) : Type 0 where
-  pub row : List ℕ
-  pub reach : IsReachOf p filter n row
-  pub counts : bit_count row ≡ count
+  pub members : List ℕ
+  pub reach : IsReachOf p filter n members
+  pub counts : bit_count members ≡ count
 
 -- ---- The counts of a script's nodes, in their order
 

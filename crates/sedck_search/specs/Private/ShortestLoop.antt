@@ -1,4 +1,4 @@
--- The loop that is told, edge by edge.
+-- The loop that is reported, edge by edge.
 use Rattle.std.specs.Prelude.{◌≡◌, ℕ, ◌≤◌, List, [], ◌∷◌, length}
 use Rattle.sedck_script.specs.Program.{Program}
 use Rattle.sedck_flow.specs.Flow.{Flow}

@@ -30,7 +30,7 @@ loop-step-preserved c =
           let positive : 0 < count = omega (arith, w.if-count-ne-UNREACHED.true) in
           let is = counted_is p c.args.filter counts partly n n_inside count (entry_is counts n (2 * k) count (sym (index-nth (2 * k))) (omega (arith, below)) refl)
           positive w.if-count.true in
-          let within : count ≤ 16384 = omega (arith, count_within is.row is.reach.is_row, is.counts) in
+          let within : count ≤ 16384 = omega (arith, count_within is.members is.reach.is_set, is.counts) in
           let marked = entry_is counts m (2 * k + 1) 65535 (sym place) below w.if-counts-step.true in
           rw w.counts-is
           (subst (λ i. ArePartlyCounted p c.args.filter (set counts i count)) place

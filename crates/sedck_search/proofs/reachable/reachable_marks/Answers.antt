@@ -18,19 +18,19 @@ use Rattle.sedck_search.proofs.reachable.reachable_marks.Goals as goal
 use Rattle.sedck_search.proofs.reachable.reachable_marks.Goals.{then-has, else-has}
 
 -- a node is marked exactly where it is reached
-module _ (p : Program) (none half row marks : List ℕ) (empty : IsEmpty none) (closed : IsClosed p Every row) (before : AddsReached p Every (start false) none half)
-    (behind : AddsReached p Every (start true) half row)
+module _ (p : Program) (none half members marks : List ℕ) (empty : IsEmpty none) (closed : IsClosed p Every members) (before : AddsReached p Every (start false) none half)
+    (behind : AddsReached p Every (start true) half members)
     (long : length marks ≡ node_count (length p.commands))
-    (entries : (i : ℕ) → i < length marks → slice_get marks i ≡ Some (if has row i then 65535 else 0)) where
-  -- both starts are in the row
-  starts : (last : Bool) → IsIn row (start last)
+    (entries : (i : ℕ) → i < length marks → slice_get marks i ≡ Some (if has members i then 65535 else 0)) where
+  -- both starts are in the set
+  starts : (last : Bool) → IsIn members (start last)
   starts false = behind.kept (start false) before.node
   starts true = behind.node
 
   marked : (filter : EdgeFilter) → ArePartlyCounted p filter marks
-  marked filter = record { long = long; each = λ n inside. by_bit n inside (has row (node_index n)) refl }
+  marked filter = record { long = long; each = λ n inside. by_bit n inside (has members (node_index n)) refl }
     where
-      by_bit : (n : Node) → n.at ≤ length p.commands → (b : Bool) → has row (node_index n) ≡ b
+      by_bit : (n : Node) → n.at ≤ length p.commands → (b : Bool) → has members (node_index n) ≡ b
           → (IsReachable p n × (HasCount p filter marks n ⊎ IsUncounted marks n)) ⊎ HasNoCount p marks n
       by_bit n inside true is = inl (
         elim (behind.reached n is) [
@@ -44,7 +44,7 @@ module _ (p : Program) (none half row marks : List ℕ) (empty : IsEmpty none) (
       )
       by_bit n inside false is = inr (
         (λ reachable. true≢false
-            (sym (closed_reaches p Every row closed reachable.1 (start reachable.0) n reachable.2 (all_followed reachable.1) (starts reachable.0)) ∙ is)),
+            (sym (closed_reaches p Every members closed reachable.1 (start reachable.0) n reachable.2 (all_followed reachable.1) (starts reachable.0)) ∙ is)),
         entries (node_index n) (place_in p marks long n inside) ∙ ap (λ b. Some (if b then 65535 else 0)) is,
       )
 
@@ -62,8 +62,8 @@ returns-clause-marks c =
 pub loop-index-preserved : goal.loop-index-preserved
 loop-index-preserved c =
     let inv = c.loop-index.invariant in
-    let row = c.add_reached-2.new.reached in
-    let mark : ℕ → ℕ = λ i. if has row i then 65535 else 0 in
+    let members = c.add_reached-2.new.reached in
+    let mark : ℕ → ℕ = λ i. if has members i then 65535 else 0 in
     let is : c.if-has.push ≡ mark c.loop-index.index = elim c.if-has.branch [
       | then-has w ↦ w.push-is ∙ ap (λ b. if b then 65535 else 0) (sym w.if-has.true ∙ c.has.ensures.value)
       | else-has w ↦ w.push-is ∙ ap (λ b. if b then 65535 else 0) (sym w.if-has.false ∙ c.has.ensures.value)

@@ -13,7 +13,7 @@ by_test true e = cc
 absent : (c : goal.After-min) → has c.args.reached.now c.index-index.result ≡ false
 absent c = by_test (has c.args.reached.now c.index-index.result) (sym c.insert.ensures.new ∙ c.if-not-insert.false)
 
--- the node wasn't in the row, and is put into both
+-- the node wasn't in the set, and is put into both
 pub returns-clause-node : goal.returns-clause-node
 returns-clause-node c =
     let is : c.index-index.result ≡ node_index c.args.node = c.index-index.ensures in
@@ -36,5 +36,5 @@ returns-clause-sets c =
 pub returns-then-not-insert-clause-node : goal.returns-then-not-insert-clause-node
 returns-then-not-insert-clause-node c =
     let same = c.insert.ensures.same c.if-not-insert.true in
-    subst (λ row. AddsNode c.args.node c.args.reached.now c.args.frontier.now row c.args.frontier.now c.args.first c.args.first) (sym same)
+    subst (λ members. AddsNode c.args.node c.args.reached.now c.args.frontier.now members c.args.frontier.now c.args.first c.args.first) (sym same)
     (added_none c.args.node c.args.reached.now c.args.frontier.now c.args.first)

@@ -13,7 +13,7 @@ add_node-first-requires-clause-inside c = index_below c.args.script.now c.requir
 
 pub add_node-first-requires-clause-sets : goal.add_node-first-requires-clause-sets
 add_node-first-requires-clause-sets c = record {
-  is_row = c.requires.reached;
+  is_set = c.requires.reached;
   is_frontier = c.requires.frontier;
   among = λ n w. absurd (true≢false (sym w ∙ c.requires.idle (node_index n)));
 }
@@ -35,7 +35,7 @@ pub visit-first-requires-clause-sets : goal.visit-first-requires-clause-sets
 visit-first-requires-clause-sets c =
     let removed = subst (λ i. HasChanged c.loop-index.frontier c.remove.new.self i false) (sym c.nth.ensures) c.remove.ensures.changed in
     record {
-      is_row = c.loop-index.invariant.sets.is_row;
+      is_set = c.loop-index.invariant.sets.is_set;
       is_frontier = c.remove.ensures.is_set;
       among = λ k w. c.loop-index.invariant.sets.among k (removed_was c.loop-index.frontier c.remove.new.self c.nth.result removed k w);
     }
@@ -75,7 +75,7 @@ returns-clause-grown c = (search_ends c.args.script.now c.args.filter c.args.nod
     c.loop-index.invariant c.in_default.ensures).1
 
 pub returns-clause-sets : goal.returns-clause-sets
-returns-clause-sets c = (c.loop-index.invariant.sets.is_row, c.loop-index.invariant.sets.is_frontier)
+returns-clause-sets c = (c.loop-index.invariant.sets.is_set, c.loop-index.invariant.sets.is_frontier)
 
 pub returns-clause-idle : goal.returns-clause-idle
 returns-clause-idle c = frontier_empty c.args.script.now c.args.filter c.args.node c.args.reached.now c.loop-index.reached c.loop-index.frontier c.loop-index.first

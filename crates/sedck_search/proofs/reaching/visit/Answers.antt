@@ -23,16 +23,16 @@ add_target-first-requires-clause-inside c =
 
 -- one target, or what it reaches
 one_target : (p : Program) (filter : EdgeFilter) (from to : Node) → Reaches p filter from to → to.at ≤ length p.commands
-    → (sets : List (List ℕ)) (counts row frontier row' frontier' : List ℕ) (first first' : ℕ) → AreKept p filter sets → AreCounts p filter counts
-    → AreSearchSets row frontier → AreSearchSets row' frontier' → AddsTarget sets counts to row frontier row' frontier' first first'
-    → AddsTargets p filter from row frontier row' frontier' first first'
-one_target p filter from to r inside sets counts row frontier row' frontier' first first' kept are before after (inl node) =
-    targets_node p filter from to r row frontier row' frontier' first first' before node
-one_target p filter from to r inside sets counts row frontier row' frontier' first first' kept are before after (inr k) =
+    → (sets : List (List ℕ)) (counts members frontier members' frontier' : List ℕ) (first first' : ℕ) → AreKept p filter sets → AreCounts p filter counts
+    → AreSearchSets members frontier → AreSearchSets members' frontier' → AddsTarget sets counts to members frontier members' frontier' first first'
+    → AddsTargets p filter from members frontier members' frontier' first first'
+one_target p filter from to r inside sets counts members frontier members' frontier' first first' kept are before after (inl node) =
+    targets_node p filter from to r members frontier members' frontier' first first' before node
+one_target p filter from to r inside sets counts members frontier members' frontier' first first' kept are before after (inr k) =
     let reached = kept_reached p filter sets counts k.set to kept are inside k.is_set k.is_kept in
-    subst (λ f. AddsTargets p filter from row frontier row' f first first') (sym k.same)
-    (subst (λ i. AddsTargets p filter from row frontier row' frontier first i) (sym k.same_first)
-    (targets_kept p filter from to r row frontier row' k.set first before.is_row after.is_row k.union reached.0 reached.1))
+    subst (λ f. AddsTargets p filter from members frontier members' f first first') (sym k.same)
+    (subst (λ i. AddsTargets p filter from members frontier members' frontier first i) (sym k.same_first)
+    (targets_kept p filter from to r members frontier members' k.set first before.is_set after.is_set k.union reached.0 reached.1))
 
 -- the target is in the set now
 pub loop-edge-preserved-then-follows : goal.loop-edge-preserved-then-follows

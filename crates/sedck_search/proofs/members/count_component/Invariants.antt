@@ -1,7 +1,7 @@
 use Rattle.std.proofs.Common.{◌≡◌}
 use Rattle.sedck_search.specs.Private.Components.{AreSets}
 use Rattle.sedck_search.specs.Private.Reaching.{ArePartlyCounted}
-use Rattle.sedck_search.proofs.components.count_component.Given as goal
+use Rattle.sedck_search.proofs.members.count_component.Given as goal
 
 abbrev pub invariant-loop-position : goal.invariant-loop-position
 invariant-loop-position l = record {

@@ -1,6 +1,6 @@
 use Rattle.std.proofs.Common.{◌≡◌, ℕ, ◌<◌, ◌≤◌, length}
 use Rattle.std.specs.Prelude.{slice_index, bit_or}
-use Rattle.sedck_search.proofs.node_set.both.Given as goal
+use Rattle.sedck_search.proofs.rows.both.Given as goal
 
 -- the words so far have the bits of both, and the others are as they were
 abbrev pub invariant-loop-at : goal.invariant-loop-at

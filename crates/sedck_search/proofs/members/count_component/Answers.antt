@@ -10,8 +10,8 @@ use Rattle.sedck_search.specs.Private.Components.{IsMember}
 use Rattle.sedck_search.proofs.NodeSets.{count_within}
 use Rattle.sedck_search.proofs.Scans.{entry_is}
 use Rattle.sedck_search.proofs.Links.{member_counted}
-use Rattle.sedck_search.proofs.components.count_component.Goals.{then-counts-node+then-is_member, else-counts-node}
-use Rattle.sedck_search.proofs.components.count_component.Goals as goal
+use Rattle.sedck_search.proofs.members.count_component.Goals.{then-counts-node+then-is_member, else-counts-node}
+use Rattle.sedck_search.proofs.members.count_component.Goals as goal
 
 pub overflow_cast-count : goal.overflow_cast-count
 overflow_cast-count c =
