@@ -1,4 +1,4 @@
--- A closing edge, told by two counts that are the same, and the obstacle that begins with it.
+-- A closing edge, known by two counts that are the same, and the obstacle that begins with it.
 use Rattle.std.proofs.Common.{◌≡◌, ℕ, ◌<◌, ◌≤◌, List, [], ◌∷◌, ◌++◌, length, refl, sym, ap, ◌∙◌, subst, inl, inr, arith}
 use Rattle.std.specs.Prelude.{Some, slice_get}
 use Rattle.std.proofs.lemmas.Bool.{cases_lt}
@@ -141,7 +141,7 @@ module _ (p : Program) (script : IsScript p) where
         let c = begun_closes n walk o.reachable o.closed (sought_begun form walk o.some_edge o.reads_none o.has_form sought) in
         none c.0 c.1
 
-    -- ---- The loop that is told
+    -- ---- The loop that is reported
 
     module _ (e : Edge) (first : IsFirstClosing p (closing_kind form) counts e) (w : Walk) (loop : IsShortestLoop p form e.from w) where
       pub loop_obstacle : IsObstacle p e.from loop.edges form

@@ -112,7 +112,7 @@ some_distances p filter to distances long to_inside entries = record {
         by_test true is = omega (arith, sym e ∙ ap (λ b. if b then 0 else 65535) is)
         by_test false is = omega (arith, sym e ∙ ap (λ b. if b then 0 else 65535) is, small)
 
--- a distance is shortened
+-- one distance gets shorter
 module _ (p : Program) (filter : EdgeFilter) (to : Node) (distances : List ℕ) (h : ArePathLengths p filter to distances) (n : Node) (distance old : ℕ)
     (was : HasDistance distances n old) (shorter : suc distance < old) (goes : HasNeighborWithin p filter distances n distance) where
   below : node_index n < length distances

@@ -45,7 +45,7 @@ removed_was a b m removed k w =
 
 module _ (n : Node) (members frontier members' frontier' : List ℕ) (sets : AreSearchSets members frontier) (is_set' : IsNodeSet members') (is_frontier' : IsNodeSet frontier')
     (absent : has members (node_index n) ≡ false) (r : HasChanged members members' (node_index n) true) (w : HasChanged frontier frontier' (node_index n) true) where
-  -- a node that isn't reached doesn't wait
+  -- a node that is not reached is not in the frontier
   idle : has frontier (node_index n) ≡ false
   idle = by_bit (has frontier (node_index n)) refl
     where
@@ -168,7 +168,7 @@ module _ (p : Program) (filter : EdgeFilter) (from : Node) where
 
 -- ---- All that a node reaches
 
--- the set so far, while nodes wait
+-- the set so far, while the frontier has nodes
 pub record IsSearch (p : Program) (filter : EdgeFilter) (n : Node) (before members frontier : List ℕ) (first : ℕ) : Type 0 where
   pub sets : AreSearchSets members frontier
   pub kept : (m : Node) → IsIn before m → IsIn members m
@@ -179,7 +179,7 @@ pub record IsSearch (p : Program) (filter : EdgeFilter) (n : Node) (before membe
   pub front : (m : Node) → IsIn frontier m → first ≤ node_index m
 
 module _ (p : Program) (filter : EdgeFilter) (n : Node) (before : List ℕ) where
-  -- at first the node alone waits
+  -- at first the frontier has the node alone
   pub search_begins : (members none frontier : List ℕ) (first first' : ℕ) → IsClosed p filter before → IsEmpty none → AreSearchSets members frontier
       → AddsNode n before none members frontier first first' → IsIn members n
       → IsSearch p filter n before members frontier first'
@@ -213,7 +213,7 @@ module _ (p : Program) (filter : EdgeFilter) (n : Node) (before : List ℕ) wher
     waits_next : (k : Node) → IsIn frontier'' k → Reaches p filter n k
     waits_next k w = elim (h.waits k w) [ inl old ↦ s.waits k (waited k old) | inr (r, _) ↦ from_node k r ]
 
-    -- no frontier node stands before the one looked at
+    -- no node of the frontier stands before the one visited
     front_next : (k : Node) → IsIn frontier'' k → first'' ≤ node_index k
     front_next k w = elim (h.waits k w) [
       | inl old ↦ elim (cases_lt (node_index k) (node_index m)) [
@@ -260,7 +260,7 @@ module _ (p : Program) (filter : EdgeFilter) (n : Node) (before : List ℕ) wher
           count_within members'' sets.is_set,
         )
 
-  -- where none waits any more
+  -- where the frontier is empty
   pub search_ends : (members frontier : List ℕ) (first : ℕ) → IsSearch p filter n before members frontier first
       → ((i : ℕ) → first ≤ i → has frontier i ≡ false) → IsClosed p filter members × AddsReached p filter n before members
   search_ends members frontier first s none = (

@@ -58,7 +58,7 @@ next_in_word words from j word first inside small some =
     let lowest = bit_at-trailing_zeros w64 word (positive word some) small in
     next_at words from j word first inside (trailing_zeros w64 word) lowest.0 lowest.1 lowest.2
 
--- ---- The word of the first node to look at
+-- ---- The word of the first node to be searched
 
 abbrev pub from_bit : ℕ → ℕ → ℕ
 from_bit word low = bit_and word ((2 ^ 64 - 1) * 2 ^ low % 2 ^ 64)

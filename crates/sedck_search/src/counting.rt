@@ -85,6 +85,7 @@ fn count_side(
     ensures sets { AreSets script.now filter sets.new }
     ensures counted { ArePartlyCounted script.now filter counts.new }
 {
+    // No followed edge leads back to the other side: its sets give way.
     sets.kept.nodes = 0;
     for step in 0..counts.len() / 2 {
         let root = 2 * step + first;

@@ -1,6 +1,6 @@
 //! Sets of what counted nodes reach. A set that is kept saves a walk over its nodes.
 //!
-//! A set for each node would take 8 MiB and more. So the sets stored last are kept, and of all others that of each
+//! A set for each node would take 16 MiB or more. So the sets stored last are kept, and of all others that of each
 //! so many-th node: then a walk soon comes to a node with a kept set. Only time depends on which sets are kept.
 
 ghost use Rattle.std.specs.Prelude.{◌≡◌, ◌<◌, [], length, All, IfSome, IfOk};
@@ -40,13 +40,13 @@ impl KeptSets {
         }
     }
 
-    /// Empty sets, with a slot for each of so many nodes.
+    /// Empty sets, enough for the nodes on one side of the last line, and a slot number for each of so many nodes.
     pub(crate) fn new(alloc: Global, nodes: usize) -> Result<KeptSets, AllocError>
         requires { nodes < 65536 }
         ensures { IfOk result (λ kept. All IsEmpty kept.sets.items × (length kept.slots.items ≡ nodes)) }
     {
         let mut kept = KeptSets::none(alloc);
-        for _ in 0..LATEST + nodes as u32 / STRIDE + 1 {
+        for _ in 0..LATEST + nodes as u32 / (2 * STRIDE) + 1 {
             kept.sets.push(NodeSet::new())?;
         }
         kept.slots.resize(nodes, 0)?;

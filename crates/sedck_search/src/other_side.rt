@@ -1,4 +1,4 @@
-//! Scripts that ask nowhere for the last line: what a node reaches doesn't hang on it.
+//! Scripts that ask nowhere for the last line: nodes on either side of it reach as many.
 
 ghost use Rattle.std.specs.Prelude.{◌≡◌, ◌≢◌, ◌↔◌, IsTrue, length};
 ghost use Rattle.std.specs.Bool.{OnFalse};

@@ -14,7 +14,7 @@ use sedck_flow::{Node, node_count};
 use sedck_script::Script;
 use std::alloc::{AllocError, Global};
 
-/// A mark for each node that one of the two starts reaches, and 0 for each other node.
+/// For each node a mark whether one of the two starts reaches it.
 pub(crate) fn reachable_marks(alloc: Global, script: &Script) -> Result<Vec<u16>, AllocError>
     ensures script { IsScript script.now }
     ensures marks { IfOk result (λ marks. (filter : EdgeFilter) → ArePartlyCounted script.now filter marks.items) }

@@ -24,7 +24,7 @@ loop-index-init c =
     c.index.result c.add_node-first.result
     c.requires.closed c.requires.idle c.add_node-first.ensures.sets c.add_node-first.ensures.node c.add_node-first.ensures.added
 
--- the node that is looked at waited
+-- the node that is visited was in the frontier
 pub visit-first-requires-clause-inside : goal.visit-first-requires-clause-inside
 visit-first-requires-clause-inside c =
     let waits : IsIn c.loop-index.frontier c.nth.result = ap (has c.loop-index.frontier) c.nth.ensures ∙ c.in-Some.ensures.2 in
