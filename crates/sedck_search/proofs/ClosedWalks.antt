@@ -1,4 +1,4 @@
--- A closing edge, told by two counts that are the same, and the obstacle that begins with it.
+-- A closing edge, known by two counts that are the same, and the obstacle that begins with it.
 use Rattle.std.proofs.Common.{◌≡◌, ℕ, ◌<◌, ◌≤◌, List, [], ◌∷◌, ◌++◌, length, refl, sym, ap, ◌∙◌, subst, inl, inr, arith}
 use Rattle.std.specs.Prelude.{Some, slice_get}
 use Rattle.std.proofs.lemmas.Bool.{cases_lt}

@@ -3,6 +3,7 @@ use Rattle.std.proofs.Common.{◌≡◌, ◌≢◌, ◌⊎◌, ℕ, suc, ◌<◌
 use Rattle.std.specs.Prelude.{Some, slice_get, set}
 use Rattle.std.proofs.lemmas.Bool.{cases_eq, true≢false}
 use Rattle.std.proofs.lemmas.List.{length-set}
+use Rattle.std.proofs.lemmas.List.Elements.{All-contains}
 use Rattle.std.proofs.lemmas.Option.{slice_get_within, same_Some}
 use Rattle.sedck_script.specs.Program.{Program}
 use Rattle.sedck_flow.specs.Nodes.{node_index}
@@ -10,56 +11,60 @@ use Rattle.sedck_flow.specs.declared.graph.Node.{Node}
 use Rattle.sedck_search.specs.Private.NodeSet.{has, IsNodeSet, HasChanged}
 use Rattle.sedck_flow.specs.declared.graph.Edge.{Edge}
 use Rattle.sedck_flow.specs.declared.graph.Kind.{Kind}
-use Rattle.sedck_search.specs.Private.Reaching.{AreFollowed, FollowedEdge, IsClosed, Reaches, IsIn, IsReachCount, HasCount, HasNoCount, IsUncounted, ArePartlyCounted, IsLast, IsClosedBeside}
+use Rattle.sedck_search.specs.Private.Reaching.{AreFollowed, FollowedEdge, IsClosed, Reaches, IsIn, IsReachCount, HasCount, HasNoCount, IsUncounted, ArePartlyCounted, IsReachOf}
+use Rattle.sedck_search.specs.Private.KeptSets.{IsKeptFor, AreKept, AreCounts}
+use Rattle.sedck_search.specs.Rows.{bit_count}
 use Rattle.sedck_search.specs.Obstacle.{IsPath, IsReachable}
 use Rattle.sedck_search.specs.declared.filter.EdgeFilter.{EdgeFilter}
-use Rattle.sedck_search.proofs.NodeSets.{fewer_or_same, same_nodes, inserted_count}
-use Rattle.sedck_search.proofs.NodeBits.{inserted, inserted_row, with_bit}
-use Rattle.sedck_search.proofs.Frontiers.{changed_keeps, changed_new}
+use Rattle.sedck_search.proofs.NodeSets.{fewer_or_same, same_nodes, counts_node, count_within}
 use Rattle.sedck_flow.proofs.NodeLemmas.{node_same, node_at}
 use Rattle.sedck_search.proofs.Scans.{set_same, set_other}
-use Rattle.sedck_search.proofs.Paths.{reaches_self, reaches-trans, closed_reaches}
+use Rattle.sedck_search.proofs.Paths.{reaches_self, reaches-trans, reaches_edge, closed_reaches}
 
--- rows are compared node by node
+-- sets are compared node by node
 pub nodes_within : (a b : List ℕ) → ((m : Node) → IsIn a m → IsIn b m) → (i : ℕ) → has a i ≡ true → has b i ≡ true
 nodes_within a b h i x = let n = node_at i in subst (λ k. has b k ≡ true) n.1 (h n.0 (subst (λ k. has a k ≡ true) (sym n.1) x))
 
 module _ (p : Program) (filter : EdgeFilter) where
   reach_within : (n m : Node) {a b : ℕ} (x : IsReachCount p filter n a) (y : IsReachCount p filter m b) → Reaches p filter n m → (i : ℕ)
-      → has y.row i ≡ true → has x.row i ≡ true
-  reach_within n m x y r = nodes_within y.row x.row (λ k h. (x.reach.same k).1 (reaches-trans p filter n m k r ((y.reach.same k).0 h)))
+      → has y.members i ≡ true → has x.members i ≡ true
+  reach_within n m x y r = nodes_within y.members x.members (λ k h. (x.reach.same k).1 (reaches-trans p filter n m k r ((y.reach.same k).0 h)))
 
   -- a node reaches at least as many as each that it reaches
   pub count_falls : (n m : Node) (a b : ℕ) → IsReachCount p filter n a → IsReachCount p filter m b → Reaches p filter n m → b ≤ a
   count_falls n m a b x y r =
-      omega (arith, fewer_or_same y.row x.row y.reach.is_row x.reach.is_row (reach_within n m x y r), x.counts, y.counts)
+      omega (arith, fewer_or_same y.members x.members y.reach.is_set x.reach.is_set (reach_within n m x y r), x.counts, y.counts)
 
   -- where it reaches as many, it is reached from there
   pub same_count : (n m : Node) (a b : ℕ) → IsReachCount p filter n a → IsReachCount p filter m b → Reaches p filter n m → a ≡ b → Reaches p filter m n
   same_count n m a b x y r same =
-      (y.reach.same n).0 (same_nodes y.row x.row y.reach.is_row x.reach.is_row (reach_within n m x y r) (y.counts ∙ sym same ∙ sym x.counts)
+      (y.reach.same n).0 (same_nodes y.members x.members y.reach.is_set x.reach.is_set (reach_within n m x y r) (y.counts ∙ sym same ∙ sym x.counts)
       (node_index n) ((x.reach.same n).1 (reaches_self p filter n)))
 
-  -- ---- The row of the last counted node
+  -- ---- Sets that no followed edge leaves
 
-  -- a closed row with a node has all that it reaches; with as many nodes as those it has no other
-  pub last_reached : (row frontier : List ℕ) (count : ℕ) → IsLast p filter row frontier count → (n m : Node) → Reaches p filter n m → IsIn row m
-      → IsReachCount p filter m count → (k : Node) → IsIn row k → Reaches p filter n k
-  last_reached row frontier count last n m r has_m x k has_k =
-      let within : (i : ℕ) → has x.row i ≡ true → has row i ≡ true =
-      nodes_within x.row row (λ j h. let to : Reaches p filter m j = (x.reach.same j).0 h in
-      closed_reaches p filter row last.closed to.0 m j to.1 to.2 has_m) in
+  -- a closed set with a node has all that it reaches; with as many nodes as it counts it has no other
+  pub closed_reached : (set : List ℕ) → IsNodeSet set → IsClosed p filter set → (n m : Node) → Reaches p filter n m → IsIn set m
+      → IsReachCount p filter m (bit_count set) → (k : Node) → IsIn set k → Reaches p filter n k
+  closed_reached set is_set closed n m r has_m x k has_k =
+      let within : (i : ℕ) → has x.members i ≡ true → has set i ≡ true =
+      nodes_within x.members set (λ j h. let to : Reaches p filter m j = (x.reach.same j).0 h in
+      closed_reaches p filter set closed to.0 m j to.1 to.2 has_m) in
       reaches-trans p filter n m k r ((x.reach.same k).0
-      (same_nodes x.row row x.reach.is_row last.is_row within (x.counts ∙ sym last.counts) (node_index k) has_k))
+      (same_nodes x.members set x.reach.is_set is_set within x.counts (node_index k) has_k))
 
-  -- a closed row with the node, of nodes that it reaches, is all that it reaches
-  pub last_counts : (row frontier : List ℕ) (count : ℕ) → IsLast p filter row frontier count → (n : Node) → IsIn row n → ((m : Node) → IsIn row m → Reaches p filter n m)
-      → IsReachCount p filter n count
-  last_counts row frontier count last n has_n reached = record {
-    row = row;
-    reach = record { is_row = last.is_row; same = λ m. (reached m, λ to. closed_reaches p filter row last.closed to.0 n m to.1 to.2 has_n) };
-    counts = last.counts;
-  }
+  -- a closed set with the node, of nodes that it reaches, is all that it reaches
+  pub closed_reach : (set : List ℕ) → IsNodeSet set → IsClosed p filter set → (n : Node) → IsIn set n → ((m : Node) → IsIn set m → Reaches p filter n m)
+      → IsReachOf p filter n set
+  closed_reach set is_set closed n has_n reached =
+      record { is_set = is_set; same = λ m. (reached m, λ to. closed_reaches p filter set closed to.0 n m to.1 to.2 has_n) }
+
+  pub reach_closed : (n : Node) (set : List ℕ) → IsReachOf p filter n set → IsClosed p filter set
+  reach_closed n set reach e followed x =
+      (reach.same e.to).1 (reaches-trans p filter n e.from e.to ((reach.same e.from).0 x) (reaches_edge p filter e followed))
+
+  pub reach_count : (n : Node) (set : List ℕ) → IsReachOf p filter n set → IsReachCount p filter n (bit_count set)
+  reach_count n set reach = record { members = set; reach = reach; counts = refl }
 
   -- ---- Nodes that are counted
 
@@ -114,58 +119,19 @@ module _ (p : Program) (filter : EdgeFilter) where
       as_before m same (inl (is, inr h)) = inl (is, inr (same ∙ h))
       as_before m same (inr (none, h)) = inr (none, same ∙ h)
 
-  -- ---- A node with one target
+  -- ---- Kept sets
 
-  -- where a closed row has the only target and not the node, the node reaches itself and what its target reaches
-  pub single_count : (row : List ℕ) → IsClosed p filter row → (n m : Node) → IsIn row m → has row (node_index n) ≡ false → node_index n < 16384
-      → Reaches p filter n m
-      → ((e : Edge) → FollowedEdge p filter e → e.from ≡ n → e.to ≡ m) → (count : ℕ) → IsReachCount p filter m count → IsReachCount p filter n (suc count)
-  single_count row closed n m has_m no_n below on only count x = record {
-    row = more;
-    reach = record {
-      is_row = is_more;
-      same = λ k. (
-        (λ in_more. elim (changed_new x.row more n changed k in_more) [
-          | inl old ↦ reaches-trans p filter n m k on ((x.reach.same k).0 old)
-          | inr same ↦ subst (λ j. Reaches p filter n j) (sym same) (reaches_self p filter n)
-        ]),
-        (λ to. by_path k to.0 to.1 to.2),
-      );
-    };
-    counts = inserted_count x.row more x.reach.is_row is_more (node_index n) changed (absent (has x.row (node_index n)) refl) ∙ ap suc x.counts;
-  }
-    where
-      more : List ℕ
-      more = set x.row (node_index n / 64) (with_bit x.row (node_index n))
+  pub partly_counts : (counts : List ℕ) → ArePartlyCounted p filter counts → AreCounts p filter counts
+  partly_counts counts partly = counted_at counts partly
 
-      is_more : IsNodeSet more
-      is_more = inserted_row x.row (node_index n) below x.reach.is_row
-
-      changed : HasChanged x.row more (node_index n) true
-      changed = inserted x.row (node_index n) below x.reach.is_row
-
-      absent : (b : Bool) → has x.row (node_index n) ≡ b → has x.row (node_index n) ≡ false
-      absent false e = e
-      absent true e = let back = (x.reach.same n).0 e in absurd (true≢false (sym (closed_reaches p filter row closed back.0 m n back.1 back.2 has_m) ∙ no_n))
-
-      by_path : (k : Node) (path : List (Kind × Node)) → IsPath p n path k → AreFollowed filter path → IsIn more k
-      by_path k [] is followed = subst (IsIn more) is changed.at
-      by_path k (edge ∷ path) is followed =
-          let to : edge.1 ≡ m = only (record { from = n; to = edge.1; kind = edge.0 }) (is.0, followed.0) refl in
-          changed_keeps x.row more n changed k ((x.reach.same k).1 (path, subst (λ j. IsPath p j path k) to is.1, followed.1))
-
-  -- a closed row, with one node more whose edges lead into it, is closed
-  pub closed_beside : (row frontier : List ℕ) (count : ℕ) → IsLast p filter row frontier count → (m : Node) → node_index m < 16384
-      → ((e : Edge) → FollowedEdge p filter e → e.from ≡ m → IsIn row e.to) → IsClosedBeside p filter row m
-  closed_beside row frontier count last m below leads =
-      let changed = inserted row (node_index m) below last.is_row in
-      let more : List ℕ = set row (node_index m / 64) (with_bit row (node_index m)) in
-      record {
-        wider = more;
-        closed = λ e followed x. elim (changed_new row more m changed e.from x) [
-          | inl old ↦ changed_keeps row more m changed e.to (last.closed e followed old)
-          | inr same ↦ changed_keeps row more m changed e.to (leads e followed same)
-        ];
-        has_node = changed.at;
-        no_other = changed_new row more m changed;
-      }
+  -- a node reaches all nodes of the set that is kept for it
+  pub kept_reached : (sets : List (List ℕ)) (counts set : List ℕ) (n : Node) → AreKept p filter sets → AreCounts p filter counts
+      → n.at ≤ length p.commands → IsNodeSet set → IsKeptFor sets counts (node_index n) set
+      → IsClosed p filter set × ((m : Node) → IsIn set m → Reaches p filter n m)
+  kept_reached sets counts set n kept are inside is_set k =
+      let closed : IsClosed p filter set = All-contains (λ s. IsClosed p filter s) sets set kept k.member in (
+        closed,
+        closed_reached set is_set closed n n (reaches_self p filter n) k.has_node
+            (are n inside (bit_count set) k.count (counts_node set is_set (node_index n) k.has_node)
+            (omega (arith, count_within set is_set))),
+      )

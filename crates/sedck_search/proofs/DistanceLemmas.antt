@@ -17,7 +17,7 @@ use Rattle.sedck_flow.proofs.EdgesInside.{inside}
 use Rattle.sedck_flow.proofs.NodeLemmas.{node_same, index_below}
 use Rattle.sedck_search.proofs.Scans.{set_same, set_other}
 use Rattle.sedck_search.specs.Obstacle.{IsPath}
-use Rattle.sedck_search.specs.Private.Reaching.{AreFollowed, FollowedEdge}
+use Rattle.sedck_search.specs.Private.Reaching.{AreFollowed, FollowedEdge, IsIn}
 use Rattle.sedck_search.specs.Private.Distances.{HasDistance, HasNeighborWithin, ArePathLengths, AreDistances}
 use Rattle.sedck_search.specs.declared.filter.EdgeFilter.{EdgeFilter}
 
@@ -112,7 +112,7 @@ some_distances p filter to distances long to_inside entries = record {
         by_test true is = omega (arith, sym e ∙ ap (λ b. if b then 0 else 65535) is)
         by_test false is = omega (arith, sym e ∙ ap (λ b. if b then 0 else 65535) is, small)
 
--- a distance is shortened
+-- one distance gets shorter
 module _ (p : Program) (filter : EdgeFilter) (to : Node) (distances : List ℕ) (h : ArePathLengths p filter to distances) (n : Node) (distance old : ℕ)
     (was : HasDistance distances n old) (shorter : suc distance < old) (goes : HasNeighborWithin p filter distances n distance) where
   below : node_index n < length distances
@@ -178,11 +178,16 @@ module _ (p : Program) (filter : EdgeFilter) (to : Node) (distances : List ℕ) 
 
 module _ (p : Program) (script : IsScript p) (filter : EdgeFilter) (to : Node) (distances : List ℕ) (h : AreDistances p filter to distances) where
   -- the next distance is shorter by one
-  pub next_distance : (n : Node) (distance : ℕ) → HasDistance distances n (suc distance) → suc distance < 65535 → (e : Edge) × FollowedEdge p filter e × (e.from ≡ n) × HasDistance distances e.to distance
-  next_distance n distance has within =
+  pub next_distance : (n : Node) (distance : ℕ) → IsIn h.reach n → HasDistance distances n (suc distance) → suc distance < 65535
+      → (e : Edge) × FollowedEdge p filter e × (e.from ≡ n) × HasDistance distances e.to distance
+  next_distance n distance reached has within =
       let g = h.some.on n distance has within in
-      let same : g.distance ≡ distance = omega (arith, g.nearer, h.settled n g.edge g.followed g.leaves (suc distance) g.distance has g.has_distance) in
+      let same : g.distance ≡ distance = omega (arith, g.nearer, h.settled n reached g.edge g.followed g.leaves (suc distance) g.distance has g.has_distance) in
       (g.edge, g.followed, g.leaves, subst (HasDistance distances g.edge.to) same g.has_distance)
+
+  -- a followed edge stays in the set
+  pub stays : (n : Node) (e : Edge) → IsIn h.reach n → FollowedEdge p filter e → e.from ≡ n → IsIn h.reach e.to
+  stays n e reached followed leaves = h.closed e followed (subst (IsIn h.reach) (sym leaves) reached)
 
   contained : (n : Node) (distance v : ℕ) → HasDistance distances n distance → v ≡ distance → Contains distances v
   contained n distance v has same =
@@ -190,29 +195,31 @@ module _ (p : Program) (script : IsScript p) (filter : EdgeFilter) (to : Node) (
       (node_index n, slice_get_within distances (node_index n) v x, get_or_from_slice_get distances (node_index n) v v x)
 
   -- so there are all shorter distances
-  all_below : (d : ℕ) (n : Node) → HasDistance distances n d → d < 65535 → (v : ℕ) → v ≤ d → Contains distances v
-  all_below zero n has within v below = contained n 0 v has (omega (arith, below))
-  all_below (suc d) n has within v below =
-      let next = next_distance n d has within in
+  all_below : (d : ℕ) (n : Node) → IsIn h.reach n → HasDistance distances n d → d < 65535 → (v : ℕ) → v ≤ d → Contains distances v
+  all_below zero n reached has within v below = contained n 0 v has (omega (arith, below))
+  all_below (suc d) n reached has within v below =
+      let next = next_distance n d reached has within in
       elim (cases_eq v (suc d)) [
         | inl same ↦ contained n (suc d) v has same
-        | inr other ↦ all_below d next.0.to next.3 (omega (arith, within)) v (omega (arith, below, other))
+        | inr other ↦ all_below d next.0.to (stays n next.0 reached next.1 next.2) next.3 (omega (arith, within)) v (omega (arith, below, other))
       ]
 
   -- and none is longer than the list
-  pub distance_below : (n : Node) (distance : ℕ) → HasDistance distances n distance → distance < 65535 → distance < 16384
-  distance_below n distance has within = omega (arith, longer_than_all distance distances (all_below distance n has within), h.some.long, script.count)
+  pub distance_below : (n : Node) (distance : ℕ) → IsIn h.reach n → HasDistance distances n distance → distance < 65535 → distance < 16384
+  distance_below n distance reached has within =
+      omega (arith, longer_than_all distance distances (all_below distance n reached has within), h.some.long, script.count)
 
   -- a path to the node gives a distance that isn't longer
-  pub distance_least : (path : List (Kind × Node)) (n : Node) → IsPath p n path to → AreFollowed filter path → n.at ≤ length p.commands
+  pub distance_least : (path : List (Kind × Node)) (n : Node) → IsIn h.reach n → IsPath p n path to → AreFollowed filter path → n.at ≤ length p.commands
       → (distance : ℕ) × HasDistance distances n distance × (distance ≤ length path) × (distance < 65535)
-  distance_least [] n is followed n_inside = (0, subst (λ k. HasDistance distances k 0) (sym is) h.some.here, omega arith, omega arith)
-  distance_least (edge ∷ path) n is followed n_inside =
+  distance_least [] n reached is followed n_inside = (0, subst (λ k. HasDistance distances k 0) (sym is) h.some.here, omega arith, omega arith)
+  distance_least (edge ∷ path) n reached is followed n_inside =
       let e : Edge = record { from = n; to = edge.1; kind = edge.0 } in
-      let next = distance_least path edge.1 is.1 followed.1 (inside p script.targets e is.0).1 in
+      let e_reached = stays n e reached (is.0, followed.0) refl in
+      let next = distance_least path edge.1 e_reached is.1 followed.1 (inside p script.targets e is.0).1 in
       let here = distance_at p distances h.some.long n n_inside in
-      let less : here.0 ≤ suc next.0 = h.settled n e (is.0, followed.0) refl here.0 next.0 here.1 next.1 in
-      (here.0, here.1, omega (arith, less, next.2), omega (arith, less, distance_below edge.1 next.0 next.1 next.3))
+      let less : here.0 ≤ suc next.0 = h.settled n reached e (is.0, followed.0) refl here.0 next.0 here.1 next.1 in
+      (here.0, here.1, omega (arith, less, next.2), omega (arith, less, distance_below edge.1 next.0 e_reached next.1 next.3))
 
 -- one more entry
 pub entries_push : (f : ℕ → ℕ) (xs : List ℕ) (i v : ℕ) → length xs ≡ i → ((j : ℕ) → j < i → slice_get xs j ≡ Some (f j)) → v ≡ f i → (j : ℕ)

@@ -1,4 +1,4 @@
--- How rows grow while nodes are added.
+-- How sets of reached nodes grow.
 use Rattle.std.proofs.Common.{◌≡◌, ◌⊎◌, ℕ, ◌+◌, ◌-◌, ◌*◌, ◌<◌, ◌≤◌, Bool, true, false, List, refl, sym, ap, ◌∙◌, subst, inl, inr, arith}
 use Rattle.std.proofs.lemmas.Bool.{cases_eq, cases_lt, true≢false}
 use Rattle.sedck_script.specs.Program.{Program}
@@ -6,15 +6,15 @@ use Rattle.sedck_flow.specs.Nodes.{node_index}
 use Rattle.sedck_flow.specs.declared.graph.Node.{Node}
 use Rattle.sedck_flow.specs.declared.graph.Edge.{Edge}
 use Rattle.sedck_search.specs.Rows.{bit_count}
-use Rattle.sedck_search.specs.Private.NodeSet.{has, IsNodeSet, HasChanged, IsEmpty}
+use Rattle.sedck_search.specs.Private.NodeSet.{has, IsNodeSet, HasChanged, IsEmpty, IsUnion}
 use Rattle.sedck_search.specs.Private.Reaching.{IsIn, IsClosed, Reaches, FollowedEdge}
-use Rattle.sedck_search.specs.Private.Frontier.{AddsNodes, AddsReached, IsFollowedFrom, AreSearchSets}
+use Rattle.sedck_search.specs.Private.Frontier.{AddsNode, AddsReached, AddsTargets, AreSearchSets}
 use Rattle.sedck_search.specs.declared.filter.EdgeFilter.{EdgeFilter}
-use Rattle.sedck_search.proofs.NodeSets.{inserted_count, removed_count, count_within}
+use Rattle.sedck_search.proofs.NodeSets.{inserted_count, removed_count, count_within, fewer_or_same}
 use Rattle.sedck_flow.proofs.NodeLemmas.{node_same, node_at}
-use Rattle.sedck_search.proofs.Paths.{reaches_self, reaches-trans, reaches_edge}
+use Rattle.sedck_search.proofs.Paths.{reaches_self, reaches-trans}
 
--- ---- Nodes put into a row
+-- ---- Nodes put into a set
 
 -- the nodes that were in a row stay in it
 pub changed_keeps : (a b : List ℕ) (n : Node) → HasChanged a b (node_index n) true → (m : Node) → IsIn a m → IsIn b m
@@ -35,7 +35,7 @@ changed_new a b n h m x =
 not_both : {b : Bool} → b ≡ true → b ≡ false → ⊥
 not_both h k = true≢false (sym h ∙ k)
 
--- what is in a row without the node was in the row
+-- what is in a row without the node was in the set
 pub removed_was : (a b : List ℕ) (m : Node) → HasChanged a b (node_index m) false → (k : Node) → IsIn b k → IsIn a k
 removed_was a b m removed k w =
     elim (cases_eq (node_index k) (node_index m)) [
@@ -43,9 +43,9 @@ removed_was a b m removed k w =
       | inr other ↦ sym (removed.others (node_index k) other) ∙ w
     ]
 
-module _ (n : Node) (row frontier row' frontier' : List ℕ) (sets : AreSearchSets row frontier) (is_row' : IsNodeSet row') (is_frontier' : IsNodeSet frontier')
-    (absent : has row (node_index n) ≡ false) (r : HasChanged row row' (node_index n) true) (w : HasChanged frontier frontier' (node_index n) true) where
-  -- a node that isn't reached doesn't wait
+module _ (n : Node) (members frontier members' frontier' : List ℕ) (sets : AreSearchSets members frontier) (is_set' : IsNodeSet members') (is_frontier' : IsNodeSet frontier')
+    (absent : has members (node_index n) ≡ false) (r : HasChanged members members' (node_index n) true) (w : HasChanged frontier frontier' (node_index n) true) where
+  -- a node that is not reached is not in the frontier
   idle : has frontier (node_index n) ≡ false
   idle = by_bit (has frontier (node_index n)) refl
     where
@@ -54,92 +54,136 @@ module _ (n : Node) (row frontier row' frontier' : List ℕ) (sets : AreSearchSe
       by_bit false e = e
 
   -- a node that wasn't there is added
-  pub added_new : (first first' : ℕ) → first' ≤ first → first' ≤ node_index n → AddsNodes (λ m. m ≡ n) row frontier row' frontier' first first'
+  pub added_new : (first first' : ℕ) → first' ≤ first → first' ≤ node_index n → AddsNode n members frontier members' frontier' first first'
   added_new first first' less least = record {
-    kept = changed_keeps row row' n r;
+    kept = changed_keeps members members' n r;
     waits_on = changed_keeps frontier frontier' n w;
-    new = λ m h. elim (changed_new row row' n r m h) [ inl before ↦ inl before | inr same ↦ inr (subst (IsIn frontier') (sym same) w.at) ];
+    new = λ m h. elim (changed_new members members' n r m h) [ inl before ↦ inl before | inr same ↦ inr (subst (IsIn frontier') (sym same) w.at) ];
     waits = λ m h. elim (changed_new frontier frontier' n w m h) [
       | inl before ↦ inl before
-      | inr same ↦ inr (same, subst (IsIn row') (sym same) r.at, omega (arith, least, ap node_index same))
+      | inr same ↦ inr (same, subst (IsIn members') (sym same) r.at, omega (arith, least, ap node_index same))
     ];
     earlier = less;
     room = omega (
       arith,
-      inserted_count row row' sets.is_row is_row' (node_index n) r absent,
+      inserted_count members members' sets.is_set is_set' (node_index n) r absent,
       inserted_count frontier frontier' sets.is_frontier is_frontier' (node_index n) w idle,
     );
   }
 
-  pub sets_new : AreSearchSets row' frontier'
+  pub sets_new : AreSearchSets members' frontier'
   sets_new = record {
-    is_row = is_row';
+    is_set = is_set';
     is_frontier = is_frontier';
     among = λ m h. elim (changed_new frontier frontier' n w m h) [
-      | inl before ↦ changed_keeps row row' n r m (sets.among m before)
-      | inr same ↦ subst (IsIn row') (sym same) r.at
+      | inl before ↦ changed_keeps members members' n r m (sets.among m before)
+      | inr same ↦ subst (IsIn members') (sym same) r.at
     ];
   }
 
--- no node is added
-pub added_none : (IsAdded : Node → Type 0) (row frontier : List ℕ) (first : ℕ) → AddsNodes IsAdded row frontier row frontier first first
-added_none IsAdded row frontier first = record {
-  kept = λ n x. x;
-  waits_on = λ n x. x;
-  new = λ n x. inl x;
-  waits = λ n x. inl x;
+-- the node was there
+pub added_none : (n : Node) (members frontier : List ℕ) (first : ℕ) → AddsNode n members frontier members frontier first first
+added_none n members frontier first = record {
+  kept = λ m x. x;
+  waits_on = λ m x. x;
+  new = λ m x. inl x;
+  waits = λ m x. inl x;
   earlier = omega arith;
   room = omega arith;
 }
 
--- what is added after one another
-pub added_then : (IsAdded : Node → Type 0) (a w a' w' a'' w'' : List ℕ) (f f' f'' : ℕ) → AddsNodes IsAdded a w a' w' f f' → AddsNodes IsAdded a' w' a'' w'' f' f''
-    → AddsNodes IsAdded a w a'' w'' f f''
-added_then IsAdded a w a' w' a'' w'' f f' f'' h k = record {
-  kept = λ n x. k.kept n (h.kept n x);
-  waits_on = λ n x. k.waits_on n (h.waits_on n x);
-  new = λ n x. elim (k.new n x) [
-    | inl before ↦ elim (h.new n before) [ inl y ↦ inl y | inr y ↦ inr (k.waits_on n y) ]
-    | inr y ↦ inr y
-  ];
-  waits = λ n x. elim (k.waits n x) [
-    | inl before ↦ elim (h.waits n before) [ inl y ↦ inl y | inr (is, y, least) ↦ inr (is, k.kept n y, omega (arith, least, k.earlier)) ]
-    | inr y ↦ inr y
-  ];
-  earlier = omega (arith, h.earlier, k.earlier);
-  room = omega (arith, h.room, k.room);
-}
+-- ---- Targets of a node
 
--- what is added is also one of more
-pub added_among : (IsAdded IsAdded' : Node → Type 0) → ((n : Node) → IsAdded n → IsAdded' n) → (a w a' w' : List ℕ) (f f' : ℕ) → AddsNodes IsAdded a w a' w' f f'
-    → AddsNodes IsAdded' a w a' w' f f'
-added_among IsAdded IsAdded' more a w a' w' f f' h = record {
-  kept = h.kept;
-  waits_on = h.waits_on;
-  new = h.new;
-  waits = λ n x. elim (h.waits n x) [ inl y ↦ inl y | inr (is, y, least) ↦ inr (more n is, y, least) ];
-  earlier = h.earlier;
-  room = h.room;
-}
+module _ (p : Program) (filter : EdgeFilter) (from : Node) where
+  pub targets_none : (members frontier : List ℕ) (first : ℕ) → AddsTargets p filter from members frontier members frontier first first
+  targets_none members frontier first = record {
+    kept = λ n x. x;
+    waits_on = λ n x. x;
+    new = λ n x. inl x;
+    waits = λ n x. inl x;
+    earlier = omega arith;
+    room = omega arith;
+  }
+
+  -- what is added after one another
+  pub targets_then : (a w a' w' a'' w'' : List ℕ) (f f' f'' : ℕ) → AddsTargets p filter from a w a' w' f f'
+      → AddsTargets p filter from a' w' a'' w'' f' f'' → AddsTargets p filter from a w a'' w'' f f''
+  targets_then a w a' w' a'' w'' f f' f'' h k = record {
+    kept = λ n x. k.kept n (h.kept n x);
+    waits_on = λ n x. k.waits_on n (h.waits_on n x);
+    new = λ n x. elim (k.new n x) [
+      | inl before ↦ elim (h.new n before) [
+        | inl y ↦ inl y
+        | inr (r, inl y) ↦ inr (r, inl (k.waits_on n y))
+        | inr (r, inr leads) ↦ inr (r, inr (λ e followed same. k.kept e.to (leads e followed same)))
+      ]
+      | inr y ↦ inr y
+    ];
+    waits = λ n x. elim (k.waits n x) [
+      | inl before ↦ elim (h.waits n before) [ inl y ↦ inl y | inr (r, least) ↦ inr (r, omega (arith, least, k.earlier)) ]
+      | inr y ↦ inr y
+    ];
+    earlier = omega (arith, h.earlier, k.earlier);
+    room = omega (arith, h.room, k.room);
+  }
+
+  -- a target is added
+  pub targets_node : (to : Node) → Reaches p filter from to → (a w a' w' : List ℕ) (f f' : ℕ) → AreSearchSets a w → AddsNode to a w a' w' f f'
+      → AddsTargets p filter from a w a' w' f f'
+  targets_node to r a w a' w' f f' sets h = record {
+    kept = h.kept;
+    waits_on = h.waits_on;
+    new = λ n x. elim (h.new n x) [
+      | inl y ↦ inl y
+      | inr y ↦ elim (h.waits n y) [
+        | inl old ↦ inl (sets.among n old)
+        | inr (same, _, _) ↦ inr (subst (λ k. Reaches p filter from k) (sym same) r, inl y)
+      ]
+    ];
+    waits = λ n x. elim (h.waits n x) [
+      | inl old ↦ inl old
+      | inr (same, _, least) ↦ inr (subst (λ k. Reaches p filter from k) (sym same) r, least)
+    ];
+    earlier = h.earlier;
+    room = h.room;
+  }
+
+  -- all that a target reaches is added
+  pub targets_kept : (to : Node) → Reaches p filter from to → (a w a' set : List ℕ) (f : ℕ) → IsNodeSet a → IsNodeSet a' → IsUnion a set a'
+      → IsClosed p filter set → ((m : Node) → IsIn set m → Reaches p filter to m) → AddsTargets p filter from a w a' w f f
+  targets_kept to r a w a' set f is_a is_a' union closed reached = record {
+    kept = λ n. union.has_left (node_index n);
+    waits_on = λ n x. x;
+    new = λ n x. elim (union.no_other (node_index n) x) [
+      | inl old ↦ inl old
+      | inr y ↦ inr (
+        reaches-trans p filter from to n r (reached n y),
+        inr (λ e followed same. union.has_right (node_index e.to) (closed e followed (subst (IsIn set) (sym same) y))),
+      )
+    ];
+    waits = λ n x. inl x;
+    earlier = omega arith;
+    room = omega (arith, fewer_or_same a a' is_a is_a' union.has_left);
+  }
 
 -- ---- All that a node reaches
 
--- the row so far, while nodes wait
-pub record IsSearch (p : Program) (filter : EdgeFilter) (n : Node) (before row frontier : List ℕ) (first : ℕ) : Type 0 where
-  pub sets : AreSearchSets row frontier
-  pub kept : (m : Node) → IsIn before m → IsIn row m
-  pub node : IsIn row n
-  pub reached : (m : Node) → IsIn row m → IsIn before m ⊎ Reaches p filter n m
+-- the set so far, while the frontier has nodes
+pub record IsSearch (p : Program) (filter : EdgeFilter) (n : Node) (before members frontier : List ℕ) (first : ℕ) : Type 0 where
+  pub sets : AreSearchSets members frontier
+  pub kept : (m : Node) → IsIn before m → IsIn members m
+  pub node : IsIn members n
+  pub reached : (m : Node) → IsIn members m → IsIn before m ⊎ Reaches p filter n m
   pub waits : (m : Node) → IsIn frontier m → Reaches p filter n m
-  pub closed : (e : Edge) → FollowedEdge p filter e → IsIn row e.from → has frontier (node_index e.from) ≡ false → IsIn row e.to
+  pub closed : (e : Edge) → FollowedEdge p filter e → IsIn members e.from → has frontier (node_index e.from) ≡ false → IsIn members e.to
   pub front : (m : Node) → IsIn frontier m → first ≤ node_index m
 
 module _ (p : Program) (filter : EdgeFilter) (n : Node) (before : List ℕ) where
-  -- at first the node alone waits
-  pub search_begins : (row none frontier : List ℕ) (first first' : ℕ) → IsClosed p filter before → IsEmpty none → AreSearchSets row frontier
-      → AddsNodes (λ m. m ≡ n) before none row frontier first first' → IsIn row n
-      → IsSearch p filter n before row frontier first'
-  search_begins row none frontier first first' closed empty sets h node = record {
+  -- at first the frontier has the node alone
+  pub search_begins : (members none frontier : List ℕ) (first first' : ℕ) → IsClosed p filter before → IsEmpty none → AreSearchSets members frontier
+      → AddsNode n before none members frontier first first' → IsIn members n
+      → IsSearch p filter n before members frontier first'
+  search_begins members none frontier first first' closed empty sets h node = record {
     sets = sets;
     kept = h.kept;
     node = node;
@@ -155,70 +199,71 @@ module _ (p : Program) (filter : EdgeFilter) (n : Node) (before : List ℕ) wher
       only : (m : Node) → IsIn frontier m → (m ≡ n) × (first' ≤ node_index m)
       only m w = elim (h.waits m w) [ inl old ↦ absurd (not_both old (empty (node_index m))) | inr (same, _, least) ↦ (same, least) ]
 
-  module _ (row frontier frontier' row'' frontier'' : List ℕ) (first first'' : ℕ) (m : Node) (s : IsSearch p filter n before row frontier first)
+  module _ (members frontier frontier' members'' frontier'' : List ℕ) (first first'' : ℕ) (m : Node) (s : IsSearch p filter n before members frontier first)
       (has_m : IsIn frontier m) (none_before : (k : ℕ) → first ≤ k → k < node_index m → has frontier k ≡ false)
       (removed : HasChanged frontier frontier' (node_index m) false)
-      (sets : AreSearchSets row'' frontier'') (h : AddsNodes (IsFollowedFrom p filter m) row frontier' row'' frontier'' (node_index m) first'')
-      (added : (e : Edge) → FollowedEdge p filter e → e.from ≡ m → IsIn row'' e.to) where
+      (sets : AreSearchSets members'' frontier'') (h : AddsTargets p filter m members frontier' members'' frontier'' (node_index m) first'')
+      (added : (e : Edge) → FollowedEdge p filter e → e.from ≡ m → IsIn members'' e.to) where
     waited : (k : Node) → IsIn frontier' k → IsIn frontier k
     waited k w = removed_was frontier frontier' m removed k w
 
-    from_node : (k : Node) → IsFollowedFrom p filter m k → Reaches p filter n k
-    from_node k edge = reaches-trans p filter n m k (s.waits m has_m) (reaches_edge p filter (record { from = m; to = k; kind = edge.0 }) edge.1)
+    from_node : (k : Node) → Reaches p filter m k → Reaches p filter n k
+    from_node k r = reaches-trans p filter n m k (s.waits m has_m) r
 
     waits_next : (k : Node) → IsIn frontier'' k → Reaches p filter n k
-    waits_next k w = elim (h.waits k w) [ inl old ↦ s.waits k (waited k old) | inr (edge, _, _) ↦ from_node k edge ]
+    waits_next k w = elim (h.waits k w) [ inl old ↦ s.waits k (waited k old) | inr (r, _) ↦ from_node k r ]
 
-    -- no frontier node stands before the one looked at
+    -- no node of the frontier stands before the one visited
     front_next : (k : Node) → IsIn frontier'' k → first'' ≤ node_index k
     front_next k w = elim (h.waits k w) [
       | inl old ↦ elim (cases_lt (node_index k) (node_index m)) [
         | inl less ↦ absurd (not_both (waited k old) (none_before (node_index k) (s.front k (waited k old)) less))
         | inr more ↦ omega (arith, more, h.earlier)
       ]
-      | inr (_, _, least) ↦ least
+      | inr (_, least) ↦ least
     ]
 
-    closed_next : (e : Edge) → FollowedEdge p filter e → IsIn row'' e.from → has frontier'' (node_index e.from) ≡ false → IsIn row'' e.to
+    closed_next : (e : Edge) → FollowedEdge p filter e → IsIn members'' e.from → has frontier'' (node_index e.from) ≡ false → IsIn members'' e.to
     closed_next e followed x idle =
         elim (h.new e.from x) [
-          | inr w ↦ absurd (not_both w idle)
+          | inr (_, inl w) ↦ absurd (not_both w idle)
+          | inr (_, inr leads) ↦ leads e followed refl
           | inl old ↦ by_bit old (has frontier (node_index e.from)) refl
         ]
       where
-        by_bit : IsIn row e.from → (b : Bool) → has frontier (node_index e.from) ≡ b → IsIn row'' e.to
+        by_bit : IsIn members e.from → (b : Bool) → has frontier (node_index e.from) ≡ b → IsIn members'' e.to
         by_bit old false w = h.kept e.to (s.closed e followed old w)
         by_bit old true w = elim (cases_eq (node_index e.from) (node_index m)) [
           | inl same ↦ added e followed (node_same e.from m same)
           | inr other ↦ absurd (not_both (h.waits_on e.from (removed.others (node_index e.from) other ∙ w)) idle)
         ]
 
-    pub search_goes_on : IsSearch p filter n before row'' frontier'' first''
+    pub search_goes_on : IsSearch p filter n before members'' frontier'' first''
     search_goes_on = record {
       sets = sets;
       kept = λ k x. h.kept k (s.kept k x);
       node = h.kept n s.node;
-      reached = λ k x. elim (h.new k x) [ inl old ↦ s.reached k old | inr w ↦ inr (waits_next k w) ];
+      reached = λ k x. elim (h.new k x) [ inl old ↦ s.reached k old | inr (r, _) ↦ inr (from_node k r) ];
       waits = waits_next;
       closed = closed_next;
       front = front_next;
     }
 
-    -- the rows have less room
-    pub search_shrinks : IsNodeSet frontier' → bit_count frontier'' + 2 * (16384 - bit_count row'') < bit_count frontier + 2 * (16384 - bit_count row)
+    -- the sets have less room
+    pub search_shrinks : IsNodeSet frontier' → bit_count frontier'' + 2 * (16384 - bit_count members'') < bit_count frontier + 2 * (16384 - bit_count members)
     search_shrinks is_frontier' =
         omega (
           arith,
           h.room,
           removed_count frontier frontier' s.sets.is_frontier is_frontier' (node_index m) removed has_m,
-          count_within row s.sets.is_row,
-          count_within row'' sets.is_row,
+          count_within members s.sets.is_set,
+          count_within members'' sets.is_set,
         )
 
-  -- where none waits any more
-  pub search_ends : (row frontier : List ℕ) (first : ℕ) → IsSearch p filter n before row frontier first
-      → ((i : ℕ) → first ≤ i → has frontier i ≡ false) → IsClosed p filter row × AddsReached p filter n before row
-  search_ends row frontier first s none = (
+  -- where the frontier is empty
+  pub search_ends : (members frontier : List ℕ) (first : ℕ) → IsSearch p filter n before members frontier first
+      → ((i : ℕ) → first ≤ i → has frontier i ≡ false) → IsClosed p filter members × AddsReached p filter n before members
+  search_ends members frontier first s none = (
     (λ e followed x. s.closed e followed x (idle e.from (has frontier (node_index e.from)) refl)),
     record { kept = s.kept; node = s.node; reached = s.reached },
   )
@@ -227,9 +272,9 @@ module _ (p : Program) (filter : EdgeFilter) (n : Node) (before : List ℕ) wher
       idle k false e = e
       idle k true e = none (node_index k) (s.front k e)
 
-  pub frontier_empty : (row frontier : List ℕ) (first : ℕ) → IsSearch p filter n before row frontier first
+  pub frontier_empty : (members frontier : List ℕ) (first : ℕ) → IsSearch p filter n before members frontier first
       → ((i : ℕ) → first ≤ i → has frontier i ≡ false) → IsEmpty frontier
-  frontier_empty row frontier first s none i = go (has frontier i) refl
+  frontier_empty members frontier first s none i = go (has frontier i) refl
     where
       go : (b : Bool) → has frontier i ≡ b → has frontier i ≡ false
       go false e = e

@@ -5,6 +5,7 @@ mod NodeBits
 mod NextNode
 pub mod Paths
 pub mod Counts
+pub mod Links
 pub mod Scans
 pub mod Frontiers
 pub mod DistanceLemmas

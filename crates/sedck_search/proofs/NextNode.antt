@@ -1,4 +1,4 @@
--- The first node of a row from a node on, in the word of its lowest bit.
+-- The first node of a set from a node on, in the word of its lowest bit.
 use Rattle.std.proofs.Common.{◌≡◌, ◌≢◌, ℕ, zero, suc, ◌+◌, ◌-◌, ◌*◌, ◌/◌, ◌%◌, ◌^◌, ◌<◌, ◌≤◌, min, true, false, List, inl, inr, refl, sym, ap, ◌∙◌, subst, arith}
 use Rattle.std.specs.Prelude.{slice_index, bit_and}
 use Rattle.std.specs.Int.{bit_at, w64, trailing_zeros}
@@ -8,7 +8,7 @@ use Rattle.std.proofs.lemmas.Nat.Bits.{bit_at-lt, bit_at-zero, bit_at_and, bit_a
 use Rattle.sedck_search.specs.Private.NodeSet.{has, IsNodeSet, IsNext}
 use Rattle.sedck_search.proofs.NodeBits.{has_at, word_below, none_behind}
 
--- The word has the bits of word j of the row whose nodes aren't before the given one, and no other; and no node lies between that one and word j.
+-- The word has the bits of word j of the set whose nodes aren't before the given one, and no other; and no node lies between that one and word j.
 record IsFirstWord (words : List ℕ) (from j word : ℕ) : Type 0 where
   same : (k : ℕ) → k < 64 → from ≤ 64 * j + k → bit_at (slice_index words j) k ≡ bit_at word k
   before : (k : ℕ) → k < 64 → 64 * j + k < from → bit_at word k ≡ 0
@@ -58,7 +58,7 @@ next_in_word words from j word first inside small some =
     let lowest = bit_at-trailing_zeros w64 word (positive word some) small in
     next_at words from j word first inside (trailing_zeros w64 word) lowest.0 lowest.1 lowest.2
 
--- ---- The word of the first node to look at
+-- ---- The word of the first node to be searched
 
 abbrev pub from_bit : ℕ → ℕ → ℕ
 from_bit word low = bit_and word ((2 ^ 64 - 1) * 2 ^ low % 2 ^ 64)
@@ -84,43 +84,43 @@ first_word words from =
       none = λ i above below. absurd (omega (arith, above, below));
     }
 
-pub first_next : (words row : List ℕ) (from : ℕ) → words ≡ row → IsNodeSet words → from / 64 < 256 → from_bit (slice_index words (from / 64)) (from % 64) ≢ 0
-    → IsNext row from (64 * (from / 64) + trailing_zeros w64 (from_bit (slice_index words (from / 64)) (from % 64)))
-first_next words row from is good inside some =
+pub first_next : (words members : List ℕ) (from : ℕ) → words ≡ members → IsNodeSet words → from / 64 < 256 → from_bit (slice_index words (from / 64)) (from % 64) ≢ 0
+    → IsNext members from (64 * (from / 64) + trailing_zeros w64 (from_bit (slice_index words (from / 64)) (from % 64)))
+first_next words members from is good inside some =
     let less = and_le_l (slice_index words (from / 64)) ((2 ^ 64 - 1) * 2 ^ (from % 64) % 2 ^ 64) in
     let small : from_bit (slice_index words (from / 64)) (from % 64) < 2 ^ 64 = omega (arith, less, word_below words good (from / 64) inside) in
     subst (λ r. IsNext r from (64 * (from / 64) + trailing_zeros w64 (from_bit (slice_index words (from / 64)) (from % 64)))) is
     (next_in_word words from (from / 64) (from_bit (slice_index words (from / 64)) (from % 64)) (first_word words from) inside small some)
 
-pub first_none : (words row : List ℕ) (from : ℕ) → words ≡ row → from_bit (slice_index words (from / 64)) (from % 64) ≡ 0
-    → (i : ℕ) → from ≤ i → i < 64 * (from / 64 + 1) → has row i ≡ false
-first_none words row from is none i above below =
+pub first_none : (words members : List ℕ) (from : ℕ) → words ≡ members → from_bit (slice_index words (from / 64)) (from % 64) ≡ 0
+    → (i : ℕ) → from ≤ i → i < 64 * (from / 64 + 1) → has members i ≡ false
+first_none words members from is none i above below =
     ap (λ r. has r i) (sym is) ∙ none_in_word words from (from / 64) (from_bit (slice_index words (from / 64)) (from % 64))
     (first_word words from) none i above below
 
 -- ---- The words behind it
 
-later_word : (words row : List ℕ) (from j : ℕ) → words ≡ row → from / 64 + 1 ≤ j → ((i : ℕ) → from ≤ i → i < 64 * j → has row i ≡ false)
+later_word : (words members : List ℕ) (from j : ℕ) → words ≡ members → from / 64 + 1 ≤ j → ((i : ℕ) → from ≤ i → i < 64 * j → has members i ≡ false)
     → IsFirstWord words from j (slice_index words j)
-later_word words row from j is behind none = record {
+later_word words members from j is behind none = record {
   same = λ k _ _. refl;
   before = λ k _ below. absurd (omega (arith, behind, below));
   none = λ i above below. ap (λ r. has r i) is ∙ none i above below;
 }
 
-pub later_next : (words row : List ℕ) (from j : ℕ) → words ≡ row → IsNodeSet words → j < 256 → from / 64 + 1 ≤ j
-    → ((i : ℕ) → from ≤ i → i < 64 * j → has row i ≡ false) → slice_index words j ≢ 0
-    → IsNext row from (64 * j + trailing_zeros w64 (slice_index words j))
-later_next words row from j is good inside behind none some =
+pub later_next : (words members : List ℕ) (from j : ℕ) → words ≡ members → IsNodeSet words → j < 256 → from / 64 + 1 ≤ j
+    → ((i : ℕ) → from ≤ i → i < 64 * j → has members i ≡ false) → slice_index words j ≢ 0
+    → IsNext members from (64 * j + trailing_zeros w64 (slice_index words j))
+later_next words members from j is good inside behind none some =
     subst (λ r. IsNext r from (64 * j + trailing_zeros w64 (slice_index words j))) is
-    (next_in_word words from j (slice_index words j) (later_word words row from j is behind none) inside (word_below words good j inside) some)
+    (next_in_word words from j (slice_index words j) (later_word words members from j is behind none) inside (word_below words good j inside) some)
 
-pub later_none : (words row : List ℕ) (from j : ℕ) → words ≡ row → from / 64 + 1 ≤ j → ((i : ℕ) → from ≤ i → i < 64 * j → has row i ≡ false)
+pub later_none : (words members : List ℕ) (from j : ℕ) → words ≡ members → from / 64 + 1 ≤ j → ((i : ℕ) → from ≤ i → i < 64 * j → has members i ≡ false)
     → slice_index words j ≡ 0
-    → (i : ℕ) → from ≤ i → i < 64 * (j + 1) → has row i ≡ false
-later_none words row from j is behind none zeroes i above below =
-    ap (λ r. has r i) (sym is) ∙ none_in_word words from j (slice_index words j) (later_word words row from j is behind none) zeroes i above below
+    → (i : ℕ) → from ≤ i → i < 64 * (j + 1) → has members i ≡ false
+later_none words members from j is behind none zeroes i above below =
+    ap (λ r. has r i) (sym is) ∙ none_in_word words from j (slice_index words j) (later_word words members from j is behind none) zeroes i above below
 
 -- no node lies behind the last word
-pub last_none : (words row : List ℕ) → words ≡ row → IsNodeSet words → (i : ℕ) → 256 ≤ i / 64 → has row i ≡ false
-last_none words row is good i behind = ap (λ r. has r i) (sym is) ∙ none_behind words i (omega (arith, behind, good.long))
+pub last_none : (words members : List ℕ) → words ≡ members → IsNodeSet words → (i : ℕ) → 256 ≤ i / 64 → has members i ≡ false
+last_none words members is good i behind = ap (λ r. has r i) (sym is) ∙ none_behind words i (omega (arith, behind, good.long))

@@ -1,15 +1,15 @@
--- A node of a row as a bit of a word.
-use Rattle.std.proofs.Common.{◌≡◌, ◌≢◌, ℕ, zero, suc, ◌+◌, ◌-◌, ◌*◌, ◌/◌, ◌%◌, ◌^◌, ◌<◌, ◌≤◌, Bool, true, false, cond, List, length, set, replicate, inl, inr, refl, sym, ap, ◌∙◌, arith, get_or-set_other, get_or-set_same, length-set}
+-- A node of a set as a bit of a word.
+use Rattle.std.proofs.Common.{◌≡◌, ◌≢◌, ◌⊎◌, ℕ, zero, suc, ◌+◌, ◌-◌, ◌*◌, ◌/◌, ◌%◌, ◌^◌, ◌<◌, ◌≤◌, Bool, true, false, cond, List, length, set, replicate, inl, inr, subst, max, refl, sym, ap, ◌∙◌, arith, get_or-set_other, get_or-set_same, length-set}
 use lib.Count.{ones}
 use Rattle.std.specs.Prelude.{slice_index, bit_and, bit_or, ◌==◌}
 use Rattle.std.specs.Int.{bit_at, w64}
-use Rattle.std.proofs.lemmas.Bool.{cases_eq}
-use Rattle.std.proofs.lemmas.Nat.Bits.{bit_at-lt, bit_at-zero, bit_at_set_same, bit_at_set_other, bit_at_clear_same, bit_at_clear_other}
+use Rattle.std.proofs.lemmas.Bool.{cases_eq, cases_lt, false≢true}
+use Rattle.std.proofs.lemmas.Nat.Bits.{bit_at-lt, bit_at-zero, bit_at_set_same, bit_at_set_other, bit_at_clear_same, bit_at_clear_other, bit_at_or}
 use Rattle.std.proofs.lemmas.Nat.{or_lt, and_le_l}
 use Rattle.std.proofs.lemmas.List.{get_or_past}
-use Rattle.std.proofs.lemmas.List.Elements.{All-get_or, All-set, All-replicate}
+use Rattle.std.proofs.lemmas.List.Elements.{All-get_or, All-set, All-replicate, All-from_get_or}
 use Rattle.sedck_search.specs.Rows.{bit_count}
-use Rattle.sedck_search.specs.Private.NodeSet.{has, IsNodeSet, IsEmpty, HasChanged}
+use Rattle.sedck_search.specs.Private.NodeSet.{has, IsNodeSet, IsEmpty, HasChanged, IsUnion, AreWordsOfBoth}
 
 abbrev pub bit_of : Bool → ℕ
 bit_of b = cond b 1 0
@@ -51,10 +51,10 @@ none_behind words i l =
 
 -- ---- One word changes
 
-pub changed_row : (words : List ℕ) (j word : ℕ) → word < 2 ^ 64 → IsNodeSet words → IsNodeSet (set words j word)
-changed_row words j word small row = record {
-  long = omega (arith, length-set words j word, row.long);
-  small = All-set (λ w. w < 2 ^ 64) words j word small row.small;
+pub changed_set : (words : List ℕ) (j word : ℕ) → word < 2 ^ 64 → IsNodeSet words → IsNodeSet (set words j word)
+changed_set words j word small members = record {
+  long = omega (arith, length-set words j word, members.long);
+  small = All-set (λ w. w < 2 ^ 64) words j word small members.small;
 }
 
 same_place : (i node : ℕ) → i / 64 ≡ node / 64 → i % 64 ≡ node % 64 → i ≡ node
@@ -81,44 +81,44 @@ changed_word words node word now inside bit kept = record {
         ∙ kept (i % 64) low (λ e. other (same_place i node same e)) ∙ ap (λ j. bit_at (slice_index words j) (i % 64)) (sym same) ∙ at_node words i
 
 pub word_below : (words : List ℕ) → IsNodeSet words → (j : ℕ) → j < 256 → slice_index words j < 2 ^ 64
-word_below words row j l = All-get_or (λ w. w < 2 ^ 64) words j 0 (omega (arith, l, row.long)) row.small
+word_below words members j l = All-get_or (λ w. w < 2 ^ 64) words j 0 (omega (arith, l, members.long)) members.small
 
 -- the node's word with its bit set
 abbrev pub with_bit : List ℕ → ℕ → ℕ
 with_bit words node = bit_or (slice_index words (node / 64)) (1 * 2 ^ (node % 64) % 2 ^ 64)
 
-pub inserted_row : (words : List ℕ) (node : ℕ) → node < 16384 → IsNodeSet words → IsNodeSet (set words (node / 64) (with_bit words node))
-inserted_row words node l row =
+pub inserted_set : (words : List ℕ) (node : ℕ) → node < 16384 → IsNodeSet words → IsNodeSet (set words (node / 64) (with_bit words node))
+inserted_set words node l members =
     let bit : 1 * 2 ^ (node % 64) % 2 ^ 64 < 2 ^ 64 = omega arith in
-    changed_row words (node / 64) (with_bit words node)
-    (or_lt 64 (slice_index words (node / 64)) (1 * 2 ^ (node % 64) % 2 ^ 64) (word_below words row (node / 64) (omega arith)) bit) row
+    changed_set words (node / 64) (with_bit words node)
+    (or_lt 64 (slice_index words (node / 64)) (1 * 2 ^ (node % 64) % 2 ^ 64) (word_below words members (node / 64) (omega arith)) bit) members
 
 pub inserted : (words : List ℕ) (node : ℕ) → node < 16384 → IsNodeSet words → HasChanged words (set words (node / 64) (with_bit words node)) node true
-inserted words node l row =
+inserted words node l members =
     let low : node % 64 < 64 = omega arith in
-    changed_word words node (with_bit words node) true (omega (arith, row.long)) (bit_at_set_same w64 (slice_index words (node / 64)) (node % 64) low)
+    changed_word words node (with_bit words node) true (omega (arith, members.long)) (bit_at_set_same w64 (slice_index words (node / 64)) (node % 64) low)
     (λ k _ other. bit_at_set_other w64 (slice_index words (node / 64)) (node % 64) low k other)
 
 -- the node's word with its bit cleared
 abbrev pub without_bit : List ℕ → ℕ → ℕ
 without_bit words node = bit_and (slice_index words (node / 64)) (2 ^ 64 - 1 - 1 * 2 ^ (node % 64) % 2 ^ 64)
 
-pub removed_row : (words : List ℕ) (node : ℕ) → node < 16384 → IsNodeSet words → IsNodeSet (set words (node / 64) (without_bit words node))
-removed_row words node l row =
+pub removed_set : (words : List ℕ) (node : ℕ) → node < 16384 → IsNodeSet words → IsNodeSet (set words (node / 64) (without_bit words node))
+removed_set words node l members =
     let most = and_le_l (slice_index words (node / 64)) (2 ^ 64 - 1 - 1 * 2 ^ (node % 64) % 2 ^ 64) in
-    let below = word_below words row (node / 64) (omega arith) in
-    changed_row words (node / 64) (without_bit words node) (omega (arith, most, below)) row
+    let below = word_below words members (node / 64) (omega arith) in
+    changed_set words (node / 64) (without_bit words node) (omega (arith, most, below)) members
 
 pub removed : (words : List ℕ) (node : ℕ) → node < 16384 → IsNodeSet words → HasChanged words (set words (node / 64) (without_bit words node)) node false
-removed words node l row =
+removed words node l members =
     let low : node % 64 < 64 = omega arith in
-    changed_word words node (without_bit words node) false (omega (arith, row.long)) (bit_at_clear_same w64 (slice_index words (node / 64)) (node % 64) low)
+    changed_word words node (without_bit words node) false (omega (arith, members.long)) (bit_at_clear_same w64 (slice_index words (node / 64)) (node % 64) low)
     (λ k below other. bit_at_clear_other w64 (slice_index words (node / 64)) (node % 64) low k below other)
 
 -- ---- No node
 
-pub empty_row : IsNodeSet (replicate 256 0)
-empty_row = record { long = refl; small = All-replicate (λ w. w < 2 ^ 64) 256 0 (omega arith) }
+pub empty_set : IsNodeSet (replicate 256 0)
+empty_set = record { long = refl; small = All-replicate (λ w. w < 2 ^ 64) 256 0 (omega arith) }
 
 zero_at : (n j : ℕ) → slice_index (replicate n 0) j ≡ 0
 zero_at zero j = refl
@@ -131,3 +131,46 @@ empty_nodes node = has_by_bit (replicate 256 0) node false (ap (λ m. bit_at m (
 pub empty_count : bit_count (replicate 256 0) ≡ 0
 unfolding ones
 empty_count = refl
+
+-- ---- Two sets together
+
+both_bit : (left right both : List ℕ) → IsNodeSet left → AreWordsOfBoth left right both → (i : ℕ) → i / 64 < 256
+    → bit_of (has both i) ≡ max (bit_of (has left i)) (bit_of (has right i))
+both_bit left right both is_left words i inside =
+    sym (at_node both i) ∙ ap (λ w. bit_at w (i % 64)) (words.each (i / 64) (omega (arith, is_left.long, inside)))
+    ∙ bit_at_or (slice_index left (i / 64)) (slice_index right (i / 64)) (i % 64)
+    ∙ ap (λ b. max b (bit_at (slice_index right (i / 64)) (i % 64))) (at_node left i) ∙ ap (max (bit_of (has left i))) (at_node right i)
+
+pub both_set : (left right both : List ℕ) → IsNodeSet left → IsNodeSet right → AreWordsOfBoth left right both → IsNodeSet both
+both_set left right both is_left is_right words = record {
+  long = words.long ∙ is_left.long;
+  small = All-from_get_or (λ w. w < 2 ^ 64) both 0 (λ j below.
+      let inside : j < 256 = omega (arith, below, words.long, is_left.long) in
+      subst (λ w. w < 2 ^ 64) (sym (words.each j (omega (arith, inside, is_left.long))))
+      (or_lt 64 (slice_index left j) (slice_index right j) (word_below left is_left j inside) (word_below right is_right j inside)));
+}
+
+pub both_union : (left right both : List ℕ) → IsNodeSet left → IsNodeSet right → AreWordsOfBoth left right both → IsUnion left right both
+both_union left right both is_left is_right words = record {
+  has_left = λ i x. by_bit i (within left is_left i x) (has left i) (has right i) (has both i) refl refl refl (inl x);
+  has_right = λ i x. by_bit i (within right is_right i x) (has left i) (has right i) (has both i) refl refl refl (inr x);
+  no_other = λ i x. from_bit i (within both (both_set left right both is_left is_right words) i x) (has left i) (has right i) refl refl x;
+}
+  where
+    within : (a : List ℕ) → IsNodeSet a → (i : ℕ) → has a i ≡ true → i / 64 < 256
+    within a members i x = elim (cases_lt (i / 64) 256) [
+      | inl less ↦ less
+      | inr more ↦ absurd (false≢true (sym (none_behind a i (omega (arith, more, members.long))) ∙ x))
+    ]
+
+    by_bit : (i : ℕ) → i / 64 < 256 → (l r b : Bool) → has left i ≡ l → has right i ≡ r → has both i ≡ b → (l ≡ true) ⊎ (r ≡ true) → b ≡ true
+    by_bit i inside l r true x y z h = refl
+    by_bit i inside true r false x y z h = absurd (omega (arith, both_bit left right both is_left words i inside, ap bit_of x, ap bit_of z))
+    by_bit i inside false true false x y z h = absurd (omega (arith, both_bit left right both is_left words i inside, ap bit_of y, ap bit_of z))
+    by_bit i inside false false false x y z h = elim h [ inl e ↦ absurd (false≢true e) | inr e ↦ absurd (false≢true e) ]
+
+    from_bit : (i : ℕ) → i / 64 < 256 → (l r : Bool) → has left i ≡ l → has right i ≡ r → has both i ≡ true → (has left i ≡ true) ⊎ (has right i ≡ true)
+    from_bit i inside true r x y z = inl x
+    from_bit i inside false true x y z = inr y
+    from_bit i inside false false x y z =
+        absurd (omega (arith, both_bit left right both is_left words i inside, ap bit_of x, ap bit_of y, ap bit_of z))

@@ -6,20 +6,20 @@ use Rattle.std.proofs.lemmas.Bool.{cases_lt, false≢true}
 use Rattle.std.proofs.lemmas.Nat.{ones-le}
 use Rattle.sedck_search.specs.Rows.{bit_count}
 use Rattle.sedck_search.specs.Private.NodeSet.{has, IsNodeSet, IsEmpty, HasChanged}
-use Rattle.sedck_search.proofs.Totals.{total, total_same, total_fewer, total_less, total_one_more, total_within, word_total, row_total}
-use Rattle.sedck_search.proofs.NodeBits.{bit_of, node_bit, at_node, word_below, none_behind, empty_row, empty_nodes}
+use Rattle.sedck_search.proofs.Totals.{total, total_same, total_fewer, total_less, total_one_more, total_within, word_total, set_total}
+use Rattle.sedck_search.proofs.NodeBits.{bit_of, node_bit, at_node, word_below, none_behind, empty_set, empty_nodes}
 
--- how many bits of a word of the row are set
+-- how many bits of a word of the set are set
 abbrev ones_at : List ℕ → ℕ → ℕ
 ones_at words j = count_ones (slice_index words j)
 
 count_total : (a : List ℕ) → IsNodeSet a → bit_count a ≡ total (ones_at a) 256
-count_total a row = row_total a ∙ ap (total (ones_at a)) row.long
+count_total a members = set_total a ∙ ap (total (ones_at a)) members.long
 
 ones_total : (a : List ℕ) → IsNodeSet a → (j : ℕ) → j < 256 → ones_at a j ≡ total (bit_at (slice_index a j)) 64
-ones_total a row j l = word_total 64 (slice_index a j) (word_below a row j l)
+ones_total a members j l = word_total 64 (slice_index a j) (word_below a members j l)
 
--- ---- One row within another
+-- ---- One set within another
 
 abbrev IsWithin : List ℕ → List ℕ → Type 0
 IsWithin a b = (i : ℕ) → has a i ≡ true → has b i ≡ true
@@ -42,11 +42,11 @@ fewer_or_same a b x y h =
     let fewer = total_fewer 256 (ones_at a) (ones_at b) (ones_within a b x y h) in
     omega (arith, fewer, count_total a x, count_total b y)
 
--- a node of a row lies below 16,384
+-- a node of a set lies below 16,384
 pub node_inside : (a : List ℕ) → IsNodeSet a → (i : ℕ) → has a i ≡ true → i / 64 < 256
-node_inside a row i h = elim (cases_lt (i / 64) 256) [
+node_inside a members i h = elim (cases_lt (i / 64) 256) [
   | inl less ↦ less
-  | inr more ↦ absurd (false≢true (sym (none_behind a i (omega (arith, more, row.long))) ∙ h))
+  | inr more ↦ absurd (false≢true (sym (none_behind a i (omega (arith, more, members.long))) ∙ h))
 ]
 
 ones_less : (a b : List ℕ) → IsNodeSet a → IsNodeSet b → IsWithin a b → (i : ℕ) → i / 64 < 256 → has a i ≡ false → has b i ≡ true
@@ -73,24 +73,24 @@ same_nodes a b x y h same i some = go (has a i) refl
     go true e = e
     go false e = absurd (omega (arith, same, strictly_fewer a b x y h i e some))
 
--- ---- The count of one row
+-- ---- The count of one set
 
 pub counts_node : (a : List ℕ) → IsNodeSet a → (i : ℕ) → has a i ≡ true → 0 < bit_count a
-counts_node a row i some =
-    omega (arith, strictly_fewer (replicate 256 0) a empty_row row (λ k h. absurd (false≢true (sym (empty_nodes k) ∙ h))) i (empty_nodes i) some)
+counts_node a members i some =
+    omega (arith, strictly_fewer (replicate 256 0) a empty_set members (λ k h. absurd (false≢true (sym (empty_nodes k) ∙ h))) i (empty_nodes i) some)
 
--- a row that counts no node has none
+-- a set that counts no node has none
 pub count_none : (a : List ℕ) → IsNodeSet a → bit_count a ≡ 0 → IsEmpty a
-count_none a row none i = go (has a i) refl
+count_none a members none i = go (has a i) refl
   where
     go : (found : Bool) → has a i ≡ found → has a i ≡ false
-    go true e = absurd (omega (arith, none, counts_node a row i e))
+    go true e = absurd (omega (arith, none, counts_node a members i e))
     go false e = e
 
 pub count_within : (a : List ℕ) → IsNodeSet a → bit_count a ≤ 16384
-count_within a row =
-    let few = total_within 256 (ones_at a) 64 (λ j l. ones-le 64 (slice_index a j) (word_below a row j l)) in
-    omega (arith, few, count_total a row)
+count_within a members =
+    let few = total_within 256 (ones_at a) 64 (λ j l. ones-le 64 (slice_index a j) (word_below a members j l)) in
+    omega (arith, few, count_total a members)
 
 -- ---- One node more or less
 

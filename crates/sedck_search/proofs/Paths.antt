@@ -1,4 +1,4 @@
--- Paths over followed edges, and rows that no followed edge leaves.
+-- Paths over followed edges, and sets that no followed edge leaves.
 use Rattle.std.proofs.Common.{ℕ, ◌<◌, ◌≤◌, List, [], ◌∷◌, ◌++◌, length, refl, sym, subst, arith}
 use Rattle.sedck_script.specs.Invariant.{AreTargetsWithin, IsScript}
 use Rattle.sedck_script.specs.Program.{Program}
@@ -16,7 +16,7 @@ use Rattle.sedck_search.specs.declared.filter.EdgeFilter.TheVariants.{Every}
 
 -- ---- Nodes and their places among all nodes
 
--- the nodes of a script have a place in each row
+-- the nodes of a script have a place in each set
 pub index_below : (p : Program) → IsScript p → (n : Node) → n.at ≤ length p.commands → node_index n < 16384
 index_below p script n h = omega (arith, script.count, nodes.index_below n (length p.commands) h)
 
@@ -56,12 +56,12 @@ module _ (p : Program) where
     pub reaches_from : (n : Node) (e : Edge) → FlowFrom p n e → IsFollowed filter e.kind → Reaches p filter n e.to
     reaches_from n e flow followed = subst (λ m. Reaches p filter m e.to) flow.1 (reaches_edge e (flow.0, followed))
 
-    -- what a node of a closed row reaches is in the row
-    pub closed_reaches : (row : List ℕ) → IsClosed p filter row → (path : List (Kind × Node)) (n m : Node) → IsPath p n path m → AreFollowed filter path
-        → IsIn row n → IsIn row m
-    closed_reaches row closed [] n m is followed h = subst (IsIn row) is h
-    closed_reaches row closed (edge ∷ path) n m is followed h =
-        closed_reaches row closed path edge.1 m is.1 followed.1 (closed (record { from = n; to = edge.1; kind = edge.0 }) (is.0, followed.0) h)
+    -- what a node of a closed set reaches is in the set
+    pub closed_reaches : (members : List ℕ) → IsClosed p filter members → (path : List (Kind × Node)) (n m : Node) → IsPath p n path m → AreFollowed filter path
+        → IsIn members n → IsIn members m
+    closed_reaches members closed [] n m is followed h = subst (IsIn members) is h
+    closed_reaches members closed (edge ∷ path) n m is followed h =
+        closed_reaches members closed path edge.1 m is.1 followed.1 (closed (record { from = n; to = edge.1; kind = edge.0 }) (is.0, followed.0) h)
 
     pub reaches_inside : AreTargetsWithin p → (n m : Node) → Reaches p filter n m → n.at ≤ length p.commands → m.at ≤ length p.commands
     reaches_inside targets n m h k = path_inside targets h.0 n m h.1 k

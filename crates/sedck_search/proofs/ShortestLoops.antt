@@ -9,12 +9,14 @@ use Rattle.sedck_flow.specs.declared.graph.Edge.{Edge}
 use Rattle.sedck_flow.specs.declared.graph.Kind.{Kind}
 use Rattle.sedck_flow.proofs.EdgesInside.{inside}
 use Rattle.sedck_search.specs.Obstacle.{IsPath, IsWalk, walk_edges}
-use Rattle.sedck_search.specs.Private.Reaching.{AreFollowed, FollowedEdge}
+use Rattle.sedck_search.specs.Private.Reaching.{AreFollowed, FollowedEdge, IsFollowed, IsIn}
 use Rattle.sedck_search.specs.Private.Distances.{HasDistance, AreDistances}
-use Rattle.sedck_search.specs.Private.Closing.{back_filter}
+use Rattle.sedck_search.specs.Private.Closing.{back_filter, closing_kind}
 use Rattle.sedck_search.specs.Private.ShortestLoop.{IsBegun, IsClosing, IsNearest, IsShortestLoop}
 use Rattle.sedck_search.specs.declared.filter.EdgeFilter.{EdgeFilter}
 use Rattle.sedck_search.specs.declared.answer.Form.{Form}
+use Rattle.sedck_search.specs.declared.answer.Form.TheVariants.{Idle, Growing}
+use Rattle.sedck_flow.specs.declared.graph.Kind.TheVariants.{Grow, Consume}
 use Rattle.sedck_search.specs.declared.answer.Walk.{Walk}
 use Rattle.sedck_search.proofs.Paths.{path-append, followed-append}
 use Rattle.sedck_search.proofs.DistanceLemmas.{distance_least}
@@ -78,11 +80,26 @@ module _ (p : Program) (script : IsScript p) (filter : EdgeFilter) (distances : 
     inside = (inside p script.targets e edge.0).1;
   }
 
+-- an edge that begins a loop of the form is followed
+begin_followed : (form : Form) (kind : Kind) → kind ≡ closing_kind form → IsFollowed (back_filter form) kind
+begin_followed Idle kind is = is
+begin_followed Growing kind is = λ consumes. differ (sym is ∙ consumes)
+  where
+    differ : Grow ≡ Consume → ⊥
+    differ e = cc
+
+-- it leads to a node of the set in which distances are known
+pub begin_reached : (p : Program) (form : Form) (n : Node) (distances : List ℕ) (h : AreDistances p (back_filter form) n distances) → (e : Edge)
+    → Flow p e → e.kind ≡ closing_kind form → e.from ≡ n → IsIn h.reach e.to
+begin_reached p form n distances h e flow is_kind leaves =
+    h.closed e (flow, begin_followed form e.kind is_kind) (subst (IsIn h.reach) (sym leaves) h.here)
+
 -- a nearest edge has a distance back
 pub near_small : (p : Program) → IsScript p → (form : Form) (closing first : Edge) (distances : List ℕ) → AreDistances p (back_filter form) closing.from distances
     → IsClosing p form closing → (near : IsNearest p distances closing first) → near.distance < 65535
 near_small p script form closing first distances are_distances closes near =
-    let back = distance_least p script (back_filter form) closing.from distances are_distances closes.back.0 closing.to closes.back.1 closes.back.2
+    let back = distance_least p script (back_filter form) closing.from distances are_distances closes.back.0 closing.to
+    (begin_reached p form closing.from distances are_distances closing closes.is_edge closes.is_kind refl) closes.back.1 closes.back.2
     (inside p script.targets closing closes.is_edge).1 in
     omega (arith, near.nearest closing closes.is_edge refl refl back.0 back.1, back.3)
 
@@ -110,5 +127,6 @@ shortest_loop p script form closing first distances nodes kinds at step w are_di
     shorter [] path begun = absurd begun
     shorter (edge ∷ more) path begun =
         let e : Edge = record { from = closing.from; to = edge.1; kind = edge.0 } in
-        let other = distance_least p script (back_filter form) closing.from distances are_distances more edge.1 path.1 begun.1 (inside p script.targets e path.0).1 in
+        let other = distance_least p script (back_filter form) closing.from distances are_distances more edge.1
+        (begin_reached p form closing.from distances are_distances e path.0 begun.0 refl) path.1 begun.1 (inside p script.targets e path.0).1 in
         omega (arith, walking.long, same_step, near.nearest e path.0 (begun.0 ∙ sym closes.is_kind) refl other.0 other.1, other.2)

@@ -77,11 +77,11 @@ word_total (suc k) word small =
     total_same k (λ i. bit_at word (suc i)) (bit_at (word / 2)) (λ i l. bit_at-suc word i) in
     ones_step word ∙ ap (λ m. m + count_ones (word / 2)) (sym (bit_at_lowest word)) ∙ ap (λ m. bit_at word 0 + m) (word_total k (word / 2) half ∙ sym others)
 
--- the words of a row
-pub row_total : (words : List ℕ) → bit_count words ≡ total (λ j. count_ones (slice_index words j)) (length words)
+-- the words of a set
+pub set_total : (words : List ℕ) → bit_count words ≡ total (λ j. count_ones (slice_index words j)) (length words)
 unfolding total
-row_total [] = refl
-row_total (word ∷ words) = ap (λ m. count_ones word + m) (row_total words)
+set_total [] = refl
+set_total (word ∷ words) = ap (λ m. count_ones word + m) (set_total words)
 
 -- ---- The words of a list one after another
 
@@ -93,7 +93,7 @@ bit_count-append (word ∷ a) b =
 pub bit_count-within : (words : List ℕ) → ((j : ℕ) → Fits w64 (slice_index words j)) → bit_count words ≤ 64 * length words
 bit_count-within words small =
     let few = total_within (length words) (λ j. count_ones (slice_index words j)) 64 (λ j l. ones-le 64 (slice_index words j) (Fits-lt-pow (small j))) in
-    omega (arith, few, row_total words)
+    omega (arith, few, set_total words)
 
 pub bit_count-more : (words : List ℕ) (i : ℕ) → i < length words → bit_count (take (i + 1) words) ≡ bit_count (take i words) + count_ones (slice_index words i)
 bit_count-more words i l =

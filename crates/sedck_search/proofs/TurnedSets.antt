@@ -1,4 +1,4 @@
--- A row of nodes, each turned to the other side of the last line, has as many nodes.
+-- A set of nodes, each turned to the other side of the last line, has as many nodes.
 use Rattle.std.proofs.Common.{◌≡◌, ◌≢◌, ◌⊎◌, ℕ, zero, suc, ◌+◌, ◌*◌, ◌/◌, ◌<◌, ◌≤◌, Bool, true, false, List, replicate, set, refl, sym, ap, ◌∙◌, subst, inl, inr, arith}
 use Rattle.std.specs.Prelude.{not, ◌%◌, ◌==◌, if◌then◌else◌}
 use Rattle.std.proofs.lemmas.Bool.{cases_eq, cases_lt, true≢false}
@@ -12,22 +12,22 @@ use Rattle.sedck_search.specs.Private.OtherSide.{turned, AsksNotForLast}
 use Rattle.sedck_search.specs.Private.Reaching.{IsIn, Reaches, IsReachCount}
 use Rattle.sedck_search.specs.declared.filter.EdgeFilter.{EdgeFilter}
 use Rattle.sedck_search.specs.declared.filter.EdgeFilter.TheVariants.{Every}
-use Rattle.sedck_search.proofs.NodeBits.{inserted, inserted_row, with_bit, bit_of, empty_row, empty_nodes, empty_count}
+use Rattle.sedck_search.proofs.NodeBits.{inserted, inserted_set, with_bit, bit_of, empty_set, empty_nodes, empty_count}
 use Rattle.sedck_search.proofs.NodeSets.{fewer_or_same, inserted_count, node_inside}
 use Rattle.sedck_search.proofs.OtherSide.{reaches_turned}
 
--- ---- A row of the numbers that pass a test
+-- ---- A set of the numbers that pass a test
 
 -- how many numbers below n pass the test
 pub counted : (ℕ → Bool) → ℕ → ℕ
 counted test zero = 0
 counted test (suc n) = bit_of (test n) + counted test n
 
-record IsRowOf (test : ℕ → Bool) (n : ℕ) (row : List ℕ) : Type 0 where
-  is_row : IsNodeSet row
-  below : (i : ℕ) → has row i ≡ true → (i < n) × (test i ≡ true)
-  passes : (i : ℕ) → i < n → test i ≡ true → has row i ≡ true
-  counts : bit_count row ≡ counted test n
+record IsRowOf (test : ℕ → Bool) (n : ℕ) (members : List ℕ) : Type 0 where
+  is_set : IsNodeSet members
+  below : (i : ℕ) → has members i ≡ true → (i < n) × (test i ≡ true)
+  passes : (i : ℕ) → i < n → test i ≡ true → has members i ≡ true
+  counts : bit_count members ≡ counted test n
 
 not_both : {b : Bool} → b ≡ true → b ≡ false → ⊥
 not_both h k = true≢false (sym h ∙ k)
@@ -38,17 +38,17 @@ less_or_same i n below = elim (cases_lt i n) [ inl less ↦ inl less | inr more 
 none_of : (test : ℕ → Bool) → IsRowOf test zero (replicate 256 0)
 unfolding counted
 none_of test = record {
-  is_row = empty_row;
+  is_set = empty_set;
   below = λ i h. absurd (not_both h (empty_nodes i));
   passes = λ i less _. absurd (omega (arith, less));
   counts = empty_count;
 }
 
 -- one number more, which doesn't pass
-without : (test : ℕ → Bool) (n : ℕ) (row : List ℕ) → IsRowOf test n row → test n ≡ false → IsRowOf test (suc n) row
+without : (test : ℕ → Bool) (n : ℕ) (members : List ℕ) → IsRowOf test n members → test n ≡ false → IsRowOf test (suc n) members
 unfolding counted
-without test n row h fails = record {
-  is_row = h.is_row;
+without test n members h fails = record {
+  is_set = h.is_set;
   below = λ i x. (omega (arith, (h.below i x).0), (h.below i x).1);
   passes = λ i less passes. elim (less_or_same i n less) [
     | inl below ↦ h.passes i below passes
@@ -58,24 +58,24 @@ without test n row h fails = record {
 }
 
 -- or one that does
-module _ (test : ℕ → Bool) (n : ℕ) (row : List ℕ) (h : IsRowOf test n row) (passed : test n ≡ true) (inside : n < 16384) where
+module _ (test : ℕ → Bool) (n : ℕ) (members : List ℕ) (h : IsRowOf test n members) (passed : test n ≡ true) (inside : n < 16384) where
   abbrev more : List ℕ
-  more = set row (n / 64) (with_bit row n)
+  more = set members (n / 64) (with_bit members n)
 
   is_more : IsNodeSet more
-  is_more = inserted_row row n inside h.is_row
+  is_more = inserted_set members n inside h.is_set
 
-  changed : HasChanged row more n true
-  changed = inserted row n inside h.is_row
+  changed : HasChanged members more n true
+  changed = inserted members n inside h.is_set
 
-  absent : (b : Bool) → has row n ≡ b → has row n ≡ false
+  absent : (b : Bool) → has members n ≡ b → has members n ≡ false
   absent false e = e
   absent true e = absurd (omega (arith, (h.below n e).0))
 
   with_number : IsRowOf test (suc n) more
   unfolding counted
   with_number = record {
-    is_row = is_more;
+    is_set = is_more;
     below = λ i x. elim (cases_eq i n) [
       | inl same ↦ (omega (arith, same), ap test same ∙ passed)
       | inr other ↦ let old = h.below i (sym (changed.others i other) ∙ x) in (omega (arith, old.0), old.1)
@@ -84,23 +84,23 @@ module _ (test : ℕ → Bool) (n : ℕ) (row : List ℕ) (h : IsRowOf test n ro
       | inl below ↦ changed.others i (λ same. omega (arith, below, same)) ∙ h.passes i below passes
       | inr same ↦ ap (has more) same ∙ changed.at
     ];
-    counts = omega (arith, h.counts, ap bit_of passed, inserted_count row more h.is_row is_more n changed (absent (has row n) refl));
+    counts = omega (arith, h.counts, ap bit_of passed, inserted_count members more h.is_set is_more n changed (absent (has members n) refl));
   }
 
-row_of : (test : ℕ → Bool) (n : ℕ) → n ≤ 16384 → (row : List ℕ) × IsRowOf test n row
+row_of : (test : ℕ → Bool) (n : ℕ) → n ≤ 16384 → (members : List ℕ) × IsRowOf test n members
 row_of test zero within = (replicate 256 0, none_of test)
 row_of test (suc n) within = by_test (row_of test n (omega (arith, within))) (test n) refl
   where
-    by_test : (row : List ℕ) × IsRowOf test n row → (b : Bool) → test n ≡ b → (row : List ℕ) × IsRowOf test (suc n) row
-    by_test row false fails = (row.0, without test n row.0 row.1 fails)
-    by_test row true passes = (more test n row.0 row.1 passes (omega (arith, within)), with_number test n row.0 row.1 passes (omega (arith, within)))
+    by_test : (members : List ℕ) × IsRowOf test n members → (b : Bool) → test n ≡ b → (members : List ℕ) × IsRowOf test (suc n) members
+    by_test members false fails = (members.0, without test n members.0 members.1 fails)
+    by_test members true passes = (more test n members.0 members.1 passes (omega (arith, within)), with_number test n members.0 members.1 passes (omega (arith, within)))
 
--- a row counts the numbers that it has
+-- a set counts the numbers that it has
 row_counts : (a : List ℕ) → IsNodeSet a → bit_count a ≡ counted (has a) 16384
-row_counts a is_row =
+row_counts a is_set =
     let r = row_of (has a) 16384 (omega arith) in
-    let fewer = fewer_or_same r.0 a r.1.is_row is_row (λ i x. (r.1.below i x).1) in
-    let more = fewer_or_same a r.0 is_row r.1.is_row (λ i x. let inside = node_inside a is_row i x in r.1.passes i (omega (arith, inside)) x) in
+    let fewer = fewer_or_same r.0 a r.1.is_set is_set (λ i x. (r.1.below i x).1) in
+    let more = fewer_or_same a r.0 is_set r.1.is_set (λ i x. let inside = node_inside a is_set i x in r.1.passes i (omega (arith, inside)) x) in
     omega (arith, fewer, more, r.1.counts)
 
 -- ---- Turned nodes
@@ -162,35 +162,35 @@ turned_place k = let is : turned_index (2 * k) ≡ 2 * k + 1 = omega (arith, tur
 pub turned_count : (p : Program) → AsksNotForLast p → (filter : EdgeFilter) → filter ≢ Every → (n : Node) (count : ℕ) → IsReachCount p filter n count
     → IsReachCount p filter (turned n) count
 turned_count p never filter other n count x = record {
-  row = r.0;
-  reach = record { is_row = r.1.is_row; same = λ m. (forth m, back m) };
-  counts = r.1.counts ∙ same_counts ∙ sym (row_counts x.row x.reach.is_row) ∙ x.counts;
+  members = r.0;
+  reach = record { is_set = r.1.is_set; same = λ m. (forth m, back m) };
+  counts = r.1.counts ∙ same_counts ∙ sym (row_counts x.members x.reach.is_set) ∙ x.counts;
 }
   where
     test : ℕ → Bool
-    test i = has x.row (turned_index i)
+    test i = has x.members (turned_index i)
 
-    r : (row : List ℕ) × IsRowOf test 16384 row
+    r : (members : List ℕ) × IsRowOf test 16384 members
     r = row_of test 16384 (omega arith)
 
-    same_counts : counted test 16384 ≡ counted (has x.row) 16384
-    same_counts = subst (λ k. counted test k ≡ counted (has x.row) k) (double_is 8192) (turned_counts (has x.row) 8192)
+    same_counts : counted test 16384 ≡ counted (has x.members) 16384
+    same_counts = subst (λ k. counted test k ≡ counted (has x.members) k) (double_is 8192) (turned_counts (has x.members) 8192)
 
-    test_at : (m : Node) → test (node_index m) ≡ has x.row (node_index (turned m))
-    test_at m = ap (has x.row) (turned_at m)
+    test_at : (m : Node) → test (node_index m) ≡ has x.members (node_index (turned m))
+    test_at m = ap (has x.members) (turned_at m)
 
     forth : (m : Node) → IsIn r.0 m → Reaches p filter (turned n) m
-    forth m in_row =
-        let to = (x.reach.same (turned m)).0 (sym (test_at m) ∙ (r.1.below (node_index m) in_row).1) in
+    forth m in_set =
+        let to = (x.reach.same (turned m)).0 (sym (test_at m) ∙ (r.1.below (node_index m) in_set).1) in
         subst (Reaches p filter (turned n)) (turned_twice m) (reaches_turned p never filter other n (turned m) to)
 
     back : (m : Node) → Reaches p filter (turned n) m → IsIn r.0 m
     back m to =
         let from = subst (λ k. Reaches p filter k (turned m)) (turned_twice n) (reaches_turned p never filter other (turned n) m to) in
         let has_turned = (x.reach.same (turned m)).1 from in
-        let inside = node_inside x.row x.reach.is_row (node_index (turned m)) has_turned in
+        let inside = node_inside x.members x.reach.is_set (node_index (turned m)) has_turned in
         let near : node_index m ≤ node_index (turned m) + 1 = omega (arith, turned_at m, turned_is (node_index m)) in
-        r.1.passes (node_index m) (below_row (node_index m) (node_index (turned m)) (turned_at m) inside) (test_at m ∙ has_turned)
+        r.1.passes (node_index m) (below_set (node_index m) (node_index (turned m)) (turned_at m) inside) (test_at m ∙ has_turned)
       where
-        below_row : (i j : ℕ) → turned_index i ≡ j → j / 64 < 256 → i < 16384
-        below_row i j is inside = omega (arith, is, inside, turned_is i)
+        below_set : (i j : ℕ) → turned_index i ≡ j → j / 64 < 256 → i < 16384
+        below_set i j is inside = omega (arith, is, inside, turned_is i)

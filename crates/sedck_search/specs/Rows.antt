@@ -1,4 +1,4 @@
--- What `count_bits` says of words.
+-- The number of set bits in words: the contract of `count_bits` cites it.
 use Rattle.std.specs.Prelude.{ℕ, ◌+◌, List, [], ◌∷◌, count_ones}
 
 -- the number of bits that are set in the words

@@ -5,10 +5,13 @@ ghost use Rattle.sedck_script.specs.Invariant.{IsScript};
 ghost use Rattle.sedck_flow.specs.Nodes.{node_index, node_count};
 ghost use Rattle.sedck_flow.specs.declared.graph.Edge.{Edge};
 ghost use Rattle.sedck_flow.specs.declared.graph.Node.{Node};
-ghost use Rattle.sedck_search.specs.Private.Reaching.{FollowedEdge};
+ghost use Rattle.sedck_search.specs.Private.Reaching.{FollowedEdge, IsClosed, IsIn};
 ghost use Rattle.sedck_search.specs.Private.Distances.{ArePathLengths, AreDistances, HasNeighborWithin, HasDistance, IsSettled, total};
 
 use crate::filter::EdgeFilter;
+use crate::kept_sets::KeptSets;
+use crate::node_set::NodeSet;
+use crate::reaching::add_reached;
 use sedck_flow::{Edge, Node, edges_of, node_count};
 use sedck_script::Script;
 use std::alloc::{AllocError, Global};
@@ -31,35 +34,57 @@ pub(crate) fn distances_to(
     for index in 0..node_count(script.commands().len()) {
         distances.push(if index == to.index() { 0 } else { NONE })?;
     }
-    while relax_all(script, filter, to, &mut distances) {}
+    let none = KeptSets::none(alloc);
+    let mut reached = NodeSet::new();
+    let mut frontier = NodeSet::new();
+    add_reached(script, filter, &none, &[], to, &mut reached, &mut frontier);
+    settle(script, filter, to, &reached, &mut distances);
     Ok(distances)
 }
 
-/// Shortens the distance of each node by the nodes that its edges lead to, from the last node on. It answers whether
-/// any is shorter now. `_to` is there for the contract alone: the node that the distances lead to.
-fn relax_all(script: &Script, filter: EdgeFilter, _to: Node, distances: &mut [u16]) -> bool
+/// Shortens distances as long as any gets shorter. `_to` is there for the contract alone: the node that they lead to.
+fn settle(script: &Script, filter: EdgeFilter, _to: Node, reached: &NodeSet, distances: &mut [u16])
+    requires script { IsScript script.now }
+    requires here { IsIn reached.now _to }
+    requires closed { IsClosed script.now filter reached.now }
+    requires some { ArePathLengths script.now filter _to distances.old }
+    ensures { AreDistances script.now filter _to distances.new }
+{
+    while relax_all(script, filter, _to, reached, distances) {}
+}
+
+/// Shortens the distance of each node of the set by those of its targets, from the last node on. It answers whether
+/// any is shorter now. `_to` is there for the contract alone.
+fn relax_all(
+    script: &Script,
+    filter: EdgeFilter,
+    _to: Node,
+    reached: &NodeSet,
+    distances: &mut [u16],
+) -> bool
     requires script { IsScript script.now }
     requires some { ArePathLengths script.now filter _to distances.old }
     ensures some { ArePathLengths script.now filter _to distances.new }
     ensures shorter { result ≡ true → total distances.new < total distances.old }
-    ensures settled { result ≡ false → (n : Node) → IsSettled script.now filter distances.new n }
+    ensures settled { result ≡ false → (n : Node) → IsIn reached.now n → IsSettled script.now filter distances.new n }
 {
     let mut shorter = false;
     for step in 0..distances.len() {
         let index = distances.len() - 1 - step;
-        if relax_at(script, filter, _to, index, distances) {
+        if relax_at(script, filter, _to, reached, index, distances) {
             shorter = true;
         }
     }
     shorter
 }
 
-/// Shortens the distance of the node with the place, and answers whether it is shorter now.
+/// Shortens the distance of the node with this index, if it is in the set, and answers whether it is shorter now.
 /// `_to` is there for the contract alone.
 fn relax_at(
     script: &Script,
     filter: EdgeFilter,
     _to: Node,
+    reached: &NodeSet,
     index: usize,
     distances: &mut [u16],
 ) -> bool
@@ -69,8 +94,11 @@ fn relax_at(
     ensures some { ArePathLengths script.now filter _to distances.new }
     ensures shorter { result ≡ true → total distances.new < total distances.old }
     ensures same { result ≡ false → distances.new ≡ distances.old }
-    ensures settled { result ≡ false → (n : Node) → node_index n ≡ index → IsSettled script.now filter distances.old n }
+    ensures settled { result ≡ false → (n : Node) → IsIn reached.now n → node_index n ≡ index → IsSettled script.now filter distances.old n }
 {
+    if !reached.has(index) {
+        return false;
+    }
     let distance = relaxed(script, filter, Node::nth(index), distances);
     if distance >= distances[index] {
         return false;

@@ -7,15 +7,22 @@
 #![tactic(auto)]
 
 mod answer;
+mod components;
 mod counting;
 mod distances;
 mod filter;
+mod kept_sets;
 pub mod laws;
 mod loops;
+mod members;
 mod node_set;
+mod order;
+mod other_side;
+mod reachable;
 mod reaching;
 pub mod rows;
 mod searching;
+mod sets;
 
 pub use answer::{Form, Found, Walk};
 pub use searching::search;

@@ -1,4 +1,4 @@
-//! The loop that is reported: the first closing edge, and the shortest distance back.
+//! The loop that is reported: the first closing edge, and the shortest way back.
 
 ghost use Rattle.std.specs.Prelude.{◌≡◌, ◌≢◌, ℕ, ◌+◌, ◌*◌, ◌<◌, ◌≤◌, ◌↔◌, length, IfOk, IsTrue, MatchOption};
 ghost use Rattle.sedck_flow.specs.declared.graph.Edge.{Edge};

@@ -2,9 +2,9 @@
 
 ghost use Rattle.std.specs.Prelude.{◌≡◌, ◌<◌, ◌≤◌, true, false, not, length, MatchOption};
 ghost use Rattle.sedck_search.specs.Rows.{bit_count};
-ghost use Rattle.sedck_search.specs.Private.NodeSet.{has, IsNodeSet, IsEmpty, HasChanged, HasNoneFrom, IsNext};
+ghost use Rattle.sedck_search.specs.Private.NodeSet.{has, IsNodeSet, IsEmpty, HasChanged, HasNoneFrom, IsNext, IsUnion};
 
-use crate::rows::count_bits;
+use crate::rows::{both, count_bits};
 use std::marker::Model;
 
 /// A set of nodes, one bit a node: those of 4,095 commands and the script's end, four each. It knows how many nodes it has.
@@ -32,7 +32,7 @@ impl NodeSet {
     pub(crate) fn new() -> NodeSet
         ensures nodes { IsEmpty result }
         ensures count { bit_count result ≡ 0 }
-        ensures row { IsNodeSet result }
+        ensures is_set { IsNodeSet result }
     {
         NodeSet {
             words: [0; 256],
@@ -44,7 +44,7 @@ impl NodeSet {
     pub(crate) fn clear(&mut self)
         ensures nodes { IsEmpty self.new }
         ensures count { bit_count self.new ≡ 0 }
-        ensures row { IsNodeSet self.new }
+        ensures is_set { IsNodeSet self.new }
     {
         self.words = [0; 256];
         self.count = 0;
@@ -54,7 +54,7 @@ impl NodeSet {
     pub(crate) fn has(&self, node: usize) -> bool
         requires { node < 16384 }
         ensures value { result ≡ has self.now node }
-        ensures row { IsNodeSet self.now }
+        ensures is_set { IsNodeSet self.now }
     {
         let words = &self.words;
         (words[node / 64] >> (node % 64)) & 1 == 1
@@ -66,7 +66,7 @@ impl NodeSet {
         ensures new { result ≡ not (has self.old node) }
         ensures same { result ≡ false → self.new ≡ self.old }
         ensures changed { HasChanged self.old self.new node true }
-        ensures row { IsNodeSet self.new }
+        ensures is_set { IsNodeSet self.new }
     {
         if self.has(node) {
             return false;
@@ -81,7 +81,7 @@ impl NodeSet {
         requires inside { node < 16384 }
         requires present { has self.old node ≡ true }
         ensures changed { HasChanged self.old self.new node false }
-        ensures row { IsNodeSet self.new }
+        ensures is_set { IsNodeSet self.new }
     {
         self.words[node / 64] &= !(1 << (node % 64));
         self.count -= 1;
@@ -112,11 +112,30 @@ impl NodeSet {
         None
     }
 
-    /// The number of nodes in the set.
-    pub(crate) fn count(&self) -> usize
-        ensures value { result ≡ bit_count self.now }
-        ensures row { IsNodeSet self.now }
+    /// Takes over the nodes of another set.
+    pub(crate) fn copy_from(&mut self, other: &NodeSet)
+        ensures same { self.new ≡ other.now }
+        ensures is_set { IsNodeSet self.new }
     {
-        count_bits(&self.words) as usize
+        self.words = other.words;
+        self.count = other.count;
+    }
+
+    /// Puts the nodes of another set in.
+    pub(crate) fn add_all(&mut self, other: &NodeSet)
+        ensures nodes { IsUnion self.old other.now self.new }
+        ensures is_set { IsNodeSet self.new }
+    {
+        let words = both(&self.words, &other.words);
+        self.words = words;
+        self.count = count_bits(&words) as usize;
+    }
+
+    /// The number of nodes in the set.
+    pub(crate) fn len(&self) -> usize
+        ensures value { result ≡ bit_count self.now }
+        ensures is_set { IsNodeSet self.now }
+    {
+        self.count
     }
 }

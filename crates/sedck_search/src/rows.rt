@@ -1,7 +1,8 @@
-//! Bits counted several words at a time.
+//! Words of bits: counted several words at a time, and put together.
 
 ghost use Rattle.std.specs.Prelude.{◌≡◌, ◌≤◌, length};
 ghost use Rattle.sedck_search.specs.Rows.{bit_count};
+ghost use Rattle.sedck_search.specs.Private.NodeSet.{AreWordsOfBoth};
 
 use std::simd::prelude::*;
 
@@ -32,4 +33,15 @@ fn count_each(words: &[u64]) -> u64
         count += u64::from(word.count_ones());
     }
     count
+}
+
+/// The words with the bits of both.
+pub(crate) fn both(left: &[u64; 256], right: &[u64; 256]) -> [u64; 256]
+    ensures { AreWordsOfBoth left.now right.now result }
+{
+    let mut words = *left;
+    for at in 0..256 {
+        words[at] |= right[at];
+    }
+    words
 }

@@ -15,6 +15,7 @@ use crate::answer::{Form, Found};
 use crate::counting::counts_of;
 use crate::filter::EdgeFilter;
 use crate::loops::{first_closing, loop_from};
+use crate::reachable::reachable_marks;
 use sedck_cert::Cert;
 use sedck_flow::Kind;
 use sedck_script::Script;
@@ -22,16 +23,17 @@ use std::alloc::{AllocError, Global};
 
 /// Searches for ranks. Where a loop rules them out, it answers the loop: an idle one where there is one, and else a growing one.
 ///
-/// Only nodes that one of the two starts reaches are looked at. The first rank of a node is the number of nodes that it reaches
+/// Only nodes that one of the two starts reaches are visited. The first rank of a node is the number of nodes that it reaches
 /// without reading a line, the second the number of those that it reaches while the pattern space is kept, itself among them each time.
 pub fn search(alloc: Global, script: &Script) -> Result<Found, AllocError>
     ensures { IfOk result (IsFound script.now) }
 {
-    let seconds = counts_of(alloc, script, EdgeFilter::Kept)?;
+    let marks = reachable_marks(alloc, script)?;
+    let seconds = counts_of(alloc, script, EdgeFilter::Kept, &marks)?;
     if let Some(edge) = first_closing(script, Kind::Keep, &seconds) {
         return Ok(Found::Loop(loop_from(alloc, script, Form::Idle, edge)?));
     }
-    let firsts = counts_of(alloc, script, EdgeFilter::Unread)?;
+    let firsts = counts_of(alloc, script, EdgeFilter::Unread, &marks)?;
     if let Some(edge) = first_closing(script, Kind::Grow, &firsts) {
         return Ok(Found::Loop(loop_from(alloc, script, Form::Growing, edge)?));
     }

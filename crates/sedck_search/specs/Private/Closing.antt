@@ -1,4 +1,4 @@
--- Edges that close a walk, told by the counts of their ends.
+-- Edges that close a walk, known by the counts of their ends.
 use Rattle.std.specs.Prelude.{◌≡◌, ℕ, ◌<◌, ◌≤◌, List, Some, slice_get}
 use Rattle.sedck_script.specs.Program.{Program}
 use Rattle.sedck_flow.specs.Nodes.{node_index}

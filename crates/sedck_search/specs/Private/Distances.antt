@@ -5,7 +5,7 @@ use Rattle.sedck_script.specs.Program.{Program}
 use Rattle.sedck_flow.specs.Nodes.{node_index, node_count}
 use Rattle.sedck_flow.specs.declared.graph.Node.{Node}
 use Rattle.sedck_flow.specs.declared.graph.Edge.{Edge}
-use Rattle.sedck_search.specs.Private.Reaching.{FollowedEdge}
+use Rattle.sedck_search.specs.Private.Reaching.{FollowedEdge, IsClosed, IsIn}
 use Rattle.sedck_search.specs.declared.filter.EdgeFilter.{EdgeFilter}
 
 -- the node has this distance, or this mark
@@ -33,10 +33,14 @@ pub record ArePathLengths (p : Program) (filter : EdgeFilter) (to : Node) (dista
 abbrev pub IsSettled : Program → EdgeFilter → List ℕ → Node → Type 0
 IsSettled p filter distances n = (e : Edge) → FollowedEdge p filter e → e.from ≡ n → (before after : ℕ) → HasDistance distances n before → HasDistance distances e.to after → before ≤ suc after
 
--- each distance is that of a shortest path
+-- Each distance is that of a shortest path, for the nodes of a set that the node is in and no followed edge leads out of. A closed walk from the node
+-- stays in it.
 pub record AreDistances (p : Program) (filter : EdgeFilter) (to : Node) (distances : List ℕ) : Type 0 where
   pub some : ArePathLengths p filter to distances
-  pub settled : (n : Node) → IsSettled p filter distances n
+  pub reach : List ℕ
+  pub closed : IsClosed p filter reach
+  pub here : IsIn reach to
+  pub settled : (n : Node) → IsIn reach n → IsSettled p filter distances n
 
 -- the sum of all distances and marks
 abbrev pub total : List ℕ → ℕ

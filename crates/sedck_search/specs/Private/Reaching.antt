@@ -9,7 +9,7 @@ use Rattle.sedck_flow.specs.declared.graph.Kind.{Kind}
 use Rattle.sedck_flow.specs.declared.graph.Kind.TheVariants.{Consume, Keep}
 use Rattle.sedck_search.specs.Obstacle.{IsPath, IsReachable}
 use Rattle.sedck_search.specs.Rows.{bit_count}
-use Rattle.sedck_search.specs.Private.NodeSet.{has, IsNodeSet, IsEmpty}
+use Rattle.sedck_search.specs.Private.NodeSet.{has, IsNodeSet}
 use Rattle.sedck_search.specs.declared.filter.EdgeFilter.{EdgeFilter}
 use Rattle.sedck_search.specs.declared.filter.EdgeFilter.TheVariants.{Every, Unread, Kept}
 
@@ -31,24 +31,24 @@ Reaches p filter from to = (path : List (Kind × Node)) × IsPath p from path to
 abbrev pub FollowedEdge : Program → EdgeFilter → Edge → Type 0
 FollowedEdge p filter e = Flow p e × IsFollowed filter e.kind
 
--- a node is in the row
+-- a node is in the set
 abbrev pub IsIn : List ℕ → Node → Type 0
-IsIn row n = has row (node_index n) ≡ true
+IsIn members n = has members (node_index n) ≡ true
 
--- no followed edge leads out of the row
+-- no followed edge leads out of the set
 abbrev pub IsClosed : Program → EdgeFilter → List ℕ → Type 0
-IsClosed p filter row = (e : Edge) → FollowedEdge p filter e → IsIn row e.from → IsIn row e.to
+IsClosed p filter members = (e : Edge) → FollowedEdge p filter e → IsIn members e.from → IsIn members e.to
 
--- the row has just the nodes that the node reaches
-pub record IsReachOf (p : Program) (filter : EdgeFilter) (n : Node) (row : List ℕ) : Type 0 where
-  pub is_row : IsNodeSet row
-  pub same : (m : Node) → IsIn row m ↔ Reaches p filter n m
+-- the set has just the nodes that the node reaches
+pub record IsReachOf (p : Program) (filter : EdgeFilter) (n : Node) (members : List ℕ) : Type 0 where
+  pub is_set : IsNodeSet members
+  pub same : (m : Node) → IsIn members m ↔ Reaches p filter n m
 
 -- the node reaches so many nodes, itself among them
 pub record IsReachCount (p : Program) (filter : EdgeFilter) (n : Node) (count : ℕ) : Type 0 where
-  pub row : List ℕ
-  pub reach : IsReachOf p filter n row
-  pub counts : bit_count row ≡ count
+  pub members : List ℕ
+  pub reach : IsReachOf p filter n members
+  pub counts : bit_count members ≡ count
 
 -- ---- The counts of a script's nodes, in their order
 
@@ -77,26 +77,3 @@ pub record AreCounted (p : Program) (filter : EdgeFilter) (counts : List ℕ) : 
 pub record ArePartlyCounted (p : Program) (filter : EdgeFilter) (counts : List ℕ) : Type 0 where
   pub long : length counts ≡ node_count (length p.commands)
   pub each : (n : Node) → n.at ≤ length p.commands → (IsReachable p n × (HasCount p filter counts n ⊎ IsUncounted counts n)) ⊎ HasNoCount p counts n
-
--- a row of all that some node reaches, or of none, and its size; no node is to be looked at
-pub record IsLast (p : Program) (filter : EdgeFilter) (row frontier : List ℕ) (count : ℕ) : Type 0 where
-  pub is_row : IsNodeSet row
-  pub closed : IsClosed p filter row
-  pub counts : bit_count row ≡ count
-  pub is_frontier : IsNodeSet frontier
-  pub idle : IsEmpty frontier
-
--- some followed edge leads from the node to the one with this place, and none to another
-pub record IsOnlyTarget (p : Program) (filter : EdgeFilter) (n : Node) (to : ℕ) : Type 0 where
-  pub edge : Edge
-  pub followed : FollowedEdge p filter edge
-  pub leaves : edge.from ≡ n
-  pub leads : node_index edge.to ≡ to
-  pub only : (e : Edge) → FollowedEdge p filter e → e.from ≡ n → node_index e.to ≡ to
-
--- a closed row has the node, and beside it no other nodes than this row
-pub record IsClosedBeside (p : Program) (filter : EdgeFilter) (row : List ℕ) (m : Node) : Type 0 where
-  pub wider : List ℕ
-  pub closed : IsClosed p filter wider
-  pub has_node : IsIn wider m
-  pub no_other : (k : Node) → IsIn wider k → IsIn row k ⊎ (k ≡ m)

@@ -1,70 +1,43 @@
-use Rattle.std.proofs.Common.{◌≤◌, sym, ap, ◌∙◌, subst, inl, inr, arith}
-use Rattle.std.proofs.lemmas.Bool.{true≢false}
+use Rattle.std.proofs.Common.{◌≡◌, ◌<◌, ◌≤◌, ℕ, sym, ◌∙◌, subst, subst₂, arith}
+use Rattle.std.specs.Prelude.{set}
+use Rattle.std.proofs.lemmas.Option.{get_or_from_slice_get, same_Some}
 use Rattle.sedck_flow.specs.Nodes.{node_index}
-use Rattle.sedck_flow.specs.declared.graph.Node.{Node}
-use Rattle.sedck_search.specs.declared.counting.Last.{Last}
-use Rattle.sedck_search.specs.Private.NodeSet.{has}
-use Rattle.sedck_search.specs.Private.Reaching.{IsIn, IsLast, Reaches}
+use Rattle.sedck_search.specs.Rows.{bit_count}
+use Rattle.sedck_search.specs.Private.Reaching.{ArePartlyCounted}
 use Rattle.sedck_search.proofs.NodeSets.{counts_node, count_within}
-use Rattle.sedck_search.proofs.Counts.{last_counts}
-use Rattle.sedck_search.proofs.counting.count_node.Goals.{then-not-goes_on+in_default, else-not-goes_on, then-not-has, else-not-has}
+use Rattle.sedck_search.proofs.Paths.{reaches_self}
+use Rattle.sedck_search.proofs.Scans.{entry_is, set_same, set_other}
+use Rattle.sedck_search.proofs.Counts.{counted_set, reach_count, partly_counts}
 use Rattle.sedck_search.proofs.counting.count_node.Goals as goal
 
-pub overflow_cast-last : goal.overflow_cast-last
-overflow_cast-last c = let small : c.count.result ≤ 16384 = omega (arith, c.count.ensures.value, count_within c.add_reached.new.row c.count.ensures.row) in
+pub find_reached-requires-clause-counts : goal.find_reached-requires-clause-counts
+find_reached-requires-clause-counts c = partly_counts c.args.script.now c.args.filter c.args.counts.now c.requires.counted
+
+pub overflow_cast-counts : goal.overflow_cast-counts
+overflow_cast-counts c =
+    let small : c.len.result ≤ 16384 = omega (arith, c.len.ensures.value, count_within c.find_reached.new.sets.reached c.len.ensures.is_set) in
     omega (arith, small)
 
--- the row that is scan on from has only nodes that the node reaches
-before : (c : goal.Joined-not-has) → IsLast c.args.script.now c.args.filter c.if-not-goes_on.last.row c.if-not-goes_on.last.frontier c.if-not-goes_on.last.count
-    × ((m : Node) → IsIn c.if-not-goes_on.last.row m → Reaches c.args.script.now c.args.filter c.args.node m)
-before c = elim c.if-not-goes_on.branch [
-  | then-not-goes_on+in_default w ↦ subst (λ (l : Last). IsLast c.args.script.now c.args.filter l.row l.frontier l.count
-      × ((m : Node) → IsIn l.row m → Reaches c.args.script.now c.args.filter c.args.node m)) (sym w.last-is) (
-        record {
-          is_row = w.clear.ensures.row;
-          closed = λ e followed x. absurd (true≢false (sym x ∙ w.clear.ensures.nodes (node_index e.from)));
-          counts = w.clear.ensures.count;
-          is_frontier = c.requires.last.is_frontier;
-          idle = c.requires.last.idle;
-        },
-        λ m x. absurd (true≢false (sym x ∙ w.clear.ensures.nodes (node_index m))),
-      )
-  | else-not-goes_on w ↦ subst (λ (l : Last). IsLast c.args.script.now c.args.filter l.row l.frontier l.count
-      × ((m : Node) → IsIn l.row m → Reaches c.args.script.now c.args.filter c.args.node m)) (sym w.last-is)
-      (c.requires.last, c.goes_on.ensures w.if-not-goes_on.false)
-]
+pub returns-then-counts-index-clause-counted : goal.returns-then-counts-index-clause-counted
+returns-then-counts-index-clause-counted c =
+    let p = c.args.script.now in
+    let s = c.find_reached.new.sets.reached in
+    let reach = c.find_reached.ensures.reached in
+    let positive = counts_node s reach.is_set (node_index c.nth.result) ((reach.same c.nth.result).1 (reaches_self p c.args.filter c.nth.result)) in
+    subst₂ (λ i v. ArePartlyCounted p c.args.filter (set c.args.counts.now i v)) c.nth.ensures (sym c.len.ensures.value)
+    (counted_set p c.args.filter c.args.counts.now c.requires.counted c.nth.result
+    (omega (arith, c.nth.ensures, c.requires.inside)) (bit_count s) (reach_count p c.args.filter c.nth.result s reach) positive
+    (count_within s reach.is_set) (entry_is c.args.counts.now c.nth.result c.args.index 65535 (sym c.nth.ensures)
+    (omega (arith, c.requires.counted.long, c.requires.inside)) c.if-counts-index.true))
 
--- then it has the node, and just those that the node reaches
-after : (c : goal.Joined-not-has) → IsLast c.args.script.now c.args.filter c.if-not-has.last.row c.if-not-has.last.frontier c.if-not-has.last.count
-    × IsIn c.if-not-has.last.row c.args.node × ((m : Node) → IsIn c.if-not-has.last.row m → Reaches c.args.script.now c.args.filter c.args.node m)
-after c = elim c.if-not-has.branch [
-  | then-not-has w ↦ subst (λ (l : Last). IsLast c.args.script.now c.args.filter l.row l.frontier l.count × IsIn l.row c.args.node
-      × ((m : Node) → IsIn l.row m → Reaches c.args.script.now c.args.filter c.args.node m)) (sym w.last-is) (
-        record {
-          is_row = w.count.ensures.row;
-          closed = w.add_reached.ensures.closed;
-          counts = sym w.count.ensures.value;
-          is_frontier = w.add_reached.ensures.rows.1;
-          idle = w.add_reached.ensures.idle;
-        },
-        w.add_reached.ensures.grown.node,
-        λ m x. elim (w.add_reached.ensures.grown.reached m x) [ inl old ↦ (before c).1 m old | inr reaches ↦ reaches ],
-      )
-  | else-not-has w ↦ subst (λ (l : Last). IsLast c.args.script.now c.args.filter l.row l.frontier l.count × IsIn l.row c.args.node
-      × ((m : Node) → IsIn l.row m → Reaches c.args.script.now c.args.filter c.args.node m)) (sym w.last-is)
-      ((before c).0, ap (has c.if-not-goes_on.last.row) (sym c.index.ensures) ∙ sym c.has.ensures.value ∙ w.if-not-has.false, (before c).1)
-]
+pub returns-then-counts-index-clause-done : goal.returns-then-counts-index-clause-done
+returns-then-counts-index-clause-done c = λ marked.
+    let same : c.len.result ≡ 65535 = same_Some _ _
+    (sym (set_same c.args.counts.now c.args.index c.len.result (omega (arith, c.requires.counted.long, c.requires.inside))) ∙ marked) in
+    absurd (omega (arith, same, c.len.ensures.value, count_within c.find_reached.new.sets.reached c.len.ensures.is_set))
 
-pub returns-clause-count : goal.returns-clause-count
-returns-clause-count c = last_counts c.args.script.now c.args.filter c.if-not-has.last.row c.if-not-has.last.frontier c.if-not-has.last.count (after c).0 c.args.node (after c).1
-    (after c).2
+pub returns-then-counts-index-clause-others : goal.returns-then-counts-index-clause-others
+returns-then-counts-index-clause-others c = λ i other. set_other c.args.counts.now c.args.index i c.len.result other
 
-pub returns-clause-positive : goal.returns-clause-positive
-returns-clause-positive c =
-    let last = (after c).0 in
-    omega (arith, counts_node c.if-not-has.last.row last.is_row (node_index c.args.node) (after c).1, last.counts)
-
-pub returns-clause-within : goal.returns-clause-within
-returns-clause-within c =
-    let last = (after c).0 in
-    omega (arith, count_within c.if-not-has.last.row last.is_row, last.counts)
+pub returns-else-counts-index-clause-done : goal.returns-else-counts-index-clause-done
+returns-else-counts-index-clause-done c = λ marked. c.if-counts-index.false (get_or_from_slice_get c.args.counts.now c.args.index 65535 0 marked)

@@ -1,9 +1,10 @@
-use Rattle.std.proofs.Common.{◌≡◌, ◌+◌, [], ◌∷◌, length, sym, ap, ◌∙◌, arith}
+use Rattle.std.proofs.Common.{◌≡◌, ◌+◌, [], ◌∷◌, length, sym, ap, ◌∙◌, subst, arith}
 use Rattle.std.specs.Prelude.{slice_get, eqb, if◌then◌else◌}
 use Rattle.std.proofs.lemmas.Bool.{ne_eqb}
 use Rattle.std.proofs.lemmas.List.{length-map, length-append}
 use Rattle.sedck_script.specs.View.{command_of}
 use Rattle.sedck_flow.specs.Nodes.{node_index, node_count}
+use Rattle.sedck_search.specs.Private.Distances.{ArePathLengths}
 use Rattle.sedck_search.proofs.DistanceLemmas.{first_distance, some_distances, entries_push, eqb_same}
 use Rattle.sedck_search.proofs.distances.distances_to.Goals.{then-index, else-index}
 use Rattle.sedck_search.proofs.distances.distances_to.Goals as goal
@@ -27,12 +28,13 @@ loop-index-preserved c =
           ∙ entries_push (first_distance (node_index c.args.to)) c.loop-index.distances.items c.loop-index.index c.if-index.push inv.long inv.entries (entry c) i below;
     }
 
-pub loop-filter-init : goal.loop-filter-init
-loop-filter-init c =
+pub settle-requires-clause-some : goal.settle-requires-clause-some
+settle-requires-clause-some c =
     let count : length c.commands.result.now ≡ length c.args.script.now.commands = sym (length-map c.commands.result.now command_of)
     ∙ ap length c.commands.ensures.commands in
     let inv = c.loop-index.invariant in
     let end : c.loop-index.index ≡ node_count (length c.args.script.now.commands) =
     omega (arith, count, c.loop-index-test.false, c.loop-index.auto.index-end) in
-    some_distances c.args.script.now c.args.filter c.args.to c.loop-index.distances.items (inv.long ∙ end) c.requires.inside
-    (λ i below. inv.entries i (omega (arith, below, inv.long)))
+    subst (ArePathLengths c.args.script.now c.args.filter c.args.to) (sym c.deref_mut.ensures.value)
+    (some_distances c.args.script.now c.args.filter c.args.to c.loop-index.distances.items (inv.long ∙ end) c.requires.inside
+    (λ i below. inv.entries i (omega (arith, below, inv.long))))

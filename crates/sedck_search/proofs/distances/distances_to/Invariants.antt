@@ -1,7 +1,6 @@
 use Rattle.std.proofs.Common.{◌≡◌, ℕ, ◌<◌, length}
 use Rattle.std.specs.Prelude.{Some, slice_get}
 use Rattle.sedck_flow.specs.Nodes.{node_index}
-use Rattle.sedck_search.specs.Private.Distances.{ArePathLengths, total}
 use Rattle.sedck_search.proofs.DistanceLemmas.{first_distance}
 use Rattle.sedck_search.proofs.distances.distances_to.Given as goal
 
@@ -11,9 +10,3 @@ invariant-loop-index l = record {
   long : length l.distances.items ≡ l.index;
   entries : (i : ℕ) → i < l.index → slice_get l.distances.items i ≡ Some (first_distance (node_index l.fn.to) i);
 }
-
-abbrev pub invariant-loop-filter : goal.invariant-loop-filter
-invariant-loop-filter l = ArePathLengths l.script l.filter l.to l.distances.items
-
-abbrev pub decreases-loop-filter : goal.decreases-loop-filter
-decreases-loop-filter l = total l.distances.items

@@ -1,6 +1,7 @@
 use Rattle.std.proofs.Common.{◌≡◌, ◌+◌, ◌<◌, ◌≤◌, true, false, length}
 use Rattle.sedck_flow.specs.Nodes.{node_index}
 use Rattle.sedck_flow.specs.declared.graph.Node.{Node}
+use Rattle.sedck_search.specs.Private.Reaching.{IsIn}
 use Rattle.sedck_search.specs.Private.Distances.{ArePathLengths, IsSettled, total}
 use Rattle.sedck_search.proofs.distances.relax_all.Given as goal
 
@@ -10,5 +11,5 @@ invariant-loop-step l = record {
   some : ArePathLengths l.script l.filter l._to l.distances;
   shorter : l.shorter ≡ true → total l.distances < total l.initial.distances;
   same : l.shorter ≡ false → l.distances ≡ l.initial.distances;
-  settled : l.shorter ≡ false → (n : Node) → length l.initial.distances ≤ node_index n + l.step → IsSettled l.script l.filter l.initial.distances n;
+  settled : l.shorter ≡ false → (n : Node) → IsIn l.reached n → length l.initial.distances ≤ node_index n + l.step → IsSettled l.script l.filter l.initial.distances n;
 }

@@ -7,7 +7,7 @@ use Rattle.sedck_search.proofs.DistanceLemmas.{distances_set}
 use Rattle.sedck_search.proofs.distances.relax_at.Goals as goal
 
 pub returns-then-distance-distances-clause-settled : goal.returns-then-distance-distances-clause-settled
-returns-then-distance-distances-clause-settled c = λ _ n is e followed leaves before after has to.
+returns-then-distance-distances-clause-settled c = λ _ n _ is e followed leaves before after has to.
     let at : before ≤ c.relaxed-distance.result = omega (arith, c.if-distance-distances.true, entry_of c.args.distances.now n c.args.index before (sym is) has) in
     let node : n ≡ c.nth.result = node_same n c.nth.result (is ∙ sym c.nth.ensures) in
     omega (arith, at, c.relaxed-distance.ensures.least e followed (leaves ∙ node) after to)

@@ -3,9 +3,12 @@ use Rattle.std.specs.Prelude.{slice_get}
 use Rattle.std.proofs.lemmas.Option.{get_or_from_slice_get}
 use Rattle.sedck_flow.specs.declared.graph.Edge.{Edge}
 use Rattle.sedck_search.specs.Private.Distances.{HasDistance, AreDistances}
+use Rattle.sedck_search.specs.Private.Reaching.{AreFollowed, FollowedEdge}
+use Rattle.sedck_search.specs.Private.Closing.{back_filter}
+use Rattle.sedck_search.proofs.Paths.{closed_reaches}
 use Rattle.sedck_search.specs.Private.ShortestLoop.{IsNearest}
 use Rattle.sedck_search.proofs.DistanceLemmas.{next_distance}
-use Rattle.sedck_search.proofs.ShortestLoops.{IsWalking, walking_begins, walking_goes_on, near_small, shortest_loop}
+use Rattle.sedck_search.proofs.ShortestLoops.{IsWalking, walking_begins, walking_goes_on, near_small, begin_reached, shortest_loop}
 use Rattle.sedck_search.proofs.loops.loop_from.Goals as goal
 
 pub loop-step-init : goal.loop-step-init
@@ -42,8 +45,13 @@ nearer_edge-edge-requires-clause-some c =
     let are_distances = subst (λ a. AreDistances p a c.args.closing.from distances) c.back_filter-filter.ensures c.in_ok-distances.ensures in
     let small : suc left < 65535 =
     omega (arith, near_small p c.requires.script c.args.form c.args.closing inv.first distances are_distances c.requires.closing inv.near, inv.distance) in
-    let next = next_distance p c.requires.script c.back_filter-filter.result c.args.closing.from distances c.in_ok-distances.ensures c.loop-step.at left
-    (subst (HasDistance distances c.loop-step.at) same inv.walking.has_distance) small in
+    let near = inv.near in
+    let begun = begin_reached p c.args.form c.args.closing.from distances are_distances inv.first near.is_edge (near.is_kind ∙ c.requires.closing.is_kind) near.leaves in
+    let reached = closed_reaches p (back_filter c.args.form) are_distances.reach are_distances.closed inv.walking.walked inv.first.to c.loop-step.at
+    inv.walking.path (subst (λ a. AreFollowed a inv.walking.walked) c.back_filter-filter.ensures inv.walking.followed) begun in
+    let next = subst (λ a. (e : Edge) × FollowedEdge p a e × (e.from ≡ c.loop-step.at) × HasDistance distances e.to left) (sym c.back_filter-filter.ensures)
+    (next_distance p c.requires.script (back_filter c.args.form) c.args.closing.from distances are_distances c.loop-step.at left reached
+    (subst (HasDistance distances c.loop-step.at) same inv.walking.has_distance) small) in
     (next.0, next.1, next.2, subst (λ w. HasDistance w next.0.to left) (sym c.deref-in-loop-step.ensures.value) next.3)
 
 pub loop-step-preserved : goal.loop-step-preserved
@@ -73,10 +81,10 @@ returns c =
     let distances = c.in_ok-distances.distances.items in
     let inv = c.loop-step.invariant in
     let none : c.index-distance.result.now - c.loop-step.step ≡ 0 = omega (arith, c.loop-step-test.false) in
-    let scan : c.loop-step.step ≡ inv.near.distance = omega (arith, c.loop-step-test.false, c.loop-step.auto.step-end, inv.distance) in
+    let done : c.loop-step.step ≡ inv.near.distance = omega (arith, c.loop-step-test.false, c.loop-step.auto.step-end, inv.distance) in
     let walking =
     subst₂ (λ a l. IsWalking p a distances inv.first c.loop-step.nodes.items c.loop-step.kinds.items c.loop-step.at c.loop-step.step l)
     c.back_filter-filter.ensures none inv.walking in
     shortest_loop p c.requires.script c.args.form c.args.closing inv.first distances c.loop-step.nodes.items c.loop-step.kinds.items c.loop-step.at c.loop-step.step
     (record { nodes = c.loop-step.nodes; kinds = c.loop-step.kinds; form = c.args.form })
-    (subst (λ a. AreDistances p a c.args.closing.from distances) c.back_filter-filter.ensures c.in_ok-distances.ensures) c.requires.closing inv.near walking scan refl refl refl
+    (subst (λ a. AreDistances p a c.args.closing.from distances) c.back_filter-filter.ensures c.in_ok-distances.ensures) c.requires.closing inv.near walking done refl refl refl

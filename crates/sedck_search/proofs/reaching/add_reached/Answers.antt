@@ -1,7 +1,7 @@
 use Rattle.std.proofs.Common.{◌≡◌, false, sym, ap, ◌∙◌, subst, arith}
 use Rattle.sedck_flow.specs.Nodes.{node_index}
 use Rattle.sedck_search.specs.Private.NodeSet.{has, HasChanged}
-use Rattle.sedck_search.specs.Private.Frontier.{AddsNodes, IsFollowedFrom}
+use Rattle.sedck_search.specs.Private.Frontier.{AddsTargets}
 use Rattle.sedck_search.specs.Private.Reaching.{IsIn}
 use Rattle.std.proofs.lemmas.Bool.{true≢false}
 use Rattle.sedck_search.proofs.Paths.{index_below, reaches_inside}
@@ -13,18 +13,18 @@ add_node-first-requires-clause-inside c = index_below c.args.script.now c.requir
 
 pub add_node-first-requires-clause-sets : goal.add_node-first-requires-clause-sets
 add_node-first-requires-clause-sets c = record {
-  is_row = c.requires.row;
+  is_set = c.requires.reached;
   is_frontier = c.requires.frontier;
   among = λ n w. absurd (true≢false (sym w ∙ c.requires.idle (node_index n)));
 }
 
 pub loop-index-init : goal.loop-index-init
 loop-index-init c =
-    search_begins c.args.script.now c.args.filter c.args.node c.args.row.now c.add_node-first.new.row c.args.frontier.now c.add_node-first.new.frontier
+    search_begins c.args.script.now c.args.filter c.args.node c.args.reached.now c.add_node-first.new.reached c.args.frontier.now c.add_node-first.new.frontier
     c.index.result c.add_node-first.result
-    c.requires.closed c.requires.idle c.add_node-first.ensures.sets c.add_node-first.ensures.add_reached c.add_node-first.ensures.added
+    c.requires.closed c.requires.idle c.add_node-first.ensures.sets c.add_node-first.ensures.node c.add_node-first.ensures.added
 
--- the node that is looked at waited
+-- the node that is visited was in the frontier
 pub visit-first-requires-clause-inside : goal.visit-first-requires-clause-inside
 visit-first-requires-clause-inside c =
     let waits : IsIn c.loop-index.frontier c.nth.result = ap (has c.loop-index.frontier) c.nth.ensures ∙ c.in-Some.ensures.2 in
@@ -35,33 +35,31 @@ pub visit-first-requires-clause-sets : goal.visit-first-requires-clause-sets
 visit-first-requires-clause-sets c =
     let removed = subst (λ i. HasChanged c.loop-index.frontier c.remove.new.self i false) (sym c.nth.ensures) c.remove.ensures.changed in
     record {
-      is_row = c.loop-index.invariant.sets.is_row;
-      is_frontier = c.remove.ensures.row;
+      is_set = c.loop-index.invariant.sets.is_set;
+      is_frontier = c.remove.ensures.is_set;
       among = λ k w. c.loop-index.invariant.sets.among k (removed_was c.loop-index.frontier c.remove.new.self c.nth.result removed k w);
     }
 
 pub loop-index-smaller : goal.loop-index-smaller
 loop-index-smaller c =
     let is : node_index c.nth.result ≡ c.in-Some.index = c.nth.ensures in
-    search_shrinks c.args.script.now c.args.filter c.args.node c.args.row.now c.loop-index.row c.loop-index.frontier c.remove.new.self
-    c.visit-first.new.row c.visit-first.new.frontier c.loop-index.first c.visit-first.result c.nth.result
+    search_shrinks c.args.script.now c.args.filter c.args.node c.args.reached.now c.loop-index.reached c.loop-index.frontier c.remove.new.self
+    c.visit-first.new.reached c.visit-first.new.frontier c.loop-index.first c.visit-first.result c.nth.result
     c.loop-index.invariant (ap (has c.loop-index.frontier) is ∙ c.in-Some.ensures.2) (λ k least less. c.in-Some.ensures.3 k least (omega (arith, less, is)))
     (subst (λ i. HasChanged c.loop-index.frontier c.remove.new.self i false) (sym is) c.remove.ensures.changed) c.visit-first.ensures.sets
-    (subst (λ i. AddsNodes
-    (IsFollowedFrom c.args.script.now c.args.filter c.nth.result) c.loop-index.row c.remove.new.self c.visit-first.new.row
-    c.visit-first.new.frontier i c.visit-first.result) (sym is) c.visit-first.ensures.add_reached)
-    c.visit-first.ensures.added c.remove.ensures.row
+    (subst (λ i. AddsTargets c.args.script.now c.args.filter c.nth.result c.loop-index.reached c.remove.new.self c.visit-first.new.reached
+    c.visit-first.new.frontier i c.visit-first.result) (sym is) c.visit-first.ensures.targets)
+    c.visit-first.ensures.added c.remove.ensures.is_set
 
 pub loop-index-preserved : goal.loop-index-preserved
 loop-index-preserved c =
     let is : node_index c.nth.result ≡ c.in-Some.index = c.nth.ensures in
-    search_goes_on c.args.script.now c.args.filter c.args.node c.args.row.now c.loop-index.row c.loop-index.frontier c.remove.new.self
-    c.visit-first.new.row c.visit-first.new.frontier c.loop-index.first c.visit-first.result c.nth.result
+    search_goes_on c.args.script.now c.args.filter c.args.node c.args.reached.now c.loop-index.reached c.loop-index.frontier c.remove.new.self
+    c.visit-first.new.reached c.visit-first.new.frontier c.loop-index.first c.visit-first.result c.nth.result
     c.loop-index.invariant (ap (has c.loop-index.frontier) is ∙ c.in-Some.ensures.2) (λ k least less. c.in-Some.ensures.3 k least (omega (arith, less, is)))
     (subst (λ i. HasChanged c.loop-index.frontier c.remove.new.self i false) (sym is) c.remove.ensures.changed) c.visit-first.ensures.sets
-    (subst (λ i. AddsNodes
-    (IsFollowedFrom c.args.script.now c.args.filter c.nth.result) c.loop-index.row c.remove.new.self c.visit-first.new.row
-    c.visit-first.new.frontier i c.visit-first.result) (sym is) c.visit-first.ensures.add_reached)
+    (subst (λ i. AddsTargets c.args.script.now c.args.filter c.nth.result c.loop-index.reached c.remove.new.self c.visit-first.new.reached
+    c.visit-first.new.frontier i c.visit-first.result) (sym is) c.visit-first.ensures.targets)
     c.visit-first.ensures.added
 
 pub remove-requires-clause-present : goal.remove-requires-clause-present
@@ -69,16 +67,16 @@ remove-requires-clause-present c = c.in-Some.ensures.2
 
 -- none waits any more
 pub returns-clause-closed : goal.returns-clause-closed
-returns-clause-closed c = (search_ends c.args.script.now c.args.filter c.args.node c.args.row.now c.loop-index.row c.loop-index.frontier c.loop-index.first
+returns-clause-closed c = (search_ends c.args.script.now c.args.filter c.args.node c.args.reached.now c.loop-index.reached c.loop-index.frontier c.loop-index.first
     c.loop-index.invariant c.in_default.ensures).0
 
 pub returns-clause-grown : goal.returns-clause-grown
-returns-clause-grown c = (search_ends c.args.script.now c.args.filter c.args.node c.args.row.now c.loop-index.row c.loop-index.frontier c.loop-index.first
+returns-clause-grown c = (search_ends c.args.script.now c.args.filter c.args.node c.args.reached.now c.loop-index.reached c.loop-index.frontier c.loop-index.first
     c.loop-index.invariant c.in_default.ensures).1
 
-pub returns-clause-rows : goal.returns-clause-rows
-returns-clause-rows c = (c.loop-index.invariant.sets.is_row, c.loop-index.invariant.sets.is_frontier)
+pub returns-clause-sets : goal.returns-clause-sets
+returns-clause-sets c = (c.loop-index.invariant.sets.is_set, c.loop-index.invariant.sets.is_frontier)
 
 pub returns-clause-idle : goal.returns-clause-idle
-returns-clause-idle c = frontier_empty c.args.script.now c.args.filter c.args.node c.args.row.now c.loop-index.row c.loop-index.frontier c.loop-index.first
+returns-clause-idle c = frontier_empty c.args.script.now c.args.filter c.args.node c.args.reached.now c.loop-index.reached c.loop-index.frontier c.loop-index.first
     c.loop-index.invariant c.in_default.ensures

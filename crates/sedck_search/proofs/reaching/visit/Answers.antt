@@ -1,41 +1,57 @@
-use Rattle.std.proofs.Common.{◌≡◌, sym, subst}
+use Rattle.std.proofs.Common.{◌≡◌, ◌≤◌, ℕ, List, length, sym, subst, inl, inr}
+use Rattle.sedck_script.specs.Program.{Program}
 use Rattle.sedck_flow.specs.Flow.{Flow}
 use Rattle.sedck_flow.specs.declared.graph.Node.{Node}
 use Rattle.sedck_flow.specs.declared.graph.Edge.{Edge}
 use Rattle.sedck_flow.proofs.EdgesInside.{inside}
-use Rattle.sedck_search.specs.Private.Reaching.{IsFollowed, IsIn}
-use Rattle.sedck_search.specs.Private.Frontier.{IsFollowedFrom}
-use Rattle.sedck_search.proofs.Paths.{index_below}
+use Rattle.sedck_search.specs.declared.filter.EdgeFilter.{EdgeFilter}
+use Rattle.sedck_search.specs.Private.Reaching.{IsFollowed, IsIn, Reaches}
+use Rattle.sedck_search.specs.Private.KeptSets.{AreCounts, AreKept}
+use Rattle.sedck_search.specs.Private.Frontier.{AddsTarget, AddsTargets, AreSearchSets}
+use Rattle.sedck_search.proofs.Counts.{kept_reached}
+use Rattle.sedck_search.proofs.Paths.{index_below, reaches_from}
 use Rattle.sedck_search.proofs.Scans.{AreScanned, edge_coming, scan_more}
-use Rattle.sedck_search.proofs.Frontiers.{added_then, added_among}
+use Rattle.sedck_search.proofs.Frontiers.{targets_none, targets_then, targets_node, targets_kept}
 use Rattle.sedck_search.proofs.reaching.visit.Goals as goal
 
-pub add_node-first-requires-clause-inside : goal.add_node-first-requires-clause-inside
-add_node-first-requires-clause-inside c =
+pub add_target-first-requires-clause-inside : goal.add_target-first-requires-clause-inside
+add_target-first-requires-clause-inside c =
     let scan = subst (λ coming. AreScanned c.args.script.now c.args.node c.loop-edge.yielded coming
-    (λ e. IsFollowed c.args.filter e.kind → IsIn c.loop-edge.row e.to)) c.in-Some.ensures.steps c.loop-edge.invariant.edges in
+    (λ e. IsFollowed c.args.filter e.kind → IsIn c.loop-edge.reached e.to)) c.in-Some.ensures.steps c.loop-edge.invariant.edges in
     let flow = edge_coming c.args.script.now c.args.node c.loop-edge.yielded c.next.new.self c.in-Some.edge scan in
     index_below c.args.script.now c.requires.script c.in-Some.edge.to (inside c.args.script.now c.requires.script.targets c.in-Some.edge flow.0).1
 
--- the target is in the row now
+-- one target, or what it reaches
+one_target : (p : Program) (filter : EdgeFilter) (from to : Node) → Reaches p filter from to → to.at ≤ length p.commands
+    → (sets : List (List ℕ)) (counts members frontier members' frontier' : List ℕ) (first first' : ℕ) → AreKept p filter sets → AreCounts p filter counts
+    → AreSearchSets members frontier → AreSearchSets members' frontier' → AddsTarget sets counts to members frontier members' frontier' first first'
+    → AddsTargets p filter from members frontier members' frontier' first first'
+one_target p filter from to r inside sets counts members frontier members' frontier' first first' kept are before after (inl node) =
+    targets_node p filter from to r members frontier members' frontier' first first' before node
+one_target p filter from to r inside sets counts members frontier members' frontier' first first' kept are before after (inr k) =
+    let reached = kept_reached p filter sets counts k.set to kept are inside k.is_set k.is_kept in
+    subst (λ f. AddsTargets p filter from members frontier members' f first first') (sym k.same)
+    (subst (λ i. AddsTargets p filter from members frontier members' frontier first i) (sym k.same_first)
+    (targets_kept p filter from to r members frontier members' k.set first before.is_set after.is_set k.union reached.0 reached.1))
+
+-- the target is in the set now
 pub loop-edge-preserved-then-follows : goal.loop-edge-preserved-then-follows
 loop-edge-preserved-then-follows c =
     let p = c.args.script.now in
     let node : Node = c.args.node in
     let e : Edge = c.in-Some.edge in
     let scan = subst (λ coming. AreScanned p node c.loop-edge.yielded coming
-    (λ f. IsFollowed c.args.filter f.kind → IsIn c.loop-edge.row f.to)) c.in-Some.ensures.steps c.loop-edge.invariant.edges in
+    (λ f. IsFollowed c.args.filter f.kind → IsIn c.loop-edge.reached f.to)) c.in-Some.ensures.steps c.loop-edge.invariant.edges in
     let flow = edge_coming p node c.loop-edge.yielded c.next.new.self e scan in
-    let from_node : IsFollowedFrom p c.args.filter node e.to =
-    (e.kind, (subst (λ m. Flow p (record { from = m; to = e.to; kind = e.kind })) flow.1 flow.0, c.follows.ensures.0 c.if-follows.true)) in
+    let one = one_target p c.args.filter node e.to (reaches_from p c.args.filter node e flow (c.follows.ensures.0 c.if-follows.true))
+    (inside p c.requires.script.targets e flow.0).1 c.args.kept.now.sets.items c.args.counts.now c.loop-edge.reached c.loop-edge.frontier
+    c.add_target-first.new.reached c.add_target-first.new.frontier c.loop-edge.first c.add_target-first.result c.requires.kept c.requires.counts
+    c.loop-edge.invariant.sets c.add_target-first.ensures.sets c.add_target-first.ensures.target in
     record {
       edges = scan_more p node c.loop-edge.yielded c.next.new.self e scan
-          (λ f held followed. c.add_node-first.ensures.add_reached.kept f.to (held followed)) (λ _. c.add_node-first.ensures.added);
-      sets = c.add_node-first.ensures.sets;
-      add_reached = added_then
-          (IsFollowedFrom p c.args.filter node) c.args.row.now c.args.frontier.now c.loop-edge.row c.loop-edge.frontier c.add_node-first.new.row
-          c.add_node-first.new.frontier c.args.first c.loop-edge.first c.add_node-first.result
-          c.loop-edge.invariant.add_reached
-          (added_among (λ n. n ≡ e.to) (IsFollowedFrom p c.args.filter node) (λ n same. subst (IsFollowedFrom p c.args.filter node) (sym same) from_node)
-          c.loop-edge.row c.loop-edge.frontier c.add_node-first.new.row c.add_node-first.new.frontier c.loop-edge.first c.add_node-first.result c.add_node-first.ensures.add_reached);
+          (λ f held followed. one.kept f.to (held followed)) (λ _. c.add_target-first.ensures.added);
+      sets = c.add_target-first.ensures.sets;
+      targets = targets_then p c.args.filter node c.args.reached.now c.args.frontier.now c.loop-edge.reached c.loop-edge.frontier
+          c.add_target-first.new.reached c.add_target-first.new.frontier c.args.first c.loop-edge.first c.add_target-first.result
+          c.loop-edge.invariant.targets one;
     }

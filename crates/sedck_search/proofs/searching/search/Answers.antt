@@ -1,6 +1,8 @@
 use Rattle.std.proofs.Common.{sym, ◌∙◌, subst}
 use Rattle.sedck_flow.specs.declared.graph.Edge.{Edge}
 use Rattle.sedck_flow.specs.declared.graph.Kind.TheVariants.{Keep, Grow}
+use Rattle.sedck_search.specs.Private.Reaching.{ArePartlyCounted}
+use Rattle.sedck_search.specs.declared.filter.EdgeFilter.TheVariants.{Kept, Unread}
 use Rattle.sedck_search.specs.Private.Closing.{Closes, IsFirstClosing}
 use Rattle.sedck_search.specs.declared.answer.Form.TheVariants.{Idle, Growing}
 use Rattle.sedck_search.proofs.ClosedWalks.{closes_back, idle_loop, growing_loop}
@@ -9,35 +11,43 @@ use Rattle.sedck_search.proofs.searching.search.Goals as goal
 pub loop_from-requires-clause-closing : goal.loop_from-requires-clause-closing
 loop_from-requires-clause-closing c =
     let p = c.args.script.now in
-    let first = subst (λ counts. IsFirstClosing p Keep counts c.in-Some.edge) c.deref.ensures.value c.in-Some.ensures in
-    closes_back p c.in_ok-seconds.ensures.script Idle c.in_ok-seconds.seconds.items c.in_ok-seconds.ensures.counts c.in-Some.edge first.closes
+    let first = subst (λ counts. IsFirstClosing p Keep counts c.in-Some.edge) c.deref-2.ensures.value c.in-Some.ensures in
+    closes_back p c.in_ok-marks.ensures.script Idle c.in_ok-seconds.seconds.items c.in_ok-seconds.ensures c.in-Some.edge first.closes
 
 pub returns-in-Some : goal.returns-in-Some
 returns-in-Some c =
     let p = c.args.script.now in
-    let first = subst (λ counts. IsFirstClosing p Keep counts c.in-Some.edge) c.deref.ensures.value c.in-Some.ensures in
-    idle_loop p c.in_ok-seconds.ensures.script c.in_ok-seconds.seconds.items c.in_ok-seconds.ensures.counts c.in-Some.edge first
+    let first = subst (λ counts. IsFirstClosing p Keep counts c.in-Some.edge) c.deref-2.ensures.value c.in-Some.ensures in
+    idle_loop p c.in_ok-marks.ensures.script c.in_ok-seconds.seconds.items c.in_ok-seconds.ensures c.in-Some.edge first
     c.in_ok-loop_from.field-0 c.in_ok-loop_from.ensures
 
 pub loop_from-requires-in-Some-first_closing-clause-closing : goal.loop_from-requires-in-Some-first_closing-clause-closing
 loop_from-requires-in-Some-first_closing-clause-closing c =
     let p = c.args.script.now in
-    let first = subst (λ counts. IsFirstClosing p Grow counts c.in-Some-first_closing.edge) c.deref-2.ensures.value c.in-Some-first_closing.ensures in
-    closes_back p c.in_ok-seconds.ensures.script Growing c.in_ok-firsts.firsts.items c.in_ok-firsts.ensures.counts c.in-Some-first_closing.edge first.closes
+    let first = subst (λ counts. IsFirstClosing p Grow counts c.in-Some-first_closing.edge) c.deref-4.ensures.value c.in-Some-first_closing.ensures in
+    closes_back p c.in_ok-marks.ensures.script Growing c.in_ok-firsts.firsts.items c.in_ok-firsts.ensures c.in-Some-first_closing.edge first.closes
 
 pub returns-in-Some-first_closing : goal.returns-in-Some-first_closing
 returns-in-Some-first_closing c =
     let p = c.args.script.now in
-    let none = subst (λ counts. (e : Edge) → ¬ Closes p Keep counts e) c.deref.ensures.value c.in_default.ensures in
-    let first = subst (λ counts. IsFirstClosing p Grow counts c.in-Some-first_closing.edge) c.deref-2.ensures.value c.in-Some-first_closing.ensures in
-    growing_loop p c.in_ok-seconds.ensures.script c.in_ok-seconds.seconds.items c.in_ok-seconds.ensures.counts none c.in_ok-firsts.firsts.items
-    c.in_ok-firsts.ensures.counts c.in-Some-first_closing.edge first c.in_ok-loop_from-2.field-0 c.in_ok-loop_from-2.ensures
+    let none = subst (λ counts. (e : Edge) → ¬ Closes p Keep counts e) c.deref-2.ensures.value c.in_default.ensures in
+    let first = subst (λ counts. IsFirstClosing p Grow counts c.in-Some-first_closing.edge) c.deref-4.ensures.value c.in-Some-first_closing.ensures in
+    growing_loop p c.in_ok-marks.ensures.script c.in_ok-seconds.seconds.items c.in_ok-seconds.ensures none c.in_ok-firsts.firsts.items
+    c.in_ok-firsts.ensures c.in-Some-first_closing.edge first c.in_ok-loop_from-2.field-0 c.in_ok-loop_from-2.ensures
 
 pub certificate-requires-clause-idle : goal.certificate-requires-clause-idle
 certificate-requires-clause-idle c =
-    subst (λ counts. (e : Edge) → ¬ Closes c.args.script.now Keep counts e) (c.deref.ensures.value ∙ sym c.deref-4.ensures.value) c.in_default.ensures
+    subst (λ counts. (e : Edge) → ¬ Closes c.args.script.now Keep counts e) (c.deref-2.ensures.value ∙ sym c.deref-6.ensures.value) c.in_default.ensures
 
 pub certificate-requires-clause-growing : goal.certificate-requires-clause-growing
 certificate-requires-clause-growing c =
     subst (λ counts. (e : Edge) → ¬ Closes c.args.script.now Grow counts e)
-    (c.deref-2.ensures.value ∙ sym c.deref-3.ensures.value) c.in_default-first_closing.ensures
+    (c.deref-4.ensures.value ∙ sym c.deref-5.ensures.value) c.in_default-first_closing.ensures
+
+pub counts_of-requires-clause-marks : goal.counts_of-requires-clause-marks
+counts_of-requires-clause-marks c =
+    subst (λ marks. ArePartlyCounted c.args.script.now Kept marks) (sym c.deref.ensures.value) (c.in_ok-marks.ensures.marks Kept)
+
+pub counts_of-requires-2-clause-marks : goal.counts_of-requires-2-clause-marks
+counts_of-requires-2-clause-marks c =
+    subst (λ marks. ArePartlyCounted c.args.script.now Unread marks) (sym c.deref-3.ensures.value) (c.in_ok-marks.ensures.marks Unread)

@@ -1,12 +1,12 @@
 use Rattle.std.proofs.Common.{sym}
-use Rattle.sedck_search.proofs.NodeBits.{empty_row, empty_nodes, empty_count}
+use Rattle.sedck_search.proofs.NodeBits.{empty_set, empty_nodes, empty_count}
 use Rattle.sedck_search.proofs.node_set.NodeSet.clear.Goals as goal
 
 pub invariant_of-self : goal.invariant_of-self
-invariant_of-self c = (empty_row, sym empty_count)
+invariant_of-self c = (empty_set, sym empty_count)
 
 pub returns-clause-nodes : goal.returns-clause-nodes
 returns-clause-nodes c = empty_nodes
 
-pub returns-clause-row : goal.returns-clause-row
-returns-clause-row c = empty_row
+pub returns-clause-is_set : goal.returns-clause-is_set
+returns-clause-is_set c = empty_set

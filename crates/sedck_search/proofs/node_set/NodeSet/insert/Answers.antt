@@ -1,6 +1,6 @@
 use Rattle.std.proofs.Common.{◌≡◌, ◌/◌, subst, false, true, refl, sym, ap, ◌∙◌, set, arith}
 use Rattle.sedck_search.specs.Private.NodeSet.{has, HasChanged}
-use Rattle.sedck_search.proofs.NodeBits.{inserted, inserted_row, with_bit}
+use Rattle.sedck_search.proofs.NodeBits.{inserted, inserted_set, with_bit}
 use Rattle.sedck_search.proofs.NodeSets.{inserted_count, count_within}
 use Rattle.sedck_search.proofs.node_set.NodeSet.insert.Goals as goal
 
@@ -9,11 +9,11 @@ overflow_add-self c = omega (arith, c.self.invariant.1, count_within c.self.insi
 
 pub invariant_of-self : goal.invariant_of-self
 invariant_of-self c =
-    let row = inserted_row c.self.inside.words c.args.node c.requires c.self.invariant.0 in
+    let members = inserted_set c.self.inside.words c.args.node c.requires c.self.invariant.0 in
     let absent : has c.self.inside.words c.args.node ≡ false = ap (λ words. has words c.args.node) c.self.view_is ∙ sym c.has.ensures.value ∙ c.if-has.false in
     let more = inserted_count c.self.inside.words (set c.self.inside.words (c.args.node / 64) (with_bit c.self.inside.words c.args.node)) c.self.invariant.0
-    row c.args.node (inserted c.self.inside.words c.args.node c.requires c.self.invariant.0) absent in
-    (row, omega (arith, more, c.self.invariant.1))
+    members c.args.node (inserted c.self.inside.words c.args.node c.requires c.self.invariant.0) absent in
+    (members, omega (arith, more, c.self.invariant.1))
 
 pub returns-then-has-clause-changed : goal.returns-then-has-clause-changed
 returns-then-has-clause-changed c = record { at = sym c.has.ensures.value ∙ c.if-has.true; others = λ i other. refl }
@@ -23,5 +23,5 @@ returns-clause-changed c =
     subst (λ before. HasChanged before (set c.self.inside.words (c.args.node / 64) (with_bit c.self.inside.words c.args.node)) c.args.node true) c.self.view_is
     (inserted c.self.inside.words c.args.node c.requires c.self.invariant.0)
 
-pub returns-clause-row : goal.returns-clause-row
-returns-clause-row c = inserted_row c.self.inside.words c.args.node c.requires c.self.invariant.0
+pub returns-clause-is_set : goal.returns-clause-is_set
+returns-clause-is_set c = inserted_set c.self.inside.words c.args.node c.requires c.self.invariant.0

@@ -6,7 +6,7 @@ use Rattle.sedck_search.proofs.NextNode.{first_next, first_none, later_next, lat
 use Rattle.sedck_search.proofs.node_set.NodeSet.next_from.Goals as goal
 
 pub returns-then-self-eq0 : goal.returns-then-self-eq0
-returns-then-self-eq0 c = λ i _. subst (λ row. has row i ≡ false) c.self.view_is
+returns-then-self-eq0 c = λ i _. subst (λ members. has members i ≡ false) c.self.view_is
     (count_none c.self.inside.words c.self.invariant.0 (sym c.self.invariant.1 ∙ c.if-self-eq0.true) i)
 
 pub returns-then-first-ge256 : goal.returns-then-first-ge256

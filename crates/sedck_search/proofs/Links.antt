@@ -1,0 +1,57 @@
+-- Links of nodes in the depth-first search, and what members of a component count.
+use Rattle.std.proofs.Common.{◌≡◌, ◌≢◌, ℕ, ◌<◌, ◌≤◌, List, length, sym, ap, ◌∙◌, subst, inl, inr, arith}
+use Rattle.std.specs.Prelude.{Some, slice_get, set}
+use Rattle.std.proofs.lemmas.Bool.{cases_eq}
+use Rattle.std.proofs.lemmas.Option.{same_Some}
+use Rattle.sedck_script.specs.Program.{Program}
+use Rattle.sedck_flow.specs.Nodes.{node_index, node_count}
+use Rattle.sedck_flow.specs.declared.graph.Node.{Node}
+use Rattle.sedck_flow.proofs.NodeLemmas.{node_same}
+use Rattle.sedck_search.specs.Rows.{bit_count}
+use Rattle.sedck_search.specs.Private.NodeSet.{IsNodeSet}
+use Rattle.sedck_search.specs.Private.Reaching.{ArePartlyCounted, IsClosed, Reaches}
+use Rattle.sedck_search.specs.Private.Components.{AreIndices, AreLinks, IsMember, IsOrder, IsOrderOf}
+use Rattle.sedck_search.specs.declared.filter.EdgeFilter.{EdgeFilter}
+use Rattle.sedck_search.specs.declared.order.Order.{Order}
+use Rattle.sedck_search.proofs.NodeSets.{counts_node, count_within}
+use Rattle.sedck_search.proofs.Paths.{reaches_self}
+use Rattle.sedck_search.proofs.Scans.{set_same, set_other}
+use Rattle.sedck_search.proofs.Counts.{counted_at, counted_set, closed_reached, closed_reach, reach_count}
+
+module _ (p : Program) (filter : EdgeFilter) where
+  -- each node reaches itself
+  pub own_links : (links : List ℕ) → AreIndices links → AreLinks p filter links
+  own_links links own n m is = subst (λ k. Reaches p filter n k) (node_same n m (sym (own (node_index n) (node_index m) is))) (reaches_self p filter n)
+
+  -- one node is linked anew
+  links_set : (links : List ℕ) → AreLinks p filter links → (n : Node) (to : ℕ) → node_index n < length links
+      → ((m : Node) → node_index m ≡ to → Reaches p filter n m) → AreLinks p filter (set links (node_index n) to)
+  links_set links old n to below reached k m is = elim (cases_eq (node_index k) (node_index n)) [
+    | inl same ↦
+        let value : to ≡ node_index m = same_Some _ _ (sym (set_same links (node_index n) to below)
+        ∙ ap (slice_get (set links (node_index n) to)) (sym same) ∙ is) in
+        subst (λ j. Reaches p filter j m) (sym (node_same k n same)) (reached m (sym value))
+    | inr other ↦ old k m (sym (set_other links (node_index n) (node_index k) to other) ∙ is)
+  ]
+
+  pub linked_order : (before after : Order) → IsOrderOf p filter before → (n : Node) (to index : ℕ) → node_index n ≡ index
+      → index < node_count (length p.commands) → IsOrder after → length after.parents.items ≡ length before.parents.items
+      → after.links.items ≡ set before.links.items index to → ((m : Node) → node_index m ≡ to → Reaches p filter n m) → IsOrderOf p filter after
+  linked_order before after order n to index is below is_order long links reached = record {
+    is_order = is_order;
+    long = long ∙ order.long;
+    links = subst (AreLinks p filter) (ap (λ i. set before.links.items i to) is ∙ sym links)
+        (links_set before.links.items order.links n to (omega (arith, is, below, order.long, order.is_order.links_long)) reached);
+  }
+
+  -- a member reaches all nodes of the set, by the node that it links to
+  pub member_counted : (counts : List ℕ) → ArePartlyCounted p filter counts → (s : List ℕ) → IsNodeSet s → IsClosed p filter s → (n m : Node)
+      → n.at ≤ length p.commands → m.at ≤ length p.commands → Reaches p filter n m → IsMember s counts (node_index n) (node_index m)
+      → slice_get counts (node_index n) ≡ Some 65535 → ArePartlyCounted p filter (set counts (node_index n) (bit_count s))
+  member_counted counts partly s is_set closed n m n_inside m_inside r member marked =
+      let positive = counts_node s is_set (node_index n) member.has_node in
+      let within = count_within s is_set in
+      let is_count = counted_at p filter counts partly m m_inside (bit_count s) member.count
+      (counts_node s is_set (node_index m) member.has_link) (omega (arith, within)) in
+      counted_set p filter counts partly n n_inside (bit_count s) (reach_count p filter n s (closed_reach p filter s is_set closed n member.has_node
+      (closed_reached p filter s is_set closed n m r member.has_link is_count))) positive within marked

@@ -1,0 +1,12 @@
+use Rattle.std.proofs.Common.{◌<◌, length}
+use Rattle.sedck_search.specs.Private.Components.{AreSets, IsOrderOf}
+use Rattle.sedck_search.specs.Private.Reaching.{ArePartlyCounted}
+use Rattle.sedck_search.proofs.components.count_from.Given as goal
+
+abbrev pub invariant-loop : goal.invariant-loop
+invariant-loop l = record {
+  order : IsOrderOf l.script l.filter l.order;
+  sets : AreSets l.script l.filter l.sets;
+  counted : ArePartlyCounted l.script l.filter l.counts;
+  at : l.at < length l.counts;
+}

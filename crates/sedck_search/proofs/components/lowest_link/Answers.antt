@@ -1,0 +1,49 @@
+use Rattle.std.proofs.Common.{◌≡◌, ◌<◌, ℕ, List, length, get_or, refl, sym, ap, ◌∙◌, arith}
+use Rattle.std.specs.Prelude.{Some, slice_get}
+use Rattle.sedck_flow.specs.Nodes.{node_index}
+use Rattle.sedck_flow.specs.declared.graph.Node.{Node}
+use Rattle.sedck_flow.specs.declared.graph.Edge.{Edge}
+use Rattle.sedck_search.proofs.Paths.{reaches-trans, reaches_from}
+use Rattle.sedck_search.proofs.Scans.{scan_next, scan_more, edge_coming, target_coming, place_in, entry_is}
+use Rattle.sedck_search.proofs.components.lowest_link.Goals as goal
+
+pub bounds-counts-to : goal.bounds-counts-to
+bounds-counts-to c =
+    let p = c.args.script.now in
+    let scan = scan_next p c.args.node c.loop-edge.yielded c.loop-edge.edge-iterator c.next.new.self c.in-Some.edge c.in-Some.ensures.steps
+    c.loop-edge.invariant.edges in
+    omega (
+      arith,
+      c.index-to.ensures,
+      place_in p c.args.counts.now c.requires.counts c.in-Some.edge.to
+          (target_coming p c.args.node c.requires.script c.loop-edge.yielded c.next.new.self c.in-Some.edge scan),
+    )
+
+pub bounds-positions-link : goal.bounds-positions-link
+bounds-positions-link c =
+    let p = c.args.script.now in
+    let e : Edge = c.in-Some.edge in
+    let scan = scan_next p c.args.node c.loop-edge.yielded c.loop-edge.edge-iterator c.next.new.self e c.in-Some.ensures.steps c.loop-edge.invariant.edges in
+    let place = place_in p c.args.counts.now c.requires.counts e.to
+    (target_coming p c.args.node c.requires.script c.loop-edge.yielded c.next.new.self e scan) in
+    let link = entry_is c.args.links.now e.to c.index-to.result c.from-link.result c.index-to.ensures
+    (omega (arith, c.index-to.ensures, place, c.requires.long)) (sym c.from-link.ensures) in
+    omega (arith, c.requires.below (node_index e.to) c.from-link.result link, c.requires.positions)
+
+-- the target reaches the node that it links to
+pub loop-edge-preserved-then-positions-link : goal.loop-edge-preserved-then-positions-link
+loop-edge-preserved-then-positions-link c =
+    let p = c.args.script.now in
+    let e : Edge = c.in-Some.edge in
+    let scan = scan_next p c.args.node c.loop-edge.yielded c.loop-edge.edge-iterator c.next.new.self e c.in-Some.ensures.steps c.loop-edge.invariant.edges in
+    let place = place_in p c.args.counts.now c.requires.counts e.to
+    (target_coming p c.args.node c.requires.script c.loop-edge.yielded c.next.new.self e scan) in
+    let link = entry_is c.args.links.now e.to c.index-to.result c.from-link.result c.index-to.ensures
+    (omega (arith, c.index-to.ensures, place, c.requires.long)) (sym c.from-link.ensures) in
+    record {
+      edges = scan_more p c.args.node c.loop-edge.yielded c.next.new.self e scan (λ f h. h) tt;
+      inside = c.requires.below (node_index e.to) c.from-link.result link;
+      reached = λ m is. reaches-trans p c.args.filter c.args.node e.to m
+          (reaches_from p c.args.filter c.args.node e (edge_coming p c.args.node c.loop-edge.yielded c.next.new.self e scan)
+          (c.follows.ensures.0 c.if-follows.true)) (c.requires.links e.to m (link ∙ ap Some (sym is)));
+    }

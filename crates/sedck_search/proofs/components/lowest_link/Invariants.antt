@@ -1,0 +1,14 @@
+use Rattle.std.proofs.Common.{◌≡◌, ◌<◌, length}
+use Rattle.sedck_flow.specs.Nodes.{node_index}
+use Rattle.sedck_flow.specs.declared.graph.Node.{Node}
+use Rattle.sedck_search.specs.Private.Reaching.{Reaches}
+use Rattle.sedck_search.proofs.Scans.{AreScanned}
+use Rattle.sedck_search.proofs.components.lowest_link.Given as goal
+
+-- the node that is linked to so far
+abbrev pub invariant-loop-edge : goal.invariant-loop-edge
+invariant-loop-edge l = record {
+  edges : AreScanned l.script l.fn.node l.yielded l.edge-iterator (λ _. Unit {0});
+  inside : l.lowest < length l.counts;
+  reached : (m : Node) → node_index m ≡ l.lowest → Reaches l.script l.fn.filter l.fn.node m;
+}

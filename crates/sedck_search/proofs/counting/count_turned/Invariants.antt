@@ -1,5 +1,0 @@
-use Rattle.sedck_search.specs.Private.Reaching.{ArePartlyCounted}
-use Rattle.sedck_search.proofs.counting.count_turned.Given as goal
-
-abbrev pub invariant-loop-step : goal.invariant-loop-step
-invariant-loop-step l = ArePartlyCounted l.script l.fn.filter l.counts

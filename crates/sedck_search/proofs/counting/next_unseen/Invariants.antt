@@ -1,5 +1,0 @@
-use Rattle.sedck_search.proofs.Scans.{AreScanned}
-use Rattle.sedck_search.proofs.counting.next_unseen.Given as goal
-
-abbrev pub invariant-loop-edge : goal.invariant-loop-edge
-invariant-loop-edge l = AreScanned l.script l.fn.node l.yielded l.edge-iterator (λ _. Unit {0})

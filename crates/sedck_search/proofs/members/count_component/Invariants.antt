@@ -1,0 +1,11 @@
+use Rattle.std.proofs.Common.{◌≡◌}
+use Rattle.sedck_search.specs.Private.Components.{AreSets}
+use Rattle.sedck_search.specs.Private.Reaching.{ArePartlyCounted}
+use Rattle.sedck_search.proofs.members.count_component.Given as goal
+
+abbrev pub invariant-loop-position : goal.invariant-loop-position
+invariant-loop-position l = record {
+  same : l.sets.reached ≡ l.initial.sets.reached;
+  sets : AreSets l.script l.fn.filter l.sets;
+  counted : ArePartlyCounted l.script l.fn.filter l.counts;
+}

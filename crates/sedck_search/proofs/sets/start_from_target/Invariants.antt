@@ -1,0 +1,15 @@
+use Rattle.std.proofs.Common.{◌<◌}
+use Rattle.sedck_flow.specs.declared.graph.Node.{Node}
+use Rattle.sedck_search.specs.Private.NodeSet.{IsNodeSet}
+use Rattle.sedck_search.specs.Private.Reaching.{IsClosed, IsIn, Reaches}
+use Rattle.sedck_search.proofs.Scans.{AreScanned}
+use Rattle.sedck_search.proofs.sets.start_from_target.Given as goal
+
+-- where a set was taken over, it has only nodes that the node reaches
+abbrev pub invariant-loop-edge : goal.invariant-loop-edge
+invariant-loop-edge l = record {
+  edges : AreScanned l.script l.fn.node l.yielded l.edge-iterator (λ _. Unit {0});
+  is_set : 0 < l.size → IsNodeSet l.reached;
+  closed : 0 < l.size → IsClosed l.script l.fn.filter l.reached;
+  reached : 0 < l.size → (m : Node) → IsIn l.reached m → Reaches l.script l.fn.filter l.fn.node m;
+}

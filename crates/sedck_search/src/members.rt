@@ -1,0 +1,59 @@
+//! The nodes of a component: each reaches what its root does.
+
+ghost use Rattle.std.specs.Prelude.{◌≡◌, ◌<◌, length};
+ghost use Rattle.std.specs.Bool.{OnTrue};
+ghost use Rattle.sedck_script.specs.Invariant.{IsScript};
+ghost use Rattle.sedck_search.specs.Private.Reaching.{ArePartlyCounted};
+ghost use Rattle.sedck_search.specs.Private.Components.{AreSets, IsMember, IsOrderOf};
+
+use crate::counting::UNCOUNTED;
+use crate::filter::EdgeFilter;
+use crate::node_set::NodeSet;
+use crate::order::Order;
+use crate::sets::Sets;
+use sedck_script::Script;
+
+/// Counts the nodes of the component of the root, which is counted: those above it on the stack, in the order in
+/// which they were visited, so that the one that each links to is counted before it.
+pub(crate) fn count_component(
+    script: &Script,
+    filter: EdgeFilter,
+    root: usize,
+    order: &mut Order,
+    sets: &mut Sets,
+    counts: &mut [u16],
+)
+    requires script { IsScript script.now }
+    requires inside { root < length counts.old }
+    requires order { IsOrderOf script.now filter order.old }
+    requires sets { AreSets script.now filter sets.old }
+    requires counted { ArePartlyCounted script.now filter counts.old }
+    ensures order { IsOrderOf script.now filter order.new }
+    ensures sets { AreSets script.now filter sets.new }
+    ensures counted { ArePartlyCounted script.now filter counts.new }
+{
+    let bottom = usize::from(order.positions[root]);
+    let count = sets.reached.len() as u16;
+    let slot = sets
+        .kept
+        .store(&sets.reached, order.height.saturating_sub(bottom));
+    for position in bottom..order.height {
+        let node = order.at(position);
+        let link = order.linked(node);
+        sets.kept.slots[node] = slot;
+        if counts[node] == UNCOUNTED && is_member(&sets.reached, counts, node, link) {
+            counts[node] = count;
+        }
+    }
+    order.pop(bottom);
+}
+
+/// Whether the node is in the set, and so is the one that it links to, which counts as many nodes as the set has.
+fn is_member(reached: &NodeSet, counts: &[u16], node: usize, link: usize) -> bool
+    requires node { node < 16384 }
+    requires link { link < 16384 }
+    requires inside { link < length counts.now }
+    ensures { OnTrue result (IsMember reached.now counts.now node link) }
+{
+    reached.has(node) && reached.has(link) && usize::from(counts[link]) == reached.len()
+}

@@ -1,0 +1,53 @@
+//! The nodes that can be reached from where a run begins.
+
+ghost use Rattle.std.specs.Prelude.{IfOk};
+ghost use Rattle.sedck_script.specs.Invariant.{IsScript};
+ghost use Rattle.sedck_search.specs.Private.Reaching.{ArePartlyCounted};
+ghost use Rattle.sedck_search.specs.declared.filter.EdgeFilter.{EdgeFilter};
+
+use crate::counting::{UNCOUNTED, UNREACHED};
+use crate::filter::EdgeFilter;
+use crate::kept_sets::KeptSets;
+use crate::node_set::NodeSet;
+use crate::reaching::add_reached;
+use sedck_flow::{Node, node_count};
+use sedck_script::Script;
+use std::alloc::{AllocError, Global};
+
+/// For each node a mark whether one of the two starts reaches it.
+pub(crate) fn reachable_marks(alloc: Global, script: &Script) -> Result<Vec<u16>, AllocError>
+    ensures script { IsScript script.now }
+    ensures marks { IfOk result (λ marks. (filter : EdgeFilter) → ArePartlyCounted script.now filter marks.items) }
+{
+    let count = node_count(script.commands().len());
+    let none = KeptSets::none(alloc);
+    let mut reached = NodeSet::new();
+    let mut frontier = NodeSet::new();
+    add_reached(
+        script,
+        EdgeFilter::Every,
+        &none,
+        &[],
+        Node::start(false),
+        &mut reached,
+        &mut frontier,
+    );
+    add_reached(
+        script,
+        EdgeFilter::Every,
+        &none,
+        &[],
+        Node::start(true),
+        &mut reached,
+        &mut frontier,
+    );
+    let mut marks = Vec::new(alloc);
+    for index in 0..count {
+        marks.push(if reached.has(index) {
+            UNCOUNTED
+        } else {
+            UNREACHED
+        })?;
+    }
+    Ok(marks)
+}
