@@ -31,8 +31,10 @@ spelled_texts =
     -- groups are numbered by where they open
     ∷ (codes "\\(\\(.\\)\\2\\)*", sequence_of (star (Group 1 (sequence_of (Group 2 (sequence_of (Any ∷ [])) ∷ Ref 2 ∷ []))) ∷ []))
     -- intervals
-    ∷ (codes "a\\{2\\}b\\{2,\\}c\\{0,3\\}",
-       sequence_of (Repeat (Byte letter_a) 2 (Some 2) ∷ Repeat (Byte letter_b) 2 None ∷ Repeat (Byte letter_c) 0 (Some 3) ∷ []))
+    ∷ (
+      codes "a\\{2\\}b\\{2,\\}c\\{0,3\\}",
+      sequence_of (Repeat (Byte letter_a) 2 (Some 2) ∷ Repeat (Byte letter_b) 2 None ∷ Repeat (Byte letter_c) 0 (Some 3) ∷ []),
+    )
     -- `+`, `?`, `{` and bars have no meaning of their own
     ∷ (codes "a+?{|}()", text_tree (codes "a+?{|}()"))
     -- a `]` that is the first element of a list is a byte; so is a `-` that is the last

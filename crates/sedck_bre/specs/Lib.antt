@@ -13,6 +13,5 @@ pub mod Faults
 pub mod FaultWords
 pub mod Laws
 pub mod Examples
-
 -- What functions inside the crate promise each other.
 pub mod Private

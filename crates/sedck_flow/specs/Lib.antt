@@ -8,7 +8,6 @@ pub use Rattle.sedck_script.specs.Invariant
 pub use Rattle.sedck_script.specs.Shortest
 pub use Rattle.sedck_script.specs.References
 pub use Rattle.sedck_script.specs.View
-
 -- What the public contracts cite, in reading order.
 pub mod Run
 pub mod Substitutes
@@ -19,10 +18,8 @@ pub mod Spaces
 pub mod Words
 pub mod Laws
 pub mod Examples
-
 -- What is said of certificates of version 1 alone.
 pub mod VersionOne
 pub mod LiteralKinds
-
 -- What functions inside the crate promise each other.
 pub mod Private
