@@ -273,6 +273,7 @@ cert.Certificate cert.Text cert.Versions cert.VersionOne flow.Words flow.Version
 cert.Rejections
 cert.Bounds cert.StepLimit flow.Spaces
 search.Found search.Obstacle search.Rows search.NodeSet search.VersionOne
+script.Locations
 script.Faults bre.Faults cert.Faults
 script.FaultWords bre.FaultWords cert.FaultText cli.Lines
 cli.Reports cli.Engines cli.Statuses cli.Faults cert.Streams
@@ -290,6 +291,7 @@ GROUPS = [
     ("The search", "`search` finds a certificate, or a loop that rules out every certificate.", [("sedck_search", "search", None), ("sedck_search", "count_bits", None)]),
     ("Refusals", "Which fault is reported of a text that is refused, and where.", [("sedck_cert", "judge", ("reported",)), ("sedck_bre", "parse", None), ("sedck_script", "parse", None),
      ("sedck_cert", "read_cert", None), ("sedck_cert", "read_any", None), ("sedck_bre", "ReFault*", None), ("sedck_script", "ScriptFault*", None), ("sedck_cert", "CertFault*", None)]),
+    ("Where commands stand", "`locate` gives the offsets of each command in the text of a script.", [("sedck_script", "locate", ("count", "locations", "order"))]),
     ("Reports and statuses", "What the program prints, and its status.", [("sedck_cli", "*", None), ("sedck_cert", "write_cert", None)]),
     ("Certificates of version 1", "They are read, accepted where they were, and upgraded.", [("sedck_cert", "read_cert_one", None), ("sedck_cert", "upgrade*", None), ("sedck_cert", "CertOne*", None),
      ("sedck_flow", "edges_were_there", None), ("sedck_flow", "kinds_agree", None), ("sedck_flow", "literal_kinds_stay", None), ("sedck_search", "obstacles_were_there", None)]),
@@ -340,7 +342,7 @@ def page(book):
             rows.append(f"| [`{path.relative_to('crates')}`](../{path}) | {size(here)} | {sentence(book.heads[module])} |")
         totals.append((title, size(new)))
         parts.append(f"## {title}: {size(new)} lines\n\n{what}\n\n| file | lines | what it says |\n|---|---|---|\n" + "\n".join(rows))
-        new_types = sorted(((module, name) for module, name in types - seen_types if (module, name) in book.types), key=lambda t: CRATES.index(t[0].split(".")[1]))
+        new_types = sorted(((module, name) for module, name in types - seen_types if (module, name) in book.types), key=lambda t: (CRATES.index(t[0].split(".")[1]), t[1]))
         seen_types |= types
         if new_types:
             names = ", ".join(f"`{module.split('.')[1]}::{name}` ({len(book.types[(module, name)][1].splitlines())})" for module, name in new_types)

@@ -113,6 +113,9 @@ b
 """
 READ_PARTS = "commands 8\nparts 5 groups 1 least 4\nread 2\nf\ng\nwrite 1\nf\n"
 
+# where its commands stand
+READ_LOCATIONS = "3 19 30\n31 31 56\n57 57 60\n61 61 64\n65 67 68\n68 68 69\n70 70 73\n76 76 77\n"
+
 REFUSED_SCRIPTS = [
     ("s/[/]/x/", "fault 6 bad-expression at 2: expression fault 3 unclosed-bracket at 0"),
     ("s/a\\+/b/", "fault 6 bad-expression at 2: expression fault 2 bad-escape at 1"),
@@ -214,8 +217,10 @@ def calls():
     for text, answer in EXPRESSIONS:
         yield ["expression", text], answer + "\n", OF_EXPRESSION
     yield ["script", PARTS], READ_PARTS, OF_SCRIPT
+    yield ["locate", PARTS], READ_LOCATIONS, OF_SCRIPT
     for text, fault in REFUSED_SCRIPTS:
-        yield ["script", text], fault + "\n", OF_SCRIPT
+        for call in ("script", "locate"):
+            yield [call, text], fault + "\n", OF_SCRIPT
         for call in ("verify", "judge"):
             yield [call, text, NEXT_LINE_RANKS], f"script {fault}\n", OF_TEXTS
         yield ["check", text, NEXT_LINE_RANKS], f"script {fault}\n", OF_ENGINE

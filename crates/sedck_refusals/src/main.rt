@@ -50,6 +50,7 @@ fn answer(
     match call {
         "expression" => readers::expression(rt, script),
         "script" => readers::script(rt, script),
+        "locate" => readers::locations(rt, script),
         "certificate" => readers::certificate(rt, script),
         "old" => readers::old_certificate(rt, script),
         "either" => readers::either_certificate(rt, script),

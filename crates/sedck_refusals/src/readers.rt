@@ -1,7 +1,7 @@
 //! Expressions, scripts and certificates that are read.
 use sedck_cert::streams::FromWrite;
 use sedck_cert::{Cert, read_any, read_cert, read_cert_one, upgrade, write_cert};
-use sedck_script::{Pattern, Script, Substitution, Verb};
+use sedck_script::{Location, Pattern, Script, Substitution, Verb};
 use std::io;
 
 /// How many groups the expression has, and the least length of its texts.
@@ -22,6 +22,22 @@ pub fn script(rt: &(impl Print + AllocGlobal), text: &[u8]) -> io::Result<()> {
         Ok(script) => tell_script(rt, &script),
         Err(fault) => println!(rt; "{fault}"),
     }
+}
+
+/// The start, the verb and the end of each command of the script.
+pub fn locations(rt: &(impl Print + AllocGlobal), text: &[u8]) -> io::Result<()> {
+    match sedck_script::locate(rt.alloc(), text) {
+        Ok(located) => tell_locations(rt, &located.locations),
+        Err(fault) => println!(rt; "{fault}"),
+    }
+}
+
+fn tell_locations(rt: &impl Print, locations: &[Location]) -> io::Result<()> {
+    for location in locations {
+        let Location { start, verb, end } = location;
+        println!(rt; "{start} {verb} {end}")?;
+    }
+    Ok(())
 }
 
 pub fn tell_script(rt: &impl Print, script: &Script) -> io::Result<()> {

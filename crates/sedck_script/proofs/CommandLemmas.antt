@@ -32,6 +32,12 @@ command_parts {b = b} {v = v} only l c =
     let same = longest_one (longest_along one.1 c.run) l in
     record { address = one.0; negated = c.mark ∙ ap (list_any (λ x. eqb x 33)) same.0; verbs = verb_along same.1 c.verbs }
 
+-- the verb of each command begins here
+pub command_begins : {text r marks begins rest : List ℕ} {a b : Address} {n : Bool} {v : WrittenVerb} → IsOnlyAddress text a r
+    → Longest is_mark r marks begins → (c : CommandText text b n v rest) → c.begins ≡ begins
+command_begins {b = b} {v = v} only l c =
+    (longest_one (longest_along (only b c.behind c.marks c.begins _ v c.addresses c.run c.verbs).1 c.run) l).1
+
 pub takes_along : {a b : Address} {m n : Bool} (v : WrittenVerb) → a ≡ b → m ≡ n → Takes v a m → Takes v b n
 takes_along v e f h = subst₂ (λ x y. Takes v x y) e f h
 

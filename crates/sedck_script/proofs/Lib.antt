@@ -27,6 +27,7 @@ pub mod VerbBytes
 pub mod CommandLemmas
 pub mod StateLemmas
 pub mod ProgressLemmas
+pub mod LocationLemmas
 pub mod SpelledIsSound
 pub mod SortedNames
 pub mod ExpressionLemmas

@@ -11,7 +11,8 @@ use Rattle.sedck_script.specs.Items.{WrittenVerb, Known, Opening, VerbText, Take
 use Rattle.sedck_script.specs.Items as w
 use Rattle.sedck_script.specs.Private.Reading.{EndsIn, IsLabelOf, AreLabelsOnce, HasLabels}
 use Rattle.sedck_script.specs.Private.VerbReading.{DefinesKnown}
-use Rattle.sedck_script.specs.Private.ItemReading.{item_of, Turn, Opens, Closes, Stays, commands_among, verb_turn, Turned, Nests}
+use Rattle.sedck_script.specs.Private.ItemReading.{item_of, Turn, Opens, Closes, Stays, commands_among, locations_in, verb_turn, Turned, Nests}
+use Rattle.sedck_script.specs.Private.Locating.{AreFirstLocations}
 use Rattle.sedck_script.specs.Private.Progress.{IsFront, IsProgress, HasNoItems, BeginsCommand, IsBeyond}
 use Rattle.sedck_script.specs.declared.items.Progress.{Progress}
 use Rattle.sedck_script.proofs.LongestRuns.{longest_one}
@@ -40,7 +41,7 @@ items_back l (w.comment m e k x) = w.comment (skipped l m) e k x
 items_back l (w.closing m e f x) = w.closing (skipped l m) e f x
 items_back l (w.command m c x) = w.command (skipped l m) c x
 
-begun : {text separators begins none starts : List ℕ} → Longest is_separator text separators begins → Longest is_separator text none starts
+pub begun : {text separators begins none starts : List ℕ} → Longest is_separator text separators begins → Longest is_separator text none starts
     → Longest is_separator begins [] starts
 begun {begins = begins} l m = subst (λ t. Longest is_separator begins [] t) (longest_one l m).1 (no_more l)
 
@@ -49,6 +50,15 @@ items_forth l (w.nothing m) = w.nothing (begun l m)
 items_forth l (w.comment m e k x) = w.comment (begun l m) e k x
 items_forth l (w.closing m e f x) = w.closing (begun l m) e f x
 items_forth l (w.command m c x) = w.command (begun l m) c x
+
+pub front_none : {text : List ℕ} → IsFront text [] 0 text
+front_none = record {
+  tail = ([], refl);
+  sound = λ more h. h;
+  only = λ all h. (all, refl, h);
+  nests = λ more h. h;
+  nested = λ more h. h;
+}
 
 pub front_skip : {text rest separators begins : List ℕ} {items : List Item} {depth : ℕ} → IsFront text items depth rest
     → Longest is_separator rest separators begins → IsFront text items depth begins
@@ -62,7 +72,7 @@ front_skip f l = record {
 
 -- ---- Steps
 
-at_front : {b : ℕ} {text rest : List ℕ} → text ≡ b ∷ rest → is_separator b ≡ false → Longest is_separator text [] (b ∷ rest)
+pub at_front : {b : ℕ} {text rest : List ℕ} → text ≡ b ∷ rest → is_separator b ≡ false → Longest is_separator text [] (b ∷ rest)
 at_front {b} e n = record { cut = e; passes = refl; stops = rw n refl }
 
 comment_step : {b : ℕ} {text behind line rest : List ℕ} {all : List Item} → text ≡ b ∷ behind → b ≡ 35
@@ -248,10 +258,11 @@ brace_stands {whole} {rest = rest} place h c p e =
 
 -- the same is known where another rest is left
 pub progress_at : {text old new : List ℕ} {progress : Progress} → IsProgress text old progress
-    → IsFront text (map item_of progress.items.items) (length progress.open_blocks.items) new → IsProgress text new progress
-progress_at p f = record { front = f; labels = p.labels; count = p.count; few = p.few; label_places = p.label_places; opened = p.opened; empty = p.empty }
+    → IsFront text (map item_of progress.items.items) (length progress.open_blocks.items) new
+    → AreFirstLocations text new (locations_in progress.items.items) → IsProgress text new progress
+progress_at p f l = record { front = f; labels = p.labels; count = p.count; located = l; few = p.few; label_places = p.label_places; opened = p.opened; empty = p.empty }
 
-no_length : {X : Type 0} (xs : List X) → length xs ≡ 0 → xs ≡ []
+pub no_length : {X : Type 0} (xs : List X) → length xs ≡ 0 → xs ≡ []
 no_length [] e = refl
 no_length (x ∷ xs) e = absurd (omega arith)
 

@@ -6,13 +6,16 @@ use Rattle.sedck_script.specs.Program.{Address, Verb}
 use Rattle.sedck_script.specs.Items.{WrittenVerb, Known, BranchTo, TestTo, Opening, Takes, Item, Written, Closing}
 use Rattle.sedck_script.specs.Faults.{StandsAt}
 use Rattle.sedck_script.specs.Cuts.{brace}
-use Rattle.sedck_script.specs.Private.ItemReading.{Turn, Opens, Closes, Stays, verb_turn, commands_among}
+use Rattle.sedck_script.specs.Private.ItemReading.{Turn, Opens, Closes, Stays, verb_turn, commands_among, locations_in}
 use Rattle.sedck_script.specs.Private.Progress.{patterns_of, item_patterns, NotesLabel, NotesBlock}
 use Rattle.std.specs.Borrow.{Bor}
 use Rattle.std.specs.HashMap.{HashMap}
 use Rattle.std.proofs.lemmas.List.Elements.{All-push}
 use Rattle.sedck_script.specs.Private.Reading.{HasLabels, label_place}
 use Rattle.sedck_script.specs.Private.VerbReading.{written_verb, IsWrittenAt, DefinesKnown}
+use Rattle.sedck_script.specs.declared.written.WrittenCommand.{WrittenCommand}
+use Rattle.sedck_script.specs.declared.written.WrittenItem.{WrittenItem}
+use Rattle.sedck_script.specs.declared.written.WrittenItem.TheVariants as item
 use Rattle.sedck_script.specs.declared.verbs.Written.{Written as WrittenCode}
 use Rattle.sedck_script.specs.declared.verbs.Written.TheVariants as code
 use Rattle.sedck_script.proofs.LabelPlaces.{labels_label, labels_other}
@@ -31,6 +34,16 @@ patterns_push (y ∷ xs) x = ap (λ t. patterns_of y ++ t) (patterns_push xs x) 
 
 pub patterns_closing : (xs : List Item) → item_patterns (xs ++ Closing ∷ []) ≡ item_patterns xs
 patterns_closing xs = patterns_push xs Closing ∙ append-nil (item_patterns xs)
+
+pub locations_push : (xs : List WrittenItem) (c : WrittenCommand) → locations_in (xs ++ item.Command c ∷ []) ≡ locations_in xs ++ c.location ∷ []
+locations_push [] c = refl
+locations_push (item.Command x ∷ xs) c = ap (λ t. x.location ∷ t) (locations_push xs c)
+locations_push (item.Closing ∷ xs) c = locations_push xs c
+
+pub locations_closing : (xs : List WrittenItem) → locations_in (xs ++ item.Closing ∷ []) ≡ locations_in xs
+locations_closing [] = refl
+locations_closing (item.Command x ∷ xs) = ap (λ t. x.location ∷ t) (locations_closing xs)
+locations_closing (item.Closing ∷ xs) = locations_closing xs
 
 pub opened_front : (text : List ℕ) (xs ys : List ℕ) → All (λ place. StandsAt text place brace) (xs ++ ys) → All (λ place. StandsAt text place brace) xs
 opened_front text xs ys h = λ k d lt. subst (λ place. StandsAt text place brace) (get_or-append xs ys d k lt) (h k d (omega (arith, length-append xs ys)))

@@ -1,10 +1,12 @@
 -- Worked examples of scripts: what some texts spell, part by part.
-use Rattle.std.specs.Prelude.{ℕ, Bool, true, false, List, [], ◌∷◌, Some, codes}
+use Rattle.std.specs.Prelude.{◌≡◌, ℕ, Bool, true, false, List, [], ◌∷◌, Some, codes}
 use Rattle.sedck_bre.specs.Bytes.{newline, slash, backslash}
 use Rattle.sedck_script.specs.Program.{Verb, NoAddress, One, Last, Part, Text, Whole, Newline, Label, Branch, Block, NextAppend, Print, Command}
 use Rattle.sedck_script.specs.Parts.{DelimitedExpression, DelimitedList, Replacement, EscapedPart, GivenText}
 use Rattle.sedck_script.specs.Items.{WrittenVerb, Known, BranchTo, Opening, Item, Written, Closing, Items}
 use Rattle.sedck_script.specs.Resolution.{Resolves}
+use Rattle.sedck_script.specs.Locations.{locations_of}
+use Rattle.sedck_script.specs.declared.location.Location.{Location}
 
 -- a command without addresses, as it is written and as it is resolved
 abbrev pub plain_item : WrittenVerb → Item
@@ -27,12 +29,20 @@ block_items = Written (One Last) true Opening ∷ plain_item (Known Print) ∷ C
 abbrev pub block_commands : List Command
 block_commands = record { address = One Last; negated = true; verb = Block 2 } ∷ plain_command Print ∷ []
 
+-- where a command stands: its start, its verb and its end
+abbrev pub at : ℕ → ℕ → ℕ → Location
+at start verb end = record { start = start; verb = verb; end = end }
+
 pub record ExamplesHold : Type 0 where
   pub join : Items (codes ":a;N;b a") join_items
+  -- a command ends before its `;`
+  pub join_stands : locations_of 8 join ≡ at 0 0 2 ∷ at 3 3 4 ∷ at 5 5 8 ∷ []
   -- the branch leads to the label's command
   pub join_leads : Resolves join_commands [] 0 join_items join_commands
   -- a `}` may follow a command at once
   pub block : Items (codes "$!{p}") block_items
+  -- a command starts with its addresses, and a `{` ends at once
+  pub block_stands : locations_of 5 block ≡ at 0 2 3 ∷ at 3 3 4 ∷ []
   -- the block's target is the place after its `}`
   pub block_leads : Resolves block_commands [] 0 block_items block_commands
   -- the expression `a/b` after `s/`, written `a\/b`

@@ -14,6 +14,7 @@ pub mod Names
 pub mod Spelling
 pub mod Items
 pub mod Resolution
+pub mod Locations
 pub mod Parts
 pub mod Cuts
 pub mod References

@@ -6,6 +6,7 @@ pub mod FlagReading
 pub mod ItemReading
 pub mod Keeping
 pub mod LabelReading
+pub mod Locating
 pub mod NameReading
 pub mod PieceReading
 pub mod Progress

@@ -12,12 +12,14 @@ ghost use Rattle.sedck_script.specs.Private.Reading.{EndsIn};
 ghost use Rattle.sedck_script.specs.Private.VerbReading.{written_verb, IsWrittenAt, DefinesKnown};
 ghost use Rattle.sedck_script.specs.Private.AddressReading.{is_mark, has_previous, IsEmptyAt};
 ghost use Rattle.sedck_script.specs.Private.Progress.{takes, written_patterns, IsBeyond, AreAllowed};
+ghost use Rattle.sedck_script.specs.Private.Locating.{IsOnlyLocation};
 ghost use Rattle.sedck_script.specs.View.{address_of};
 
 use crate::addresses::address_at;
 use crate::bytes::marks_len;
 use crate::fault::ScriptFault;
 use crate::limits::{COMMAND_LIMIT, DEPTH_LIMIT};
+use crate::location::Location;
 use crate::script::{Address, Pattern, Verb};
 use crate::verbs::{Written, verb_at};
 use crate::written::WrittenCommand;
@@ -139,6 +141,7 @@ pub fn command_at<'a>(
     ensures shallow { IfOk result (λ x. written_verb x.0.verb ≡ Opening → depth < 64) }
     ensures few { IfOk result (λ x. count < 4095) }
     ensures label { IfOk result (λ x. IsWrittenAt whole.now x.0.verb) }
+    ensures located { IfOk result (λ x. IsOnlyLocation (length whole.now) text.now x.0.location) }
     ensures empty { IfOk result (λ x. IsEmptyAt whole.now (address_patterns (address_of x.0.address) ++ written_patterns (written_verb x.0.verb)) x.1) }
     ensures refused { IfErr result (λ fault. fault ≢ ScriptFault.OutOfMemory → (given : clean.Address) (negated : Bool) (verb : WrittenVerb) (rest : List ℕ) → CommandText text.now given negated verb rest → DefinesKnown labels.now verb ⊎ IsBeyond depth count verb) }
     ensures placed { IfErr result (λ fault. IsPlaced whole.now fault) }
@@ -150,10 +153,16 @@ pub fn command_at<'a>(
         alloc, whole, labels, &address, negated, depth, count, begins,
     )?;
     let empty = empty.or(empty_verb(&verb, whole.len() - begins.len().saturating_sub(2)));
+    let location = Location {
+        start: whole.len() - text.len(),
+        verb: whole.len() - begins.len(),
+        end: whole.len() - rest.len(),
+    };
     let command = WrittenCommand {
         address,
         negated,
         verb,
+        location,
     };
     Ok((command, empty, rest))
 }

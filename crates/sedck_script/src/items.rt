@@ -4,11 +4,12 @@ ghost use Rattle.std.specs.Prelude.{false, ◌≡◌, ◌≢◌, ◌<◌, ◌≤
 ghost use Rattle.std.specs.Option.{option_or};
 ghost use Rattle.sedck_bre.specs.Bytes.{closing_brace};
 ghost use Rattle.sedck_script.specs.Cuts.{is_separator, Longest};
-ghost use Rattle.sedck_script.specs.Items.{Items};
+ghost use Rattle.sedck_script.specs.Items.{Item, Items};
+ghost use Rattle.sedck_script.specs.Locations.{locations_of};
 ghost use Rattle.sedck_script.specs.Faults.{IsPlaced};
 ghost use Rattle.sedck_script.specs.Private.Progress.{IsProgress, HasNoItems, BeginsCommand, NotesLabel, NotesBlock};
 ghost use Rattle.sedck_script.specs.Private.VerbReading.{written_verb};
-ghost use Rattle.sedck_script.specs.Private.ItemReading.{item_of, verb_turn, Nests};
+ghost use Rattle.sedck_script.specs.Private.ItemReading.{item_of, verb_turn, locations_in, Nests};
 
 use crate::bytes::separators_len;
 use crate::commands::command_at;
@@ -182,6 +183,7 @@ fn next_item<'a>(
 /// The items of the text, with what is known of them.
 pub fn items<'a>(alloc: Global, text: &'a [u8]) -> Result<Progress<'a>, ScriptFault>
     ensures read { IfOk result (λ progress. Items text.now (map item_of progress.items.items)) }
+    ensures located { IfOk result (λ progress. (all : List Item) (spelled : Items text.now all) → locations_in progress.items.items ≡ locations_of (length text.now) spelled) }
     ensures nests { IfOk result (λ progress. Nests (map item_of progress.items.items) 0) }
     ensures progress { IfOk result (λ progress. (rest : List ℕ) × IsProgress text.now rest progress) }
     ensures refused { IfErr result (λ fault. fault ≢ ScriptFault.OutOfMemory → HasNoItems text.now) }

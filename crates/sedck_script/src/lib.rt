@@ -30,6 +30,7 @@ mod label_places;
 mod labels;
 pub mod laws;
 mod limits;
+mod location;
 mod name_lists;
 mod names;
 mod numbers;
@@ -45,5 +46,6 @@ mod verbs;
 mod written;
 
 pub use fault::ScriptFault;
-pub use parsing::parse;
+pub use location::Location;
+pub use parsing::{Located, locate, parse};
 pub use script::{Address, Command, Part, Pattern, Place, Script, Substitution, Verb};

@@ -5,6 +5,9 @@ ghost use Rattle.sedck_script.specs.Program.{Program, expressions};
 ghost use Rattle.sedck_script.specs.Private.ExpressionReading.{has_some};
 ghost use Rattle.sedck_script.specs.Spelling.{IsScriptText, AreCommands, Spells};
 ghost use Rattle.sedck_script.specs.Items.{Item, Items};
+ghost use Rattle.sedck_script.specs.Locations.{locations_of, AreInOrder};
+ghost use Rattle.sedck_script.specs.Private.ItemReading.{item_of, Nests};
+ghost use Rattle.sedck_script.specs.Private.Progress.{IsProgress};
 ghost use Rattle.sedck_script.specs.View.{command_of};
 ghost use Rattle.sedck_script.specs.Faults.{IsPlaced, IsFirstZero};
 
@@ -12,6 +15,7 @@ use crate::expressions::{has_expression, is_quiet};
 use crate::fault::ScriptFault;
 use crate::items::{Progress, items};
 use crate::limits::TEXT_LIMIT;
+use crate::location::{Location, locations};
 use crate::name_lists::{Access, sorted_names};
 use crate::resolving::linked;
 use crate::script::{Command, Script};
@@ -50,9 +54,16 @@ fn check_previous(empty: Option<usize>, commands: &[Command]) -> Result<(), Scri
     Err(ScriptFault::NoPreviousExpression { place })
 }
 
-/// The commands that the text spells.
-fn commands<'a>(alloc: Global, text: &'a [u8]) -> Result<Vec<Command<'a>>, ScriptFault>
-    ensures read { IfOk result (λ commands. (items : List Item) × Items text.now items × AreCommands items (map command_of commands.items)) }
+/// The commands of the items that were read from the text.
+fn commands<'a>(
+    alloc: Global,
+    text: &[u8],
+    progress: Progress<'a>,
+) -> Result<Vec<Command<'a>>, ScriptFault>
+    requires items { Items text.now (map item_of progress.items.items) }
+    requires nests { Nests (map item_of progress.items.items) 0 }
+    requires progress { (rest : List ℕ) × IsProgress text.now rest progress }
+    ensures read { IfOk result (λ commands. AreCommands (map item_of progress.entry.items.items) (map command_of commands.items)) }
     ensures refused { IfErr result (λ fault. fault ≢ ScriptFault.OutOfMemory → (other : Program) → Spells text.now other → ⊥) }
     ensures placed { IfErr result (λ fault. IsPlaced text.now fault) }
 {
@@ -62,10 +73,31 @@ fn commands<'a>(alloc: Global, text: &'a [u8]) -> Result<Vec<Command<'a>>, Scrip
         labels,
         open_blocks: _,
         empty,
-    } = items(alloc, text)?;
+    } = progress;
     let commands = linked(alloc, items, count, &labels)?;
     check_previous(empty, &commands)?;
     Ok(commands)
+}
+
+/// The script of the items that were read from the text.
+fn script<'a>(
+    alloc: Global,
+    text: &'a [u8],
+    progress: Progress<'a>,
+) -> Result<Script<'a>, ScriptFault>
+    requires allowed { IsScriptText text.now }
+    requires items { Items text.now (map item_of progress.items.items) }
+    requires nests { Nests (map item_of progress.items.items) 0 }
+    requires progress { (rest : List ℕ) × IsProgress text.now rest progress }
+    ensures spelled { IfOk result (λ script. Spells text.now script) }
+    ensures only { IfOk result (λ script. (other : Program) → Spells text.now other → other ≡ script) }
+    ensures refused { IfErr result (λ fault. fault ≢ ScriptFault.OutOfMemory → (other : Program) → Spells text.now other → ⊥) }
+    ensures placed { IfErr result (λ fault. IsPlaced text.now fault) }
+{
+    let commands = commands(alloc, text, progress)?;
+    let reads = sorted_names(alloc, &commands, Access::Read)?;
+    let writes = sorted_names(alloc, &commands, Access::Write)?;
+    Ok(Script::new(commands, reads, writes, is_quiet(text)))
 }
 
 /// The script that the text spells.
@@ -81,8 +113,35 @@ pub fn parse<'a>(alloc: Global, text: &'a [u8]) -> Result<Script<'a>, ScriptFaul
     ensures zero { (place : ℕ) → length text.now ≤ TEXT_LIMIT → IsFirstZero text.now place → result ≡ Err (ScriptFault.NulByte place) }
 {
     check_text(text)?;
-    let commands = commands(alloc, text)?;
-    let reads = sorted_names(alloc, &commands, Access::Read)?;
-    let writes = sorted_names(alloc, &commands, Access::Write)?;
-    Ok(Script::new(commands, reads, writes, is_quiet(text)))
+    let progress = items(alloc, text)?;
+    script(alloc, text, progress)
+}
+
+/// A script, and where each of its commands stands in its text.
+#[derive(Drop)]
+pub struct Located<'a> {
+    pub script: Script<'a>,
+    /// As many as there are commands, in the same order.
+    pub locations: Vec<Location>,
+}
+
+/// The script that the text spells, as `parse` reads it, with the location of each command.
+///
+/// The locations take time linear in the text. The faults are those of `parse`.
+pub fn locate<'a>(alloc: Global, text: &'a [u8]) -> Result<Located<'a>, ScriptFault>
+    ensures spelled { IfOk result (λ located. Spells text.now located.script) }
+    ensures only { IfOk result (λ located. (other : Program) → Spells text.now other → other ≡ located.script) }
+    ensures count { IfOk result (λ located. length located.locations.items ≡ length located.script.commands) }
+    ensures locations { IfOk result (λ located. (items : List Item) (spelled : Items text.now items) → located.locations.items ≡ locations_of (length text.now) spelled) }
+    ensures order { IfOk result (λ located. AreInOrder 0 (length text.now) located.locations.items) }
+    ensures refused { IfErr result (λ fault. fault ≢ ScriptFault.OutOfMemory → (other : Program) → Spells text.now other → ⊥) }
+    ensures placed { IfErr result (λ fault. IsPlaced text.now fault) }
+    ensures too_long { TEXT_LIMIT < length text.now → result ≡ Err (ScriptFault.TooLong TEXT_LIMIT) }
+    ensures zero { (place : ℕ) → length text.now ≤ TEXT_LIMIT → IsFirstZero text.now place → result ≡ Err (ScriptFault.NulByte place) }
+{
+    check_text(text)?;
+    let progress = items(alloc, text)?;
+    let locations = locations(alloc, &progress.items)?;
+    let script = script(alloc, text, progress)?;
+    Ok(Located { script, locations })
 }

@@ -40,6 +40,7 @@ fn command_of<'a>(
         address,
         negated,
         verb,
+        location: _,
     } = command;
     let verb = match verb {
         Written::Known(verb) => verb,

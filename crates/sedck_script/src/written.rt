@@ -1,5 +1,6 @@
 //! Items of a script as they are written.
 
+use crate::location::Location;
 use crate::script::Address;
 use crate::verbs::Written;
 
@@ -9,6 +10,7 @@ pub struct WrittenCommand<'a> {
     pub address: Address,
     pub negated: bool,
     pub verb: Written<'a>,
+    pub location: Location,
 }
 
 #[derive(Drop)]

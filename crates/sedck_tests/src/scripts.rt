@@ -1,4 +1,5 @@
-//! Scripts as tables: what is refused and where, what is read, the verbs, and the limits.
+//! Scripts as tables: where commands stand, what is refused and where, what is read, the verbs, and the limits.
+mod located;
 mod read;
 mod refused;
 mod verbs;

@@ -7,6 +7,7 @@ use Rattle.sedck_script.specs.Items.{WrittenVerb, Known, BranchTo, TestTo, Openi
 use Rattle.sedck_script.specs.View.{address_of}
 use Rattle.sedck_script.specs.Private.Reading.{label_place}
 use Rattle.sedck_script.specs.Private.VerbReading.{written_verb, IsWrittenAt}
+use Rattle.sedck_script.specs.declared.location.Location.{Location}
 use Rattle.sedck_script.specs.declared.written.WrittenCommand.{WrittenCommand}
 use Rattle.sedck_script.specs.declared.written.WrittenItem.{WrittenItem}
 use Rattle.sedck_script.specs.declared.written.WrittenItem.TheVariants as code
@@ -22,6 +23,12 @@ abbrev pub commands_among : List Item → List Item
 commands_among [] = []
 commands_among (Written a n v ∷ items) = Written a n v ∷ commands_among items
 commands_among (Closing ∷ items) = commands_among items
+
+-- where the commands among the items stand
+abbrev pub locations_in : List WrittenItem → List Location
+locations_in [] = []
+locations_in (code.Command c ∷ items) = c.location ∷ locations_in items
+locations_in (code.Closing ∷ items) = locations_in items
 
 -- what an item does to the number of open blocks
 pub data Turn : Type 0 where

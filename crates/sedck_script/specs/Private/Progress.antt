@@ -10,7 +10,8 @@ use Rattle.sedck_script.specs.Items.{WrittenVerb, Known, BranchTo, TestTo, Openi
 use Rattle.sedck_script.specs.Faults.{StandsAt}
 pub use Rattle.sedck_script.specs.Faults.{BeginsCommand}
 use Rattle.sedck_script.specs.Private.Reading.{EndsIn, HasLabels, AreLabelsOnce, label_place}
-use Rattle.sedck_script.specs.Private.ItemReading.{Turn, Opens, Closes, Stays, item_of, commands_among, Nests, IsItemAt}
+use Rattle.sedck_script.specs.Private.ItemReading.{Turn, Opens, Closes, Stays, item_of, commands_among, locations_in, Nests, IsItemAt}
+use Rattle.sedck_script.specs.Private.Locating.{AreFirstLocations}
 use Rattle.sedck_script.specs.Private.AddressReading.{IsEmptyAt}
 use Rattle.sedck_script.specs.declared.items.Progress.{Progress}
 use Rattle.sedck_script.specs.declared.verbs.Written.{Written as WrittenCode}
@@ -74,6 +75,7 @@ pub record IsProgress (text rest : List ℕ) (progress : Progress) : Type 0 wher
   pub front : IsFront text (map item_of progress.items.items) (length progress.open_blocks.items) rest
   pub labels : HasLabels progress.labels (commands_among (map item_of progress.items.items))
   pub count : progress.count ≡ length (commands_among (map item_of progress.items.items))
+  pub located : AreFirstLocations text rest (locations_in progress.items.items)
   pub few : progress.count ≤ 4095
   pub label_places : All (IsItemAt text) progress.items.items
   pub opened : All (λ place. StandsAt text place brace) progress.open_blocks.items

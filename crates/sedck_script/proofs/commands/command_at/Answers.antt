@@ -1,12 +1,13 @@
-use Rattle.std.proofs.Common.{sym, ◌∙◌, arith}
+use Rattle.std.proofs.Common.{refl, sym, ◌∙◌, arith}
 use Rattle.sedck_script.specs.Program.{address_patterns}
 use Rattle.sedck_script.specs.View.{address_of}
 use Rattle.sedck_script.specs.Private.VerbReading.{written_verb}
 use Rattle.sedck_script.specs.Private.Progress.{written_patterns}
 use Rattle.sedck_script.proofs.ResultLemmas.{if_err_from}
-use Rattle.sedck_script.proofs.OffsetLemmas.{tail_cut, tail_tail, tail_length}
+use Rattle.sedck_script.proofs.OffsetLemmas.{tail_cut, tail_tail, tail_length, verb_text_shorter}
 use Rattle.sedck_script.proofs.PlaceLemmas.{verb_due, empty_verb_place}
-use Rattle.sedck_script.proofs.CommandLemmas.{address_tail, command_parts, empty_append, takes_along}
+use Rattle.sedck_script.proofs.UniqueVerbs.{verb_one}
+use Rattle.sedck_script.proofs.CommandLemmas.{address_tail, command_parts, command_begins, empty_append, takes_along}
 use Rattle.sedck_script.proofs.commands.command_at.Goals as goal
 
 pub returns-in_err-address-clause-refused : goal.returns-in_err-address-clause-refused
@@ -28,9 +29,27 @@ returns-in_err-verb-clause-refused c =
     (λ memory given negated verb rest x. let parts = command_parts c.in_ok-address.ensures.only c.split_marks.ensures x in
     c.in_err-verb.ensures.refused memory verb rest parts.verbs (takes_along verb parts.address (parts.negated ∙ sym c.contains-negated.ensures.value) x.taken))
 
+pub returns-clause-located : goal.returns-clause-located
+returns-clause-located c = λ address negated verb rest command.
+    let parts = command_parts c.in_ok-address.ensures.only c.split_marks.ensures command in
+    let begins = command_begins c.in_ok-address.ensures.only c.split_marks.ensures command in
+    rw (begins, (verb_one parts.verbs c.in_ok-verb.ensures.read).1) refl
+
 pub overflow_sub-whole : goal.overflow_sub-whole
 overflow_sub-whole c =
     omega (arith, tail_length (tail_tail c.requires.tail (tail_tail (address_tail c.in_ok-address.ensures.read) (tail_cut c.split_marks.ensures))))
+
+pub overflow_sub-location-2 : goal.overflow_sub-location-2
+overflow_sub-location-2 c =
+    omega (arith, tail_length (tail_tail c.requires.tail (tail_tail (address_tail c.in_ok-address.ensures.read) (tail_cut c.split_marks.ensures))))
+
+pub overflow_sub-location-3 : goal.overflow_sub-location-3
+overflow_sub-location-3 c =
+    omega (
+      arith,
+      tail_length (tail_tail c.requires.tail (tail_tail (address_tail c.in_ok-address.ensures.read) (tail_cut c.split_marks.ensures))),
+      verb_text_shorter c.in_ok-verb.ensures.read,
+    )
 
 pub returns-clause-empty : goal.returns-clause-empty
 returns-clause-empty c =

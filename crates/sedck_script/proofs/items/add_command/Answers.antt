@@ -9,8 +9,9 @@ use Rattle.sedck_script.specs.Private.Progress.{IsBeyond, NotesLabel, patterns_o
 use Rattle.sedck_script.proofs.ResultLemmas.{if_err_from}
 use Rattle.sedck_script.proofs.OffsetLemmas.{tail_length}
 use Rattle.sedck_script.proofs.ProgressLemmas.{front_refused, front_command, command_shorter, brace_stands}
-use Rattle.sedck_script.proofs.StateLemmas.{among_append, patterns_push, labels_noted, blocks_noted}
+use Rattle.sedck_script.proofs.StateLemmas.{among_append, patterns_push, locations_push, labels_noted, blocks_noted}
 use Rattle.sedck_script.proofs.CommandLemmas.{empty_append}
+use Rattle.sedck_script.proofs.LocationLemmas.{located_command}
 use Rattle.sedck_script.proofs.items.add_command.Goals as goal
 
 pub returns-in_err-command-clause-refused : goal.returns-in_err-command-clause-refused
@@ -57,6 +58,8 @@ returns-clause-progress c =
             length-append (commands_among (map item_of old.items.items))
                 (Written (address_of command.address) command.negated (written_verb command.verb) ∷ []),
           ));
+      located = rw (c.in_ok-note_command.ensures.items, locations_push)
+          (located_command _ c.requires.progress.located c.requires.begins c.in_ok-command.ensures.read c.in_ok-command.ensures.located);
       few = omega (arith, c.in_ok-command.ensures.few, c.in_ok-note_command.ensures.count);
       label_places = rw c.in_ok-note_command.ensures.items
           (All-push (IsItemAt c.args.text.now) _ _ c.requires.progress.label_places c.in_ok-command.ensures.label);

@@ -9,7 +9,8 @@ use Rattle.sedck_script.specs.Private.Progress.{IsFront}
 use Rattle.sedck_script.proofs.ResultLemmas.{if_err_from}
 use Rattle.sedck_script.proofs.OffsetLemmas.{tail_behind, stands_at_tail}
 use Rattle.sedck_script.proofs.ProgressLemmas.{front_unopened, front_unended, front_closing}
-use Rattle.sedck_script.proofs.StateLemmas.{among_closing, patterns_closing, opened_front}
+use Rattle.sedck_script.proofs.StateLemmas.{among_closing, patterns_closing, locations_closing, opened_front}
+use Rattle.sedck_script.proofs.LocationLemmas.{located_closing}
 use Rattle.sedck_script.proofs.items.close_block.Goals as goal
 
 pub returns-in_default-clause-refused : goal.returns-in_default-clause-refused
@@ -37,6 +38,8 @@ returns-clause-progress c =
           (map item_of c.args.progress.now.items.items) d c.args.begins.now) deep c.requires.progress.front) c.requires.begins refl c.in_ok-rest.ensures.read);
       labels = rw (items, among_closing) c.requires.progress.labels;
       count = rw (items, among_closing) c.requires.progress.count;
+      located = rw (c.in_ok-push.ensures.items, locations_closing)
+          (located_closing _ c.requires.progress.located c.requires.begins refl c.in_ok-rest.ensures.read);
       few = c.requires.progress.few;
       label_places = rw c.in_ok-push.ensures.items (All-push (IsItemAt c.args.text.now) _ _ c.requires.progress.label_places tt);
       opened = opened_front c.args.text.now _ _ (subst

@@ -3,7 +3,7 @@ use Rattle.std.proofs.lemmas.Bool.{both_ways}
 use Rattle.sedck_script.specs.Faults.{IsPlaced}
 use Rattle.sedck_script.specs.Private.ItemReading.{item_of}
 use Rattle.sedck_script.proofs.ResultLemmas.{if_err_from}
-use Rattle.sedck_script.proofs.ProgramLemmas.{no_program, undefined_label, no_target, no_expression, are_commands}
+use Rattle.sedck_script.proofs.ProgramLemmas.{undefined_label, no_target, no_expression, are_commands}
 use Rattle.sedck_script.specs.Program.{Pattern, expressions}
 use Rattle.sedck_script.specs.View.{command_of}
 use Rattle.sedck_script.specs.Private.AddressReading.{has_previous, IsEmptyAt}
@@ -11,23 +11,19 @@ use Rattle.sedck_script.specs.Private.Progress.{item_patterns}
 use Rattle.sedck_script.specs.Private.ExpressionReading.{has_some}
 use Rattle.sedck_script.proofs.parsing.commands.Goals as goal
 
-pub returns-in_err-items-clause-refused : goal.returns-in_err-items-clause-refused
-returns-in_err-items-clause-refused c = if_err_from _ c.from_residual.result _ c.from_residual.ensures.1
-    (λ memory. no_program (c.in_err-items.ensures.refused memory))
-
 pub returns-in_err-commands-clause-refused : goal.returns-in_err-commands-clause-refused
 returns-in_err-commands-clause-refused c =
-    if_err_from _ c.from_residual-in_err-commands.result _ c.from_residual-in_err-commands.ensures.1
-    (λ memory. no_target c.in_ok-items.field-0.labels c.in_ok-items.field-0.items.items c.in_ok-items.ensures.read
-    c.in_ok-items.ensures.progress.1.labels (c.in_err-commands.ensures.lost memory))
+    if_err_from _ c.from_residual.result _ c.from_residual.ensures.1
+    (λ memory. no_target c.args.progress.labels c.args.progress.items.items c.requires.items
+    c.requires.progress.1.labels (c.in_err-commands.ensures.lost memory))
 
 pub returns-in_err-commands-clause-placed : goal.returns-in_err-commands-clause-placed
 returns-in_err-commands-clause-placed c =
-    if_err_from _ c.from_residual-in_err-commands.result _ c.from_residual-in_err-commands.ensures.1
-    (elim (c.in_err-commands.ensures.placed c.args.text.now c.in_ok-items.ensures.progress.1.label_places) [
+    if_err_from _ c.from_residual.result _ c.from_residual.ensures.1
+    (elim (c.in_err-commands.ensures.placed c.args.text.now c.requires.progress.1.label_places) [
       | inl memory ↦ subst (IsPlaced c.args.text.now) (sym memory) tt
-      | inr lost ↦ subst (IsPlaced c.args.text.now) (sym lost.2) (undefined_label c.in_ok-items.field-0.labels _ lost.0 lost.1
-          c.in_ok-items.ensures.read c.in_ok-items.ensures.progress.1.labels lost.3 lost.4)
+      | inr lost ↦ subst (IsPlaced c.args.text.now) (sym lost.2) (undefined_label c.args.progress.labels _ lost.0 lost.1
+          c.requires.items c.requires.progress.1.labels lost.3 lost.4)
     ])
 
 previous : (text : List ℕ) (ps : List Pattern) {o : Option ℕ} {place : ℕ} → o ≡ Some place → IsEmptyAt text ps o
@@ -37,9 +33,9 @@ previous text ps e h = subst (IsEmptyAt text ps) e h
 pub returns-in_err-check_previous-clause-refused : goal.returns-in_err-check_previous-clause-refused
 returns-in_err-check_previous-clause-refused c =
     if_err_from _ c.from_residual-in_err-check_previous.result _ c.from_residual-in_err-check_previous.ensures.1
-    (λ memory. no_expression c.in_ok-items.ensures.read c.in_ok-commands.ensures.resolved
+    (λ memory. no_expression c.requires.items c.in_ok-commands.ensures.resolved
     (previous c.args.text.now
-    (item_patterns (map item_of c.in_ok-items.field-0.items.items)) c.in_err-check_previous.ensures.fault.1 c.in_ok-items.ensures.progress.1.empty).0
+    (item_patterns (map item_of c.args.progress.items.items)) c.in_err-check_previous.ensures.fault.1 c.requires.progress.1.empty).0
     (ap (λ v. has_some (expressions (map command_of v))) (sym c.deref.ensures.value) ∙ c.in_err-check_previous.ensures.none))
 
 pub returns-in_err-check_previous-clause-placed : goal.returns-in_err-check_previous-clause-placed
@@ -47,20 +43,16 @@ returns-in_err-check_previous-clause-placed c =
     let fault = c.in_err-check_previous.ensures.fault in
     if_err_from _ c.from_residual-in_err-check_previous.result _ c.from_residual-in_err-check_previous.ensures.1
     (subst (λ f. IsPlaced c.args.text.now f) (sym fault.2)
-    (previous c.args.text.now (item_patterns (map item_of c.in_ok-items.field-0.items.items)) fault.1 c.in_ok-items.ensures.progress.1.empty).1)
+    (previous c.args.text.now (item_patterns (map item_of c.args.progress.items.items)) fault.1 c.requires.progress.1.empty).1)
 
 none_previous : (text : List ℕ) (ps : List Pattern) (o : Option ℕ) → IsEmptyAt text ps o → has_previous ps ≡ true → (place : ℕ) × (o ≡ Some place)
 none_previous text ps None h k = absurd (both_ways (has_previous ps) h k)
 none_previous text ps (Some place) h k = (place, refl)
 
 pub returns-clause-read : goal.returns-clause-read
-returns-clause-read c = (
-  map item_of c.in_ok-items.field-0.items.items,
-  c.in_ok-items.ensures.read,
-  are_commands c.in_ok-items.field-0.labels c.in_ok-items.ensures.progress.1.labels c.in_ok-commands.ensures.resolved
-      (omega (arith, c.in_ok-items.ensures.progress.1.few, c.in_ok-items.ensures.progress.1.count))
-      (λ h. let some =
-      none_previous c.args.text.now
-      (item_patterns (map item_of c.in_ok-items.field-0.items.items)) c.in_ok-items.field-0.empty c.in_ok-items.ensures.progress.1.empty h in
-      ap (λ v. has_some (expressions (map command_of v))) (sym c.deref.ensures.value) ∙ c.in_ok-check_previous.ensures.found some.0 some.1),
-)
+returns-clause-read c = are_commands c.args.progress.labels c.requires.progress.1.labels c.in_ok-commands.ensures.resolved
+    (omega (arith, c.requires.progress.1.few, c.requires.progress.1.count))
+    (λ h. let some =
+    none_previous c.args.text.now
+    (item_patterns (map item_of c.args.progress.items.items)) c.args.progress.empty c.requires.progress.1.empty h in
+    ap (λ v. has_some (expressions (map command_of v))) (sym c.deref.ensures.value) ∙ c.in_ok-check_previous.ensures.found some.0 some.1)

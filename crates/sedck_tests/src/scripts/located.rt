@@ -1,0 +1,49 @@
+//! Where the commands of scripts stand, counted by hand.
+use crate::texts::require;
+use sedck_script::{Location, locate};
+
+/// A text, and the start, the verb and the end of each command.
+type Row = (&'static [u8], &'static [(usize, usize, usize)]);
+
+static SCRIPTS: [Row; 18] = [
+    (b"", &[]),
+    (b"p", &[(0, 0, 1)]),
+    (b" \n;p ", &[(3, 3, 5)]),
+    (b"p;p\np", &[(0, 0, 1), (2, 2, 3), (4, 4, 5)]),
+    (b"1,$!  p", &[(0, 6, 7)]),
+    (b"/a}/ ! !d ;x", &[(0, 8, 10), (11, 11, 12)]),
+    (b"!p", &[(0, 1, 2)]),
+    (b"\\,a\\,,p", &[(0, 6, 7)]),
+    // blocks: a `}` is no command
+    (b"$!{p}", &[(0, 2, 3), (3, 3, 4)]),
+    (b"1{p;}\nx", &[(0, 1, 2), (2, 2, 3), (6, 6, 7)]),
+    (b"{{p}};x", &[(0, 0, 1), (1, 1, 2), (2, 2, 3), (6, 6, 7)]),
+    // comments
+    (b"#n\np#c\n#d\nq", &[(3, 3, 4), (10, 10, 11)]),
+    (b":a ;b a", &[(0, 0, 3), (4, 4, 7)]),
+    // texts over lines, and names to the end of the line
+    (b"a\\\nx\\\ny\nx", &[(0, 0, 7), (8, 8, 9)]),
+    (b"s/a/;/w f;x\np", &[(0, 0, 11), (12, 12, 13)]),
+    (b"2r f;p\nq", &[(0, 1, 6), (7, 7, 8)]),
+    (b"{/a/,2s/x/}/g }", &[(0, 0, 1), (1, 6, 14)]),
+    (b"y/ab/cd/\t\n=", &[(0, 0, 9), (10, 10, 11)]),
+];
+
+#[test]
+fn located(rt: HostRuntime) {
+    for (text, rows) in &SCRIPTS {
+        let Ok(located) = locate(rt.alloc(), text) else {
+            panic!(rt; "refused: {text:?}");
+        };
+        assert_eq!(rt; located.script.commands().len(), rows.len(), "{text:?}");
+        assert_eq!(rt; located.locations.len(), rows.len(), "{text:?}");
+        for (location, (start, verb, end)) in located.locations.iter().zip(*rows) {
+            let expected = Location {
+                start: *start,
+                verb: *verb,
+                end: *end,
+            };
+            require(&rt, *location == expected, text);
+        }
+    }
+}
