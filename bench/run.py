@@ -80,6 +80,18 @@ def forward_branches(draw):
     return b"".join(out) + b":l2047\n"
 
 
+def substitutions_with_branches(draw):
+    """Labels, each followed by a substitution and by a branch that may be passed by, its target drawn among the labels after it."""
+    out = [b":l%d\ns/a/b/\n/x/b l%d\n" % (i, draw.randrange(i + 1, 1365)) for i in range(1364)]
+    return b"".join(out) + b":l1364\n"
+
+
+def round_trip(order):
+    """Labels in the order of their numbers, each followed by a substitution and by a branch to the next label of another order."""
+    after = dict(zip(order, order[1:] + order[:1]))
+    return b"".join(b":l%d\ns/a/b/\nb l%d\n" % (i, after[i]) for i in range(len(order)))
+
+
 def scripts():
     """Scripts for `rank`, with the status that it answers."""
     yield "4,095 of `p`", b"p\n" * COMMANDS, 0
@@ -108,6 +120,12 @@ def scripts():
     joined = b"".join(b"/x/b l%d\n" % i for i in range(300)) + b"b z\n" + parts + b":z\n" + b"s/a/b/\n" * 2500
     yield "300 branches to parts that join 2,500 of `s/a/b/`", joined, 0
     yield "random forward branches over 2,047 labels", forward_branches(random.Random(2024)), 0
+    yield "1,364 labels with `s` and a random `/x/b` forward", substitutions_with_branches(random.Random(1)), 0
+    drawn = list(range(1365))
+    random.Random(3).shuffle(drawn)
+    yield "an idle loop through 1,365 labels in random order", round_trip(drawn), 1
+    to_and_fro = [label for pair in zip(range(682), range(1363, 681, -1)) for label in pair]
+    yield "an idle loop that jumps to and fro 1,364 times", round_trip(to_and_fro), 1
 
 
 def measure(program, folder, words, status):
