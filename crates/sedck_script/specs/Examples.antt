@@ -1,5 +1,5 @@
 -- Worked examples of scripts: what some texts spell, part by part.
-use Rattle.std.specs.Prelude.{◌≡◌, ℕ, Bool, true, false, List, [], ◌∷◌, Some, codes}
+use Rattle.std.specs.Prelude.{◌≡◌, ℕ, true, false, List, [], ◌∷◌, Some, codes}
 use Rattle.sedck_bre.specs.Bytes.{newline, slash, backslash}
 use Rattle.sedck_script.specs.Program.{Verb, NoAddress, One, Last, Part, Text, Whole, Newline, Label, Branch, Block, NextAppend, Print, Command}
 use Rattle.sedck_script.specs.Parts.{DelimitedExpression, DelimitedList, Replacement, EscapedPart, GivenText}

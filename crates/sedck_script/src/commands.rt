@@ -19,7 +19,7 @@ use crate::addresses::address_at;
 use crate::bytes::marks_len;
 use crate::fault::ScriptFault;
 use crate::limits::{COMMAND_LIMIT, DEPTH_LIMIT};
-use crate::location::Location;
+use crate::location::location_of;
 use crate::script::{Address, Pattern, Verb};
 use crate::verbs::{Written, verb_at};
 use crate::written::WrittenCommand;
@@ -153,11 +153,7 @@ pub fn command_at<'a>(
         alloc, whole, labels, &address, negated, depth, count, begins,
     )?;
     let empty = empty.or(empty_verb(&verb, whole.len() - begins.len().saturating_sub(2)));
-    let location = Location {
-        start: whole.len() - text.len(),
-        verb: whole.len() - begins.len(),
-        end: whole.len() - rest.len(),
-    };
+    let location = location_of(whole, text, begins, rest);
     let command = WrittenCommand {
         address,
         negated,

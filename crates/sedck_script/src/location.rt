@@ -1,6 +1,6 @@
 //! Where commands stand in the text.
 
-ghost use Rattle.std.specs.Prelude.{◌≡◌, IfOk, IfErr};
+ghost use Rattle.std.specs.Prelude.{◌≡◌, ◌≤◌, ◌-◌, length, IfOk, IfErr};
 ghost use Rattle.sedck_script.specs.Private.ItemReading.{locations_in};
 
 use crate::fault::ScriptFault;
@@ -17,6 +17,20 @@ pub struct Location {
     /// Where it ends: behind its blanks the newline, `;`, `}` or comment that ends it, for `{` the byte behind it,
     /// and for a command with a text or a file name the newline behind these, or the end of the script.
     pub end: usize,
+}
+
+/// Where a command of the whole text stands: it starts with the text, its verb begins the second one, and the rest follows it.
+pub fn location_of(whole: &[u8], text: &[u8], begins: &[u8], rest: &[u8]) -> Location
+    requires text { length text.now ≤ length whole.now }
+    requires begins { length begins.now ≤ length text.now }
+    requires rest { length rest.now ≤ length begins.now }
+    ensures { result ≡ record { start = length whole.now - length text.now; verb = length whole.now - length begins.now; end = length whole.now - length rest.now } }
+{
+    Location {
+        start: whole.len() - text.len(),
+        verb: whole.len() - begins.len(),
+        end: whole.len() - rest.len(),
+    }
 }
 
 /// The locations of the commands among the items, in order.

@@ -1,4 +1,4 @@
-use Rattle.std.proofs.Common.{refl, sym, ◌∙◌, arith}
+use Rattle.std.proofs.Common.{sym, ◌∙◌, arith}
 use Rattle.sedck_script.specs.Program.{address_patterns}
 use Rattle.sedck_script.specs.View.{address_of}
 use Rattle.sedck_script.specs.Private.VerbReading.{written_verb}
@@ -33,23 +33,17 @@ pub returns-clause-located : goal.returns-clause-located
 returns-clause-located c = λ address negated verb rest command.
     let parts = command_parts c.in_ok-address.ensures.only c.split_marks.ensures command in
     let begins = command_begins c.in_ok-address.ensures.only c.split_marks.ensures command in
-    rw (begins, (verb_one parts.verbs c.in_ok-verb.ensures.read).1) refl
+    rw (begins, (verb_one parts.verbs c.in_ok-verb.ensures.read).1) c.location_of-location.ensures
 
 pub overflow_sub-whole : goal.overflow_sub-whole
 overflow_sub-whole c =
     omega (arith, tail_length (tail_tail c.requires.tail (tail_tail (address_tail c.in_ok-address.ensures.read) (tail_cut c.split_marks.ensures))))
 
-pub overflow_sub-location-2 : goal.overflow_sub-location-2
-overflow_sub-location-2 c =
-    omega (arith, tail_length (tail_tail c.requires.tail (tail_tail (address_tail c.in_ok-address.ensures.read) (tail_cut c.split_marks.ensures))))
+pub location_of-location-requires-clause-begins : goal.location_of-location-requires-clause-begins
+location_of-location-requires-clause-begins c = tail_length (tail_tail (address_tail c.in_ok-address.ensures.read) (tail_cut c.split_marks.ensures))
 
-pub overflow_sub-location-3 : goal.overflow_sub-location-3
-overflow_sub-location-3 c =
-    omega (
-      arith,
-      tail_length (tail_tail c.requires.tail (tail_tail (address_tail c.in_ok-address.ensures.read) (tail_cut c.split_marks.ensures))),
-      verb_text_shorter c.in_ok-verb.ensures.read,
-    )
+pub location_of-location-requires-clause-rest : goal.location_of-location-requires-clause-rest
+location_of-location-requires-clause-rest c = omega (arith, verb_text_shorter c.in_ok-verb.ensures.read)
 
 pub returns-clause-empty : goal.returns-clause-empty
 returns-clause-empty c =
