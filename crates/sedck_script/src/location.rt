@@ -14,12 +14,13 @@ pub struct Location {
     pub start: usize,
     /// The byte of its verb.
     pub verb: usize,
-    /// Where it ends: behind its blanks the newline, `;`, `}` or comment that ends it, for `{` the byte behind it,
-    /// and for a command with a text or a file name the newline behind these, or the end of the script.
+    /// Where it ends: after its blanks the newline, `;`, `}` or comment that ends it; for `{` the next byte;
+    /// for a text or a file name the newline after it; and else the end of the script.
     pub end: usize,
 }
 
-/// Where a command of the whole text stands: it starts with the text, its verb begins the second one, and the rest follows it.
+/// Where a command stands in the whole text: it starts where `text` begins, its verb where `begins` does,
+/// and `rest` follows it.
 pub fn location_of(whole: &[u8], text: &[u8], begins: &[u8], rest: &[u8]) -> Location
     requires text { length text.now ≤ length whole.now }
     requires begins { length begins.now ≤ length text.now }
