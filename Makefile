@@ -4,7 +4,7 @@ RT ?= rt
 PREFIX ?= /usr/local
 EXAMPLE = next-line-loop
 
-.PHONY: all build demo test examples refusals streams bench install clean
+.PHONY: all build demo test examples refusals streams bench seds install clean
 
 all: build
 
@@ -52,6 +52,11 @@ streams: build
 bench: build
 	@echo "Measuring build/sedck (bench/run.py prints the table of docs/BENCH.md) ..."
 	python3 bench/run.py build/sedck
+
+# More arguments in SEDS, such as `--folder DIR`, `--scripts N` or `--sed NAME=COMMAND`.
+seds: build
+	@echo "Running every sed that is found beside build/sedck ..."
+	python3 bench/seds.py build/sedck $(SEDS)
 
 install: build
 	@echo "Installing sedck and its manual page under $(PREFIX) ..."

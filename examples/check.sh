@@ -1,6 +1,7 @@
 #!/bin/sh
 # Checks the examples by what README.md says: the answer in each row of its tables, each certificate as `rank`
-# writes it, what each command prints that the documents show, and docs/BELIEVED.md. Needs build/sedck and Python 3.
+# writes it, what each command prints that the documents show, the answers in docs/FAULTS.md and docs/MENDING.md,
+# and docs/BELIEVED.md. Needs build/sedck and Python 3.
 # Says what failed, and ends with status 1 on any failure.
 
 CDPATH= cd -- "$(dirname -- "$0")/.." || exit 1
@@ -82,6 +83,9 @@ awk '/^\.SH/ { page = ($2 == "EXAMPLES") } /^\.R[SE]/ { on = (page && $1 == ".RS
     sed -e 's/\\-/-/g' -e 's/\\e/\\/g' |
     awk '/^> / { text = text substr($0, 2); next } NR > 1 { print text } { text = $0 } END { print text }' > shown
 run_shown docs/sedck.1
+
+# The scripts of the pages on faults and loops.
+(cd "$documents" && python3 tests/pages.py build/sedck docs/FAULTS.md docs/MENDING.md) >&2 || fail "a script of docs/FAULTS.md or docs/MENDING.md isn't answered as the page says"
 
 # The list of what must be believed is made from the contracts, and no exported contract reaches a private definition.
 python3 "$documents/docs/believed.py" --check >&2 || fail "docs/BELIEVED.md or a folder specs/Private isn't as it should be"
