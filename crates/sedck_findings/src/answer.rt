@@ -1,0 +1,104 @@
+//! What the engines answer of a script, alone or with a certificate.
+
+use sedck_cert::{Bound, Cert, CertFault, Fault, Judged, Rejection, Verdict, bound, judge};
+use sedck_script::{Located, Script, ScriptFault, locate};
+use sedck_search::{Found, Walk, search};
+use std::alloc::{AllocError, Global};
+
+/// What is known of a script.
+#[derive(Drop)]
+pub enum Answer {
+    /// The script's text is refused. This is never `OutOfMemory`.
+    ScriptRefused(ScriptFault),
+    /// The certificate's text is refused. This is never `OutOfMemory`.
+    CertificateRefused(CertFault),
+    /// This certificate is accepted: the one that was given, or else one that was found.
+    Accepted {
+        cert: Cert,
+        /// The limit on the steps of the script's runs, where it has one.
+        bound: Option<Bound>,
+    },
+    /// The certificate that was given is rejected.
+    Rejected(Rejection),
+    /// A loop rules all certificates out.
+    Endless(Walk),
+}
+
+impl Answer {
+    /// The exit status: 0 for accepted, 1 for rejected or a loop, 2 for a refused text.
+    pub fn status(&self) -> u8 {
+        match self {
+            Answer::Accepted { .. } => 0,
+            Answer::Rejected(_) | Answer::Endless(_) => 1,
+            Answer::ScriptRefused(_) | Answer::CertificateRefused(_) => 2,
+        }
+    }
+}
+
+/// An answer, and the script with the places of its commands where it isn't refused.
+pub(crate) struct Answered<'a> {
+    pub answer: Answer,
+    pub located: Option<Located<'a>>,
+}
+
+/// Judges the certificate for the script, or searches for one where none is given.
+pub(crate) fn answer_of<'a>(
+    alloc: Global,
+    text: &'a [u8],
+    certificate: Option<&[u8]>,
+) -> Result<Answered<'a>, AllocError> {
+    let located = match locate(alloc, text) {
+        Ok(located) => located,
+        Err(ScriptFault::OutOfMemory) => return Err(AllocError),
+        Err(fault) => {
+            return Ok(Answered {
+                answer: Answer::ScriptRefused(fault),
+                located: None,
+            });
+        }
+    };
+    let answer = match certificate {
+        Some(certificate) => judged_answer(alloc, text, certificate)?,
+        None => found_answer(alloc, &located.script)?,
+    };
+    Ok(Answered {
+        answer,
+        located: Some(located),
+    })
+}
+
+/// The answer of the judge.
+fn judged_answer(alloc: Global, text: &[u8], certificate: &[u8]) -> Result<Answer, AllocError> {
+    match judge(alloc, text, certificate) {
+        Ok(judged) => Ok(verdict_answer(judged)),
+        Err(Fault::Script(ScriptFault::OutOfMemory)) => Err(AllocError),
+        Err(Fault::Certificate(CertFault::OutOfMemory)) => Err(AllocError),
+        Err(Fault::Script(fault)) => Ok(Answer::ScriptRefused(fault)),
+        Err(Fault::Certificate(fault)) => Ok(Answer::CertificateRefused(fault)),
+    }
+}
+
+/// The verdict, with the certificate and its bound where it is accepted.
+fn verdict_answer(judged: Judged) -> Answer {
+    let Judged {
+        script: _,
+        cert,
+        verdict,
+        bound,
+    } = judged;
+    match verdict {
+        Verdict::Accepted => Answer::Accepted { cert, bound },
+        Verdict::Rejected(why) => Answer::Rejected(why),
+    }
+}
+
+/// The answer of the search.
+fn found_answer(alloc: Global, script: &Script) -> Result<Answer, AllocError> {
+    match search(alloc, script)? {
+        Found::Ranks(cert) => {
+            let bound = bound(script, &cert);
+            Ok(Answer::Accepted { cert, bound })
+        }
+        Found::Loop(walk) => Ok(Answer::Endless(walk)),
+    }
+}

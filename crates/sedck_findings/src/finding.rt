@@ -1,0 +1,71 @@
+//! What is reported of a script.
+
+use crate::answer::Answer;
+use crate::places::Position;
+use sedck_flow::{Kind, Node};
+use sedck_script::Script;
+
+/// How much a finding weighs.
+#[derive(Clone, Copy, Debug, PartialEq, Eq)]
+pub enum Level {
+    /// The script or the certificate is refused or rejected, or the script has a loop.
+    Error,
+    /// Look at this twice; it changes no answer.
+    Warning,
+    /// Something to know.
+    Note,
+}
+
+/// A finding, at a place of the script, or of the certificate or the script as a whole.
+#[derive(Drop)]
+pub struct Finding {
+    pub level: Level,
+    /// A name in lower case with hyphens, such as `bad-flag`, `loop-idle`, `not-lowered` or `absolute-name`. It stays the same.
+    pub code: &'static str,
+    /// Where in the script it is.
+    pub position: Option<Position>,
+    /// A sentence without its full stop. Only printable ASCII.
+    pub message: String,
+    /// What to write instead, or how to go on.
+    pub hint: Option<&'static str>,
+    /// What belongs to it, in order: the steps of a loop, the two ends of an edge.
+    pub steps: Vec<Step>,
+}
+
+/// A step of a loop or along an edge that is rejected.
+#[derive(Drop)]
+pub struct Step {
+    /// The node that is left.
+    pub node: Node,
+    /// Where the command is, or none for the script's end.
+    pub position: Option<Position>,
+    /// What the step does. None: the node is only reached.
+    pub kind: Option<Kind>,
+    /// The same in words. Only printable ASCII.
+    pub message: String,
+}
+
+/// A file that the script names.
+#[derive(Drop)]
+pub struct NamedFile<'a> {
+    pub name: &'a [u8],
+    /// The commands that name it, in order.
+    pub positions: Vec<Position>,
+}
+
+/// All that is reported of a script.
+#[derive(Drop)]
+pub struct Explanation<'a> {
+    pub text: &'a [u8],
+    pub answer: Answer,
+    /// None where the script is refused.
+    pub script: Option<Script<'a>>,
+    /// Where the verb of each command is; empty where the script is refused.
+    pub positions: Vec<Position>,
+    /// In the order in which they are reported: errors, then warnings and notes.
+    pub findings: Vec<Finding>,
+    /// Sorted by name.
+    pub reads: Vec<NamedFile<'a>>,
+    /// Sorted by name.
+    pub writes: Vec<NamedFile<'a>>,
+}

@@ -1,0 +1,52 @@
+//! Bytes as a terminal may show them.
+
+use std::alloc::{AllocError, Global};
+
+/// The bytes of a line in printable ASCII: a tab is four spaces, and any other byte that isn't printable ASCII is `\x`
+/// and two digits.
+pub fn shown_line(alloc: Global, bytes: &[u8]) -> Result<String, AllocError> {
+    let mut shown = String::new(alloc);
+    for byte in bytes {
+        match *byte {
+            b'\t' => shown.push_str("    ")?,
+            byte => push_shown(&mut shown, byte)?,
+        }
+    }
+    Ok(shown)
+}
+
+/// The bytes of a name in printable ASCII, from which they can be read back: a backslash is `\\`, and any byte that isn't
+/// printable ASCII is `\x` and two digits.
+pub fn shown_name(alloc: Global, bytes: &[u8]) -> Result<String, AllocError> {
+    let mut shown = String::new(alloc);
+    for byte in bytes {
+        match *byte {
+            b'\\' => shown.push_str("\\\\")?,
+            byte => push_shown(&mut shown, byte)?,
+        }
+    }
+    Ok(shown)
+}
+
+/// Whether a terminal shows the byte as a character of its own.
+pub fn is_printable(byte: u8) -> bool {
+    matches!(byte, b' '..=b'~')
+}
+
+/// Adds the byte, or what stands for it.
+fn push_shown(shown: &mut String, byte: u8) -> Result<(), AllocError> {
+    if is_printable(byte) {
+        return shown.push(char::from(byte));
+    }
+    shown.push_str("\\x")?;
+    shown.push(hexadecimal(byte / 16))?;
+    shown.push(hexadecimal(byte % 16))
+}
+
+/// The hexadecimal digit of a number below 16.
+fn hexadecimal(digit: u8) -> char {
+    match digit {
+        0..=9 => char::from(b'0' + digit),
+        _ => char::from(b'a' + (digit - 10) % 6),
+    }
+}
