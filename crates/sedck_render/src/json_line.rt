@@ -1,9 +1,8 @@
 //! One JSON object for a script, on a line.
 
-use crate::words::level_word;
+use crate::words::{answer_word, kind_word, level_word};
 use sedck_cert::Bound;
 use sedck_findings::{Answer, Explanation, Finding, NamedFile, Position, Step, shown_name};
-use sedck_flow::Kind;
 use serde::Serialize;
 use std::alloc::{AllocError, Global};
 
@@ -140,27 +139,6 @@ fn json_of<'a>(
         findings,
         commands: json_positions(alloc, &explanation.positions)?,
     })
-}
-
-/// The word for the answer.
-fn answer_word(answer: &Answer) -> &'static str {
-    match answer {
-        Answer::Accepted { .. } => "accepted",
-        Answer::Rejected(_) => "rejected",
-        Answer::Endless(_) => "loop",
-        Answer::ScriptRefused(_) => "script-refused",
-        Answer::CertificateRefused(_) => "certificate-refused",
-    }
-}
-
-/// The word for the kind.
-fn kind_word(kind: Kind) -> &'static str {
-    match kind {
-        Kind::Consume => "consume",
-        Kind::Shorten => "shorten",
-        Kind::Keep => "keep",
-        Kind::Grow => "grow",
-    }
 }
 
 fn json_bound(answer: &Answer) -> Option<JsonBound> {

@@ -4,7 +4,9 @@
 //! taken from the script is shown in printable ASCII.
 #![tactic(auto)]
 
+mod dot;
 mod excerpt;
+mod flow;
 mod gcc;
 mod json_line;
 mod parts;
@@ -12,6 +14,7 @@ mod summary;
 mod text;
 mod words;
 
+pub use dot::dot_report;
 pub use gcc::gcc_report;
 pub use json_line::json_report;
 pub use text::text_report;

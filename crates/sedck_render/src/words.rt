@@ -1,6 +1,7 @@
 //! Words and numbers that several formats share.
 
-use sedck_findings::{Level, Position};
+use sedck_findings::{Answer, Level, Position};
+use sedck_flow::Kind;
 use std::alloc::{AllocError, Global};
 
 /// The word for a level.
@@ -9,6 +10,27 @@ pub(crate) fn level_word(level: Level) -> &'static str {
         Level::Error => "error",
         Level::Warning => "warning",
         Level::Note => "note",
+    }
+}
+
+/// The word for the answer.
+pub(crate) fn answer_word(answer: &Answer) -> &'static str {
+    match answer {
+        Answer::Accepted { .. } => "accepted",
+        Answer::Rejected(_) => "rejected",
+        Answer::Endless(_) => "loop",
+        Answer::ScriptRefused(_) => "script-refused",
+        Answer::CertificateRefused(_) => "certificate-refused",
+    }
+}
+
+/// The word for the kind.
+pub(crate) fn kind_word(kind: Kind) -> &'static str {
+    match kind {
+        Kind::Consume => "consume",
+        Kind::Shorten => "shorten",
+        Kind::Keep => "keep",
+        Kind::Grow => "grow",
     }
 }
 
