@@ -1,0 +1,72 @@
+//! A finding in a page.
+
+use crate::excerpt::excerpt;
+use crate::markup::{push_element, push_html, push_place};
+use crate::words::level_word;
+use sedck_findings::{Explanation, Finding, Step};
+use std::alloc::{AllocError, Global};
+
+/// The most characters of a line that are shown beside a step.
+const STEP_WIDTH: usize = 60;
+
+/// Adds the finding: its level, message and code, its steps and its hint.
+pub(crate) fn push_box(
+    alloc: Global,
+    out: &mut String,
+    explanation: &Explanation,
+    finding: &Finding,
+    index: usize,
+) -> Result<(), AllocError> {
+    let level = level_word(finding.level);
+    let head = format!(in alloc;
+        "<div class=\"finding {level}\" id=\"F{index}\"><p><strong class=\"{level}\">{level}</strong>"
+    )?;
+    out.push_str(head.as_str())?;
+    if let Some(position) = finding.position {
+        let column = position.column;
+        out.push_str(format!(in alloc; " at column {column}")?.as_str())?;
+    }
+    out.push_str(": ")?;
+    push_html(out, finding.message.as_str())?;
+    out.push_str(" <code class=\"soft\">[")?;
+    push_html(out, finding.code)?;
+    out.push_str("]</code></p>")?;
+    push_steps(alloc, out, explanation.text, &finding.steps)?;
+    if let Some(hint) = finding.hint {
+        out.push_str("<p><strong>hint</strong>: ")?;
+        push_html(out, hint)?;
+        out.push_str("</p>")?;
+    }
+    out.push_str("</div>")
+}
+
+/// Adds the steps as a list.
+fn push_steps(
+    alloc: Global,
+    out: &mut String,
+    text: &[u8],
+    steps: &[Step],
+) -> Result<(), AllocError> {
+    if steps.is_empty() {
+        return Ok(());
+    }
+    out.push_str("<ol>")?;
+    for step in steps {
+        push_step(alloc, out, text, step)?;
+    }
+    out.push_str("</ol>")
+}
+
+/// Adds a step: its place, its line and what it does.
+fn push_step(alloc: Global, out: &mut String, text: &[u8], step: &Step) -> Result<(), AllocError> {
+    out.push_str("<li>")?;
+    push_place(alloc, out, step.position)?;
+    out.push(' ')?;
+    if let Some(position) = step.position {
+        let line = excerpt(alloc, text, position, STEP_WIDTH)?;
+        push_element(out, "code", line.shown.as_str().trim_ascii())?;
+        out.push(' ')?;
+    }
+    push_html(out, step.message.as_str())?;
+    out.push_str("</li>")
+}

@@ -1,0 +1,78 @@
+//! Which jump is drawn where beside the lines.
+
+use crate::jumps::Jump;
+use std::alloc::{AllocError, Global};
+
+/// The most jumps that are drawn beside one line.
+const LANES: usize = 12;
+
+/// Jumps that share no line.
+#[derive(Drop)]
+pub(crate) struct Lane {
+    jumps: Vec<Jump>,
+    next: usize,
+}
+
+impl Lane {
+    /// Whether the jump shares no line with those that are here.
+    fn has_room(&self, jump: Jump) -> bool {
+        for other in &self.jumps {
+            if jump.top() <= other.bottom() && other.top() <= jump.bottom() {
+                return false;
+            }
+        }
+        true
+    }
+
+    /// The jump that begins, ends or passes at the line. The lines are asked for in order, from the first one on.
+    pub(crate) fn at(&mut self, line: usize) -> Option<Jump> {
+        let mut jump = self.jumps.get(self.next).copied()?;
+        if jump.bottom() < line {
+            self.next = self.next.saturating_add(1);
+            jump = self.jumps.get(self.next).copied()?;
+        }
+        if jump.top() <= line { Some(jump) } else { None }
+    }
+}
+
+/// Jumps in lanes, of which the first one is next to the lines, and how many found no room.
+#[derive(Drop)]
+pub(crate) struct Drawing {
+    pub lanes: Vec<Lane>,
+    pub left_out: usize,
+}
+
+/// Gives each jump a lane, shorter ones first, while there is room.
+pub(crate) fn drawing_of(alloc: Global, jumps: Vec<Jump>) -> Result<Drawing, AllocError> {
+    let mut jumps = jumps;
+    jumps.sort_by_key(|jump| jump.span())?;
+    let mut drawing = Drawing {
+        lanes: Vec::new(alloc),
+        left_out: 0,
+    };
+    for jump in &jumps {
+        add_jump(alloc, &mut drawing, *jump)?;
+    }
+    for lane in &mut drawing.lanes {
+        lane.jumps.sort_by_key(|jump| jump.top())?;
+    }
+    Ok(drawing)
+}
+
+/// Adds the jump to the first lane that has room for it, or to a new one.
+fn add_jump(alloc: Global, drawing: &mut Drawing, jump: Jump) -> Result<(), AllocError> {
+    for lane in &mut drawing.lanes {
+        if lane.has_room(jump) {
+            lane.jumps.push(jump)?;
+            return Ok(());
+        }
+    }
+    if drawing.lanes.len() >= LANES {
+        drawing.left_out = drawing.left_out.saturating_add(1);
+        return Ok(());
+    }
+    let mut jumps = Vec::new(alloc);
+    jumps.push(jump)?;
+    drawing.lanes.push(Lane { jumps, next: 0 })?;
+    Ok(())
+}

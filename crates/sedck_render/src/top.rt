@@ -1,0 +1,95 @@
+//! The top of a page: the answer, and what was found.
+
+use crate::boxes::push_box;
+use crate::markup::{push_element, push_html};
+use crate::summary::bound_words;
+use crate::words::level_word;
+use sedck_findings::{Answer, Explanation, Finding};
+use std::alloc::{AllocError, Global};
+
+/// Adds the answer, the limit on steps, and a list of the findings, with links to those that are beside a line.
+pub(crate) fn push_top(
+    alloc: Global,
+    out: &mut String,
+    explanation: &Explanation,
+) -> Result<(), AllocError> {
+    let (class, answer) = answer_words(&explanation.answer);
+    out.push_str("<p class=\"answer ")?;
+    out.push_str(class)?;
+    out.push_str("\">")?;
+    push_html(out, answer)?;
+    out.push_str("</p>\n")?;
+    push_limit(alloc, out, &explanation.answer)?;
+    if explanation.findings.is_empty() {
+        return Ok(());
+    }
+    push_element(out, "h2", "Findings")?;
+    out.push_str("\n<ul>\n")?;
+    for (index, finding) in explanation.findings.iter().enumerate() {
+        push_entry(alloc, out, finding, index)?;
+    }
+    out.push_str("</ul>\n")?;
+    push_whole(alloc, out, explanation)
+}
+
+/// The class and the words of the answer.
+fn answer_words(answer: &Answer) -> (&'static str, &'static str) {
+    match answer {
+        Answer::Accepted { .. } => ("accepted", "Accepted: every run of the script ends."),
+        Answer::Rejected(_) => ("error", "The certificate is rejected."),
+        Answer::Endless(_) => ("error", "A loop rules out every certificate."),
+        Answer::ScriptRefused(_) => ("error", "The script is refused."),
+        Answer::CertificateRefused(_) => ("error", "The certificate is refused."),
+    }
+}
+
+/// Adds the limit on steps, where there is one.
+fn push_limit(alloc: Global, out: &mut String, answer: &Answer) -> Result<(), AllocError> {
+    let Answer::Accepted { bound, .. } = answer else {
+        return Ok(());
+    };
+    let Some(bound) = *bound else {
+        return Ok(());
+    };
+    out.push_str("<p>Steps of a run: ")?;
+    push_html(out, bound_words(alloc, bound)?.as_str())?;
+    out.push_str(".</p>\n")
+}
+
+/// Adds a line for a finding: a link where it is beside a line.
+fn push_entry(
+    alloc: Global,
+    out: &mut String,
+    finding: &Finding,
+    index: usize,
+) -> Result<(), AllocError> {
+    let level = level_word(finding.level);
+    out.push_str(format!(in alloc; "<li><a href=\"#F{index}\">")?.as_str())?;
+    match finding.position {
+        Some(position) => {
+            let line = position.line;
+            let column = position.column;
+            out.push_str(format!(in alloc; "{line}:{column} {level}</a>: ")?.as_str())?;
+        }
+        None => {
+            out.push_str(level)?;
+            out.push_str("</a>: ")?;
+        }
+    }
+    push_html(out, finding.message.as_str())?;
+    out.push_str("</li>\n")
+}
+
+/// Adds the findings that are beside no line.
+fn push_whole(
+    alloc: Global,
+    out: &mut String,
+    explanation: &Explanation,
+) -> Result<(), AllocError> {
+    for (index, finding) in explanation.findings.iter().enumerate() {
+        if finding.position.is_none() {
+            push_box(alloc, out, explanation, finding, index)?;
+        }
+    }
+    Ok(())
+}
