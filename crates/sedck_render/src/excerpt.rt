@@ -1,0 +1,106 @@
+//! A line of a script around one of its bytes.
+
+use sedck_findings::{Position, is_printable, shown_line};
+use std::alloc::{AllocError, Global};
+
+/// What stands for a part of a line that is left out.
+const CUT: &str = "...";
+
+/// A line around one of its bytes, as it is shown: in printable ASCII.
+#[derive(Drop)]
+pub(crate) struct LinePart {
+    pub shown: String,
+    /// How many shown characters precede the byte.
+    pub before: usize,
+}
+
+/// The line in which the position is, around it: whole where that is at most `limit` characters wide, else so much of it, with
+/// dots for what is left out. The time doesn't depend on the line's length.
+pub(crate) fn excerpt(
+    alloc: Global,
+    text: &[u8],
+    position: Position,
+    limit: usize,
+) -> Result<LinePart, AllocError> {
+    let before = before(text, position);
+    let behind = behind(text, position, limit);
+    let needed = width(last_part(before, limit));
+    let room = limit.saturating_sub(width(behind)).max(limit / 2);
+    let left = fitting_end(before, room.min(needed));
+    let right = fitting_start(behind, limit.saturating_sub(width(left)));
+    let mut shown = String::new(alloc);
+    if left.len() < before.len() {
+        shown.push_str(CUT)?;
+    }
+    shown.push_str(shown_line(alloc, left)?.as_str())?;
+    let before = shown.len();
+    shown.push_str(shown_line(alloc, right)?.as_str())?;
+    if right.len() < behind.len() {
+        shown.push_str(CUT)?;
+    }
+    Ok(LinePart { shown, before })
+}
+
+/// What precedes the position in its line.
+fn before(text: &[u8], position: Position) -> &[u8] {
+    let start = position
+        .offset
+        .saturating_sub(position.column.saturating_sub(1));
+    text.get(start..position.offset).unwrap_or(&[])
+}
+
+/// What follows the position in its line, from the byte there: no more than one byte over the limit.
+fn behind(text: &[u8], position: Position, limit: usize) -> &[u8] {
+    let rest = text.get(position.offset..).unwrap_or(&[]);
+    let part = rest.get(..limit.saturating_add(1)).unwrap_or(rest);
+    match part.iter().position(|byte| *byte == b'\n') {
+        Some(end) => part.get(..end).unwrap_or(part),
+        None => part,
+    }
+}
+
+/// The last bytes, no more than one over the limit.
+fn last_part(bytes: &[u8], limit: usize) -> &[u8] {
+    let start = bytes.len().saturating_sub(limit.saturating_add(1));
+    bytes.get(start..).unwrap_or(bytes)
+}
+
+/// The most bytes from the start that are shown in the room.
+fn fitting_start(bytes: &[u8], room: usize) -> &[u8] {
+    let mut used = 0usize;
+    for (count, byte) in bytes.iter().enumerate() {
+        used = used.saturating_add(width_of(*byte));
+        if used > room {
+            return bytes.get(..count).unwrap_or(&[]);
+        }
+    }
+    bytes
+}
+
+/// The most bytes before the end that are shown in the room.
+fn fitting_end(bytes: &[u8], room: usize) -> &[u8] {
+    let mut used = 0usize;
+    for (count, byte) in bytes.iter().rev().enumerate() {
+        used = used.saturating_add(width_of(*byte));
+        if used > room {
+            return bytes
+                .get(bytes.len().saturating_sub(count)..)
+                .unwrap_or(&[]);
+        }
+    }
+    bytes
+}
+
+/// How many characters the bytes are shown as.
+fn width(bytes: &[u8]) -> usize {
+    let mut sum = 0usize;
+    for byte in bytes {
+        sum = sum.saturating_add(width_of(*byte));
+    }
+    sum
+}
+
+/// How many characters the byte is shown as.
+fn width_of(byte: u8) -> usize {
+    if is_printable(byte) { 1 } else { 4 }
+}

@@ -1,0 +1,20 @@
+//! What is reported of a script, as bytes: for people at a terminal, for editors, for programs, for Graphviz and for browsers.
+//!
+//! Each function takes the script's path as it is printed, and what is reported. The path has no control characters; all that is
+//! taken from the script is shown in printable ASCII.
+#![tactic(auto)]
+
+mod dot;
+mod excerpt;
+mod flow;
+mod gcc;
+mod json_line;
+mod parts;
+mod summary;
+mod text;
+mod words;
+
+pub use dot::dot_report;
+pub use gcc::gcc_report;
+pub use json_line::json_report;
+pub use text::text_report;
