@@ -1,5 +1,13 @@
 //! What the engines answer of a script, alone or with a certificate.
 
+ghost use Rattle.std.specs.Prelude.{◌≡◌, ℕ, List, IfOk, IfSome, Some, length};
+ghost use Rattle.std.specs.Option.{option_map};
+ghost use Rattle.sedck_script.specs.Locations.{locations_of};
+ghost use Rattle.sedck_script.specs.Items.{Item, Items};
+ghost use Rattle.sedck_cert.specs.Headline.{SpellsOnly, IsJudged};
+ghost use Rattle.sedck_findings.specs.Answers.{IsAnswer, status_of};
+ghost use Rattle.sedck_findings.specs.Private.Answering.{IsFoundAnswer, refusal};
+
 use sedck_cert::{Bound, Cert, CertFault, Fault, Judged, Rejection, Verdict, bound, judge};
 use sedck_script::{Located, Script, ScriptFault, locate};
 use sedck_search::{Found, Walk, search};
@@ -26,7 +34,9 @@ pub enum Answer {
 
 impl Answer {
     /// The exit status: 0 for accepted, 1 for rejected or a loop, 2 for a refused text.
-    pub fn status(&self) -> u8 {
+    pub fn status(&self) -> u8
+        ensures { result ≡ status_of self.now }
+    {
         match self {
             Answer::Accepted { .. } => 0,
             Answer::Rejected(_) | Answer::Endless(_) => 1,
@@ -46,13 +56,17 @@ pub(crate) fn answer_of<'a>(
     alloc: Global,
     text: &'a [u8],
     certificate: Option<&[u8]>,
-) -> Result<Answered<'a>, AllocError> {
+) -> Result<Answered<'a>, AllocError>
+    ensures answer { IfOk result (λ a. IsAnswer text.now (option_map (λ bytes. bytes.now) certificate.entry) a.answer) }
+    ensures script { IfOk result (λ a. IfSome a.located (λ located. SpellsOnly text.now located.script)) }
+    ensures locations { IfOk result (λ a. IfSome a.located (λ located. (items : List Item) (spelled : Items text.now items)
+        → located.locations.items ≡ locations_of (length text.now) spelled)) }
+{
     let located = match locate(alloc, text) {
         Ok(located) => located,
-        Err(ScriptFault::OutOfMemory) => return Err(AllocError),
         Err(fault) => {
             return Ok(Answered {
-                answer: Answer::ScriptRefused(fault),
+                answer: refused(Fault::Script(fault))?,
                 located: None,
             });
         }
@@ -68,18 +82,31 @@ pub(crate) fn answer_of<'a>(
 }
 
 /// The answer of the judge.
-fn judged_answer(alloc: Global, text: &[u8], certificate: &[u8]) -> Result<Answer, AllocError> {
+fn judged_answer(alloc: Global, text: &[u8], certificate: &[u8]) -> Result<Answer, AllocError>
+    ensures { IfOk result (IsAnswer text.now (Some certificate.now)) }
+{
     match judge(alloc, text, certificate) {
         Ok(judged) => Ok(verdict_answer(judged)),
-        Err(Fault::Script(ScriptFault::OutOfMemory)) => Err(AllocError),
-        Err(Fault::Certificate(CertFault::OutOfMemory)) => Err(AllocError),
-        Err(Fault::Script(fault)) => Ok(Answer::ScriptRefused(fault)),
-        Err(Fault::Certificate(fault)) => Ok(Answer::CertificateRefused(fault)),
+        Err(fault) => refused(fault),
+    }
+}
+
+/// The answer for a text that is refused.
+fn refused(fault: Fault) -> Result<Answer, AllocError>
+    ensures { IfOk result (λ answer. refusal fault ≡ Some answer) }
+{
+    match fault {
+        Fault::Script(ScriptFault::OutOfMemory) => Err(AllocError),
+        Fault::Certificate(CertFault::OutOfMemory) => Err(AllocError),
+        Fault::Script(fault) => Ok(Answer::ScriptRefused(fault)),
+        Fault::Certificate(fault) => Ok(Answer::CertificateRefused(fault)),
     }
 }
 
 /// The verdict, with the certificate and its bound where it is accepted.
-fn verdict_answer(judged: Judged) -> Answer {
+fn verdict_answer(judged: Judged) -> Answer
+    ensures { (text bytes : List ℕ) → IsJudged text bytes judged.entry → IsAnswer text (Some bytes) result }
+{
     let Judged {
         script: _,
         cert,
@@ -93,7 +120,9 @@ fn verdict_answer(judged: Judged) -> Answer {
 }
 
 /// The answer of the search.
-fn found_answer(alloc: Global, script: &Script) -> Result<Answer, AllocError> {
+fn found_answer(alloc: Global, script: &Script) -> Result<Answer, AllocError>
+    ensures { IfOk result (IsFoundAnswer script.now) }
+{
     match search(alloc, script)? {
         Found::Ranks(cert) => {
             let bound = bound(script, &cert);

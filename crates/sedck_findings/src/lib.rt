@@ -1,12 +1,21 @@
 //! What is reported of a script for people to read: what the engines answer, with the lines that are meant, the reason and a
 //! way on.
+//!
+//! `explain` answers an `Explanation`: the answer of `sedck_cert::judge` or of `sedck_search::search`, word for word, with
+//! findings that have a position in the script, and the files that it names. How it is printed is the matter of another crate.
 #![tactic(auto)]
 
 mod answer;
+mod certificates;
 mod explaining;
 mod finding;
+mod hints;
+mod loops;
+mod names;
 mod places;
+mod refusals;
 mod shown;
+mod steps;
 
 pub use answer::Answer;
 pub use explaining::explain;

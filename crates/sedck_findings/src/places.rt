@@ -1,5 +1,8 @@
 //! Lines and columns of a text.
 
+ghost use Rattle.std.specs.Prelude.{◌≡◌, ◌+◌, ◌^◌, ◌++◌, ◌∷◌, [], ◌<◌, ◌≤◌, IfOk, List, ℕ, map};
+ghost use Rattle.sedck_findings.specs.Positions.{position_after, position_in};
+
 use memchr::memchr;
 use std::alloc::{AllocError, Global};
 
@@ -17,25 +20,25 @@ pub struct Position {
 /// The position of each of the offsets, in their order. An offset after the text's end counts as the end.
 ///
 /// Where the offsets increase, the time is linear in the text and in their number.
-pub fn positions(
-    alloc: Global,
-    text: &[u8],
-    offsets: &[usize],
-) -> Result<Vec<Position>, AllocError> {
+pub fn positions(alloc: Global, text: &[u8], offsets: &[usize]) -> Result<Vec<Position>, AllocError>
+    ensures { IfOk result (λ positions. positions.items ≡ map (position_in text.now) offsets.now) }
+{
     let mut positions = Vec::new(alloc);
-    let mut position = FIRST;
+    let mut from = FIRST;
     for offset in offsets {
-        if *offset < position.offset {
-            position = FIRST;
+        if *offset < from.offset {
+            from = FIRST;
         }
-        position = moved_on(text, position, *offset);
-        positions.push(position)?;
+        from = moved_on(text, from, *offset);
+        positions.push(from)?;
     }
     Ok(positions)
 }
 
 /// The position of the offset. An offset after the text's end counts as the end.
-pub fn position_at(text: &[u8], offset: usize) -> Position {
+pub fn position_at(text: &[u8], offset: usize) -> Position
+    ensures { result ≡ position_in text.now offset }
+{
     moved_on(text, FIRST, offset)
 }
 
@@ -47,16 +50,25 @@ const FIRST: Position = Position {
 };
 
 /// The position of the offset, from one that isn't after it.
-fn moved_on(text: &[u8], from: Position, offset: usize) -> Position {
+fn moved_on(text: &[u8], from: Position, offset: usize) -> Position
+    requires from { from ≡ position_in text.now from.offset }
+    requires order { from.offset ≤ offset }
+    ensures { result ≡ position_in text.now offset }
+{
     let mut position = from;
-    while position.offset < offset.min(text.len()) {
-        position = after(position, text[position.offset]);
+    for index in from.offset..offset.min(text.len()) {
+        position = after(position, text[index]);
     }
     position
 }
 
 /// The position after this byte.
-fn after(position: Position, byte: u8) -> Position {
+fn after(position: Position, byte: u8) -> Position
+    requires lines { position.line ≤ position.offset + 1 }
+    requires columns { position.column ≤ position.offset + 1 }
+    requires offset { position.offset < 2 ^ 63 }
+    ensures { (before : List ℕ) → position ≡ position_after before → result ≡ position_after (before ++ (byte ∷ [])) }
+{
     let Position {
         offset,
         line,
@@ -78,7 +90,9 @@ fn after(position: Position, byte: u8) -> Position {
 
 /// The line of the text in which the position is, without its newline.
 pub fn line_at(text: &[u8], position: Position) -> &[u8] {
-    let start = position.offset.saturating_sub(position.column.saturating_sub(1));
+    let start = position
+        .offset
+        .saturating_sub(position.column.saturating_sub(1));
     let rest = text.get(start..).unwrap_or(&[]);
     match memchr(b'\n', rest) {
         Some(end) => &rest[..end],

@@ -1,0 +1,5 @@
+-- What the public contracts cite, in reading order.
+pub mod Positions
+pub mod Answers
+-- What functions inside the crate promise each other.
+pub mod Private

@@ -1,0 +1,25 @@
+-- The steps to an answer.
+use Rattle.std.specs.Prelude.{Option, Some, None}
+use Rattle.sedck_script.specs.Program.{Program}
+use Rattle.sedck_cert.specs.Ranked.{Accepts}
+use Rattle.sedck_script.specs.declared.fault.ScriptFault.TheVariants as script
+use Rattle.sedck_cert.specs.Headline.{IsLimit}
+use Rattle.sedck_cert.specs.declared.reading.CertFault.TheVariants as cert
+use Rattle.sedck_cert.specs.declared.verifying.Fault.{Fault}
+use Rattle.sedck_cert.specs.declared.verifying.Fault.TheVariants as below
+use Rattle.sedck_search.specs.Found.{IsLoop}
+use Rattle.sedck_findings.specs.declared.answer.Answer.{Answer}
+use Rattle.sedck_findings.specs.declared.answer.Answer.TheVariants.{ScriptRefused, CertificateRefused, Accepted, Endless}
+
+-- the answer of the search
+abbrev pub IsFoundAnswer : Program → Answer → Type 0
+IsFoundAnswer p (Accepted cert bound) = Accepts p cert × IsLimit p cert bound
+IsFoundAnswer p (Endless walk) = IsLoop p walk
+IsFoundAnswer p _ = ⊥
+
+-- the answer for a text that is refused, and none where memory ran out
+abbrev pub refusal : Fault → Option Answer
+refusal (below.Script script.OutOfMemory) = None
+refusal (below.Certificate cert.OutOfMemory) = None
+refusal (below.Script why) = Some (ScriptRefused why)
+refusal (below.Certificate why) = Some (CertificateRefused why)

@@ -1,0 +1,160 @@
+//! What is reported of a loop, and of a script whose steps have no limit.
+
+ghost use Rattle.std.specs.Prelude.{◌≤◌, length};
+
+use crate::finding::{Finding, Level, Step};
+use crate::places::Position;
+use crate::steps::{position_of, step, target_step};
+use sedck_cert::Cert;
+use sedck_flow::{Edge, Kind, Node, edges_of, node_count};
+use sedck_script::{Script, Verb};
+use sedck_search::{Form, Walk};
+use std::alloc::{AllocError, Global};
+
+/// The finding for a loop that rules all certificates out.
+pub(crate) fn loop_finding(
+    alloc: Global,
+    script: &Script,
+    positions: &[Position],
+    walk: &Walk,
+) -> Result<Finding, AllocError> {
+    let (code, message) = match walk.form {
+        Form::Idle => (
+            "loop-idle",
+            "this loop reads no line, and nothing in it makes the pattern space shorter: a run may go round it for ever",
+        ),
+        Form::Growing => (
+            "loop-growing",
+            "this loop reads no line, and may make the pattern space longer in each round: a run may go round it for ever",
+        ),
+    };
+    let steps = loop_steps(alloc, script, positions, walk)?;
+    Ok(Finding {
+        level: Level::Error,
+        code,
+        position: steps.first().and_then(|step| step.position),
+        message: String::from_str(alloc, message)?,
+        hint: Some(loop_hint(script, walk)),
+        steps,
+    })
+}
+
+/// The steps of the loop, in the order of a run, and the node that it comes back to.
+fn loop_steps(
+    alloc: Global,
+    script: &Script,
+    positions: &[Position],
+    walk: &Walk,
+) -> Result<Vec<Step>, AllocError> {
+    let mut steps = Vec::new(alloc);
+    for index in 0..walk.kinds.len() {
+        let (Some(from), Some(to), Some(kind)) = (
+            walk.nodes.get(index),
+            walk.nodes.get(index + 1),
+            walk.kinds.get(index),
+        ) else {
+            break;
+        };
+        let edge = Edge {
+            from: *from,
+            to: *to,
+            kind: *kind,
+        };
+        steps.push(step(alloc, script, positions, edge)?)?;
+    }
+    if let Some(last) = walk.nodes.last() {
+        steps.push(target_step(alloc, positions, *last, "and so on")?)?;
+    }
+    Ok(steps)
+}
+
+/// How loops of this shape are repaired.
+fn loop_hint(script: &Script, walk: &Walk) -> &'static str {
+    if has_verb(script, walk, VerbForm::Reading) {
+        return "take the branch only where a line was read: put it into the block of the `N` or `n`, as in `/x/{`, `N`, `b a`, `}` on lines of their own";
+    }
+    match walk.form {
+        Form::Growing =>
+            "write the command as often as it may be needed, without the loop; or let one `s` with the flag `g` do all at once",
+        Form::Idle if has_verb(script, walk, VerbForm::Testing) => {
+            "let one `s` with the flag `g` do all at once; or write the command as often as it may be needed, without the loop"
+        }
+        Form::Idle =>
+            "let each round read a line, by `n`, `N` or `d`, or make the pattern space shorter; or go round a fixed number of times by writing the commands as often",
+    }
+}
+
+/// Whether the loop has a command with such a verb.
+fn has_verb(script: &Script, walk: &Walk, form: VerbForm) -> bool {
+    walk.nodes.iter().any(|node| {
+        match script.commands().get(usize::from(node.at)) {
+            Some(command) => is_of(&command.verb, form),
+            None => false,
+        }
+    })
+}
+
+/// Verbs that tell the shapes of loops apart.
+#[derive(Clone, Copy)]
+enum VerbForm {
+    Reading,
+    Testing,
+}
+
+fn is_of(verb: &Verb, form: VerbForm) -> bool {
+    match form {
+        VerbForm::Reading => matches!(verb, Verb::Next | Verb::NextAppend),
+        VerbForm::Testing => matches!(verb, Verb::Test(_)),
+    }
+}
+
+/// A note on the first command that may make the pattern space longer, at a node with ranks, where no limit is given.
+pub(crate) fn unbounded(
+    alloc: Global,
+    script: &Script,
+    positions: &[Position],
+    cert: &Cert,
+) -> Result<Option<Finding>, AllocError> {
+    let Some(edge) = first_growth(script, cert) else {
+        return Ok(None);
+    };
+    let mut steps = Vec::new(alloc);
+    steps.push(step(alloc, script, positions, edge)?)?;
+    Ok(Some(Finding {
+        level: Level::Note,
+        code: "no-bound",
+        position: position_of(positions, edge.from),
+        message: String::from_str(
+            alloc,
+            "every run ends, but no limit on its steps is known, since the pattern space may get longer here",
+        )?,
+        hint: None,
+        steps,
+    }))
+}
+
+/// The first edge on which the pattern space may grow, from a node with ranks.
+fn first_growth(script: &Script, cert: &Cert) -> Option<Edge> {
+    let ranks = cert.ranks();
+    for index in 0..node_count(script.commands().len()) {
+        if !matches!(ranks.get(index), Some(Some(_))) {
+            continue;
+        }
+        if let Some(edge) = growth_from(script, Node::nth(index)) {
+            return Some(edge);
+        }
+    }
+    None
+}
+
+/// The first edge from the node on which the pattern space may grow.
+fn growth_from(script: &Script, node: Node) -> Option<Edge>
+    requires { node.at ≤ length script.now.commands }
+{
+    for edge in edges_of(script, node) {
+        if edge.kind == Kind::Grow {
+            return Some(edge);
+        }
+    }
+    None
+}

@@ -1,0 +1,193 @@
+//! The files that a script names, and the names at which a reader should look twice.
+
+use crate::finding::{Finding, Level, NamedFile};
+use crate::places::Position;
+use crate::shown::{is_printable, shown_name};
+use sedck_script::{Command, Script, Verb};
+use std::alloc::{AllocError, Global};
+
+/// What a command does with the file that it names.
+#[derive(Clone, Copy, PartialEq, Eq)]
+pub(crate) enum Access {
+    Read,
+    Write,
+}
+
+/// The names in this order, each with the positions of the commands that name it. The names are sorted.
+pub(crate) fn named_files<'a>(
+    alloc: Global,
+    names: &[&'a [u8]],
+    script: &Script<'a>,
+    positions: &[Position],
+    access: Access,
+) -> Result<Vec<NamedFile<'a>>, AllocError> {
+    let mut files = Vec::new(alloc);
+    for name in names {
+        files.push(NamedFile {
+            name,
+            positions: Vec::new(alloc),
+        })?;
+    }
+    for (command, position) in script.commands().iter().zip(positions) {
+        let Some(name) = name_of(command, access) else {
+            continue;
+        };
+        let Ok(index) = names.binary_search(&name) else {
+            continue;
+        };
+        if let Some(file) = files.get_mut(index) {
+            file.positions.push(*position)?;
+        }
+    }
+    Ok(files)
+}
+
+/// The file that the command reads or writes.
+fn name_of<'a>(command: &Command<'a>, access: Access) -> Option<&'a [u8]> {
+    match (&command.verb, access) {
+        (Verb::Read(name), Access::Read) | (Verb::Write(name), Access::Write) => Some(*name),
+        (Verb::Substitute(substitution), Access::Write) => substitution.file,
+        _ => None,
+    }
+}
+
+/// A warning for each name at which a reader should look twice, and each reason for it.
+pub(crate) fn name_warnings(
+    alloc: Global,
+    findings: &mut Vec<Finding>,
+    files: &[NamedFile],
+    others: &[NamedFile],
+    access: Access,
+) -> Result<(), AllocError> {
+    for file in files {
+        let doubts = [
+            path_doubt(file.name),
+            upward_doubt(file.name),
+            byte_doubt(file.name),
+            end_doubt(file.name),
+            command_doubt(file.name),
+            both_doubt(file, others, access),
+        ];
+        for doubt in doubts {
+            if let Some(doubt) = doubt {
+                findings.push(warning(alloc, file, access, doubt)?)?;
+            }
+        }
+    }
+    Ok(())
+}
+
+/// Why a name should be looked at twice: the finding's code, and the reason.
+#[derive(Clone, Copy)]
+struct Doubt {
+    code: &'static str,
+    reason: &'static str,
+}
+
+/// The warning on the name for this reason, at the first command that names it.
+fn warning(
+    alloc: Global,
+    file: &NamedFile,
+    access: Access,
+    doubt: Doubt,
+) -> Result<Finding, AllocError> {
+    let does = match access {
+        Access::Read => "reads",
+        Access::Write => "writes",
+    };
+    let name = shown_name(alloc, file.name)?;
+    let reason = doubt.reason;
+    Ok(Finding {
+        level: Level::Warning,
+        code: doubt.code,
+        position: file.positions.first().copied(),
+        message: format!(in alloc; "this {does} \"{name}\": {reason}")?,
+        hint: None,
+        steps: Vec::new(alloc),
+    })
+}
+
+fn path_doubt(name: &[u8]) -> Option<Doubt> {
+    if matches!(name, b"/dev/stdin" | b"/dev/stdout" | b"/dev/stderr") {
+        return Some(Doubt {
+            code: "stream-name",
+            reason: "GNU sed takes it for a stream, other seds for a file",
+        });
+    }
+    let is_device = name.starts_with(b"/dev/")
+        || name.starts_with(b"/proc/")
+        || name.starts_with(b"/sys/");
+    if is_device {
+        return Some(Doubt {
+            code: "device-name",
+            reason: "it may be no plain file, so that reading or writing it need not end",
+        });
+    }
+    if name.starts_with(b"/") {
+        return Some(Doubt {
+            code: "absolute-name",
+            reason: "it is an absolute path",
+        });
+    }
+    None
+}
+
+fn upward_doubt(name: &[u8]) -> Option<Doubt> {
+    if !name
+        .split(|byte| *byte == b'/')
+        .any(|part| matches!(part, b".."))
+    {
+        return None;
+    }
+    Some(Doubt {
+        code: "upward-name",
+        reason: "it leads out of the folder in which the script is run",
+    })
+}
+
+fn byte_doubt(name: &[u8]) -> Option<Doubt> {
+    if name.iter().all(|byte| is_printable(*byte)) {
+        return None;
+    }
+    Some(Doubt {
+        code: "unprintable-name",
+        reason: "it has bytes that a terminal may not show",
+    })
+}
+
+fn end_doubt(name: &[u8]) -> Option<Doubt> {
+    if !name.ends_with(b" ") {
+        return None;
+    }
+    Some(Doubt {
+        code: "blank-at-end",
+        reason: "it ends in a blank",
+    })
+}
+
+fn command_doubt(name: &[u8]) -> Option<Doubt> {
+    if !name.iter().any(|byte| matches!(*byte, b';' | b'}' | b'#')) {
+        return None;
+    }
+    Some(Doubt {
+        code: "command-in-name",
+        reason: "a name goes on to the end of its line; was a command or a comment meant?",
+    })
+}
+
+/// Reported of the writing side alone.
+fn both_doubt(file: &NamedFile, others: &[NamedFile], access: Access) -> Option<Doubt> {
+    if access == Access::Read {
+        return None;
+    }
+    if others
+        .binary_search_by(|other| other.name.cmp(&file.name))
+        .is_err()
+    {
+        return None;
+    }
+    Some(Doubt {
+        code: "read-and-written",
+        reason: "the script reads it too",
+    })
+}
