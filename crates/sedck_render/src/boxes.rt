@@ -1,7 +1,7 @@
 //! A finding in a page.
 
 use crate::excerpt::excerpt;
-use crate::markup::{push_element, push_html, push_place};
+use crate::markup::{push_element, push_html, push_place, push_prose};
 use crate::words::level_word;
 use sedck_findings::{Explanation, Finding, Step};
 use std::alloc::{AllocError, Global};
@@ -27,14 +27,14 @@ pub(crate) fn push_box(
         out.push_str(format!(in alloc; " at column {column}")?.as_str())?;
     }
     out.push_str(": ")?;
-    push_html(out, finding.message.as_str())?;
+    push_prose(out, finding.message.as_str())?;
     out.push_str(" <code class=\"soft\">[")?;
     push_html(out, finding.code)?;
     out.push_str("]</code></p>")?;
     push_steps(alloc, out, explanation.text, &finding.steps)?;
     if let Some(hint) = finding.hint {
         out.push_str("<p><strong>hint</strong>: ")?;
-        push_html(out, hint)?;
+        push_prose(out, hint)?;
         out.push_str("</p>")?;
     }
     out.push_str("</div>")
@@ -67,6 +67,6 @@ fn push_step(alloc: Global, out: &mut String, text: &[u8], step: &Step) -> Resul
         push_element(out, "code", line.shown.as_str().trim_ascii())?;
         out.push(' ')?;
     }
-    push_html(out, step.message.as_str())?;
+    push_prose(out, step.message.as_str())?;
     out.push_str("</li>")
 }

@@ -14,8 +14,11 @@ const LEGEND: &str = "<ul class=\"legend\">
 <li><svg aria-hidden=\"true\"><g class=\"shorten\"><line x1=\"0\" x2=\"48\" y1=\"6\" y2=\"6\"/></g></svg>shorten: the pattern space gets shorter</li>
 <li><svg aria-hidden=\"true\"><g class=\"keep\"><line x1=\"0\" x2=\"48\" y1=\"6\" y2=\"6\"/></g></svg>keep: it doesn&rsquo;t get longer</li>
 <li><svg aria-hidden=\"true\"><g class=\"grow\"><line x1=\"0\" x2=\"48\" y1=\"6\" y2=\"6\"/></g></svg>grow: it may get longer</li>
-<li><svg aria-hidden=\"true\"><g class=\"keep bold\"><line x1=\"0\" x2=\"48\" y1=\"6\" y2=\"6\"/></g></svg>bold: part of the loop</li>
-</ul>
+";
+
+/// What the jumps of a loop look like.
+const LOOP_LEGEND: &str =
+    "<li><svg aria-hidden=\"true\"><g class=\"keep bold\"><line x1=\"0\" x2=\"48\" y1=\"6\" y2=\"6\"/></g></svg>bold: part of the loop</li>
 ";
 
 /// Adds the script's lines with what is beside them, and its end.
@@ -62,6 +65,10 @@ fn push_legend(alloc: Global, out: &mut String, margin: &Margin) -> Result<(), A
         return Ok(());
     }
     out.push_str(LEGEND)?;
+    if margin.has_loop() {
+        out.push_str(LOOP_LEGEND)?;
+    }
+    out.push_str("</ul>\n")?;
     let left_out = margin.drawing.left_out;
     if left_out > 0 {
         let words = format!(in alloc;

@@ -2,7 +2,7 @@
 
 /// Colours for light and dark, lengths in `rem`, so that text may be enlarged.
 pub(crate) const STYLE: &str = "
-:root{color-scheme:light dark;--page:#fff;--ink:#1b1f24;--soft:#57606a;--rule:#d0d7de;--raised:#f6f8fa;--link:#0550ae;--mark:#ffe8a3;--target:#e8f1ff;--error:#b42318;--warning:#835200;--note:#0b6280;--accepted:#166534;--consume:#1d4ed8;--shorten:#15803d;--keep:#6b7280;--grow:#c2410c}
+:root{color-scheme:light dark;--page:#fff;--ink:#1b1f24;--soft:#57606a;--rule:#d0d7de;--raised:#f6f8fa;--link:#0550ae;--mark:#ffe8a3;--target:#e8f1ff;--error:#b42318;--warning:#835200;--note:#0b6280;--accepted:#166534;--consume:#1d4ed8;--shorten:#15803d;--keep:#57606a;--grow:#c2410c}
 @media (prefers-color-scheme:dark){:root{--page:#14171c;--ink:#e6e9ee;--soft:#a3acb8;--rule:#3a424d;--raised:#1d222a;--link:#7cb7ff;--mark:#6b5300;--target:#1c2c44;--error:#ff8a80;--warning:#f2c14e;--note:#7fd3ea;--accepted:#6ddc8b;--consume:#7aa7ff;--shorten:#6ddc8b;--keep:#a3acb8;--grow:#ffa26b}}
 *{box-sizing:border-box}
 body{margin:0 auto;padding:1rem;max-width:72rem;background:var(--page);color:var(--ink);font:1rem/1.5 system-ui,sans-serif}
@@ -38,10 +38,12 @@ mark{background:var(--mark);color:inherit;text-decoration:underline}
 .finding.warning{border-left-color:var(--warning);color:inherit}
 .finding.note{border-left-color:var(--note);color:inherit}
 .finding ol{margin:.25rem 0}
+.finding code,td code{white-space:pre-wrap}
 svg g,svg .line{fill:none;stroke-width:1.5;stroke:currentColor}
 .consume{stroke:var(--consume)!important}
 .shorten{stroke:var(--shorten)!important;stroke-dasharray:8 4}
-.keep{stroke:var(--keep)!important;stroke-dasharray:2 2}
+.keep{stroke:var(--keep)!important;stroke-dasharray:2 2;stroke-width:1.75}
+.keep.bold{stroke-dasharray:3 3}
 .grow{stroke:var(--grow)!important;stroke-dasharray:10 2 2 2 2 2}
 svg .bold{stroke-width:3.5}
 .head{stroke-dasharray:none;stroke-width:1}
