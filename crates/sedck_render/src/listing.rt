@@ -122,6 +122,10 @@ fn push_code(
     bytes: &[u8],
     spots: &[Spot],
 ) -> Result<(), AllocError> {
+    if bytes.is_empty() && spots.is_empty() {
+        return Ok(());
+    }
+    out.push_str("<code>")?;
     let mut start = 0usize;
     for spot in spots {
         let at = spot.column.saturating_sub(1);
@@ -137,7 +141,8 @@ fn push_code(
         out.push_str("</mark>")?;
         start = at.saturating_add(1);
     }
-    push_bytes(alloc, out, bytes.get(start..))
+    push_bytes(alloc, out, bytes.get(start..))?;
+    out.push_str("</code>")
 }
 
 /// Adds bytes of a line as they are shown.
