@@ -95,12 +95,9 @@ fn push_row(
     let spots = margin.spots_at(line);
     match bytes {
         Some(bytes) => {
-            let number = format!(in alloc;
-                "<a class=\"number\" href=\"#L{line}\">{line}</a><code>"
-            )?;
+            let number = format!(in alloc; "<a class=\"number\" href=\"#L{line}\">{line}</a>")?;
             out.push_str(number.as_str())?;
             push_code(alloc, out, bytes, spots)?;
-            out.push_str("</code>")?;
         }
         None => out.push_str("<a class=\"number\" id=\"end\" href=\"#end\">end</a>")?,
     }

@@ -9,9 +9,9 @@ body{margin:0 auto;padding:1rem;max-width:72rem;background:var(--page);color:var
 h1{font-size:1.5rem;margin:0 0 .5rem;overflow-wrap:anywhere}
 h2{font-size:1.15rem;margin:2rem 0 .5rem}
 p{margin:.25rem 0}
-code,.place{font-family:ui-monospace,monospace;font-size:.95rem}
+code{font-family:ui-monospace,monospace;font-size:.95em}
 a{color:var(--link)}
-a:focus-visible,summary:focus-visible,[tabindex]:focus-visible{outline:.2rem solid var(--link);outline-offset:.1rem}
+a:focus-visible,summary:focus-visible{outline:.2rem solid var(--link);outline-offset:.1rem}
 .answer{font-size:1.15rem;font-weight:700}
 .error{color:var(--error)}.warning{color:var(--warning)}.note{color:var(--note)}.accepted{color:var(--accepted)}
 .wide{overflow-x:auto}
@@ -25,12 +25,12 @@ ul,ol{padding-left:1.5rem}
 .script{list-style:none;margin:.5rem 0;padding:.25rem 0;border:.0625rem solid var(--rule);border-radius:.25rem}
 .script>li{position:relative;display:flex;flex-wrap:wrap;min-height:1.5rem;padding-left:calc(var(--jumps) + .25rem);padding-right:.5rem;scroll-margin-top:4rem}
 .script>li:target,.finding:target{background:var(--target)}
-.script>.loop{box-shadow:inset -.3rem 0 var(--error);background:var(--raised)}
+.script>.loop{border-right:.3rem solid var(--error);background:var(--raised)}
 .jumps{position:absolute;left:0;top:0;width:var(--jumps);height:100%;overflow:hidden}
-.number{flex:none;min-width:4ch;margin-right:1rem;text-align:right;color:var(--soft);text-decoration:none;font-family:ui-monospace,monospace;font-size:.95rem;line-height:1.5rem}
+.number{flex:none;min-width:4ch;margin-right:1rem;text-align:right;color:var(--soft);text-decoration:none;font-family:ui-monospace,monospace;font-size:.95em;line-height:1.5rem}
 .number:hover{text-decoration:underline}
 .script>li>code{flex:1 1 0;min-width:0;white-space:pre-wrap;overflow-wrap:anywhere;line-height:1.5rem}
-.tag{flex:none;margin-left:.75rem;font-size:.85rem;line-height:1.5rem;color:var(--error)}
+.tag{flex:none;margin-left:.75rem;font-size:.85em;line-height:1.5rem;color:var(--error)}
 .soft{color:var(--soft)}
 mark{background:var(--mark);color:inherit;text-decoration:underline}
 .finding{flex:1 1 100%;margin:.25rem 0 .5rem;padding:.4rem .75rem;background:var(--raised);border-left:.3rem solid;color:inherit;border-left-color:var(--soft);overflow-wrap:anywhere}
