@@ -1,7 +1,7 @@
 //! A finding in a page.
 
-use crate::excerpt::excerpt;
-use crate::markup::{push_element, push_html, push_place};
+use crate::excerpt::command_line;
+use crate::markup::{push_element, push_html, push_place, push_prose};
 use crate::words::level_word;
 use sedck_findings::{Explanation, Finding, Step};
 use std::alloc::{AllocError, Global};
@@ -27,14 +27,14 @@ pub(crate) fn push_box(
         out.push_str(format!(in alloc; " at column {column}")?.as_str())?;
     }
     out.push_str(": ")?;
-    push_html(out, finding.message.as_str())?;
+    push_prose(out, finding.message.as_str())?;
     out.push_str(" <code class=\"soft\">[")?;
     push_html(out, finding.code)?;
     out.push_str("]</code></p>")?;
-    push_steps(alloc, out, explanation.text, &finding.steps)?;
+    push_steps(alloc, out, explanation, &finding.steps)?;
     if let Some(hint) = finding.hint {
         out.push_str("<p><strong>hint</strong>: ")?;
-        push_html(out, hint)?;
+        push_prose(out, hint)?;
         out.push_str("</p>")?;
     }
     out.push_str("</div>")
@@ -44,7 +44,7 @@ pub(crate) fn push_box(
 fn push_steps(
     alloc: Global,
     out: &mut String,
-    text: &[u8],
+    explanation: &Explanation,
     steps: &[Step],
 ) -> Result<(), AllocError> {
     if steps.is_empty() {
@@ -52,21 +52,26 @@ fn push_steps(
     }
     out.push_str("<ol>")?;
     for step in steps {
-        push_step(alloc, out, text, step)?;
+        push_step(alloc, out, explanation, step)?;
     }
     out.push_str("</ol>")
 }
 
 /// Adds a step: its place, its line and what it does.
-fn push_step(alloc: Global, out: &mut String, text: &[u8], step: &Step) -> Result<(), AllocError> {
+fn push_step(
+    alloc: Global,
+    out: &mut String,
+    explanation: &Explanation,
+    step: &Step,
+) -> Result<(), AllocError> {
     out.push_str("<li>")?;
     push_place(alloc, out, step.position)?;
     out.push(' ')?;
     if let Some(position) = step.position {
-        let line = excerpt(alloc, text, position, STEP_WIDTH)?;
-        push_element(out, "code", line.shown.as_str().trim_ascii())?;
+        let line = command_line(alloc, explanation, step.node.at, position, STEP_WIDTH)?;
+        push_element(out, "code", line.as_str())?;
         out.push(' ')?;
     }
-    push_html(out, step.message.as_str())?;
+    push_prose(out, step.message.as_str())?;
     out.push_str("</li>")
 }

@@ -1,6 +1,6 @@
 //! The flow graph for Graphviz.
 
-use crate::excerpt::excerpt;
+use crate::excerpt::command_line;
 use crate::flow::{Reached, is_of_loop, loop_edges, reached_part};
 use crate::words::{answer_word, kind_word, place_words};
 use sedck_findings::{Explanation, Position};
@@ -87,7 +87,7 @@ fn push_node(
         out.push_str(" [$]")?;
     }
     match position {
-        Some(position) => push_source(alloc, out, explanation.text, position),
+        Some(position) => push_source(alloc, out, explanation, node, position),
         None => out.push_str("\", shape=oval];\n"),
     }
 }
@@ -96,12 +96,13 @@ fn push_node(
 fn push_source(
     alloc: Global,
     out: &mut String,
-    text: &[u8],
+    explanation: &Explanation,
+    node: Node,
     position: Position,
 ) -> Result<(), AllocError> {
-    let line = excerpt(alloc, text, position, BOX_WIDTH)?;
+    let line = command_line(alloc, explanation, node.at, position, BOX_WIDTH)?;
     out.push_str("\\n")?;
-    push_escaped(out, line.shown.as_str().trim_ascii())?;
+    push_escaped(out, line.as_str())?;
     out.push_str("\"];\n")
 }
 

@@ -1,6 +1,6 @@
 //! A line of a script around one of its bytes.
 
-use sedck_findings::{Position, is_printable, shown_line};
+use sedck_findings::{Explanation, Position, is_printable, shown_line};
 use std::alloc::{AllocError, Global};
 
 /// What stands for a part of a line that is left out.
@@ -39,6 +39,41 @@ pub(crate) fn excerpt(
         shown.push_str(CUT)?;
     }
     Ok(LinePart { shown, before })
+}
+
+/// The line of a command, cut to `limit` characters and without the blanks around it. Where other commands precede the command in
+/// its line, it begins at the command's verb.
+pub(crate) fn command_line(
+    alloc: Global,
+    explanation: &Explanation,
+    command: u16,
+    position: Position,
+    limit: usize,
+) -> Result<String, AllocError> {
+    let text = explanation.text;
+    if !is_preceded(&explanation.positions, command, position.line) {
+        let whole = excerpt(alloc, text, position, limit)?;
+        return String::from_str(alloc, whole.shown.as_str().trim_ascii());
+    }
+    let rest = behind(text, position, limit);
+    let part = fitting_start(rest, limit);
+    let mut shown = String::from_str(alloc, CUT)?;
+    shown.push_str(shown_line(alloc, part)?.as_str().trim_ascii_end())?;
+    if part.len() < rest.len() {
+        shown.push_str(CUT)?;
+    }
+    Ok(shown)
+}
+
+/// Whether the command before this one is in the same line.
+fn is_preceded(positions: &[Position], command: u16, line: usize) -> bool {
+    let Some(before) = usize::from(command).checked_sub(1) else {
+        return false;
+    };
+    match positions.get(before) {
+        Some(position) => position.line == line,
+        None => false,
+    }
 }
 
 /// What precedes the position in its line.

@@ -14,8 +14,11 @@ const LEGEND: &str = "<ul class=\"legend\">
 <li><svg aria-hidden=\"true\"><g class=\"shorten\"><line x1=\"0\" x2=\"48\" y1=\"6\" y2=\"6\"/></g></svg>shorten: the pattern space gets shorter</li>
 <li><svg aria-hidden=\"true\"><g class=\"keep\"><line x1=\"0\" x2=\"48\" y1=\"6\" y2=\"6\"/></g></svg>keep: it doesn&rsquo;t get longer</li>
 <li><svg aria-hidden=\"true\"><g class=\"grow\"><line x1=\"0\" x2=\"48\" y1=\"6\" y2=\"6\"/></g></svg>grow: it may get longer</li>
-<li><svg aria-hidden=\"true\"><g class=\"keep bold\"><line x1=\"0\" x2=\"48\" y1=\"6\" y2=\"6\"/></g></svg>bold: part of the loop</li>
-</ul>
+";
+
+/// What the jumps of a loop look like.
+const LOOP_LEGEND: &str =
+    "<li><svg aria-hidden=\"true\"><g class=\"keep bold\"><line x1=\"0\" x2=\"48\" y1=\"6\" y2=\"6\"/></g></svg>bold: part of the loop</li>
 ";
 
 /// Adds the script's lines with what is beside them, and its end.
@@ -62,6 +65,10 @@ fn push_legend(alloc: Global, out: &mut String, margin: &Margin) -> Result<(), A
         return Ok(());
     }
     out.push_str(LEGEND)?;
+    if margin.has_loop() {
+        out.push_str(LOOP_LEGEND)?;
+    }
+    out.push_str("</ul>\n")?;
     let left_out = margin.drawing.left_out;
     if left_out > 0 {
         let words = format!(in alloc;
@@ -88,12 +95,9 @@ fn push_row(
     let spots = margin.spots_at(line);
     match bytes {
         Some(bytes) => {
-            let number = format!(in alloc;
-                "<a class=\"number\" href=\"#L{line}\">{line}</a><code>"
-            )?;
+            let number = format!(in alloc; "<a class=\"number\" href=\"#L{line}\">{line}</a>")?;
             out.push_str(number.as_str())?;
             push_code(alloc, out, bytes, spots)?;
-            out.push_str("</code>")?;
         }
         None => out.push_str("<a class=\"number\" id=\"end\" href=\"#end\">end</a>")?,
     }
@@ -115,6 +119,10 @@ fn push_code(
     bytes: &[u8],
     spots: &[Spot],
 ) -> Result<(), AllocError> {
+    if bytes.is_empty() && spots.is_empty() {
+        return Ok(());
+    }
+    out.push_str("<code>")?;
     let mut start = 0usize;
     for spot in spots {
         let at = spot.column.saturating_sub(1);
@@ -130,7 +138,8 @@ fn push_code(
         out.push_str("</mark>")?;
         start = at.saturating_add(1);
     }
-    push_bytes(alloc, out, bytes.get(start..))
+    push_bytes(alloc, out, bytes.get(start..))?;
+    out.push_str("</code>")
 }
 
 /// Adds bytes of a line as they are shown.

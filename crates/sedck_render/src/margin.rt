@@ -36,6 +36,11 @@ impl Margin {
         self.spots.get(start..self.next).unwrap_or(&[])
     }
 
+    /// Whether there is a loop.
+    pub(crate) fn has_loop(&self) -> bool {
+        !self.of_loop.is_empty()
+    }
+
     /// Whether the line has a command of the loop.
     pub(crate) fn is_of_loop(&self, line: usize) -> bool {
         self.of_loop.binary_search(&line).is_ok()

@@ -18,6 +18,18 @@ pub(crate) fn push_html(out: &mut String, words: &str) -> Result<(), AllocError>
     Ok(())
 }
 
+/// Adds a sentence, in which what stands between backticks is code.
+pub(crate) fn push_prose(out: &mut String, words: &str) -> Result<(), AllocError> {
+    let mut is_code = false;
+    for part in words.split('`') {
+        out.push_str(if is_code { "<code>" } else { "" })?;
+        push_html(out, part)?;
+        out.push_str(if is_code { "</code>" } else { "" })?;
+        is_code = !is_code;
+    }
+    Ok(())
+}
+
 /// Adds the words as a whole element without attributes.
 pub(crate) fn push_element(out: &mut String, tag: &str, words: &str) -> Result<(), AllocError> {
     push_tag(out, "<", tag)?;

@@ -3,10 +3,11 @@
 use crate::flow::{Reached, loop_edges, reached_part};
 use crate::jumps::{Jump, command_jumps};
 use crate::listing::push_listing;
-use crate::markup::{push_element, push_html};
+use crate::markup::push_html;
 use crate::page_style::STYLE;
 use crate::tables::{push_files, push_jumps, push_ranks};
 use crate::top::push_top;
+use crate::words::answer_word;
 use sedck_findings::Explanation;
 use std::alloc::{AllocError, Global};
 
@@ -28,8 +29,11 @@ pub fn html_report(
 ) -> Result<Vec<u8>, AllocError> {
     let jumps = jumps_of(alloc, explanation)?;
     let mut out = String::from_str(alloc, HEAD)?;
-    push_element(&mut out, "title", name)?;
-    out.push_str("\n<style>")?;
+    out.push_str("<title>")?;
+    push_html(&mut out, name)?;
+    out.push_str(": ")?;
+    out.push_str(answer_word(&explanation.answer))?;
+    out.push_str("</title>\n<style>")?;
     out.push_str(STYLE)?;
     out.push_str("</style>\n</head>\n<body>\n<header>\n<h1>")?;
     push_html(&mut out, name)?;

@@ -90,7 +90,7 @@ pub(crate) fn push_ranks(
         return Ok(());
     };
     out.push_str(
-        "<h2 id=\"ranks\">Ranks</h2>\n<details><summary>The ranks of the certificate</summary>\n<p>Each step lowers the first number, or keeps it and lowers the second, until a line is read or the pattern space gets shorter. A dash: no run gets there.</p>\n<div class=\"wide\"><table><thead><tr><th scope=\"col\">Command</th><th scope=\"col\">flag reset, lines left</th><th scope=\"col\">flag reset, last line</th><th scope=\"col\">flag set, lines left</th><th scope=\"col\">flag set, last line</th></tr></thead><tbody>\n",
+        "<h2 id=\"ranks\">Ranks</h2>\n<details><summary>The ranks of the certificate</summary>\n<p>Until a line is read, no step increases the first number; a step that may lengthen the pattern space lowers it, and one that only keeps it from getting longer lowers the first number, or else the second. A dash: no run gets there.</p>\n<div class=\"wide\"><table><thead><tr><th scope=\"col\">Command</th><th scope=\"col\">flag reset, lines left</th><th scope=\"col\">flag reset, last line</th><th scope=\"col\">flag set, lines left</th><th scope=\"col\">flag set, last line</th></tr></thead><tbody>\n",
     )?;
     for (index, ranks) in cert.ranks().chunks(4).enumerate() {
         out.push_str("<tr><th scope=\"row\">")?;

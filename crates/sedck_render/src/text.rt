@@ -1,6 +1,6 @@
 //! The report for people at a terminal: each finding with its line, and what an accepted script may do.
 
-use crate::excerpt::excerpt;
+use crate::excerpt::{command_line, excerpt};
 use crate::parts::{headline, prefix};
 use crate::summary::push_summary;
 use crate::words::{place_words, push_aligned, push_padded, push_spaces};
@@ -34,7 +34,7 @@ pub fn text_report(
 ) -> Result<Vec<u8>, AllocError> {
     let mut out = String::new(alloc);
     for finding in &explanation.findings {
-        push_finding(alloc, &mut out, name, explanation.text, finding, colour)?;
+        push_finding(alloc, &mut out, name, explanation, finding, colour)?;
     }
     push_summary(alloc, &mut out, name, explanation, ink_where(colour, GREEN))?;
     Ok(out.into_bytes())
@@ -77,7 +77,7 @@ fn push_finding(
     alloc: Global,
     out: &mut String,
     name: &str,
-    text: &[u8],
+    explanation: &Explanation,
     finding: &Finding,
     colour: bool,
 ) -> Result<(), AllocError> {
@@ -89,9 +89,9 @@ fn push_finding(
     out.push('\n')?;
     let gutter = gutter_width(alloc, finding)?;
     if let Some(position) = finding.position {
-        push_line(alloc, out, text, position, gutter, ink)?;
+        push_line(alloc, out, explanation.text, position, gutter, ink)?;
     }
-    push_steps(alloc, out, text, &finding.steps, gutter)?;
+    push_steps(alloc, out, explanation, &finding.steps, gutter)?;
     push_hint(out, finding.hint, gutter, colour)
 }
 
@@ -159,7 +159,7 @@ struct Row<'a> {
 fn push_steps(
     alloc: Global,
     out: &mut String,
-    text: &[u8],
+    explanation: &Explanation,
     steps: &[Step],
     gutter: usize,
 ) -> Result<(), AllocError> {
@@ -167,7 +167,7 @@ fn push_steps(
     let mut place_width = 0;
     let mut source_width = 0;
     for step in steps {
-        let row = step_row(alloc, text, step)?;
+        let row = step_row(alloc, explanation, step)?;
         place_width = place_width.max(row.place.len());
         source_width = source_width.max(row.source.len());
         rows.push(row)?;
@@ -185,13 +185,14 @@ fn push_steps(
 }
 
 /// The parts of a step's line.
-fn step_row<'a>(alloc: Global, text: &[u8], step: &'a Step) -> Result<Row<'a>, AllocError> {
+fn step_row<'a>(
+    alloc: Global,
+    explanation: &Explanation,
+    step: &'a Step,
+) -> Result<Row<'a>, AllocError> {
     let place = place_words(alloc, step.position)?;
     let source = match step.position {
-        Some(position) => {
-            let around = excerpt(alloc, text, position, STEP_WIDTH)?;
-            String::from_str(alloc, around.shown.as_str().trim_ascii_start())?
-        }
+        Some(position) => command_line(alloc, explanation, step.node.at, position, STEP_WIDTH)?,
         None => String::new(alloc),
     };
     Ok(Row {

@@ -1,7 +1,7 @@
 //! The top of a page: the answer, and what was found.
 
 use crate::boxes::push_box;
-use crate::markup::{push_element, push_html};
+use crate::markup::{push_element, push_html, push_prose};
 use crate::summary::bound_words;
 use crate::words::level_word;
 use sedck_findings::{Answer, Explanation, Finding};
@@ -20,6 +20,7 @@ pub(crate) fn push_top(
     push_html(out, answer)?;
     out.push_str("</p>\n")?;
     push_limit(alloc, out, &explanation.answer)?;
+    push_counts(alloc, out, explanation)?;
     if explanation.findings.is_empty() {
         return Ok(());
     }
@@ -56,6 +57,24 @@ fn push_limit(alloc: Global, out: &mut String, answer: &Answer) -> Result<(), Al
     out.push_str(".</p>\n")
 }
 
+/// Adds how many commands and files the script has, unless it is refused.
+fn push_counts(
+    alloc: Global,
+    out: &mut String,
+    explanation: &Explanation,
+) -> Result<(), AllocError> {
+    if explanation.script.is_none() {
+        return Ok(());
+    }
+    let commands = explanation.positions.len();
+    let reads = explanation.reads.len();
+    let writes = explanation.writes.len();
+    let words = format!(in alloc;
+        "<p>Commands: {commands}. <a href=\"#files\">Files</a> that are read: {reads}, and written: {writes}.</p>\n"
+    )?;
+    out.push_str(words.as_str())
+}
+
 /// Adds a line for a finding: a link where it is beside a line.
 fn push_entry(
     alloc: Global,
@@ -76,7 +95,7 @@ fn push_entry(
             out.push_str("</a>: ")?;
         }
     }
-    push_html(out, finding.message.as_str())?;
+    push_prose(out, finding.message.as_str())?;
     out.push_str("</li>\n")
 }
 
