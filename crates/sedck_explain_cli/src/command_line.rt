@@ -39,10 +39,10 @@ pub fn program<R: Files + Input + AllocGlobal, W: Sink, E: Sink>(
     };
     if request.scripts.len() > 1 {
         if request.certificate.is_some() {
-            return refuse(err, b"--cert is for one script\n");
+            return end(err, b"--cert is for one script\n", 3);
         }
         if !request.format.takes_several() {
-            return refuse(err, b"this format is for one script\n");
+            return end(err, b"this format is for one script\n", 3);
         }
     }
     explain_all(rt, &request, colour, out, err)
@@ -176,12 +176,12 @@ fn write_unread<E: Sink>(err: &mut E, path: &str) -> Result<(), Failed> {
     write_all(err, b"\n")
 }
 
-/// Reports that the words ask for nothing known, and answers the exit status.
-fn refuse<E: Sink>(err: &mut E, words: &[u8]) -> u8
-    ensures { result ≡ 3 }
+/// Writes why the program ends, and answers its exit status.
+fn end<E: Sink>(err: &mut E, words: &[u8], status: u8) -> u8
+    ensures { result ≡ status }
 {
     let _ = write_refusal(err, words);
-    3
+    status
 }
 
 /// Writes why the words are refused.
@@ -205,8 +205,7 @@ fn refuse_words<W: Sink, E: Sink>(alloc: Global, error: Error, out: &mut W, err:
             Err(_) => unwritten(err),
         };
     }
-    let _ = write_refusal(err, words.as_bytes());
-    3
+    end(err, words.as_bytes(), 3)
 }
 
 /// The text of an error of `clap`.
@@ -221,23 +220,21 @@ fn words_of(alloc: Global, error: &Error) -> Result<String, AllocError> {
 pub fn words_refused<E: Sink>(err: &mut E) -> u8
     ensures { result ≡ 3 }
 {
-    refuse(err, b"a word of the command line is not UTF-8\n")
+    end(err, b"a word of the command line is not UTF-8\n", 3)
 }
 
 /// Reports that memory ran out, and answers the exit status.
 pub fn out_of_memory<E: Sink>(err: &mut E) -> u8
     ensures { result ≡ 4 }
 {
-    let _ = write_refusal(err, b"out of memory\n");
-    4
+    end(err, b"out of memory\n", 4)
 }
 
 /// Reports that the output can't be written, and answers the exit status.
 fn unwritten<E: Sink>(err: &mut E) -> u8
     ensures { result ≡ 4 }
 {
-    let _ = write_refusal(err, b"cannot write\n");
-    4
+    end(err, b"cannot write\n", 4)
 }
 
 /// The status once the report is flushed. A report that can't be flushed isn't written: then the status is 4, with a line that
