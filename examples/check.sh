@@ -59,29 +59,56 @@ for script in *.sed; do
     cat rows others | grep -q -e "\`${script%.sed}\`" -e " $script" || fail "$script is in no table of README.md"
 done
 
+# Whether this machine has what a block needs: a program, GNU sed, or a locale in UTF-8.
+has() {
+    case $1 in
+        gnu-sed) LC_ALL=C sed --version 2> /dev/null | grep -q '^sed (GNU sed)' ;;
+        utf-8) locale -a 2> /dev/null | grep -qi '^C[.]utf-*8$' ;;
+        *) command -v "$1" > /dev/null ;;
+    esac
+}
+
 # Runs each command of the file `shown`, and compares what they print with it.
 run_shown() {
     grep -q '^[$] ' shown || fail "$1 shows no command"
-    sed -n 's/^[$] //p' shown | while IFS= read -r command; do
+    awk 'sub(/^[$] /, "")' shown | while IFS= read -r command; do
         printf '$ %s\n' "$command"
         sh -c "$command" 2>&1 < /dev/null
     done > printed
     diff shown printed >&2 || fail "$1 shows (<) what isn't printed (>)"
 }
 
-# Each command of the console blocks, with all that it prints.
+# Prints what the blocks of a document show, each of which begins with a line of words that it needs; leaves blocks out for
+# which this machine lacks one of these, and says so.
+blocks_that_run() {
+    lacks=' '
+    for need in $(awk '/^needs /' blocks | tr ' ' '\n' | sort -u); do
+        [ "$need" = needs ] || has "$need" || lacks="$lacks$need "
+    done
+    awk -v lacks="$lacks" -v page="$1" '
+        /^needs( |$)/ { on = 1; for (k = 2; k <= NF; k++) if (index(lacks, " " $k " ")) on = 0; left += !on; next }
+        on
+        END { if (left) print "examples: " page ": blocks left out: " left + 0 ", since this machine lacks" lacks > "/dev/stderr" }
+    ' blocks
+}
+
+# Each command of the console blocks, with all that it prints. After ```console come the words for `has` that a block needs.
 cd .. || exit 1
 PATH=$scratch/build:$PATH
-for document in README.md examples/README.md docs/RECIPES.md; do
-    awk '/^```/ { on = ($0 == "```console"); next } on' "$documents/$document" > shown
+for document in README.md examples/README.md docs/RECIPES.md docs/TRUST.md; do
+    awk 'sub(/^```console/, "needs") { on = 1 } /^```/ { on = 0 } on' "$documents/$document" > blocks
+    blocks_that_run "$document" > shown
     run_shown "$document"
 done
 
 # Those of the manual page, in the folder of the examples: a command that goes on in a line with `> ` is one line.
 cd examples || exit 1
-awk '/^\.SH/ { page = ($2 == "EXAMPLES") } /^\.R[SE]/ { on = (page && $1 == ".RS"); next } on' "$documents/docs/sedck.1" |
-    sed -e 's/\\-/-/g' -e 's/\\e/\\/g' |
-    awk '/^> / { text = text substr($0, 2); next } NR > 1 { print text } { text = $0 } END { print text }' > shown
+awk '/^\.SH/ { page = ($2 == "EXAMPLES") }
+    /^\.\\" needs / { needs = substr($0, 10) }
+    /^\.R[SE]/ { on = (page && $1 == ".RS"); if (on) print "needs" needs; needs = ""; next }
+    on { gsub(/\\-/, "-"); gsub(/\\e/, "\\"); print }' "$documents/docs/sedck.1" |
+    awk '/^> / { text = text substr($0, 2); next } NR > 1 { print text } { text = $0 } END { print text }' > blocks
+blocks_that_run docs/sedck.1 > shown
 run_shown docs/sedck.1
 
 # The scripts of the pages on faults and loops.
