@@ -111,7 +111,8 @@ awk '/^\.SH/ { page = ($2 == "EXAMPLES") }
 blocks_that_run docs/sedck.1 > shown
 run_shown docs/sedck.1
 
-# The scripts of the pages on faults and loops.
+# The table of edges, and the scripts of the pages on faults and loops.
+(cd "$documents" && python3 tests/edges.py build/sedck docs/DEFINITIONS.md) >&2 || fail "a row of the table in docs/DEFINITIONS.md isn't what sedck graph lists"
 (cd "$documents" && python3 tests/pages.py build/sedck docs/FAULTS.md docs/MENDING.md) >&2 || fail "a script of docs/FAULTS.md or docs/MENDING.md isn't answered as the page says"
 
 # The list of what must be believed is made from the contracts, and no exported contract reaches a private definition.
