@@ -1,8 +1,8 @@
 #!/bin/sh
 # Checks the examples by what README.md says: the answer in each row of its tables, each certificate as `rank`
 # writes it, what each command prints that the documents show, the answers in docs/FAULTS.md and docs/MENDING.md,
-# and docs/BELIEVED.md. Needs build/sedck and Python 3.
-# Says what failed, and ends with status 1 on any failure.
+# the tables of edges and faults, and docs/BELIEVED.md. Needs build/sedck and Python 3; blocks that need more, as a sed,
+# are left out where it is missing. Says what was left out and what failed, and ends with status 1 on any failure.
 
 CDPATH= cd -- "$(dirname -- "$0")/.." || exit 1
 [ -x build/sedck ] || { echo "examples: build/sedck is missing; make build makes it" >&2; exit 1; }
@@ -101,17 +101,21 @@ for document in README.md examples/README.md docs/RECIPES.md docs/TRUST.md; do
     run_shown "$document"
 done
 
-# Those of the manual page, in the folder of the examples: a command that goes on in a line with `> ` is one line.
+# Those of the manual pages, in the folder of the examples as it was: a command that goes on in a line with `> ` is one line.
 cd examples || exit 1
-awk '/^\.SH/ { page = ($2 == "EXAMPLES") }
-    /^\.\\" needs / { needs = substr($0, 10) }
-    /^\.R[SE]/ { on = (page && $1 == ".RS"); if (on) print "needs" needs; needs = ""; next }
-    on { gsub(/\\-/, "-"); gsub(/\\e/, "\\"); print }' "$documents/docs/sedck.1" |
-    awk '/^> / { text = text substr($0, 2); next } NR > 1 { print text } { text = $0 } END { print text }' > blocks
-blocks_that_run docs/sedck.1 > shown
-run_shown docs/sedck.1
+for document in docs/sedck.1 docs/sedck.5; do
+    cp "$documents"/examples/* . || exit 1
+    awk '/^\.SH/ { page = ($2 == "EXAMPLES") }
+        /^\.\\" needs / { needs = substr($0, 10) }
+        /^\.R[SE]/ { on = (page && $1 == ".RS"); if (on) print "needs" needs; needs = ""; next }
+        on { gsub(/\\-/, "-"); gsub(/\\e/, "\\"); print }' "$documents/$document" |
+        awk '/^> / { text = text substr($0, 2); next } NR > 1 { print text } { text = $0 } END { print text }' > blocks
+    blocks_that_run "$document" > shown
+    run_shown "$document"
+done
 
-# The table of edges, and the scripts of the pages on faults and loops.
+# The table of edges, what three pages say of faults, and the scripts of the pages on faults and loops.
+(cd "$documents" && python3 tests/faults.py build/sedck) >&2 || fail "docs/FORMATS.md, docs/FAULTS.md and docs/sedck.5 don't say the same of faults"
 (cd "$documents" && python3 tests/edges.py build/sedck docs/DEFINITIONS.md) >&2 || fail "a row of the table in docs/DEFINITIONS.md isn't what sedck graph lists"
 (cd "$documents" && python3 tests/pages.py build/sedck docs/FAULTS.md docs/MENDING.md) >&2 || fail "a script of docs/FAULTS.md or docs/MENDING.md isn't answered as the page says"
 
