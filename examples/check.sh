@@ -114,6 +114,8 @@ for document in docs/sedck.1 docs/sedck.5; do
     run_shown "$document"
 done
 
+# The Makefile, the hooks and the steps of the recipes.
+(cd "$documents" && python3 tests/recipes.py build/sedck) >&2 || fail "a recipe of docs/RECIPES.md doesn't do what it should"
 # The table of edges, what three pages say of faults, and the scripts of the pages on faults and loops.
 (cd "$documents" && python3 tests/faults.py build/sedck) >&2 || fail "docs/FORMATS.md, docs/FAULTS.md and docs/sedck.5 don't say the same of faults"
 (cd "$documents" && python3 tests/edges.py build/sedck docs/DEFINITIONS.md) >&2 || fail "a row of the table in docs/DEFINITIONS.md isn't what sedck graph lists"
