@@ -114,6 +114,8 @@ for document in docs/sedck.1 docs/sedck.5; do
     run_shown "$document"
 done
 
+# Links, and the version in the manual pages.
+(cd "$documents" && python3 tests/links.py) >&2 || fail "a link leads nowhere, or a page or a version is missing"
 # The Makefile, the hooks and the steps of the recipes.
 (cd "$documents" && python3 tests/recipes.py build/sedck) >&2 || fail "a recipe of docs/RECIPES.md doesn't do what it should"
 # The table of edges, what three pages say of faults, and the scripts of the pages on faults and loops.
