@@ -2,15 +2,17 @@
 """Compares real seds with sedck's model, on generated scripts, the examples and folders of your own.
 
     python3 bench/seds.py build/sedck [--scripts N] [--inputs K] [--seed S] [--folder DIR] [--sed NAME=COMMAND] ..
+    python3 bench/seds.py build/sedck --table
 
 Each script is given to `sedck rank`, `check` and `graph`, and then run by every sed that is found, in a scratch folder, with
 generated inputs and under a time limit. Reported are runs of accepted scripts that don't end, files outside of the
 certificate's lists; counted are also runs in which a sed crashed, and scripts that it doesn't read. With GNU sed, whose `--debug`
-shows each command and the spaces, each step is held against the edges that `sedck graph` lists: there must be one between the two places whose kind is true of the
-lines that were read and of the pattern space's length, and the steps must be within the bound. The same steps are also held
-against a graph with `keep` in place of `grow`, which must be caught. At the end the table of statuses in docs/SEDS.md is run again,
-and each row in which a sed answers something else is printed, which is no finding: that sed is of another version. The status is 0
-only where nothing is reported.
+shows each command and the spaces, each step is held against the edges that `sedck graph` lists: there must be one between the two
+places whose kind is true of the lines that were read and of the pattern space's length, and the steps must be within the bound.
+The same steps are also held against a graph with `keep` in place of `grow`, which must be caught. At the end the table of statuses
+in docs/SEDS.md is run again, and each row in which a sed answers something else is printed, which is no finding: that sed is of
+another version. With `--table` the column of `sedck` in that table is all that is looked at. The status is 0 only where nothing is
+reported.
 """
 import argparse
 import os
@@ -342,8 +344,13 @@ def main():
     words.add_argument("--seed", type=int, default=1)
     words.add_argument("--folder", action="append", default=[])
     words.add_argument("--sed", action="append", default=[])
+    words.add_argument("--table", action="store_true")
     asked = words.parse_args()
     sedck, draw = os.path.abspath(asked.sedck), Draw(asked.seed)
+    if asked.table:
+        wrong = list(differences(os.path.join(TOP, "docs", "SEDS.md"), sedck, []))
+        print("\n".join(wrong) or "seds: the table has the statuses of sedck")
+        return 1 if wrong else 0
     seds, report = seds_found(asked.sed), Report()
     for name, _, version, is_gnu in seds:
         print("%s: %s%s" % (name, version, ", step by step" if is_gnu else ""))

@@ -114,7 +114,8 @@ for document in docs/sedck.1 docs/sedck.5; do
     run_shown "$document"
 done
 
-# Links, and the version in the manual pages.
+# What sedck answers in the table of seds; links, and the version in the manual pages.
+(cd "$documents" && python3 bench/seds.py build/sedck --table) >&2 || fail "the table of docs/SEDS.md has other statuses of sedck"
 (cd "$documents" && python3 tests/links.py) >&2 || fail "a link leads nowhere, or a page or a version is missing"
 # The Makefile, the hooks and the steps of the recipes.
 (cd "$documents" && python3 tests/recipes.py build/sedck) >&2 || fail "a recipe of docs/RECIPES.md doesn't do what it should"
