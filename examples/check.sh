@@ -112,6 +112,8 @@ for document in docs/sedck.1 docs/sedck.5; do
         awk '/^> / { text = text substr($0, 2); next } NR > 1 { print text } { text = $0 } END { print text }' > blocks
     blocks_that_run "$document" > shown
     run_shown "$document"
+    if has mandoc && mandoc -T lint "$documents/$document" | grep -v 'line longer than 80 bytes' >&2; then fail "$document isn't clean"; fi
+    if has groff && groff -ww -man -T utf8 "$documents/$document" 2>&1 > groffed | grep . >&2; then fail "$document has warnings"; fi
 done
 
 # What sedck answers in the table of seds; links, and the version in the manual pages.
