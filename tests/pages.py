@@ -14,7 +14,6 @@ import subprocess
 import sys
 import tempfile
 
-
 ENDLESS = "a run without an end"
 
 
