@@ -1,5 +1,6 @@
 //! What no clause says of the program: printed lines, statuses, streams that fail, and that calls succeed at all.
 mod checks;
+mod explanations;
 mod failures;
 pub mod fakes;
 mod judgements;
