@@ -35,6 +35,7 @@ fn command_hint(rest: &[u8]) -> Option<&'static str> {
         [b'T', ..] => Some("for `T end` write `t go`, `b end` and `:go` on lines of their own"),
         [b'z', ..] => Some("for `z` write `s/.*//`"),
         [b'Q', ..] => Some("for `/x/Q` write `/x/,$d`"),
+        [b'I', ..] => Some("for `/hello/I` write `/[hH][eE][lL][lL][oO]/`"),
         [b'~', ..] => {
             Some(
                 "for `0~3d` write `n`, `n` and `d`; for `1~2d` write `$!N`, `s/.*\\n//`, `t` and `d`",
