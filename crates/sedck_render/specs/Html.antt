@@ -1,5 +1,5 @@
 -- Text in HTML, byte by byte.
-use Rattle.std.specs.Prelude.{ℕ, ◌==◌, if◌then◌else◌, List, [], ◌∷◌, ◌++◌, codes}
+use Rattle.std.specs.Prelude.{◌≢◌, ℕ, ◌==◌, if◌then◌else◌, List, [], ◌∷◌, ◌++◌, codes}
 
 -- the byte, or the entity of a byte that HTML gives a meaning: `<`, `>`, `&` and `"`
 abbrev pub html_byte : ℕ → List ℕ
@@ -13,3 +13,7 @@ html_byte b =
 abbrev pub html_text : List ℕ → List ℕ
 html_text [] = []
 html_text (b ∷ more) = html_byte b ++ html_text more
+
+-- no byte that begins or ends a tag, or ends a quoted attribute
+abbrev pub IsPlain : ℕ → Type 0
+IsPlain b = (b ≢ 60) × (b ≢ 62) × (b ≢ 34)

@@ -5,6 +5,7 @@ use crate::jumps::Jump;
 use crate::margin::{Margin, Spot, margin_of};
 use crate::markup::{push_html, push_text};
 use crate::strokes::{drawing_width, push_strokes};
+use crate::words::grouped;
 use sedck_findings::{Explanation, shown_line};
 use std::alloc::{AllocError, Global};
 
@@ -71,10 +72,12 @@ fn push_legend(alloc: Global, out: &mut Vec<u8>, margin: &Margin) -> Result<(), 
     push_text(out, "</ul>\n")?;
     let left_out = margin.drawing.left_out;
     if left_out > 0 {
-        let words = format!(in alloc;
-            "<p class=\"soft\">{left_out} longer jumps aren&rsquo;t drawn; the list of jumps has them.</p>\n"
+        push_text(
+            out,
+            "<p>The list of jumps has all; not drawn, for want of room: ",
         )?;
-        push_text(out, words.as_str())?;
+        push_html(out, grouped(alloc, left_out as u64)?.as_str())?;
+        push_text(out, ".</p>\n")?;
     }
     Ok(())
 }

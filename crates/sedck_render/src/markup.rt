@@ -1,7 +1,7 @@
 //! Text in HTML, and links to lines.
 
-ghost use Rattle.std.specs.Prelude.{◌≡◌, ◌++◌, OnOk};
-ghost use Rattle.sedck_render.specs.Html.{html_byte, html_text};
+ghost use Rattle.std.specs.Prelude.{◌≡◌, ◌++◌, All, OnOk};
+ghost use Rattle.sedck_render.specs.Html.{html_byte, html_text, IsPlain};
 
 use crate::words::place_words;
 use sedck_findings::Position;
@@ -16,7 +16,8 @@ pub(crate) fn push_text(out: &mut Vec<u8>, text: &str) -> Result<(), AllocError>
 
 /// Adds the words with an entity for each character that HTML gives a meaning, in texts and in quoted attributes.
 pub(crate) fn push_html(out: &mut Vec<u8>, words: &str) -> Result<(), AllocError>
-    ensures { OnOk result (out.new.items ≡ out.old.items ++ html_text words.now) }
+    ensures text { OnOk result (out.new.items ≡ out.old.items ++ html_text words.now) }
+    ensures plain { All IsPlain (html_text words.now) }
 {
     for byte in words.as_bytes() {
         push_html_byte(out, *byte)?;

@@ -3,7 +3,7 @@
 use crate::boxes::push_box;
 use crate::markup::{push_element, push_html, push_prose, push_text};
 use crate::summary::bound_words;
-use crate::words::level_word;
+use crate::words::{grouped, level_word};
 use sedck_findings::{Answer, Explanation, Finding};
 use std::alloc::{AllocError, Global};
 
@@ -66,9 +66,9 @@ fn push_counts(
     if explanation.script.is_none() {
         return Ok(());
     }
-    let commands = explanation.positions.len();
-    let reads = explanation.reads.len();
-    let writes = explanation.writes.len();
+    let commands = grouped(alloc, explanation.positions.len() as u64)?;
+    let reads = grouped(alloc, explanation.reads.len() as u64)?;
+    let writes = grouped(alloc, explanation.writes.len() as u64)?;
     let words = format!(in alloc;
         "<p>Commands: {commands}. <a href=\"#files\">Files</a> that are read: {reads}, and written: {writes}.</p>\n"
     )?;

@@ -1,6 +1,6 @@
 use Rattle.std.proofs.Common.{◌++◌, ◌<◌, length, get_or, take, append_assoc, sym, ap, subst, ◌∙◌}
 use Rattle.sedck_render.specs.Html.{html_byte, html_text}
-use Rattle.sedck_render.proofs.HtmlLemmas.{html_text-more}
+use Rattle.sedck_render.proofs.HtmlLemmas.{html_text-more, html_text-plain}
 use Rattle.sedck_render.proofs.markup.push_html.Goals as goal
 
 -- the bytes so far, and this one
@@ -14,3 +14,9 @@ loop-byte-preserved c =
     ∙ ap (λ t. t ++ html_byte (get_or bytes i 0)) c.loop-byte.invariant
     ∙ append_assoc before (html_text (take i bytes)) (html_byte (get_or bytes i 0))
     ∙ ap (λ t. before ++ t) (sym (html_text-more bytes i (subst (λ t. i < length t) same c.loop-byte-test.true)))
+
+pub returns-clause-plain : goal.returns-clause-plain
+returns-clause-plain c = html_text-plain c.args.words.now
+
+pub returns-in_err-push_html_byte-clause-plain : goal.returns-in_err-push_html_byte-clause-plain
+returns-in_err-push_html_byte-clause-plain c = html_text-plain c.args.words.now
