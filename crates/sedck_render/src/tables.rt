@@ -93,7 +93,7 @@ pub(crate) fn push_ranks(
     };
     push_text(
         out,
-        "<h2 id=\"ranks\">Ranks</h2>\n<details><summary>The ranks of the certificate</summary>\n<p>Until a line is read, no step increases the first number; a step that may lengthen the pattern space lowers it, and one that only keeps it from getting longer lowers the first number, or else the second. A dash: no run gets there.</p>\n<div class=\"wide\"><table><thead><tr><th scope=\"col\">Command</th><th scope=\"col\">flag reset, lines left</th><th scope=\"col\">flag reset, last line</th><th scope=\"col\">flag set, lines left</th><th scope=\"col\">flag set, last line</th></tr></thead><tbody>\n",
+        "<h2 id=\"ranks\">Ranks</h2>\n<details><summary>The ranks of the certificate</summary>\n<p>Until a line is read, no step increases the first number. A step of the kind grow lowers it; one of the kind keep lowers it, or leaves it and lowers the second. A dash: no run gets there.</p>\n<div class=\"wide\"><table><thead><tr><th scope=\"col\">Command</th><th scope=\"col\">flag reset, lines left</th><th scope=\"col\">flag reset, last line</th><th scope=\"col\">flag set, lines left</th><th scope=\"col\">flag set, last line</th></tr></thead><tbody>\n",
     )?;
     for (index, ranks) in cert.ranks().chunks(4).enumerate() {
         push_text(out, "<tr><th scope=\"row\">")?;
