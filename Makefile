@@ -59,10 +59,11 @@ seds: build
 	python3 bench/seds.py build/sedck $(SEDS)
 
 install: build
-	@echo "Installing sedck and its manual page under $(PREFIX) ..."
-	install -d $(DESTDIR)$(PREFIX)/bin $(DESTDIR)$(PREFIX)/share/man/man1
+	@echo "Installing sedck and its manual pages under $(PREFIX) ..."
+	install -d $(DESTDIR)$(PREFIX)/bin $(DESTDIR)$(PREFIX)/share/man/man1 $(DESTDIR)$(PREFIX)/share/man/man5
 	install -m 755 build/sedck $(DESTDIR)$(PREFIX)/bin/sedck
 	install -m 644 docs/sedck.1 $(DESTDIR)$(PREFIX)/share/man/man1/sedck.1
+	install -m 644 docs/sedck.5 $(DESTDIR)$(PREFIX)/share/man/man5/sedck.5
 
 clean:
 	@echo "Removing what was built, and what checks left in crates/*/out ..."

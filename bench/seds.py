@@ -2,13 +2,17 @@
 """Compares real seds with sedck's model, on generated scripts, the examples and folders of your own.
 
     python3 bench/seds.py build/sedck [--scripts N] [--inputs K] [--seed S] [--folder DIR] [--sed NAME=COMMAND] ..
+    python3 bench/seds.py build/sedck --table
 
 Each script is given to `sedck rank`, `check` and `graph`, and then run by every sed that is found, in a scratch folder, with
 generated inputs and under a time limit. Reported are runs of accepted scripts that don't end, files outside of the
-certificate's lists, and scripts that only one side reads. With GNU sed, whose `--debug` shows each command and the spaces, each
-step is held against the edges that `sedck graph` lists: there must be one between the two places whose kind is true of the
-lines that were read and of the pattern space's length, and the steps must be within the bound. At last the same steps are held
-against a graph with `keep` in place of `grow`, which must be caught. The status is 0 only where nothing is reported.
+certificate's lists; counted are also runs in which a sed crashed, and scripts that it doesn't read. With GNU sed, whose `--debug`
+shows each command and the spaces, each step is held against the edges that `sedck graph` lists: there must be one between the two
+places whose kind is true of the lines that were read and of the pattern space's length, and the steps must be within the bound.
+The same steps are also held against a graph with `keep` in place of `grow`, which must be caught. At the end the table of statuses
+in docs/SEDS.md is run again, and each row in which a sed answers something else is printed, which is no finding: that sed is of
+another version. With `--table` the column of `sedck` in that table is all that is looked at. The status is 0 only where nothing is
+reported.
 """
 import argparse
 import os
@@ -16,12 +20,14 @@ import random
 import re
 import resource
 import shutil
+import signal
 import subprocess
 import sys
 import tempfile
 
+TOP = os.path.dirname(os.path.dirname(os.path.abspath(__file__)))
 LIMIT_SECONDS = 5
-LOOP_SECONDS = 1
+LOOP_SECONDS = 0.5
 LIMIT_BYTES = 8 << 20
 ENVIRONMENT = {"PATH": os.environ.get("PATH", ""), "LC_ALL": "C"}
 
@@ -83,7 +89,8 @@ class Draw(random.Random):
 
 
 def run(words, folder, given=None, seconds=LIMIT_SECONDS):
-    """The output of a run that ends in time and prints at most so much, with its status; None for one that doesn't."""
+    """The output of a run that ends in time and prints at most so much, with its status, which is below 0 for one that a signal
+    ended; None for a run that doesn't end so."""
     limits = lambda: resource.setrlimit(resource.RLIMIT_FSIZE, (LIMIT_BYTES, LIMIT_BYTES))
     with open(os.path.join(folder, ".output"), "w+b") as out:
         try:
@@ -92,7 +99,7 @@ def run(words, folder, given=None, seconds=LIMIT_SECONDS):
         except subprocess.TimeoutExpired:
             return None
         out.seek(0)
-        return None if done.returncode < 0 else (done.returncode, out.read())
+        return None if done.returncode == -signal.SIGXFSZ else (done.returncode, out.read())
 
 
 class Answer:
@@ -234,6 +241,16 @@ class Report:
     def finding(self, what, script, given=b""):
         self.found.append((what, script, given))
 
+    def lines(self):
+        """A line for each count, and then the findings: of each kind and script the first, and how many inputs have it."""
+        yield from ("%d %s" % (count, what) for what, count in sorted(self.counts.items()))
+        first = {}
+        for what, script, given in self.found:
+            first.setdefault((what.split(": ")[0:2][-1], what.split(":")[0], script), [what, given, 0])[2] += 1
+        for (_, _, script), (what, given, times) in first.items():
+            yield "FOUND: %s\n  script %r\n  input %r, the first of %d" % (what, script, given, times)
+        yield "%d findings" % len(self.found)
+
 
 def is_inside(names):
     return all(name and "/" not in name and not name.startswith(".") for name in names)
@@ -263,7 +280,9 @@ def try_script(sedck, script, inputs, seds, report):
                     continue
                 if answer.status == 0 and made - set(answer.writes):
                     report.finding("%s: wrote a file outside of the lists: %s" % (name, made - set(answer.writes)), script, given)
-                if done[0] == 1:
+                if done[0] < 0:
+                    report.count("runs in which %s crashed" % name)
+                elif done[0] == 1:
                     report.count("runs of scripts that %s doesn't read" % name)
                 elif is_gnu:
                     hold_steps(answer, Trace(done[1]), given, name, script, report)
@@ -290,6 +309,33 @@ def hold_steps(answer, trace, given, name, script, report):
             report.finding("%s: %d steps at most, above the bound %d" % (name, len(steps) + cycles + 1, limit), script, given)
 
 
+def status_of(words, folder):
+    """The exit status of a run of the script there, as a shell has it: 124 for one that is stopped after two seconds."""
+    done = run(words, folder, b"a1\nb\n", 2)
+    return 124 if done is None else done[0] if done[0] >= 0 else 128 - done[0]
+
+
+def differences(page, sedck, seds):
+    """The rows of the page's table of statuses that are others here."""
+    with open(page) as text:
+        lines = text.read().split("| script | sedck |")[1].split("\n")
+    heads = ["sedck"] + [head.strip() for head in lines[0].strip("|").split("|")]
+    asked = {"sedck": [sedck, "rank", "script"]}
+    asked.update({"GNU" if is_gnu else name: words + ["-f", "script"] for name, words, _, is_gnu in seds})
+    for line in lines[2:]:
+        if not line.startswith("|"):
+            return
+        cells = [cell.strip().replace("\0", "|") for cell in line.replace("\\|", "\0").strip("|").split("|")]
+        script = "".join(part + "\n" for part in re.findall("`([^`]*)`", cells[0]))
+        with tempfile.TemporaryDirectory(prefix="sedck-seds-") as folder:
+            with open(os.path.join(folder, "script"), "w") as out:
+                out.write(script)
+            for head, due in zip(heads, cells[1:]):
+                status = status_of(asked[head], folder) if head in asked else int(due)
+                if status != int(due):
+                    yield "docs/SEDS.md: %s has %d for %r, not %s" % (head, status, script, due)
+
+
 def main():
     words = argparse.ArgumentParser()
     words.add_argument("sedck")
@@ -298,8 +344,13 @@ def main():
     words.add_argument("--seed", type=int, default=1)
     words.add_argument("--folder", action="append", default=[])
     words.add_argument("--sed", action="append", default=[])
+    words.add_argument("--table", action="store_true")
     asked = words.parse_args()
     sedck, draw = os.path.abspath(asked.sedck), Draw(asked.seed)
+    if asked.table:
+        wrong = list(differences(os.path.join(TOP, "docs", "SEDS.md"), sedck, []))
+        print("\n".join(wrong) or "seds: the table has the statuses of sedck")
+        return 1 if wrong else 0
     seds, report = seds_found(asked.sed), Report()
     for name, _, version, is_gnu in seds:
         print("%s: %s%s" % (name, version, ", step by step" if is_gnu else ""))
@@ -307,19 +358,17 @@ def main():
         print("no sed is found")
         return 0
     scripts = [draw.script() for _ in range(asked.scripts)]
-    examples = os.path.join(os.path.dirname(os.path.dirname(os.path.abspath(__file__))), "examples")
-    for folder in [examples] + asked.folder:
+    for folder in [os.path.join(TOP, "examples")] + asked.folder:
         for file in sorted(os.listdir(folder)):
             if file.endswith(".sed"):
                 with open(os.path.join(folder, file), "rb") as text:
                     scripts.append(text.read())
     for script in scripts:
         try_script(sedck, script, [draw.input() for _ in range(asked.inputs)], seds, report)
-    for what, count in sorted(report.counts.items()):
-        print("%d %s" % (count, what))
-    for what, script, given in report.found[:20]:
-        print("FOUND: %s\n  script %r\n  input %r" % (what, script, given))
-    print("%d findings" % len(report.found))
+    for line in report.lines():
+        print(line)
+    for line in differences(os.path.join(TOP, "docs", "SEDS.md"), sedck, seds):
+        print(line)
     if any(gnu for *_, gnu in seds) and not report.counts.get("runs that a graph with keep for grow doesn't explain"):
         print("a graph with keep for grow was not caught")
         return 1

@@ -1,8 +1,8 @@
 #!/bin/sh
 # Checks the examples by what README.md says: the answer in each row of its tables, each certificate as `rank`
 # writes it, what each command prints that the documents show, the answers in docs/FAULTS.md and docs/MENDING.md,
-# and docs/BELIEVED.md. Needs build/sedck and Python 3.
-# Says what failed, and ends with status 1 on any failure.
+# the tables of edges and faults, and docs/BELIEVED.md. Needs build/sedck and Python 3; blocks that need more, as a sed,
+# are left out where it is missing. Says what was left out and what failed, and ends with status 1 on any failure.
 
 CDPATH= cd -- "$(dirname -- "$0")/.." || exit 1
 [ -x build/sedck ] || { echo "examples: build/sedck is missing; make build makes it" >&2; exit 1; }
@@ -59,32 +59,71 @@ for script in *.sed; do
     cat rows others | grep -q -e "\`${script%.sed}\`" -e " $script" || fail "$script is in no table of README.md"
 done
 
+# Whether this machine has what a block needs: a program, GNU sed, or a locale in UTF-8.
+has() {
+    case $1 in
+        gnu-sed) LC_ALL=C sed --version 2> /dev/null | grep -q '^sed (GNU sed)' ;;
+        utf-8) locale -a 2> /dev/null | grep -qi '^C[.]utf-*8$' ;;
+        *) command -v "$1" > /dev/null ;;
+    esac
+}
+
 # Runs each command of the file `shown`, and compares what they print with it.
 run_shown() {
     grep -q '^[$] ' shown || fail "$1 shows no command"
-    sed -n 's/^[$] //p' shown | while IFS= read -r command; do
+    awk 'sub(/^[$] /, "")' shown | while IFS= read -r command; do
         printf '$ %s\n' "$command"
         sh -c "$command" 2>&1 < /dev/null
     done > printed
     diff shown printed >&2 || fail "$1 shows (<) what isn't printed (>)"
 }
 
-# Each command of the console blocks, with all that it prints.
+# Prints what the blocks of a document show, each of which begins with a line of words that it needs; leaves blocks out for
+# which this machine lacks one of these, and says so.
+blocks_that_run() {
+    lacks=' '
+    for need in $(awk '/^needs /' blocks | tr ' ' '\n' | sort -u); do
+        [ "$need" = needs ] || has "$need" || lacks="$lacks$need "
+    done
+    awk -v lacks="$lacks" -v page="$1" '
+        /^needs( |$)/ { on = 1; for (k = 2; k <= NF; k++) if (index(lacks, " " $k " ")) on = 0; left += !on; next }
+        on
+        END { if (left) print "examples: " page ": blocks left out: " left + 0 ", since this machine lacks" lacks > "/dev/stderr" }
+    ' blocks
+}
+
+# Each command of the console blocks, with all that it prints. After ```console come the words for `has` that a block needs.
 cd .. || exit 1
 PATH=$scratch/build:$PATH
-for document in README.md examples/README.md docs/RECIPES.md; do
-    awk '/^```/ { on = ($0 == "```console"); next } on' "$documents/$document" > shown
+for document in README.md examples/README.md docs/RECIPES.md docs/TRUST.md; do
+    awk 'sub(/^```console/, "needs") { on = 1 } /^```/ { on = 0 } on' "$documents/$document" > blocks
+    blocks_that_run "$document" > shown
     run_shown "$document"
 done
 
-# Those of the manual page, in the folder of the examples: a command that goes on in a line with `> ` is one line.
+# Those of the manual pages, in the folder of the examples as it was: a command that goes on in a line with `> ` is one line.
 cd examples || exit 1
-awk '/^\.SH/ { page = ($2 == "EXAMPLES") } /^\.R[SE]/ { on = (page && $1 == ".RS"); next } on' "$documents/docs/sedck.1" |
-    sed -e 's/\\-/-/g' -e 's/\\e/\\/g' |
-    awk '/^> / { text = text substr($0, 2); next } NR > 1 { print text } { text = $0 } END { print text }' > shown
-run_shown docs/sedck.1
+for document in docs/sedck.1 docs/sedck.5; do
+    cp "$documents"/examples/* . || exit 1
+    awk '/^\.SH/ { page = ($2 == "EXAMPLES") }
+        /^\.\\" needs / { needs = substr($0, 10) }
+        /^\.R[SE]/ { on = (page && $1 == ".RS"); if (on) print "needs" needs; needs = ""; next }
+        on { gsub(/\\-/, "-"); gsub(/\\e/, "\\"); print }' "$documents/$document" |
+        awk '/^> / { text = text substr($0, 2); next } NR > 1 { print text } { text = $0 } END { print text }' > blocks
+    blocks_that_run "$document" > shown
+    run_shown "$document"
+    if has mandoc && mandoc -T lint "$documents/$document" | grep -v 'line longer than 80 bytes' >&2; then fail "$document isn't clean"; fi
+    if has groff && groff -ww -man -T utf8 "$documents/$document" 2>&1 > groffed | grep . >&2; then fail "$document has warnings"; fi
+done
 
-# The scripts of the pages on faults and loops.
+# What sedck answers in the table of seds; links, and the version in the manual pages.
+(cd "$documents" && python3 bench/seds.py build/sedck --table) >&2 || fail "the table of docs/SEDS.md has other statuses of sedck"
+(cd "$documents" && python3 tests/links.py) >&2 || fail "a link leads nowhere, or a page or a version is missing"
+# The Makefile, the hooks and the steps of the recipes.
+(cd "$documents" && python3 tests/recipes.py build/sedck) >&2 || fail "a recipe of docs/RECIPES.md doesn't do what it should"
+# The table of edges, what three pages say of faults, and the scripts of the pages on faults and loops.
+(cd "$documents" && python3 tests/faults.py build/sedck) >&2 || fail "docs/FORMATS.md, docs/FAULTS.md and docs/sedck.5 don't say the same of faults"
+(cd "$documents" && python3 tests/edges.py build/sedck docs/DEFINITIONS.md) >&2 || fail "a row of the table in docs/DEFINITIONS.md isn't what sedck graph lists"
 (cd "$documents" && python3 tests/pages.py build/sedck docs/FAULTS.md docs/MENDING.md) >&2 || fail "a script of docs/FAULTS.md or docs/MENDING.md isn't answered as the page says"
 
 # The list of what must be believed is made from the contracts, and no exported contract reaches a private definition.

@@ -1,5 +1,5 @@
 -- From what was read to what an engine answers.
-use Rattle.std.proofs.Common.{◌≡◌, ◌≢◌, ◌⊎◌, ◌<◌, ◌≤◌, ℕ, length, take, Bool, List, Option, Some, None, IfSome, Result, Ok, Err, refl, subst, sym, ap, ◌∙◌, ◌++◌, codes, arith, inl, inr}
+use Rattle.std.proofs.Common.{◌≡◌, ◌≢◌, ◌⊎◌, ◌<◌, ◌≤◌, ℕ, length, take, Bool, List, Option, Some, None, Result, Ok, Err, refl, subst, sym, ap, ◌∙◌, ◌++◌, codes, arith, inl, inr}
 use Rattle.std.proofs.KnownBytes.{Keeps-refl}
 use Rattle.std.proofs.lemmas.Bool.{cases_lt}
 use Rattle.std.proofs.lemmas.List.{take_all, length-take}
@@ -24,7 +24,8 @@ use Rattle.sedck_cert.proofs.TextLength.{text_length_of_spelled, front_is_whole}
 use Rattle.sedck_cli.specs.declared.answer.Outcome.{Outcome}
 use Rattle.sedck_cli.specs.declared.answer.Outcome.TheVariants.{Yes}
 use Rattle.sedck_cli.specs.Engines.{verdict_outcome, ChecksTo, ListsFilesTo, ListsGraphTo, EngineAnswers, OfBytes, OfScript, UpgradesTo, IsRefusedScript, IsRefusedCertificate, RanksTo, Reading, Writing, Streams}
-use Rattle.sedck_cli.specs.Private.Engines.{IsRead, IsScriptReport, ReportsScriptTo, WritesReport}
+use Rattle.sedck_cli.specs.Inputs.{IsRead}
+use Rattle.sedck_cli.specs.Private.Engines.{IsScriptReport, ReportsScriptTo, WritesReport}
 use Rattle.sedck_cli.specs.Faults.{run_fault, script_fault, certificate_fault}
 use Rattle.sedck_cli.specs.declared.answer.RunFault.{RunFault}
 use Rattle.sedck_cli.specs.declared.engines.ScriptReport.{ScriptReport}

@@ -6,6 +6,7 @@ pub use Rattle.sedck_flow.specs.Words
 pub use Rattle.sedck_cert.specs.Certificate
 pub use Rattle.sedck_cert.specs.Headline
 pub use Rattle.sedck_search.specs.Found
+pub mod Inputs
 pub mod Reports
 pub mod Engines
 pub mod Faults

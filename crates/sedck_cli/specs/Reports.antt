@@ -1,5 +1,5 @@
 -- The reports, as bytes.
-use Rattle.std.specs.Prelude.{◌≡◌, ◌⊎◌, ℕ, Option, Some, None, List, [], ◌∷◌, ◌++◌, length, decimal, codes}
+use Rattle.std.specs.Prelude.{◌≡◌, ◌⊎◌, ℕ, List, [], ◌∷◌, ◌++◌, length, decimal, codes}
 use Rattle.sedck_script.specs.Program.{Program}
 use Rattle.sedck_flow.specs.Run.{NamesForReading, NamesForWriting}
 use Rattle.sedck_flow.specs.Flow.{Flow, ListsEdges}

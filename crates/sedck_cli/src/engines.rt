@@ -4,8 +4,8 @@ ghost use Rattle.std.specs.Prelude.{◌≡◌, Some, None, IfOk};
 ghost use Rattle.sedck_cli.specs.Engines.{verdict_outcome, ChecksTo, ListsFilesTo, ListsGraphTo, RanksTo, found_outcome, UpgradesTo, EngineAnswers, OfBytes};
 ghost use Rattle.sedck_cli.specs.Private.Engines.{IsScriptReport, ReportsScriptTo, WritesReport};
 
-use crate::answer::{Input, Outcome, RunFault};
-use crate::input::read_whole;
+use crate::answer::{Outcome, RunFault};
+use crate::input::{read_certificate, read_script};
 use crate::rank::{certificate_report, rank_report};
 use crate::report::{check_report, files_report, graph_report};
 use sedck_cert::streams::{Sink, Source, write_all};
@@ -13,13 +13,6 @@ use sedck_cert::{Verdict, judge, read_any};
 use sedck_script::{Script, parse};
 use sedck_search::{Found, search};
 use std::alloc::{AllocError, Global};
-
-/// How many bytes of a script are read: one more than it may have.
-const SCRIPT_READ: usize = 1_048_577;
-
-/// How many bytes of a certificate are read: 1.5 MiB and one more. No certificate's text has more than 1,388,247, so
-/// what is longer spells none, however it goes on.
-const CERTIFICATE_READ: usize = 1_572_865;
 
 /// What is reported of a script alone.
 #[derive(Clone, Copy, Debug, PartialEq, Eq)]
@@ -47,8 +40,8 @@ pub fn run_check<R: Source, C: Source, W: Sink>(
         })
         (λ outcome report. OfBytes (R.left script.old) (λ text. OfBytes (C.left cert.old) (λ bytes. ChecksTo text bytes outcome report))) result }
 {
-    let text = read_whole(alloc, script, SCRIPT_READ, Input::Script)?;
-    let certificate = read_whole(alloc, cert, CERTIFICATE_READ, Input::Certificate)?;
+    let text = read_script(alloc, script)?;
+    let certificate = read_certificate(alloc, cert)?;
     let judged = judge(alloc, &text, &certificate)?;
     let report = check_report(alloc, &judged)?;
     write_report(out, &report, outcome_of(judged.verdict))
@@ -119,7 +112,7 @@ pub fn run_upgrade<C: Source, W: Sink>(
         })
         (λ outcome report. OfBytes (C.left cert.old) (λ bytes. UpgradesTo bytes outcome report)) result }
 {
-    let text = read_whole(alloc, cert, CERTIFICATE_READ, Input::Certificate)?;
+    let text = read_certificate(alloc, cert)?;
     let cert = read_any(alloc, &text)?;
     let report = certificate_report(alloc, &cert)?;
     write_report(out, &report, Outcome::Yes)
@@ -140,7 +133,7 @@ pub(crate) fn run_script<R: Source, W: Sink>(
         })
         (λ outcome report. OfBytes (R.left script.old) (λ text. ReportsScriptTo kind text outcome report)) result }
 {
-    let text = read_whole(alloc, script, SCRIPT_READ, Input::Script)?;
+    let text = read_script(alloc, script)?;
     let script = parse(alloc, &text)?;
     let (report, outcome) = script_report(alloc, kind, &script)?;
     write_report(out, &report, outcome)

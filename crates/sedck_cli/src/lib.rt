@@ -12,4 +12,5 @@ mod report;
 pub use answer::{Input, Outcome, RunFault};
 pub use command_line::{Refusal, flushed, program};
 pub use engines::{run_check, run_files, run_graph, run_rank, run_upgrade};
+pub use input::{read_certificate, read_script};
 pub use sedck_cert::streams::FromWrite;

@@ -24,15 +24,15 @@ IsAnswer text (Some bytes) (CertificateRefused why) =
 IsAnswer text None (CertificateRefused why) = ⊥
 IsAnswer text (Some bytes) (Accepted cert bound) = SpellBoth text bytes (λ p c. (c ≡ cert) × Accepts p c × IsLimit p c bound)
 IsAnswer text None (Accepted cert bound) = SpellsOneWith text (λ p. Accepts p cert × IsLimit p cert bound)
-IsAnswer text (Some bytes) (Rejected why) = SpellBoth text bytes (λ p c. IsRejection p c why)
-IsAnswer text None (Rejected why) = ⊥
+IsAnswer text (Some bytes) (Rejected cert why) = SpellBoth text bytes (λ p c. (c ≡ cert) × IsRejection p c why)
+IsAnswer text None (Rejected cert why) = ⊥
 IsAnswer text (Some bytes) (Endless walk) = ⊥
 IsAnswer text None (Endless walk) = SpellsOneWith text (λ p. IsLoop p walk)
 
 -- the exit status: 0 for accepted, 1 for a rejection or a loop, 2 for a text that is refused
 abbrev pub status_of : Answer → ℕ
 status_of (Accepted cert bound) = 0
-status_of (Rejected why) = 1
+status_of (Rejected cert why) = 1
 status_of (Endless walk) = 1
 status_of (ScriptRefused why) = 2
 status_of (CertificateRefused why) = 2

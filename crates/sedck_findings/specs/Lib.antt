@@ -1,5 +1,6 @@
 -- What the public contracts cite, in reading order.
 pub mod Positions
 pub mod Answers
+pub mod Shown
 -- What functions inside the crate promise each other.
 pub mod Private

@@ -27,7 +27,11 @@ pub enum Answer {
         bound: Option<Bound>,
     },
     /// The certificate that was given is rejected.
-    Rejected(Rejection),
+    Rejected {
+        cert: Cert,
+        /// The first reason.
+        why: Rejection,
+    },
     /// A loop rules all certificates out.
     Endless(Walk),
 }
@@ -39,7 +43,7 @@ impl Answer {
     {
         match self {
             Answer::Accepted { .. } => 0,
-            Answer::Rejected(_) | Answer::Endless(_) => 1,
+            Answer::Rejected { .. } | Answer::Endless(_) => 1,
             Answer::ScriptRefused(_) | Answer::CertificateRefused(_) => 2,
         }
     }
@@ -115,7 +119,7 @@ fn verdict_answer(judged: Judged) -> Answer
     } = judged;
     match verdict {
         Verdict::Accepted => Answer::Accepted { cert, bound },
-        Verdict::Rejected(why) => Answer::Rejected(why),
+        Verdict::Rejected(why) => Answer::Rejected { cert, why },
     }
 }
 

@@ -3,8 +3,8 @@
 use crate::finding::{Finding, Level, Step};
 use crate::places::Position;
 use crate::steps::{step, target_step};
-use sedck_cert::{CertFault, Rejection};
-use sedck_flow::Edge;
+use sedck_cert::{Cert, CertFault, Rejection};
+use sedck_flow::{Edge, Node};
 use sedck_script::Script;
 use std::alloc::{AllocError, Global};
 
@@ -34,20 +34,29 @@ pub(crate) fn rejection(
     alloc: Global,
     script: &Script,
     positions: &[Position],
+    cert: &Cert,
     why: Rejection,
 ) -> Result<Finding, AllocError> {
-    let (code, message, hint) = rejection_words(why);
+    let (code, words, hint) = rejection_words(why);
     let steps = match why {
         Rejection::LeavesRanked(edge) | Rejection::NotLowered(edge) => {
-            edge_steps(alloc, script, positions, edge)?
+            edge_steps(alloc, script, positions, cert, edge)?
         }
         _ => Vec::new(alloc),
+    };
+    let message = match why {
+        Rejection::WrongCount => {
+            let has = script.commands().len();
+            let wanted = cert.commands();
+            format!(in alloc; "{words}: {has}, and not {wanted}")?
+        }
+        _ => String::from_str(alloc, words)?,
     };
     Ok(Finding {
         level: Level::Error,
         code,
         position: steps.first().and_then(|step| step.position),
-        message: String::from_str(alloc, message)?,
+        message,
         hint: Some(hint),
         steps,
     })
@@ -59,7 +68,7 @@ fn rejection_words(why: Rejection) -> (&'static str, &'static str, &'static str)
     match why {
         Rejection::WrongCount => (
             "wrong-count",
-            "the script has other commands than the certificate was made for",
+            "the script has another number of commands than the certificate was made for",
             changed,
         ),
         Rejection::StartUnranked => (
@@ -90,15 +99,34 @@ fn rejection_words(why: Rejection) -> (&'static str, &'static str, &'static str)
     }
 }
 
-/// The two ends of an edge.
+/// The two ends of an edge, with their ranks.
 fn edge_steps(
     alloc: Global,
     script: &Script,
     positions: &[Position],
+    cert: &Cert,
     edge: Edge,
 ) -> Result<Vec<Step>, AllocError> {
+    let mut first = step(alloc, script, positions, edge)?;
+    push_ranks(alloc, &mut first.message, cert, edge.from)?;
+    let mut second = target_step(alloc, positions, edge.to, "is reached")?;
+    push_ranks(alloc, &mut second.message, cert, edge.to)?;
     let mut steps = Vec::new(alloc);
-    steps.push(step(alloc, script, positions, edge)?)?;
-    steps.push(target_step(alloc, positions, edge.to, "and leads here")?)?;
+    steps.push(first)?;
+    steps.push(second)?;
     Ok(steps)
+}
+
+/// Adds the ranks of the node.
+fn push_ranks(
+    alloc: Global,
+    message: &mut String,
+    cert: &Cert,
+    node: Node,
+) -> Result<(), AllocError> {
+    let words = match cert.ranks().get(node.index()) {
+        Some(Some((first, second))) => format!(in alloc; "; its ranks are {first} and {second}")?,
+        _ => String::from_str(alloc, "; it has no ranks")?,
+    };
+    message.push_str(&words)
 }

@@ -114,7 +114,9 @@ fn answer_finding(
     match answer {
         Answer::ScriptRefused(fault) => Ok(Some(script_refusal(alloc, text, *fault)?)),
         Answer::CertificateRefused(fault) => Ok(Some(certificate_refusal(alloc, *fault)?)),
-        Answer::Rejected(why) => Ok(Some(rejection(alloc, script, positions, *why)?)),
+        Answer::Rejected { cert, why } => {
+            Ok(Some(rejection(alloc, script, positions, cert, *why)?))
+        }
         Answer::Endless(walk) => Ok(Some(loop_finding(alloc, script, positions, walk)?)),
         Answer::Accepted { cert, bound: None } => unbounded(alloc, script, positions, cert),
         Answer::Accepted { .. } => Ok(None),

@@ -1,6 +1,9 @@
 //! Lines and columns of a text.
 
-ghost use Rattle.std.specs.Prelude.{◌≡◌, ◌+◌, ◌^◌, ◌++◌, ◌∷◌, [], ◌<◌, ◌≤◌, IfOk, List, ℕ, map};
+ghost use Rattle.std.specs.Prelude.{◌≡◌, ◌+◌, ◌^◌, ◌++◌, ◌∷◌, [], ◌<◌, ◌≤◌, IfOk, List, ℕ, ◌==◌, not, length, map};
+ghost use Rattle.std.specs.List.{prefix_len};
+ghost use Rattle.sedck_bre.specs.Bytes.{newline};
+ghost use Rattle.sedck_findings.specs.Shown.{line_around};
 ghost use Rattle.sedck_findings.specs.Positions.{position_after, position_in};
 
 use memchr::memchr;
@@ -89,13 +92,20 @@ fn after(position: Position, byte: u8) -> Position
 }
 
 /// The line of the text in which the position is, without its newline.
-pub fn line_at(text: &[u8], position: Position) -> &[u8] {
+pub fn line_at(text: &[u8], position: Position) -> &[u8]
+    ensures { result.now ≡ line_around text.now position }
+{
     let start = position
         .offset
         .saturating_sub(position.column.saturating_sub(1));
     let rest = text.get(start..).unwrap_or(&[]);
-    match memchr(b'\n', rest) {
-        Some(end) => &rest[..end],
-        None => rest,
-    }
+    &rest[..line_len(rest)]
+}
+
+/// How many bytes the text has before its first newline.
+fn line_len(text: &[u8]) -> usize
+    ensures value { result ≡ prefix_len (λ b. not (b == newline)) text.now }
+    ensures within { result ≤ length text.now }
+{
+    memchr(b'\n', text).unwrap_or(text.len())
 }

@@ -1,10 +1,15 @@
 //! Bytes as a terminal may show them.
 
+ghost use Rattle.std.specs.Prelude.{◌≡◌, ◌++◌, ◌<◌, IfOk, OnOk, flat_map, string_bytes};
+ghost use Rattle.sedck_findings.specs.Shown.{is_printable as is_shown, hexadecimal as digit_of, shown_byte, shown_in_line, shown_in_name};
+
 use std::alloc::{AllocError, Global};
 
 /// The bytes of a line in printable ASCII: a tab is four spaces, and any other byte that isn't printable ASCII is `\x`
 /// and two digits.
-pub fn shown_line(alloc: Global, bytes: &[u8]) -> Result<String, AllocError> {
+pub fn shown_line(alloc: Global, bytes: &[u8]) -> Result<String, AllocError>
+    ensures { IfOk result (λ shown. string_bytes shown ≡ flat_map shown_in_line bytes.now) }
+{
     let mut shown = String::new(alloc);
     for byte in bytes {
         match *byte {
@@ -17,7 +22,9 @@ pub fn shown_line(alloc: Global, bytes: &[u8]) -> Result<String, AllocError> {
 
 /// The bytes of a name in printable ASCII, from which they can be read back: a backslash is `\\`, and any byte that isn't
 /// printable ASCII is `\x` and two digits.
-pub fn shown_name(alloc: Global, bytes: &[u8]) -> Result<String, AllocError> {
+pub fn shown_name(alloc: Global, bytes: &[u8]) -> Result<String, AllocError>
+    ensures { IfOk result (λ shown. string_bytes shown ≡ flat_map shown_in_name bytes.now) }
+{
     let mut shown = String::new(alloc);
     for byte in bytes {
         match *byte {
@@ -29,12 +36,16 @@ pub fn shown_name(alloc: Global, bytes: &[u8]) -> Result<String, AllocError> {
 }
 
 /// Whether a terminal shows the byte as a character of its own.
-pub fn is_printable(byte: u8) -> bool {
+pub fn is_printable(byte: u8) -> bool
+    ensures { result ≡ is_shown byte }
+{
     matches!(byte, b' '..=b'~')
 }
 
 /// Adds the byte, or what stands for it.
-fn push_shown(shown: &mut String, byte: u8) -> Result<(), AllocError> {
+fn push_shown(shown: &mut String, byte: u8) -> Result<(), AllocError>
+    ensures { OnOk result (string_bytes shown.new ≡ string_bytes shown.old ++ shown_byte byte) }
+{
     if is_printable(byte) {
         return shown.push(char::from(byte));
     }
@@ -44,9 +55,12 @@ fn push_shown(shown: &mut String, byte: u8) -> Result<(), AllocError> {
 }
 
 /// The hexadecimal digit of a number below 16.
-fn hexadecimal(digit: u8) -> char {
+fn hexadecimal(digit: u8) -> char
+    requires { digit < 16 }
+    ensures { result ≡ digit_of digit }
+{
     match digit {
         0..=9 => char::from(b'0' + digit),
-        _ => char::from(b'a' + (digit - 10) % 6),
+        _ => char::from(b'a' + (digit - 10)),
     }
 }

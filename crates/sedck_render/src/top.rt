@@ -37,7 +37,7 @@ pub(crate) fn push_top(
 fn answer_words(answer: &Answer) -> (&'static str, &'static str) {
     match answer {
         Answer::Accepted { .. } => ("accepted", "Accepted: every run of the script ends."),
-        Answer::Rejected(_) => ("error", "The certificate is rejected."),
+        Answer::Rejected { .. } => ("error", "The certificate is rejected."),
         Answer::Endless(_) => ("error", "A loop rules out every certificate."),
         Answer::ScriptRefused(_) => ("error", "The script is refused."),
         Answer::CertificateRefused(_) => ("error", "The certificate is refused."),

@@ -17,7 +17,7 @@ pub(crate) fn level_word(level: Level) -> &'static str {
 pub(crate) fn answer_word(answer: &Answer) -> &'static str {
     match answer {
         Answer::Accepted { .. } => "accepted",
-        Answer::Rejected(_) => "rejected",
+        Answer::Rejected { .. } => "rejected",
         Answer::Endless(_) => "loop",
         Answer::ScriptRefused(_) => "script-refused",
         Answer::CertificateRefused(_) => "certificate-refused",

@@ -1,5 +1,5 @@
 -- The steps of an engine.
-use Rattle.std.specs.Prelude.{◌≡◌, ◌≤◌, ℕ, IsTrue, List, length, take, Option, IfSome, Result, Ok, Err}
+use Rattle.std.specs.Prelude.{◌≡◌, IsTrue, List, ℕ, Result, Ok, Err}
 use Rattle.std.specs.Io.KnownBytes.{Appends}
 use Rattle.sedck_script.specs.Program.{Program}
 use Rattle.sedck_cert.specs.Streams.{AppendsPrefix}
@@ -12,11 +12,6 @@ use Rattle.sedck_cli.specs.declared.engines.ScriptReport.{ScriptReport}
 use Rattle.sedck_cli.specs.declared.engines.ScriptReport.TheVariants.{Files, Graph, Rank}
 use Rattle.sedck_cli.specs.Reports.{IsFilesReport, IsGraphReport, IsRankReport}
 use Rattle.sedck_cli.specs.Engines.{ListsFilesTo, ListsGraphTo, RanksTo, found_outcome, Writing}
-
--- the text is what was read of an input's bytes, where they are known
-pub record IsRead (limit : ℕ) (known : Option (List ℕ)) (text : List ℕ) : Type 0 where
-  pub prefix : IfSome known (λ bytes. text ≡ take limit bytes)
-  pub within : length text ≤ limit
 
 -- the report on a script, and its outcome
 abbrev pub IsScriptReport : ScriptReport → Program → Outcome → List ℕ → Type 0

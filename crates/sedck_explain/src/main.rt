@@ -1,0 +1,34 @@
+//! The program `sedck-explain`: its words, its standard streams and its exit status. All else stands in `sedck_explain_cli`.
+#![tactic(auto)]
+
+use sedck_cli::FromWrite;
+use sedck_explain_cli::{flushed, out_of_memory, program, words_refused};
+use std::env;
+use std::io::{ErrorKind, IsTerminal};
+use std::process::ExitCode;
+use std::rt::Env;
+
+fn main(rt: HostRuntime) -> ExitCode {
+    let mut out = FromWrite::new(rt.stdout());
+    let mut err = FromWrite::new(rt.stderr());
+    let colour = wants_colour(&rt) && rt.stdout().is_terminal();
+    let status = match env::args(&rt) {
+        Ok(words) => match words.skip(1).collect::<Vec<String>>(rt.alloc()) {
+            Ok(words) => program(&rt, &words, colour, &mut out, &mut err),
+            Err(_) => out_of_memory(&mut err),
+        },
+        Err(error) => match error.kind() {
+            ErrorKind::OutOfMemory => out_of_memory(&mut err),
+            _ => words_refused(&mut err),
+        },
+    };
+    ExitCode::from(flushed(status, out.into_inner(), &mut err))
+}
+
+/// Whether the user hasn't asked for no colours (no-color.org): `NO_COLOR` is empty or isn't set.
+fn wants_colour(rt: &(impl Env + AllocGlobal)) -> bool {
+    match env::var(rt, "NO_COLOR") {
+        Ok(value) => value.is_empty(),
+        Err(_) => true,
+    }
+}

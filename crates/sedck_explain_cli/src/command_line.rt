@@ -1,0 +1,250 @@
+//! The program `sedck-explain` for the words of its command line.
+
+ghost use Rattle.std.specs.Prelude.{◌≡◌, ◌≢◌, ◌⊎◌, ◌<◌, ◌≤◌, IfOk};
+ghost use Rattle.std.specs.Io.KnownBytes.{Keeps};
+
+use crate::explaining::{explain_alone, explain_with};
+use crate::format::Style;
+use crate::request::{Request, request_of};
+use clap::Error;
+use clap::error::ErrorKind;
+use sedck_cert::streams::{Failed, FromRead, Sink, Source, write_all};
+use sedck_cli::{Input as InputOf, RunFault};
+use std::alloc::{AllocError, Global};
+use std::fs;
+use std::fs::Files;
+use std::io::{Input, Write};
+
+/// What is written to standard error is begun with.
+const NAME: &[u8] = b"sedck-explain: ";
+
+/// The whole program for the words after its name, and its exit status: of the scripts' statuses the greatest, which are 0 for
+/// accepted, 1 for a rejection or a loop, and 2 for a refused text; 3 for words of no known form, 4 where a stream fails or memory
+/// runs out.
+///
+/// A script that can't be read is reported, and the next one follows. After a failed write, or where memory runs out, none does.
+pub fn program<R: Files + Input + AllocGlobal, W: Sink, E: Sink>(
+    rt: &R,
+    words: &[String],
+    colour: bool,
+    out: &mut W,
+    err: &mut E,
+) -> u8
+    ensures within { result ≤ 4 }
+    ensures silent { result < 3 → Keeps (E.taken err.old) (E.taken err.new) }
+{
+    let request = match request_of(rt.alloc(), words) {
+        Ok(request) => request,
+        Err(error) => return refuse_words(rt.alloc(), error, out, err),
+    };
+    if request.scripts.len() > 1 {
+        if request.certificate.is_some() {
+            return end(err, b"--cert is for one script\n", 3);
+        }
+        if !request.format.takes_several() {
+            return end(err, b"this format is for one script\n", 3);
+        }
+    }
+    explain_all(rt, &request, colour, out, err)
+}
+
+/// Explains each script, in the order in which they are given.
+fn explain_all<R: Files + Input + AllocGlobal, W: Sink, E: Sink>(
+    rt: &R,
+    request: &Request,
+    colour: bool,
+    out: &mut W,
+    err: &mut E,
+) -> u8
+    ensures within { result ≤ 4 }
+    ensures silent { result < 3 → Keeps (E.taken err.old) (E.taken err.new) }
+{
+    let mut status = 0;
+    for path in &request.scripts {
+        match explain_path(rt, request, colour, path, out) {
+            Ok(one) => status = one.max(status),
+            Err(fault) => {
+                status = 4;
+                report_fault(err, request, path, fault);
+                if !matches!(fault, RunFault::Read(_)) {
+                    break;
+                }
+            }
+        }
+    }
+    status
+}
+
+/// Explains the script at the path, with the certificate where one is given.
+fn explain_path<R: Files + Input + AllocGlobal, W: Sink>(
+    rt: &R,
+    request: &Request,
+    colour: bool,
+    path: &str,
+    out: &mut W,
+) -> Result<u8, RunFault>
+    ensures { IfOk result (λ status. status ≤ 2) }
+{
+    if path == "-" {
+        return explain_source(rt, request, colour, path, FromRead::new(rt.reader()), out);
+    }
+    match fs::open(rt, path) {
+        Ok(file) => explain_source(rt, request, colour, path, FromRead::new(file), out),
+        Err(_) => Err(RunFault::Read(InputOf::Script)),
+    }
+}
+
+/// Explains the script of this source.
+fn explain_source<R: Files + AllocGlobal, S: Source + Drop, W: Sink>(
+    rt: &R,
+    request: &Request,
+    colour: bool,
+    path: &str,
+    mut script: S,
+    out: &mut W,
+) -> Result<u8, RunFault>
+    ensures { IfOk result (λ status. status ≤ 2) }
+{
+    let alloc = rt.alloc();
+    let style = Style {
+        format: request.format,
+        colour,
+    };
+    let name = shown_path(alloc, path)?;
+    let Some(certificate) = request.certificate else {
+        return explain_alone(alloc, style, name.as_str(), &mut script, out);
+    };
+    match fs::open(rt, certificate) {
+        Ok(file) => {
+            let mut certificate = FromRead::new(file);
+            explain_with(
+                alloc,
+                style,
+                name.as_str(),
+                &mut script,
+                &mut certificate,
+                out,
+            )
+        }
+        Err(_) => Err(RunFault::Read(InputOf::Certificate)),
+    }
+}
+
+/// The path with `?` for each control character, which could move a terminal's cursor or end a line.
+fn shown_path(alloc: Global, path: &str) -> Result<String, AllocError> {
+    let mut shown = String::new(alloc);
+    for letter in path.chars() {
+        shown.push(if letter.is_control() { '?' } else { letter })?;
+    }
+    Ok(shown)
+}
+
+/// Reports why a script couldn't be explained. It takes no memory.
+fn report_fault<E: Sink>(err: &mut E, request: &Request, path: &str, fault: RunFault) {
+    let _ = write_fault(err, request, path, fault);
+}
+
+/// Writes the line of the fault.
+fn write_fault<E: Sink>(
+    err: &mut E,
+    request: &Request,
+    path: &str,
+    fault: RunFault,
+) -> Result<(), Failed> {
+    write_all(err, NAME)?;
+    match fault {
+        RunFault::Read(InputOf::Script) => write_unread(err, path),
+        RunFault::Read(InputOf::Certificate) => write_unread(
+            err,
+            request.certificate.unwrap_or(path),
+        ),
+        RunFault::Write => write_all(err, b"cannot write\n"),
+        // Texts that are refused are reported, so that memory is all that is left.
+        RunFault::Script(_) | RunFault::Certificate(_) | RunFault::OutOfMemory => {
+            write_all(err, b"out of memory\n")
+        }
+    }
+}
+
+/// Writes which file can't be read.
+fn write_unread<E: Sink>(err: &mut E, path: &str) -> Result<(), Failed> {
+    write_all(err, b"cannot read ")?;
+    for byte in path.as_bytes() {
+        let shown = if byte.is_ascii_control() { b'?' } else { *byte };
+        write_all(err, &[shown])?;
+    }
+    write_all(err, b"\n")
+}
+
+/// Writes why the program ends, and answers its exit status.
+fn end<E: Sink>(err: &mut E, words: &[u8], status: u8) -> u8
+    ensures { result ≡ status }
+{
+    let _ = write_refusal(err, words);
+    status
+}
+
+/// Writes why the words are refused.
+fn write_refusal<E: Sink>(err: &mut E, words: &[u8]) -> Result<(), Failed> {
+    write_all(err, NAME)?;
+    write_all(err, words)
+}
+
+/// Writes what `clap` says of the words: the help or the version to the output, a refusal to standard error. Answers the exit
+/// status.
+fn refuse_words<W: Sink, E: Sink>(alloc: Global, error: Error, out: &mut W, err: &mut E) -> u8
+    ensures within { result ≤ 4 }
+    ensures silent { result < 3 → Keeps (E.taken err.old) (E.taken err.new) }
+{
+    let Ok(words) = words_of(alloc, &error) else {
+        return out_of_memory(err);
+    };
+    if !error.use_stderr() {
+        return match write_all(out, words.as_bytes()) {
+            Ok(()) => 0,
+            Err(_) => unwritten(err),
+        };
+    }
+    end(err, words.as_bytes(), 3)
+}
+
+/// The text of an error of `clap`.
+fn words_of(alloc: Global, error: &Error) -> Result<String, AllocError> {
+    if error.kind() == ErrorKind::OutOfMemory {
+        return Err(AllocError);
+    }
+    format!(in alloc; "{error}")
+}
+
+/// Reports that a word isn't UTF-8, and answers the exit status.
+pub fn words_refused<E: Sink>(err: &mut E) -> u8
+    ensures { result ≡ 3 }
+{
+    end(err, b"a word of the command line is not UTF-8\n", 3)
+}
+
+/// Reports that memory ran out, and answers the exit status.
+pub fn out_of_memory<E: Sink>(err: &mut E) -> u8
+    ensures { result ≡ 4 }
+{
+    end(err, b"out of memory\n", 4)
+}
+
+/// Reports that the output can't be written, and answers the exit status.
+fn unwritten<E: Sink>(err: &mut E) -> u8
+    ensures { result ≡ 4 }
+{
+    end(err, b"cannot write\n", 4)
+}
+
+/// The status once the report is flushed. A report that can't be flushed isn't written: then the status is 4, with a line that
+/// says so.
+pub fn flushed<W: Write + Drop, E: Sink>(status: u8, mut out: W, err: &mut E) -> u8
+    ensures within { (result ≡ status) ⊎ (result ≡ 4) }
+    ensures silent { result ≢ 4 → Keeps (E.taken err.old) (E.taken err.new) }
+{
+    match out.flush() {
+        Ok(()) => status,
+        Err(_) => unwritten(err),
+    }
+}

@@ -1,0 +1,71 @@
+//! What the words of the command line ask for.
+
+use crate::format::{Format, NAMES};
+use clap::{Arg, ArgAction, Command, Error};
+use std::alloc::{AllocError, Global};
+
+/// The version of the program and of its formats.
+const VERSION: &str = "1.0.0";
+
+/// What is asked for.
+#[derive(Drop)]
+pub(crate) struct Request<'a> {
+    pub format: Format,
+    /// The certificate's path.
+    pub certificate: Option<&'a str>,
+    /// The scripts' paths, at least one; `-` is standard input.
+    pub scripts: Vec<&'a str>,
+}
+
+/// What the words ask for, or why nothing, in words of `clap`.
+pub(crate) fn request_of<'a>(alloc: Global, words: &'a [String]) -> Result<Request<'a>, Error> {
+    let matches = command(alloc)?.try_get_matches_from(words)?;
+    let format = match matches.get_str("format") {
+        Some(name) => Format::named(name).unwrap_or(Format::Text),
+        None => Format::Text,
+    };
+    let certificate = matches.get_str("cert");
+    let mut scripts = Vec::new(alloc);
+    if let Some(paths) = matches.get_strs("script") {
+        for path in paths {
+            scripts.push(*path)?;
+        }
+    }
+    if scripts.is_empty() {
+        scripts.push("-")?;
+    }
+    Ok(Request {
+        format,
+        certificate,
+        scripts,
+    })
+}
+
+/// The known forms of the words.
+fn command<'a>(alloc: Global) -> Result<Command<'a>, AllocError> {
+    let format = Arg::new(alloc, "format")
+        .long("format")
+        .value_name("FORMAT")
+        .value_parser(NAMES.as_slice())
+        .help("How the report is printed [default: text]");
+    let cert = Arg::new(alloc, "cert").long("cert").value_name("CERT").help(
+        "Judge this certificate instead of searching for one; for one script",
+    );
+    let script = Arg::new(alloc, "script")
+        .value_name("SCRIPT")
+        .action(ArgAction::Append)
+        .num_args(0..)
+        .help("Scripts of sed; none or `-` is standard input");
+    Command::new(alloc, "sedck-explain")
+        .no_binary_name(true)
+        .version(VERSION)
+        .about(
+            "Says where and why a sed script is refused or may run for ever, which files it touches, and what to write instead",
+        )
+        .after_help(
+            "Exit status: 0 accepted, 1 rejected or a loop, 2 a script or certificate that is refused, 3 a wrong command line, 4 a file that can't be read or a report that can't be written; of several scripts the greatest.",
+        )
+        .arg(format)?
+        .arg(cert)?
+        .arg(script)
+}

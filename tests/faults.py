@@ -1,0 +1,79 @@
+#!/usr/bin/env python3
+"""Compares what the pages say of faults: python3 tests/faults.py build/sedck, in the folder of the repository.
+
+The faults and rejections that docs/FORMATS.md lists must be just those of docs/sedck.5 and docs/FAULTS.md, by number and name, and
+each example in the tables of docs/FORMATS.md must get the fault of its row, at the offset that is said there. The status is 0 only
+where all of this holds.
+"""
+import os
+import re
+import subprocess
+import sys
+import tempfile
+
+FAMILIES = {"Script faults": "FAULTS OF SCRIPTS", "Expression faults": "FAULTS OF EXPRESSIONS",
+            "Certificate faults": "FAULTS OF CERTIFICATES", "The report of `check`": "REJECTIONS"}
+HEADS = {"FAULTS OF SCRIPTS": "Faults of scripts", "FAULTS OF EXPRESSIONS": "Faults of expressions",
+         "FAULTS OF CERTIFICATES": "Faults of certificates", "REJECTIONS": "Rejections"}
+
+
+def section(text, head, mark):
+    """What follows the line with this head, up to the next line that begins with the mark."""
+    return re.split(mark, text.split(head + "\n", 1)[1], maxsplit=1, flags=re.M)[0]
+
+
+def read(name):
+    with open(name) as file:
+        return file.read()
+
+
+def listed(formats, family):
+    """Number and name of each row of a table of docs/FORMATS.md, with its example and the example's offset."""
+    for line in section(formats, "## " + family, r"^## ").split("\n"):
+        row = re.match(r"\| (\d+) \| `([\w-]+)` \|", line) or re.match(r"\| `rejected (\d) ([\w-]+)", line)
+        example = re.search(r"\| `([^`]+)`: at (\d+) \|$", line.replace(r"\|", "\0"))
+        if row:
+            yield row[1], row[2], example and (example[1].replace("\0", "|"), example[2])
+
+
+def answer(sedck, script):
+    """The line with which `sedck rank` refuses a script."""
+    with tempfile.NamedTemporaryFile("w", prefix="sedck-faults-") as file:
+        file.write(script)
+        file.flush()
+        return subprocess.run([sedck, "rank", file.name], capture_output=True, text=True).stderr
+
+
+def main():
+    sedck, wrong, examples = os.path.abspath(sys.argv[1]), 0, 0
+    formats, manual, page = read("docs/FORMATS.md"), read("docs/sedck.5").replace(r"\-", "-"), read("docs/FAULTS.md")
+    count = 0
+    for family, head in FAMILIES.items():
+        rows = list(listed(formats, family))
+        due = {(number, name) for number, name, _ in rows}
+        count += len(due)
+        for where, text, form in (
+                ("docs/sedck.5", re.split(r'^\.SH ', re.split(r'^\.SH "?%s"?\n' % head, manual, flags=re.M)[1], flags=re.M)[0], r"^\.B (\d+) ([a-z][\w-]+)$"),
+                ("docs/FAULTS.md", section(page, "# " + HEADS[head], r"^# "), r"(?:^## |^\| |, )(\d+) `?([a-z][\w-]+)`?(?=[,:\n ])")):
+            found = set(re.findall(form, text, flags=re.M))
+            if found != due:
+                wrong += 1
+                print("%s, %s: it lacks %s, and has %s too many" % (where, head, sorted(due - found), sorted(found - due)))
+        for number, name, example in rows:
+            if example is None or family not in ("Script faults", "Expression faults") or name == "trailing-backslash":
+                continue
+            examples += 1
+            text, offset = example
+            script = text if family == "Script faults" else "s/%s/x/" % text
+            says = answer(sedck, script)
+            words = "%s %s at %s" % (number, name, offset)
+            if not (says.startswith("sedck: script fault " + words) if family == "Script faults" else says.endswith("expression fault " + words + "\n")):
+                wrong += 1
+                print("docs/FORMATS.md: %r gets %r, and not %s" % (script, says, words))
+    if not wrong:
+        print("faults: %d are the same on three pages, and %d examples get theirs" % (count, examples))
+    return 1 if wrong or not examples else 0
+
+
+if __name__ == "__main__":
+    sys.exit(main())

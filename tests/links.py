@@ -1,0 +1,62 @@
+#!/usr/bin/env python3
+"""Checks links and versions in the documents: python3 tests/links.py, in any folder.
+
+Each link to a file of the repository must lead to one, and to a heading of it where it names one; each page is linked from README.md;
+the manual pages have the version of the first entry of CHANGELOG.md. The status is 0 only where all of this holds.
+"""
+import re
+import sys
+from pathlib import Path
+
+TOP = Path(__file__).resolve().parent.parent
+PAGES = [TOP / "README.md", TOP / "CHANGELOG.md", TOP / "examples" / "README.md"] + sorted((TOP / "docs").glob("*.md"))
+MANUAL = sorted((TOP / "docs").glob("sedck*.[1-8]"))
+
+
+def without_code(text):
+    return re.sub(r"^```.*?^```$", "", text, flags=re.M | re.S)
+
+
+def anchors(page):
+    """The names of a page's headings, as hosts of repositories make them."""
+    heads = re.findall(r"^#+ (.*)$", without_code(page.read_text()), flags=re.M)
+    return {re.sub(r"[^\w\- ]", "", head.lower()).replace(" ", "-") for head in heads}
+
+
+def links(page):
+    """The links of a page that name no other host: the file, and the heading or an empty text."""
+    text = re.sub(r"``?[^`\n]*``?(?![^\[\]]*\]\()", "", without_code(page.read_text()))
+    for target in re.findall(r"\]\(([^)\s]+)\)", text):
+        if "://" not in target:
+            name, _, head = target.partition("#")
+            yield target, (page.parent / name).resolve() if name else page, head
+
+
+def faults():
+    for page in PAGES:
+        for target, file, head in links(page):
+            if not file.exists():
+                yield "%s: no file %s" % (page.relative_to(TOP), target)
+            elif head and head not in anchors(file):
+                yield "%s: no heading %s" % (page.relative_to(TOP), target)
+    linked = {file for _, file, _ in links(TOP / "README.md")}
+    for page in PAGES[1:] + MANUAL:
+        if page not in linked:
+            yield "README.md has no link to %s" % page.relative_to(TOP)
+    version = re.search(r"^## (\d+\.\d+\.\d+)$", (TOP / "CHANGELOG.md").read_text(), flags=re.M)[1]
+    for page in MANUAL:
+        if '"sedck %s"' % version not in page.read_text().split("\n")[0]:
+            yield "%s isn't of version %s" % (page.relative_to(TOP), version)
+
+
+def main():
+    found = list(faults())
+    for fault in found:
+        print(fault)
+    if not found:
+        print("links: %d in %d pages lead somewhere" % (sum(len(list(links(page))) for page in PAGES), len(PAGES)))
+    return 1 if found else 0
+
+
+if __name__ == "__main__":
+    sys.exit(main())

@@ -1,0 +1,248 @@
+#!/usr/bin/env python3
+"""Runs the Makefile, the hooks and the steps of docs/RECIPES.md in scratch folders: python3 tests/recipes.py build/sedck
+
+Each recipe is taken from the page, or from .pre-commit-hooks.yaml, and must pass what it should pass and refuse what it should
+refuse. One that needs a program which this machine lacks is left out, which is said. The status is 0 only where none fails.
+"""
+import os
+import re
+import shlex
+import shutil
+import subprocess
+import sys
+import tempfile
+
+try:
+    import yaml
+except ImportError:
+    yaml = None
+
+TOP = os.path.dirname(os.path.dirname(os.path.abspath(__file__)))
+ENDLESS = ":a\np\nb a\n"
+
+
+def read(name):
+    with open(os.path.join(TOP, name)) as file:
+        return file.read()
+
+
+def block(head, language, nth=0):
+    """A block of a section of the page; the others are examples of what it prints."""
+    section = re.split(r"^## ", read("docs/RECIPES.md").split("\n## %s\n" % head, 1)[1], flags=re.M)[0]
+    return re.findall(r"^```%s\n(.*?)^```$" % language, section, flags=re.M | re.S)[nth]
+
+
+class Failure(Exception):
+    pass
+
+
+class Scratch:
+    """A folder with a program sedck on the path."""
+    def __init__(self, sedck):
+        self.sedck = sedck
+
+    def __enter__(self):
+        self.whole = tempfile.TemporaryDirectory(prefix="sedck-recipes-")
+        self.folder = os.path.join(self.whole.name, "here")
+        os.makedirs(os.path.join(self.whole.name, "bin"))
+        os.makedirs(self.folder)
+        shutil.copy(self.sedck, os.path.join(self.whole.name, "bin", "sedck"))
+        self.environment = {"PATH": os.path.join(self.whole.name, "bin") + ":" + os.environ["PATH"], "HOME": self.whole.name, "LC_ALL": "C",
+                            "GIT_AUTHOR_NAME": "a", "GIT_AUTHOR_EMAIL": "a@b", "GIT_COMMITTER_NAME": "a", "GIT_COMMITTER_EMAIL": "a@b"}
+        return self
+
+    def __exit__(self, *_):
+        self.whole.cleanup()
+
+    def write(self, name, text, mode=0o644):
+        path = os.path.join(self.folder, name)
+        os.makedirs(os.path.dirname(path), exist_ok=True)
+        with open(path, "w") as file:
+            file.write(text)
+        os.chmod(path, mode)
+
+    def copy(self, name, to=None):
+        self.write(to or name, read("examples/" + name))
+
+    def text(self, name):
+        with open(os.path.join(self.folder, name)) as file:
+            return file.read()
+
+    def has(self, name):
+        return os.path.exists(os.path.join(self.folder, name))
+
+    def run(self, due, *words):
+        """What the command prints, both streams, where it ends with the status that is due."""
+        done = subprocess.run(words, cwd=self.folder, env=self.environment, stdin=subprocess.DEVNULL, stdout=subprocess.PIPE,
+                              stderr=subprocess.STDOUT, text=True)
+        if done.returncode != due:
+            raise Failure("%s ends with %d, not %d:\n%s" % (" ".join(words), done.returncode, due, done.stdout))
+        return done.stdout
+
+
+def holds(what, says):
+    if not what:
+        raise Failure(says)
+
+
+def makefile(scratch):
+    scratch.write("Makefile", block("A Makefile that checks a script before it runs it", "make"))
+    scratch.copy("clean-paths.sed")
+    scratch.copy("clean-paths.cert")
+    scratch.write("paths.ini.in", "[paths]\na = /usr//./lib\n")
+    scratch.run(0, "make", "paths.ini")
+    holds(scratch.text("paths.ini") == "[paths]\na = /usr/lib\n", "the script isn't run")
+    holds(scratch.text("clean-paths.checked").startswith("accepted\n"), "no report is kept")
+    scratch.write("clean-paths.sed", scratch.text("clean-paths.sed") + ENDLESS)
+    holds("rejected 1 wrong-count" in scratch.run(2, "make", "paths.ini"), "the rejection isn't shown")
+    holds(not scratch.has("clean-paths.checked") and scratch.text("paths.ini").endswith("lib\n"), "a rejected script leaves something else")
+
+
+def in_place(scratch):
+    scratch.copy("clean-paths.sed")
+    scratch.write("texts/a.txt", "[paths]\na = /usr//lib\n")
+    scratch.write("texts/b.txt", "b//c\n")
+    scratch.run(0, "sh", "-c", block("In place of `sed -i`", "sh"))
+    holds((scratch.text("texts/a.txt"), scratch.text("texts/b.txt")) == ("[paths]\na = /usr/lib\n", "b//c\n"), "other texts")
+    holds(os.listdir(os.path.join(scratch.folder, "texts")).__len__() == 2, "a file is left over")
+
+
+def inline(scratch):
+    scratch.write("notes.txt", "  a  \nb\n")
+    holds(scratch.run(0, "sh", "-c", block("Scripts inside of other files", "sh")) == "a\nb\n", "other texts")
+
+
+def hook(scratch):
+    scratch.run(0, "git", "init", "-q", ".")
+    scratch.write(".git/hooks/pre-commit", block("A hook before each commit", "sh"), 0o755)
+    scratch.copy("odd-lines.sed")
+    scratch.copy("odd-lines.cert")
+    scratch.run(0, "git", "add", ".")
+    scratch.run(0, "git", "commit", "-qm", "a pair")
+    scratch.write("odd-lines.sed", ENDLESS)
+    scratch.run(0, "git", "add", ".")
+    holds("rejected 1 wrong-count" in scratch.run(1, "git", "commit", "-qm", "a loop"), "the rejection isn't shown")
+    scratch.copy("odd-lines.sed")
+    scratch.run(1, "git", "commit", "-qm", "what is staged counts")
+    scratch.run(0, "git", "add", ".")
+    scratch.run(0, "git", "rm", "-q", "--cached", "odd-lines.cert")
+    scratch.run(1, "git", "commit", "-qm", "a certificate is missing")
+
+
+def pairs(scratch):
+    """The scripts that the page shows the failures of, and one without."""
+    for name in ("endless-print", "lost-label", "odd-lines"):
+        for end in (".sed", ".cert"):
+            scratch.copy(name + end, "scripts/" + name + end)
+    scratch.copy("last-line.sed", "scripts/new.sed")
+
+
+def failures_shown():
+    return "".join(line[4:] + "\n" for line in read("docs/RECIPES.md").split("\n") if line.startswith("    scripts/"))
+
+
+def step(scratch):
+    pairs(scratch)
+    scratch.write("check-sed-scripts.sh", block("A step of continuous integration", "sh"))
+    holds(scratch.run(1, "sh", "check-sed-scripts.sh") == failures_shown(), "the failures aren't those that the page shows")
+    for name in ("endless-print.sed", "lost-label.sed", "new.sed"):
+        os.remove(os.path.join(scratch.folder, "scripts", name))
+    holds(scratch.run(0, "sh", "check-sed-scripts.sh") == "", "something is printed")
+    shutil.rmtree(os.path.join(scratch.folder, "scripts"))
+    scratch.run(1, "sh", "check-sed-scripts.sh")
+
+
+def lists(scratch):
+    pairs(scratch)
+    text = block("Certificates in the repository, or none", "sh")
+    for name in ("endless-print", "lost-label"):
+        os.remove(os.path.join(scratch.folder, "scripts", name + ".sed"))
+    for name in ("odd-lines", "new"):
+        scratch.run(0, "sh", "-c", "sedck files scripts/%s.sed > scripts/%s.files" % (name, name))
+    scratch.run(0, "sh", "-c", text)
+    scratch.copy("write-section.sed", "scripts/new.sed")
+    holds(scratch.run(1, "sh", "-c", text).startswith("scripts/new.sed: "), "another list isn't seen")
+    scratch.write("scripts/new.sed", ENDLESS)
+    holds(scratch.run(1, "sh", "-c", text).startswith("scripts/new.sed: "), "a loop isn't seen")
+
+
+def archive(scratch):
+    """The archive of the page, and the two variables that name it."""
+    os.makedirs(os.path.join(scratch.whole.name, "stage", "bin"))
+    shutil.copy(scratch.sedck, os.path.join(scratch.whole.name, "stage", "bin"))
+    making = [line for line in block("GitHub and GitLab", "sh").split("\n") if line and not line.startswith("make install ")]
+    says = subprocess.run(["sh", "-ec", "\n".join(making)], cwd=scratch.whole.name, capture_output=True, text=True, check=True).stdout
+    os.remove(os.path.join(scratch.whole.name, "bin", "sedck"))
+    scratch.environment.update(SEDCK_ARCHIVE="file://" + os.path.join(scratch.whole.name, "sedck.tar.gz"), SEDCK_SHA256=says.split()[0])
+    scratch.copy("odd-lines.sed", "scripts/odd-lines.sed")
+    scratch.copy("odd-lines.cert", "scripts/odd-lines.cert")
+    scratch.write("check-sed-scripts.sh", block("A step of continuous integration", "sh"))
+
+
+def github(scratch):
+    job = yaml.safe_load(block("GitHub and GitLab", "yaml"))["jobs"]["sed-scripts"]
+    archive(scratch)
+    get, check = [one["run"] for one in job["steps"] if "run" in one]
+    scratch.environment.update(RUNNER_TEMP=scratch.whole.name + "/temp", GITHUB_PATH=scratch.whole.name + "/path")
+    os.makedirs(scratch.whole.name + "/temp")
+    scratch.run(0, "bash", "-e", "-c", get)
+    with open(scratch.whole.name + "/path") as path:
+        scratch.environment["PATH"] = path.read().strip() + ":" + scratch.environment["PATH"]
+    scratch.run(0, "bash", "-e", "-c", check)
+    scratch.write("scripts/odd-lines.sed", ENDLESS)
+    scratch.run(1, "bash", "-e", "-c", check)
+    scratch.environment["SEDCK_SHA256"] = "0" * 64
+    shutil.rmtree(scratch.whole.name + "/temp/sedck")
+    scratch.run(1, "bash", "-e", "-c", get)
+
+
+def gitlab(scratch):
+    job = yaml.safe_load(block("GitHub and GitLab", "yaml", 1))["sed-scripts"]
+    archive(scratch)
+    lines = [line.replace("/tmp/", scratch.whole.name + "/") for line in job["before_script"] + job["script"] if not line.startswith("apt-get ")]
+    os.rename(scratch.whole.name + "/sedck.tar.gz", scratch.whole.name + "/fetched")
+    scratch.environment["SEDCK_ARCHIVE"] = "file://" + scratch.whole.name + "/fetched"
+    scratch.run(0, "bash", "-e", "-c", "\n".join(lines))
+
+
+def pre_commit(scratch):
+    hooks = {hook["id"]: hook for hook in yaml.safe_load(read(".pre-commit-hooks.yaml"))}
+    used = yaml.safe_load(block("A hook of pre-commit", "yaml"))["repos"][0]["hooks"]
+    holds(all(hook["id"] in hooks for hook in used), "the page shows a hook that isn't there")
+    pairs(scratch)
+    names = sorted("scripts/" + name for name in os.listdir(os.path.join(scratch.folder, "scripts")))
+    for hook, failing, passing in (("sedck", ["endless-print", "lost-label", "new"], ["odd-lines"]), ("sedck-rank", ["endless-print", "lost-label"], ["new", "odd-lines"])):
+        words, files = shlex.split(hooks[hook]["entry"]), hooks[hook]["files"]
+        asked = [name for name in names if re.search(files, name)]
+        says = scratch.run(1, *words, *asked)
+        holds(all("scripts/%s.sed: " % name in says for name in failing), "%s doesn't name %s:\n%s" % (hook, failing, says))
+        holds(not any("scripts/%s.sed: " % name in says for name in passing), "%s names %s" % (hook, passing))
+        scratch.run(0, *words, *[name for name in asked if name.split("/")[1].split(".")[0] in passing])
+
+
+# Each recipe with the programs that it needs.
+RECIPES = [(makefile, "make sed"), (in_place, "sed"), (inline, "sed"), (hook, "git sed"), (step, ""), (lists, ""),
+           (github, "yaml bash curl tar sha256sum"), (gitlab, "yaml bash curl tar sha256sum"), (pre_commit, "yaml")]
+
+
+def main():
+    failed, run = 0, 0
+    for recipe, needs in RECIPES:
+        lacks = [need for need in needs.split() if (yaml is None if need == "yaml" else shutil.which(need) is None)]
+        if lacks:
+            print("recipes: %s is left out: this machine lacks %s" % (recipe.__name__, " ".join(lacks)))
+            continue
+        run += 1
+        with Scratch(os.path.abspath(sys.argv[1])) as scratch:
+            try:
+                recipe(scratch)
+            except Failure as failure:
+                failed += 1
+                print("recipes: %s: %s" % (recipe.__name__, failure))
+    if not failed:
+        print("recipes: %d of docs/RECIPES.md do what they should" % run)
+    return 1 if failed else 0
+
+
+if __name__ == "__main__":
+    sys.exit(main())
