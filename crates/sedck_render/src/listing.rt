@@ -11,15 +11,20 @@ use std::alloc::{AllocError, Global};
 
 /// What the kinds of jumps look like.
 const LEGEND: &str = "<ul class=\"legend\">
-<li><svg aria-hidden=\"true\"><g class=\"consume\"><line x1=\"0\" x2=\"48\" y1=\"6\" y2=\"6\"/></g></svg>consume: a line is read</li>
-<li><svg aria-hidden=\"true\"><g class=\"shorten\"><line x1=\"0\" x2=\"48\" y1=\"6\" y2=\"6\"/></g></svg>shorten: the pattern space gets shorter</li>
-<li><svg aria-hidden=\"true\"><g class=\"keep\"><line x1=\"0\" x2=\"48\" y1=\"6\" y2=\"6\"/></g></svg>keep: it doesn&rsquo;t get longer</li>
-<li><svg aria-hidden=\"true\"><g class=\"grow\"><line x1=\"0\" x2=\"48\" y1=\"6\" y2=\"6\"/></g></svg>grow: it may get longer</li>
+<li><svg aria-hidden=\"true\"><g class=\"consume\"><line x1=\"0\" x2=\"48\" y1=\"6\" y2=\"6\"/></g></svg>
+consume: a line is read</li>
+<li><svg aria-hidden=\"true\"><g class=\"shorten\"><line x1=\"0\" x2=\"48\" y1=\"6\" y2=\"6\"/></g></svg>
+shorten: the pattern space gets shorter</li>
+<li><svg aria-hidden=\"true\"><g class=\"keep\"><line x1=\"0\" x2=\"48\" y1=\"6\" y2=\"6\"/></g></svg>
+keep: it doesn&rsquo;t get longer</li>
+<li><svg aria-hidden=\"true\"><g class=\"grow\"><line x1=\"0\" x2=\"48\" y1=\"6\" y2=\"6\"/></g></svg>
+grow: it may get longer</li>
 ";
 
 /// What the jumps of a loop look like.
 const LOOP_LEGEND: &str =
-    "<li><svg aria-hidden=\"true\"><g class=\"keep bold\"><line x1=\"0\" x2=\"48\" y1=\"6\" y2=\"6\"/></g></svg>bold: part of the loop</li>
+    "<li><svg aria-hidden=\"true\"><g class=\"keep bold\"><line x1=\"0\" x2=\"48\" y1=\"6\" y2=\"6\"/></g></svg>
+bold: part of the loop</li>
 ";
 
 /// Adds the script's lines with what is beside them, and its end.

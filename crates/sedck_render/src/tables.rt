@@ -6,6 +6,42 @@ use crate::words::{kind_word, push_quoted};
 use sedck_findings::{Answer, Explanation, NamedFile, shown_name};
 use std::alloc::{AllocError, Global};
 
+/// What precedes the rows of files.
+const FILES_HEAD: &str = "<div class=\"wide\"><table>
+<thead><tr>
+<th scope=\"col\">File</th>
+<th scope=\"col\">Use</th>
+<th scope=\"col\">Commands</th>
+</tr></thead><tbody>
+";
+
+/// What precedes the rows of jumps.
+const JUMPS_HEAD: &str = "<h2 id=\"jumps\">Jumps</h2>
+<details><summary>All jumps as a list</summary>
+<div class=\"wide\"><table>
+<thead><tr>
+<th scope=\"col\">From</th>
+<th scope=\"col\">To</th>
+<th scope=\"col\">Kind</th>
+</tr></thead><tbody>
+";
+
+/// What precedes the rows of ranks.
+const RANKS_HEAD: &str = "<h2 id=\"ranks\">Ranks</h2>
+<details><summary>The ranks of the certificate</summary>
+<p>Until a line is read, no step increases the first number.
+A step of the kind grow lowers it; one of the kind keep lowers it, or leaves it and lowers the second.
+A dash: no run gets there.</p>
+<div class=\"wide\"><table>
+<thead><tr>
+<th scope=\"col\">Command</th>
+<th scope=\"col\">flag reset, lines left</th>
+<th scope=\"col\">flag reset, last line</th>
+<th scope=\"col\">flag set, lines left</th>
+<th scope=\"col\">flag set, last line</th>
+</tr></thead><tbody>
+";
+
 /// Adds the files that the script names.
 pub(crate) fn push_files(
     alloc: Global,
@@ -19,10 +55,7 @@ pub(crate) fn push_files(
     if explanation.reads.is_empty() && explanation.writes.is_empty() {
         return push_text(out, "<p>No command reads or writes a file.</p>\n");
     }
-    push_text(
-        out,
-        "<div class=\"wide\"><table><thead><tr><th scope=\"col\">File</th><th scope=\"col\">Use</th><th scope=\"col\">Commands</th></tr></thead><tbody>\n",
-    )?;
+    push_text(out, FILES_HEAD)?;
     for file in &explanation.reads {
         push_file(alloc, out, file, "read")?;
     }
@@ -63,10 +96,7 @@ pub(crate) fn push_jumps(
     if jumps.is_empty() {
         return Ok(());
     }
-    push_text(
-        out,
-        "<h2 id=\"jumps\">Jumps</h2>\n<details><summary>All jumps as a list</summary>\n<div class=\"wide\"><table><thead><tr><th scope=\"col\">From</th><th scope=\"col\">To</th><th scope=\"col\">Kind</th></tr></thead><tbody>\n",
-    )?;
+    push_text(out, JUMPS_HEAD)?;
     for jump in jumps {
         push_text(out, "<tr><td>")?;
         push_place(alloc, out, explanation.positions.get(jump.from).copied())?;
@@ -91,10 +121,7 @@ pub(crate) fn push_ranks(
     let Answer::Accepted { cert, .. } = &explanation.answer else {
         return Ok(());
     };
-    push_text(
-        out,
-        "<h2 id=\"ranks\">Ranks</h2>\n<details><summary>The ranks of the certificate</summary>\n<p>Until a line is read, no step increases the first number. A step of the kind grow lowers it; one of the kind keep lowers it, or leaves it and lowers the second. A dash: no run gets there.</p>\n<div class=\"wide\"><table><thead><tr><th scope=\"col\">Command</th><th scope=\"col\">flag reset, lines left</th><th scope=\"col\">flag reset, last line</th><th scope=\"col\">flag set, lines left</th><th scope=\"col\">flag set, last line</th></tr></thead><tbody>\n",
-    )?;
+    push_text(out, RANKS_HEAD)?;
     for (index, ranks) in cert.ranks().chunks(4).enumerate() {
         push_text(out, "<tr><th scope=\"row\">")?;
         push_place(alloc, out, explanation.positions.get(index).copied())?;
