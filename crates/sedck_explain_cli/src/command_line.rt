@@ -31,6 +31,8 @@ pub fn program<R: Files + Input + AllocGlobal, W: Sink, E: Sink>(
     err: &mut E,
 ) -> u8
     ensures within { result ≤ 4 }
+    // Words of no known form write nothing to the output.
+    ensures refused { result ≡ 3 → Keeps (W.taken out.old) (W.taken out.new) }
     ensures silent { result < 3 → Keeps (E.taken err.old) (E.taken err.new) }
 {
     let request = match request_of(rt.alloc(), words) {
@@ -57,6 +59,7 @@ fn explain_all<R: Files + Input + AllocGlobal, W: Sink, E: Sink>(
     err: &mut E,
 ) -> u8
     ensures within { result ≤ 4 }
+    ensures known { result ≢ 3 }
     ensures silent { result < 3 → Keeps (E.taken err.old) (E.taken err.new) }
 {
     let mut status = 0;
@@ -194,6 +197,7 @@ fn write_refusal<E: Sink>(err: &mut E, words: &[u8]) -> Result<(), Failed> {
 /// status.
 fn refuse_words<W: Sink, E: Sink>(alloc: Global, error: Error, out: &mut W, err: &mut E) -> u8
     ensures within { result ≤ 4 }
+    ensures refused { result ≡ 3 → Keeps (W.taken out.old) (W.taken out.new) }
     ensures silent { result < 3 → Keeps (E.taken err.old) (E.taken err.new) }
 {
     let Ok(words) = words_of(alloc, &error) else {
