@@ -2,8 +2,9 @@
 """Compares what the pages say of faults: python3 tests/faults.py build/sedck, in the folder of the repository.
 
 The faults and rejections that docs/FORMATS.md lists must be just those of docs/sedck.5 and docs/FAULTS.md, by number and name, and
-each example in the tables of docs/FORMATS.md must get the fault of its row, at the offset that is said there. The status is 0 only
-where all of this holds.
+each example in the tables of docs/FORMATS.md must get the fault of its row, at the offset that is said there. The findings of
+docs/sedck-explain.1 must be these faults and rejections, by name, and the loops, warnings and notes of the code. The status is 0
+only where all of this holds.
 """
 import os
 import re
@@ -15,6 +16,9 @@ FAMILIES = {"Script faults": "FAULTS OF SCRIPTS", "Expression faults": "FAULTS O
             "Certificate faults": "FAULTS OF CERTIFICATES", "The report of `check`": "REJECTIONS"}
 HEADS = {"FAULTS OF SCRIPTS": "Faults of scripts", "FAULTS OF EXPRESSIONS": "Faults of expressions",
          "FAULTS OF CERTIFICATES": "Faults of certificates", "REJECTIONS": "Rejections"}
+# A refused expression is a finding by its own fault, and lack of memory is none.
+NO_FINDINGS = {"bad-expression", "out-of-memory"}
+FINDERS = ["crates/sedck_findings/src/loops.rt", "crates/sedck_findings/src/names.rt"]
 
 
 def section(text, head, mark):
@@ -44,14 +48,24 @@ def answer(sedck, script):
         return subprocess.run([sedck, "rank", file.name], capture_output=True, text=True).stderr
 
 
+def findings_differ(names):
+    """How the findings of the manual page differ from those names and the ones that the code gives to loops and doubts."""
+    page = section(read("docs/sedck-explain.1").replace(r"\-", "-"), ".SH FINDINGS", r"^\.SH ")
+    found = set(re.findall(r"^\.TP\n\.B ([a-z-]+)$", page, flags=re.M))
+    given = {code for name in FINDERS for code in re.findall(r'(?:code: |^ +)"([a-z]+-[a-z-]+)",$', read(name), flags=re.M)}
+    due = names - NO_FINDINGS | given
+    return "" if found == due and given else "it lacks %s, and has %s too many" % (sorted(due - found), sorted(found - due))
+
+
 def main():
     sedck, wrong, examples = os.path.abspath(sys.argv[1]), 0, 0
     formats, manual, page = read("docs/FORMATS.md"), read("docs/sedck.5").replace(r"\-", "-"), read("docs/FAULTS.md")
-    count = 0
+    count, names = 0, set()
     for family, head in FAMILIES.items():
         rows = list(listed(formats, family))
         due = {(number, name) for number, name, _ in rows}
         count += len(due)
+        names |= {name for _, name in due}
         for where, text, form in (
                 ("docs/sedck.5", re.split(r'^\.SH ', re.split(r'^\.SH "?%s"?\n' % head, manual, flags=re.M)[1], flags=re.M)[0], r"^\.B (\d+) ([a-z][\w-]+)$"),
                 ("docs/FAULTS.md", section(page, "# " + HEADS[head], r"^# "), r"(?:^## |^\| |, )(\d+) `?([a-z][\w-]+)`?(?=[,:\n ])")):
@@ -70,6 +84,10 @@ def main():
             if not (says.startswith("sedck: script fault " + words) if family == "Script faults" else says.endswith("expression fault " + words + "\n")):
                 wrong += 1
                 print("docs/FORMATS.md: %r gets %r, and not %s" % (script, says, words))
+    differs = findings_differ(names)
+    if differs:
+        wrong += 1
+        print("docs/sedck-explain.1, FINDINGS: " + differs)
     if not wrong:
         print("faults: %d are the same on three pages, and %d examples get theirs" % (count, examples))
     return 1 if wrong or not examples else 0
