@@ -1,7 +1,7 @@
 #!/bin/sh
 # Checks the examples by what README.md says: the answer in each row of its tables, each certificate as `rank`
 # writes it, what each command prints that the documents show, the answers in docs/FAULTS.md and docs/MENDING.md,
-# the tables of edges and faults, and docs/BELIEVED.md. Needs build/sedck, build/sedck-explain and Python 3; blocks that need
+# the tables of edges and faults, the picture, and docs/BELIEVED.md. Needs build/sedck, build/sedck-explain and Python 3; blocks that need
 # more, as a sed, are left out where it is missing. Says what was left out and what failed, and ends with status 1 on any failure.
 
 CDPATH= cd -- "$(dirname -- "$0")/.." || exit 1
@@ -117,6 +117,16 @@ for document in docs/sedck.1 docs/sedck-explain.1 docs/sedck.5; do
     if has mandoc && mandoc -T lint "$documents/$document" | grep -v 'line longer than 80 bytes' >&2; then fail "$document isn't clean"; fi
     if has groff && groff -ww -man -T utf8 "$documents/$document" 2>&1 > groffed | grep . >&2; then fail "$document has warnings"; fi
 done
+
+# The picture of README.md has the boxes and edges of the graph; where they are drawn depends on the version of Graphviz.
+words_drawn() { grep -E '<(title|text)' | sed 's/ x="[^>]*>/>/' | sort; }
+if has dot; then
+    words_drawn < "$documents/docs/explain.svg" > shown
+    (cd .. && build/sedck-explain --format dot examples/join-all-loop.sed | dot -Tsvg) | words_drawn > drawn
+    diff shown drawn >&2 || fail "docs/explain.svg isn't the graph of join-all-loop.sed"
+else
+    echo "examples: docs/explain.svg isn't compared, since this machine lacks dot" >&2
+fi
 
 # What sedck answers in the table of seds; links, and the version in the manual pages.
 (cd "$documents" && python3 bench/seds.py build/sedck --table) >&2 || fail "the table of docs/SEDS.md has other statuses of sedck"
