@@ -4,6 +4,7 @@
 use sedck_cli::FromWrite;
 use sedck_explain_cli::{flushed, out_of_memory, program, words_refused};
 use std::env;
+use std::env::VarError;
 use std::io::{ErrorKind, IsTerminal};
 use std::process::ExitCode;
 use std::rt::Env;
@@ -29,6 +30,6 @@ fn main(rt: HostRuntime) -> ExitCode {
 fn wants_colour(rt: &(impl Env + AllocGlobal)) -> bool {
     match env::var(rt, "NO_COLOR") {
         Ok(value) => value.is_empty(),
-        Err(_) => true,
+        Err(error) => error == VarError::NotPresent,
     }
 }

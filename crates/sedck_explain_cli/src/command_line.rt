@@ -169,9 +169,9 @@ fn write_fault<E: Sink>(
 /// Writes which file can't be read.
 fn write_unread<E: Sink>(err: &mut E, path: &str) -> Result<(), Failed> {
     write_all(err, b"cannot read ")?;
-    for byte in path.as_bytes() {
-        let shown = if byte.is_ascii_control() { b'?' } else { *byte };
-        write_all(err, &[shown])?;
+    for letter in path.chars() {
+        let shown = if letter.is_control() { '?' } else { letter };
+        write_all(err, shown.encode_utf8(&mut [0; 4]).as_bytes())?;
     }
     write_all(err, b"\n")
 }

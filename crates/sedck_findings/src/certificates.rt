@@ -89,12 +89,12 @@ fn rejection_words(why: Rejection) -> (&'static str, &'static str, &'static str)
         Rejection::ReadsDiffer => (
             "reads-differ",
             "the script reads other files than the certificate lists",
-            "look at the files below before you make the certificate again",
+            "look at what `sedck files` lists before you make the certificate again",
         ),
         Rejection::WritesDiffer => (
             "writes-differ",
             "the script writes other files than the certificate lists",
-            "look at the files below before you make the certificate again",
+            "look at what `sedck files` lists before you make the certificate again",
         ),
     }
 }

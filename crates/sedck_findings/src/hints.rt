@@ -14,6 +14,7 @@ pub(crate) fn script_hint(fault: ScriptFault, rest: &[u8]) -> Option<&'static st
         ScriptFault::BadExpression { fault, .. } => expression_hint(fault, rest),
         ScriptFault::BadReplacement { .. } => replacement_hint(rest),
         ScriptFault::BadFlag { .. } => flag_hint(rest),
+        ScriptFault::BadTransliteration { .. } => list_hint(rest),
         fault => other_hint(fault),
     }
 }
@@ -34,6 +35,7 @@ fn command_hint(rest: &[u8]) -> Option<&'static str> {
         [b'T', ..] => Some("for `T end` write `t go`, `b end` and `:go` on lines of their own"),
         [b'z', ..] => Some("for `z` write `s/.*//`"),
         [b'Q', ..] => Some("for `/x/Q` write `/x/,$d`"),
+        [b'I', ..] => Some("for `/hello/I` write `/[hH][eE][lL][lL][oO]/`"),
         [b'~', ..] => {
             Some(
                 "for `0~3d` write `n`, `n` and `d`; for `1~2d` write `$!N`, `s/.*\\n//`, `t` and `d`",
@@ -60,6 +62,7 @@ fn address_hint(rest: &[u8]) -> Option<&'static str> {
         ),
         [b'~', ..] => Some("for `addr,~n` count the lines with `n` or `N`"),
         [b'0', ..] => Some("lines are counted from 1"),
+        [b'1'..=b'9', ..] => Some("a line number is at most 4,294,967,295"),
         _ => Some("an address is a line number, `$`, or an expression between delimiters"),
     }
 }
@@ -139,7 +142,18 @@ fn flag_hint(rest: &[u8]) -> Option<&'static str> {
             "`^` and `$` are the ends of the pattern space alone: match `\\n` itself",
         ),
         [b'0', ..] => Some("matches are counted from 1"),
+        [b'1'..=b'9', ..] => Some("one number may stand among the flags, of at most 4,294,967,295"),
         _ => Some("the flags are `g`, `p`, a number, and `w` with a file name, each once"),
+    }
+}
+
+/// At a backslash, or at the verb.
+fn list_hint(rest: &[u8]) -> Option<&'static str> {
+    match rest {
+        [b'\\', ..] => Some(
+            "write the byte itself; a backslash stands before a backslash, an `n` or the delimiter alone",
+        ),
+        _ => Some("give both lists equally many bytes"),
     }
 }
 
@@ -153,7 +167,6 @@ fn other_hint(fault: ScriptFault) -> Option<&'static str> {
                 "end each part with the delimiter, in the same line: `s/a/b/`; it is no newline and no backslash",
             )
         }
-        ScriptFault::BadTransliteration { .. } => Some("give both lists equally many bytes"),
         ScriptFault::MissingText { .. } => Some("write `a\\` and the text on the next line"),
         ScriptFault::MissingName { .. } => Some(
             "the name follows after a blank, and goes on to the end of the line",

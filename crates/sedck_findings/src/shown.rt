@@ -20,8 +20,8 @@ pub fn shown_line(alloc: Global, bytes: &[u8]) -> Result<String, AllocError>
     Ok(shown)
 }
 
-/// The bytes of a name in printable ASCII, from which they can be read back: a backslash is `\\`, and any byte that isn't
-/// printable ASCII is `\x` and two digits.
+/// The bytes of a name in printable ASCII, from which they can be read back: a backslash is `\\`, a double quote `\"`, and a
+/// backquote or any byte that isn't printable ASCII is `\x` and two digits, so that none of a report's own quotes can be meant.
 pub fn shown_name(alloc: Global, bytes: &[u8]) -> Result<String, AllocError>
     ensures { IfOk result (λ shown. string_bytes shown ≡ flat_map shown_in_name bytes.now) }
 {
@@ -29,6 +29,8 @@ pub fn shown_name(alloc: Global, bytes: &[u8]) -> Result<String, AllocError>
     for byte in bytes {
         match *byte {
             b'\\' => shown.push_str("\\\\")?,
+            b'"' => shown.push_str("\\\"")?,
+            b'`' => shown.push_str("\\x60")?,
             byte => push_shown(&mut shown, byte)?,
         }
     }

@@ -150,13 +150,13 @@ fn growth(alloc: Global, substitution: &Substitution) -> Result<String, AllocErr
         (Pattern::Expr(_), Some(outside)) => {
             format!(in alloc; "it has {literal} bytes, and a match may have only {outside}")
         }
-        (Pattern::Previous, Some(_)) => {
+        (_, None) if has_whole(&substitution.parts) => {
+            format!(in alloc; "it has the whole match, `&`, and something more")
+        }
+        (Pattern::Previous, _) => {
             format!(in alloc;
                 "it has {literal} bytes, and the expression may be any of the script's"
             )
-        }
-        (_, None) if has_whole(&substitution.parts) => {
-            format!(in alloc; "it has the whole match, `&`, and something more")
         }
         _ => format!(in alloc;
             "it has a group twice, or one that is repeated or inside of another"

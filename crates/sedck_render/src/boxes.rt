@@ -1,7 +1,7 @@
 //! A finding in a page.
 
 use crate::excerpt::command_line;
-use crate::markup::{push_element, push_html, push_place, push_prose};
+use crate::markup::{push_element, push_html, push_place, push_prose, push_text};
 use crate::words::level_word;
 use sedck_findings::{Explanation, Finding, Step};
 use std::alloc::{AllocError, Global};
@@ -12,7 +12,7 @@ const STEP_WIDTH: usize = 60;
 /// Adds the finding: its level, message and code, its steps and its hint.
 pub(crate) fn push_box(
     alloc: Global,
-    out: &mut String,
+    out: &mut Vec<u8>,
     explanation: &Explanation,
     finding: &Finding,
     index: usize,
@@ -21,57 +21,57 @@ pub(crate) fn push_box(
     let head = format!(in alloc;
         "<div class=\"finding {level}\" id=\"F{index}\"><p><strong class=\"{level}\">{level}</strong>"
     )?;
-    out.push_str(head.as_str())?;
+    push_text(out, head.as_str())?;
     if let Some(position) = finding.position {
         let column = position.column;
-        out.push_str(format!(in alloc; " at column {column}")?.as_str())?;
+        push_text(out, format!(in alloc; " at column {column}")?.as_str())?;
     }
-    out.push_str(": ")?;
+    push_text(out, ": ")?;
     push_prose(out, finding.message.as_str())?;
-    out.push_str(" <code class=\"soft\">[")?;
+    push_text(out, " <code class=\"soft\">[")?;
     push_html(out, finding.code)?;
-    out.push_str("]</code></p>")?;
+    push_text(out, "]</code></p>")?;
     push_steps(alloc, out, explanation, &finding.steps)?;
     if let Some(hint) = finding.hint {
-        out.push_str("<p><strong>hint</strong>: ")?;
+        push_text(out, "<p><strong>hint</strong>: ")?;
         push_prose(out, hint)?;
-        out.push_str("</p>")?;
+        push_text(out, "</p>")?;
     }
-    out.push_str("</div>")
+    push_text(out, "</div>")
 }
 
 /// Adds the steps as a list.
 fn push_steps(
     alloc: Global,
-    out: &mut String,
+    out: &mut Vec<u8>,
     explanation: &Explanation,
     steps: &[Step],
 ) -> Result<(), AllocError> {
     if steps.is_empty() {
         return Ok(());
     }
-    out.push_str("<ol>")?;
+    push_text(out, "<ol>")?;
     for step in steps {
         push_step(alloc, out, explanation, step)?;
     }
-    out.push_str("</ol>")
+    push_text(out, "</ol>")
 }
 
 /// Adds a step: its place, its line and what it does.
 fn push_step(
     alloc: Global,
-    out: &mut String,
+    out: &mut Vec<u8>,
     explanation: &Explanation,
     step: &Step,
 ) -> Result<(), AllocError> {
-    out.push_str("<li>")?;
+    push_text(out, "<li>")?;
     push_place(alloc, out, step.position)?;
-    out.push(' ')?;
+    out.push(b' ')?;
     if let Some(position) = step.position {
         let line = command_line(alloc, explanation, step.node.at, position, STEP_WIDTH)?;
         push_element(out, "code", line.as_str())?;
-        out.push(' ')?;
+        out.push(b' ')?;
     }
     push_prose(out, step.message.as_str())?;
-    out.push_str("</li>")
+    push_text(out, "</li>")
 }

@@ -1,5 +1,9 @@
 //! One JSON object for a script, on a line.
 
+ghost use Rattle.std.specs.Prelude.{IfOk};
+ghost use Rattle.std.specs.Str.{IsAscii};
+
+use crate::ascii::push_ascii;
 use crate::words::{answer_word, kind_word, level_word};
 use sedck_cert::Bound;
 use sedck_findings::{Answer, Explanation, Finding, NamedFile, Position, Step, shown_name};
@@ -92,30 +96,16 @@ pub fn json_report(
     alloc: Global,
     name: &str,
     explanation: &Explanation,
-) -> Result<Vec<u8>, AllocError> {
+) -> Result<Vec<u8>, AllocError>
+    ensures { IfOk result (λ line. IsAscii line.items) }
+{
     let report = json_of(alloc, name, explanation)?;
     let Ok(text) = serde_json::to_string(alloc, &report) else {
         return Err(AllocError);
     };
-    let mut out = in_ascii(alloc, text.as_str())?;
-    out.push('\n')?;
-    Ok(out.into_bytes())
-}
-
-/// JSON with an escape for each character that isn't ASCII. Such characters are in strings alone.
-fn in_ascii(alloc: Global, text: &str) -> Result<String, AllocError> {
-    let mut out = String::new(alloc);
-    for character in text.chars() {
-        if character.is_ascii() {
-            out.push(character)?;
-            continue;
-        }
-        let mut units = [0u16; 2];
-        for unit in character.encode_utf16(&mut units) {
-            let unit = *unit;
-            out.push_str(format!(in alloc; "\\u{unit:04x}")?.as_str())?;
-        }
-    }
+    let mut out = Vec::new(alloc);
+    push_ascii(&mut out, text.as_str())?;
+    out.push(b'\n')?;
     Ok(out)
 }
 

@@ -42,10 +42,10 @@ pub(crate) struct Drawing {
     pub left_out: usize,
 }
 
-/// Gives each jump a lane, shorter ones first, while there is room.
+/// Gives each jump a lane while there is room: those of the loop first, then the shorter ones.
 pub(crate) fn drawing_of(alloc: Global, jumps: Vec<Jump>) -> Result<Drawing, AllocError> {
     let mut jumps = jumps;
-    jumps.sort_by_key(|jump| jump.span())?;
+    jumps.sort_by_key(|jump| (!jump.is_bold, jump.span()))?;
     let mut drawing = Drawing {
         lanes: Vec::new(alloc),
         left_out: 0,

@@ -4,6 +4,7 @@
 //! taken from the script is shown in printable ASCII.
 #![tactic(auto)]
 
+mod ascii;
 mod boxes;
 mod dot;
 mod excerpt;

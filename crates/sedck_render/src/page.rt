@@ -3,7 +3,7 @@
 use crate::flow::{Reached, loop_edges, reached_part};
 use crate::jumps::{Jump, command_jumps};
 use crate::listing::push_listing;
-use crate::markup::push_html;
+use crate::markup::{push_html, push_text};
 use crate::page_style::STYLE;
 use crate::tables::{push_files, push_jumps, push_ranks};
 use crate::top::push_top;
@@ -28,24 +28,25 @@ pub fn html_report(
     explanation: &Explanation,
 ) -> Result<Vec<u8>, AllocError> {
     let jumps = jumps_of(alloc, explanation)?;
-    let mut out = String::from_str(alloc, HEAD)?;
-    out.push_str("<title>")?;
+    let mut out = Vec::new(alloc);
+    push_text(&mut out, HEAD)?;
+    push_text(&mut out, "<title>")?;
     push_html(&mut out, name)?;
-    out.push_str(": ")?;
-    out.push_str(answer_word(&explanation.answer))?;
-    out.push_str("</title>\n<style>")?;
-    out.push_str(STYLE)?;
-    out.push_str("</style>\n</head>\n<body>\n<header>\n<h1>")?;
+    push_text(&mut out, ": ")?;
+    push_text(&mut out, answer_word(&explanation.answer))?;
+    push_text(&mut out, "</title>\n<style>")?;
+    push_text(&mut out, STYLE)?;
+    push_text(&mut out, "</style>\n</head>\n<body>\n<header>\n<h1>")?;
     push_html(&mut out, name)?;
-    out.push_str("</h1>\n")?;
+    push_text(&mut out, "</h1>\n")?;
     push_top(alloc, &mut out, explanation)?;
-    out.push_str("</header>\n<main>\n")?;
+    push_text(&mut out, "</header>\n<main>\n")?;
     push_listing(alloc, &mut out, explanation, &jumps)?;
     push_files(alloc, &mut out, explanation)?;
     push_jumps(alloc, &mut out, explanation, &jumps)?;
     push_ranks(alloc, &mut out, explanation)?;
-    out.push_str("</main>\n</body>\n</html>\n")?;
-    Ok(out.into_bytes())
+    push_text(&mut out, "</main>\n</body>\n</html>\n")?;
+    Ok(out)
 }
 
 /// The jumps between commands; none where the script is refused.

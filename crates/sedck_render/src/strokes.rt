@@ -2,6 +2,7 @@
 
 use crate::jumps::Jump;
 use crate::lanes::Drawing;
+use crate::markup::push_text;
 use crate::words::kind_word;
 use std::alloc::{AllocError, Global};
 
@@ -26,18 +27,18 @@ pub(crate) fn drawing_width(drawing: &Drawing) -> usize {
 /// Adds what is drawn beside the line. The lines are added in order.
 pub(crate) fn push_strokes(
     alloc: Global,
-    out: &mut String,
+    out: &mut Vec<u8>,
     drawing: &mut Drawing,
     line: usize,
 ) -> Result<(), AllocError> {
     let width = drawing_width(drawing);
     let mut is_empty = true;
-    for (index, lane) in drawing.lanes.iter_mut().enumerate() {
+    for (index, lane) in drawing.lanes.iter_mut().enumerate().rev() {
         let Some(jump) = lane.at(line) else {
             continue;
         };
         if is_empty {
-            out.push_str("<svg class=\"jumps\" aria-hidden=\"true\">")?;
+            push_text(out, "<svg class=\"jumps\" aria-hidden=\"true\">")?;
             is_empty = false;
         }
         let x = width
@@ -48,30 +49,30 @@ pub(crate) fn push_strokes(
     if is_empty {
         return Ok(());
     }
-    out.push_str("</svg>")
+    push_text(out, "</svg>")
 }
 
 /// Adds what is drawn of one jump beside the line.
 fn push_jump(
     alloc: Global,
-    out: &mut String,
+    out: &mut Vec<u8>,
     jump: Jump,
     line: usize,
     x: usize,
     width: usize,
 ) -> Result<(), AllocError> {
-    out.push_str("<g class=\"")?;
-    out.push_str(kind_word(jump.kind))?;
+    push_text(out, "<g class=\"")?;
+    push_text(out, kind_word(jump.kind))?;
     if jump.is_bold {
-        out.push_str(" bold")?;
+        push_text(out, " bold")?;
     }
-    out.push_str("\">")?;
-    out.push_str(shape(alloc, jump, line, x, width)?.as_str())?;
+    push_text(out, "\">")?;
+    push_text(out, shape(alloc, jump, line, x, width)?.as_str())?;
     if line == jump.to {
         let head = format!(in alloc; "<path class=\"head\" d=\"M{width} 8l-7-4v8z\"/>")?;
-        out.push_str(head.as_str())?;
+        push_text(out, head.as_str())?;
     }
-    out.push_str("</g>")
+    push_text(out, "</g>")
 }
 
 /// The strokes: one past the line, a turn to the line or from it, or a turn back to the same line. Jumps leave a line below its

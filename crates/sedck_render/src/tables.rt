@@ -1,116 +1,146 @@
 //! The tables of a page: files, jumps and ranks.
 
 use crate::jumps::Jump;
-use crate::markup::{push_element, push_place};
+use crate::markup::{push_element, push_place, push_text};
 use crate::words::{kind_word, push_quoted};
 use sedck_findings::{Answer, Explanation, NamedFile, shown_name};
 use std::alloc::{AllocError, Global};
 
+/// What precedes the rows of files.
+const FILES_HEAD: &str = "<div class=\"wide\"><table>
+<thead><tr>
+<th scope=\"col\">File</th>
+<th scope=\"col\">Use</th>
+<th scope=\"col\">Commands</th>
+</tr></thead><tbody>
+";
+
+/// What precedes the rows of jumps.
+const JUMPS_HEAD: &str = "<h2 id=\"jumps\">Jumps</h2>
+<details><summary>All jumps as a list</summary>
+<div class=\"wide\"><table>
+<thead><tr>
+<th scope=\"col\">From</th>
+<th scope=\"col\">To</th>
+<th scope=\"col\">Kind</th>
+</tr></thead><tbody>
+";
+
+/// What precedes the rows of ranks.
+const RANKS_HEAD: &str = "<h2 id=\"ranks\">Ranks</h2>
+<details><summary>The ranks of the certificate</summary>
+<p>Until a line is read, no step increases the first number.
+A step of the kind grow lowers it; one of the kind keep lowers it, or leaves it and lowers the second.
+A dash: no run gets there.</p>
+<div class=\"wide\"><table>
+<thead><tr>
+<th scope=\"col\">Command</th>
+<th scope=\"col\">flag reset, lines left</th>
+<th scope=\"col\">flag reset, last line</th>
+<th scope=\"col\">flag set, lines left</th>
+<th scope=\"col\">flag set, last line</th>
+</tr></thead><tbody>
+";
+
 /// Adds the files that the script names.
 pub(crate) fn push_files(
     alloc: Global,
-    out: &mut String,
+    out: &mut Vec<u8>,
     explanation: &Explanation,
 ) -> Result<(), AllocError> {
     if explanation.script.is_none() {
         return Ok(());
     }
-    out.push_str("<h2 id=\"files\">Files</h2>\n")?;
+    push_text(out, "<h2 id=\"files\">Files</h2>\n")?;
     if explanation.reads.is_empty() && explanation.writes.is_empty() {
-        return out.push_str("<p>No command reads or writes a file.</p>\n");
+        return push_text(out, "<p>No command reads or writes a file.</p>\n");
     }
-    out.push_str(
-        "<div class=\"wide\"><table><thead><tr><th scope=\"col\">File</th><th scope=\"col\">Use</th><th scope=\"col\">Commands</th></tr></thead><tbody>\n",
-    )?;
+    push_text(out, FILES_HEAD)?;
     for file in &explanation.reads {
         push_file(alloc, out, file, "read")?;
     }
     for file in &explanation.writes {
         push_file(alloc, out, file, "written")?;
     }
-    out.push_str("</tbody></table></div>\n")
+    push_text(out, "</tbody></table></div>\n")
 }
 
 /// Adds a row for a file.
 fn push_file(
     alloc: Global,
-    out: &mut String,
+    out: &mut Vec<u8>,
     file: &NamedFile,
     what: &str,
 ) -> Result<(), AllocError> {
     let mut quoted = String::new(alloc);
     push_quoted(&mut quoted, shown_name(alloc, file.name)?.as_str())?;
-    out.push_str("<tr><td>")?;
+    push_text(out, "<tr><td>")?;
     push_element(out, "code", quoted.as_str())?;
-    out.push_str("</td><td>")?;
-    out.push_str(what)?;
-    out.push_str("</td><td>")?;
+    push_text(out, "</td><td>")?;
+    push_text(out, what)?;
+    push_text(out, "</td><td>")?;
     for position in &file.positions {
         push_place(alloc, out, Some(*position))?;
-        out.push(' ')?;
+        out.push(b' ')?;
     }
-    out.push_str("</td></tr>\n")
+    push_text(out, "</td></tr>\n")
 }
 
 /// Adds the list of jumps, which the arcs show too.
 pub(crate) fn push_jumps(
     alloc: Global,
-    out: &mut String,
+    out: &mut Vec<u8>,
     explanation: &Explanation,
     jumps: &[Jump],
 ) -> Result<(), AllocError> {
     if jumps.is_empty() {
         return Ok(());
     }
-    out.push_str(
-        "<h2 id=\"jumps\">Jumps</h2>\n<details><summary>All jumps as a list</summary>\n<div class=\"wide\"><table><thead><tr><th scope=\"col\">From</th><th scope=\"col\">To</th><th scope=\"col\">Kind</th></tr></thead><tbody>\n",
-    )?;
+    push_text(out, JUMPS_HEAD)?;
     for jump in jumps {
-        out.push_str("<tr><td>")?;
+        push_text(out, "<tr><td>")?;
         push_place(alloc, out, explanation.positions.get(jump.from).copied())?;
-        out.push_str("</td><td>")?;
+        push_text(out, "</td><td>")?;
         push_place(alloc, out, explanation.positions.get(jump.to).copied())?;
-        out.push_str("</td><td>")?;
-        out.push_str(kind_word(jump.kind))?;
+        push_text(out, "</td><td>")?;
+        push_text(out, kind_word(jump.kind))?;
         if jump.is_bold {
-            out.push_str(", part of the loop")?;
+            push_text(out, ", part of the loop")?;
         }
-        out.push_str("</td></tr>\n")?;
+        push_text(out, "</td></tr>\n")?;
     }
-    out.push_str("</tbody></table></div>\n</details>\n")
+    push_text(out, "</tbody></table></div>\n</details>\n")
 }
 
 /// Adds the ranks of an accepted certificate, a row for each command.
 pub(crate) fn push_ranks(
     alloc: Global,
-    out: &mut String,
+    out: &mut Vec<u8>,
     explanation: &Explanation,
 ) -> Result<(), AllocError> {
     let Answer::Accepted { cert, .. } = &explanation.answer else {
         return Ok(());
     };
-    out.push_str(
-        "<h2 id=\"ranks\">Ranks</h2>\n<details><summary>The ranks of the certificate</summary>\n<p>Until a line is read, no step increases the first number; a step that may lengthen the pattern space lowers it, and one that only keeps it from getting longer lowers the first number, or else the second. A dash: no run gets there.</p>\n<div class=\"wide\"><table><thead><tr><th scope=\"col\">Command</th><th scope=\"col\">flag reset, lines left</th><th scope=\"col\">flag reset, last line</th><th scope=\"col\">flag set, lines left</th><th scope=\"col\">flag set, last line</th></tr></thead><tbody>\n",
-    )?;
+    push_text(out, RANKS_HEAD)?;
     for (index, ranks) in cert.ranks().chunks(4).enumerate() {
-        out.push_str("<tr><th scope=\"row\">")?;
+        push_text(out, "<tr><th scope=\"row\">")?;
         push_place(alloc, out, explanation.positions.get(index).copied())?;
-        out.push_str("</th>")?;
+        push_text(out, "</th>")?;
         for pair in ranks {
             push_pair(alloc, out, *pair)?;
         }
-        out.push_str("</tr>\n")?;
+        push_text(out, "</tr>\n")?;
     }
-    out.push_str("</tbody></table></div>\n</details>\n")
+    push_text(out, "</tbody></table></div>\n</details>\n")
 }
 
 /// Adds a cell with the ranks of a node.
-fn push_pair(alloc: Global, out: &mut String, pair: Option<(u16, u16)>) -> Result<(), AllocError> {
+fn push_pair(alloc: Global, out: &mut Vec<u8>, pair: Option<(u16, u16)>) -> Result<(), AllocError> {
     match pair {
         Some((first, second)) => {
             let cell = format!(in alloc; "<td>{first} {second}</td>")?;
-            out.push_str(cell.as_str())
+            push_text(out, cell.as_str())
         }
-        None => out.push_str("<td>-</td>"),
+        None => push_text(out, "<td>-</td>"),
     }
 }

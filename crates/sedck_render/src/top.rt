@@ -1,35 +1,35 @@
 //! The top of a page: the answer, and what was found.
 
 use crate::boxes::push_box;
-use crate::markup::{push_element, push_html, push_prose};
+use crate::markup::{push_element, push_html, push_prose, push_text};
 use crate::summary::bound_words;
-use crate::words::level_word;
+use crate::words::{grouped, level_word};
 use sedck_findings::{Answer, Explanation, Finding};
 use std::alloc::{AllocError, Global};
 
 /// Adds the answer, the limit on steps, and a list of the findings, with links to those that are beside a line.
 pub(crate) fn push_top(
     alloc: Global,
-    out: &mut String,
+    out: &mut Vec<u8>,
     explanation: &Explanation,
 ) -> Result<(), AllocError> {
     let (class, answer) = answer_words(&explanation.answer);
-    out.push_str("<p class=\"answer ")?;
-    out.push_str(class)?;
-    out.push_str("\">")?;
+    push_text(out, "<p class=\"answer ")?;
+    push_text(out, class)?;
+    push_text(out, "\">")?;
     push_html(out, answer)?;
-    out.push_str("</p>\n")?;
+    push_text(out, "</p>\n")?;
     push_limit(alloc, out, &explanation.answer)?;
     push_counts(alloc, out, explanation)?;
     if explanation.findings.is_empty() {
         return Ok(());
     }
     push_element(out, "h2", "Findings")?;
-    out.push_str("\n<ul>\n")?;
+    push_text(out, "\n<ul>\n")?;
     for (index, finding) in explanation.findings.iter().enumerate() {
         push_entry(alloc, out, finding, index)?;
     }
-    out.push_str("</ul>\n")?;
+    push_text(out, "</ul>\n")?;
     push_whole(alloc, out, explanation)
 }
 
@@ -45,64 +45,70 @@ fn answer_words(answer: &Answer) -> (&'static str, &'static str) {
 }
 
 /// Adds the limit on steps, where there is one.
-fn push_limit(alloc: Global, out: &mut String, answer: &Answer) -> Result<(), AllocError> {
+fn push_limit(alloc: Global, out: &mut Vec<u8>, answer: &Answer) -> Result<(), AllocError> {
     let Answer::Accepted { bound, .. } = answer else {
         return Ok(());
     };
     let Some(bound) = *bound else {
         return Ok(());
     };
-    out.push_str("<p>Steps of a run: ")?;
+    push_text(out, "<p>Steps of a run: ")?;
     push_html(out, bound_words(alloc, bound)?.as_str())?;
-    out.push_str(".</p>\n")
+    push_text(out, ".</p>\n")
 }
 
 /// Adds how many commands and files the script has, unless it is refused.
 fn push_counts(
     alloc: Global,
-    out: &mut String,
+    out: &mut Vec<u8>,
     explanation: &Explanation,
 ) -> Result<(), AllocError> {
     if explanation.script.is_none() {
         return Ok(());
     }
-    let commands = explanation.positions.len();
-    let reads = explanation.reads.len();
-    let writes = explanation.writes.len();
+    let commands = grouped(alloc, explanation.positions.len() as u64)?;
+    let reads = grouped(alloc, explanation.reads.len() as u64)?;
+    let writes = grouped(alloc, explanation.writes.len() as u64)?;
     let words = format!(in alloc;
         "<p>Commands: {commands}. <a href=\"#files\">Files</a> that are read: {reads}, and written: {writes}.</p>\n"
     )?;
-    out.push_str(words.as_str())
+    push_text(out, words.as_str())
 }
 
 /// Adds a line for a finding: a link where it is beside a line.
 fn push_entry(
     alloc: Global,
-    out: &mut String,
+    out: &mut Vec<u8>,
     finding: &Finding,
     index: usize,
 ) -> Result<(), AllocError> {
     let level = level_word(finding.level);
-    out.push_str(format!(in alloc; "<li><a href=\"#F{index}\">")?.as_str())?;
+    push_text(
+        out,
+        format!(in alloc; "<li><a href=\"#F{index}\">")?.as_str(),
+    )?;
     match finding.position {
         Some(position) => {
             let line = position.line;
             let column = position.column;
-            out.push_str(format!(in alloc; "{line}:{column} {level}</a>: ")?.as_str())?;
+            push_text(
+                out,
+                format!(in alloc; "{line}:{column} {level}</a>: ")?.as_str(),
+            )?;
         }
         None => {
-            out.push_str(level)?;
-            out.push_str("</a>: ")?;
+            push_text(out, level)?;
+            push_text(out, "</a>: ")?;
         }
     }
     push_prose(out, finding.message.as_str())?;
-    out.push_str("</li>\n")
+    push_text(out, "</li>\n")
 }
 
 /// Adds the findings that are beside no line.
 fn push_whole(
     alloc: Global,
-    out: &mut String,
+    out: &mut Vec<u8>,
     explanation: &Explanation,
 ) -> Result<(), AllocError> {
     for (index, finding) in explanation.findings.iter().enumerate() {

@@ -30,7 +30,6 @@ pub mod ProgressLemmas
 pub mod LocationLemmas
 pub mod SpelledIsSound
 pub mod SortedNames
-pub mod ExpressionLemmas
 pub mod ProgramLemmas
 pub mod NameLemmas
 pub mod SizesWithin

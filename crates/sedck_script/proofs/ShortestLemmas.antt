@@ -1,6 +1,7 @@
--- Least lengths of some expressions, and of more of them.
-use Rattle.std.proofs.Common.{◌≡◌, ◌⊎◌, ℕ, zero, suc, ◌+◌, ◌<◌, ◌≤◌, min, List, [], ◌∷◌, ◌++◌, map, length, get_or, take, Contains, refl, sym, ap, ◌∙◌, subst, inl, inr, arith, append-nil, flat_map}
-use Rattle.std.proofs.lemmas.Bool.{cases_lt}
+-- The least length of a text of some expressions, and of more of them.
+use Rattle.std.proofs.Common.{◌≡◌, ◌⊎◌, ℕ, zero, suc, ◌+◌, ◌<◌, ◌≤◌, min, List, [], ◌∷◌, ◌++◌, map, length, get_or, take, Contains, refl, sym, ap, ◌∙◌, subst, inl, inr, arith, append-nil, flat_map, true, Option, Some, None}
+use Rattle.std.specs.Option.{is_some, unwrap_or}
+use Rattle.std.proofs.lemmas.Bool.{cases_lt, false≢true}
 use Rattle.std.proofs.lemmas.List.{map_more}
 use Rattle.std.proofs.lemmas.List.Concat.{flat_map-append}
 use Rattle.std.proofs.lemmas.List.Elements.{Contains-append_left, Contains-append_right, Contains-append_cases}
@@ -9,6 +10,7 @@ use Rattle.sedck_bre.specs.Lengths.{IsLeastSize, HasLength, cap}
 use Rattle.sedck_script.specs.Program.{Pattern, Command, address_patterns, verb_patterns, patterns, pattern_expressions, expressions}
 use Rattle.sedck_script.specs.View.{verb_of, command_of}
 use Rattle.sedck_script.specs.Shortest.{SomeHasLength}
+use Rattle.sedck_script.specs.Private.ExpressionReading.{has_some, lesser, IsLeastOf}
 use Rattle.sedck_script.specs.declared.script.Command.{Command as Coded}
 use Rattle.sedck_script.specs.declared.script.Verb.{Verb}
 use Rattle.sedck_script.specs.declared.script.Substitution.{Substitution}
@@ -18,13 +20,8 @@ use Rattle.sedck_script.specs.declared.script.Verb.TheVariants.{Substitute}
 abbrev pub trees_of : List Pattern → List Tree
 trees_of given = flat_map pattern_expressions given
 
--- the same expressions, and the same number
-pub least_of_same : (xs ys : List Tree) (m n : ℕ) → xs ≡ ys → m ≡ n → IsLeastSize (SomeHasLength ys) n → IsLeastSize (SomeHasLength xs) m
-least_of_same xs ys m n trees number least =
-    subst (λ k. IsLeastSize (SomeHasLength xs) k) (sym number) (subst (λ zs. IsLeastSize (SomeHasLength zs) n) (sym trees) least)
-
 -- where nothing has a size, the cap is the least
-pub none_is_cap : IsLeastSize (SomeHasLength []) cap
+none_is_cap : IsLeastSize (SomeHasLength []) cap
 none_is_cap = record {
   floor = λ m (tree, inside, _). absurd (omega (arith, inside.1));
   met = λ below. absurd (omega (arith, below));
@@ -32,7 +29,7 @@ none_is_cap = record {
 }
 
 -- the least of one expression
-pub one_is_least : (tree : Tree) (n : ℕ) → IsLeastSize (HasLength tree) n → IsLeastSize (SomeHasLength (tree ∷ [])) n
+one_is_least : (tree : Tree) (n : ℕ) → IsLeastSize (HasLength tree) n → IsLeastSize (SomeHasLength (tree ∷ [])) n
 one_is_least tree n least = record {
   floor = λ m h. least.floor m (only m h);
   met = λ below. (tree, (0, omega arith, refl), least.met below);
@@ -47,7 +44,7 @@ one_is_least tree n least = record {
         ] below is
 
 -- the least of two lists of expressions
-pub both_are_least : (xs ys : List Tree) (m n : ℕ) → IsLeastSize (SomeHasLength xs) m → IsLeastSize (SomeHasLength ys) n
+both_are_least : (xs ys : List Tree) (m n : ℕ) → IsLeastSize (SomeHasLength xs) m → IsLeastSize (SomeHasLength ys) n
     → IsLeastSize (SomeHasLength (xs ++ ys)) (min m n)
 both_are_least xs ys m n one two = record {
   floor = λ k (tree, inside, has). at_least k tree has (Contains-append_cases xs ys tree inside);
@@ -90,19 +87,48 @@ expressions-push cs c =
     ap trees_of (patterns-push cs c) ∙ trees_of-append (patterns cs) (address_patterns c.address ++ verb_patterns c.verb)
     ∙ ap (λ trees. expressions cs ++ trees) (trees_of-append (address_patterns c.address) (verb_patterns c.verb))
 
-pub command_more : (commands : List Coded) (at : ℕ) (c : Coded) (shortest a v : ℕ) → at < length commands → c ≡ get_or commands at c
-    → IsLeastSize (SomeHasLength (expressions (map command_of (take at commands)))) shortest
-    → IsLeastSize (SomeHasLength (trees_of (address_patterns (command_of c).address))) a
-    → IsLeastSize (SomeHasLength (trees_of (verb_patterns (command_of c).verb))) v
-    → IsLeastSize (SomeHasLength (expressions (map command_of (take (at + 1) commands)))) (min (min shortest a) v)
-command_more commands at c shortest a v below is before address verb =
+-- ---- The least of expressions, where there are some
+
+-- the same expressions, and the same number
+pub least_of_same : (xs ys : List Tree) (o p : Option ℕ) → xs ≡ ys → o ≡ p → IsLeastOf ys p → IsLeastOf xs o
+least_of_same xs ys o p trees number least =
+    subst (λ q. IsLeastOf xs q) (sym number) (subst (λ zs. IsLeastOf zs p) (sym trees) least)
+
+pub one_has_least : (tree : Tree) (n : ℕ) → IsLeastSize (HasLength tree) n → IsLeastOf (tree ∷ []) (Some n)
+one_has_least tree n least = (refl, one_is_least tree n least)
+
+pub least_or_cap : (xs : List Tree) (o : Option ℕ) → IsLeastOf xs o → IsLeastSize (SomeHasLength xs) (unwrap_or o cap)
+least_or_cap [] None none = none_is_cap
+least_or_cap (x ∷ xs) None none = absurd (false≢true (sym none))
+least_or_cap xs (Some n) least = least.1
+
+pub some_has_least : (xs : List Tree) (o : Option ℕ) → IsLeastOf xs o → is_some o ≡ has_some xs
+some_has_least xs None none = sym none
+some_has_least xs (Some n) least = sym least.0
+
+some_append : (xs ys : List Tree) → has_some xs ≡ true → has_some (xs ++ ys) ≡ true
+some_append [] ys some = absurd (false≢true some)
+some_append (x ∷ xs) ys some = refl
+
+-- the least of two lists of expressions, where there are some
+pub lesser_is_least : (xs ys : List Tree) (a b : Option ℕ) → IsLeastOf xs a → IsLeastOf ys b → IsLeastOf (xs ++ ys) (lesser a b)
+lesser_is_least [] ys None b none other = other
+lesser_is_least (x ∷ xs) ys None b none other = absurd (false≢true (sym none))
+lesser_is_least xs [] (Some m) None one none = least_of_same (xs ++ []) xs (Some m) (Some m) (append-nil xs) refl one
+lesser_is_least xs (y ∷ ys) (Some m) None one none = absurd (false≢true (sym none))
+lesser_is_least xs ys (Some m) (Some n) one two = (some_append xs ys one.0, both_are_least xs ys m n one.1 two.1)
+
+pub command_more : (commands : List Coded) (at : ℕ) (c : Coded) (least a v own all : Option ℕ) → at < length commands → c ≡ get_or commands at c
+    → own ≡ lesser a v → all ≡ lesser least own
+    → IsLeastOf (expressions (map command_of (take at commands))) least
+    → IsLeastOf (trees_of (address_patterns (command_of c).address)) a
+    → IsLeastOf (trees_of (verb_patterns (command_of c).verb)) v
+    → IsLeastOf (expressions (map command_of (take (at + 1) commands))) all
+command_more commands at c least a v own all below is of_command of_all before address verb =
     let more : map command_of (take (at + 1) commands) ≡ map command_of (take at commands) ++ command_of c ∷ [] =
     map_more command_of commands at c below ∙ ap (λ d. map command_of (take at commands) ++ command_of d ∷ []) (sym is) in
-    let all : expressions (map command_of (take (at + 1) commands)) ≡ expressions (map command_of (take at commands)) ++
-    (trees_of (address_patterns (command_of c).address) ++ trees_of (verb_patterns (command_of c).verb)) =
-    ap expressions more ∙ expressions-push (map command_of (take at commands)) (command_of c) in
-    let same : min (min shortest a) v ≡ min shortest (min a v) = omega arith in
-    let of_command = both_are_least (trees_of (address_patterns (command_of c).address)) (trees_of (verb_patterns (command_of c).verb)) a v address verb in
-    let of_all = both_are_least (expressions (map command_of (take at commands)))
-    (trees_of (address_patterns (command_of c).address) ++ trees_of (verb_patterns (command_of c).verb)) shortest (min a v) before of_command in
-    least_of_same _ _ _ _ all same of_all
+    let own_trees = trees_of (address_patterns (command_of c).address) ++ trees_of (verb_patterns (command_of c).verb) in
+    let own_least = least_of_same own_trees own_trees own (lesser a v) refl of_command
+    (lesser_is_least (trees_of (address_patterns (command_of c).address)) (trees_of (verb_patterns (command_of c).verb)) a v address verb) in
+    least_of_same _ _ _ _ (ap expressions more ∙ expressions-push (map command_of (take at commands)) (command_of c)) of_all
+    (lesser_is_least (expressions (map command_of (take at commands))) own_trees least own before own_least)

@@ -1,73 +1,97 @@
-//! Whether a script has an expression that an empty one may stand for, and whether it is quiet.
+//! The least length of a text of any of a script's expressions, whether it has one, and whether the script is quiet.
 
 ghost use Rattle.std.specs.Prelude.{◌≡◌, ◌↔◌, map, flat_map, IsTrue};
-ghost use Rattle.std.specs.List.{list_any};
+ghost use Rattle.sedck_bre.specs.Lengths.{IsLeastSize};
 ghost use Rattle.sedck_script.specs.Program.{place_patterns, address_patterns, verb_patterns, pattern_expressions, expressions};
+ghost use Rattle.sedck_script.specs.Shortest.{SomeHasLength};
 ghost use Rattle.sedck_script.specs.Spelling.{IsQuiet};
 ghost use Rattle.sedck_script.specs.View.{pattern_of, place_of, address_of, verb_of, command_of};
-ghost use Rattle.sedck_script.specs.Private.ExpressionReading.{has_some, command_has_some};
+ghost use Rattle.sedck_script.specs.Private.ExpressionReading.{has_some, lesser as lesser_of, IsLeastOf};
 
 use crate::bytes::line_len;
 use crate::script::{Address, Command, Pattern, Place, Verb};
 
-fn is_expression(pattern: &Pattern) -> bool
-    ensures { result ≡ has_some (pattern_expressions (pattern_of pattern.now)) }
+/// Where a least length is capped, and what stands for it where there is no expression.
+const CAP: u32 = 16_777_215;
+
+/// The lesser of two lengths, where there are such.
+fn lesser(one: Option<u32>, other: Option<u32>) -> Option<u32>
+    ensures { result ≡ lesser_of one other }
+{
+    let Some(first) = one else {
+        return other;
+    };
+    match other {
+        Some(second) => Some(first.min(second)),
+        None => one,
+    }
+}
+
+fn least_of_pattern(pattern: &Pattern) -> Option<u32>
+    ensures { IsLeastOf (pattern_expressions (pattern_of pattern.now)) result }
 {
     match pattern {
-        Pattern::Previous => false,
-        Pattern::Expr(_) => true,
+        Pattern::Previous => None,
+        Pattern::Expr(expression) => Some(expression.least()),
     }
 }
 
-fn place_has_expression(place: &Place) -> bool
-    ensures { result ≡ has_some (flat_map pattern_expressions (place_patterns (place_of place.now))) }
+fn least_of_place(place: &Place) -> Option<u32>
+    ensures { IsLeastOf (flat_map pattern_expressions (place_patterns (place_of place.now))) result }
 {
     match place {
-        Place::Line(_) => false,
-        Place::Last => false,
-        Place::Context(pattern) => is_expression(pattern),
+        Place::Line(_) => None,
+        Place::Last => None,
+        Place::Context(pattern) => least_of_pattern(pattern),
     }
 }
 
-fn address_has_expression(address: &Address) -> bool
-    ensures { result ≡ has_some (flat_map pattern_expressions (address_patterns (address_of address.now))) }
+fn least_of_address(address: &Address) -> Option<u32>
+    ensures { IsLeastOf (flat_map pattern_expressions (address_patterns (address_of address.now))) result }
 {
     match address {
-        Address::None => false,
-        Address::One(place) => place_has_expression(place),
-        Address::Two(from, to) => place_has_expression(from) || place_has_expression(to),
+        Address::None => None,
+        Address::One(place) => least_of_place(place),
+        Address::Two(from, to) => lesser(least_of_place(from), least_of_place(to)),
     }
 }
 
-fn verb_has_expression(verb: &Verb) -> bool
-    ensures { result ≡ has_some (flat_map pattern_expressions (verb_patterns (verb_of verb.now))) }
+fn least_of_verb(verb: &Verb) -> Option<u32>
+    ensures { IsLeastOf (flat_map pattern_expressions (verb_patterns (verb_of verb.now))) result }
 {
     if let Verb::Substitute(substitution) = verb {
-        return is_expression(&substitution.pattern);
+        return least_of_pattern(&substitution.pattern);
     }
-    false
+    None
 }
 
-fn command_has_expression(command: &Command) -> bool
-    ensures { result ≡ command_has_some (command_of command.now) }
+/// The least length of a text of the commands' expressions, where they have one: in one pass.
+fn least_of(commands: &[Command]) -> Option<u32>
+    ensures { IsLeastOf (expressions (map command_of commands.now)) result }
 {
-    address_has_expression(&command.address) || verb_has_expression(&command.verb)
+    let mut least = None;
+    for command in commands {
+        let own = lesser(
+            least_of_address(&command.address),
+            least_of_verb(&command.verb),
+        );
+        least = lesser(least, own);
+    }
+    least
 }
 
-/// It is a function so that what is said of `any` becomes a contract on the list, which the caller restates.
-fn any_has_expression(commands: &[Command]) -> bool
-    ensures { result ≡ list_any (λ c. command_has_some (command_of c)) commands.now }
+/// The least length of a text of the commands' expressions, or the cap.
+pub(crate) fn shortest_of(commands: &[Command]) -> u32
+    ensures { IsLeastSize (SomeHasLength (expressions (map command_of commands.now))) result }
 {
-    commands
-        .iter()
-        .any(|command| command_has_expression(command))
+    least_of(commands).unwrap_or(CAP)
 }
 
 /// Whether one of the commands has an expression that isn't empty.
-pub fn has_expression(commands: &[Command]) -> bool
+pub(crate) fn has_expression(commands: &[Command]) -> bool
     ensures { result ≡ has_some (expressions (map command_of commands.now)) }
 {
-    any_has_expression(commands)
+    least_of(commands).is_some()
 }
 
 /// Whether the first line says that nothing is printed by itself.

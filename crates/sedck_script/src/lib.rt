@@ -39,7 +39,6 @@ mod references;
 mod replacements;
 mod resolving;
 mod script;
-mod shortest;
 mod substitutions;
 mod texts;
 mod verbs;

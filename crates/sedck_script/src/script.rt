@@ -5,7 +5,7 @@ ghost use Rattle.sedck_script.specs.Program.{Program, literal_length};
 ghost use Rattle.sedck_script.specs.ReplacementView.{pattern_of, part_of};
 ghost use Rattle.sedck_script.specs.References.{IsOutside};
 
-use crate::shortest::shortest_of;
+use crate::expressions::shortest_of;
 use sedck_bre::Expr;
 use std::marker::Model;
 

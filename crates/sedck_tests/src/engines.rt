@@ -1,5 +1,6 @@
 //! What no clause says of the program: printed lines, statuses, streams that fail, and that calls succeed at all.
 mod checks;
+mod explanations;
 mod failures;
 pub mod fakes;
 mod judgements;
@@ -21,6 +22,11 @@ const LOOP_CERTIFICATE: &str =
 /// The same in version 1.
 const OLD_LOOP_CERTIFICATE: &str =
     "sedck 1\ncommands 3\n0 0 2 2\n0 1 -\n1 0 1 1\n1 1 -\n2 0 3 3\n2 1 -\n3 0 -\n3 1 -\nread 0\nwrite 0\nend\n";
+
+/// Both for the code of functions: a constant's bytes would stand in the proof of each that names it.
+static LOOP_TEXT: &'static str = LOOP_CERTIFICATE;
+
+static OLD_LOOP_TEXT: &'static str = OLD_LOOP_CERTIFICATE;
 
 /// The certificate of the empty script.
 const EMPTY_CERTIFICATE: &str =

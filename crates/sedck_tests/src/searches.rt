@@ -4,10 +4,11 @@ mod large;
 mod loops;
 mod ranks;
 
-use crate::texts::script_of;
+use crate::texts::{require, require_text, script_of};
 use bstr::ByteSlice;
 use sedck_cert::{Cert, Verdict, check};
 use sedck_flow::Node;
+use sedck_script::Script;
 use sedck_search::{Form, Found, Walk, search};
 use std::alloc::Global;
 use std::process::Abort;
@@ -40,20 +41,22 @@ fn loop_of(rt: &impl Abort, alloc: Global, walk: &Walk) -> String {
     lines
 }
 
-/// Whether these lines are reported of the script: one for each node with ranks, or those of the loop.
-fn is_told(rt: &impl Abort, alloc: Global, text: &[u8], lines: &str) {
-    let script = script_of(rt, alloc, text);
-    let told = match search(alloc, &script).expect(rt, "memory") {
+/// What is reported of the script: a line for each node with ranks, or those of the loop.
+fn told_of(rt: &impl Abort, alloc: Global, script: &Script, text: &[u8]) -> String {
+    match search(alloc, script).expect(rt, "memory") {
         Found::Ranks(cert) => {
-            assert!(rt;
-                matches!(check(&script, &cert), Verdict::Accepted),
-                "{lines}"
-            );
+            let is_accepted = matches!(check(script, &cert), Verdict::Accepted);
+            require(rt, is_accepted, text);
             ranks_of(rt, alloc, &cert)
         }
         Found::Loop(walk) => loop_of(rt, alloc, &walk),
-    };
-    assert_eq!(rt; told.as_str(), lines);
+    }
+}
+
+/// Whether these lines are reported of the script.
+fn is_told(rt: &impl Abort, alloc: Global, text: &[u8], lines: &str) {
+    let script = script_of(rt, alloc, text);
+    require_text(rt, &told_of(rt, alloc, &script, text), lines, lines);
 }
 
 /// A script, and what is reported of it, also where it has a newline for each semicolon.

@@ -33,6 +33,26 @@ pub fn require(rt: &impl Abort, holds: bool, row: &[u8]) {
     assert!(rt; holds, "{row:?}");
 }
 
+/// Stops the test where the bytes found aren't those wanted in the row.
+pub fn require_bytes(rt: &impl Abort, found: &[u8], wanted: &[u8], row: &[u8]) {
+    assert_eq!(rt; found, wanted, "{row:?}");
+}
+
+/// The same of text.
+pub fn require_text(rt: &impl Abort, found: &str, wanted: &str, row: &str) {
+    assert_eq!(rt; found, wanted, "{row}");
+}
+
+/// The same of a count.
+pub fn require_count(rt: &impl Abort, found: usize, wanted: usize, row: &[u8]) {
+    assert_eq!(rt; found, wanted, "{row:?}");
+}
+
+/// The same of the number and the place of a fault.
+pub fn require_fault(rt: &impl Abort, found: (u8, usize), wanted: (u8, usize), row: &[u8]) {
+    assert_eq!(rt; found, wanted, "{row:?}");
+}
+
 /// The script that the text spells.
 pub fn script_of<'a>(rt: &impl Abort, alloc: Global, text: &'a [u8]) -> Script<'a> {
     match sedck_script::parse(alloc, text) {
@@ -83,7 +103,7 @@ pub type Row = (&'static [u8], u8, usize);
 
 pub fn have_faults(rt: &impl Abort, alloc: Global, kind: &Kind, rows: &[Row]) {
     for (text, number, place) in rows {
-        assert_eq!(rt; fault_of(alloc, kind, text), (*number, *place), "{text:?}");
+        require_fault(rt, fault_of(alloc, kind, text), (*number, *place), text);
     }
 }
 

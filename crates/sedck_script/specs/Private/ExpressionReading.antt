@@ -1,12 +1,20 @@
--- Which expressions the commands have.
-use Rattle.std.specs.Prelude.{Bool, true, false, ◌||◌, List, [], ◌∷◌, flat_map}
+-- Whether there are expressions, and the least length of their texts.
+use Rattle.std.specs.Prelude.{◌≡◌, ℕ, min, Bool, true, false, List, [], ◌∷◌, Option, Some, None}
 use Rattle.sedck_bre.specs.Tree.{Tree}
-use Rattle.sedck_script.specs.Program.{Command, pattern_expressions, address_patterns, verb_patterns}
+use Rattle.sedck_bre.specs.Lengths.{IsLeastSize}
+use Rattle.sedck_script.specs.Shortest.{SomeHasLength}
 
 abbrev pub has_some : List Tree → Bool
 has_some [] = false
 has_some (tree ∷ trees) = true
 
--- the command has an expression that isn't empty
-abbrev pub command_has_some : Command → Bool
-command_has_some c = has_some (flat_map pattern_expressions (address_patterns c.address)) || has_some (flat_map pattern_expressions (verb_patterns c.verb))
+-- the least length of a text of the expressions, where there are some
+abbrev pub IsLeastOf : List Tree → Option ℕ → Type 0
+IsLeastOf trees None = has_some trees ≡ false
+IsLeastOf trees (Some n) = (has_some trees ≡ true) × IsLeastSize (SomeHasLength trees) n
+
+-- the lesser of two lengths, where there are such
+abbrev pub lesser : Option ℕ → Option ℕ → Option ℕ
+lesser None other = other
+lesser (Some m) None = Some m
+lesser (Some m) (Some n) = Some (min m n)

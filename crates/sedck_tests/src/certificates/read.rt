@@ -1,37 +1,54 @@
 //! Certificates that are read, written or made, and the words of faults.
 use super::{ENDLESS, NAMED};
 use crate::engines::fakes::{Writer, sink_with};
-use crate::texts::{Kind, fault_of, numbered, repeated, require};
+use crate::texts::{
+    Kind, fault_of, numbered, repeated, require, require_bytes, require_count, require_fault,
+};
 use sedck_cert::streams::{FromWrite, Sink};
 use sedck_cert::{Cert, CertFault, read_cert, write_cert};
 use std::alloc::Global;
 use std::io::ErrorKind;
 use std::process::Abort;
 
+/// The text of the certificate.
+pub fn text_of(rt: &impl Abort, alloc: Global, cert: &Cert) -> Vec<u8> {
+    let mut out = FromWrite::new(Vec::new(alloc));
+    assert!(rt; write_cert(cert, &mut out).is_ok());
+    out.into_inner()
+}
+
 /// The certificate of the text, which is written as it was read.
 fn read(rt: &impl Abort, alloc: Global, text: &[u8]) -> Cert {
     let Ok(cert) = read_cert(alloc, text) else {
         panic!(rt; "refused: {text:?}");
     };
-    let mut out = FromWrite::new(Vec::new(alloc));
-    assert!(rt; write_cert(&cert, &mut out).is_ok());
-    assert_eq!(rt; out.into_inner().as_slice(), text);
+    require_bytes(rt, &text_of(rt, alloc, &cert), text, text);
     cert
 }
 
 /// Whether the write behind each front of the text, which is the certificate's, is reported to have failed, and nothing
-/// more was written, where each write takes one byte. A failing write takes none, or is interrupted.
-fn fails_behind_each_front(rt: &impl Abort, alloc: Global, cert: &Cert, text: &[u8]) {
-    for kind in [None, Some(ErrorKind::Interrupted)] {
-        for room in 0..text.len() {
-            let sink = sink_with(alloc, 1, room);
-            let mut out = FromWrite::new(Writer { sink, kind });
-            let is_reported = write_cert(cert, &mut out).is_err() && out.failed();
-            require(rt, is_reported, text);
-            let written = out.into_inner().sink.bytes;
-            require(rt, written.as_slice() == &text[..room], text);
-        }
+/// more was written, where each write takes one byte. A failing write has an error of the kind, or takes none.
+fn fails_behind_each_front(
+    rt: &impl Abort,
+    alloc: Global,
+    cert: &Cert,
+    text: &[u8],
+    kind: Option<ErrorKind>,
+) {
+    for room in 0..text.len() {
+        let sink = sink_with(alloc, 1, room);
+        let mut out = FromWrite::new(Writer { sink, kind });
+        let is_reported = write_cert(cert, &mut out).is_err() && out.failed();
+        require(rt, is_reported, text);
+        let written = out.into_inner().sink.bytes;
+        require(rt, written.as_slice() == &text[..room], text);
     }
+}
+
+/// The same where a failing write takes none, and where it is interrupted.
+fn fails_behind_fronts(rt: &impl Abort, alloc: Global, cert: &Cert, text: &[u8]) {
+    fails_behind_each_front(rt, alloc, cert, text, None);
+    fails_behind_each_front(rt, alloc, cert, text, Some(ErrorKind::Interrupted));
 }
 
 /// Whether the names are these.
@@ -67,13 +84,17 @@ static NAMES: [&'static [u8]; 6] = [b"Z", b"a", b"a b ", b"a;b}", b"end", b"\xe9
 #[test]
 fn reads(rt: HostRuntime) {
     let cert = read(&rt, rt.alloc(), ENDLESS);
-    assert_eq!(rt; cert.commands(), 3);
-    assert_eq!(rt; cert.ranks(), RANKS.as_slice());
+    require_count(&rt, usize::from(cert.commands()), 3, ENDLESS);
+    require(&rt, cert.ranks() == RANKS.as_slice(), ENDLESS);
     are_names(&rt, cert.reads(), &[]);
     are_names(&rt, cert.writes(), &[]);
-    fails_behind_each_front(&rt, rt.alloc(), &cert, ENDLESS);
+    fails_behind_fronts(&rt, rt.alloc(), &cert, ENDLESS);
+}
+
+#[test]
+fn reads_names(rt: HostRuntime) {
     let cert = read(&rt, rt.alloc(), NAMED);
-    fails_behind_each_front(&rt, rt.alloc(), &cert, NAMED);
+    fails_behind_fronts(&rt, rt.alloc(), &cert, NAMED);
     are_names(&rt, cert.reads(), &NAMES);
     are_names(&rt, cert.writes(), &[]);
 }
@@ -81,27 +102,31 @@ fn reads(rt: HostRuntime) {
 /// How many bytes the last name has beside its number, and the number and the line of the fault; zeros for none.
 static LONGEST: [(usize, u8, usize); 2] = [(1_007_626, 0, 0), (1_007_627, 4, 24_578)];
 
-/// The longest certificate, with the most nodes, the greatest ranks, and the most names, as long as they may be together.
+/// The nodes of a place with the greatest ranks.
+static GREATEST: &'static str =
+    "@ 0 0 65535 65535\n@ 0 1 65535 65535\n@ 1 0 65535 65535\n@ 1 1 65535 65535\n";
+
+/// The text with the most nodes, the greatest ranks, and the most names, the last of which ends in this many bytes more.
+fn longest_text(rt: &impl Abort, alloc: Global, length: usize) -> String {
+    let nodes = numbered(rt, alloc, GREATEST, 0, 4096);
+    let names = numbered(rt, alloc, "@\n", 1000, 4094);
+    let tail = repeated(rt, alloc, &[(b"n", length)]);
+    let tail = String::from_utf8(tail).expect(rt, "text");
+    let text = format!(in alloc;
+        "sedck 2\ncommands 4095\n{nodes}read 4095\n{names}5094\nwrite 4095\n{names}5094{tail}\nend\n"
+    );
+    text.expect(rt, "memory")
+}
+
+/// The longest certificate, whose names are as long as they may be together.
 #[test]
 fn reads_the_most(rt: HostRuntime) {
-    let nodes = numbered(
-        &rt,
-        rt.alloc(),
-        "@ 0 0 65535 65535\n@ 0 1 65535 65535\n@ 1 0 65535 65535\n@ 1 1 65535 65535\n",
-        0,
-        4096,
-    );
-    let names = numbered(&rt, rt.alloc(), "@\n", 1000, 4094);
     for (length, number, line) in &LONGEST {
-        let tail = repeated(&rt, rt.alloc(), &[(b"n", *length)]);
-        let tail = String::from_utf8(tail).expect(&rt, "text");
-        let text = format!(in rt.alloc();
-            "sedck 2\ncommands 4095\n{nodes}read 4095\n{names}5094\nwrite 4095\n{names}5094{tail}\nend\n"
-        );
-        let text = text.expect(&rt, "memory");
+        let text = longest_text(&rt, rt.alloc(), *length);
         let fault = fault_of(rt.alloc(), &Kind::Certificate, text.as_bytes());
-        assert_eq!(rt; fault, (*number, *line));
-        assert_eq!(rt; text.len() == 1_388_247, *number == 0);
+        require_fault(&rt, fault, (*number, *line), b"the longest text");
+        let is_longest = text.len() == 1_388_247;
+        require(&rt, is_longest == (*number == 0), b"the longest text");
         if *number == 0 {
             read(&rt, rt.alloc(), text.as_bytes());
         }
@@ -125,6 +150,14 @@ static FAULTS: [(CertFault, &'static str); 6] = [
     (CertFault::BadEnd { line: 14 }, "fault 5 bad-end at line 14"),
     (CertFault::OutOfMemory, "fault 6 out-of-memory"),
 ];
+
+#[test]
+fn faults(rt: HostRuntime) {
+    for (fault, text) in &FAULTS {
+        let printed = format!(in rt.alloc(); "{fault}").expect(&rt, "memory");
+        require_bytes(&rt, printed.as_bytes(), text.as_bytes(), text.as_bytes());
+    }
+}
 
 /// Whether there is a certificate with this many nodes and these names to read.
 fn is_made(rt: &impl Abort, alloc: Global, commands: u16, nodes: u16, names: &[&[u8]]) -> bool {
@@ -153,11 +186,7 @@ static MADE: [(u16, u16, &'static [&'static [u8]], bool); 7] = [
 ];
 
 #[test]
-fn faults_and_makes(rt: HostRuntime) {
-    for (fault, text) in &FAULTS {
-        let printed = format!(in rt.alloc(); "{fault}").expect(&rt, "memory");
-        assert_eq!(rt; printed.as_str(), *text);
-    }
+fn makes(rt: HostRuntime) {
     for (commands, nodes, names, wanted) in &MADE {
         let made = is_made(&rt, rt.alloc(), *commands, *nodes, *names);
         assert_eq!(rt; made, *wanted, "{commands} {nodes} {names:?}");

@@ -1,6 +1,6 @@
 //! Texts that are no certificates: the number of the fault and its line.
 use super::{ENDLESS, NAMED};
-use crate::texts::{Kind, LongRow, fault_of, long_texts_have_faults};
+use crate::texts::{Kind, LongRow, fault_of, long_texts_have_faults, require_count, require_fault};
 use bstr::ByteSlice;
 use std::alloc::Global;
 use std::process::Abort;
@@ -8,14 +8,18 @@ use std::process::Abort;
 /// A part of a text, what replaces it, and the number and the line of the fault; zeros for none.
 pub type Row = (&'static [u8], &'static [u8], u8, usize);
 
+/// Whether the text has this fault by the reader of its version, and by the reader of both.
+fn has_fault(rt: &impl Abort, alloc: Global, kind: &Kind, text: &[u8], fault: (u8, usize)) {
+    require_fault(rt, fault_of(alloc, kind, text), fault, text);
+    let found = fault_of(alloc, &Kind::Certificate, text);
+    require_fault(rt, found, fault, text);
+}
+
 /// Whether the changed texts have these faults by the reader of their version, and by the reader of both.
 pub fn changed_have_faults(rt: &impl Abort, alloc: Global, kind: &Kind, text: &[u8], rows: &[Row]) {
     for (old, new, number, line) in rows {
         let text = text.replace(alloc, *old, *new).expect(rt, "memory");
-        let fault = fault_of(alloc, kind, &text);
-        assert_eq!(rt; fault, (*number, *line), "{new:?}");
-        let fault = fault_of(alloc, &Kind::Certificate, &text);
-        assert_eq!(rt; fault, (*number, *line), "{new:?}");
+        has_fault(rt, alloc, kind, &text, (*number, *line));
     }
 }
 
@@ -27,10 +31,7 @@ pub fn cut_have_faults(rt: &impl Abort, alloc: Global, kind: &Kind, text: &[u8],
     for (first, last, number, line) in rows {
         assert!(rt; *last < text.len());
         for size in *first..*last + 1 {
-            let fault = fault_of(alloc, kind, &text[..size]);
-            assert_eq!(rt; fault, (*number, *line), "cut to {size}");
-            let fault = fault_of(alloc, &Kind::Certificate, &text[..size]);
-            assert_eq!(rt; fault, (*number, *line), "cut to {size}");
+            has_fault(rt, alloc, kind, &text[..size], (*number, *line));
         }
     }
 }
@@ -84,7 +85,7 @@ static CHANGED_NAMES: [Row; 9] = [
 ];
 
 /// The certificate of the script without commands.
-const EMPTY: &[u8] =
+static EMPTY: &'static [u8] =
     b"sedck 2\ncommands 0\n0 0 0 1 1\n0 0 1 1 1\n0 1 0 -\n0 1 1 -\nread 0\nwrite 0\nend\n";
 
 static NUMBERS: [Row; 12] = [
@@ -215,7 +216,7 @@ static NAMES: [LongRow; 7] = [
 
 #[test]
 fn cut_and_long_texts(rt: HostRuntime) {
-    assert_eq!(rt; ENDLESS.len(), 178);
+    require_count(&rt, ENDLESS.len(), 178, b"the endless script");
     cut_have_faults(&rt, rt.alloc(), &Kind::CertificateTwo, ENDLESS, &CUTS);
     long_texts_have_faults(&rt, rt.alloc(), &Kind::CertificateTwo, &NAMES);
     long_texts_have_faults(&rt, rt.alloc(), &Kind::Certificate, &NAMES);

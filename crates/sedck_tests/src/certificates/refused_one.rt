@@ -1,7 +1,7 @@
 //! Texts that are no certificates, though their first line may be that of version 1.
 use super::refused::{Cut, Row, changed_have_faults, cut_have_faults};
 use super::{ENDLESS_ONE, NAMED_ONE};
-use crate::texts::{Kind, LongRow, long_texts_have_faults};
+use crate::texts::{Kind, LongRow, long_texts_have_faults, require_count};
 
 static CHANGED: [Row; 25] = [
     (b"0 0 2 2\n0 1 -\n", b"0 1 -\n0 0 2 2\n", 3, 3),
@@ -50,7 +50,7 @@ static CHANGED_NAMES: [Row; 15] = [
 ];
 
 /// The certificate of the script without commands.
-const EMPTY: &[u8] = b"sedck 1\ncommands 0\n0 0 1 1\n0 1 -\nread 0\nwrite 0\nend\n";
+static EMPTY: &'static [u8] = b"sedck 1\ncommands 0\n0 0 1 1\n0 1 -\nread 0\nwrite 0\nend\n";
 
 static NUMBERS: [Row; 13] = [
     (b"write 0\n", b"write 2\nb\na\n", 4, 8),
@@ -178,7 +178,7 @@ static NAMES: [LongRow; 7] = [
 
 #[test]
 fn cut_and_long_texts(rt: HostRuntime) {
-    assert_eq!(rt; ENDLESS_ONE.len(), 92);
+    require_count(&rt, ENDLESS_ONE.len(), 92, b"the endless script");
     cut_have_faults(&rt, rt.alloc(), &Kind::CertificateOne, ENDLESS_ONE, &CUTS);
     long_texts_have_faults(&rt, rt.alloc(), &Kind::CertificateOne, &NAMES);
     long_texts_have_faults(&rt, rt.alloc(), &Kind::Certificate, &NAMES);

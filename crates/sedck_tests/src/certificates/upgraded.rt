@@ -1,39 +1,49 @@
 //! Certificates of version 1: what they are read as.
+use super::read::text_of;
 use super::{ENDLESS, ENDLESS_ONE, NAMED, NAMED_ONE};
-use crate::texts::{Kind, fault_of, numbered, require};
-use sedck_cert::streams::FromWrite;
-use sedck_cert::{Cert, read_any, read_cert_one, upgrade, write_cert};
+use crate::texts::{Kind, fault_of, numbered, require_bytes, require_fault};
+use sedck_cert::{read_any, read_cert_one, upgrade};
 use std::alloc::Global;
 use std::process::Abort;
 
-/// The text of the certificate.
-fn text_of(rt: &impl Abort, alloc: Global, cert: &Cert) -> Vec<u8> {
-    let mut out = FromWrite::new(Vec::new(alloc));
-    assert!(rt; write_cert(cert, &mut out).is_ok());
-    out.into_inner()
+/// The text of the certificate of version 1, upgraded.
+fn upgraded(rt: &impl Abort, alloc: Global, one: &[u8]) -> Vec<u8> {
+    let Ok(cert) = read_cert_one(alloc, one) else {
+        panic!(rt; "refused: {one:?}");
+    };
+    text_of(rt, alloc, &upgrade(alloc, &cert).expect(rt, "memory"))
+}
+
+/// Whether the text of either version is read as the certificate with this text.
+fn is_read_as(rt: &impl Abort, alloc: Global, text: &[u8], two: &[u8]) {
+    let Ok(cert) = read_any(alloc, text) else {
+        panic!(rt; "refused: {text:?}");
+    };
+    require_bytes(rt, &text_of(rt, alloc, &cert), two, text);
 }
 
 /// Whether the text of version 1 is read as the certificate with this text, which is read as itself.
 fn is_upgraded(rt: &impl Abort, alloc: Global, one: &[u8], two: &[u8]) {
-    let Ok(cert) = read_cert_one(alloc, one) else {
-        panic!(rt; "refused: {one:?}");
-    };
-    let cert = upgrade(alloc, &cert).expect(rt, "memory");
-    require(rt, text_of(rt, alloc, &cert).as_slice() == two, one);
-    for text in [one, two] {
-        let Ok(cert) = read_any(alloc, text) else {
-            panic!(rt; "refused: {text:?}");
-        };
-        require(rt, text_of(rt, alloc, &cert).as_slice() == two, text);
-    }
+    require_bytes(rt, &upgraded(rt, alloc, one), two, one);
+    is_read_as(rt, alloc, one, two);
+    is_read_as(rt, alloc, two, two);
     // neither is read as the other version
-    assert_eq!(rt; fault_of(alloc, &Kind::CertificateOne, two), (1, 1));
-    assert_eq!(rt; fault_of(alloc, &Kind::CertificateTwo, one), (1, 1));
+    require_fault(rt, fault_of(alloc, &Kind::CertificateOne, two), (1, 1), two);
+    require_fault(rt, fault_of(alloc, &Kind::CertificateTwo, one), (1, 1), one);
 }
 
-static UPGRADED: [(&'static [u8], &'static [u8]); 4] = [
-    (ENDLESS_ONE, ENDLESS),
-    (NAMED_ONE, NAMED),
+/// Whether the text of these two parts has fault 3 in line 3.
+fn require_joined_fault(rt: &impl Abort, alloc: Global, first: &[u8], second: &[u8]) {
+    let text = [first, second].concat(alloc).expect(rt, "memory");
+    require_fault(
+        rt,
+        fault_of(alloc, &Kind::Certificate, &text),
+        (3, 3),
+        &text,
+    );
+}
+
+static UPGRADED: [(&'static [u8], &'static [u8]); 2] = [
     (
         b"sedck 1\ncommands 0\n0 0 1 1\n0 1 -\nread 0\nwrite 0\nend\n",
         b"sedck 2\ncommands 0\n0 0 0 1 1\n0 0 1 1 1\n0 1 0 -\n0 1 1 -\nread 0\nwrite 0\nend\n",
@@ -47,42 +57,39 @@ static UPGRADED: [(&'static [u8], &'static [u8]); 4] = [
 
 #[test]
 fn upgrades(rt: HostRuntime) {
+    is_upgraded(&rt, rt.alloc(), ENDLESS_ONE, ENDLESS);
+    is_upgraded(&rt, rt.alloc(), NAMED_ONE, NAMED);
     for (one, two) in &UPGRADED {
         is_upgraded(&rt, rt.alloc(), *one, *two);
     }
-    // the nodes of one version behind the first line of the other
-    let nodes = [b"sedck 1".as_slice(), &ENDLESS[7..]]
-        .concat(rt.alloc())
-        .expect(&rt, "memory");
-    assert_eq!(rt; fault_of(rt.alloc(), &Kind::Certificate, &nodes), (3, 3));
-    let nodes = [b"sedck 2".as_slice(), &ENDLESS_ONE[7..]]
-        .concat(rt.alloc())
-        .expect(&rt, "memory");
-    assert_eq!(rt; fault_of(rt.alloc(), &Kind::Certificate, &nodes), (3, 3));
 }
 
-/// The most nodes, each with the greatest ranks, and the most names.
+#[test]
+fn nodes_of_the_other_version(rt: HostRuntime) {
+    // the nodes of one version behind the first line of the other
+    require_joined_fault(&rt, rt.alloc(), b"sedck 1", &ENDLESS[7..]);
+    require_joined_fault(&rt, rt.alloc(), b"sedck 2", &ENDLESS_ONE[7..]);
+}
+
+/// The nodes of a place with the greatest ranks, in each version.
+static GREATEST: (&'static str, &'static str) = (
+    "@ 0 65535 65535\n@ 1 65535 65535\n",
+    "@ 0 0 65535 65535\n@ 0 1 65535 65535\n@ 1 0 65535 65535\n@ 1 1 65535 65535\n",
+);
+
+/// The text of the certificate with the most nodes, which are like these, and with the most names.
+fn most_text(rt: &impl Abort, alloc: Global, version: u8, piece: &str) -> String {
+    let nodes = numbered(rt, alloc, piece, 0, 4096);
+    let names = numbered(rt, alloc, "@\n", 1000, 4095);
+    let text = format!(in alloc;
+        "sedck {version}\ncommands 4095\n{nodes}read 4095\n{names}write 4095\n{names}end\n"
+    );
+    text.expect(rt, "memory")
+}
+
 #[test]
 fn upgrades_the_most(rt: HostRuntime) {
-    let one = numbered(
-        &rt,
-        rt.alloc(),
-        "@ 0 65535 65535\n@ 1 65535 65535\n",
-        0,
-        4096,
-    );
-    let two = numbered(
-        &rt,
-        rt.alloc(),
-        "@ 0 0 65535 65535\n@ 0 1 65535 65535\n@ 1 0 65535 65535\n@ 1 1 65535 65535\n",
-        0,
-        4096,
-    );
-    let names = numbered(&rt, rt.alloc(), "@\n", 1000, 4095);
-    let lists = format!(in rt.alloc(); "read 4095\n{names}write 4095\n{names}end\n").expect(
-        &rt, "memory",
-    );
-    let one = format!(in rt.alloc(); "sedck 1\ncommands 4095\n{one}{lists}").expect(&rt, "memory");
-    let two = format!(in rt.alloc(); "sedck 2\ncommands 4095\n{two}{lists}").expect(&rt, "memory");
+    let one = most_text(&rt, rt.alloc(), 1, GREATEST.0);
+    let two = most_text(&rt, rt.alloc(), 2, GREATEST.1);
     is_upgraded(&rt, rt.alloc(), one.as_bytes(), two.as_bytes());
 }

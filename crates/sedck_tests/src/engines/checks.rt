@@ -1,8 +1,8 @@
 //! What the engines report and write.
 use super::runs::{Engine, NEVER, is_answered};
 use super::{
-    ACCEPTED, EMPTY_CERTIFICATE, LOOP, LOOP_CERTIFICATE, LOOP_GRAPH, OLD_EMPTY_CERTIFICATE,
-    OLD_LOOP_CERTIFICATE,
+    ACCEPTED, EMPTY_CERTIFICATE, LOOP, LOOP_CERTIFICATE, LOOP_GRAPH, LOOP_TEXT,
+    OLD_EMPTY_CERTIFICATE, OLD_LOOP_CERTIFICATE, OLD_LOOP_TEXT,
 };
 use std::alloc::Global;
 use std::process::Abort;
@@ -10,11 +10,14 @@ use std::process::Abort;
 /// The texts of a script and a certificate, and what is reported and written.
 type Row = (&'static str, &'static str, &'static str, &'static str);
 
+/// How many bytes a read gives, and a write takes.
+static PIECES: [usize; 3] = [1, 7, 100_000];
+
 fn are_answered(rt: &impl Abort, alloc: Global, engine: &Engine, rows: &[Row]) {
     for (script, certificate, told, report) in rows {
-        for piece in [1, 7, 100_000] {
+        for piece in &PIECES {
             let (texts, answer) = ((*script, *certificate), (*told, *report));
-            is_answered(rt, alloc, engine, texts, piece, &NEVER, answer);
+            is_answered(rt, alloc, engine, texts, *piece, &NEVER, answer);
         }
     }
 }
@@ -192,9 +195,16 @@ fn answers(rt: HostRuntime) {
     are_answered(&rt, rt.alloc(), &Engine::Graph, &GRAPHS);
     are_answered(&rt, rt.alloc(), &Engine::Rank, &RANKS);
     are_answered(&rt, rt.alloc(), &Engine::Upgrade, &UPGRADES);
+}
+
+/// Certificates that stand beside a script that is refused.
+static BESIDE: [&'static str; 3] = [LOOP_CERTIFICATE, "x", ""];
+
+#[test]
+fn refused(rt: HostRuntime) {
     for (script, fault) in &REFUSED {
-        for certificate in [LOOP_CERTIFICATE, "x", ""] {
-            let row = (*script, certificate, *fault, "");
+        for certificate in &BESIDE {
+            let row = (*script, *certificate, *fault, "");
             are_answered(&rt, rt.alloc(), &Engine::Check, &[row]);
         }
     }
@@ -342,17 +352,16 @@ fn cut_are_refused(rt: &impl Abort, alloc: Global, text: &str, rows: &[Cut]) {
                 panic!(rt; "no beginning of {length} bytes");
             };
             let (texts, answer) = ((LOOP, cut), (*told, ""));
-            for engine in [Engine::Check, Engine::Upgrade] {
-                is_answered(rt, alloc, &engine, texts, 64, &NEVER, answer);
-            }
+            is_answered(rt, alloc, &Engine::Check, texts, 64, &NEVER, answer);
+            is_answered(rt, alloc, &Engine::Upgrade, texts, 64, &NEVER, answer);
         }
     }
 }
 
 #[test]
 fn certificates(rt: HostRuntime) {
-    changed_are_answered(&rt, rt.alloc(), LOOP_CERTIFICATE, &CHANGED);
-    changed_are_answered(&rt, rt.alloc(), OLD_LOOP_CERTIFICATE, &OLD_CHANGED);
-    cut_are_refused(&rt, rt.alloc(), LOOP_CERTIFICATE, &CUT);
-    cut_are_refused(&rt, rt.alloc(), OLD_LOOP_CERTIFICATE, &OLD_CUT);
+    changed_are_answered(&rt, rt.alloc(), LOOP_TEXT, &CHANGED);
+    changed_are_answered(&rt, rt.alloc(), OLD_LOOP_TEXT, &OLD_CHANGED);
+    cut_are_refused(&rt, rt.alloc(), LOOP_TEXT, &CUT);
+    cut_are_refused(&rt, rt.alloc(), OLD_LOOP_TEXT, &OLD_CUT);
 }

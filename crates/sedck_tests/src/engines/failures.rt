@@ -1,8 +1,8 @@
 //! Streams that fail or never end, and texts that are too long.
 use super::fakes::{Endless, sink_with};
 use super::runs::{Ends, Engine, is_answered, is_answered_over_std, outcome};
-use super::{ACCEPTED, AMPLE, LOOP, LOOP_CERTIFICATE};
-use crate::texts::repeated;
+use super::{ACCEPTED, AMPLE, LOOP, LOOP_CERTIFICATE, LOOP_TEXT};
+use crate::texts::{repeated, require_bytes, require_count};
 use std::alloc::Global;
 use std::io::ErrorKind;
 use std::process::Abort;
@@ -91,17 +91,36 @@ fn fails_at(
     ends: &Ends,
     fault: &str,
 ) {
-    let (texts, answer) = ((script, LOOP_CERTIFICATE), (fault, ""));
-    for piece in [1, 2] {
-        is_answered(rt, alloc, engine, texts, piece, ends, answer);
-    }
+    let (texts, answer) = ((script, LOOP_TEXT), (fault, ""));
+    is_answered(rt, alloc, engine, texts, 1, ends, answer);
+    is_answered(rt, alloc, engine, texts, 2, ends, answer);
     let kind = Some(ErrorKind::Interrupted);
     is_answered_over_std(rt, alloc, engine, texts, ends, kind, answer);
 }
 
+/// Whether an error of each kind is reported where the script's reads fail, or the certificate's.
+fn fails_with_each_kind(
+    rt: &impl Abort,
+    alloc: Global,
+    engine: &Engine,
+    script: &str,
+    is_certificate: bool,
+) {
+    let (ends, fault) = if is_certificate {
+        ((AMPLE, 1, 0), "cannot read certificate")
+    } else {
+        ((1, AMPLE, 0), "cannot read script")
+    };
+    for kind in &KINDS {
+        let (texts, answer) = ((script, LOOP_TEXT), (fault, ""));
+        is_answered_over_std(rt, alloc, engine, texts, &ends, Some(*kind), answer);
+    }
+}
+
 #[test]
 fn failing_sources(rt: HostRuntime) {
-    assert_eq!(rt; (LOOP.len(), LOOP_CERTIFICATE.len()), (8, 178));
+    require_count(&rt, LOOP.len(), 8, b"the loop");
+    require_count(&rt, LOOP_TEXT.len(), 178, b"its certificate");
     for (engine, script, is_certificate, length) in &SOURCES {
         for before in 0..*length + 1 {
             // where the script's reads fail, the certificate's would fail at once
@@ -112,34 +131,34 @@ fn failing_sources(rt: HostRuntime) {
             };
             fails_at(&rt, rt.alloc(), engine, *script, &ends, fault);
         }
-        for kind in &KINDS {
-            let (texts, kind) = ((*script, LOOP_CERTIFICATE), Some(*kind));
-            let (ends, answer) = if *is_certificate {
-                ((AMPLE, 1, 0), ("cannot read certificate", ""))
-            } else {
-                ((1, AMPLE, 0), ("cannot read script", ""))
-            };
-            is_answered_over_std(&rt, rt.alloc(), engine, texts, &ends, kind, answer);
-        }
+        fails_with_each_kind(&rt, rt.alloc(), engine, *script, *is_certificate);
     }
 }
 
 /// Whether the write behind a prefix of a report is said to have failed, and nothing more went out.
 fn fails_behind(rt: &impl Abort, alloc: Global, engine: &Engine, script: &str, front: &str) {
-    let (texts, ends) = ((script, LOOP_CERTIFICATE), (AMPLE, AMPLE, front.len()));
+    let (texts, ends) = ((script, LOOP_TEXT), (AMPLE, AMPLE, front.len()));
     let answer = ("cannot write", front);
-    for piece in [1, 4] {
-        is_answered(rt, alloc, engine, texts, piece, &ends, answer);
-    }
+    is_answered(rt, alloc, engine, texts, 1, &ends, answer);
+    is_answered(rt, alloc, engine, texts, 4, &ends, answer);
     // a call that takes no byte, and one that is interrupted
-    for kind in [None, Some(ErrorKind::Interrupted)] {
-        is_answered_over_std(rt, alloc, engine, texts, &ends, kind, answer);
+    is_answered_over_std(rt, alloc, engine, texts, &ends, None, answer);
+    let kind = Some(ErrorKind::Interrupted);
+    is_answered_over_std(rt, alloc, engine, texts, &ends, kind, answer);
+}
+
+/// Whether a write that fails at once is reported, whatever its error.
+fn fails_at_once(rt: &impl Abort, alloc: Global, engine: &Engine, script: &str) {
+    let ends = (AMPLE, AMPLE, 0);
+    for kind in &KINDS {
+        let (texts, answer) = ((script, LOOP_TEXT), ("cannot write", ""));
+        is_answered_over_std(rt, alloc, engine, texts, &ends, Some(*kind), answer);
     }
 }
 
 #[test]
 fn failing_sinks(rt: HostRuntime) {
-    assert_eq!(rt; LOOP_CERTIFICATE.len(), 178);
+    require_count(&rt, LOOP_TEXT.len(), 178, b"its certificate");
     for (engine, script, report) in &SINKS {
         for room in 0..report.len() {
             let Some(front) = report.get(..room) else {
@@ -147,11 +166,7 @@ fn failing_sinks(rt: HostRuntime) {
             };
             fails_behind(&rt, rt.alloc(), engine, *script, front);
         }
-        for kind in &KINDS {
-            let (texts, ends, kind) = ((*script, LOOP_CERTIFICATE), (AMPLE, AMPLE, 0), Some(*kind));
-            let answer = ("cannot write", "");
-            is_answered_over_std(&rt, rt.alloc(), engine, texts, &ends, kind, answer);
-        }
+        fails_at_once(&rt, rt.alloc(), engine, *script);
     }
 }
 
@@ -248,7 +263,7 @@ fn endless_sources(rt: HostRuntime) {
             &mut certificate,
             &mut out,
         );
-        assert_eq!(rt; answer.as_str(), *fault);
-        assert!(rt; out.bytes.is_empty());
+        require_bytes(&rt, answer.as_bytes(), fault.as_bytes(), fault.as_bytes());
+        require_bytes(&rt, &out.bytes, b"", fault.as_bytes());
     }
 }

@@ -367,22 +367,37 @@ fn old_text_of(rt: &impl Abort, alloc: Global, row: &Row) -> String {
     format!(in alloc; "sedck 1\ncommands {commands}\n{lines}{lists}end\n").expect(rt, "memory")
 }
 
+/// Adds the lines of the two nodes of the place and flag.
+fn add_both(
+    rt: &impl Abort,
+    alloc: Global,
+    lines: &mut String,
+    nodes: &str,
+    old: &str,
+    is_old: bool,
+) {
+    for last in 0u8..2 {
+        let node = format!(in alloc; "{old}{last} ").expect(rt, "memory");
+        let ranks = ranks_of(nodes, if is_old { old } else { &node });
+        writeln!(lines, "{node}{ranks}").expect(rt, "memory");
+    }
+}
+
 /// The text of the row's certificate, which is upgraded where it is old: both nodes have the ranks of the one.
 fn text_of(rt: &impl Abort, alloc: Global, row: &Row, is_old: bool) -> String {
     let (_, commands, nodes, lists, _) = row;
     let mut lines = String::new(alloc);
     for at in 0..u32::from(*commands) + 1 {
         for flag in 0u8..2 {
-            for last in 0u8..2 {
-                let old = format!(in alloc; "{at} {flag} ").expect(rt, "memory");
-                let node = format!(in alloc; "{old}{last} ").expect(rt, "memory");
-                let ranks = ranks_of(*nodes, if is_old { &old } else { &node });
-                writeln!(lines, "{node}{ranks}").expect(rt, "memory");
-            }
+            let old = format!(in alloc; "{at} {flag} ").expect(rt, "memory");
+            add_both(rt, alloc, &mut lines, *nodes, &old, is_old);
         }
     }
     format!(in alloc; "sedck 2\ncommands {commands}\n{lines}{lists}end\n").expect(rt, "memory")
 }
+
+/// How many bytes a read gives, and a write takes.
+static PIECES: [usize; 2] = [1, 100_000];
 
 /// Whether the engine and the program give the report on the script and the certificate, which is accepted or not. Their
 /// files are in the folder then.
@@ -394,9 +409,17 @@ fn are_judged(
     report: &str,
 ) {
     let (word, status) = if is_accepted { ("yes", 0) } else { ("no", 1) };
-    for piece in [1, 100_000] {
+    for piece in &PIECES {
         let answer = (word, report);
-        is_answered(rt, rt.alloc(), &Engine::Check, texts, piece, &NEVER, answer);
+        is_answered(
+            rt,
+            rt.alloc(),
+            &Engine::Check,
+            texts,
+            *piece,
+            &NEVER,
+            answer,
+        );
     }
     write_file(rt, folder, "script", texts.0);
     write_file(rt, folder, "certificate", texts.1);

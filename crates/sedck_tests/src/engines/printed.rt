@@ -229,19 +229,22 @@ fn are_printed(
     }
 }
 
+/// The calls that read a script.
+static CALLS: [&'static str; 4] = [
+    "rank @script",
+    "files @script",
+    "graph @script",
+    "check @script @certificate",
+];
+
 #[test]
 fn printed(rt: HostRuntime) {
     let folder = folder(&rt, process::id(rt.process()), "printed");
     are_printed(&rt, &folder, "rank @script", 1, &LOOPS);
     are_printed(&rt, &folder, "files @script", 0, &NAMES);
     are_printed(&rt, &folder, "graph @script", 0, &GRAPHS);
-    for words in [
-        "rank @script",
-        "files @script",
-        "graph @script",
-        "check @script @certificate",
-    ] {
-        are_printed(&rt, &folder, words, 2, &REFUSED);
+    for words in &CALLS {
+        are_printed(&rt, &folder, *words, 2, &REFUSED);
     }
     fs::remove_dir_all(&rt, &folder).expect(&rt, "the folder");
 }

@@ -4,15 +4,16 @@ use super::{
     ACCEPTED, AMPLE, EMPTY_CERTIFICATE, LOOP, LOOP_CERTIFICATE, LOOP_GRAPH, OLD_EMPTY_CERTIFICATE,
     OLD_LOOP_CERTIFICATE,
 };
-use crate::texts::require;
+use crate::texts::{require, require_bytes, require_count};
 use sedck_cert::streams::FromWrite;
 use sedck_cli::{flushed, program};
+use std::alloc::Global;
 use std::io::{ErrorKind, Write};
 use std::process::Abort;
 use std::rt::{Env, Files};
 use std::{env, fs, io, process};
 
-const USAGE: &str =
+static USAGE: &'static str =
     "sedck: usage: sedck rank SCRIPT, check SCRIPT CERT, files SCRIPT, graph SCRIPT, upgrade CERT\n";
 
 /// The files of a test's folder, by name.
@@ -43,8 +44,28 @@ pub fn folder(rt: &(impl Files + Env + AllocGlobal + Abort), id: u32, test: &str
     folder
 }
 
-/// Runs the program on the words, of which each behind `@` is a file of the folder. Whether it gives the status and
-/// prints the text, and writes the fault, or its front where there is no room on standard error.
+/// The words, of which each behind `@` is a file of the folder.
+fn words_of(rt: &impl Abort, alloc: Global, folder: &str, words: &str) -> Vec<String> {
+    let mut all = Vec::new(alloc);
+    for word in words.split_whitespace() {
+        let word = match word.strip_prefix('@') {
+            Some(name) => format!(in alloc; "{folder}/{name}"),
+            None => String::from_str(alloc, word),
+        };
+        all.push(word.expect(rt, "memory")).expect(rt, "memory");
+    }
+    all
+}
+
+/// Whether this is the fault, or its front where there is no room.
+fn is_fault(rt: &impl Abort, words: &str, room: usize, found: &[u8], fault: &str) {
+    let is_front = fault.as_bytes().starts_with(found)
+        && (room < AMPLE || fault.len() == found.len());
+    assert!(rt; is_front, "{words}: {found:?}");
+}
+
+/// Runs the program on the words. Whether it gives the status and prints the text, and writes the fault, or its front
+/// where there is no room on standard error.
 pub fn is_run(
     rt: &(impl Files + AllocGlobal + Abort),
     folder: &str,
@@ -52,24 +73,19 @@ pub fn is_run(
     room: usize,
     answer: (u8, &str, &str),
 ) {
-    let alloc = rt.alloc();
-    let mut all = Vec::new(alloc);
-    for word in words.split_whitespace() {
-        let word = match word.strip_prefix('@') {
-            Some(name) => format!(in alloc; "{folder}/{name}").expect(rt, "memory"),
-            None => String::from_str(alloc, word).expect(rt, "memory"),
-        };
-        all.push(word).expect(rt, "memory");
-    }
-    let mut out = sink_with(alloc, 5, AMPLE);
-    let mut err = sink_with(alloc, 5, room);
+    let all = words_of(rt, rt.alloc(), folder, words);
+    let mut out = sink_with(rt.alloc(), 5, AMPLE);
+    let mut err = sink_with(rt.alloc(), 5, room);
     let status = program(rt, &all, &mut out, &mut err);
     let (wanted, printed, fault) = answer;
-    assert_eq!(rt; status, wanted, "{words}");
-    assert_eq!(rt; out.bytes.as_slice(), printed.as_bytes(), "{words}");
-    let is_front = fault.as_bytes().starts_with(&err.bytes)
-        && (room < AMPLE || fault.len() == err.bytes.len());
-    assert!(rt; is_front, "{words}: {:?}", err.bytes);
+    require_count(
+        rt,
+        usize::from(status),
+        usize::from(wanted),
+        words.as_bytes(),
+    );
+    require_bytes(rt, &out.bytes, printed.as_bytes(), words.as_bytes());
+    is_fault(rt, words, room, &err.bytes, fault);
 }
 
 /// Words that get the usage line.
@@ -218,6 +234,9 @@ static ROWS: [Row; 31] = [
     ),
 ];
 
+/// How many bytes standard error takes.
+static ROOMS: [usize; 3] = [0, 7, AMPLE];
+
 #[test]
 fn programs(rt: HostRuntime) {
     let folder = folder(&rt, process::id(rt.process()), "programs");
@@ -225,8 +244,8 @@ fn programs(rt: HostRuntime) {
         is_run(&rt, &folder, words, AMPLE, (3, "", USAGE));
     }
     for (words, status, out, err) in &ROWS {
-        for room in [0, 7, AMPLE] {
-            is_run(&rt, &folder, words, room, (*status, *out, *err));
+        for room in &ROOMS {
+            is_run(&rt, &folder, words, *room, (*status, *out, *err));
         }
     }
     fs::remove_dir_all(&rt, &folder).expect(&rt, "the folder");

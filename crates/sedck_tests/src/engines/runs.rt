@@ -1,8 +1,9 @@
 //! Runs of the engines over streams in memory.
 use super::AMPLE;
 use super::fakes::{Reader, Writer, sink_with, source_of};
+use crate::texts::{require, require_bytes, require_text};
 use sedck_cert::streams::{FromRead, FromWrite, Sink, Source};
-use sedck_cli::{Outcome, run_check, run_files, run_graph, run_rank, run_upgrade};
+use sedck_cli::{Outcome, RunFault, run_check, run_files, run_graph, run_rank, run_upgrade};
 use std::alloc::Global;
 use std::io::ErrorKind;
 use std::process::Abort;
@@ -39,15 +40,17 @@ pub fn outcome<R: Source, C: Source, W: Sink>(
         Engine::Rank => run_rank(alloc, script, out),
         Engine::Upgrade => run_upgrade(alloc, certificate, out),
     };
-    let (word, fault) = match answer {
-        Ok(Outcome::Yes) => ("yes", None),
-        Ok(Outcome::No) => ("no", None),
-        Err(fault) => ("", Some(fault)),
+    told(rt, alloc, answer)
+}
+
+/// The answer in a word, or the fault as it is printed.
+fn told(rt: &impl Abort, alloc: Global, answer: Result<Outcome, RunFault>) -> String {
+    let text = match answer {
+        Ok(Outcome::Yes) => String::from_str(alloc, "yes"),
+        Ok(Outcome::No) => String::from_str(alloc, "no"),
+        Err(fault) => format!(in alloc; "{fault}"),
     };
-    match fault {
-        Some(fault) => format!(in alloc; "{fault}").expect(rt, "memory"),
-        None => String::from_str(alloc, word).expect(rt, "memory"),
-    }
+    text.expect(rt, "memory")
 }
 
 /// Whether this is reported and these bytes went out, and whether a stream is reported exactly where one failed.
@@ -58,11 +61,11 @@ fn require_answer(
     failed: (bool, bool),
     answer: (&str, &str),
 ) {
-    assert_eq!(rt; reported.0, answer.0, "{script}");
-    assert_eq!(rt; reported.1, answer.1.as_bytes(), "{script}");
+    require_text(rt, reported.0, answer.0, script);
+    require_bytes(rt, reported.1, answer.1.as_bytes(), script.as_bytes());
     let holds = failed.0 == reported.0.starts_with("cannot read")
         && failed.1 == reported.0.starts_with("cannot write");
-    assert!(rt; holds, "{script}: {failed:?}");
+    require(rt, holds, script.as_bytes());
 }
 
 /// Whether a run over a script and a certificate, read and written in pieces, reports this and writes the report, and
@@ -84,6 +87,22 @@ pub fn is_answered(
     require_answer(rt, texts.0, (&reported, &out.bytes), failed, answer);
 }
 
+/// A reader of std of the text, one byte a call, whose failing call answers an error of this kind.
+fn reader_of(text: &str, end: usize, kind: Option<ErrorKind>) -> FromRead<Reader<'_>> {
+    FromRead::new(Reader {
+        source: source_of(text.as_bytes(), 1, end),
+        kind: kind.unwrap_or(ErrorKind::Interrupted),
+    })
+}
+
+/// A writer of std with this much room.
+fn writer_with(alloc: Global, room: usize, kind: Option<ErrorKind>) -> FromWrite<Writer> {
+    FromWrite::new(Writer {
+        sink: sink_with(alloc, 1, room),
+        kind,
+    })
+}
+
 /// The same over readers and writers of std, one byte a call. Their failing calls answer errors of this kind; where there is
 /// none, a write takes no byte.
 pub fn is_answered_over_std(
@@ -95,19 +114,9 @@ pub fn is_answered_over_std(
     kind: Option<ErrorKind>,
     answer: (&str, &str),
 ) {
-    let read_kind = kind.unwrap_or(ErrorKind::Interrupted);
-    let mut script = FromRead::new(Reader {
-        source: source_of(texts.0.as_bytes(), 1, ends.0),
-        kind: read_kind,
-    });
-    let mut certificate = FromRead::new(Reader {
-        source: source_of(texts.1.as_bytes(), 1, ends.1),
-        kind: read_kind,
-    });
-    let mut out = FromWrite::new(Writer {
-        sink: sink_with(alloc, 1, ends.2),
-        kind,
-    });
+    let mut script = reader_of(texts.0, ends.0, kind);
+    let mut certificate = reader_of(texts.1, ends.1, kind);
+    let mut out = writer_with(alloc, ends.2, kind);
     let reported = outcome(rt, alloc, engine, &mut script, &mut certificate, &mut out);
     let failed = (script.failed() || certificate.failed(), out.failed());
     let bytes = out.into_inner().sink.bytes;

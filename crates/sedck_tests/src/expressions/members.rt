@@ -1,5 +1,5 @@
 //! The members of bracket lists, byte by byte, and the bytes of escapes.
-use crate::texts::{Kind, fault_of};
+use crate::texts::{Kind, fault_of, require, require_fault};
 use sedck_bre::{Bre, parse};
 use std::alloc::Global;
 use std::process::Abort;
@@ -132,22 +132,33 @@ fn is_byte(alloc: Global, text: &[u8], byte: u8) -> bool {
     }
 }
 
+/// Whether the text means the one byte.
+fn means(rt: &impl Abort, alloc: Global, text: &[u8], byte: u8) {
+    require(rt, is_byte(alloc, text, byte), text);
+}
+
+/// Bytes that mean themselves behind a backslash.
+static ESCAPED: [u8; 22] = *b".[\\*^$]/-\"&,;:!@#%=~_ ";
+
+/// Bytes that have a meaning behind a backslash.
+static KNOWN: [u8; 36] = *b".[\\*^$]/-\"&,;:!@#%=~_ nt(){123456789";
+
 /// Escapes of bytes that mean themselves, the refused ones, and bytes without meaning.
 #[test]
 fn bytes(rt: HostRuntime) {
-    for byte in b".[\\*^$]/-\"&,;:!@#%=~_ " {
-        assert!(rt; is_byte(rt.alloc(), &[b'\\', *byte], *byte), "{byte}");
+    for byte in &ESCAPED {
+        means(&rt, rt.alloc(), &[b'\\', *byte], *byte);
     }
-    assert!(rt; is_byte(rt.alloc(), b"\\n", 10));
-    assert!(rt; is_byte(rt.alloc(), b"\\t", 9));
-    let known = b".[\\*^$]/-\"&,;:!@#%=~_ nt(){123456789";
+    means(&rt, rt.alloc(), b"\\n", 10);
+    means(&rt, rt.alloc(), b"\\t", 9);
     for byte in 0..=255u8 {
-        if !known.contains(&byte) {
-            let fault = fault_of(rt.alloc(), &Kind::Expression, &[b'a', b'\\', byte]);
-            assert_eq!(rt; fault, (2, 1), "{byte}");
+        if !KNOWN.contains(&byte) {
+            let text = [b'a', b'\\', byte];
+            let fault = fault_of(rt.alloc(), &Kind::Expression, &text);
+            require_fault(&rt, fault, (2, 1), &text);
         }
         if !b".[\\^$".contains(&byte) {
-            assert!(rt; is_byte(rt.alloc(), &[byte], byte), "{byte}");
+            means(&rt, rt.alloc(), &[byte], byte);
         }
     }
 }

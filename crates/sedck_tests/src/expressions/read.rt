@@ -1,11 +1,13 @@
 //! The least lengths of worked expressions, the numbers of groups, the limits, and texts that are read.
-use crate::texts::{Kind, LongRow, Row, have_faults, long_texts_have_faults, repeated, require};
+use crate::texts::{
+    Kind, LongRow, Row, have_faults, long_texts_have_faults, repeated, require, require_count,
+};
 use sedck_bre::{ReFault, parse};
 use std::alloc::Global;
 use std::process::Abort;
 
 /// A text, and the least length of what it matches or the number of its groups.
-type Numbered<'a> = (&'a [u8], u32);
+type Numbered<'a> = (&'a [u8], usize);
 
 fn have_numbers(rt: &impl Abort, alloc: Global, of_groups: bool, rows: &[Numbered<'_>]) {
     for (text, wanted) in rows {
@@ -13,11 +15,11 @@ fn have_numbers(rt: &impl Abort, alloc: Global, of_groups: bool, rows: &[Numbere
             panic!(rt; "refused: {text:?}");
         };
         let number = if of_groups {
-            u32::from(expression.groups())
+            usize::from(expression.groups())
         } else {
-            expression.least()
+            expression.least() as usize
         };
-        assert_eq!(rt; number, *wanted, "{text:?}");
+        require_count(rt, number, *wanted, *text);
     }
 }
 
@@ -229,6 +231,10 @@ fn read(rt: HostRuntime) {
     have_faults(&rt, rt.alloc(), &Kind::Expression, &READ);
     have_faults(&rt, rt.alloc(), &Kind::Expression, &INTERVALS);
     long_texts_have_faults(&rt, rt.alloc(), &Kind::Expression, &LIMITS);
+}
+
+#[test]
+fn refused_growths(rt: HostRuntime) {
     // a refused growth is the only other answer
     let holds = match parse(rt.alloc(), b"\\(a*b\\{2,3\\}\\)[^x]\\1c*") {
         Ok(expression) => expression.groups() == 1,

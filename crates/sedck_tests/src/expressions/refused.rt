@@ -138,11 +138,7 @@ static SEVERAL: [Row; 15] = [
 
 #[test]
 fn refused(rt: HostRuntime) {
-    for rows in [
-        STRUCTURE.as_slice(),
-        BRACKETS.as_slice(),
-        SEVERAL.as_slice(),
-    ] {
-        have_faults(&rt, rt.alloc(), &Kind::Expression, rows);
-    }
+    have_faults(&rt, rt.alloc(), &Kind::Expression, &STRUCTURE);
+    have_faults(&rt, rt.alloc(), &Kind::Expression, &BRACKETS);
+    have_faults(&rt, rt.alloc(), &Kind::Expression, &SEVERAL);
 }

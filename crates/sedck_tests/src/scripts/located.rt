@@ -1,6 +1,7 @@
 //! Where the commands of scripts stand, counted by hand.
-use crate::texts::require;
+use crate::texts::{require, require_count};
 use sedck_script::{Location, locate};
+use std::process::Abort;
 
 /// A text, and the start, the verb and the end of each command.
 type Row = (&'static [u8], &'static [(usize, usize, usize)]);
@@ -29,21 +30,31 @@ static SCRIPTS: [Row; 18] = [
     (b"y/ab/cd/\t\n=", &[(0, 0, 9), (10, 10, 11)]),
 ];
 
+/// Whether the locations are those of the row.
+fn are_located(
+    rt: &impl Abort,
+    locations: &[Location],
+    wanted: &[(usize, usize, usize)],
+    text: &[u8],
+) {
+    require_count(rt, locations.len(), wanted.len(), text);
+    for (location, (start, verb, end)) in locations.iter().zip(wanted) {
+        let expected = Location {
+            start: *start,
+            verb: *verb,
+            end: *end,
+        };
+        require(rt, *location == expected, text);
+    }
+}
+
 #[test]
 fn located(rt: HostRuntime) {
     for (text, rows) in &SCRIPTS {
         let Ok(located) = locate(rt.alloc(), text) else {
             panic!(rt; "refused: {text:?}");
         };
-        assert_eq!(rt; located.script.commands().len(), rows.len(), "{text:?}");
-        assert_eq!(rt; located.locations.len(), rows.len(), "{text:?}");
-        for (location, (start, verb, end)) in located.locations.iter().zip(*rows) {
-            let expected = Location {
-                start: *start,
-                verb: *verb,
-                end: *end,
-            };
-            require(&rt, *location == expected, text);
-        }
+        require_count(&rt, located.script.commands().len(), rows.len(), text);
+        are_located(&rt, &located.locations, *rows, text);
     }
 }

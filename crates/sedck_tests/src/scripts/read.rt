@@ -1,5 +1,6 @@
 //! Whole scripts that are read: the number of commands, the names, and whether they are quiet.
-use sedck_script::parse;
+use crate::texts::{require, require_count, script_of};
+use std::process::Abort;
 
 type Names = &'static [&'static [u8]];
 
@@ -30,15 +31,18 @@ static SCRIPTS: [Row; 14] = [
     ),
 ];
 
+/// Whether the names are those of the row.
+fn are_names(rt: &impl Abort, names: &[&[u8]], wanted: &[&[u8]], text: &[u8]) {
+    assert_eq!(rt; names, wanted, "{text:?}");
+}
+
 #[test]
 fn scripts(rt: HostRuntime) {
     for (text, commands, reads, writes, quiet) in &SCRIPTS {
-        let Ok(script) = parse(rt.alloc(), text) else {
-            panic!(rt; "refused: {text:?}");
-        };
-        assert_eq!(rt; script.commands().len(), *commands, "{text:?}");
-        assert_eq!(rt; script.quiet(), *quiet, "{text:?}");
-        assert_eq!(rt; script.reads(), *reads, "{text:?}");
-        assert_eq!(rt; script.writes(), *writes, "{text:?}");
+        let script = script_of(&rt, rt.alloc(), text);
+        require_count(&rt, script.commands().len(), *commands, text);
+        require(&rt, script.quiet() == *quiet, text);
+        are_names(&rt, script.reads(), *reads, text);
+        are_names(&rt, script.writes(), *writes, text);
     }
 }

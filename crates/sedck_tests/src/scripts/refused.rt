@@ -1,6 +1,7 @@
 //! Texts that are no scripts: which fault comes first, and where; the limits, and every beginning of a script.
 use crate::texts::{
-    Kind, LongRow, Part, Row, fault_of, have_faults, long_texts_have_faults, repeated,
+    Kind, LongRow, Part, Row, fault_of, have_faults, long_texts_have_faults, repeated, require,
+    require_count, require_fault,
 };
 use sedck_script::{ScriptFault, parse};
 use std::alloc::Global;
@@ -235,10 +236,11 @@ fn has_inner_fault(rt: &impl Abort, alloc: Global, row: &InnerRow) {
     let text = repeated(rt, alloc, *parts);
     match parse(alloc, &text) {
         Err(ScriptFault::BadExpression { place: at, fault }) => {
-            let found = (at, fault.number(), fault.place());
-            assert_eq!(rt; found, (*place, *number, Some(*inner)), "{parts:?}");
+            require_count(rt, at, *place, &text);
+            let found = (fault.number(), fault.place().unwrap_or(usize::MAX));
+            require_fault(rt, found, (*number, *inner), &text);
         }
-        _ => panic!(rt; "no expression is refused: {parts:?}"),
+        _ => require(rt, false, &text),
     }
 }
 
@@ -256,20 +258,36 @@ fn refused(rt: HostRuntime) {
     have_faults(&rt, rt.alloc(), &Kind::Script, &VERBS);
     have_faults(&rt, rt.alloc(), &Kind::Script, &LABELS);
     have_faults(&rt, rt.alloc(), &Kind::Script, &LISTS);
+}
+
+#[test]
+fn refused_parts(rt: HostRuntime) {
     have_faults(&rt, rt.alloc(), &Kind::Script, &REPLACEMENTS);
     have_faults(&rt, rt.alloc(), &Kind::Script, &FLAGS);
     have_faults(&rt, rt.alloc(), &Kind::Script, &EXPRESSIONS);
     have_faults(&rt, rt.alloc(), &Kind::Script, &CUT);
     have_faults(&rt, rt.alloc(), &Kind::Script, &NUMBERS);
+}
+
+#[test]
+fn limits(rt: HostRuntime) {
     long_texts_have_faults(&rt, rt.alloc(), &Kind::Script, &LIMITS);
     long_texts_have_faults(&rt, rt.alloc(), &Kind::Script, &LONGEST);
+}
+
+#[test]
+fn refused_expressions(rt: HostRuntime) {
     for row in &INNER {
         has_inner_fault(&rt, rt.alloc(), row);
     }
+}
+
+#[test]
+fn beginnings(rt: HostRuntime) {
     for text in &WHOLE {
         for end in 0..text.len() {
             let (number, place) = fault_of(rt.alloc(), &Kind::Script, &text[..end]);
-            assert!(rt; number < 23 && place <= end, "cut to {end}: {text:?}");
+            require(&rt, number < 23 && place <= end, &text[..end]);
         }
     }
 }

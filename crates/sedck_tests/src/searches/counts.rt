@@ -72,14 +72,17 @@ static PLACES: [(usize, usize); 18] = [
     (256, 255),
 ];
 
+/// Words of one bit.
+static BITS: [u64; 5] = [1, 1 << 1, 1 << 31, 1 << 32, 1 << 63];
+
 #[test]
 fn counts_of_one_bit(rt: HostRuntime) {
     for (length, at) in &PLACES {
         let (length, at) = (*length, *at);
         assert!(rt; at < length && length <= 256);
-        for bit in [0, 1, 31, 32, 63] {
+        for bit in &BITS {
             let mut words = [0; 256];
-            words[at] = 1 << bit;
+            words[at] = *bit;
             have_bits(&rt, &words[..length], 1);
             have_bits(&rt, &words[..at], 0);
         }

@@ -11,6 +11,19 @@ fn add_both(rt: &impl Abort, ranks: &mut String, node: &str, first: u32, second:
     }
 }
 
+/// The same of the place and flag as numbers.
+fn add_node(
+    rt: &impl Abort,
+    alloc: Global,
+    ranks: &mut String,
+    node: (u32, u32),
+    pair: (u32, u32),
+) {
+    let (at, flag) = node;
+    let node = format!(in alloc; "{at} {flag}").expect(rt, "memory");
+    add_both(rt, ranks, &node, pair.0, pair.1);
+}
+
 /// The ranks of loops one behind the other, each of which ends, since it shortens the pattern space.
 fn ranks_of_loops(rt: &impl Abort, alloc: Global) -> String {
     let mut ranks = String::new(alloc);
@@ -18,15 +31,10 @@ fn ranks_of_loops(rt: &impl Abort, alloc: Global) -> String {
         // the nodes of a loop, and from its last one on those of the loops behind it and the end
         let (firsts, seconds) = (4 * (1300 - turn) + 1, 3 * (1300 - turn) + 1);
         let (label, place, test) = (3 * turn, 3 * turn + 1, 3 * turn + 2);
-        for (at, flag, first, second) in [
-            (label, 0, firsts, seconds),
-            (place, 0, firsts, seconds - 1),
-            (test, 0, firsts - 3, seconds - 2),
-            (test, 1, firsts, seconds + 1),
-        ] {
-            let node = format!(in alloc; "{at} {flag}").expect(rt, "memory");
-            add_both(rt, &mut ranks, &node, first, second);
-        }
+        add_node(rt, alloc, &mut ranks, (label, 0), (firsts, seconds));
+        add_node(rt, alloc, &mut ranks, (place, 0), (firsts, seconds - 1));
+        add_node(rt, alloc, &mut ranks, (test, 0), (firsts - 3, seconds - 2));
+        add_node(rt, alloc, &mut ranks, (test, 1), (firsts, seconds + 1));
     }
     add_both(rt, &mut ranks, "3900 0", 1, 1);
     ranks

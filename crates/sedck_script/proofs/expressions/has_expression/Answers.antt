@@ -1,6 +1,8 @@
-use Rattle.std.proofs.Common.{◌∙◌}
-use Rattle.sedck_script.proofs.ExpressionLemmas.{any_has_some}
+use Rattle.std.proofs.Common.{map, ◌∙◌}
+use Rattle.sedck_script.specs.Program.{expressions}
+use Rattle.sedck_script.specs.View.{command_of}
+use Rattle.sedck_script.proofs.ShortestLemmas.{some_has_least}
 use Rattle.sedck_script.proofs.expressions.has_expression.Goals as goal
 
 pub returns : goal.returns
-returns c = c.any_has_expression.ensures ∙ any_has_some c.args.commands.now
+returns c = c.is_some.ensures ∙ some_has_least (expressions (map command_of c.args.commands.now)) c.least_of.result c.least_of.ensures

@@ -1,0 +1,9 @@
+use Rattle.std.proofs.Common.{map, take}
+use Rattle.sedck_script.specs.Program.{expressions}
+use Rattle.sedck_script.specs.View.{command_of}
+use Rattle.sedck_script.specs.Private.ExpressionReading.{IsLeastOf}
+use Rattle.sedck_script.proofs.expressions.least_of.Given as goal
+
+-- what was found so far is the least of the commands so far
+abbrev pub invariant-loop-command : goal.invariant-loop-command
+invariant-loop-command l = IsLeastOf (expressions (map command_of (take l.command-index l.commands))) l.least
