@@ -131,10 +131,12 @@ fi
 # What sedck answers in the table of seds; links, and the version in the manual pages.
 (cd "$documents" && python3 bench/seds.py build/sedck --table) >&2 || fail "the table of docs/SEDS.md has other statuses of sedck"
 (cd "$documents" && python3 tests/links.py) >&2 || fail "a link leads nowhere, or a page or a version is missing"
+version=$(awk '/^## [0-9]/ { print $2; exit }' "$documents/CHANGELOG.md")
+[ "$(../build/sedck-explain --version)" = "sedck-explain $version" ] || fail "sedck-explain isn't of version $version, as CHANGELOG.md"
 # The Makefile, the hooks and the steps of the recipes.
 (cd "$documents" && python3 tests/recipes.py build/sedck build/sedck-explain) >&2 || fail "a recipe of docs/RECIPES.md doesn't do what it should"
 # The table of edges, what three pages say of faults, and the scripts of the pages on faults and loops.
-(cd "$documents" && python3 tests/faults.py build/sedck) >&2 || fail "the pages of faults and findings don't say the same"
+(cd "$documents" && python3 tests/faults.py build/sedck build/sedck-explain) >&2 || fail "the pages of faults and findings don't say the same"
 (cd "$documents" && python3 tests/edges.py build/sedck docs/DEFINITIONS.md) >&2 || fail "a row of the table in docs/DEFINITIONS.md isn't what sedck graph lists"
 (cd "$documents" && python3 tests/pages.py build/sedck docs/FAULTS.md docs/MENDING.md) >&2 || fail "a script of docs/FAULTS.md or docs/MENDING.md isn't answered as the page says"
 
