@@ -172,6 +172,10 @@ def step(scratch):
     pairs(scratch)
     scratch.write("check-sed-scripts.sh", block("A step of continuous integration", "sh"))
     holds(scratch.run(1, "sh", "check-sed-scripts.sh") == failures_shown(), "the failures aren't those that the page shows")
+    explaining = re.search(r"^In the loop above `(.*)` in place of `(.*)` shows", read("docs/RECIPES.md"), flags=re.M)
+    text = re.sub(r"sedck check .*?(?= 2>&1)", lambda _: explaining[1], scratch.text("check-sed-scripts.sh"))
+    says = scratch.run(1, "sh", "-c", text)
+    holds("endless-print.sed:3:1: error: " in says and "lost-label.sed:2:3: error: " in says, "the places aren't shown: " + says)
     for name in ("endless-print.sed", "lost-label.sed", "new.sed"):
         os.remove(os.path.join(scratch.folder, "scripts", name))
     holds(scratch.run(0, "sh", "check-sed-scripts.sh") == "", "something is printed")
