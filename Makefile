@@ -16,7 +16,7 @@ COPY = mkdir -p build && cp crates/sedck/out/sedck build/sedck.new && mv build/s
 
 # `rt run` proves and builds a program and the crates that it uses, where they have changed, and runs it once.
 build:
-	@echo "Proving and building sedck and sedck-explain (a first build proves everything: 20 to 40 processor minutes) ..."
+	@echo "Proving and building sedck and sedck-explain (a first build proves everything: 30 to 50 processor minutes) ..."
 	cd crates/sedck && $(RT) run -- check ../../examples/$(EXAMPLE).sed ../../examples/$(EXAMPLE).cert > /dev/null
 	cd crates/sedck_explain && $(RT) run -- --version > /dev/null
 	@$(COPY)
