@@ -4,7 +4,7 @@ use Rattle.std.specs.Prelude.{All, ◌==◌, if◌then◌else◌, codes}
 use Rattle.std.proofs.lemmas.Bool.{eqb-false}
 use Rattle.std.proofs.lemmas.List.{take_more}
 use Rattle.std.proofs.lemmas.List.Elements.{All-append, All-cons, All-nil}
-use Rattle.sedck_render.specs.Html.{html_byte, html_text, IsPlain}
+use Rattle.sedck_render.specs.Private.Html.{html_byte, html_text, IsPlain}
 
 html_text-append : (xs ys : List ℕ) → html_text (xs ++ ys) ≡ html_text xs ++ html_text ys
 html_text-append [] ys = refl

@@ -1,1 +1,1 @@
-pub mod Html
+pub mod Private

@@ -1,7 +1,7 @@
 //! Text in HTML, and links to lines.
 
 ghost use Rattle.std.specs.Prelude.{◌≡◌, ◌++◌, All, OnOk};
-ghost use Rattle.sedck_render.specs.Html.{html_byte, html_text, IsPlain};
+ghost use Rattle.sedck_render.specs.Private.Html.{html_byte, html_text, IsPlain};
 
 use crate::words::place_words;
 use sedck_findings::Position;

@@ -81,14 +81,9 @@ pub(crate) fn push_aligned(out: &mut String, words: &str, width: usize) -> Resul
     out.push_str(words)
 }
 
-/// Adds the shown name in quotation marks, with a backslash before those in it.
+/// Adds the name in double quotes. As a name is shown, none of its own stands alone.
 pub(crate) fn push_quoted(out: &mut String, shown: &str) -> Result<(), AllocError> {
     out.push('"')?;
-    for character in shown.chars() {
-        if character == '"' {
-            out.push('\\')?;
-        }
-        out.push(character)?;
-    }
+    out.push_str(shown)?;
     out.push('"')
 }

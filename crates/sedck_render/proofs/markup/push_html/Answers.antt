@@ -1,5 +1,5 @@
 use Rattle.std.proofs.Common.{◌++◌, ◌<◌, length, get_or, take, append_assoc, sym, ap, subst, ◌∙◌}
-use Rattle.sedck_render.specs.Html.{html_byte, html_text}
+use Rattle.sedck_render.specs.Private.Html.{html_byte, html_text}
 use Rattle.sedck_render.proofs.HtmlLemmas.{html_text-more, html_text-plain}
 use Rattle.sedck_render.proofs.markup.push_html.Goals as goal
 

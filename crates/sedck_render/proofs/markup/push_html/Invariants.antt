@@ -1,5 +1,5 @@
 use Rattle.std.proofs.Common.{◌≡◌, ◌++◌, take}
-use Rattle.sedck_render.specs.Html.{html_text}
+use Rattle.sedck_render.specs.Private.Html.{html_text}
 use Rattle.sedck_render.proofs.markup.push_html.Given as goal
 
 -- the bytes so far were added
