@@ -11,7 +11,7 @@ import re, sys
 from pathlib import Path
 
 TOP = Path(__file__).resolve().parent.parent
-CRATES = ["sedck_bre", "sedck_script", "sedck_flow", "sedck_cert", "sedck_search", "sedck_cli", "sedck_findings", "sedck_explain_cli"]
+CRATES = ["sedck_bre", "sedck_script", "sedck_flow", "sedck_cert", "sedck_search", "sedck_cli", "sedck_findings", "sedck_render", "sedck_explain_cli"]
 TOKEN = re.compile(r"[^\s(){}\[\];,λ→×∷\"]+")
 STRING = re.compile(r'"(?:[^"\\]|\\.)*"')
 
