@@ -1,31 +1,38 @@
-# sedck, on a machine that has the Rattle toolchain: `make demo` builds it and shows it, `make test` proves and tests everything.
+# sedck and sedck-explain, on a machine that has the Rattle toolchain: `make demo` builds them and shows them, `make test` proves and
+# tests everything.
 
 RT ?= rt
 PREFIX ?= /usr/local
 EXAMPLE = next-line-loop
+LOOP = join-all-loop
 
 .PHONY: all build demo test examples refusals streams bench seds install clean
 
 all: build
 
-# `rt run` proves and builds the program and the crates that it uses, where they have changed, and runs it once.
+# Puts both programs into build, each at once.
+COPY = mkdir -p build && cp crates/sedck/out/sedck build/sedck.new && mv build/sedck.new build/sedck && \
+	cp crates/sedck_explain/out/sedck_explain build/sedck-explain.new && mv build/sedck-explain.new build/sedck-explain
+
+# `rt run` proves and builds a program and the crates that it uses, where they have changed, and runs it once.
 build:
-	@echo "Proving and building sedck (a first build proves everything: 20 to 40 processor minutes) ..."
+	@echo "Proving and building sedck and sedck-explain (a first build proves everything: 30 to 50 processor minutes) ..."
 	cd crates/sedck && $(RT) run -- check ../../examples/$(EXAMPLE).sed ../../examples/$(EXAMPLE).cert > /dev/null
-	@mkdir -p build
-	@cp crates/sedck/out/sedck build/sedck.new && mv build/sedck.new build/sedck
-	@echo "The program is build/sedck."
+	cd crates/sedck_explain && $(RT) run -- --version > /dev/null
+	@$(COPY)
+	@echo "The programs are build/sedck and build/sedck-explain."
 
 demo: build
 	@echo "Checking examples/$(EXAMPLE).sed with its certificate:"
 	build/sedck check examples/$(EXAMPLE).sed examples/$(EXAMPLE).cert
+	@echo "Explaining examples/$(LOOP).sed, which has a loop:"
+	build/sedck-explain examples/$(LOOP).sed || [ $$? -eq 1 ]
 
 test: build/refuse.so
 	@echo "Running the gate: every proof from nothing, the must-fail edits, the tests and the program (60 to 110 processor minutes) ..."
 	$(RT) ci
-	@mkdir -p build
-	@cp crates/sedck/out/sedck build/sedck.new && mv build/sedck.new build/sedck
-	@echo "Checking the examples with the program that the gate built ..."
+	@$(COPY)
+	@echo "Checking the examples with the programs that the gate built ..."
 	sh examples/check.sh
 	@echo "Refusing each request for memory in turn, and writing reports to streams that accept nothing ..."
 	python3 tests/refusals.py crates/sedck_refusals/out/sedck_refusals build/sedck build/refuse.so
@@ -50,8 +57,9 @@ streams: build
 	sh tests/streams.sh build/sedck
 
 bench: build
-	@echo "Measuring build/sedck (bench/run.py prints the table of docs/BENCH.md) ..."
+	@echo "Measuring build/sedck and build/sedck-explain (bench/run.py prints the tables of docs/BENCH.md) ..."
 	python3 bench/run.py build/sedck
+	python3 bench/folder.py build/sedck build/sedck-explain
 
 # More arguments in SEDS, such as `--folder DIR`, `--scripts N` or `--sed NAME=COMMAND`.
 seds: build
@@ -59,10 +67,12 @@ seds: build
 	python3 bench/seds.py build/sedck $(SEDS)
 
 install: build
-	@echo "Installing sedck and its manual pages under $(PREFIX) ..."
+	@echo "Installing sedck, sedck-explain and their manual pages under $(PREFIX) ..."
 	install -d $(DESTDIR)$(PREFIX)/bin $(DESTDIR)$(PREFIX)/share/man/man1 $(DESTDIR)$(PREFIX)/share/man/man5
 	install -m 755 build/sedck $(DESTDIR)$(PREFIX)/bin/sedck
+	install -m 755 build/sedck-explain $(DESTDIR)$(PREFIX)/bin/sedck-explain
 	install -m 644 docs/sedck.1 $(DESTDIR)$(PREFIX)/share/man/man1/sedck.1
+	install -m 644 docs/sedck-explain.1 $(DESTDIR)$(PREFIX)/share/man/man1/sedck-explain.1
 	install -m 644 docs/sedck.5 $(DESTDIR)$(PREFIX)/share/man/man5/sedck.5
 
 clean:

@@ -1,16 +1,18 @@
 #!/bin/sh
 # Checks the examples by what README.md says: the answer in each row of its tables, each certificate as `rank`
 # writes it, what each command prints that the documents show, the answers in docs/FAULTS.md and docs/MENDING.md,
-# the tables of edges and faults, and docs/BELIEVED.md. Needs build/sedck and Python 3; blocks that need more, as a sed,
-# are left out where it is missing. Says what was left out and what failed, and ends with status 1 on any failure.
+# the tables of edges and faults, the picture, and docs/BELIEVED.md. Needs build/sedck, build/sedck-explain and Python 3; blocks that need
+# more, as a sed, are left out where it is missing. Says what was left out and what failed, and ends with status 1 on any failure.
 
 CDPATH= cd -- "$(dirname -- "$0")/.." || exit 1
-[ -x build/sedck ] || { echo "examples: build/sedck is missing; make build makes it" >&2; exit 1; }
+for program in sedck sedck-explain; do
+    [ -x build/$program ] || { echo "examples: build/$program is missing; make build makes it" >&2; exit 1; }
+done
 scratch=${TMPDIR:-/tmp}/sedck-examples.$$
 mkdir "$scratch" || exit 1
 trap 'rm -rf "$scratch"' EXIT
 trap 'exit 1' HUP INT PIPE TERM
-mkdir "$scratch/build" && cp build/sedck "$scratch/build" && cp -R examples "$scratch" || exit 1
+mkdir "$scratch/build" && cp build/sedck build/sedck-explain "$scratch/build" && cp -R examples "$scratch" || exit 1
 documents=$PWD
 cd "$scratch/examples" || exit 1
 failures=0
@@ -103,12 +105,12 @@ done
 
 # Those of the manual pages, in the folder of the examples as it was: a command that goes on in a line with `> ` is one line.
 cd examples || exit 1
-for document in docs/sedck.1 docs/sedck.5; do
+for document in docs/sedck.1 docs/sedck-explain.1 docs/sedck.5; do
     cp "$documents"/examples/* . || exit 1
-    awk '/^\.SH/ { page = ($2 == "EXAMPLES") }
+    awk -v quote="'" '/^\.SH/ { page = ($2 == "EXAMPLES") }
         /^\.\\" needs / { needs = substr($0, 10) }
         /^\.R[SE]/ { on = (page && $1 == ".RS"); if (on) print "needs" needs; needs = ""; next }
-        on { gsub(/\\-/, "-"); gsub(/\\e/, "\\"); print }' "$documents/$document" |
+        on { gsub(/\\-/, "-"); gsub(/\\\(ga/, "`"); gsub(/\\\(ha/, "^"); gsub(/\\\(aq/, quote); gsub(/\\e/, "\\"); print }' "$documents/$document" |
         awk '/^> / { text = text substr($0, 2); next } NR > 1 { print text } { text = $0 } END { print text }' > blocks
     blocks_that_run "$document" > shown
     run_shown "$document"
@@ -116,13 +118,25 @@ for document in docs/sedck.1 docs/sedck.5; do
     if has groff && groff -ww -man -T utf8 "$documents/$document" 2>&1 > groffed | grep . >&2; then fail "$document has warnings"; fi
 done
 
+# The picture of README.md has the boxes and edges of the graph; where they are drawn depends on the version of Graphviz.
+words_drawn() { grep -E '<(title|text)' | sed 's/ x="[^>]*>/>/' | sort; }
+if has dot; then
+    words_drawn < "$documents/docs/explain.svg" > shown
+    (cd .. && build/sedck-explain --format dot examples/join-all-loop.sed | dot -Tsvg) | words_drawn > drawn
+    diff shown drawn >&2 || fail "docs/explain.svg isn't the graph of join-all-loop.sed"
+else
+    echo "examples: docs/explain.svg isn't compared, since this machine lacks dot" >&2
+fi
+
 # What sedck answers in the table of seds; links, and the version in the manual pages.
 (cd "$documents" && python3 bench/seds.py build/sedck --table) >&2 || fail "the table of docs/SEDS.md has other statuses of sedck"
 (cd "$documents" && python3 tests/links.py) >&2 || fail "a link leads nowhere, or a page or a version is missing"
+version=$(awk '/^## [0-9]/ { print $2; exit }' "$documents/CHANGELOG.md")
+[ "$(../build/sedck-explain --version)" = "sedck-explain $version" ] || fail "sedck-explain isn't of version $version, as CHANGELOG.md"
 # The Makefile, the hooks and the steps of the recipes.
-(cd "$documents" && python3 tests/recipes.py build/sedck) >&2 || fail "a recipe of docs/RECIPES.md doesn't do what it should"
+(cd "$documents" && python3 tests/recipes.py build/sedck build/sedck-explain) >&2 || fail "a recipe of docs/RECIPES.md doesn't do what it should"
 # The table of edges, what three pages say of faults, and the scripts of the pages on faults and loops.
-(cd "$documents" && python3 tests/faults.py build/sedck) >&2 || fail "docs/FORMATS.md, docs/FAULTS.md and docs/sedck.5 don't say the same of faults"
+(cd "$documents" && python3 tests/faults.py build/sedck build/sedck-explain) >&2 || fail "the pages of faults and findings don't say the same"
 (cd "$documents" && python3 tests/edges.py build/sedck docs/DEFINITIONS.md) >&2 || fail "a row of the table in docs/DEFINITIONS.md isn't what sedck graph lists"
 (cd "$documents" && python3 tests/pages.py build/sedck docs/FAULTS.md docs/MENDING.md) >&2 || fail "a script of docs/FAULTS.md or docs/MENDING.md isn't answered as the page says"
 

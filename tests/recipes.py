@@ -1,5 +1,7 @@
 #!/usr/bin/env python3
-"""Runs the Makefile, the hooks and the steps of docs/RECIPES.md in scratch folders: python3 tests/recipes.py build/sedck
+"""Runs the Makefile, the hooks and the steps of docs/RECIPES.md in scratch folders:
+
+    python3 tests/recipes.py build/sedck build/sedck-explain
 
 Each recipe is taken from the page, or from .pre-commit-hooks.yaml, and must pass what it should pass and refuse what it should
 refuse. One that needs a program which this machine lacks is left out, which is said. The status is 0 only where none fails.
@@ -37,9 +39,9 @@ class Failure(Exception):
 
 
 class Scratch:
-    """A folder with a program sedck on the path."""
-    def __init__(self, sedck):
-        self.sedck = sedck
+    """A folder with the programs sedck and sedck-explain on the path."""
+    def __init__(self, sedck, explain):
+        self.sedck, self.explain = sedck, explain
 
     def __enter__(self):
         self.whole = tempfile.TemporaryDirectory(prefix="sedck-recipes-")
@@ -47,6 +49,7 @@ class Scratch:
         os.makedirs(os.path.join(self.whole.name, "bin"))
         os.makedirs(self.folder)
         shutil.copy(self.sedck, os.path.join(self.whole.name, "bin", "sedck"))
+        shutil.copy(self.explain, os.path.join(self.whole.name, "bin", "sedck-explain"))
         self.environment = {"PATH": os.path.join(self.whole.name, "bin") + ":" + os.environ["PATH"], "HOME": self.whole.name, "LC_ALL": "C",
                             "GIT_AUTHOR_NAME": "a", "GIT_AUTHOR_EMAIL": "a@b", "GIT_COMMITTER_NAME": "a", "GIT_COMMITTER_EMAIL": "a@b"}
         return self
@@ -112,6 +115,30 @@ def inline(scratch):
     holds(scratch.run(0, "sh", "-c", block("Scripts inside of other files", "sh")) == "a\nb\n", "other texts")
 
 
+def inline_make(scratch):
+    scratch.write("notes.txt", "  a  \nb\n")
+    text = block("Scripts inside of makefiles", "make")
+    scratch.write("Makefile", text)
+    scratch.run(0, "make", "notes")
+    holds(scratch.text("notes") == "a\nb\n", "other texts")
+    os.remove(os.path.join(scratch.folder, "notes"))
+    scratch.write("Makefile", text.replace("s/^  *//", ":a\ns/^ / /\nta"))
+    holds("loop-idle" in scratch.run(2, "make", "notes") and not scratch.has("notes"), "a script with a loop is run")
+
+
+def vim(scratch):
+    """The positions and levels that Vim takes from the lines, of a loop and of a certificate."""
+    scratch.copy("join-all-loop.sed")
+    scratch.write("vimrc", block("Vim and Emacs", "vim"))
+    scratch.write("bad.cert", "sedck 3\n")
+    lists = "call writefile(map(getqflist(), 'bufname(v:val.bufnr) . \":\" . v:val.lnum . \":\" . v:val.col . v:val.type . v:val.valid'), '%s')"
+    scratch.run(0, "vim", "-es", "-u", "NONE", "-N", "-c", "source vimrc", "-c", "edit join-all-loop.sed", "-c", "silent make!", "-c", lists % "loop",
+                "-c", "set makeprg+=\\ --cert\\ bad.cert", "-c", "silent make!", "-c", lists % "certificate", "-c", "qa!")
+    name = "join-all-loop.sed:"
+    holds(scratch.text("loop").split() == [name + end for end in ("1:1e1", "1:1n1", "2:3n1", "3:1n1", "1:1n1", "1:1n1")], "other places of the loop")
+    holds(scratch.text("certificate").split()[0] == name + "0:0e1", "the refused certificate isn't listed")
+
+
 def hook(scratch):
     scratch.run(0, "git", "init", "-q", ".")
     scratch.write(".git/hooks/pre-commit", block("A hook before each commit", "sh"), 0o755)
@@ -145,6 +172,10 @@ def step(scratch):
     pairs(scratch)
     scratch.write("check-sed-scripts.sh", block("A step of continuous integration", "sh"))
     holds(scratch.run(1, "sh", "check-sed-scripts.sh") == failures_shown(), "the failures aren't those that the page shows")
+    explaining = re.search(r"^In the loop above `(.*)` in place of `(.*)` shows", read("docs/RECIPES.md"), flags=re.M)
+    text = re.sub(r"sedck check .*?(?= 2>&1)", lambda _: explaining[1], scratch.text("check-sed-scripts.sh"))
+    says = scratch.run(1, "sh", "-c", text)
+    holds("endless-print.sed:3:1: error: " in says and "lost-label.sed:2:3: error: " in says, "the places aren't shown: " + says)
     for name in ("endless-print.sed", "lost-label.sed", "new.sed"):
         os.remove(os.path.join(scratch.folder, "scripts", name))
     holds(scratch.run(0, "sh", "check-sed-scripts.sh") == "", "something is printed")
@@ -211,17 +242,18 @@ def pre_commit(scratch):
     holds(all(hook["id"] in hooks for hook in used), "the page shows a hook that isn't there")
     pairs(scratch)
     names = sorted("scripts/" + name for name in os.listdir(os.path.join(scratch.folder, "scripts")))
-    for hook, failing, passing in (("sedck", ["endless-print", "lost-label", "new"], ["odd-lines"]), ("sedck-rank", ["endless-print", "lost-label"], ["new", "odd-lines"])):
+    loops = (["endless-print", "lost-label"], ["new", "odd-lines"])
+    for hook, status, failing, passing in (("sedck", 1, ["endless-print", "lost-label", "new"], ["odd-lines"]), ("sedck-rank", 1, *loops), ("sedck-explain", 2, *loops)):
         words, files = shlex.split(hooks[hook]["entry"]), hooks[hook]["files"]
         asked = [name for name in names if re.search(files, name)]
-        says = scratch.run(1, *words, *asked)
-        holds(all("scripts/%s.sed: " % name in says for name in failing), "%s doesn't name %s:\n%s" % (hook, failing, says))
-        holds(not any("scripts/%s.sed: " % name in says for name in passing), "%s names %s" % (hook, passing))
+        says = scratch.run(status, *words, *asked)
+        holds(all("scripts/%s.sed:" % name in says for name in failing), "%s doesn't name %s:\n%s" % (hook, failing, says))
+        holds(not any("scripts/%s.sed:" % name in says for name in passing), "%s names %s" % (hook, passing))
         scratch.run(0, *words, *[name for name in asked if name.split("/")[1].split(".")[0] in passing])
 
 
 # Each recipe with the programs that it needs.
-RECIPES = [(makefile, "make sed"), (in_place, "sed"), (inline, "sed"), (hook, "git sed"), (step, ""), (lists, ""),
+RECIPES = [(makefile, "make sed"), (in_place, "sed"), (inline, "sed"), (inline_make, "make sed"), (vim, "vim"), (hook, "git sed"), (step, ""), (lists, ""),
            (github, "yaml bash curl tar sha256sum"), (gitlab, "yaml bash curl tar sha256sum"), (pre_commit, "yaml")]
 
 
@@ -233,7 +265,7 @@ def main():
             print("recipes: %s is left out: this machine lacks %s" % (recipe.__name__, " ".join(lacks)))
             continue
         run += 1
-        with Scratch(os.path.abspath(sys.argv[1])) as scratch:
+        with Scratch(*map(os.path.abspath, sys.argv[1:3])) as scratch:
             try:
                 recipe(scratch)
             except Failure as failure:
