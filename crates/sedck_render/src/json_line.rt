@@ -42,7 +42,7 @@ struct JsonBound {
 /// A file that the script names.
 #[derive(Drop, Serialize)]
 struct JsonFile {
-    /// The name: a backslash is `\\`, and a byte that isn't printable ASCII is `\x` and two digits.
+    /// The name: a backslash is `\\`, a double quote `\"`, and a backquote or a byte that isn't printable ASCII is `\x` and two digits.
     name: String,
     /// The commands that name it, in order.
     positions: Vec<JsonPosition>,
