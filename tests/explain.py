@@ -10,6 +10,7 @@ import sys
 import tempfile
 
 import explain_refused
+import explain_texts
 from explain_tools import Tools
 
 
@@ -22,6 +23,7 @@ def main():
     with tempfile.TemporaryDirectory(prefix="sedck-explain-") as folder:
         tools = Tools(asked.explain, asked.sedck, folder)
         explain_refused.check(tools)
+        explain_texts.check(tools)
     for failure in tools.failures:
         print("FAILED: " + failure)
     print("sedck-explain: %d comparisons, %d failures" % (tools.compared, len(tools.failures)))
