@@ -9,6 +9,7 @@ import argparse
 import sys
 import tempfile
 
+import explain_json
 import explain_refused
 import explain_texts
 from explain_tools import Tools
@@ -24,6 +25,7 @@ def main():
         tools = Tools(asked.explain, asked.sedck, folder)
         explain_refused.check(tools)
         explain_texts.check(tools)
+        explain_json.check(tools, asked.scripts)
     for failure in tools.failures:
         print("FAILED: " + failure)
     print("sedck-explain: %d comparisons, %d failures" % (tools.compared, len(tools.failures)))
