@@ -10,8 +10,10 @@ import sys
 import tempfile
 
 import explain_json
+import explain_pages
 import explain_refused
 import explain_texts
+import explain_words
 from explain_tools import Tools
 
 
@@ -26,8 +28,12 @@ def main():
         explain_refused.check(tools)
         explain_texts.check(tools)
         explain_json.check(tools, asked.scripts)
+        explain_words.check(tools)
+        has_graphviz = explain_pages.check(tools)
     for failure in tools.failures:
         print("FAILED: " + failure)
+    if not has_graphviz:
+        print("Graphviz isn't installed: no graph was read by `dot`")
     print("sedck-explain: %d comparisons, %d failures" % (tools.compared, len(tools.failures)))
     return 1 if tools.failures else 0
 
