@@ -4,7 +4,7 @@ RT ?= rt
 PREFIX ?= /usr/local
 EXAMPLE = next-line-loop
 
-.PHONY: all build demo test examples refusals streams bench seds install clean
+.PHONY: all build demo test examples explain-tests refusals streams bench seds install clean
 
 all: build
 
@@ -27,13 +27,19 @@ test: build/refuse.so
 	@cp crates/sedck/out/sedck build/sedck.new && mv build/sedck.new build/sedck
 	@echo "Checking the examples with the program that the gate built ..."
 	sh examples/check.sh
+	@echo "Testing the reports of sedck-explain ..."
+	python3 tests/explain.py build/sedck-explain build/sedck
 	@echo "Refusing each request for memory in turn, and writing reports to streams that accept nothing ..."
 	python3 tests/refusals.py crates/sedck_refusals/out/sedck_refusals build/sedck build/refuse.so
-	sh tests/streams.sh build/sedck
+	sh tests/streams.sh build/sedck build/sedck-explain
 
 examples: build
 	@echo "Checking the examples: answers, certificates, and each command that the documents show ..."
 	sh examples/check.sh
+
+explain-tests: build
+	@echo "Testing the reports of sedck-explain ..."
+	python3 tests/explain.py build/sedck-explain build/sedck
 
 # `sedck_refusals` makes one call twice; the library refuses one request for memory of the program that it is loaded into.
 refusals: build build/refuse.so
@@ -47,7 +53,7 @@ build/refuse.so: tests/refuse.c
 
 streams: build
 	@echo "Writing reports to streams that accept nothing ..."
-	sh tests/streams.sh build/sedck
+	sh tests/streams.sh build/sedck build/sedck-explain
 
 bench: build
 	@echo "Measuring build/sedck (bench/run.py prints the table of docs/BENCH.md) ..."

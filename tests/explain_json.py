@@ -65,9 +65,9 @@ def positions_in(value):
 
 def name_bytes(shown):
     """The bytes of a name that is shown."""
-    parts = re.findall(r"\\\\|\\x[0-9a-f]{2}|[^\\]", shown)
+    parts = re.findall(r'\\\\|\\"|\\x[0-9a-f]{2}|[^\\"]', shown)
     assert "".join(parts) == shown
-    return b"".join(b"\\" if part == "\\\\" else bytes([int(part[2:], 16)]) if len(part) > 1 else part.encode() for part in parts)
+    return b"".join(bytes([int(part[2:], 16)]) if len(part) > 2 else part[-1:].encode() for part in parts)
 
 
 def listed_names(lines, word):

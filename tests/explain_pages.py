@@ -202,7 +202,7 @@ def hold_page(tools, name, script, report):
     tools.same("%s: title" % what, page.title, "%s: %s" % (name, report["answer"]))
     tools.same("%s: lines" % what, [[number, code or ""] for number, code in page.lines], lines_due(script, report))
     tables = tables_of(page)
-    files = [[row[0][1:-1].replace('\\"', '"'), row[1], row[2].split()] for row in tables["File"]]
+    files = [[row[0][1:-1], row[1], row[2].split()] for row in tables["File"]]
     tools.same("%s: files" % what, files, list(files_due(report)))
     jumps = [] if report["status"] == 2 else jumps_due(tools, name, report)
     tools.same("%s: jumps" % what, sorted(tables["From"]), jumps)

@@ -330,6 +330,7 @@ WARNED = [
     (b"r x}", "reads", "x}", [COMMAND]),
     (b"r x # two", "reads", "x # two", [COMMAND]),
     (b"w /../\xffa\\b; ", "writes", "/../\\xffa\\\\b; ", [ABSOLUTE, UPWARD, UNPRINTABLE, BLANK, COMMAND]),
+    (b'r a"`b;', "reads", 'a\\"\\x60b;', [COMMAND]),
     (b"r a..b", "reads", "a..b", []),
     (b"r .../x", "reads", ".../x", []),
     (b"w dev/x", "writes", "dev/x", []),

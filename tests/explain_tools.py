@@ -48,8 +48,10 @@ def shown_line(data):
 
 
 def shown_name(data):
-    """A name in printable ASCII, with a backslash before a backslash."""
-    return "".join("\\\\" if byte == 92 else chr(byte) if 32 <= byte < 127 else "\\x%02x" % byte for byte in data)
+    """A name in printable ASCII: a backslash before a backslash and a double quote; a backquote and other bytes as `\\x` and two
+    digits."""
+    special = {34: '\\"', 92: "\\\\", 96: "\\x60"}
+    return "".join(special.get(byte) or (chr(byte) if 32 <= byte < 127 else "\\x%02x" % byte) for byte in data)
 
 
 def place(data, offset):
