@@ -30,7 +30,7 @@ test: build/refuse.so
 	@echo "Testing the reports of sedck-explain ..."
 	python3 tests/explain.py build/sedck-explain build/sedck
 	@echo "Refusing each request for memory in turn, and writing reports to streams that accept nothing ..."
-	python3 tests/refusals.py crates/sedck_refusals/out/sedck_refusals build/sedck build/refuse.so
+	python3 tests/refusals.py crates/sedck_refusals/out/sedck_refusals build/sedck build/refuse.so build/sedck-explain
 	sh tests/streams.sh build/sedck build/sedck-explain
 
 examples: build
@@ -45,7 +45,7 @@ explain-tests: build
 refusals: build build/refuse.so
 	@echo "Refusing each request for memory in turn ..."
 	cd crates/sedck_refusals && $(RT) run -- files '#' > /dev/null
-	python3 tests/refusals.py crates/sedck_refusals/out/sedck_refusals build/sedck build/refuse.so
+	python3 tests/refusals.py crates/sedck_refusals/out/sedck_refusals build/sedck build/refuse.so build/sedck-explain
 
 build/refuse.so: tests/refuse.c
 	@mkdir -p build
