@@ -6,7 +6,7 @@ PREFIX ?= /usr/local
 EXAMPLE = next-line-loop
 LOOP = join-all-loop
 
-.PHONY: all build demo test examples refusals streams bench seds install clean
+.PHONY: all build demo test examples explain-tests refusals streams bench seds install clean
 
 all: build
 
@@ -34,19 +34,25 @@ test: build/refuse.so
 	@$(COPY)
 	@echo "Checking the examples with the programs that the gate built ..."
 	sh examples/check.sh
+	@echo "Testing the reports of sedck-explain ..."
+	python3 tests/explain.py build/sedck-explain build/sedck
 	@echo "Refusing each request for memory in turn, and writing reports to streams that accept nothing ..."
-	python3 tests/refusals.py crates/sedck_refusals/out/sedck_refusals build/sedck build/refuse.so
-	sh tests/streams.sh build/sedck
+	python3 tests/refusals.py crates/sedck_refusals/out/sedck_refusals build/sedck build/refuse.so build/sedck-explain
+	sh tests/streams.sh build/sedck build/sedck-explain
 
 examples: build
 	@echo "Checking the examples: answers, certificates, and each command that the documents show ..."
 	sh examples/check.sh
 
+explain-tests: build
+	@echo "Testing the reports of sedck-explain ..."
+	python3 tests/explain.py build/sedck-explain build/sedck
+
 # `sedck_refusals` makes one call twice; the library refuses one request for memory of the program that it is loaded into.
 refusals: build build/refuse.so
 	@echo "Refusing each request for memory in turn ..."
 	cd crates/sedck_refusals && $(RT) run -- files '#' > /dev/null
-	python3 tests/refusals.py crates/sedck_refusals/out/sedck_refusals build/sedck build/refuse.so
+	python3 tests/refusals.py crates/sedck_refusals/out/sedck_refusals build/sedck build/refuse.so build/sedck-explain
 
 build/refuse.so: tests/refuse.c
 	@mkdir -p build
@@ -54,7 +60,7 @@ build/refuse.so: tests/refuse.c
 
 streams: build
 	@echo "Writing reports to streams that accept nothing ..."
-	sh tests/streams.sh build/sedck
+	sh tests/streams.sh build/sedck build/sedck-explain
 
 bench: build
 	@echo "Measuring build/sedck and build/sedck-explain (bench/run.py prints the tables of docs/BENCH.md) ..."

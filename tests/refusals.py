@@ -1,11 +1,12 @@
 """Refuses each request for memory in turn: the first, the second, and so on, until a run meets no refusal.
 
-usage: refusals.py CALLS SEDCK SHIM
+usage: refusals.py CALLS SEDCK SHIM SEDCK_EXPLAIN
 
 CALLS is crates/sedck_refusals as built, which makes one call twice and prints both answers; SEDCK is the program itself; SHIM is
 refuse.c as built. The first answer of a call must be out of memory alone, by the name that the call has for it, or the expected
 one; the second, with ample memory, must be the expected one. SEDCK must end with status 4, its line for out of memory and no
-report, or as expected. What is expected was worked out by hand from the rules of docs/GRAMMAR.md and docs/FORMATS.md.
+report, or as expected. SEDCK_EXPLAIN must end with status 4, its line for out of memory and the reports of the first scripts, whole, or
+as without a refusal, with what tests/explain.py compares. What is expected of the others was worked out by hand from the rules of docs/GRAMMAR.md and docs/FORMATS.md.
 """
 
 import concurrent.futures
@@ -290,6 +291,40 @@ def programs():
     yield ["rank", "script"], {}, (4, "", "sedck: cannot read script\n")
 
 
+# ---- The program sedck-explain: its arguments after the format, the texts of its files, and its status
+
+EXPLAINED = [
+    (["script"], {"script": NEXT_LINE}, 0),
+    (["script"], {"script": PARTS}, 0),
+    (["script"], {"script": "r ../a b \nw /dev/tty;\nr /x\nw /x\n$!N\nG\n"}, 0),
+    (["script"], {"script": IDLE}, 1),
+    (["script"], {"script": GROWING}, 1),
+    (["script"], {"script": ":a\n$!N\ns/a/b/\nba\n"}, 1),
+    (["script"], {"script": "p\n\ts/a\\/b\\+/x/\n"}, 2),
+    (["script"], {"script": "p;" * 200 + "b z"}, 2),
+    (["--cert", "certificate", "script"], {"script": WRITING, "certificate": WRITING_OLD}, 0),
+    (["--cert", "certificate", "script"], {"script": IDLE, "certificate": UNNAMED_RANKS}, 1),
+    (["--cert", "certificate", "script"], {"script": READING, "certificate": UNNAMED_RANKS}, 1),
+    (["--cert", "certificate", "script"], {"script": "p", "certificate": certificate(1, {"0 0 0": "2 2", "0 0 1": "1 1", "1 0 0": "1 1"})}, 1),
+    (["--cert", "certificate", "script"], {"script": "p", "certificate": "sedck 2\ncommands x\n"}, 2),
+    (["--cert", "certificate", "script"], {"script": "p"}, 4),
+    (["script"], {}, 4),
+    ([], {}, 0),
+    (["--wrong"], {}, 3),
+    (["--help"], {}, 0),
+]
+SEVERAL = {"one": NEXT_LINE, "two": IDLE, "three": "b z"}
+
+
+def explained():
+    """Each run of the program: its words, its files, its status, and the scripts whose reports may stand alone."""
+    for form in ("text", "gcc", "json", "html", "dot"):
+        for words, files, status in EXPLAINED:
+            yield ["--format", form, *words], files, status, []
+        if form in ("text", "gcc", "json"):
+            yield ["--format", form, *SEVERAL], SEVERAL, 2, list(SEVERAL)
+
+
 # ---- The runs
 
 REFUSED = "refused\n"
@@ -367,14 +402,44 @@ def call_in_turn(program, shim, words, expected, names):
         request += 1
 
 
+def write_files(folder, files):
+    """Writes the files of a run."""
+    for name, text in files.items():
+        with open(os.path.join(folder, name), "w", encoding="ascii", newline="\n") as file:
+            file.write(text)
+
+
+def explain_in_turn(explain, shim, words, files, status, scripts):
+    """How many requests were refused in all, and how many of these were answered with out of memory."""
+    answered = 0
+    request = 1
+    with tempfile.TemporaryDirectory() as folder:
+        write_files(folder, files)
+        expected = run(explain, shim, words, 0, folder, subprocess.PIPE)
+        if expected[0] != status:
+            raise Wrong(f"status {expected[0]} with ample memory")
+        wholes = {""}
+        for count in range(1, len(scripts) + 1):
+            wholes.add(run(explain, shim, [*words[:2], *scripts[:count]], 0, folder, subprocess.PIPE)[1])
+        while True:
+            seen = run(explain, shim, words, request, folder, subprocess.PIPE)
+            is_refused = seen[2].startswith(REFUSED)
+            seen = (*seen[:2], seen[2].removeprefix(REFUSED))
+            if is_refused and seen[0] == 4 and seen[1] in wholes and seen[2] == "sedck-explain: out of memory\n":
+                answered += 1
+            elif seen != expected:
+                raise Wrong(f"request {request}: status {seen[0]}, report {seen[1]!r}, standard error {seen[2]!r}")
+            if not is_refused:
+                return request - 1, answered
+            request += 1
+
+
 def program_in_turn(program, shim, words, files, expected):
     """How many requests were refused in all, and how many of these were answered with out of memory."""
     answered = 0
     request = 0
     with tempfile.TemporaryDirectory() as folder:
-        for name, text in files.items():
-            with open(os.path.join(folder, name), "w", encoding="ascii", newline="\n") as file:
-                file.write(text)
+        write_files(folder, files)
         while True:
             status, report, errors = run(program, shim, words, request, folder, subprocess.PIPE)
             is_refused = errors.startswith(REFUSED)
@@ -389,7 +454,7 @@ def program_in_turn(program, shim, words, files, expected):
 
 
 def main():
-    made, sedck, shim = sys.argv[1:]
+    made, sedck, shim, explain = sys.argv[1:]
     jobs = []
     with concurrent.futures.ThreadPoolExecutor(os.cpu_count()) as pool:
         for words, expected, names in calls():
@@ -397,6 +462,9 @@ def main():
         for words, files, expected in programs():
             job = pool.submit(program_in_turn, sedck, shim, words, files, expected)
             jobs.append((f"sedck {words[0]}", files.get("script", ""), job))
+        for words, files, status, scripts in explained():
+            job = pool.submit(explain_in_turn, explain, shim, words, files, status, scripts)
+            jobs.append((f"sedck-explain {words[1]}", files.get("script", ""), job))
     total, failures, answered_by_kind = 0, 0, {}
     for kind, text, job in jobs:
         try:

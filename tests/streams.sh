@@ -1,16 +1,18 @@
 #!/bin/sh
 # Reports that can't be written: each command's output goes to a full device, and to a pipe that nobody reads, once with
 # SIGPIPE as the shell has it and once with SIGPIPE ignored. The program ignores SIGPIPE itself, so it must end with status 4
-# and its line on standard error each time, and must not be killed.
+# and its line on standard error each time, and must not be killed. The same of sedck-explain in each format.
 #
-# usage: streams.sh PROGRAM
+# usage: streams.sh SEDCK SEDCK_EXPLAIN
 set -u
 
 program=$1
+explain=$2
 folder=$(mktemp -d) || exit 1
 trap 'rm -rf "$folder"' EXIT
 printf ':a\nn\nb a\n' > "$folder/script"
 printf ':a\nb a\n' > "$folder/loop"
+printf 'b z' > "$folder/refused"
 "$program" rank "$folder/script" > "$folder/certificate" || exit 1
 failures=0
 
@@ -26,7 +28,7 @@ wanted() {
 full() {
     "$program" "$@" > /dev/full 2> "$folder/errors"
     echo $? > "$folder/status"
-    wanted 4 "sedck: cannot write" "$* to a full device"
+    wanted 4 "$name: cannot write" "$* to a full device"
 }
 
 # unread ARGUMENTS: standard output is a pipe whose reader has gone before the program starts
@@ -40,7 +42,7 @@ unread() {
     "$program" "$@" >&4 2> "$folder/errors"
     echo $? > "$folder/status"
     exec 4>&-
-    wanted 4 "sedck: cannot write" "$* to a pipe that nobody reads$note"
+    wanted 4 "$name: cannot write" "$* to a pipe that nobody reads$note"
 }
 
 each() {
@@ -53,21 +55,58 @@ each() {
     "$1" upgrade "$folder/certificate"
 }
 
-each full
+# Each report has at least a byte: that of an accepted script for editors is empty, and has nothing that can't be written.
+each_format() {
+    for format in text gcc json html dot; do
+        "$1" --format "$format" "$folder/loop"
+        "$1" --format "$format" "$folder/refused"
+        "$1" --format "$format" --cert "$folder/certificate" "$folder/loop"
+        [ "$format" = gcc ] || "$1" --format "$format" "$folder/script"
+    done
+    # No script follows after a failed write, so that there is one line on standard error.
+    "$1" "$folder/loop" "$folder/missing" "$folder/refused"
+    "$1" --help
+    "$1" --version
+}
+
+# both WAY: each command of both programs, with standard output of this kind
+both() {
+    name=sedck
+    each "$1"
+    sedck=$program
+    program=$explain
+    name=sedck-explain
+    each_format "$1"
+    program=$sedck
+}
+
+both full
 note=
-each unread
+both unread
 trap '' PIPE
 note=', SIGPIPE ignored'
-each unread
+both unread
 
 # Streams that can't fail: a file that accepts the report, and a full device to which a refusal writes nothing.
 "$program" files "$folder/script" > "$folder/report" 2> "$folder/errors"
 echo $? > "$folder/status"
 wanted 0 "" "files to a file"
-printf 'b z' > "$folder/refused"
 "$program" files "$folder/refused" > /dev/full 2> "$folder/errors"
 echo $? > "$folder/status"
 wanted 2 "sedck: script fault 15 unknown-label at 2" "a refused script to a full device"
+"$explain" --format gcc "$folder/script" > /dev/full 2> "$folder/errors"
+echo $? > "$folder/status"
+wanted 0 "" "nothing for editors to a full device"
+"$explain" --format html "$folder/missing" > /dev/full 2> "$folder/errors"
+echo $? > "$folder/status"
+wanted 4 "sedck-explain: cannot read $folder/missing" "a script that can't be read to a full device"
+"$explain" --wrong > /dev/full 2> "$folder/errors"
+echo $? > "$folder/status"
+head -n 1 "$folder/errors" | cut -c 1-15 > "$folder/begin"
+if [ "$(cat "$folder/status")" != 3 ] || [ "$(cat "$folder/begin")" != "sedck-explain: " ]; then
+    echo "FAILED: wrong words to a full device: status $(cat "$folder/status")"
+    failures=$((failures + 1))
+fi
 
 if [ "$failures" != 0 ]; then
     echo "$failures failures"

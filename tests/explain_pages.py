@@ -1,0 +1,296 @@
+"""Pages for browsers and graphs for Graphviz: whether they are well formed, and what they show of lines, jumps, ranks and nodes."""
+import concurrent.futures
+import html.parser
+import os
+import re
+import shutil
+import subprocess
+
+from explain_json import drawn_scripts, example_scripts, reports
+from explain_texts import REFUSED_CERTIFICATES, PRINT, WITH_CERTIFICATE
+from explain_tools import shown_line
+
+VOID = {"meta", "br", "hr", "link", "img", "input"}
+ADDRESSES = ("href", "src", "srcset", "action", "data", "poster", "xlink:href")
+SCRIPTS = [
+    b"",
+    b"\n",
+    b"p",
+    b"\n\n# <b>&\"' \\ \x1b[31m\xe9\r\np\n\n",
+    b"r <b>&\"'\nw </code><script>alert(1)</script>\n\ts/<b>&\"'/<\\&>&/\n",
+    b"r a`b`c;\nw x\\\n",
+    b":a\nb a\n# <b>&\"'\n",
+    b":b<\n",
+    b"s/<b>\\+/&/\n",
+    b"b <b>&\"'\n",
+    b"{p\n",
+    b"p\n1,",
+    b"p\n1\n",
+    b":a\n$!N\nba\n",
+    b":a;s/x/xx/;ta\n",
+    b":a\n" + b"b a\n" * 3 + b"t a\nb\n" * 20,
+    b"".join(b":%d\nt %d\n" % (at, (at * 7) % 40) for at in range(40)) + b"n\n",
+    b"p;p;w /a \np\n",
+    b"k" + b"x" * 3000 + b"\n",
+    b"$s/\"\\\\&/x\\\\\"/\nG\n",
+]
+
+
+class Page(html.parser.HTMLParser):
+    """A page: its elements as they are nested, its links, and what its parts say."""
+
+    def __init__(self, text):
+        super().__init__(convert_charrefs=True)
+        self.open, self.faults, self.counts, self.ids, self.links = [], [], {}, [], []
+        self.lines, self.rows, self.cell, self.title = [], [], None, ""
+        self.feed(text)
+        self.close()
+        self.faults += ["open: %s" % name for name, _ in self.open]
+
+    def handle_starttag(self, tag, attrs):
+        values = dict(attrs)
+        self.counts[tag] = self.counts.get(tag, 0) + 1
+        self.ids += [values["id"]] if "id" in values else []
+        self.links += [(tag, name, values[name]) for name in ADDRESSES if name in values]
+        self.faults += ["handler: %s" % name for name in values if name.startswith("on")]
+        if len(values) < len(attrs):
+            self.faults.append("an attribute twice: %s" % tag)
+        if tag == "li" and self.parent() == ("ol", "script"):
+            self.lines.append(["", None])
+        if tag == "code" and self.parent()[0] == "li" and len(self.open) > 1 and self.open[-2] == ("ol", "script"):
+            self.faults += ["two codes"] if self.lines[-1][1] is not None else []
+            self.lines[-1][1] = ""
+        if tag == "tr":
+            self.rows.append([])
+        if tag in ("td", "th"):
+            self.rows[-1].append("")
+        if tag not in VOID:
+            self.open.append((tag, values.get("class", "").split(" ")[0]))
+
+    def handle_startendtag(self, tag, attrs):
+        self.handle_starttag(tag, attrs)
+        self.handle_endtag(tag)
+
+    def handle_endtag(self, tag):
+        if not self.open or self.open.pop()[0] != tag:
+            self.faults.append("end of %s" % tag)
+
+    def parent(self):
+        return self.open[-1] if self.open else ("", "")
+
+    def handle_data(self, data):
+        names = [name for name, _ in self.open]
+        if self.open[-2:-1] and self.open[-1] == ("a", "number"):
+            self.lines[-1][0] += data
+        if ("ol", "script") in self.open and names[-1] in ("code", "mark"):
+            inside = self.open[self.open.index(("ol", "script")) + 1:]
+            if [name for name, _ in inside] in (["li", "code"], ["li", "code", "mark"]):
+                self.lines[-1][1] += data
+        if "td" in names or "th" in names:
+            self.rows[-1][-1] += data
+        if names[-1:] == ["title"]:
+            self.title += data
+
+
+def lines_due(script, report):
+    """Each line with its number, and the script's end. What is found at a line's end marks a blank there. A last line that is
+    empty, behind a newline, is none."""
+    lines = (script[:-1] if script.endswith(b"\n") else script).split(b"\n")
+    ends = [finding["position"] and (finding["position"]["line"], finding["position"]["column"]) for finding in report["findings"]]
+    return [[str(number), shown_line(line) + " " * ((number, len(line) + 1) in ends)] for number, line in enumerate(lines, 1)] + [["end", ""]]
+
+
+def graph_of(tools, name):
+    """The edges of `sedck graph` that leave the nodes that a run may reach, and these nodes."""
+    lines = tools.sedck("graph", name)[1].decode().split("\n")[1:-1]
+    leaving = {}
+    for line in lines:
+        words = line.split()
+        leaving.setdefault(tuple(map(int, words[:3])), []).append((tuple(map(int, words[3:6])), words[6]))
+    work, reached = [(0, 0, 0), (0, 0, 1)], {(0, 0, 0), (0, 0, 1)}
+    while work:
+        for node, _ in leaving.get(work.pop(), []):
+            if node not in reached:
+                reached.add(node)
+                work.append(node)
+    return reached, sorted((node, to, kind) for node in reached for to, kind in leaving.get(node, []))
+
+
+def loop_of(tools, name):
+    """The edges of the loop of `sedck rank`; none for any other answer."""
+    status, text, _ = tools.sedck("rank", name)
+    if status != 1:
+        return set()
+    rows = [line.split() for line in text.decode().split("\n")[1:-1]]
+    nodes = [tuple(map(int, row[:3])) for row in rows]
+    return set(zip(nodes, nodes[1:], (row[3] for row in rows[:-1])))
+
+
+def index(node):
+    """The number of a node in their order."""
+    at, flag, last = node
+    return 4 * at + 2 * flag + last
+
+
+def place_words(report, command):
+    """The place of a command, or the script's end."""
+    if command == len(report["commands"]):
+        return "end"
+    return "%(line)d:%(column)d" % report["commands"][command]
+
+
+def jumps_due(tools, name, report):
+    """The rows of jumps: each pair of commands and kind once, but for steps to the next command."""
+    _, edges = graph_of(tools, name)
+    loop = loop_of(tools, name)
+    jumps = {}
+    for node, to, kind in edges:
+        if to[0] != node[0] + 1:
+            key = (node[0], to[0], ["consume", "shorten", "keep", "grow"].index(kind))
+            jumps[key] = jumps.get(key, False) or (node, to, kind) in loop
+    kinds = ["consume", "shorten", "keep", "grow"]
+    return sorted([place_words(report, at), place_words(report, to), kinds[kind] + ", part of the loop" * bold] for (at, to, kind), bold in jumps.items())
+
+
+def ranks_due(tools, name, report):
+    """The rows of ranks: a row for each place with its four nodes, as `sedck rank` has them."""
+    status, text, _ = tools.sedck("rank", name)
+    if status:
+        return []
+    nodes = [line.split(" ", 3)[3] for line in text.decode().split("\n")[2:2 + 4 * (len(report["commands"]) + 1)]]
+    return [[place_words(report, at)] + nodes[4 * at:4 * at + 4] for at in range(len(report["commands"]) + 1)]
+
+
+def well_formed(tools, what, text):
+    """The page, after a look at its form: tags that balance, no script, and no address elsewhere."""
+    tools.holds("%s: ASCII" % what, all(byte == 10 or 32 <= byte < 127 for byte in text))
+    page = Page(text.decode())
+    tools.same("%s: faults" % what, page.faults, [])
+    counts = [page.counts.get(tag, 0) for tag in ("html", "head", "body", "main", "h1", "title", "script", "b")]
+    tools.same("%s: counts" % what, counts, [1, 1, 1, 1, 1, 1, 0, 0])
+    tools.same("%s: ids" % what, len(set(page.ids)), len(page.ids))
+    elsewhere = [link for link in page.links if link[:2] != ("a", "href") or link[2][:1] != "#" or link[2][1:] not in page.ids]
+    tools.same("%s: links" % what, elsewhere, [])
+    tools.holds("%s: sources" % what, not re.search(rb"https?:|url\(|@import", text))
+    return page
+
+
+def tables_of(page):
+    """The rows of each table, without the head, by the first word of the head."""
+    tables = {"File": [], "From": [], "Command": []}
+    for row in page.rows:
+        if row[0] in tables:
+            table = tables[row[0]]
+        else:
+            table.append(row)
+    return tables
+
+
+def files_due(report):
+    """The rows of files: the name, its use, and the places of the commands."""
+    for use, key in (("read", "reads"), ("written", "writes")):
+        for file in report[key]:
+            yield [file["name"], use, ["%(line)d:%(column)d" % one for one in file["positions"]]]
+
+
+def hold_page(tools, name, script, report):
+    """A page: its form, title, lines, files, jumps and ranks."""
+    status, text, errors = tools.explain("--format", "html", name)
+    what = "html %r" % script[:60]
+    tools.same(what, (status, errors), (report["status"], b""))
+    page = well_formed(tools, what, text)
+    tools.same("%s: title" % what, page.title, "%s: %s" % (name, report["answer"]))
+    tools.same("%s: lines" % what, [[number, code or ""] for number, code in page.lines], lines_due(script, report))
+    tables = tables_of(page)
+    files = [[row[0][1:-1], row[1], row[2].split()] for row in tables["File"]]
+    tools.same("%s: files" % what, files, list(files_due(report)))
+    jumps = [] if report["status"] == 2 else jumps_due(tools, name, report)
+    tools.same("%s: jumps" % what, sorted(tables["From"]), jumps)
+    tools.same("%s: ranks" % what, tables["Command"], ranks_due(tools, name, report))
+
+
+def check_certificates(tools):
+    """The form of pages with certificates."""
+    cases = [(script, text) for script, text, *_ in WITH_CERTIFICATE] + [(PRINT, text) for text, *_ in REFUSED_CERTIFICATES]
+    for script, text in cases:
+        tools.write("s.sed", script)
+        tools.write("s.cert", text.encode())
+        status, _, _ = tools.sedck("check", "s.sed", "s.cert")
+        for form in ("html", "dot"):
+            seen, report, errors = tools.explain("--format", form, "--cert", "s.cert", "s.sed")
+            tools.same("%s %r" % (form, text), (seen, errors), (status, b""))
+            if form == "html":
+                well_formed(tools, "html %r" % text, report)
+
+
+NODE = re.compile(r'  n([0-9]+) \[label="((?:[^"\\]|\\.)*)"(, shape=oval)?\];')
+EDGE = re.compile(r'  n([0-9]+) -> n([0-9]+) \[label="(consume|shorten|keep|grow)", color="[#a-f0-9:whit]*", style=[a-z]+(, penwidth=4)?\];')
+
+
+def unescaped(label):
+    """What a label means."""
+    return re.sub(r"\\(.)", r"\1", label).replace("&amp;", "&")
+
+
+def hold_form(tools, what, text, dot):
+    """The form of a graph: in ASCII, with quotes and braces that balance; Graphviz reads it where it is there."""
+    tools.holds("%s: ASCII" % what, all(byte == 10 or 32 <= byte < 127 for byte in text))
+    plain = re.sub(r'"(?:[^"\\]|\\.)*"', "", text.decode())
+    tools.same("%s: braces and quotes" % what, [plain.count(sign) for sign in '{}\\"'], [1, 1, 0, 0])
+    if dot:
+        done = subprocess.run([dot, "-Tdot"], input=text, capture_output=True, timeout=60, check=False)
+        tools.same("%s: Graphviz" % what, (done.returncode, done.stderr), (0, b""))
+
+
+def hold_nodes(tools, what, script, report, nodes):
+    """The words of each node: a place, a `[t]` for the flag and a `[$]` for the last line, and a part of the command's line."""
+    lines = script.split(b"\n")
+    for match in nodes:
+        at, flag, last = int(match[1]) // 4, int(match[1]) // 2 % 2, int(match[1]) % 2
+        head, _, source = match[2].partition("\\n")
+        is_end = at == len(report["commands"])
+        tools.same("%s: n%s" % (what, match[1]), head, place_words(report, at) + " [t]" * flag + " [$]" * last)
+        tools.same("%s: shape of n%s" % (what, match[1]), bool(match[3]), is_end)
+        line = "" if is_end else shown_line(lines[report["commands"][at]["line"] - 1])
+        shown = unescaped(source).removeprefix("...").removesuffix("...")
+        tools.holds("%s: line of n%s" % (what, match[1]), shown in line and bool(shown) != is_end)
+
+
+def hold_graph(tools, name, script, report, dot):
+    """A graph: just the nodes and edges that a run may reach, each once, and a bold loop."""
+    status, text, errors = tools.explain("--format", "dot", name)
+    what = "dot %r" % script[:60]
+    tools.same(what, (status, errors), (report["status"], b""))
+    hold_form(tools, what, text, dot)
+    lines = text.decode().split("\n")
+    tools.holds("%s: title" % what, '[label="%s: %s", ' % (name, report["answer"]) in lines[1])
+    if report["status"] == 2:
+        label = re.fullmatch(r'  refused \[label="(.*)"\];', lines[4])
+        tools.same("%s: refusal" % what, unescaped(label[1]), "%(message)s [%(code)s]" % report["findings"][0])
+        tools.same("%s: rest" % what, lines[5:], ["}", ""])
+        return
+    reached, edges = graph_of(tools, name)
+    loop = loop_of(tools, name)
+    nodes = [match for match in map(NODE.fullmatch, lines) if match]
+    seen = [match for match in map(EDGE.fullmatch, lines) if match]
+    due = sorted((index(at), index(to), kind, (at, to, kind) in loop) for at, to, kind in edges)
+    tools.same("%s: nodes" % what, [int(match[1]) for match in nodes], sorted(map(index, reached)))
+    tools.same("%s: edges" % what, sorted((int(one[1]), int(one[2]), one[3], bool(one[4])) for one in seen), due)
+    tools.same("%s: starts" % what, lines[4:7], ["  start [shape=point];", "  start -> n0;", "  start -> n1;"])
+    tools.same("%s: all lines" % what, len(lines), 4 + 3 + len(nodes) + len(seen) + 2)
+    hold_nodes(tools, what, script, report, nodes)
+
+
+def check(tools):
+    """Compares pages and graphs of chosen scripts, of the examples and of drawn ones. Answers whether Graphviz read the graphs."""
+    dot = shutil.which("dot")
+    scripts = SCRIPTS + list(example_scripts()) + drawn_scripts(60)
+    names = [tools.write("page-%d.sed" % at, script) for at, script in enumerate(scripts)]
+    found = reports(tools, names)
+    with concurrent.futures.ThreadPoolExecutor(os.cpu_count()) as pool:
+        jobs = [pool.submit(hold_page, tools, *case) for case in zip(names, scripts, found)]
+        jobs += [pool.submit(hold_graph, tools, *case, dot) for case in zip(names, scripts, found)]
+        for job in jobs:
+            job.result()
+    check_certificates(tools)
+    return dot is not None

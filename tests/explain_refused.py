@@ -1,0 +1,167 @@
+"""Scripts that are refused: the place, the code, the message and the hint of each, and the reports in text and for editors.
+
+The places are those that docs/FORMATS.md has for each fault, counted by hand, as lines and columns.
+"""
+from explain_tools import line_of, shown_line
+
+NO_VERB = "no verb of POSIX sed stands here"
+NO_ADDRESS = "no address of POSIX sed stands here"
+NO_FLAG = "no flag of POSIX sed stands here, or it is there twice"
+NO_PART = "the replacement has an escape that POSIX sed doesn't know, or a group that the expression lacks"
+NO_ESCAPE = "in a basic regular expression of POSIX this escape has no meaning that all seds share"
+MISSING = "a delimiter is missing, or can't be one"
+LISTS = "the lists of `y` differ in length, or have an escape other than `\\\\`, `\\n` and the delimiter's"
+INTERVAL = "an interval is \\{m\\}, \\{m,\\} or \\{m,n\\} with numbers of at most 255"
+
+SPLIT = "split the script into several that run one after another"
+RETURN = "the line ends in a carriage return: save the file with newlines alone"
+MARK = "the file begins with a byte order mark: save it without"
+ANY_ADDRESS = "an address is a line number, `$`, or an expression between delimiters"
+ANY_FLAG = "the flags are `g`, `p`, a number, and `w` with a file name, each once"
+SKIPPED = "for `0~3d` write `n`, `n` and `d`; for `1~2d` write `$!N`, `s/.*\\n//`, `t` and `d`"
+GNU = "this is an extension of GNU sed: write it with the verbs of POSIX"
+BYTE = "write the byte itself; `\\n` and `\\t` are the only ones with names"
+WORD = "match what stands beside the word: a blank, `^` or `$`, with a command for each"
+ENDS = "for the ends of the pattern space write `^` and `$`"
+OTHER_BYTE = "write the byte without its backslash, or in a list, as in `[%]`"
+BRACKET = "a delimiter in a bracket list ends the expression: write `[\\/]`, or take another delimiter, as in `s,[/],x,` or `\\,[/],p`"
+DASH = "put a `-` first or last in its list, and a class inside of it, as in `[[:digit:]]`"
+LONGER = "a longer repetition is written as two, as in `a\\{255\\}a\\{45\\}`"
+GROUP = "a group is `\\(` and `\\)`; the bytes alone are `(` and `)`"
+EACH = "write a command for each: `/a/d` and `/b/d` for `/a\\|b/d`; `s/a/x/`, `t done`, `s/b/x/`, `:done` for `s/a\\|b/x/`"
+AGAIN = "one sign of repetition is enough; a group may be repeated again, as in `\\(a*\\)\\{2\\}`"
+DELIMITED = "end each part with the delimiter, in the same line: `s/a/b/`; it is no newline and no backslash"
+LETTERS = "for whole lines write `y/abc../ABC../` with the whole alphabet"
+NAME = "the name follows after a blank, and goes on to the end of the line"
+LABEL = "a label is one or more letters, digits, `_`, `.` or `-`"
+SEPARATED = "end each command by a newline or a `;`"
+
+# the script; the line and the column; the code, the message, and the hint where there is one
+REFUSED = [
+    (b"p\n" * 524288 + b"p", 524289, 1, "too-long", "the script is longer than 1,048,576 bytes", SPLIT),
+    (b"p\n\tp\0p\n", 2, 3, "nul-byte", "a script can't hold a byte 0", None),
+    (b"1~2p\n", 1, 2, "unknown-command", NO_VERB, SKIPPED),
+    (b"p\nT end\n", 2, 1, "unknown-command", NO_VERB, "for `T end` write `t go`, `b end` and `:go` on lines of their own"),
+    (b"$!z\n", 1, 3, "unknown-command", NO_VERB, "for `z` write `s/.*//`"),
+    (b"/x/Q", 1, 4, "unknown-command", NO_VERB, "for `/x/Q` write `/x/,$d`"),
+    (b"1e", 1, 2, "unknown-command", NO_VERB, "no command of POSIX sed runs another program: run it outside of the script"),
+    (b"F\n", 1, 1, "unknown-command", NO_VERB, GNU),
+    (b"p;R x\n", 1, 3, "unknown-command", NO_VERB, GNU),
+    (b"p;v\n", 1, 3, "unknown-command", NO_VERB, GNU),
+    (b"W x\n", 1, 1, "unknown-command", NO_VERB, GNU),
+    (b"k\n", 1, 1, "unknown-command", NO_VERB, None),
+    (b"p;1", 1, 4, "unknown-command", NO_VERB, None),
+    (b"\xef\xbb\xbfp\n", 1, 1, "unknown-command", NO_VERB, MARK),
+    (b"1p\n/x/\r\n", 2, 4, "unknown-command", NO_VERB, RETURN),
+    (b"1,+2p\n", 1, 3, "bad-address", NO_ADDRESS, "for `/x/,+2d` write `/x/{`, `$!N`, `$!N`, `d` and `}` on lines of their own"),
+    (b"/a/,~4p\n", 1, 5, "bad-address", NO_ADDRESS, "for `addr,~n` count the lines with `n` or `N`"),
+    (b"p\n0~3d\n", 2, 1, "bad-address", NO_ADDRESS, "for `0~3d` write `n`, `n` and `d`"),
+    (b"0,/x/s/x/y/\n", 1, 1, "bad-address", NO_ADDRESS,
+     "for `0,/x/s/x/y/` write `/x/{`, `s//y/`, `:rest`, `n`, `b rest` and `}` on lines of their own"),
+    (b"0p\n", 1, 1, "bad-address", NO_ADDRESS, "lines are counted from 1"),
+    (b"1,p\n", 1, 3, "bad-address", NO_ADDRESS, ANY_ADDRESS),
+    (b"1,2q\n", 1, 4, "too-many-addresses", "the verb takes fewer addresses, or no `!`", None),
+    (b"s/a/b", 1, 1, "unterminated", MISSING, DELIMITED),
+    (b"p\n /a\n", 2, 2, "unterminated", MISSING, DELIMITED),
+    (b"s/a/\\1/\n", 1, 5, "bad-replacement", NO_PART, "the expression has fewer groups: write `\\(` and `\\)` around what is meant"),
+    (b"s/a/\\0/\n", 1, 5, "bad-replacement", NO_PART, "for `\\0` write `&`"),
+    (b"s/a/x\\U&/\n", 1, 6, "bad-replacement", NO_PART, LETTERS),
+    (b"s/a/\\l&/\n", 1, 5, "bad-replacement", NO_PART, LETTERS),
+    (b"s/a/\\x41/\n", 1, 5, "bad-replacement", NO_PART, BYTE),
+    (b"s/a/\\q/\n", 1, 5, "bad-replacement", NO_PART, "write the byte without its backslash"),
+    (b"s/a/b/I\n", 1, 7, "bad-flag", NO_FLAG, "for `s/hello/x/I` write `s/[hH][eE][lL][lL][oO]/x/`"),
+    (b"s/a/b/e\n", 1, 7, "bad-flag", NO_FLAG, "no flag of POSIX sed runs another program: run it outside of the script"),
+    (b"s/a/b/gM\n", 1, 8, "bad-flag", NO_FLAG, "`^` and `$` are the ends of the pattern space alone: match `\\n` itself"),
+    (b"s/a/b/0\n", 1, 7, "bad-flag", NO_FLAG, "matches are counted from 1"),
+    (b"s/a/b/gg\n", 1, 8, "bad-flag", NO_FLAG, ANY_FLAG),
+    (b"s/a/b/\r\n", 1, 7, "bad-flag", NO_FLAG, RETURN),
+    (b"y/a/bc/\n", 1, 1, "bad-transliteration", LISTS, "give both lists equally many bytes"),
+    (b"1a", 1, 2, "missing-text", "the command has no text", "write `a\\` and the text on the next line"),
+    (b"s/a/b/w\n", 1, 7, "missing-name", "the file name is missing", NAME),
+    (b"p;r\n", 1, 3, "missing-name", "the file name is missing", NAME),
+    (b":\n", 1, 2, "bad-label", "a label is missing, or holds a byte that no label may hold", LABEL),
+    (b":a\nb a,c\n", 2, 4, "bad-label", "a label is missing, or holds a byte that no label may hold", LABEL),
+    (b":a;:a\n", 1, 5, "duplicate-label", "this label is defined already", None),
+    (b"p\nb z\n", 2, 3, "unknown-label", "no `:` defines this label", None),
+    (b"p;}\n", 1, 3, "unopened-block", "this `}` closes no block", None),
+    (b"{p\n1{p\np}\n", 1, 1, "unclosed-block", "this block isn't closed",
+     "write its `}` on a line of its own; after a file name or a text it is a part of these"),
+    (b"{" * 65, 1, 65, "too-deep", "this block is inside of 64 others, which is the most", None),
+    (b"p\n" * 4096, 4096, 1, "too-many-commands", "this is the 4,096th command, one more than a script may have", SPLIT),
+    (b"p\np p\n", 2, 3, "extra-text", "this may not follow a command", SEPARATED),
+    (b"p\r\n", 1, 2, "extra-text", "this may not follow a command", RETURN),
+    (b"s//x/\n", 1, 3, "no-previous-expression", "an empty expression stands for another one, and the script has none", "write the expression"),
+    (b"s|a\\|b|c|\n", 1, 4, "escaped-delimiter", "this delimiter can't be escaped: seds differ in what it means then",
+     "take another delimiter, one that the expression doesn't have"),
+    # expressions; the places behind escaped delimiters count these as the two bytes that they are in the script
+    (b"p\n\ts/a\\+/b/\n", 2, 5, "bad-escape", NO_ESCAPE, "for `x\\+` write `x\\{1,\\}` or `xx*`"),
+    (b"s/a\\/b\\/c\\+d/x/\n", 1, 10, "bad-escape", NO_ESCAPE, "for `x\\+` write `x\\{1,\\}` or `xx*`"),
+    (b"s/a\\\\\\/b\\?/x/\n", 1, 9, "bad-escape", NO_ESCAPE, "for `x\\?` write `x\\{0,1\\}`"),
+    (b"\\,[\\,]\\,\\?,p\n", 1, 9, "bad-escape", NO_ESCAPE, "for `x\\?` write `x\\{0,1\\}`"),
+    (b"/\\//,/\\/\\|/p\n", 1, 9, "bad-escape", NO_ESCAPE, EACH),
+    (b"/\\s/p\n", 1, 2, "bad-escape", NO_ESCAPE, "for `\\s` write `[[:space:]]`"),
+    (b"/\\S/p\n", 1, 2, "bad-escape", NO_ESCAPE, "for `\\S` write `[^[:space:]]`"),
+    (b"/\\w/p\n", 1, 2, "bad-escape", NO_ESCAPE, "for `\\w` write `[[:alnum:]_]`"),
+    (b"/\\W/p\n", 1, 2, "bad-escape", NO_ESCAPE, "for `\\W` write `[^[:alnum:]_]`"),
+    (b"/\\d/p\n", 1, 2, "bad-escape", NO_ESCAPE, "for a digit write `[[:digit:]]`"),
+    (b"/a\\b/p\n", 1, 3, "bad-escape", NO_ESCAPE, WORD),
+    (b"/\\<a/p\n", 1, 2, "bad-escape", NO_ESCAPE, WORD),
+    (b"/\\`a/p\n", 1, 2, "bad-escape", NO_ESCAPE, ENDS),
+    (b"/a\\'/p\n", 1, 3, "bad-escape", NO_ESCAPE, ENDS),
+    (b"/\\x41/p\n", 1, 2, "bad-escape", NO_ESCAPE, BYTE),
+    (b"/\\q/p\n", 1, 2, "bad-escape", NO_ESCAPE, OTHER_BYTE),
+    (b"s/[/]/x/\n", 1, 3, "unclosed-bracket", "the bracket list isn't closed before the delimiter", BRACKET),
+    (b"s/[z-a]/x/\n", 1, 4, "bad-bracket", "the bracket list has a range, a class or a hyphen that is none", DASH),
+    (b"s/[^[:cntrl:]\x01-\xff]/x/\n", 1, 3, "empty-set", "the bracket list matches nothing", None),
+    (b"s/\\(a/x/\n", 1, 3, "unclosed-group", "this group isn't closed", GROUP),
+    (b"s/a\\)/x/\n", 1, 4, "unopened-group", "this closes no group", GROUP),
+    (b"s/a\\{2/x/\n", 1, 4, "bad-interval", INTERVAL, LONGER),
+    (b"s/a\\{256\\}/x/\n", 1, 4, "bad-interval", INTERVAL, LONGER),
+    (b"s/\\{2\\}/x/\n", 1, 3, "nothing-to-repeat", "nothing stands before this interval",
+     "for the two bytes write `[{]`, or put before it what is to be repeated"),
+    (b"s/a*\\{2\\}/x/\n", 1, 5, "double-repeat", "what is repeated already can't be repeated again", AGAIN),
+    (b"s/\\1/x/\n", 1, 3, "bad-reference", "no group with this number is closed before this", None),
+    (b"s/" + b"\\(" * 33 + b"\\)" * 33 + b"/x/\n", 1, 67, "too-deep", "this group is inside of 32 others, which is the most", None),
+    (b"s/" + b"\\(\\)" * 100 + b"/x/\n", 1, 399, "too-many-groups", "this is the hundredth group, one more than an expression may have", None),
+]
+
+LINE_WIDTH = 160
+
+
+def excerpt(line, column):
+    """A line as it is shown, and how many characters precede the byte: the 160 characters that reach its end, for a longer line
+    whose end is near."""
+    before, after = shown_line(line[:column - 1]), shown_line(line[column - 1:])
+    if len(before) + len(after) <= LINE_WIDTH:
+        return before + after, len(before)
+    left = before[len(before) + len(after) - LINE_WIDTH:]
+    return "..." + left + after, len(left) + 3
+
+
+def text_due(name, script, row):
+    """The whole report in text."""
+    line, column, code, message, hint = row
+    shown, before = excerpt(line_of(script, line), column)
+    gutter = max(4, len(str(line)) + 2)
+    return "".join([
+        "%s:%d:%d: error: %s [%s]\n" % (name, line, column, message, code),
+        "%*d | %s\n" % (gutter, line, shown),
+        "%*s | %*s^\n" % (gutter, "", before, ""),
+        "%*s = hint: %s\n" % (gutter, "", hint) if hint else "",
+    ])
+
+
+def gcc_due(name, row):
+    """The whole report for editors."""
+    line, column, code, message, hint = row
+    at = "%s:%d:%d: " % (name, line, column)
+    return "%serror: %s [%s]\n" % (at, message, code) + ("%snote: hint: %s\n" % (at, hint) if hint else "")
+
+
+def check(tools):
+    """Compares both reports on each script."""
+    for script, *row in REFUSED:
+        what = repr(script[:40])
+        tools.write("s.sed", script)
+        tools.same("text %s" % what, tools.explain("s.sed"), (2, text_due("s.sed", script, row).encode(), b""))
+        tools.same("gcc %s" % what, tools.explain("--format", "gcc", "s.sed"), (2, gcc_due("s.sed", row).encode(), b""))

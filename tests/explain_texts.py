@@ -1,0 +1,429 @@
+"""Whole reports in text and for editors: loops, certificates, accepted scripts, names, and bytes that a terminal wouldn't show."""
+
+from explain_tools import line_of, place, shown_line, shown_name
+from refusals import both, certificate
+
+IDLE = "this loop reads no line, and nothing in it makes the pattern space shorter: a run may go round it for ever"
+GROWING = "this loop reads no line, and may make the pattern space longer in each round: a run may go round it for ever"
+ROUND = ("let each round read a line, by `n`, `N` or `d`, or make the pattern space shorter; or go round a fixed number of times by "
+         "writing the commands as often")
+ONCE = "let one `s` with the flag `g` do all at once; or write the command as often as it may be needed, without the loop"
+OFTEN = "write the command as often as it may be needed, without the loop; or let one `s` with the flag `g` do all at once"
+TAKE = ("take the branch only where a line was read: put it into the block of the `N` or `n`, as in `/x/{`, `N`, `b a`, `}` on lines "
+        "of their own")
+UNKNOWN = "every run ends, but no limit on its steps is known, since the pattern space may get longer here"
+NO_FILES = "  reads: no file\n  writes: no file\n"
+
+# the script; the status, the report in text, and the one for editors
+ALONE = [
+    (b":a\np\nb a\n", 1, f"""\
+s.sed:1:1: error: {IDLE} [loop-idle]
+   1 | :a
+     | ^
+       1:1  :a   goes on
+       2:1  p    goes on; reads nothing
+       3:1  b a  branches
+       1:1  :a   and so on
+     = hint: {ROUND}
+""", f"""\
+s.sed:1:1: error: {IDLE} [loop-idle]
+s.sed:1:1: note: goes on
+s.sed:2:1: note: goes on; reads nothing
+s.sed:3:1: note: branches
+s.sed:1:1: note: and so on
+s.sed:1:1: note: hint: {ROUND}
+"""),
+    (b":a\ns/x/y/\n\tt a\n", 1, f"""\
+s.sed:1:1: error: {IDLE} [loop-idle]
+   1 | :a
+     | ^
+       1:1  :a      goes on
+       2:1  s/x/y/  replaces a text by one that isn't longer
+       3:2  t a     branches, since something was replaced
+       1:1  :a      and so on
+     = hint: {ONCE}
+""", f"""\
+s.sed:1:1: error: {IDLE} [loop-idle]
+s.sed:1:1: note: goes on
+s.sed:2:1: note: replaces a text by one that isn't longer
+s.sed:3:2: note: branches, since something was replaced
+s.sed:1:1: note: and so on
+s.sed:1:1: note: hint: {ONCE}
+"""),
+    # an address may select a line or not, so that the loop may pass by the `n`
+    (b"p\n:a\n1{\nn\n}\nb a\n", 1, f"""\
+s.sed:2:1: error: {IDLE} [loop-idle]
+   2 | :a
+     | ^
+       2:1  :a   goes on
+       3:2  1{{   the block is passed by
+       6:1  b a  branches
+       2:1  :a   and so on
+     = hint: {ROUND}
+""", f"""\
+s.sed:2:1: error: {IDLE} [loop-idle]
+s.sed:2:1: note: goes on
+s.sed:3:2: note: the block is passed by
+s.sed:6:1: note: branches
+s.sed:2:1: note: and so on
+s.sed:2:1: note: hint: {ROUND}
+"""),
+    # `$!N` is passed by on the last line alone, and nothing else of the loop reads
+    (b":a\n$!N\ns/a/b/\nba\n", 1, f"""\
+s.sed:1:1: error: {IDLE} [loop-idle]
+   1 | :a
+     | ^
+       1:1  :a      goes on (on the last line)
+       2:3  $!N     is passed by, and reads nothing (on the last line)
+       3:1  s/a/b/  replaces nothing (on the last line)
+       4:1  ba      branches (on the last line)
+       1:1  :a      and so on
+     = hint: {TAKE}
+""", f"""\
+s.sed:1:1: error: {IDLE} [loop-idle]
+s.sed:1:1: note: goes on (on the last line)
+s.sed:2:3: note: is passed by, and reads nothing (on the last line)
+s.sed:3:1: note: replaces nothing (on the last line)
+s.sed:4:1: note: branches (on the last line)
+s.sed:1:1: note: and so on
+s.sed:1:1: note: hint: {TAKE}
+"""),
+    # one line for all commands: those behind the first are shown from their verbs on
+    (b":a;s/x/xx/;ta\n", 1, f"""\
+s.sed:1:4: error: {GROWING} [loop-growing]
+   1 | :a;s/x/xx/;ta
+     |    ^
+        1:4  ...s/x/xx/;ta  may replace a text by a longer one: it has 2 bytes, and a match may have only 1
+       1:12  ...ta          branches, since something was replaced
+        1:1  :a;s/x/xx/;ta  goes on
+        1:4  ...s/x/xx/;ta  and so on
+     = hint: {OFTEN}
+""", f"""\
+s.sed:1:4: error: {GROWING} [loop-growing]
+s.sed:1:4: note: may replace a text by a longer one: it has 2 bytes, and a match may have only 1
+s.sed:1:12: note: branches, since something was replaced
+s.sed:1:1: note: goes on
+s.sed:1:4: note: and so on
+s.sed:1:4: note: hint: {OFTEN}
+"""),
+    # the groups of a replacement are kept, and `\\(a\\)b` has one byte outside of them
+    (b":a\ns/\\(a\\)b/\\1cc/\nta\n", 1, f"""\
+s.sed:2:1: error: {GROWING} [loop-growing]
+   2 | s/\\(a\\)b/\\1cc/
+     | ^
+       2:1  s/\\(a\\)b/\\1cc/  may replace a text by a longer one: it has 2 bytes plus its groups, and a match may have only 1 outside of them
+       3:1  ta              branches, since something was replaced
+       1:1  :a              goes on
+       2:1  s/\\(a\\)b/\\1cc/  and so on
+     = hint: {OFTEN}
+""", f"""\
+s.sed:2:1: error: {GROWING} [loop-growing]
+s.sed:2:1: note: may replace a text by a longer one: it has 2 bytes plus its groups, and a match may have only 1 outside of them
+s.sed:3:1: note: branches, since something was replaced
+s.sed:1:1: note: goes on
+s.sed:2:1: note: and so on
+s.sed:2:1: note: hint: {OFTEN}
+"""),
+    (b"G\nD\n", 1, f"""\
+s.sed:1:1: error: {GROWING} [loop-growing]
+   1 | G
+     | ^
+       1:1  G  may make the pattern space longer, by what the hold space has
+       2:1  D  deletes up to the first newline, and begins again without reading
+       1:1  G  and so on
+     = hint: {OFTEN}
+""", f"""\
+s.sed:1:1: error: {GROWING} [loop-growing]
+s.sed:1:1: note: may make the pattern space longer, by what the hold space has
+s.sed:2:1: note: deletes up to the first newline, and begins again without reading
+s.sed:1:1: note: and so on
+s.sed:1:1: note: hint: {OFTEN}
+"""),
+    # greatest ranks 1 and 1, so that the bound is 2, 2 * 3 and 2: 2 * 80,000 + 6 * 1,000 + 2
+    (b"", 0, f"""\
+s.sed: accepted: every run ends
+  steps: at most 2 a byte, plus 6 a line, plus 2; for 1,000 lines of 80 bytes at most 166,002
+{NO_FILES}""", ""),
+    # greatest ranks 3 and 3: 4, 4 * 5 and 4
+    (b":a\nn\nb a\n", 0, f"""\
+s.sed: accepted: every run ends
+  steps: at most 4 a byte, plus 20 a line, plus 4; for 1,000 lines of 80 bytes at most 340,004
+{NO_FILES}""", ""),
+    # files by name, with the commands that name them, of which eight are listed; greatest ranks 13 and 13: 14, 14 * 15 and 14
+    (b"r in\n" + b"p;w a b\n" + b"w x\n" * 9, 0, """\
+s.sed: accepted: every run ends
+  steps: at most 14 a byte, plus 210 a line, plus 14; for 1,000 lines of 80 bytes at most 1,330,014
+  reads: "in" (1:1)
+  writes: "a b" (2:3)
+  writes: "x" (3:1, 4:1, 5:1, 6:1, 7:1, 8:1, 9:1, 10:1 and 1 more)
+""", ""),
+    (b"$!N\nG\n", 0, f"""\
+s.sed:2:1: note: {UNKNOWN} [no-bound]
+   2 | G
+     | ^
+       2:1  G  may make the pattern space longer, by what the hold space has
+s.sed: accepted: every run ends
+{NO_FILES}""", f"""\
+s.sed:2:1: note: {UNKNOWN} [no-bound]
+s.sed:2:1: note: may make the pattern space longer, by what the hold space has
+"""),
+    (b"$s/a/[&]/\n", 0, f"""\
+s.sed:1:2: note: {UNKNOWN} [no-bound]
+   1 | $s/a/[&]/
+     |  ^
+       1:2  $s/a/[&]/  may replace a text by a longer one: it has the whole match, `&`, and something more (on the last line)
+s.sed: accepted: every run ends
+{NO_FILES}""", f"""\
+s.sed:1:2: note: {UNKNOWN} [no-bound]
+s.sed:1:2: note: may replace a text by a longer one: it has the whole match, `&`, and something more (on the last line)
+"""),
+    (b"s/\\(a\\)b/\\1\\1/\n", 0, f"""\
+s.sed:1:1: note: {UNKNOWN} [no-bound]
+   1 | s/\\(a\\)b/\\1\\1/
+     | ^
+       1:1  s/\\(a\\)b/\\1\\1/  may replace a text by a longer one: it has a group twice, or one that is repeated or inside of another
+s.sed: accepted: every run ends
+{NO_FILES}""", f"""\
+s.sed:1:1: note: {UNKNOWN} [no-bound]
+s.sed:1:1: note: may replace a text by a longer one: it has a group twice, or one that is repeated or inside of another
+"""),
+    (b"/a/s//xy/\n", 0, f"""\
+s.sed:1:4: note: {UNKNOWN} [no-bound]
+   1 | /a/s//xy/
+     |    ^
+       1:4  /a/s//xy/  may replace a text by a longer one: it has 2 bytes, and the expression may be any of the script's
+s.sed: accepted: every run ends
+{NO_FILES}""", f"""\
+s.sed:1:4: note: {UNKNOWN} [no-bound]
+s.sed:1:4: note: may replace a text by a longer one: it has 2 bytes, and the expression may be any of the script's
+"""),
+]
+
+MADE_AGAIN = "certificates are written by `sedck rank` and `sedck upgrade`: make it again"
+CHANGED = "if the script was changed, run `sedck rank` again and read what it prints"
+LOWERED = ("a step that reads no line doesn't lower the ranks as it must: the first one where it may make the pattern space longer, the "
+           "first or the second one where it doesn't")
+
+LOOP = b":a\np\nb a\n"
+PRINT = b"p\n"
+NEXT_LINE = b":a\nn\nb a\n"
+NEXT_LINE_TEXT = certificate(3, both({"0 0": "2 2", "1 0": "1 1", "2 0": "3 3"}))
+PRINT_TEXT = certificate(1, both({"0 0": "2 2", "1 0": "1 1"}))
+
+
+def replaced(text, number, line):
+    """The text with another line in place of this one, counted from 1."""
+    lines = text.split("\n")
+    return "\n".join(lines[:number - 1] + [line] + lines[number:])
+
+
+# the script and the certificate; the status, the report in text, and the one for editors
+WITH_CERTIFICATE = [
+    (NEXT_LINE, NEXT_LINE_TEXT, 0, f"""\
+s.sed: accepted: every run ends
+  steps: at most 4 a byte, plus 20 a line, plus 4; for 1,000 lines of 80 bytes at most 340,004
+{NO_FILES}""", ""),
+    # the greatest ranks there are: 65,536, 65,536 * 65,537 and 65,536
+    (PRINT, certificate(1, both({"0 0": "65535 65535", "1 0": "1 1"})), 0, f"""\
+s.sed: accepted: every run ends
+  steps: at most 65,536 a byte, plus 4,295,032,832 a line, plus 65,536; for 1,000 lines of 80 bytes at most 4,300,275,777,536
+{NO_FILES}""", ""),
+    (LOOP, certificate(3, both({"0 0": "3 3", "1 0": "2 2", "2 0": "1 1"})), 1, f"""\
+s.sed:3:1: error: {LOWERED} [not-lowered]
+   3 | b a
+     | ^
+       3:1  b a  branches; its ranks are 1 and 1
+       1:1  :a   is reached; its ranks are 3 and 3
+     = hint: if the script was changed, run `sedck rank` again; where that finds a loop, no ranks are right
+""", f"""\
+s.sed:3:1: error: {LOWERED} [not-lowered]
+s.sed:3:1: note: branches; its ranks are 1 and 1
+s.sed:1:1: note: is reached; its ranks are 3 and 3
+s.sed:3:1: note: hint: if the script was changed, run `sedck rank` again; where that finds a loop, no ranks are right
+"""),
+    (LOOP, certificate(3, both({"0 0": "3 3", "1 0": "2 2"})), 1, f"""\
+s.sed:2:1: error: a step leads from a node with ranks to one without [leaves-ranked]
+   2 | p
+     | ^
+       2:1  p    goes on; reads nothing; its ranks are 2 and 2
+       3:1  b a  is reached; it has no ranks
+     = hint: {CHANGED}
+""", f"""\
+s.sed:2:1: error: a step leads from a node with ranks to one without [leaves-ranked]
+s.sed:2:1: note: goes on; reads nothing; its ranks are 2 and 2
+s.sed:3:1: note: is reached; it has no ranks
+s.sed:2:1: note: hint: {CHANGED}
+"""),
+    # the script's end has no line; the edges of `0 0 0` come before those of `0 0 1`
+    (PRINT, certificate(1, {"0 0 0": "2 2", "0 0 1": "7 3", "1 0 0": "1 1"}), 1, f"""\
+s.sed:1:1: error: a step leads from a node with ranks to one without [leaves-ranked]
+   1 | p
+     | ^
+       1:1  p  goes on; reads nothing (on the last line); its ranks are 7 and 3
+       end     is reached; it has no ranks
+     = hint: {CHANGED}
+""", f"""\
+s.sed:1:1: error: a step leads from a node with ranks to one without [leaves-ranked]
+s.sed:1:1: note: goes on; reads nothing (on the last line); its ranks are 7 and 3
+s.sed: note: is reached; it has no ranks
+s.sed:1:1: note: hint: {CHANGED}
+"""),
+    (PRINT, NEXT_LINE_TEXT, 1, f"""\
+s.sed: error: the script has another number of commands than the certificate was made for: 1, and not 3 [wrong-count]
+     = hint: {CHANGED}
+""", f"""\
+s.sed: error: the script has another number of commands than the certificate was made for: 1, and not 3 [wrong-count]
+s.sed: note: hint: {CHANGED}
+"""),
+    (PRINT, certificate(1, {"0 0 0": "2 2", "1 0 0": "1 1", "1 0 1": "1 1"}), 1, """\
+s.sed: error: a run may begin on the last line or before it, and the certificate has no ranks for one of these [start-unranked]
+     = hint: give ranks to the nodes `0 0 0` and `0 0 1`
+""", """\
+s.sed: error: a run may begin on the last line or before it, and the certificate has no ranks for one of these [start-unranked]
+s.sed: note: hint: give ranks to the nodes `0 0 0` and `0 0 1`
+"""),
+    # a refused script comes before a refused certificate
+    (b"p\n b\tz", "sedck 3\n", 2, """\
+s.sed:2:4: error: no `:` defines this label [unknown-label]
+   2 |  b    z
+     |       ^
+""", """\
+s.sed:2:4: error: no `:` defines this label [unknown-label]
+"""),
+]
+
+# what is done to the certificate; the line, the code, and what that line isn't
+REFUSED_CERTIFICATES = [
+    (replaced(PRINT_TEXT, 1, "sedck 3"), 1, "bad-header", "`sedck 2`, or `sedck 1` in a certificate of version 1"),
+    ("", 1, "bad-header", "`sedck 2`, or `sedck 1` in a certificate of version 1"),
+    (replaced(PRINT_TEXT, 2, "commands 01"), 2, "bad-count", "`commands` and the number of commands"),
+    (replaced(PRINT_TEXT, 4, "0 0 1 65536 1"), 4, "bad-node", "the next node with its two ranks"),
+    (replaced(PRINT_TEXT, 12, "write 1"), 14, "bad-end", "`end`, or something follows it"),
+    (replaced(PRINT_TEXT, 11, "read -"), 11, "bad-names", "a list's count, or the next name in order"),
+    (PRINT_TEXT + "\n", 14, "bad-end", "`end`, or something follows it"),
+]
+
+# a command; what it does, the name as it is shown, and the code and the reason of each warning
+STREAM = ("stream-name", "GNU sed takes it for a stream, other seds for a file")
+DEVICE = ("device-name", "it may be no plain file, so that reading or writing it need not end")
+ABSOLUTE = ("absolute-name", "it is an absolute path")
+UPWARD = ("upward-name", "it leads out of the folder in which the script is run")
+UNPRINTABLE = ("unprintable-name", "it has bytes that a terminal may not show")
+BLANK = ("blank-at-end", "it ends in a blank")
+COMMAND = ("command-in-name", "a name goes on to the end of its line; was a command or a comment meant?")
+WARNED = [
+    (b"r /dev/stdin", "reads", "/dev/stdin", [STREAM]),
+    (b"w /dev/stdout", "writes", "/dev/stdout", [STREAM]),
+    (b"\t$w /dev/stderr", "writes", "/dev/stderr", [STREAM]),
+    (b"w /dev/tty", "writes", "/dev/tty", [DEVICE]),
+    (b"r /proc/1/stat", "reads", "/proc/1/stat", [DEVICE]),
+    (b"r /sys/x", "reads", "/sys/x", [DEVICE]),
+    (b"s/a/b/gw /etc/x", "writes", "/etc/x", [ABSOLUTE]),
+    (b"p;r ../x", "reads", "../x", [UPWARD]),
+    (b"r a/..", "reads", "a/..", [UPWARD]),
+    (b"w a\tb", "writes", "a\\x09b", [UNPRINTABLE]),
+    (b"r \xc3\xa9", "reads", "\\xc3\\xa9", [UNPRINTABLE]),
+    (b"w \x1b[31mred\x7f", "writes", "\\x1b[31mred\\x7f", [UNPRINTABLE]),
+    (b"r x\r", "reads", "x\\x0d", [UNPRINTABLE]),
+    (b"w x ", "writes", "x ", [BLANK]),
+    (b"w x;p", "writes", "x;p", [COMMAND]),
+    (b"r x}", "reads", "x}", [COMMAND]),
+    (b"r x # two", "reads", "x # two", [COMMAND]),
+    (b"w /../\xffa\\b; ", "writes", "/../\\xffa\\\\b; ", [ABSOLUTE, UPWARD, UNPRINTABLE, BLANK, COMMAND]),
+    (b'r a"`b;', "reads", 'a\\"\\x60b;', [COMMAND]),
+    (b"r a..b", "reads", "a..b", []),
+    (b"r .../x", "reads", ".../x", []),
+    (b"w dev/x", "writes", "dev/x", []),
+    (b"r a:b,c*d", "reads", "a:b,c*d", []),
+]
+
+
+def warned_due(script, offset, does, name, warnings):
+    """The findings in text and for editors, for warnings at this offset."""
+    line, column = place(script, offset)
+    data = line_of(script, line)
+    text = gcc = ""
+    for code, reason in warnings:
+        head = 's.sed:%d:%d: warning: this %s "%s": %s [%s]\n' % (line, column, does, name, reason, code)
+        text += head + "%4d | %s\n     | %*s^\n" % (line, shown_line(data), len(shown_line(data[:column - 1])), "")
+        gcc += head
+    return text, gcc
+
+
+def check_names(tools):
+    """A command that names a file, after a line that names none."""
+    for command, does, name, warnings in WARNED:
+        script = b"# a line\n" + command + b"\n"
+        verb = 9 + {b"\t": 2, b"p": 2}.get(command[:1], 0)
+        text, gcc = warned_due(script, verb, does, name, warnings)
+        tools.write("s.sed", script)
+        status, report, errors = tools.explain("s.sed")
+        tools.same("text %r" % script, (status, report.decode().partition("s.sed: accepted")[0], errors), (0, text, b""))
+        tools.same("gcc %r" % script, tools.explain("--format", "gcc", "s.sed"), (0, gcc.encode(), b""))
+        tools.holds("summary %r" % script, '\n  %s: "%s" (2:%d)\n' % (does, name, verb - 8) in report.decode())
+
+
+def check_both(tools):
+    """A file that is read and written, and the order of warnings: files that are read come first, both by name. The script's end is
+    reached with the flag and without it, so that the greatest ranks are 7 and 7."""
+    script = b"w f\nw /b\nr f\nr /a\ns/x/y/w f\n"
+    tools.write("s.sed", script)
+    parts = [
+        warned_due(script, script.index(b"r /a"), "reads", "/a", [ABSOLUTE]),
+        warned_due(script, script.index(b"w /b"), "writes", "/b", [ABSOLUTE]),
+        warned_due(script, 0, "writes", "f", [("read-and-written", "the script reads it too")]),
+    ]
+    summary = """\
+s.sed: accepted: every run ends
+  steps: at most 8 a byte, plus 72 a line, plus 8; for 1,000 lines of 80 bytes at most 712,008
+  reads: "/a" (4:1)
+  reads: "f" (3:1)
+  writes: "/b" (2:1)
+  writes: "f" (1:1, 5:1)
+"""
+    tools.same("text %r" % script, tools.explain("s.sed"), (0, ("".join(part[0] for part in parts) + summary).encode(), b""))
+    tools.same("gcc %r" % script, tools.explain("--format", "gcc", "s.sed"), (0, "".join(part[1] for part in parts).encode(), b""))
+
+
+def check_certificates(tools):
+    """Certificates that are refused."""
+    tools.write("s.sed", PRINT)
+    for text, line, code, wanted in REFUSED_CERTIFICATES:
+        tools.write("s.cert", text.encode())
+        head = "s.sed: error: line %d of the certificate isn't %s [%s]\n" % (line, wanted, code)
+        for form, hint in (("text", "     = hint: "), ("gcc", "s.sed: note: hint: ")):
+            due = head + hint + MADE_AGAIN + "\n"
+            tools.same("%s %r" % (form, text), tools.explain("--format", form, "--cert", "s.cert", "s.sed"), (2, due.encode(), b""))
+
+
+def check_long_lines(tools):
+    """Of a line that is wider than 160 characters, so many are shown: up to 80 before the byte, and more where fewer follow."""
+    for script, column, shown, before in [
+        (b"k" + b"x" * 159, 1, "k" + "x" * 159, 0),
+        (b"k" + b"x" * 160, 1, "k" + "x" * 159 + "...", 0),
+        (b"p;" * 79 + b"pk", 160, "p;" * 79 + "pk", 159),
+        (b"p;" * 80 + b"k", 161, "...;" + "p;" * 79 + "k", 162),
+        (b"p;" * 100 + b"k" + b";p" * 100, 201, "..." + "p;" * 40 + "k" + ";p" * 39 + ";...", 83),
+        (b"p;" * 100 + b"\xe9" + b"\t" * 100, 201, "..." + "p;" * 40 + "\\xe9" + "    " * 19 + "...", 83),
+    ]:
+        tools.write("s.sed", script + b"\np\n")
+        status, report, errors = tools.explain("s.sed")
+        lines = report.decode().split("\n")
+        tools.same("place %r" % script, (status, lines[0].split(" ")[0], errors), (2, "s.sed:1:%d:" % column, b""))
+        tools.same("line %r" % script, lines[1:3], ["   1 | " + shown, "     | " + " " * before + "^"])
+
+
+def check(tools):
+    """Compares whole reports."""
+    cases = [(script, None, *due) for script, *due in ALONE] + WITH_CERTIFICATE
+    for script, text, status, *reports in cases:
+        words = []
+        if text is not None:
+            words = ["--cert", tools.write("s.cert", text.encode())]
+        tools.write("s.sed", script)
+        for form, report in zip(("text", "gcc"), reports):
+            tools.same("%s %r %r" % (form, script, text), tools.explain("--format", form, *words, "s.sed"), (status, report.encode(), b""))
+    check_names(tools)
+    check_both(tools)
+    check_certificates(tools)
+    check_long_lines(tools)

@@ -1,0 +1,135 @@
+"""The command line of `sedck-explain`: its words, its files and standard input, statuses, standard error, and colours."""
+import os
+import pty
+import subprocess
+
+from explain_texts import NEXT_LINE, NEXT_LINE_TEXT
+
+ACCEPTED = "%s: accepted: every run ends\n  steps: at most 4 a byte, plus 20 a line, plus 4; for 1,000 lines of 80 bytes at most 340,004\n  reads: no file\n  writes: no file\n"
+UNKNOWN = "%s:1:3: error: no `:` defines this label [unknown-label]\n   1 | b z\n     |   ^\n"
+ESCAPES = {"red": "\x1b[1;31m", "yellow": "\x1b[1;33m", "cyan": "\x1b[1;36m", "green": "\x1b[1;32m", "plain": "\x1b[0m"}
+FORMATS = ("text", "gcc", "json", "html", "dot")
+
+
+def check_refused_words(tools):
+    """Words of no known form: status 3, nothing on standard output, and a line on standard error that begins with the name."""
+    for words in (["--wrong"], ["-x"], ["--format", "xml", "s.sed"], ["--format"], ["--format=", "s.sed"], ["--cert"],
+                  ["--format", "text", "--format", "gcc", "s.sed"], ["--cert", "s.cert", "s.sed", "s.sed"], ["--cert", "s.cert", "s.sed", "-"],
+                  ["--format", "html", "s.sed", "s.sed"], ["--format", "dot", "s.sed", "t.sed"], [b"\xff.sed"]):
+        status, report, errors = tools.explain(*words, given=b"p\n")
+        tools.same("status of %r" % words, (status, report), (3, b""))
+        tools.holds("standard error of %r" % words, errors.startswith(b"sedck-explain: ") and errors.endswith(b"\n"))
+        tools.holds("reason of %r" % words, len(errors.split(b"\n")[0]) > len("sedck-explain: "))
+
+
+def check_help(tools):
+    """The help, which names what can be given, and the version."""
+    for words in (["--version"], ["-V"]):
+        tools.same("version", tools.explain(*words), (0, b"sedck-explain 1.0.0\n", b""))
+    for words in (["--help"], ["-h"], ["--help", "s.sed"]):
+        status, report, errors = tools.explain(*words)
+        tools.same("help", (status, errors), (0, b""))
+        for part in (*FORMATS, "--format", "--cert", "--help", "--version", "SCRIPT", "standard input", "0 accepted", "4 a file"):
+            tools.holds("help has %s" % part, part.encode() in report)
+
+
+def check_scripts(tools):
+    """Files and standard input, one and several, and those that can't be read."""
+    one, two = (ACCEPTED % "s.sed").encode(), (UNKNOWN % "t.sed").encode()
+    given = (ACCEPTED % "-").encode()
+    tools.same("none", tools.explain(given=NEXT_LINE), (0, given, b""))
+    tools.same("-", tools.explain("-", given=NEXT_LINE), (0, given, b""))
+    tools.same("- with a certificate", tools.explain("--cert", "s.cert", "-", given=NEXT_LINE), (0, given, b""))
+    tools.same("none with a certificate", tools.explain("--cert=s.cert", given=NEXT_LINE), (0, given, b""))
+    tools.same("- between files", tools.explain("s.sed", "-", "t.sed", given=NEXT_LINE), (2, one + given + two, b""))
+    tools.same("a refused script on standard input", tools.explain(given=b"b z"), (2, (UNKNOWN % "-").encode(), b""))
+    tools.same("greatest status 2", tools.explain("t.sed", "s.sed"), (2, two + one, b""))
+    status, report, errors = tools.explain("--format", "gcc", "l.sed", "s.sed")
+    tools.same("greatest status 1", (status, report.count(b"[loop-idle]"), errors), (1, 1, b""))
+    tools.same("greatest status 0", tools.explain("s.sed", "s.sed"), (0, one + one, b""))
+    tools.same("a name with a hyphen", tools.explain("--", "-h.sed"), (0, (ACCEPTED % "-h.sed").encode(), b""))
+    unread = b"sedck-explain: cannot read gone.sed\n"
+    tools.same("no such file", tools.explain("gone.sed"), (4, b"", unread))
+    tools.same("no such file among others", tools.explain("s.sed", "gone.sed", "t.sed"), (4, one + two, unread))
+    tools.same("a folder", tools.explain("folder"), (4, b"", b"sedck-explain: cannot read folder\n"))
+    tools.same("a folder among others", tools.explain("folder", "s.sed", "gone.sed"), (4, one, b"sedck-explain: cannot read folder\n" + unread))
+    tools.same("no such certificate", tools.explain("--cert", "gone.cert", "s.sed"), (4, b"", b"sedck-explain: cannot read gone.cert\n"))
+    tools.same("a folder as the certificate", tools.explain("--cert", "folder", "s.sed"), (4, b"", b"sedck-explain: cannot read folder\n"))
+    tools.same("control characters", tools.explain("a\x1b[31m\nb"), (4, b"", b"sedck-explain: cannot read a?[31m?b\n"))
+    tools.same("an empty name", tools.explain(""), (4, b"", b"sedck-explain: cannot read \n"))
+
+
+def check_formats(tools):
+    """The default format; each format on standard input; an accepted script has no line for editors."""
+    tools.same("default", tools.explain("s.sed"), tools.explain("--format", "text", "s.sed"))
+    starts = {"text": b"-: accepted", "gcc": b"", "json": b'{"file":"-",', "html": b"<!DOCTYPE html>\n", "dot": b"digraph sedck {\n"}
+    for name in FORMATS:
+        status, report, errors = tools.explain("--format=" + name, given=NEXT_LINE)
+        tools.same("format %s" % name, (status, report[:len(starts[name])], errors), (0, starts[name], b""))
+    tools.same("gcc of an accepted script", tools.explain("--format", "gcc", "s.sed"), (0, b"", b""))
+    status, report, errors = tools.explain("--format", "json", "s.sed", "t.sed", "gone.sed", "l.sed")
+    tools.same("json of several", (status, report.count(b"\n"), report.count(b'{"file":')), (4, 3, 3))
+    tools.same("json of several", errors, b"sedck-explain: cannot read gone.sed\n")
+
+
+def at_terminal(tools, words, **changes):
+    """What a terminal is given as standard output."""
+    env = {name: value for name, value in os.environ.items() if name != "NO_COLOR"}
+    mine, its = pty.openpty()
+    with os.fdopen(mine, "rb", closefd=True) as terminal:
+        with subprocess.Popen([tools.explain_path, *words], cwd=tools.folder, env={**env, **changes}, stdin=subprocess.DEVNULL, stdout=its) as run:
+            os.close(its)
+            parts = []
+            try:
+                while part := os.read(terminal.fileno(), 65536):
+                    parts.append(part)
+            except OSError:
+                # The other end is closed.
+                pass
+        tools.same("status at a terminal", run.returncode, tools.explain(*words)[0])
+    return b"".join(parts).replace(b"\r\n", b"\n")
+
+
+def coloured(text):
+    """The text with the colours that {NAME} stands for."""
+    for name, escape in ESCAPES.items():
+        text = text.replace("{%s}" % name, escape)
+    return text.encode()
+
+
+def check_colours(tools):
+    """Levels, carets, hints and the word of acceptance are coloured at a terminal alone, unless NO_COLOR says no; no other format is."""
+    tools.write("c.sed", b"s/a\\+/b/\n")
+    tools.write("w.sed", b"w /x\n$!N\nG\n")
+    error = "c.sed:1:4: {red}error{plain}: in a basic regular expression of POSIX this escape has no meaning that all seds share [bad-escape]\n"
+    error += "   1 | s/a\\+/b/\n     |    {red}^{plain}\n     = {cyan}hint{plain}: for `x\\+` write `x\\{1,\\}` or `xx*`\n"
+    other = "w.sed:3:1: {cyan}note{plain}: every run ends, but no limit on its steps is known, since the pattern space may get longer here [no-bound]\n"
+    other += "   3 | G\n     | {cyan}^{plain}\n       3:1  G  may make the pattern space longer, by what the hold space has\n"
+    other += 'w.sed:1:1: {yellow}warning{plain}: this writes "/x": it is an absolute path [absolute-name]\n   1 | w /x\n     | {yellow}^{plain}\n'
+    other += 'w.sed: {green}accepted{plain}: every run ends\n  reads: no file\n  writes: "/x" (1:1)\n'
+    for name, text in (("c.sed", error), ("w.sed", other)):
+        plain = tools.explain(name)[1]
+        tools.same("terminal %s" % name, at_terminal(tools, [name]), coloured(text))
+        tools.same("terminal %s, NO_COLOR empty" % name, at_terminal(tools, [name], NO_COLOR=""), coloured(text))
+        tools.same("terminal %s, NO_COLOR" % name, at_terminal(tools, [name], NO_COLOR="1"), plain)
+        tools.same("terminal %s, NO_COLOR=0" % name, at_terminal(tools, [name], NO_COLOR="0"), plain)
+        tools.same("pipe %s" % name, tools.explain(name, NO_COLOR="")[1], plain)
+        tools.holds("pipe %s" % name, b"\x1b" not in plain)
+        for form in FORMATS[1:]:
+            words = ["--format", form, name]
+            tools.same("terminal %s %s" % (form, name), at_terminal(tools, words), tools.explain(*words)[1])
+
+
+def check(tools):
+    """Runs the program with words of each kind."""
+    tools.write("s.sed", NEXT_LINE)
+    tools.write("-h.sed", NEXT_LINE)
+    tools.write("t.sed", b"b z\n")
+    tools.write("l.sed", b":a\nb a\n")
+    tools.write("s.cert", NEXT_LINE_TEXT.encode())
+    os.mkdir(tools.path("folder"))
+    check_refused_words(tools)
+    check_help(tools)
+    check_scripts(tools)
+    check_formats(tools)
+    check_colours(tools)
