@@ -26,7 +26,11 @@ static ALONE: [(&'static str, u8, &'static str); 4] = [
         2,
         "f:1:3: error: no `:` defines this label [unknown-label]\n",
     ),
-    ("w /x", 0, "f:1:1: warning: this writes \"/x\": it is an absolute path [absolute-name]\n"),
+    (
+        "w /x",
+        0,
+        "f:1:1: warning: this writes \"/x\": it is an absolute path [absolute-name]\n",
+    ),
 ];
 
 /// What is answered of the script alone, or with the certificate: the status, or 100 for a failed read of the script, 101 of the
