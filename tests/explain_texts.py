@@ -200,6 +200,7 @@ s.sed:1:4: note: may replace a text by a longer one: it has 2 bytes, and the exp
 ]
 
 MADE_AGAIN = "certificates are written by `sedck rank` and `sedck upgrade`: make it again"
+LISTED = "look at what `sedck files` lists before you make the certificate again"
 CHANGED = "if the script was changed, run `sedck rank` again and read what it prints"
 LOWERED = ("a step that reads no line doesn't lower the ranks as it must: the first one where it may make the pattern space longer, the "
            "first or the second one where it doesn't")
@@ -281,6 +282,20 @@ s.sed: error: a run may begin on the last line or before it, and the certificate
 """, """\
 s.sed: error: a run may begin on the last line or before it, and the certificate has no ranks for one of these [start-unranked]
 s.sed: note: hint: give ranks to the nodes `0 0 0` and `0 0 1`
+"""),
+    (b"r x\n", PRINT_TEXT, 1, f"""\
+s.sed: error: the script reads other files than the certificate lists [reads-differ]
+     = hint: {LISTED}
+""", f"""\
+s.sed: error: the script reads other files than the certificate lists [reads-differ]
+s.sed: note: hint: {LISTED}
+"""),
+    (b"w x\n", PRINT_TEXT, 1, f"""\
+s.sed: error: the script writes other files than the certificate lists [writes-differ]
+     = hint: {LISTED}
+""", f"""\
+s.sed: error: the script writes other files than the certificate lists [writes-differ]
+s.sed: note: hint: {LISTED}
 """),
     # a refused script comes before a refused certificate
     (b"p\n b\tz", "sedck 3\n", 2, """\

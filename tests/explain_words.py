@@ -56,6 +56,7 @@ def check_scripts(tools):
     tools.same("no such certificate", tools.explain("--cert", "gone.cert", "s.sed"), (4, b"", b"sedck-explain: cannot read gone.cert\n"))
     tools.same("a folder as the certificate", tools.explain("--cert", "folder", "s.sed"), (4, b"", b"sedck-explain: cannot read folder\n"))
     tools.same("control characters", tools.explain("a\x1b[31m\nb"), (4, b"", b"sedck-explain: cannot read a?[31m?b\n"))
+    tools.same("a control character of two bytes", tools.explain("a\u009bb"), (4, b"", b"sedck-explain: cannot read a?b\n"))
     tools.same("an empty name", tools.explain(""), (4, b"", b"sedck-explain: cannot read \n"))
 
 
@@ -113,6 +114,7 @@ def check_colours(tools):
         tools.same("terminal %s, NO_COLOR empty" % name, at_terminal(tools, [name], NO_COLOR=""), coloured(text))
         tools.same("terminal %s, NO_COLOR" % name, at_terminal(tools, [name], NO_COLOR="1"), plain)
         tools.same("terminal %s, NO_COLOR=0" % name, at_terminal(tools, [name], NO_COLOR="0"), plain)
+        tools.same("terminal %s, NO_COLOR of other bytes" % name, at_terminal(tools, [name], NO_COLOR="\udcff"), plain)
         tools.same("pipe %s" % name, tools.explain(name, NO_COLOR="")[1], plain)
         tools.holds("pipe %s" % name, b"\x1b" not in plain)
         for form in FORMATS[1:]:
