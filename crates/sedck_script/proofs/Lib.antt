@@ -4,6 +4,7 @@ pub mod FirstUnique
 pub mod UniqueCommands
 pub mod NumberLemmas
 pub mod CommandEnds
+pub mod CommentLemmas
 pub mod OffsetLemmas
 pub mod PartLemmas
 pub mod LabelLemmas

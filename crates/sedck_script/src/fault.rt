@@ -48,7 +48,7 @@ pub enum ScriptFault {
     TooDeep { place: usize },
     /// The 4,096th command. Place: its verb.
     TooManyCommands { place: usize },
-    /// A byte that may not follow a command, as in `p p`. Place: that byte.
+    /// A byte that may not follow a command, as in `p p`, or a carriage return inside a comment. Place: that byte.
     ExtraText { place: usize },
     /// An empty expression in a script where every one is empty, as in `s//x/`. Place: after its opening delimiter.
     NoPreviousExpression { place: usize },

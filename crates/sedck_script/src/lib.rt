@@ -20,6 +20,7 @@
 mod addresses;
 mod bytes;
 mod commands;
+mod comments;
 mod delimited;
 mod ends;
 mod expressions;
