@@ -1,3 +1,4 @@
+pub mod LineBytes
 pub mod LongestRuns
 pub mod FirstBytes
 pub mod FirstUnique

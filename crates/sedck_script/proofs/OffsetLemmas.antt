@@ -85,7 +85,7 @@ replacement_tail (p.part {a = a} {b = b} f g h x) = tail_cons a (tail_cons b (re
 replacement_tail (p.run l x) = tail_tail (tail_cut l) (replacement_tail x)
 
 pub flags_tail : {q : Pattern} {ps : List Part} {text rest : List ℕ} {s : Substitution} → Flags q ps text s rest → EndsIn text rest
-flags_tail (p.none e) = ends_tail e
+flags_tail (p.none e) = ends_tail e.0
 flags_tail (p.file {b = b} h n) = tail_cons b (name_tail n)
 flags_tail (p.global {b = b} h x g) = tail_cons b (flags_tail x)
 flags_tail (p.print {b = b} h x g) = tail_cons b (flags_tail x)

@@ -94,7 +94,7 @@ name_size {name = name} {rest = rest} n = omega (arith, ap length n.skipped.cut,
 pub flags_file : {pattern : Pattern} {parts : List Part} {whole text rest : List ℕ} {s : Substitution} → (Contains whole 0 → ⊥) → EndsIn whole text
     → Flags pattern parts text s rest
     → AllByRecursion IsName (option_to_list s.file) × (names_size (option_to_list s.file) + length rest ≤ length text)
-flags_file zeros h (p.none e) = (tt, omega (arith, tail_length (ends_tail e)))
+flags_file zeros h (p.none e) = (tt, omega (arith, tail_length (ends_tail e.0)))
 flags_file zeros h (p.file {b = b} e n) = ((name_is zeros (tail_behind h refl) n, tt), omega (arith, name_size n))
 flags_file zeros h (p.global e f g) = let more = flags_file zeros (tail_behind h refl) f in (more.0, omega (arith, more.1))
 flags_file zeros h (p.print e f g) = let more = flags_file zeros (tail_behind h refl) f in (more.0, omega (arith, more.1))
