@@ -1,9 +1,10 @@
 //! Parts between delimiters.
 
 ghost use Rattle.std.specs.Prelude.{◌≡◌, ◌≢◌, ◌<◌, ◌∷◌, ℕ, List, IsTrue, IfOk, IfErr};
+ghost use Rattle.sedck_bre.specs.Bytes.{letter_y};
 ghost use Rattle.sedck_bre.specs.Faults.{IsOfText};
 ghost use Rattle.sedck_script.specs.Cuts.{is_delimiter};
-ghost use Rattle.sedck_script.specs.Parts.{DelimitedExpression, DelimitedList};
+ghost use Rattle.sedck_script.specs.Parts.{DelimitedExpression, DelimitedList, FirstList};
 ghost use Rattle.sedck_script.specs.Faults.{IsRefusedExpression};
 ghost use Rattle.sedck_script.specs.Private.Reading.{EndsIn};
 ghost use Rattle.sedck_script.specs.Program as clean;
@@ -11,6 +12,7 @@ ghost use Rattle.sedck_script.specs.View.{pattern_of};
 ghost use Rattle.sedck_script.specs.Private.PieceReading.{IsPiece, PatternText, IsPartPlaced, list_escape};
 ghost use Rattle.sedck_script.specs.declared.delimited.Piece.{Piece};
 
+use crate::bracket_lists::open_bracket;
 use crate::bytes::can_be_escaped;
 use crate::fault::ScriptFault;
 use crate::script::Pattern;
@@ -188,4 +190,28 @@ pub fn delimited_list<'a>(
         }
         rest = behind;
     }
+}
+
+/// The first list of a `y` command, in which no bracket list is left open, and what follows it.
+pub fn first_list<'a>(
+    alloc: Global,
+    whole: &[u8],
+    opening: usize,
+    delimiter: u8,
+    text: &'a [u8],
+) -> Result<(Vec<u8>, &'a [u8]), ScriptFault>
+    requires delimiter { IsTrue (is_delimiter delimiter) }
+    requires opened { EndsIn whole.now (letter_y ∷ delimiter ∷ text.now) }
+    ensures read { IfOk result (λ x. FirstList delimiter text.now x.0.items x.1.now) }
+    ensures refused { IfErr result (λ fault. fault ≢ ScriptFault.OutOfMemory → (bytes : List ℕ) (rest : List ℕ) → FirstList delimiter text.now bytes rest → ⊥) }
+    ensures placed { IfErr result (λ fault. IsPartPlaced opening whole.now fault) }
+{
+    let (bytes, rest) = delimited_list(alloc, whole, opening, delimiter, text)?;
+    let (written, _) = text.split_at(text.len() - rest.len() - 1);
+    if let Some(more) = open_bracket(written) {
+        return Err(ScriptFault::BadTransliteration {
+            place: whole.len() - rest.len() - more.len() - 2,
+        });
+    }
+    Ok((bytes, rest))
 }

@@ -28,7 +28,8 @@ pub enum ScriptFault {
     BadReplacement { place: usize },
     /// A flag that is unknown or repeated, or a number 0 or above 4,294,967,295, as in `s/a/b/I`. Place: the flag.
     BadFlag { place: usize },
-    /// Another escape in a list of `y`, or lists of different lengths, as in `y/a/bc/`. Place: the backslash, or the verb.
+    /// Another escape in a list of `y`, lists of different lengths, as in `y/a/bc/`, or a bracket list that is open at the end of
+    /// the first one, as in `y/[/a/`. Place: the backslash, the verb, or the `[`.
     BadTransliteration { place: usize },
     /// No text for `a`, `c` or `i`. Place: the verb.
     MissingText { place: usize },

@@ -18,6 +18,7 @@
 #![tactic(auto)]
 
 mod addresses;
+mod bracket_lists;
 mod bytes;
 mod commands;
 mod comments;
