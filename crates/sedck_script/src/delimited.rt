@@ -4,12 +4,12 @@ ghost use Rattle.std.specs.Prelude.{◌≡◌, ◌≢◌, ◌<◌, ◌∷◌, �
 ghost use Rattle.sedck_bre.specs.Bytes.{letter_y};
 ghost use Rattle.sedck_bre.specs.Faults.{IsOfText};
 ghost use Rattle.sedck_script.specs.Cuts.{is_delimiter};
-ghost use Rattle.sedck_script.specs.Parts.{DelimitedExpression, DelimitedList, FirstList};
+ghost use Rattle.sedck_script.specs.Parts.{DelimitedExpression, ExpressionText, DelimitedList, FirstList};
 ghost use Rattle.sedck_script.specs.Faults.{IsRefusedExpression};
 ghost use Rattle.sedck_script.specs.Private.Reading.{EndsIn};
 ghost use Rattle.sedck_script.specs.Program as clean;
 ghost use Rattle.sedck_script.specs.View.{pattern_of};
-ghost use Rattle.sedck_script.specs.Private.PieceReading.{IsPiece, PatternText, IsPartPlaced, list_escape};
+ghost use Rattle.sedck_script.specs.Private.PieceReading.{IsPiece, PatternText, IsFirstEscape, IsPartPlaced, list_escape};
 ghost use Rattle.sedck_script.specs.declared.delimited.Piece.{Piece};
 
 use crate::bracket_lists::open_bracket;
@@ -83,29 +83,34 @@ fn list_escape(b: u8) -> Option<u8>
     }
 }
 
-/// The expression up to the first delimiter that no backslash escapes, with the escaped delimiters replaced, and what
-/// stands behind it.
+/// The expression up to the first delimiter that no backslash escapes, with the escaped delimiters replaced, the place of the
+/// first of these, and what stands behind the expression.
 fn delimited_expression<'a>(
     alloc: Global,
     whole: &[u8],
     opening: usize,
     delimiter: u8,
     text: &'a [u8],
-) -> Result<(Vec<u8>, &'a [u8]), ScriptFault>
+) -> Result<(Vec<u8>, Option<usize>, &'a [u8]), ScriptFault>
     requires delimiter { IsTrue (is_delimiter delimiter) }
     requires tail { EndsIn whole.now text.now }
-    ensures read { IfOk result (λ x. DelimitedExpression delimiter text.now x.0.items x.1.now) }
+    ensures read { IfOk result (λ x. DelimitedExpression delimiter text.now x.0.items x.2.now) }
+    ensures escape { IfOk result (λ x. IsFirstEscape delimiter whole.now text.now x.0.items (delimiter ∷ x.2.now) x.1) }
     ensures refused { IfErr result (λ fault. fault ≢ ScriptFault.OutOfMemory → (expression : List ℕ) (rest : List ℕ) → DelimitedExpression delimiter text.now expression rest → ⊥) }
     ensures placed { IfErr result (λ fault. IsPartPlaced opening whole.now fault) }
 {
     let mut bytes = Vec::new(alloc);
+    let mut escape = None;
     let mut rest = text;
     loop {
         let (piece, behind) = piece_at(whole, opening, delimiter, rest)?;
         match piece {
-            Piece::End => return Ok((bytes, behind)),
+            Piece::End => return Ok((bytes, escape, behind)),
             Piece::Byte(b) => bytes.push(b)?,
-            Piece::Escaped => bytes.push(delimiter)?,
+            Piece::Escaped => {
+                escape = escape.or(Some(whole.len() - rest.len()));
+                bytes.push(delimiter)?;
+            }
             Piece::Pair(b) => {
                 if b == b'\n' {
                     return Err(ScriptFault::Unterminated { place: opening });
@@ -116,6 +121,30 @@ fn delimited_expression<'a>(
         }
         rest = behind;
     }
+}
+
+/// The expression up to the first delimiter that no backslash escapes, and what stands behind it. Beside a `[` the delimiter `x`
+/// can't be escaped.
+fn expression_text<'a>(
+    alloc: Global,
+    whole: &[u8],
+    opening: usize,
+    delimiter: u8,
+    text: &'a [u8],
+) -> Result<(Vec<u8>, &'a [u8]), ScriptFault>
+    requires delimiter { IsTrue (is_delimiter delimiter) }
+    requires opened { EndsIn whole.now (delimiter ∷ text.now) }
+    ensures read { IfOk result (λ x. ExpressionText delimiter text.now x.0.items x.1.now) }
+    ensures refused { IfErr result (λ fault. fault ≢ ScriptFault.OutOfMemory → (expression : List ℕ) (rest : List ℕ) → ExpressionText delimiter text.now expression rest → ⊥) }
+    ensures placed { IfErr result (λ fault. IsPartPlaced opening whole.now fault) }
+{
+    let (bytes, escape, rest) = delimited_expression(alloc, whole, opening, delimiter, text)?;
+    if let Some(place) = escape {
+        if delimiter == b'x' && bytes.contains(&b'[') {
+            return Err(ScriptFault::EscapedDelimiter { place });
+        }
+    }
+    Ok((bytes, rest))
 }
 
 /// The fault of an expression that begins at the place.
@@ -144,7 +173,7 @@ pub fn pattern<'a>(
     ensures refused { IfErr result (λ fault. fault ≢ ScriptFault.OutOfMemory → (p : clean.Pattern) (rest : List ℕ) → PatternText delimiter text.now p rest → ⊥) }
     ensures placed { IfErr result (λ fault. IsPartPlaced opening whole.now fault) }
 {
-    let (bytes, rest) = delimited_expression(alloc, whole, opening, delimiter, text)?;
+    let (bytes, rest) = expression_text(alloc, whole, opening, delimiter, text)?;
     if bytes.is_empty() {
         return Ok((Pattern::Previous, rest));
     }
