@@ -1,14 +1,13 @@
 -- Where carriage returns stand in a comment.
-use Rattle.std.proofs.Common.{◌≡◌, ℕ, suc, ◌+◌, ◌-◌, ◌<◌, ◌≤◌, true, inl, inr, append_assoc, Option, Some, None, List, [], ◌∷◌, ◌++◌, length, take, drop, get_or, refl, ap, ◌∙◌, subst, length-append, arith}
+use Rattle.std.proofs.Common.{◌≡◌, ℕ, suc, ◌+◌, ◌-◌, ◌<◌, ◌≤◌, true, inl, inr, Option, Some, None, List, [], ◌∷◌, ◌++◌, length, take, drop, get_or, refl, ap, ◌∙◌, length-append, arith}
 use Rattle.std.proofs.Math.Seq.{split_at, get_or-append_seam}
 use Rattle.std.proofs.lemmas.List.{nil_from_length, length-drop}
 use Rattle.std.proofs.lemmas.Bool.{eqb-true, eq-eqb, cases_order}
-use Rattle.std.specs.Prelude.{slice_get}
 use Rattle.memchr.specs.Find.{IsFirstByte, is_byte}
 use Rattle.sedck_script.specs.Items.{HasNoInnerReturn}
 use Rattle.sedck_script.specs.Faults.{StandsWhere, is_extra}
 use Rattle.sedck_script.specs.Private.Reading.{EndsIn}
-use Rattle.sedck_script.proofs.OffsetLemmas.{tail_tail, tail_length, stands_at_tail}
+use Rattle.sedck_script.proofs.LineBytes.{line_byte}
 
 -- where the first one, if there is one, is the last byte
 pub no_inner_return : (line : List ℕ) (first : Option ℕ) → IsFirstByte (is_byte 13) line first → ((at : ℕ) → first ≡ Some at → length line ≤ suc at)
@@ -42,12 +41,4 @@ inner_return line at is more none =
 -- a carriage return of the line stands there in the whole
 pub return_stands : {whole text : List ℕ} (line rest : List ℕ) (at : ℕ) → EndsIn whole text → text ≡ line ++ rest → is_byte 13 (get_or line at 0) ≡ true
     → at < length line → StandsWhere is_extra whole (length whole - length text + at)
-return_stands {whole} {text} line rest at tail cut is within =
-    let begins = 13 ∷ (drop (suc at) line ++ rest) in
-    let all : text ≡ take at line ++ begins =
-    cut ∙ ap (λ t. t ++ rest) (return_cut line at is within) ∙ append_assoc (take at line) (13 ∷ drop (suc at) line) rest in
-    let long : length text ≡ length line + length rest = ap length cut ∙ length-append line rest in
-    let left = length-append (drop (suc at) line) rest in
-    let place : length whole - length begins ≡ length whole - length text + at =
-    omega (arith, within, long, left, length-drop (suc at) line, tail_length tail) in
-    (13, subst (λ p. slice_get whole p ≡ Some 13) place (stands_at_tail (tail_tail tail (take at line, all)) refl), refl)
+return_stands line rest at tail cut is within = (13, line_byte 13 line rest at tail cut (eqb-true _ 13 is) within, refl)

@@ -41,4 +41,5 @@ pub mod ReferenceLemmas
 pub mod LiteralLengths
 pub mod PlaceLemmas
 pub mod BracketLemmas
+pub mod EscapeLemmas
 pub mod PlacesWithin

@@ -110,7 +110,7 @@ verb_takes (w.insert h l g) = (_, _, refl, tail_tail (tail_cut l) (given_tail g)
 verb_takes (w.read h n) = (_, _, refl, name_tail n)
 verb_takes (w.write h n) = (_, _, refl, name_tail n)
 verb_takes (w.substitute {delimiter = d} h t x y z g f) =
-    (_, _, refl, tail_cons d (tail_tail (expression_tail x) (tail_tail (replacement_tail z) (flags_tail f))))
+    (_, _, refl, tail_cons d (tail_tail (expression_tail x.cut) (tail_tail (replacement_tail z) (flags_tail f))))
 verb_takes (w.transliterate {delimiter = d} h t x y l e) = (_, _, refl, tail_cons d (tail_tail (list_tail x.list) (tail_tail (list_tail y) (ends_tail e))))
 
 pub verb_text_tail : {text rest : List ℕ} {v : WrittenVerb} → VerbText text v rest → EndsIn text rest

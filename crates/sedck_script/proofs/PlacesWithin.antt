@@ -40,5 +40,8 @@ placed_within text (fault.TooDeep place) h = within text place _ h
 placed_within text (fault.TooManyCommands place) h = within text place _ h.1
 placed_within text (fault.ExtraText place) h = within text place _ h.1
 placed_within text (fault.NoPreviousExpression place) h = within text place _ h.4
-placed_within text (fault.EscapedDelimiter place) h = within text place _ h
+placed_within text (fault.EscapedDelimiter place) h = elim h [
+  | inl forbidden ↦ within text place _ forbidden.0
+  | inr beside ↦ omega (arith, ap length beside.here, length-drop place text)
+]
 placed_within text fault.OutOfMemory h = tt

@@ -53,7 +53,8 @@ pub enum ScriptFault {
     ExtraText { place: usize },
     /// An empty expression in a script where every one is empty, as in `s//x/`. Place: after its opening delimiter.
     NoPreviousExpression { place: usize },
-    /// A backslash before a delimiter that can't be escaped. Place: the backslash.
+    /// A backslash before a delimiter that can't be escaped, or before the delimiter `x` in an expression that has a `[`, as in
+    /// `sx[\xa]xyx`. Place: the backslash, of several the first.
     EscapedDelimiter { place: usize },
     /// A growth was refused.
     OutOfMemory,

@@ -1,10 +1,9 @@
-use Rattle.std.proofs.Common.{◌≡◌, ◌⊎◌, ◌∙◌, List, ℕ, [], false, true, inl, inr, sym, subst, arith, length, not}
+use Rattle.std.proofs.Common.{◌≡◌, ◌⊎◌, ◌∙◌, List, ℕ, [], false, inl, inr, sym, subst, arith, not}
 use Rattle.std.proofs.lemmas.Bool.{both_ways}
 use Rattle.std.specs.Prelude.{IsTrue}
 use Rattle.sedck_bre.specs.Text.{begins}
 use Rattle.sedck_script.proofs.ResultLemmas.{if_err_always}
 use Rattle.sedck_script.specs.Cuts.{is_newline, is_continued, Longest}
-use Rattle.sedck_script.specs.Parts.{EndsFlags}
 use Rattle.sedck_script.proofs.LongestRuns.{longest_one}
 use Rattle.sedck_script.proofs.OffsetLemmas.{tail_tail, ends_tail}
 use Rattle.sedck_script.proofs.UniqueParts.{ends_one}
