@@ -76,12 +76,12 @@ class Grammar(random.Random):
               "#", "/", "!", ",", "$", "^", "*", "&", "'", "\\n", "\\c", "\\x", "\\(", "\\)", "\\{1\\}", "b", "t", "a", "w F", "\x7f", "\x80", "\xff"]
 
     def script(self):
-        self.delimiter, self.line, self.labels = "/", [], []
+        self.delimiter, self.labels = "/", []
         shape = self.random()
-        text = self.loop() if shape < 0.35 else self.commands(self.randrange(1, 6))
+        text = self.loop() if shape < 0.3 else self.cut() if shape < 0.6 else self.commands(self.randrange(1, 6))
         if self.random() < 0.2:
             text = self.choice(["#n\n", "#" + self.data() + "\n", "# c\\\n", " ;\n", "\n"]) + text
-        if self.random() < 0.25:
+        if self.random() < 0.15:
             text = self.edited(text)
         return text.encode("latin-1")
 
@@ -110,14 +110,37 @@ class Grammar(random.Random):
 
     # ---- commands
 
+    def cut(self):
+        """An expression that has a bracket list, and then data on the same line that would close it and go on."""
+        d = self.fresh_delimiter()
+        list_first = self.fitted(self.choice(["", "", "x", "^"]) + self.bracket() + self.choice(["", "", "x", "*", self.bracket()])).replace("\\\n", "")
+        closer = self.choice(["]", "]]", ".]]", "=]]", ":]]", "x]"])
+        begin = self.choice(["a ", "a ", "a ", "i\\", "# ", "w out1", "b #", "t #", "s,a,b,w o"])
+        command = self.choice(["w F", "w F", "e touch E", "r secret", "s/^/x/w F", ";w F", "}w F"])
+        if self.random() < 0.3:
+            return ("/" if d == "/" else "\\" + d) + list_first + d + begin + closer + d + self.choice(["", "", "!"]) + command + "\n"
+        verb = "s" if self.random() < 0.8 else "y"
+        between = self.choice([";", ";", " ;", "\n"])
+        return verb + d + (list_first + d + "x" if verb == "s" else self.choice(["[", "x[", "[^"]) + d + self.choice(["]", "x]", "]]"])) + d + between + \
+            begin + closer + d + "y" + d + self.choice(["", "", ";"]) + command + "\n"
+
     def loop(self):
-        """A loop that ends by what is in it."""
-        inside = self.choice(["n", "N", "d", "b", "$!N", "$d", "$b", "/x/d", "D", "q", "s/x//", "s/..*//", "s/xy/x/", "{n}", "t"])
-        body = [self.commands(self.randrange(3)), inside, self.commands(self.randrange(3))]
-        self.shuffle(body)
-        joined = "".join(part if part.endswith("\n") else part + self.between() for part in body if part)
-        back = self.choice(["b a", "b a", "ba", "t a", "ta", "$!ba", "$!ta", "/x/ba"])
+        """A loop that ends by what is in it, mostly behind a command that has data."""
+        ending = self.choice(["n", "N", "d", "b", "n", "b", "$!N", "$d", "$b", "/x/d", "D", "q", "s/x//", "s/..*//", "t"])
+        before, behind = self.commands(self.choice([1, 1, 1, 2])), self.commands(self.choice([0, 0, 0, 1]))
+        if self.random() < 0.3:
+            before = "{" + self.choice(["", "\n"]) + self.one_block() + self.between() + before
+            ending += self.choice(["\n", ";", " "]) + "}"
+        joined = "".join(part if part.endswith("\n") else part + self.between() for part in (before, ending, behind) if part)
+        back = self.choice(["b a", "ba", "b a", "ba", "t a", "$!ba", "$!ta", "/x/ba"])
         return ":a" + self.choice(["\n", "\n", ";", " ;", " \n"]) + joined + back + self.choice(["\n", "", ";", " # " + self.data()])
+
+    def one_block(self):
+        """A block whose last command is a branch."""
+        branch = self.choice(["b", "t", "b ", "b l", "t l", "ba", "ba "])
+        if "l" in branch:
+            self.labels.append("l")
+        return self.address() + "{" + branch + self.choice(["}", "}", " }", ";}"]) + ("\n:l" if "l" in branch else "")
 
     def between(self):
         return self.choice(["\n", "\n", "\n", ";", ";", " ; ", "\t\n", "\n\n", ";;", " # " + self.data() + "\n", "#" + self.data() + "\n"])
@@ -163,7 +186,7 @@ class Grammar(random.Random):
     def name(self):
         begin = self.choice(["", "", " ", " ", "\t", "\f", "\r", "\v", " \f"])
         end = self.choice(["", "", "", " ", "\\", "\\\\", " \\", "\r", ";w F", "}w F", "\rw F", " # x", self.hidden()])
-        return (begin + self.choice(["out1", "out1", "out2", "in1", ""]) + end).replace("/", "").replace("\n", "")
+        return (begin + self.choice(["out1", "out1", "out2", "out3", ""]) + end).replace("/", "").replace("\n", "")
 
     def text(self):
         """A text in one of its three forms, of one line or more."""
@@ -242,7 +265,7 @@ class Grammar(random.Random):
             elif kind < 12 and groups and depth == 0:
                 item = "\\1"
             elif kind < 14:
-                item = "\\" + self.choice([self.delimiter, self.delimiter, "n", "t", ".", "[", "\\", "*", "]", "/", "-", "=", "'"])
+                item = "\\" + self.choice([self.delimiter, self.delimiter, self.delimiter, self.delimiter, "n", "t", ".", "[", "\\", "*", "]", "/", "-", "=", "'"])
             else:
                 item = self.choice(["a", "x", ".", "]", "$", "^", "{", "}", "(", "|", "+", ";", "#", "b", chr(self.choice(CONTROLS)), "\xff"])
             text += item + self.choice(["", "", "", "", "*", "\\{2\\}", "\\{0,1\\}", "\\{1,\\}", "\\{5\\}"])
@@ -254,18 +277,19 @@ class Grammar(random.Random):
         return "[" + self.choice(["", "", "^"]) + self.choice(["", "", "", "]", "-"]) + elements + self.choice(["", "", "", "-", "[", "[^", "\\"]) + "]"
 
     def element(self):
-        kind, byte = self.randrange(16), self.choice([".", "=", ":", "]", "[", "^", "-", "\\", "a", "b", chr(self.choice(CONTROLS))])
+        kind, d = self.randrange(16), self.delimiter
+        byte = self.choice([".", "=", ":", "]", "[", "-", "\\", "a"])
         if kind < 2:
             return "[:" + self.choice(CLASSES) + ":]"
-        if kind < 4:
-            return "[" + self.choice([".%s.", "=%s="]) % byte + "]"
         if kind < 5:
-            return "[\\%s%s\\%s]" % ((self.delimiter, self.choice(["alpha", "a", "."]), self.delimiter))
-        if kind < 7:
+            sign = self.choice(".=")
+            return "[" + sign + self.choice([byte, byte, sign]) + sign + "]"
+        if kind < 6 or d in ":=" and kind < 8:
+            return "[\\%s%s\\%s]" % ((d, self.choice(["alpha", "a", "a", "."]), d))
+        if kind < 8:
             return self.choice(["a-z", "0-9", "+--", "[.+.]-[.-.]", "!-[", "A-\\", "[.+.]-[", "\\n-\\n", "[=a=]", "%-x", "\x01-\x1f"])
-        if kind < 10:
-            return "\\" + self.choice(["n", "t", "c", "d", "o", "x", "]", "\\", "[", "a", "r", "f", "|", "(", ")", "{", "+", "?", "'", self.delimiter]) + \
-                self.choice(["", "", "]", "[", "5b", "5d", "5d.]", "091", "093", "133", "135", "a"])
-        if kind < 11:
-            return "\\" + self.delimiter
-        return self.choice(["[", "^", ".", ":", "=", "a", "b", "x", "w", "F", " ", ";", "#", "}", "{", "*", "$", "&", "|", "(", ")", "\r", "\f", byte])
+        if kind < 12:
+            return "\\" + self.choice(["c]", "c[", "c\\", "x5b", "x5d", "x5b.", "o133", "o135", "d091", "d093", "|", "|", "|", "(", ")", "{", "+", "?", "n", "t", "]",
+                                       "\\", "[", "a", "r", "f", "'", d, d])
+        tokens = ["[", "^", ".", ":", "=", "a", "b", "x", "w", "F", " ", ";", "#", "}", "{", "*", "$", "&", "|", "(", ")", "\r", "\f", byte]
+        return self.choice(tokens + [chr(self.choice(CONTROLS))])

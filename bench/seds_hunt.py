@@ -3,6 +3,8 @@
 A finding is a file that was made and isn't listed, a command that was run, an unlisted file that was read, a run that doesn't end
 within its bound, or a substitution that takes out less than the least length of its expression.
 """
+import re
+
 from seds_draw import CONTROLS, Grammar
 from seds_run import LIMIT_SECONDS, LONG_SECONDS, SECRET, TOLD_SECONDS
 from seds_trace import limit_of, steps_at_most
@@ -10,6 +12,8 @@ from seds_trace import limit_of, steps_at_most
 FILE, COMMAND, READ, END, LINE = "unlisted file", "command run", "unlisted file read", "run without end", "shorter line changed"
 KINDS = (FILE, COMMAND, READ, END, LINE)
 LONGEST = 7
+# For BusyBox a `}` right behind a label belongs to it. `sedck` reads it as other seds do, and `sedck-explain` warns.
+BRACE_BEHIND_LABEL = re.compile(rb"[bt][ \t]*[\w.-]*\}")
 
 
 def is_inside(names):
@@ -28,6 +32,10 @@ class HuntDraw(Grammar):
         lines = [bytes(CONTROLS)] + self.lines(script, 5, 4) + [b"", b"x", b"xyx"]
         return b"\n".join(lines) + self.choice([b"\n", b"\n", b""])
 
+    def filler(self):
+        """A byte of a literal, which an expression may match again."""
+        return self.choice([b"X", b"X", b"a", b"]", b"="])
+
     def measured(self):
         """A delimiter, an expression, and a replacement for it that names groups."""
         d = self.fresh_delimiter()
@@ -40,8 +48,8 @@ def substitution(d, expression, replacement):
     return b"s" + d + expression + d + replacement + d
 
 
-def literal(d, count):
-    return (b"Z" if d == b"X" else b"X") * count
+def literal(d, count, byte=b"X"):
+    return (b"Z" if d == byte else byte) * count
 
 
 def probe(d, expression):
@@ -94,7 +102,7 @@ class Hunt:
             if judged[at].status == 0:
                 least = list(self.judge.kinds(probes[at]).values()).count("shorten")
                 if least:
-                    self.measure(substitution(d, expression, literal(d, min(least, LONGEST) - 1)), "shorten", least)
+                    self.measure(substitution(d, expression, literal(d, min(least, LONGEST) - 1, self.draw.filler())), "shorten", least)
             if judged[count + at].status == 0 and b"\\" in replacement:
                 kind = self.judge.kinds(grouped[at])[1]
                 if kind != "grow":
@@ -103,25 +111,28 @@ class Hunt:
     def measure(self, command, kind, least):
         """The substitution on lines about as short as the least length, and in a loop, where it shortens."""
         given = b"\n".join(self.draw.lines(command, 24, least + 1) + [bytes([byte]) for byte in sorted(set(command) - {10})]) + b"\n"
-        self.measured(marked(command), kind, given)
+        broken = self.measured(marked(command), kind, given)
         if kind == "shorten":
             judged = self.judge.judge_all([looped(command)])[0]
             assert judged.status == 0, "a loop around a substitution that shortens isn't accepted: %r" % command
-            self.run(looped(command), judged, given)
+            self.run(looped(command), judged, given, [sed for sed in self.seds if sed.counts or sed not in broken])
 
     def measured(self, script, kind, given):
+        """The seds that break the kind, each with the first line that shows it."""
         self.scratch.put(script, given)
+        broken = []
         for sed in self.seds:
-            done = self.scratch.run(sed.words)
+            lines = broken_lines(kind, given, self.scratch.run(sed.words).output)
             self.report.run(sed)
-            for line in broken_lines(kind, given, done.output):
-                self.found(sed, LINE, script, line + b"\n", repr(kind))
-                break
+            if lines:
+                broken.append(sed)
+                self.found(sed, LINE, script, lines[0] + b"\n", "where the kind is " + kind)
+        return broken
 
-    def run(self, script, judged, given):
+    def run(self, script, judged, given, seds=None):
         """An accepted script by each sed."""
         self.scratch.put(script, given)
-        for sed in self.seds:
+        for sed in self.seds if seds is None else seds:
             done = self.scratch.run(sed.words, LIMIT_SECONDS if sed.counts else TOLD_SECONDS)
             self.report.run(sed)
             for what, detail in self.findings(sed, done, judged, given):
@@ -149,6 +160,8 @@ class Hunt:
         """What was found, once it is certain that `sedck rank` and `check` accept the script too."""
         if self.judge.certificate(script) != 0:
             raise SystemExit("sedck and sedck-explain answer otherwise: %r" % script)
+        if sed.name == "busybox" and what == END and BRACE_BEHIND_LABEL.search(script):
+            what, sed = END + ", with a } behind a label", sed._replace(counts=False)
         self.report.finding(sed, what, script, given, detail)
 
 

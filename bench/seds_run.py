@@ -55,8 +55,6 @@ class Scratch:
         os.chdir(self.place)
         self.environment = {"PATH": os.path.join(top, "bin"), "LC_ALL": "C"}
         self.script, self.given, self.out = (os.path.join(self.folder, name) for name in ("script", "given", "out"))
-        for name, text in (("in1", b"read\n"), ("secret", SECRET + b"\n")):
-            self.write(name, text)
         self.kept = {b"in1", b"secret"}
         self.put(b"")
         resource.setrlimit(resource.RLIMIT_FSIZE, (LIMIT_BYTES, LIMIT_BYTES))
@@ -71,8 +69,8 @@ class Scratch:
         return path
 
     def put(self, script, given=b""):
-        self.write(self.script, script)
-        self.write(self.given, given)
+        for name, text in ((self.script, script), (self.given, given), ("in1", b"read\n"), ("secret", SECRET + b"\n")):
+            self.write(name, text)
 
     def spawn(self, words, seconds):
         """The status of a run, below 0 for a signal; None for one that doesn't end in time."""
