@@ -35,9 +35,15 @@ def become_nobody():
         os.setuid(NOBODY)
 
 
+def in_memory():
+    """A folder in memory from which programs may be run, if there is one."""
+    place = "/dev/shm"
+    return place if os.access(place, os.W_OK | os.X_OK) and not os.statvfs(place).f_flag & os.ST_NOEXEC else None
+
+
 def make_top(programs):
     """A scratch folder that anyone may write to, with copies of the programs, and with `touch` for a search path."""
-    top = tempfile.mkdtemp(prefix="sedck-seds-")
+    top = tempfile.mkdtemp(prefix="sedck-seds-", dir=in_memory())
     os.chmod(top, 0o1777)
     os.mkdir(os.path.join(top, "bin"))
     os.symlink(shutil.which("touch"), os.path.join(top, "bin", "touch"))
@@ -61,6 +67,14 @@ class Scratch:
         resource.setrlimit(resource.RLIMIT_AS, (LIMIT_MEMORY, LIMIT_MEMORY))
         resource.setrlimit(resource.RLIMIT_CORE, (0, 0))
         signal.signal(signal.SIGXFSZ, signal.SIG_IGN)
+        self.child = None
+        signal.signal(signal.SIGTERM, self.end)
+
+    def end(self, number, frame):
+        """No run outlives this process."""
+        if self.child:
+            os.killpg(self.child, signal.SIGKILL)
+        os._exit(128 + number)
 
     @staticmethod
     def write(path, text):
@@ -77,13 +91,14 @@ class Scratch:
         opened = [(os.POSIX_SPAWN_OPEN, 0, self.given, os.O_RDONLY, 0),
                   (os.POSIX_SPAWN_OPEN, 1, self.out, os.O_WRONLY | os.O_CREAT | os.O_TRUNC, 0o600),
                   (os.POSIX_SPAWN_OPEN, 2, os.devnull, os.O_WRONLY, 0)]
-        child = os.posix_spawn(words[0], words, self.environment, file_actions=opened, setpgroup=0, setsigdef=[signal.SIGXFSZ])
-        watched = os.pidfd_open(child)
+        self.child = os.posix_spawn(words[0], words, self.environment, file_actions=opened, setpgroup=0, setsigdef=[signal.SIGXFSZ])
+        watched = os.pidfd_open(self.child)
         ended = select.select([watched], [], [], seconds)[0]
         os.close(watched)
         if not ended:
-            os.killpg(child, signal.SIGKILL)
-        status = os.waitstatus_to_exitcode(os.waitpid(child, 0)[1])
+            os.killpg(self.child, signal.SIGKILL)
+        status = os.waitstatus_to_exitcode(os.waitpid(self.child, 0)[1])
+        self.child = None
         return None if not ended or status == -signal.SIGXFSZ else status
 
     def output(self):

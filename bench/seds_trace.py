@@ -97,8 +97,9 @@ def unexplained(graph, trace, total):
 
 
 def steps_at_most(text):
-    """No fewer steps than a run had that `--debug` shows so: the commands, the ends of cycles, and the beginning."""
-    return text.count(b"\nCOMMAND: ") + text.count(b"\nEND-OF-CYCLE:") + 1
+    """No fewer steps than a run had that `--debug` shows so: the commands but `}`, the ends of cycles, and the beginning."""
+    braces = len(re.findall(rb"^COMMAND: *\}$", text, re.MULTILINE))
+    return text.count(b"\nCOMMAND: ") - braces + text.count(b"\nEND-OF-CYCLE:") + 1
 
 
 def limit_of(bound, given):
