@@ -168,7 +168,7 @@ def work(task):
         try_steps(prepare.scratch, prepare.judge, script, [draw.input() for _ in range(inputs)], prepare.seds, report)
     else:
         hunt = Hunt(prepare.scratch, prepare.judge, prepare.seds, report, seed)
-        report.count("scripts drawn that hide commands" if what == "hidden" else "substitutions drawn", argument)
+        report.count("scripts that hide commands: drawn" if what == "hidden" else "substitutions: drawn", argument)
         (hunt.hidden if what == "hidden" else hunt.lengths)(argument)
     return report
 

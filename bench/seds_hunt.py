@@ -87,7 +87,7 @@ class Hunt:
         """Scripts that hide commands."""
         scripts = [self.draw.script() for _ in range(count)]
         for script, judged in zip(scripts, self.judge.judge_all(scripts)):
-            self.report.count(("accepted", "with a loop", "refused")[judged.status])
+            self.report.count("scripts that hide commands: " + ("accepted", "with a loop", "refused")[judged.status])
             if judged.status == 0 and is_inside(judged.reads | judged.writes):
                 self.run(script, judged, self.draw.input(script))
 
@@ -98,7 +98,7 @@ class Hunt:
         grouped = [marked(substitution(*parts)) for parts in drawn]
         judged = self.judge.judge_all(probes + grouped)
         for at, (d, expression, replacement) in enumerate(drawn):
-            self.report.count("accepted" if judged[at].status == 0 else "refused")
+            self.report.count("substitutions: " + ("accepted" if judged[at].status == 0 else "refused"))
             if judged[at].status == 0:
                 least = list(self.judge.kinds(probes[at]).values()).count("shorten")
                 if least:
