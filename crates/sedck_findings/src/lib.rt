@@ -7,14 +7,17 @@
 
 mod answer;
 mod certificates;
+mod escapes;
 mod explaining;
 mod finding;
 mod hints;
+mod lists;
 mod loops;
 mod names;
 mod places;
 mod refusals;
 mod shown;
+mod spot;
 mod steps;
 
 pub use answer::Answer;

@@ -3,6 +3,7 @@
 use crate::finding::{Finding, Level};
 use crate::hints::script_hint;
 use crate::places::position_at;
+use crate::spot::Spot;
 use sedck_bre::ReFault;
 use sedck_script::ScriptFault;
 use std::alloc::{AllocError, Global};
@@ -14,13 +15,17 @@ pub(crate) fn script_refusal(
     fault: ScriptFault,
 ) -> Result<Finding, AllocError> {
     let offset = offset_of(text, fault);
-    let rest = text.get(offset..).unwrap_or(&[]);
+    let spot = Spot {
+        before: text.get(..offset).unwrap_or(&[]),
+        rest: text.get(offset..).unwrap_or(&[]),
+        expression: expression_of(fault),
+    };
     Ok(Finding {
         level: Level::Error,
         code: code_of(fault),
         position: Some(position_at(text, offset)),
         message: String::from_str(alloc, reason_of(fault))?,
-        hint: script_hint(fault, rest),
+        hint: script_hint(fault, spot),
         steps: Vec::new(alloc),
     })
 }
@@ -30,6 +35,14 @@ fn code_of(fault: ScriptFault) -> &'static str {
     match fault {
         ScriptFault::BadExpression { fault, .. } => fault.name(),
         fault => fault.name(),
+    }
+}
+
+/// Where the expression begins in which the fault is; 0 for any other fault.
+fn expression_of(fault: ScriptFault) -> usize {
+    match fault {
+        ScriptFault::BadExpression { place, .. } => place,
+        _ => 0,
     }
 }
 
@@ -81,7 +94,9 @@ fn reason_of(fault: ScriptFault) -> &'static str {
         ScriptFault::BadTransliteration { .. } => {
             "the lists of `y` differ in length, or have an escape other than `\\\\`, `\\n` and the delimiter's"
         }
-        ScriptFault::MissingText { .. } => "the command has no text",
+        ScriptFault::MissingText { .. } => {
+            "the command has no text, or one in its own line that begins with a backslash"
+        }
         ScriptFault::MissingName { .. } => "the file name is missing",
         ScriptFault::BadLabel { .. } =>
             "a label is missing, or holds a byte that no label may hold",
