@@ -7,20 +7,19 @@
 
 mod answer;
 mod certificates;
-mod escapes;
+mod denied;
 mod explaining;
 mod finding;
-mod hints;
-mod lists;
+mod looks;
 mod loops;
 mod names;
 mod places;
 mod refusals;
 mod shown;
-mod spot;
 mod steps;
 
 pub use answer::Answer;
+pub use denied::Denied;
 pub use explaining::explain;
 pub use finding::{Explanation, Finding, Level, NamedFile, Step};
 pub use places::{Position, line_at, position_at};

@@ -1,10 +1,9 @@
 //! What is reported of a script's text that is refused.
 
 use crate::finding::{Finding, Level};
-use crate::hints::script_hint;
 use crate::places::position_at;
-use crate::spot::Spot;
 use sedck_bre::ReFault;
+use sedck_hints::{Spot, other_kind, script_hint};
 use sedck_script::ScriptFault;
 use std::alloc::{AllocError, Global};
 
@@ -20,12 +19,16 @@ pub(crate) fn script_refusal(
         rest: text.get(offset..).unwrap_or(&[]),
         expression: expression_of(fault),
     };
+    let (message, hint) = match other_kind(text) {
+        Some(foreign) => (foreign.message, Some(foreign.hint)),
+        None => (reason_of(fault), script_hint(fault, spot)),
+    };
     Ok(Finding {
         level: Level::Error,
         code: code_of(fault),
         position: Some(position_at(text, offset)),
-        message: String::from_str(alloc, reason_of(fault))?,
-        hint: script_hint(fault, spot),
+        message: String::from_str(alloc, message)?,
+        hint,
         steps: Vec::new(alloc),
     })
 }
@@ -92,7 +95,7 @@ fn reason_of(fault: ScriptFault) -> &'static str {
         }
         ScriptFault::BadFlag { .. } => "no flag of POSIX sed stands here, or it is there twice",
         ScriptFault::BadTransliteration { .. } => {
-            "the lists of `y` differ in length, or have an escape other than `\\\\`, `\\n` and the delimiter's"
+            "the lists of `y` differ in length, have an escape other than `\\\\`, `\\n` and the delimiter's, or a `[` in the first that is left open"
         }
         ScriptFault::MissingText { .. } => {
             "the command has no text, or one in its own line that begins with a backslash"
@@ -127,7 +130,7 @@ fn expression_reason(fault: ReFault) -> &'static str {
         }
         ReFault::UnclosedBracket { .. } => "the bracket list isn't closed before the delimiter",
         ReFault::BadBracket { .. } =>
-            "the bracket list has a range, a class or a hyphen that is none",
+            "the bracket list has a range, a class or a hyphen that is none, or an element that seds read differently",
         ReFault::EmptySet { .. } => "the bracket list matches nothing",
         ReFault::UnclosedGroup { .. } => "this group isn't closed",
         ReFault::UnopenedGroup { .. } => "this closes no group",

@@ -4,7 +4,7 @@ use crate::lists::{Reading, is_blank};
 
 /// Where a fault is, and what is around it.
 #[derive(Clone, Copy)]
-pub(crate) struct Spot<'a> {
+pub struct Spot<'a> {
     /// The script up to the fault.
     pub before: &'a [u8],
     /// The script from the fault on.
@@ -15,7 +15,7 @@ pub(crate) struct Spot<'a> {
 
 /// What an expression is for.
 #[derive(Clone, Copy, PartialEq, Eq)]
-pub(crate) enum Purpose {
+pub enum Purpose {
     /// The expression of `s`.
     Replaces,
     /// That of `s` with the flag `g`.
@@ -90,7 +90,7 @@ impl<'a> Spot<'a> {
 }
 
 /// What follows the delimiter that ends this part.
-pub(crate) fn behind_part(part: &[u8], delimiter: u8) -> &[u8] {
+pub fn behind_part(part: &[u8], delimiter: u8) -> &[u8] {
     let mut is_escaped = false;
     for (index, byte) in part.iter().enumerate() {
         if is_escaped {

@@ -3,7 +3,7 @@
 use crate::spot::{Purpose, Spot};
 
 /// By the byte behind the backslash, and by what is around it.
-pub(crate) fn escape_hint(spot: Spot) -> &'static str {
+pub fn escape_hint(spot: Spot) -> &'static str {
     if spot.reading().is_in_list() {
         return list_escape_hint(spot.rest);
     }

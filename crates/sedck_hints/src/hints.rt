@@ -7,7 +7,7 @@ use sedck_bre::ReFault;
 use sedck_script::ScriptFault;
 
 /// What to write instead, by the fault and by what is around it.
-pub(crate) fn script_hint(fault: ScriptFault, spot: Spot) -> Option<&'static str> {
+pub fn script_hint(fault: ScriptFault, spot: Spot) -> Option<&'static str> {
     if let Some(hint) = file_hint(spot.rest) {
         return Some(hint);
     }

@@ -19,7 +19,7 @@ enum Place {
 
 /// A reader of an expression.
 #[derive(Clone, Copy)]
-pub(crate) struct Reading {
+pub struct Reading {
     place: Place,
     /// The groups that are open.
     groups: usize,
@@ -90,6 +90,6 @@ fn next_place(place: Place, byte: u8) -> Place {
 }
 
 /// Whether the byte is a space or a tab.
-pub(crate) fn is_blank(byte: u8) -> bool {
+pub fn is_blank(byte: u8) -> bool {
     matches!(byte, b' ' | b'\t')
 }
