@@ -29,7 +29,7 @@ def check_help(tools):
     for words in (["--help"], ["-h"], ["--help", "s.sed"]):
         status, report, errors = tools.explain(*words)
         tools.same("help", (status, errors), (0, b""))
-        for part in (*FORMATS, "--format", "--cert", "--help", "--version", "SCRIPT", "standard input", "0 accepted", "4 a file"):
+        for part in (*FORMATS, "--format", "--cert", "--deny", "--help", "--version", "SCRIPT", "standard input", "0 accepted", "4 a file"):
             tools.holds("help has %s" % part, part.encode() in report)
 
 

@@ -143,4 +143,27 @@ LOOPS = [
         ":a\n/;$/!{\n$!{\nN\nba\n}\n}\ns/\\n/ /g\n", ("a\nb;\nc;\n", "a;\n", "a\n\n;\n")),
 ]
 
-ROWS = REPLACED + ESCAPES + BARS + ADDRESSES + COMMANDS + LOOPS
+# Forms that some seds read as another script.
+NARROWED = [
+    Row("a point as a symbol", "s/[[...]]/x/\n", "write the byte itself", "s/[.]/x/\n", ("a.b\n", "ab\n", "..\n"), due=("axb\n", "ab\n", "x.\n"),
+        wrong=("s/./x/\n",)),
+    Row("an equals sign as a class", "s/[a[===]]/x/\n", "`[=]` for `[[===]]`", "s/[a=]/x/\n", ("=a\n", "b\n", "b=\n"), due=("xa\n", "b\n", "bx\n")),
+    Row("backslash and c in a list", "s/[\\c]/X/g\n", "write two backslashes", "s/[\\\\c]/X/g\n", ("a\\cb\n", "abc\n", "b\n"),
+        due=("aXXb\n", "abX\n", "b\n"), wrong=("s/[c]/X/g\n",)),
+    Row("backslash and d in a list", "s/[\\d]/X/g\n", "GNU sed takes it for a `d`", "s/[d]/X/g\n", ("a\\d1\n", "d\n", "1\n"), wrong=("s/[[:digit:]]/X/g\n",)),
+    Row("number of a byte in a list", "s/[\\x41\\d066]/X/g\n", "write that byte itself", "s/[AB]/X/g\n", ("ABC\n", "x41\n", "\\\n"),
+        wrong=("s/[\\\\x41]/X/g\n",)),
+    Row("bracket behind a class", "s/[[:alpha:][]/X/g\n", "before the class", "s/[[[:alpha:]]/X/g\n", ("a[1]\n", "1\n", "[[\n"), wrong=("s/[[:alpha:]]/X/g\n",)),
+    Row("bracket behind a class in a complement", "s/[^[:alpha:][]/X/g\n", "before the class", "s/[^[[:alpha:]]/X/g\n", ("a[1]\n", "1\n", "[[\n")),
+    Row("comment behind t", "s/a/b/\nt # done\ns/b/c/\n", "write the comment on a line of its own", "s/a/b/\n# done\nt\ns/b/c/\n", ("a\n", "b\n", "ab\n"),
+        due=("b\n", "c\n", "bb\n")),
+    Row("carriage return in a comment", "# a\rb\ns/a/b/\n", "take it out", "# ab\ns/a/b/\n", ("a\n", "b\n", "aa\n")),
+    Row("x as the delimiter of a list", "sx[\\x5b]xZx\n", "take another delimiter", "s,[x5b],Z,\n", ("x\n", "[\n", "5b\n"), due=("Z\n", "[\n", "Zb\n")),
+    Row("open list in y", "y/[/(/\n", "in both lists", "y/[a]/(a]/\n", ("[a]\n", "b\n", "[[\n"), wrong=("y/[a]/(a)/\n",)),
+    Row("comment with a backslash at its end", "s/a/b/ # c\\\ns/b/c/\n", "BusyBox joins this line with the next one", "s/a/b/ # c\ns/b/c/\n",
+        ("a\n", "b\n", "ab\n")),
+    Row("name with a backslash at its end", "w out\\\ns/b/c/\n", "BusyBox joins this line with the next one", "w out\ns/b/c/\n", ("a\n", "b\n", "ab\n")),
+    Row("name with a form feed", "w \fout\ns/b/c/\n", "BusyBox skips this byte", "w out\ns/b/c/\n", ("a\n", "b\n", "ab\n")),
+]
+
+ROWS = NARROWED + REPLACED + ESCAPES + BARS + ADDRESSES + COMMANDS + LOOPS

@@ -6,7 +6,7 @@ use sedck_hints::{Reading, behind_part, is_blank};
 use sedck_script::Location;
 use std::alloc::{AllocError, Global};
 
-/// Warns of options in the first line, and of the first expression that looks like an extended one.
+/// Warns of options in the first line, of a `}` behind a label, and of the first expression that looks like an extended one.
 pub(crate) fn look_warnings(
     alloc: Global,
     findings: &mut Vec<Finding>,
@@ -27,6 +27,21 @@ pub(crate) fn look_warnings(
             ),
             steps: Vec::new(alloc),
         })?;
+    }
+    for location in locations {
+        if has_brace_behind(text, *location) {
+            findings.push(Finding {
+                level: Level::Warning,
+                code: "brace-behind-label",
+                position: Some(position_at(text, location.end)),
+                message: String::from_str(
+                    alloc,
+                    "BusyBox takes this for a part of the label, so that the block goes on",
+                )?,
+                hint: Some("write a `;` or a newline before the `}`"),
+                steps: Vec::new(alloc),
+            })?;
+        }
     }
     for location in locations {
         if let Some(offset) = extended_in(text, *location) {
@@ -70,6 +85,20 @@ fn is_option(word: &[u8]) -> bool {
     match word.strip_prefix(b"-") {
         Some(letters) => letters.iter().any(|byte| !matches!(*byte, b'n' | b'f')),
         None => false,
+    }
+}
+
+/// Whether a branch ends in a `}` with no blank before it.
+fn has_brace_behind(text: &[u8], location: Location) -> bool {
+    match (text.get(location.verb), text.get(location.end)) {
+        (Some(b'b' | b't'), Some(b'}')) => {
+            let branch = text.get(location.verb..location.end).unwrap_or(&[]);
+            match branch.last() {
+                Some(byte) => !is_blank(*byte),
+                None => false,
+            }
+        }
+        _ => false,
     }
 }
 

@@ -33,7 +33,7 @@ fn list_escape_hint(rest: &[u8]) -> &'static str {
             "GNU sed makes a byte of this before it reads the list: write that byte itself"
         }
         [_, b'd', ..] =>
-            "if a digit is meant write `[[:digit:]]`; for a backslash and a `d` write `[\\\\d]`",
+            "if a digit is meant write `[[:digit:]]`; GNU sed takes it for a `d`, and for a backslash and a `d` write `[\\\\d]`",
         _ =>
             "GNU sed makes a byte of `\\c` and what follows it: for a backslash and the letter write two backslashes, as in `[\\\\c]`",
     }
