@@ -2,7 +2,7 @@
 
 ghost use Rattle.std.specs.Prelude.{◌≡◌, ◌<◌, ◌+◌, ℕ, Bool, List, Option, length, option_copied, IfOk, IfErr, OnOk};
 ghost use Rattle.sedck_bre.specs.Text.{one_of};
-ghost use Rattle.sedck_script.specs.Cuts.{is_blank, is_ending, is_label_byte, Longest};
+ghost use Rattle.sedck_script.specs.Cuts.{is_ending, is_label_byte, IsEmptyOr, Longest};
 ghost use Rattle.sedck_script.specs.Parts.{Ends, LabelText};
 ghost use Rattle.sedck_script.specs.Items.{IsNoComment, IsNoBrace};
 ghost use Rattle.sedck_script.specs.Faults.{IsLabelBehind, IsPlaced};
@@ -86,21 +86,19 @@ fn check_behind_label(whole: &[u8], behind: &[u8]) -> Result<(), ScriptFault>
     Ok(())
 }
 
-/// Whether a branch without a label ends here, behind its blanks. A comment needs one of them.
-fn check_no_label(whole: &[u8], text: &[u8], begins: &[u8]) -> Result<(), ScriptFault>
+/// Whether a branch without a label may end here, behind its blanks. A comment may not follow, since some seds take it for a
+/// label.
+fn check_no_label(whole: &[u8], begins: &[u8]) -> Result<(), ScriptFault>
     requires behind { IsBehindLabel whole.now begins.now }
-    requires blanks { (blanks : List ℕ) × Longest is_blank text.now blanks begins.now }
-    ensures allowed { OnOk result (IsNoComment text.now × Ends text.now begins.now) }
-    ensures refused { IfErr result (λ fault. (rest : List ℕ) → IsNoComment text.now → Ends text.now rest → ⊥) }
+    ensures allowed { OnOk result (IsNoComment begins.now × IsEmptyOr is_ending begins.now) }
+    ensures refused { IfErr result (λ fault. IsNoComment begins.now → IsEmptyOr is_ending begins.now → ⊥) }
     ensures placed { IfErr result (λ fault. IsPlaced whole.now fault) }
 {
     if let [next, ..] = begins {
-        let place = whole.len() - begins.len();
-        if !is_ending(*next) {
-            return Err(ScriptFault::BadLabel { place });
-        }
-        if *next == b'#' && begins.len() == text.len() {
-            return Err(ScriptFault::BadLabel { place });
+        if !is_ending(*next) || *next == b'#' {
+            return Err(ScriptFault::BadLabel {
+                place: whole.len() - begins.len(),
+            });
         }
     }
     Ok(())
@@ -119,7 +117,7 @@ pub fn branch_label<'a>(
 {
     let (name, place, behind) = label_parts(whole, text);
     if name.is_empty() {
-        check_no_label(whole, text, behind)?;
+        check_no_label(whole, behind)?;
         return Ok((None, place, behind));
     }
     check_behind_label(whole, behind)?;

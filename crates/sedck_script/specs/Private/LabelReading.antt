@@ -9,7 +9,7 @@ use Rattle.sedck_script.specs.Private.Reading.{EndsIn}
 -- a label or none behind a branch or a test, and its end
 abbrev pub BranchText : List ℕ → Option (List ℕ) → List ℕ → Type 0
 BranchText text (Some name) rest = (behind : List ℕ) × LabelText text name behind × IsNoComment behind × Ends behind rest
-BranchText text None rest = IsNoComment text × Ends text rest
+BranchText text None rest = IsNoComment rest × Ends text rest
 
 -- the text stands in the whole right behind a verb that passes the test
 abbrev pub IsBehindVerb : (ℕ → Bool) → List ℕ → List ℕ → Type 0
