@@ -27,14 +27,14 @@ LOOKS = [
     (b"s/[0-9]+/x/\n", [(1, 8, EXTENDED)]),
     (b"s/(a|b)c/x/\n", [(1, 5, EXTENDED)]),
     (b"/(ab)?c/d\n", [(1, 6, EXTENDED)]),
-    (b"1,\\,.+,d\n", [(1, 5, EXTENDED)]),
+    (b"1,\\,.+,d\n", [(1, 6, EXTENDED)]),
     (b"s/[a-z]{2}/x/\n", [(1, 8, EXTENDED)]),
     (b"p\ns/[]|]?x/y/\ns/.+//\n", [(2, 7, EXTENDED)]),
     (b"#!/bin/sed -Ef\np\n", [(1, 1, OPTIONS)]),
     (b"#!/usr/bin/env -S sed -i -f\np\n", [(1, 1, OPTIONS)]),
     (b"#!/bin/sed --posix -f\np\n", [(1, 1, OPTIONS)]),
-    (b":a\n$!{N;ba}\n", [(2, 6, BRACE)]),
-    (b"/x/{s/a/b/;t}\n", [(1, 12, BRACE)]),
+    (b":a\n$!{N;ba}\n", [(2, 8, BRACE)]),
+    (b"/x/{s/a/b/;t}\n", [(1, 13, BRACE)]),
     # ordinary scripts
     (b"#!/bin/sed -nf\np\n", []), (b"#!/usr/bin/sed -f\np\n", []), (b"#!/usr/bin/env -S sed -n -f\np\n", []), (b"#n\np\n", []),
     (b"s/+/ /g;s/c++/C/;s/1+1/2/\n", []), (b"s/?.*//;s/what?/x/\n", []), (b"s/ | /,/;s|(a)|b|\n", []), (b"s/(a)/b/\n", []), (b"s/\\(a\\)\\{1,\\}//\n", []),
@@ -46,12 +46,12 @@ LOOKS = [
 # A refused text that is none of sed, and the beginning of its message.
 NONE = [
     (b"#!/bin/sh\nset -e\n", "the first line names another program than sed"),
-    (b"#!/usr/bin/env python3\nimport os\n", "the first line names another program than sed"),
+    (b"#!/usr/bin/env python3\nprint(1)\n", "the first line names another program than sed"),
     (b"# a comment\n\nprefix=/usr\nsed s/a/b/ x\n", "this looks like a shell script or a makefile"),
     (b"set -e\n", "this looks like a shell script or a makefile"),
     (b"CC := cc\n", "this looks like a shell script or a makefile"),
     (b"sed -n 's/a/b/p' x\n", "this looks like a shell script or a makefile"),
-    (b"all: x\n\tcc x.c\n", "this looks like a makefile"),
+    (b"prog: prog.c\n\tcc prog.c\n", "this looks like a makefile"),
 ]
 
 

@@ -10,7 +10,7 @@ NO_FLAG = "no flag of POSIX sed stands here, or it is there twice"
 NO_PART = "the replacement has an escape that POSIX sed doesn't know, or a group that the expression lacks"
 NO_ESCAPE = "in a basic regular expression of POSIX this escape has no meaning that all seds share"
 MISSING = "a delimiter is missing, or can't be one"
-LISTS = "the lists of `y` differ in length, or have an escape other than `\\\\`, `\\n` and the delimiter's"
+LISTS = "the lists of `y` differ in length, have an escape other than `\\\\`, `\\n` and the delimiter's, or a `[` in the first that is left open"
 INTERVAL = "an interval is \\{m\\}, \\{m,\\} or \\{m,n\\} with numbers of at most 255"
 
 SPLIT = "split the script into several that run one after another"
@@ -108,7 +108,7 @@ REFUSED = [
     (b"s/a\\\\\\/b\\?/x/\n", 1, 9, "bad-escape", NO_ESCAPE, "for `x\\?` write `x\\{0,1\\}`"),
     (b"\\,[\\,]\\,\\?,p\n", 1, 9, "bad-escape", NO_ESCAPE, "for `x\\?` write `x\\{0\\,1\\}`, since `,` is the delimiter"),
     (b"/\\//,/\\/\\|/p\n", 1, 9, "bad-escape", NO_ESCAPE, "a range needs one expression, as `[ab]` for `a\\|b` or `xa\\{0,1\\}` for `x\\|xa`"),
-    (b"/\\//!{/\\/\\|/p\n}", 1, 11, "bad-escape", NO_ESCAPE, EACH),
+    (b"/\\//!{/\\/\\|/p\n}", 1, 10, "bad-escape", NO_ESCAPE, EACH),
     (b"/\\s/p\n", 1, 2, "bad-escape", NO_ESCAPE, "for `\\s` write `[[:space:]]`"),
     (b"/\\S/p\n", 1, 2, "bad-escape", NO_ESCAPE, "for `\\S` write `[^[:space:]]`"),
     (b"/\\w/p\n", 1, 2, "bad-escape", NO_ESCAPE, "for `\\w` write `[[:alnum:]_]`"),
@@ -121,7 +121,7 @@ REFUSED = [
     (b"/\\x41/p\n", 1, 2, "bad-escape", NO_ESCAPE, BYTE),
     (b"/\\q/p\n", 1, 2, "bad-escape", NO_ESCAPE, OTHER_BYTE),
     (b"s/[/]/x/\n", 1, 3, "unclosed-bracket", "the bracket list isn't closed before the delimiter", BRACKET),
-    (b"s/[z-a]/x/\n", 1, 4, "bad-bracket", "the bracket list has a range, a class or a hyphen that is none", DASH),
+    (b"s/[z-a]/x/\n", 1, 4, "bad-bracket", "the bracket list has a range, a class or a hyphen that is none, or an element that seds read differently", DASH),
     (b"s/[^[:cntrl:]\x01-\xff]/x/\n", 1, 3, "empty-set", "the bracket list matches nothing", None),
     (b"s/\\(a/x/\n", 1, 3, "unclosed-group", "this group isn't closed", GROUP),
     (b"s/a\\)/x/\n", 1, 4, "unopened-group", "this closes no group", GROUP),

@@ -286,8 +286,7 @@ fn end_hint(spot: Spot) -> &'static str {
     match (ended_command(line), spot.rest) {
         (_, [b'\\', b'\n', ..]) =>
             "BusyBox joins this line with the next one: let the name or the comment end in another byte",
-        (_, [11 | 12, ..]) =>
-            "BusyBox skips this byte: let the name begin with another one",
+        (_, [11 | 12, ..]) => "BusyBox skips this byte: let the name begin with another one",
         (
             Some(b's'),
             [
