@@ -25,7 +25,7 @@ def check_refused_words(tools):
 def check_help(tools):
     """The help, which names what can be given, and the version."""
     for words in (["--version"], ["-V"]):
-        tools.same("version", tools.explain(*words), (0, b"sedck-explain 1.0.0\n", b""))
+        tools.same("version", tools.explain(*words), (0, b"sedck-explain 1.1.0\n", b""))
     for words in (["--help"], ["-h"], ["--help", "s.sed"]):
         status, report, errors = tools.explain(*words)
         tools.same("help", (status, errors), (0, b""))

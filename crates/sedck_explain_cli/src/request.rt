@@ -6,7 +6,7 @@ use sedck_findings::Denied;
 use std::alloc::{AllocError, Global};
 
 /// The version of the program and of its formats.
-const VERSION: &str = "1.0.0";
+const VERSION: &str = "1.1.0";
 
 /// What is asked for.
 #[derive(Drop)]
