@@ -42,7 +42,15 @@ fn answered(
     out: &mut Kept,
 ) -> u8 {
     let result = match certificate {
-        Some(certificate) => explain_with(alloc, EDITORS, "f", Denied::NOTHING, script, certificate, out),
+        Some(certificate) => explain_with(
+            alloc,
+            EDITORS,
+            "f",
+            Denied::NOTHING,
+            script,
+            certificate,
+            out,
+        ),
         None => explain_alone(alloc, EDITORS, "f", Denied::NOTHING, script, out),
     };
     match result {

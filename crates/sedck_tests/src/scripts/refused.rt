@@ -165,6 +165,48 @@ static BRACKETS: [Row; 16] = [
     (b"y/[/ab", 10, 2),
 ];
 
+/// Lines that BusyBox joins with the next one, bytes that it skips before a name, and what is near to them.
+static LINES: [Row; 21] = [
+    (b"w \x0cF", 20, 2),
+    (b"r\x0bF", 20, 1),
+    (b"w \t\rF", 20, 3),
+    (b"s/a/b/w \rF", 20, 8),
+    (b"s/a/b/w out\\\ni;w F", 20, 11),
+    (b"w \\\np", 20, 2),
+    (b"w a\\\\\\\np", 20, 5),
+    (b"w \r", 20, 2),
+    (b"s/x/x/ # c\\\nb", 20, 10),
+    (b"s/x/x/g#\\\np", 20, 8),
+    (b"w a\\\\\np", 0, 0),
+    (b"w a\\", 0, 0),
+    (b"w \x0eF", 0, 0),
+    (b"w a\x0cb\np", 0, 0),
+    (b"w F\r", 0, 0),
+    (b"s/x/x/ # c\\\\\np", 0, 0),
+    (b"s/x/x/ # c\\", 0, 0),
+    (b"s/x/x/;# c\\\np", 0, 0),
+    (b"p # c\\\nd", 0, 0),
+    (b"s/x/x/ #\np", 0, 0),
+    (b"# c\\\nd", 0, 0),
+];
+
+/// Escaped delimiters that GNU sed or BusyBox read in another way, and what is near to them.
+static DELIMITERS: [Row; 13] = [
+    (b"s=[[\\=a\\=]\\|b]=x=", 22, 4),
+    (b"s:[\\:]\\(a\\):x:", 22, 3),
+    (b"s:[[\\:alpha\\:]]:x:", 0, 0),
+    (b"s=[a]\\(b\\)=x=", 0, 0),
+    (b"s:\\:\\(a\\):x:", 0, 0),
+    (b"s'a\\''b'", 22, 3),
+    (b"s'a\\'b*'c'", 22, 3),
+    (b"s'a\\'b\\{2\\}'c'", 22, 3),
+    (b"s'a\\'.'b'", 22, 3),
+    (b"\\'a\\''p", 22, 3),
+    (b"s'a\\'b'c'", 0, 0),
+    (b"s'a'\\''", 0, 0),
+    (b"s'a\\'b\\''c'", 22, 3),
+];
+
 static REPLACEMENTS: [Row; 12] = [
     (b"s", 7, 0),
     (b"s\na\nb\n", 7, 0),
@@ -323,6 +365,8 @@ fn read_differently(rt: HostRuntime) {
     have_faults(&rt, rt.alloc(), &Kind::Script, &COMMENTS);
     have_faults(&rt, rt.alloc(), &Kind::Script, &ESCAPES);
     have_faults(&rt, rt.alloc(), &Kind::Script, &BRACKETS);
+    have_faults(&rt, rt.alloc(), &Kind::Script, &LINES);
+    have_faults(&rt, rt.alloc(), &Kind::Script, &DELIMITERS);
 }
 
 #[test]
