@@ -266,7 +266,7 @@ cert.Headline
 flow.Run flow.Substitutes flow.Patterns
 bre.Match bre.Tree
 script.Program script.Names
-script.Spelling script.Items script.Resolution script.Parts script.Cuts
+script.Spelling script.Items script.Resolution script.Parts script.BracketLists script.Cuts
 bre.Shape bre.Brackets bre.WellFormed bre.Text bre.Bytes
 cert.Ranked flow.Flow flow.Nodes script.References bre.Rests
 cert.Certificate cert.Text cert.Versions cert.VersionOne flow.Words flow.VersionOne flow.LiteralKinds
