@@ -69,9 +69,9 @@ bench: build
 	python3 bench/run.py build/sedck
 	python3 bench/folder.py build/sedck build/sedck-explain
 
-# More arguments in SEDS, such as `--folder DIR`, `--scripts N` or `--sed NAME=COMMAND`.
+# More arguments in SEDS, such as `--scripts 200000 --jobs 3`, `--folder DIR` or `--sed NAME=COMMAND`.
 seds: build
-	@echo "Running every sed that is found beside build/sedck ..."
+	@echo "Running every sed that is found beside build/sedck (20,000 scripts take up to ten processor minutes) ..."
 	python3 bench/seds.py build/sedck $(SEDS)
 
 install: build

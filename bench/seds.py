@@ -1,229 +1,42 @@
 #!/usr/bin/env python3
-"""Compares real seds with sedck's model, on generated scripts, the examples and folders of your own.
+"""Runs real seds beside sedck: on scripts that are drawn, on the examples and on folders of your own.
 
-    python3 bench/seds.py build/sedck [--scripts N] [--inputs K] [--seed S] [--folder DIR] [--sed NAME=COMMAND] ..
+    python3 bench/seds.py build/sedck [--scripts N] [--seed S] [--jobs J] [--inputs K] [--folder DIR] [--sed NAME=COMMAND] ..
     python3 bench/seds.py build/sedck --table
 
-Each script is given to `sedck rank`, `check` and `graph`, and then run by every sed that is found, in a scratch folder, with
-generated inputs and under a time limit. Reported are runs of accepted scripts that don't end, files outside of the
-certificate's lists; counted are also runs in which a sed crashed, and scripts that it doesn't read. With GNU sed, whose `--debug`
-shows each command and the spaces, each step is held against the edges that `sedck graph` lists: there must be one between the two
-places whose kind is true of the lines that were read and of the pattern space's length, and the steps must be within the bound.
-The same steps are also held against a graph with `keep` in place of `grow`, which must be caught. At the end the table of statuses
-in docs/SEDS.md is run again, and each row in which a sed answers something else is printed, which is no finding: that sed is of
-another version. With `--table` the column of `sedck` in that table is all that is looked at. The status is 0 only where nothing is
-reported.
+Scripts that hide commands, and substitutions, are drawn from all of the grammar (seds_draw.py); those that `sedck` accepts are run by
+each sed, and what their certificates rule out is a finding (seds_hunt.py). A twentieth as many scripts, with K inputs each, and the
+scripts of the examples and folders, are also run by GNU sed with `--debug`, and each step is held against the edges that
+`sedck graph` lists (seds_trace.py); the same steps are held against a graph with `keep` in place of `grow`, which must be caught.
+So must each script of the page docs/SEDS.md that some sed is known to read in another way, which is run without asking `sedck`. At
+the end the page's table of statuses is run again, and rows that are others here are printed, which is no finding: that sed is of
+another version. With `--table` only what `sedck` answers in the page's tables is looked at. The status is 0 where nothing was found.
+Runs are in scratch folders, under limits, with a search path that has `touch` alone, and not as the superuser. Which scripts are
+drawn depends on N and S alone.
 """
 import argparse
+import collections
+import multiprocessing
 import os
-import random
-import re
-import resource
 import shutil
-import signal
 import subprocess
 import sys
-import tempfile
+
+sys.path.insert(0, os.path.dirname(os.path.abspath(__file__)))
+from seds_draw import Draw  # noqa: E402
+from seds_hunt import Hunt, is_inside  # noqa: E402
+from seds_page import answers_of_sedck, compared  # noqa: E402
+from seds_run import Judge, Scratch, become_nobody, make_top  # noqa: E402
+from seds_trace import Graph, Trace, limit_of, unexplained  # noqa: E402
 
 TOP = os.path.dirname(os.path.dirname(os.path.abspath(__file__)))
-LIMIT_SECONDS = 5
-LOOP_SECONDS = 0.5
-LIMIT_BYTES = 8 << 20
-ENVIRONMENT = {"PATH": os.environ.get("PATH", ""), "LC_ALL": "C"}
+PAGE = os.path.join(TOP, "docs", "SEDS.md")
+BATCH = 200
+SHOWN = 4
+TOLD_ALONE = ("toybox", "ssed")
+LOOP_SECONDS = 0.3
 
-
-class Draw(random.Random):
-    """Scripts of the grammar, with names of files that stay inside of the scratch folder."""
-    EXPRESSIONS = ["a", "b*", "^a", "b$", ".", "[ab]", "[^a]", r"a\{1,2\}", r"\(a\)b", r"\(.\)\1", r"\n", r"\(a*\)\(b\)", "^$", "c.*a"]
-    PARTS = ["", "a", "bb", "&", "&&", r"\1", r"x\1", r"\n", "c"]
-
-    def expression(self):
-        return self.choice(self.EXPRESSIONS)
-
-    def address(self):
-        kind = self.randrange(12)
-        if kind < 5:
-            return ""
-        one = lambda: self.choice(["1", "2", "3", "$", "/%s/" % self.expression()])
-        text = one() if kind < 10 else "%s,%s" % (one(), one())
-        return text + ("!" if self.random() < 0.3 else "")
-
-    def substitution(self):
-        expression = self.expression()
-        groups = expression.count(r"\(")
-        parts = [part for part in self.choices(self.PARTS, k=self.randrange(3)) if r"\1" not in part or groups]
-        flags = self.choice(["", "", "g", "p", "2", "gw out1"])
-        return "s/%s/%s/%s" % (expression, "".join(parts), flags)
-
-    def verb(self, labels):
-        name = self.choice("bbttdDgGhHnNpPxsssssy=lqaicrw")
-        if name in "bt":
-            return name + (" " + self.choice(labels) if labels and self.random() < 0.8 else "")
-        if name == "s":
-            return self.substitution()
-        return {"y": "y/ab/ba/", "a": "a\\\ntext", "i": "i\\\ntext", "c": "c\\\ntext", "r": "r in1", "w": "w out2"}.get(name, name)
-
-    def script(self):
-        labels = ["l%d" % k for k in range(self.randrange(3))]
-        lines, places = [], sorted(self.sample(range(9), len(labels)))
-        depth = 0
-        for at in range(self.randrange(1, 9)):
-            lines += [":" + label for label, place in zip(labels, places) if place == at]
-            if self.random() < 0.12:
-                lines.append(self.address() + "{")
-                depth += 1
-            address = self.address()
-            verb = self.verb(labels)
-            if verb == "q" and "," in address:
-                verb = "d"
-            lines.append(address + verb)
-            if depth and self.random() < 0.4:
-                lines.append("}")
-                depth -= 1
-        lines += ["}"] * depth
-        lines += [":" + label for label in labels if ":" + label not in lines]
-        return ("\n".join(lines) + "\n").encode()
-
-    def input(self):
-        return "".join("".join(self.choices("aabbc", k=self.randrange(7))) + "\n" for _ in range(self.randrange(6))).encode()
-
-
-def run(words, folder, given=None, seconds=LIMIT_SECONDS):
-    """The output of a run that ends in time and prints at most so much, with its status, which is below 0 for one that a signal
-    ended; None for a run that doesn't end so."""
-    limits = lambda: resource.setrlimit(resource.RLIMIT_FSIZE, (LIMIT_BYTES, LIMIT_BYTES))
-    with open(os.path.join(folder, ".output"), "w+b") as out:
-        try:
-            done = subprocess.run(words, cwd=folder, env=ENVIRONMENT, input=given, stdout=out, stderr=subprocess.DEVNULL,
-                                  timeout=seconds, preexec_fn=limits)
-        except subprocess.TimeoutExpired:
-            return None
-        out.seek(0)
-        return None if done.returncode == -signal.SIGXFSZ else (done.returncode, out.read())
-
-
-class Answer:
-    """What sedck says of a script: its status, its certificate's bound and lists, and its graph."""
-    def __init__(self, sedck, folder, script):
-        with open(os.path.join(folder, "script"), "wb") as out:
-            out.write(script)
-        self.status, text = run([sedck, "rank", "script"], folder)
-        self.bound, self.writes, self.edges, self.commands = None, [], set(), 0
-        if self.status == 0:
-            with open(os.path.join(folder, "cert"), "wb") as out:
-                out.write(text)
-            status, report = run([sedck, "check", "script", "cert"], folder)
-            lines = report.decode("latin-1").split("\n")
-            assert status == 0 and lines[0] == "accepted", "a certificate that rank finds isn't accepted"
-            if lines[1].startswith("bound "):
-                self.bound = tuple(int(n) for n in lines[1].split()[1:])
-            self.writes = lines[[line.startswith("write ") for line in lines].index(True) + 1:-1]
-        if self.status < 2:
-            lines = run([sedck, "graph", "script"], folder)[1].decode().split("\n")
-            self.commands = int(lines[0].split()[1])
-            self.edges = {tuple(line.split()) for line in lines[1:-1]}
-
-    def with_keep_for_grow(self):
-        other = object.__new__(Answer)
-        other.__dict__ = dict(self.__dict__, edges={edge[:6] + ("keep" if edge[6] == "grow" else edge[6],) for edge in self.edges})
-        return other
-
-
-def length(shown):
-    """The bytes of a space as `--debug` shows it."""
-    return len(re.sub(r"\\([0-7]{3}|.)", "x", shown))
-
-
-class Trace:
-    """The steps of a run of GNU sed, by what `--debug` prints."""
-    def __init__(self, text):
-        lines = text.decode("latin-1").split("\n")
-        begin = next((k for k, line in enumerate(lines) if line.startswith("INPUT: ")), len(lines))
-        self.program = [line.strip() for line in lines[1:begin] if line.startswith("  ")]
-        self.events = lines[begin:]
-
-    def places(self):
-        """The command at each place, by its text; the `}` have none."""
-        return [text for text in self.program if text != "}"]
-
-    def steps(self):
-        """Each visited command: its text; the pattern space's length and the lines read before it; the same after it, before a
-        next cycle reads a line; and whether a cycle began by reading before it."""
-        pattern, hold, read, began, shown, visited = "", "", 0, False, False, []
-        for line in self.events:
-            if line.startswith("INPUT: "):
-                read, began = read + 1, True
-            elif line.startswith("PATTERN: "):
-                if visited and not began and self.reads_line(visited[-1][0]):
-                    read += 1
-                pattern, shown = line[9:], True
-            elif line.startswith("HOLD:    "):
-                hold = line[9:]
-                if visited and visited[-1][0].endswith("g") and not shown:
-                    pattern = hold
-            elif line.startswith("COMMAND: "):
-                shown = False
-                if line[9:].strip() != "}":
-                    visited.append([line[9:].strip(), length(pattern), read, None, None, began])
-                    began = False
-            if visited and not began:
-                visited[-1][3:5] = length(pattern), read
-        return visited
-
-    @staticmethod
-    def reads_line(text):
-        return re.fullmatch(r"(?:[^sy:bt].*?)?[nN]", text) is not None and not text.startswith((":", "s", "y", "b", "t"))
-
-
-def is_true(kind, before, after, lines):
-    return {"consume": lines == 1, "shorten": lines == 0 and after < before, "keep": lines == 0 and after <= before,
-            "grow": lines == 0}[kind]
-
-
-def unexplained(answer, trace, total):
-    """The first step that no edge explains, or None. A place is followed by those that some true edge leads to."""
-    places, visited, end = trace.places(), trace.steps(), answer.commands
-    leaving = {}
-    for edge in answer.edges:
-        leaving.setdefault((int(edge[0]), edge[2]), []).append((int(edge[3]), edge[5], edge[6]))
-
-    def reached(froms, text, before, read, after, after_read):
-        """The places that true edges lead to, of commands with this text, or the end."""
-        last, after_last = ("1" if n >= total else "0" for n in (read, after_read))
-        return {to for place in froms for to, to_last, kind in leaving.get((place, last), [])
-                if to_last == after_last and is_true(kind, before, after, after_read - read) and text in (None if to == end else places[to],)}
-
-    now = {0}
-    for here, then in zip(visited, visited[1:]):
-        text, before, read, after, after_read, _ = here
-        to, begins, begins_read, began = then[0], then[1], then[2], then[5]
-        if began:
-            at_end = reached(now, None, before, read, after, after_read)
-            next_places = reached(now, to, before, read, begins, begins_read) | reached(at_end, to, after, after_read, begins, begins_read)
-        else:
-            next_places = reached(now, to, before, read, begins, begins_read)
-        if not next_places:
-            return "%s, then %s (lengths %d, %d, %d; lines read %d, %d, %d of %d)" % (
-                text, to, before, after, begins, read, after_read, begins_read, total)
-        now = next_places
-    return None
-
-
-def seds_found(named):
-    """The seds of this machine: name, command, version, and whether it shows its steps."""
-    found = dict(item.split("=", 1) for item in named)
-    for name, words in (("sed", "sed"), ("gsed", "gsed"), ("busybox", "busybox sed"), ("toybox", "toybox sed"), ("ssed", "ssed")):
-        if shutil.which(words.split()[0]):
-            found.setdefault(name, words)
-    out = []
-    for name, words in found.items():
-        words = words.split()
-        if not shutil.which(words[0]):
-            raise SystemExit("no command %s" % words[0])
-        versions = (first_line(command) for command in (words + ["--version"], words[:1] + ["--version"], words[:1]))
-        version = next((line for line in versions if line and "not GNU" not in line), "no version")
-        out.append((name, words, version, version.startswith("sed (GNU sed)")))
-    return out
+Sed = collections.namedtuple("Sed", "name words version is_gnu counts")
 
 
 def first_line(command):
@@ -231,148 +44,198 @@ def first_line(command):
     return done.stdout.split("\n")[0]
 
 
+def seds_found(named):
+    """The seds of this machine. Of GNU sed there are two: as it is, and with `--posix`."""
+    commands = dict(item.split("=", 1) for item in named)
+    for name, words in (("sed", "sed"), ("gsed", "gsed"), ("busybox", "busybox sed"), ("toybox", "toybox sed"), ("ssed", "ssed")):
+        if shutil.which(words.split()[0]):
+            commands.setdefault(name, words)
+    found = []
+    for name, words in commands.items():
+        words = words.split()
+        if not shutil.which(words[0]):
+            raise SystemExit("no command %s" % words[0])
+        words[0] = os.path.abspath(shutil.which(words[0]))
+        versions = (first_line(command) for command in (words + ["--version"], words[:1] + ["--version"], words[:1]))
+        version = next((line for line in versions if line and "not GNU" not in line), "no version")
+        is_gnu = "(GNU sed)" in version
+        found.append(Sed(name, words, version, is_gnu, name not in TOLD_ALONE))
+        if is_gnu and "--posix" not in words:
+            found.append(Sed(name + " --posix", words + ["--posix"], version, is_gnu, True))
+    return found
+
+
 class Report:
+    """Counts, and findings by kind and sed."""
     def __init__(self):
-        self.counts, self.found = {}, []
+        self.counts, self.found = collections.Counter(), []
 
     def count(self, what, by=1):
-        self.counts[what] = self.counts.get(what, 0) + by
+        self.counts[what] += by
 
-    def finding(self, what, script, given=b""):
-        self.found.append((what, script, given))
+    def run(self, sed):
+        self.counts["runs of " + sed.name] += 1
+
+    def finding(self, sed, what, script, given, detail):
+        self.found.append((sed.name, sed.counts, what, script, given, detail))
+
+    def add(self, other):
+        self.counts += other.counts
+        self.found += other.found
 
     def lines(self):
-        """A line for each count, and then the findings: of each kind and script the first, and how many inputs have it."""
-        yield from ("%d %s" % (count, what) for what, count in sorted(self.counts.items()))
-        first = {}
-        for what, script, given in self.found:
-            first.setdefault((what.split(": ")[0:2][-1], what.split(":")[0], script), [what, given, 0])[2] += 1
-        for (_, _, script), (what, given, times) in first.items():
-            yield "FOUND: %s\n  script %r\n  input %r, the first of %d" % (what, script, given, times)
-        yield "%d findings" % len(self.found)
+        """A line for each count; then for each sed and kind how many findings there are, and the shortest scripts."""
+        yield from ("%7d %s" % (count, what) for what, count in sorted(self.counts.items()))
+        kinds = collections.defaultdict(dict)
+        for name, counts, what, script, given, detail in self.found:
+            kinds[not counts, name, what].setdefault(script, (given, detail))
+        for (told, name, what), scripts in sorted(kinds.items()):
+            yield "%s: %s: %s, in %d scripts" % ("told" if told else "FOUND", name, what, len(scripts))
+            for script in sorted(scripts, key=len)[:SHOWN]:
+                yield "  script %r\n  input %r: %s" % (script, *scripts[script])
+        yield "%d findings" % self.failures()
+
+    def failures(self):
+        return sum(1 for finding in self.found if finding[1])
 
 
-def is_inside(names):
-    return all(name and "/" not in name and not name.startswith(".") for name in names)
+# ---- steps of GNU sed
+
+def try_steps(scratch, judge, script, inputs, seds, report):
+    """The script by each sed, and the steps of GNU sed held against its edges and its bound; with a loop, by GNU sed on one input."""
+    judged = judge.judge_all([script])[0]
+    report.count("scripts held step by step: " + ("with a certificate", "with a loop", "refused")[judged.status])
+    if judged.status == 2 or not is_inside(judged.reads | judged.writes):
+        return
+    graph = Graph(judge.call("graph", os.path.join(judge.folder, "0"))[1])
+    if judged.status == 1:
+        inputs, seds = inputs[:1], [sed for sed in seds if sed.is_gnu]
+    for given in inputs:
+        scratch.put(script, given)
+        for sed in seds:
+            done = scratch.run(sed.words + (["--debug", "-n"] if sed.is_gnu else ["-n"]), LOOP_SECONDS if judged.status else 5)
+            report.count("runs step by step")
+            if done.status is None:
+                report.count("runs step by step, of scripts with a loop, that were stopped")
+                if judged.status == 0:
+                    report.finding(sed, "run without end", script, given, "stopped")
+            elif judged.status == 0 and done.made - judged.writes:
+                report.finding(sed, "unlisted file", script, given, repr(done.made))
+            elif done.status < 0:
+                report.count("runs step by step in which %s crashed" % sed.name)
+            elif done.status == 1:
+                report.count("runs step by step of scripts that %s doesn't read" % sed.name)
+            elif sed.is_gnu:
+                hold_steps(graph, judged.bound, Trace(done.output), given, sed, script, report)
 
 
-def try_script(sedck, script, inputs, seds, report):
-    with tempfile.TemporaryDirectory(prefix="sedck-seds-") as folder:
-        answer = Answer(sedck, folder, script)
-        report.count(("scripts with a certificate", "scripts with a loop")[answer.status] if answer.status < 2 else "scripts refused")
-        if answer.status > 1 or not is_inside(answer.writes):
-            return
-        for given in inputs:
-            for name, words, _, is_gnu in seds:
-                for left in os.listdir(folder):
-                    if left not in ("script", "cert"):
-                        os.remove(os.path.join(folder, left))
-                with open(os.path.join(folder, "in1"), "wb") as out:
-                    out.write(b"read\n")
-                done = run(words + (["--debug"] if is_gnu else []) + ["-n", "-f", "script"], folder, given,
-                           LOOP_SECONDS if answer.status else LIMIT_SECONDS)
-                made = set(os.listdir(folder)) - {"script", "cert", "in1", ".output"}
-                report.count("runs")
-                if done is None:
-                    report.count("runs of scripts with a loop that didn't end" if answer.status else "runs of accepted scripts that didn't end")
-                    if answer.status == 0:
-                        report.finding("%s: a run of an accepted script didn't end" % name, script, given)
-                    continue
-                if answer.status == 0 and made - set(answer.writes):
-                    report.finding("%s: wrote a file outside of the lists: %s" % (name, made - set(answer.writes)), script, given)
-                if done[0] < 0:
-                    report.count("runs in which %s crashed" % name)
-                elif done[0] == 1:
-                    report.count("runs of scripts that %s doesn't read" % name)
-                elif is_gnu:
-                    hold_steps(answer, Trace(done[1]), given, name, script, report)
-
-
-def hold_steps(answer, trace, given, name, script, report):
-    if len(trace.places()) != answer.commands:
+def hold_steps(graph, bound, trace, given, sed, script, report):
+    if len(trace.places()) != graph.commands:
         if trace.program:
             report.count("runs whose commands couldn't be told apart")
         return
     total, steps = given.count(b"\n"), trace.steps()
     report.count("steps held against edges", len(steps))
-    wrong = unexplained(answer, trace, total)
+    wrong = unexplained(graph, trace, total)
     if wrong:
-        report.finding("%s: a step on no edge: %s" % (name, wrong), script, given)
-    if unexplained(answer.with_keep_for_grow(), trace, total):
+        report.finding(sed, "step on no edge", script, given, wrong)
+    if unexplained(graph.with_keep_for_grow(), trace, total):
         report.count("runs that a graph with keep for grow doesn't explain")
-    if answer.bound:
-        per_byte, per_line, fixed = answer.bound
-        cycles = sum(1 for line in trace.events if line == "END-OF-CYCLE:")
-        limit = per_byte * (len(given) - total) + per_line * total + fixed
+    if bound:
+        most = len(steps) + sum(1 for line in trace.events if line == "END-OF-CYCLE:") + 1
         report.count("runs held against a bound")
-        if len(steps) + cycles + 1 > limit:
-            report.finding("%s: %d steps at most, above the bound %d" % (name, len(steps) + cycles + 1, limit), script, given)
+        if most > limit_of(bound, given):
+            report.finding(sed, "run above its bound", script, given, "%d steps at most, above %d" % (most, limit_of(bound, given)))
 
 
-def status_of(words, folder):
-    """The exit status of a run of the script there, as a shell has it: 124 for one that is stopped after two seconds."""
-    done = run(words, folder, b"a1\nb\n", 2)
-    return 124 if done is None else done[0] if done[0] >= 0 else 128 - done[0]
+# ---- work, by processes
+
+def prepare(top, seds):
+    """A process of its own folder, without the superuser's rights."""
+    become_nobody()
+    prepare.scratch = Scratch(top)
+    prepare.judge, prepare.seds = Judge(prepare.scratch, top), seds
 
 
-def differences(page, sedck, seds):
-    """The rows of the page's table of statuses that are others here."""
-    with open(page) as text:
-        lines = text.read().split("| script | sedck |")[1].split("\n")
-    heads = ["sedck"] + [head.strip() for head in lines[0].strip("|").split("|")]
-    asked = {"sedck": [sedck, "rank", "script"]}
-    asked.update({"GNU" if is_gnu else name: words + ["-f", "script"] for name, words, _, is_gnu in seds})
-    for line in lines[2:]:
-        if not line.startswith("|"):
-            return
-        cells = [cell.strip().replace("\0", "|") for cell in line.replace("\\|", "\0").strip("|").split("|")]
-        script = "".join(part + "\n" for part in re.findall("`([^`]*)`", cells[0]))
-        with tempfile.TemporaryDirectory(prefix="sedck-seds-") as folder:
-            with open(os.path.join(folder, "script"), "w") as out:
-                out.write(script)
-            for head, due in zip(heads, cells[1:]):
-                status = status_of(asked[head], folder) if head in asked else int(due)
-                if status != int(due):
-                    yield "docs/SEDS.md: %s has %d for %r, not %s" % (head, status, script, due)
+def work(task):
+    """One task: its report. What is drawn depends on the task's seed alone."""
+    what, seed, argument = task
+    report = Report()
+    if what == "steps":
+        draw = Draw(seed)
+        script, inputs = argument
+        script = draw.script() if script is None else script
+        try_steps(prepare.scratch, prepare.judge, script, [draw.input() for _ in range(inputs)], prepare.seds, report)
+    else:
+        hunt = Hunt(prepare.scratch, prepare.judge, prepare.seds, report, seed)
+        report.count("scripts that hide commands: drawn" if what == "hidden" else "substitutions: drawn", argument)
+        (hunt.hidden if what == "hidden" else hunt.lengths)(argument)
+    return report
 
 
-def main():
+def pages(page):
+    """The page's tables, run again."""
+    return compared(page, prepare.scratch, prepare.seds)
+
+
+def tasks(scripts, seed, inputs, folders):
+    """Of the scripts a fifth are substitutions, and a twentieth more are held step by step."""
+    for at in range(0, scripts, BATCH):
+        what = "lengths" if at // BATCH % 5 == 4 else "hidden"
+        yield what, "%d %d" % (seed, at), min(BATCH, scripts - at)
+    for at in range(scripts // 20):
+        yield "steps", "%d steps %d" % (seed, at), (None, inputs)
+    for folder in folders:
+        for name in sorted(os.listdir(folder)):
+            if name.endswith(".sed"):
+                with open(os.path.join(folder, name), "rb") as text:
+                    yield "steps", "%d %s" % (seed, name), (text.read(), inputs)
+
+
+def arguments():
     words = argparse.ArgumentParser()
     words.add_argument("sedck")
-    words.add_argument("--scripts", type=int, default=1000)
-    words.add_argument("--inputs", type=int, default=10)
+    words.add_argument("--scripts", type=int, default=20000)
     words.add_argument("--seed", type=int, default=1)
+    words.add_argument("--jobs", type=int, default=1)
+    words.add_argument("--inputs", type=int, default=4)
     words.add_argument("--folder", action="append", default=[])
     words.add_argument("--sed", action="append", default=[])
     words.add_argument("--table", action="store_true")
-    asked = words.parse_args()
-    sedck, draw = os.path.abspath(asked.sedck), Draw(asked.seed)
+    return words.parse_args()
+
+
+def main():
+    asked = arguments()
+    sedck = os.path.abspath(asked.sedck)
     if asked.table:
-        wrong = list(differences(os.path.join(TOP, "docs", "SEDS.md"), sedck, []))
-        print("\n".join(wrong) or "seds: the table has the statuses of sedck")
+        wrong = list(answers_of_sedck(PAGE, sedck))
+        print("\n".join(wrong) or "seds: the tables have the statuses of sedck")
         return 1 if wrong else 0
     seds, report = seds_found(asked.sed), Report()
-    for name, _, version, is_gnu in seds:
-        print("%s: %s%s" % (name, version, ", step by step" if is_gnu else ""))
+    for sed in seds:
+        print("%s: %s%s" % (sed.name, sed.version, "" if sed.counts else ", whose findings are told alone"))
     if not seds:
         print("no sed is found")
         return 0
-    scripts = [draw.script() for _ in range(asked.scripts)]
-    for folder in [os.path.join(TOP, "examples")] + asked.folder:
-        for file in sorted(os.listdir(folder)):
-            if file.endswith(".sed"):
-                with open(os.path.join(folder, file), "rb") as text:
-                    scripts.append(text.read())
-    for script in scripts:
-        try_script(sedck, script, [draw.input() for _ in range(asked.inputs)], seds, report)
+    folders = [os.path.join(TOP, "examples")] + asked.folder
+    top = make_top([sedck, sedck + "-explain"])
+    try:
+        with multiprocessing.Pool(asked.jobs, prepare, (top, seds)) as pool:
+            for part in pool.imap_unordered(work, tasks(asked.scripts, asked.seed, asked.inputs, folders)):
+                report.add(part)
+            others = pool.apply(pages, (PAGE,))
+    finally:
+        shutil.rmtree(top, ignore_errors=True)
     for line in report.lines():
         print(line)
-    for line in differences(os.path.join(TOP, "docs", "SEDS.md"), sedck, seds):
-        print(line)
-    if any(gnu for *_, gnu in seds) and not report.counts.get("runs that a graph with keep for grow doesn't explain"):
-        print("a graph with keep for grow was not caught")
-        return 1
-    return 1 if report.found else 0
+    missed = [line for is_fault, line in others if is_fault]
+    for is_fault, line in others:
+        print(("" if is_fault else "of another version: ") + line)
+    if any(sed.is_gnu for sed in seds) and not report.counts["runs that a graph with keep for grow doesn't explain"]:
+        missed.append("a graph with keep for grow was not caught")
+        print(missed[-1])
+    return 1 if report.failures() or missed else 0
 
 
 if __name__ == "__main__":

@@ -107,6 +107,64 @@ static LISTS: [Row; 11] = [
     (b"y|a\\|b|c|", 22, 3),
 ];
 
+/// What some seds read as another script: comments that they take for a label or end at a carriage return, ..
+static COMMENTS: [Row; 16] = [
+    (b"t #", 13, 2),
+    (b"b  # x", 13, 3),
+    (b":a\nt\t#a", 13, 5),
+    (b"{b #}\n}", 13, 3),
+    (b"b #\n", 13, 2),
+    (b"t # a;w f", 13, 2),
+    (b"b#", 13, 1),
+    (b"# a\rb", 20, 3),
+    (b"p # \r\r\n", 20, 4),
+    (b"#n\rp", 20, 2),
+    (b"p;#\r \n", 20, 3),
+    (b"#\r;w f", 20, 1),
+    (b":a #\rb\r\n", 20, 4),
+    (b"{p}#a\rb\r", 20, 5),
+    (b"#\r\n#a\r\r", 20, 5),
+    (b"b z #\rp", 20, 5),
+];
+
+/// .. an escaped delimiter `x` that they read with the bytes behind it, beside a `[`, ..
+static ESCAPES: [Row; 12] = [
+    (b"sx[\\xa]xyx", 22, 3),
+    (b"\\x[\\x5b]xp", 22, 3),
+    (b"sxa\\x[b]xyx", 22, 3),
+    (b"sxa\\x\\[xyx", 22, 3),
+    (b"1,\\x[a]\\xxp", 22, 7),
+    // the first of them; behind the end of the part, and before its expression and the replacement
+    (b"sx\\x[\\x\\x]xyx", 22, 2),
+    (b"p;sx[a\\x\\xxyx", 22, 6),
+    (b"sx\\x[b\\(xyx", 22, 2),
+    (b"sx\\x[b]x\\qx", 22, 2),
+    (b"sx\\x[b]", 7, 0),
+    (b"sx\\x[b\nxyx", 7, 0),
+    (b"sx[\\xyx", 22, 3),
+];
+
+/// .. and bracket lists in the first list of a `y`, outside of which they look for its end.
+static BRACKETS: [Row; 16] = [
+    (b"y/[/a/", 10, 2),
+    (b"y/a[/b]/", 10, 3),
+    (b"y/[]/ab/", 10, 2),
+    (b"y/[^]/abc/", 10, 2),
+    (b"y/[^/ab/", 10, 2),
+    (b"p;y,x[]\\,,abcd,", 10, 5),
+    (b"y/[a][/abcd/", 10, 5),
+    (b"y/[]][/abcd/", 10, 5),
+    (b"y/a\\/[b/abcd/", 10, 5),
+    (b"y/\\\\[/ab/", 10, 4),
+    (b"yx[x]x", 10, 2),
+    (b"y/[\\\\/ab/", 10, 2),
+    // behind the end of the first list, and before the second one
+    (b"y/[\\q/", 10, 3),
+    (b"y/[", 7, 0),
+    (b"y/[/\\q/", 10, 2),
+    (b"y/[/ab", 10, 2),
+];
+
 static REPLACEMENTS: [Row; 12] = [
     (b"s", 7, 0),
     (b"s\na\nb\n", 7, 0),
@@ -258,6 +316,13 @@ fn refused(rt: HostRuntime) {
     have_faults(&rt, rt.alloc(), &Kind::Script, &VERBS);
     have_faults(&rt, rt.alloc(), &Kind::Script, &LABELS);
     have_faults(&rt, rt.alloc(), &Kind::Script, &LISTS);
+}
+
+#[test]
+fn read_differently(rt: HostRuntime) {
+    have_faults(&rt, rt.alloc(), &Kind::Script, &COMMENTS);
+    have_faults(&rt, rt.alloc(), &Kind::Script, &ESCAPES);
+    have_faults(&rt, rt.alloc(), &Kind::Script, &BRACKETS);
 }
 
 #[test]

@@ -1,0 +1,172 @@
+"""Runs accepted scripts by every sed, and looks for what their certificates rule out.
+
+A finding is a file that was made and isn't listed, a command that was run, an unlisted file that was read, a run that doesn't end
+within its bound, or a substitution that takes out less than the least length of its expression.
+"""
+import re
+
+from seds_draw import CONTROLS, Grammar
+from seds_run import LIMIT_SECONDS, LONG_SECONDS, SECRET, TOLD_SECONDS
+from seds_trace import limit_of, steps_at_most
+
+FILE, COMMAND, READ, END, LINE = "unlisted file", "command run", "unlisted file read", "run without end", "shorter line changed"
+KINDS = (FILE, COMMAND, READ, END, LINE)
+LONGEST = 7
+# For BusyBox a `}` right behind a label belongs to it. `sedck` reads it as other seds do, and `sedck-explain` warns.
+BRACE_BEHIND_LABEL = re.compile(rb"[bt][ \t]*[\w.-]*\}")
+
+
+def is_inside(names):
+    """No name leads out of the folder of the run, or is one that a file system can't have."""
+    return all(b"/" not in name and not name.startswith(b".") and len(name) < 200 for name in names)
+
+
+class HuntDraw(Grammar):
+    """Inputs, and substitutions that are measured."""
+    def lines(self, script, count, longest):
+        """Lines of bytes of the script and of control characters."""
+        own = sorted({byte for byte in script if byte != 10}) + CONTROLS
+        return [bytes(self.choices(own, k=self.randrange(longest + 1))) for _ in range(count)]
+
+    def input(self, script):
+        lines = [bytes(CONTROLS)] + self.lines(script, 5, 4) + [b"", b"x", b"xyx"]
+        return b"\n".join(lines) + self.choice([b"\n", b"\n", b""])
+
+    def filler(self):
+        """A byte of a literal, which an expression may match again."""
+        return self.choice([b"X", b"X", b"a", b"]", b"="])
+
+    def measured(self):
+        """A delimiter, an expression, and a replacement for it that names groups."""
+        d = self.fresh_delimiter()
+        expression = self.fitted(self.expression()).replace("\\\n", "") or "a"
+        parts = self.choices(["", "X", "\\1", "\\1", "\\2\\1", "&"], k=self.randrange(1, 3))
+        return [part.encode("latin-1") for part in (d, expression, "".join(parts))]
+
+
+def substitution(d, expression, replacement):
+    return b"s" + d + expression + d + replacement + d
+
+
+def literal(d, count, byte=b"X"):
+    return (b"Z" if d == byte else byte) * count
+
+
+def probe(d, expression):
+    """Substitutions by literals of 0 bytes and more: as many shorten as the least length has bytes."""
+    return b"".join(substitution(d, expression, literal(d, count)) + b"\n" for count in range(LONGEST + 1))
+
+
+def marked(command):
+    """The substitution between commands that make a byte 1 of the input a newline, and mark each line: Y where something was
+    substituted, else N."""
+    return b"y/\x01/\\n/\n" + command + b"\nt y\ns/^/N/\nb e\n:y\ns/^/Y/\n:e\ny/\\n/\x01/\n"
+
+
+def looped(command):
+    return b":a\n" + command + b"\nt a\n"
+
+
+def broken_lines(kind, given, output):
+    """Lines with which a substitution of this kind does what it shouldn't: shorten, or at least not lengthen."""
+    lines, answers = given.split(b"\n")[:-1], output.split(b"\n")[:-1]
+    if len(lines) != len(answers):
+        return []
+    longest = {"shorten": -1, "keep": 0}.get(kind)
+    return [line for line, answer in zip(lines, answers)
+            if longest is not None and answer[:1] == b"Y" and len(answer) - 1 > len(line) + longest]
+
+
+class Hunt:
+    """Runs scripts by the seds, and puts what is found into a report."""
+    def __init__(self, scratch, judge, seds, report, seed):
+        self.scratch, self.judge, self.seds, self.report = scratch, judge, seds, report
+        self.draw = HuntDraw(seed)
+
+    def hidden(self, count):
+        """Scripts that hide commands."""
+        scripts = [self.draw.script() for _ in range(count)]
+        for script, judged in zip(scripts, self.judge.judge_all(scripts)):
+            self.report.count("scripts that hide commands: " + ("accepted", "with a loop", "refused")[judged.status])
+            if judged.status == 0 and is_inside(judged.reads | judged.writes):
+                self.run(script, judged, self.draw.input(script))
+
+    def lengths(self, count):
+        """Substitutions whose kind, or the least length of their expression, is known from `sedck graph`."""
+        drawn = [self.draw.measured() for _ in range(count)]
+        probes = [probe(d, expression) for d, expression, _ in drawn]
+        grouped = [marked(substitution(*parts)) for parts in drawn]
+        judged = self.judge.judge_all(probes + grouped)
+        for at, (d, expression, replacement) in enumerate(drawn):
+            self.report.count("substitutions: " + ("accepted" if judged[at].status == 0 else "refused"))
+            if judged[at].status == 0:
+                least = list(self.judge.kinds(probes[at]).values()).count("shorten")
+                if least:
+                    self.measure(substitution(d, expression, literal(d, min(least, LONGEST) - 1, self.draw.filler())), "shorten", least)
+            if judged[count + at].status == 0 and b"\\" in replacement:
+                kind = self.judge.kinds(grouped[at])[1]
+                if kind != "grow":
+                    self.measure(substitution(d, expression, replacement), kind, 3)
+
+    def measure(self, command, kind, least):
+        """The substitution on lines about as short as the least length, and in a loop, where it shortens."""
+        given = b"\n".join(self.draw.lines(command, 24, least + 1) + [bytes([byte]) for byte in sorted(set(command) - {10})]) + b"\n"
+        broken = self.measured(marked(command), kind, given)
+        if kind == "shorten":
+            judged = self.judge.judge_all([looped(command)])[0]
+            assert judged.status == 0, "a loop around a substitution that shortens isn't accepted: %r" % command
+            self.run(looped(command), judged, given, [sed for sed in self.seds if sed.counts or sed not in broken])
+
+    def measured(self, script, kind, given):
+        """The seds that break the kind, each with the first line that shows it."""
+        self.scratch.put(script, given)
+        broken = []
+        for sed in self.seds:
+            lines = broken_lines(kind, given, self.scratch.run(sed.words).output)
+            self.report.run(sed)
+            if lines:
+                broken.append(sed)
+                self.found(sed, LINE, script, lines[0] + b"\n", "where the kind is " + kind)
+        return broken
+
+    def run(self, script, judged, given, seds=None):
+        """An accepted script by each sed."""
+        self.scratch.put(script, given)
+        for sed in self.seds if seds is None else seds:
+            done = self.scratch.run(sed.words, LIMIT_SECONDS if sed.counts else TOLD_SECONDS)
+            self.report.run(sed)
+            for what, detail in self.findings(sed, done, judged, given):
+                self.found(sed, what, script, given, detail)
+
+    def findings(self, sed, done, judged, given):
+        made = done.made - judged.writes
+        if b"E" in made:
+            yield COMMAND, "touch E"
+        elif made:
+            yield FILE, b" ".join(sorted(made)).decode("latin-1")
+        if SECRET in done.output and b"secret" not in judged.reads:
+            yield READ, "secret"
+        if done.status is None:
+            if not sed.counts or self.scratch.run(sed.words, LONG_SECONDS).status is None:
+                yield END, "stopped"
+        elif sed.is_gnu and judged.bound and done.status == 0:
+            shown = self.scratch.run(sed.words + ["--debug", "-n"])
+            self.report.count("runs of GNU sed held against a bound")
+            steps = steps_at_most(shown.output)
+            if shown.status == 0 and steps > limit_of(judged.bound, given):
+                yield END, "%d steps, above the bound %d" % (steps, limit_of(judged.bound, given))
+
+    def found(self, sed, what, script, given, detail):
+        """What was found, once it is certain that `sedck rank` and `check` accept the script too."""
+        if self.judge.certificate(script) != 0:
+            raise SystemExit("sedck and sedck-explain answer otherwise: %r" % script)
+        if sed.name == "busybox" and what == END and BRACE_BEHIND_LABEL.search(script):
+            what, sed = END + ", with a } behind a label", sed._replace(counts=False)
+        self.report.finding(sed, what, script, given, detail)
+
+
+def known_kinds(done, listed):
+    """The kinds of what a run shows of which no certificate is asked."""
+    made = done.made - listed
+    kinds = {COMMAND} if b"E" in made else {FILE} if made else set()
+    return kinds | ({READ} if SECRET in done.output else set()) | ({END} if done.status is None else set())
