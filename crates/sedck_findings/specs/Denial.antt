@@ -1,6 +1,6 @@
 -- What a caller may deny of an accepted script, this project's own: files that it reads or writes, warnings, and steps without a
 -- limit. A script that isn't accepted has its status with or without it.
-use Rattle.std.specs.Prelude.{◌==◌, ℕ, Bool, true, false, not, ◌&&◌, ◌||◌, List, length, Option, is_none, if◌then◌else◌}
+use Rattle.std.specs.Prelude.{◌==◌, ℕ, Bool, true, false, not, ◌&&◌, ◌||◌, List, length, is_none, if◌then◌else◌}
 use Rattle.std.specs.List.{list_any}
 use Rattle.sedck_findings.specs.Answers.{status_of}
 use Rattle.sedck_findings.specs.declared.answer.Answer.{Answer}

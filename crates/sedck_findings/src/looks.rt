@@ -1,7 +1,7 @@
 //! Scripts that are read as POSIX has them, and look as if something else was meant.
 
 use crate::finding::{Finding, Level};
-use crate::places::position_at;
+use crate::places::{Position, position_at, positions};
 use sedck_hints::{Reading, behind_part, is_blank};
 use sedck_script::Location;
 use std::alloc::{AllocError, Global};
@@ -14,54 +14,54 @@ pub(crate) fn look_warnings(
     locations: &[Location],
 ) -> Result<(), AllocError> {
     if has_options(text) {
-        findings.push(Finding {
-            level: Level::Warning,
-            code: "options-in-first-line",
-            position: Some(position_at(text, 0)),
-            message: String::from_str(
-                alloc,
-                "this line gives sed other options than -n and -f, and nothing is said of runs with these",
-            )?,
-            hint: Some(
-                "with `-E` the expressions mean something else, `-i` writes files, `-s` and `-z` cut the input in another way",
-            ),
-            steps: Vec::new(alloc),
-        })?;
+        findings.push(warning(
+            alloc,
+            position_at(text, 0),
+            "options-in-first-line",
+            "this line gives sed other options than -n and -f, and nothing is said of runs with these",
+            "with `-E` the expressions mean something else, `-i` writes files, `-s` and `-z` cut the input in another way",
+        )?)?;
     }
-    for location in locations {
-        if has_brace_behind(text, *location) {
-            findings.push(Finding {
-                level: Level::Warning,
-                code: "brace-behind-label",
-                position: Some(position_at(text, location.end)),
-                message: String::from_str(
-                    alloc,
-                    "BusyBox takes this for a part of the label, so that the block goes on",
-                )?,
-                hint: Some("write a `;` or a newline before the `}`"),
-                steps: Vec::new(alloc),
-            })?;
-        }
+    for position in positions(alloc, text, &braces(alloc, text, locations)?)? {
+        findings.push(warning(
+            alloc,
+            position,
+            "brace-behind-label",
+            "BusyBox takes this for a part of the label, so that the block goes on",
+            "write a `;` or a newline before the `}`",
+        )?)?;
     }
     for location in locations {
         if let Some(offset) = extended_in(text, *location) {
-            findings.push(Finding {
-                level: Level::Warning,
-                code: "looks-extended",
-                position: Some(position_at(text, offset)),
-                message: String::from_str(
-                    alloc,
-                    "in a basic regular expression this is the byte itself: is the script for `sed -E`?",
-                )?,
-                hint: Some(
-                    "write `\\(` and `\\)` for a group, `\\{1,\\}` for `+` and `\\{0,1\\}` for `?`; there is no bar. If the byte is meant, put it into a list, as in `[+]`",
-                ),
-                steps: Vec::new(alloc),
-            })?;
+            findings.push(warning(
+                alloc,
+                position_at(text, offset),
+                "looks-extended",
+                "in a basic regular expression this is the byte itself: is the script for `sed -E`?",
+                "write `\\(` and `\\)` for a group, `\\{1,\\}` for `+` and `\\{0,1\\}` for `?`; there is no bar. If the byte is meant, put it into a list, as in `[+]`",
+            )?)?;
             return Ok(());
         }
     }
     Ok(())
+}
+
+/// A warning at this position.
+fn warning(
+    alloc: Global,
+    position: Position,
+    code: &'static str,
+    message: &str,
+    hint: &'static str,
+) -> Result<Finding, AllocError> {
+    Ok(Finding {
+        level: Level::Warning,
+        code,
+        position: Some(position),
+        message: String::from_str(alloc, message)?,
+        hint: Some(hint),
+        steps: Vec::new(alloc),
+    })
 }
 
 /// Whether the first line calls sed with other options than `-n` and `-f`.
@@ -88,49 +88,62 @@ fn is_option(word: &[u8]) -> bool {
     }
 }
 
-/// Whether a branch ends in a `}` with no blank before it.
-fn has_brace_behind(text: &[u8], location: Location) -> bool {
-    match (text.get(location.verb), text.get(location.end)) {
-        (Some(b'b' | b't'), Some(b'}')) => {
+/// Where branches end in a `}` with no blank before it.
+fn braces(alloc: Global, text: &[u8], locations: &[Location]) -> Result<Vec<usize>, AllocError> {
+    let mut offsets = Vec::new(alloc);
+    for location in locations {
+        if let (Some(b'b' | b't'), Some(b'}')) = (text.get(location.verb), text.get(location.end)) {
             let branch = text.get(location.verb..location.end).unwrap_or(&[]);
-            match branch.last() {
-                Some(byte) => !is_blank(*byte),
-                None => false,
+            if !branch.ends_with(b" ") && !branch.ends_with(b"\t") {
+                offsets.push(location.end)?;
             }
         }
-        _ => false,
     }
+    Ok(offsets)
 }
 
 /// The first sign of an extended expression in what the command has of them.
 fn extended_in(text: &[u8], location: Location) -> Option<usize> {
-    let addresses = text.get(location.start..location.verb).unwrap_or(&[]);
-    for at in 0..addresses.len() {
-        let before = addresses.get(..at).unwrap_or(&[]);
-        if !begins_address(before) {
-            continue;
-        }
-        let start = location.start + at;
-        let found = match addresses.get(at..).unwrap_or(&[]) {
-            [b'/', ..] => extended_at(text, start + 1, b'/'),
-            [b'\\', delimiter, ..] => extended_at(text, start + 2, *delimiter),
-            _ => None,
-        };
+    let mut behind = text.get(location.start..location.verb).unwrap_or(&[]);
+    if let Some((start, delimiter)) = expression_at(text, location.start) {
+        let found = extended_at(text, start, delimiter);
         if found.is_some() {
             return found;
         }
+        let rest = behind_part(text.get(start..).unwrap_or(&[]), delimiter);
+        behind = text
+            .get(text.len().saturating_sub(rest.len())..location.verb)
+            .unwrap_or(&[]);
     }
-    match text.get(location.verb..location.end).unwrap_or(&[]) {
-        [b's', delimiter, ..] => extended_at(text, location.verb + 2, *delimiter),
+    if let Some(second) = second_address(behind) {
+        let at = location.verb.saturating_sub(second.len());
+        if let Some((start, delimiter)) = expression_at(text, at) {
+            let found = extended_at(text, start, delimiter);
+            if found.is_some() {
+                return found;
+            }
+        }
+    }
+    match text.get(location.verb..).unwrap_or(&[]) {
+        [b's', delimiter, ..] => extended_at(text, location.verb.checked_add(2)?, *delimiter),
         _ => None,
     }
 }
 
-/// Whether an address may begin behind this: at the start, or behind the comma of a range.
-fn begins_address(before: &[u8]) -> bool {
-    match before.iter().rev().find(|byte| !is_blank(**byte)) {
-        Some(byte) => *byte == b',',
-        None => true,
+/// What follows the comma behind a first address, and its blanks.
+fn second_address(behind: &[u8]) -> Option<&[u8]> {
+    let comma = behind.iter().position(|byte| *byte == b',')?;
+    let rest = behind.get(comma.checked_add(1)?..)?;
+    let blanks = rest.iter().position(|byte| !is_blank(*byte))?;
+    rest.get(blanks..)
+}
+
+/// Where the expression of an address begins that is here, and its delimiter.
+fn expression_at(text: &[u8], at: usize) -> Option<(usize, u8)> {
+    match text.get(at..).unwrap_or(&[]) {
+        [b'/', ..] => Some((at.checked_add(1)?, b'/')),
+        [b'\\', delimiter, ..] => Some((at.checked_add(2)?, *delimiter)),
+        _ => None,
     }
 }
 

@@ -1,4 +1,4 @@
-use Rattle.std.proofs.Common.{◌≡◌, ◌∙◌, ap, map}
+use Rattle.std.proofs.Common.{◌∙◌, ap, map}
 use Rattle.sedck_findings.specs.Positions.{position_in}
 use Rattle.sedck_findings.proofs.explaining.explained.Goals as goal
 
