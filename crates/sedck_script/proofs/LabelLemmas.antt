@@ -1,9 +1,9 @@
 -- Labels of branches, and what may stand behind a label.
-use Rattle.std.proofs.Common.{◌≡◌, ℕ, ◌<◌, List, ◌++◌, length, Option, Some, None, ap, sym, ◌∙◌, subst, arith}
+use Rattle.std.proofs.Common.{◌≡◌, ℕ, false, ◌<◌, List, ◌++◌, length, Option, Some, None, ap, sym, ◌∙◌, subst, arith}
 use Rattle.std.proofs.lemmas.List.{nil_from_length}
 use Rattle.sedck_script.specs.Cuts.{is_blank, is_ending, is_label_byte, IsEmptyOr, Longest}
 use Rattle.sedck_script.specs.Parts.{Ends, LabelText}
-use Rattle.sedck_script.specs.Items.{IsNoComment, IsNoBrace}
+use Rattle.sedck_script.specs.Items.{IsNoComment, IsNoBrace, EndsJump, begins_braced_comment}
 use Rattle.sedck_script.specs.Private.Reading.{IsLabelAt}
 use Rattle.sedck_script.specs.Private.LabelReading.{BranchText}
 use Rattle.sedck_script.proofs.LongestRuns.{longest_one}
@@ -26,19 +26,19 @@ end_without_label {text} {name} {behind} l none h =
 
 -- a branch with no label reads none
 pub no_branch_end : {text name behind : List ℕ} → IsLabelAt text name behind → length name ≡ 0
-    → (IsNoComment behind → IsEmptyOr is_ending behind → ⊥) → (label : Option (List ℕ)) (rest : List ℕ) → BranchText text label rest → ⊥
+    → (IsNoComment behind → IsEmptyOr is_ending behind → begins_braced_comment behind ≡ false → ⊥) → (label : Option (List ℕ)) (rest : List ℕ) → BranchText text label rest → ⊥
 no_branch_end {name = name} {behind = behind} l none h None rest x =
-    let same : rest ≡ behind = (longest_one x.1.run l.skipped).1 ∙ l.run.cut ∙ ap (λ t. t ++ behind) (nil_from_length name none) in
-    h (subst IsNoComment same x.0) (subst (λ t. IsEmptyOr is_ending t) same x.1.ending)
+    let same : rest ≡ behind = (longest_one x.1.0.run l.skipped).1 ∙ l.run.cut ∙ ap (λ t. t ++ behind) (nil_from_length name none) in
+    h (subst IsNoComment same x.0) (subst (λ t. IsEmptyOr is_ending t) same x.1.0.ending) (subst (λ t. begins_braced_comment t ≡ false) same x.1.1)
 no_branch_end l none h (Some name) rest x = no_label_there l none x.1
 
 -- and one with a label reads that one
 pub no_branch_label : {text name behind : List ℕ} → IsLabelAt text name behind → 0 < length name
-    → ((rest : List ℕ) → IsNoComment behind → Ends behind rest → ⊥) → (label : Option (List ℕ)) (rest : List ℕ) → BranchText text label rest → ⊥
-no_branch_label l some h None rest x = label_or_end (label_there l some) x.1
+    → ((rest : List ℕ) → IsNoComment behind → EndsJump behind rest → ⊥) → (label : Option (List ℕ)) (rest : List ℕ) → BranchText text label rest → ⊥
+no_branch_label l some h None rest x = label_or_end (label_there l some) x.1.0
 no_branch_label l some h (Some name) rest x =
     let same = sym (label_same l x.1).1 in
-    h rest (subst IsNoComment same x.2) (subst (λ t. Ends t rest) same x.3)
+    h rest (subst IsNoComment same x.2) (subst (λ t. EndsJump t rest) same x.3)
 
 pub no_definition : {text name behind n b r : List ℕ} → IsLabelAt text name behind → ((rest : List ℕ) → IsNoBrace behind → Ends behind rest → ⊥)
     → LabelText text n b → IsNoBrace b → Ends b r → ⊥

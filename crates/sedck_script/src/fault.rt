@@ -35,7 +35,8 @@ pub enum ScriptFault {
     MissingText { place: usize },
     /// No file name, as in `s/a/b/w`. Place: the verb, or the flag `w`.
     MissingName { place: usize },
-    /// No label after `:`, or a byte that no label may hold. Place: where the label is due, or that byte.
+    /// No label after `:`, a byte that no label may hold, or a comment that some seds take for a label or for a part of one. Place:
+    /// where the label is due, that byte, or right behind the label.
     BadLabel { place: usize },
     /// A label is defined again, as in `:a;:a`. Place: the second one.
     DuplicateLabel { place: usize },

@@ -108,7 +108,7 @@ static LISTS: [Row; 11] = [
 ];
 
 /// What some seds read as another script: comments that they take for a label or end at a carriage return, ..
-static COMMENTS: [Row; 16] = [
+static COMMENTS: [Row; 24] = [
     (b"t #", 13, 2),
     (b"b  # x", 13, 3),
     (b":a\nt\t#a", 13, 5),
@@ -125,6 +125,14 @@ static COMMENTS: [Row; 16] = [
     (b"{p}#a\rb\r", 20, 5),
     (b"#\r\n#a\r\r", 20, 5),
     (b"b z #\rp", 20, 5),
+    (b"{b}#;w F", 13, 2),
+    (b"{{t}}#;w F", 13, 3),
+    (b"{b }#", 13, 3),
+    (b"{ba}#;w F\n:a", 13, 3),
+    (b"{ta }#\n:a", 13, 3),
+    (b"{b} #;w F", 0, 0),
+    (b"{b;}#;w F", 0, 0),
+    (b"{p}#;w F", 0, 0),
 ];
 
 /// .. an escaped delimiter `x` that they read with the bytes behind it, beside a `[`, ..
