@@ -72,8 +72,9 @@ class Grammar(random.Random):
     HIDDEN = ["w F", "w F", "w F", "W F", "e touch E", "r secret", "R secret", "s/^/x/w F", "s/.*/touch E/e", "b", "d", "i;w F"]
     CLOSERS = ["", "", "]", "]]", "x]", ".]]", "=]]", ":]]", "\\", "[]", "\\)", "\\}"]
     BEFORE = ["", "", ";", ";", "}", "};", "\r", "\f", "\v", " ", "\t", "#", " #", "!", ";#\r"]
-    TOKENS = ["[", "]", "[^", "[[", "]]", "[:", ":]", "[.", ".]", "[=", "=]", "\\", "\\\\", "\n", "\\\n", "\r", "\f", "\v", "\t", " ", "}", "{", ";",
-              "#", "/", "!", ",", "$", "^", "*", "&", "'", "\\n", "\\c", "\\x", "\\(", "\\)", "\\{1\\}", "b", "t", "a", "w F", "\x7f", "\x80", "\xff"]
+    TOKENS = ["[", "]", "[^", "[[", "]]", "[:", ":]", "[.", ".]", "[=", "=]", "\\", "\\\\", "\n", "\\\n", "\r", "\f", "\v", "\t", " ",
+              "}", "{", ";", "#", "/", "!", ",", "$", "^", "*", "&", "'", "\\n", "\\c", "\\x", "\\(", "\\)", "\\{1\\}", "b", "t", "a",
+              "w F", "\x7f", "\x80", "\xff"]
 
     def script(self):
         self.delimiter, self.labels = "/", []
@@ -91,6 +92,9 @@ class Grammar(random.Random):
             at = self.randrange(len(text) + 1)
             text = text[:at] + (self.choice(self.TOKENS) if self.random() < 0.7 else "") + text[at + self.choice([0, 0, 0, 1, 2]):]
         return text
+
+    def control(self):
+        return chr(self.choice(CONTROLS))
 
     # ---- what is hidden
 
@@ -113,16 +117,19 @@ class Grammar(random.Random):
     def cut(self):
         """An expression that has a bracket list, and then data on the same line that would close it and go on."""
         d = self.fresh_delimiter()
-        list_first = self.fitted(self.choice(["", "", "x", "^"]) + self.bracket() + self.choice(["", "", "x", "*", self.bracket()])).replace("\\\n", "")
+        first = self.choice(["", "", "x", "^"]) + self.bracket() + self.choice(["", "", "x", "*", self.bracket()])
+        first = self.fitted(first).replace("\\\n", "")
         closer = self.choice(["]", "]]", ".]]", "=]]", ":]]", "x]"])
         begin = self.choice(["a ", "a ", "a ", "i\\", "# ", "w out1", "b #", "t #", "s,a,b,w o"])
         command = self.choice(["w F", "w F", "e touch E", "r secret", "s/^/x/w F", ";w F", "}w F"])
         if self.random() < 0.3:
-            return ("/" if d == "/" else "\\" + d) + list_first + d + begin + closer + d + self.choice(["", "", "!"]) + command + "\n"
-        verb = "s" if self.random() < 0.8 else "y"
-        between = self.choice([";", ";", " ;", "\n"])
-        return verb + d + (list_first + d + "x" if verb == "s" else self.choice(["[", "x[", "[^"]) + d + self.choice(["]", "x]", "]]"])) + d + between + \
-            begin + closer + d + "y" + d + self.choice(["", "", ";"]) + command + "\n"
+            return ("/" if d == "/" else "\\" + d) + first + d + begin + closer + d + self.choice(["", "", "!"]) + command + "\n"
+        if self.random() < 0.8:
+            cut = "s" + d + first + d + "x" + d
+        else:
+            cut = "y" + d + self.choice(["[", "x[", "[^"]) + d + self.choice(["]", "x]", "]]"]) + d
+        behind = begin + closer + d + "y" + d + self.choice(["", "", ";"]) + command
+        return cut + self.choice([";", ";", " ;", "\n"]) + behind + "\n"
 
     def loop(self):
         """A loop that ends by what is in it, mostly behind a command that has data."""
@@ -238,12 +245,13 @@ class Grammar(random.Random):
         return d + expression + d + self.fitted(self.replacement()) + d
 
     def replacement(self):
-        parts = ["", "", "x", "xx", "&", "\\1", "\\n", "\\t", "\\\n", "\\&", "\\\\", "\\]", "[", "]", "\\" + self.delimiter, self.hidden(), "\\\n" + self.hidden()]
+        parts = ["", "", "x", "xx", "&", "\\1", "\\n", "\\t", "\\\n", "\\&", "\\\\", "\\]", "[", "]", "\\" + self.delimiter, self.hidden(),
+                 "\\\n" + self.hidden()]
         return "".join(self.choice(parts) for _ in range(self.randrange(4)))
 
     def transliteration(self):
         d = self.fresh_delimiter()
-        tokens = ["[", "]", "^", "[", "]", "\\\\", "\\n", "\\" + d, "a", "b", ";", "}", "#", "w", "F", " ", "\r", chr(self.choice(CONTROLS))]
+        tokens = ["[", "]", "^", "[", "]", "\\\\", "\\n", "\\" + d, "a", "b", ";", "}", "#", "w", "F", " ", "\r", self.control()]
         one = lambda: self.fitted(self.choice(tokens))
         first = [one() for _ in range(self.randrange(5))]
         second = [one() for _ in first]
@@ -265,16 +273,17 @@ class Grammar(random.Random):
             elif kind < 12 and groups and depth == 0:
                 item = "\\1"
             elif kind < 14:
-                item = "\\" + self.choice([self.delimiter, self.delimiter, self.delimiter, self.delimiter, "n", "t", ".", "[", "\\", "*", "]", "/", "-", "=", "'"])
+                item = "\\" + self.choice([self.delimiter] * 4 + ["n", "t", ".", "[", "\\", "*", "]", "/", "-", "=", "'"])
             else:
-                item = self.choice(["a", "x", ".", "]", "$", "^", "{", "}", "(", "|", "+", ";", "#", "b", chr(self.choice(CONTROLS)), "\xff"])
+                item = self.choice(["a", "x", ".", "]", "$", "^", "{", "}", "(", "|", "+", ";", "#", "b", self.control(), "\xff"])
             text += item + self.choice(["", "", "", "", "*", "\\{2\\}", "\\{0,1\\}", "\\{1,\\}", "\\{5\\}"])
         return text + self.choice(["", "", "", "$"])
 
     def bracket(self):
         """A bracket list from tokens."""
+        begin = "[" + self.choice(["", "", "^"]) + self.choice(["", "", "", "]", "-"])
         elements = "".join(self.element() for _ in range(self.randrange(1, 4)))
-        return "[" + self.choice(["", "", "^"]) + self.choice(["", "", "", "]", "-"]) + elements + self.choice(["", "", "", "-", "[", "[^", "\\"]) + "]"
+        return begin + elements + self.choice(["", "", "", "-", "[", "[^", "\\"]) + "]"
 
     def element(self):
         kind, d = self.randrange(16), self.delimiter
@@ -289,7 +298,7 @@ class Grammar(random.Random):
         if kind < 8:
             return self.choice(["a-z", "0-9", "+--", "[.+.]-[.-.]", "!-[", "A-\\", "[.+.]-[", "\\n-\\n", "[=a=]", "%-x", "\x01-\x1f"])
         if kind < 12:
-            return "\\" + self.choice(["c]", "c[", "c\\", "x5b", "x5d", "x5b.", "o133", "o135", "d091", "d093", "|", "|", "|", "(", ")", "{", "+", "?", "n", "t", "]",
-                                       "\\", "[", "a", "r", "f", "'", d, d])
+            behind = ["c]", "c[", "c\\", "x5b", "x5d", "x5b.", "o133", "o135", "d091", "d093", "|", "|", "|", "(", ")", "{", "+", "?"]
+            return "\\" + self.choice(behind + ["n", "t", "]", "\\", "[", "a", "r", "f", "'", d, d])
         tokens = ["[", "^", ".", ":", "=", "a", "b", "x", "w", "F", " ", ";", "#", "}", "{", "*", "$", "&", "|", "(", ")", "\r", "\f", byte]
-        return self.choice(tokens + [chr(self.choice(CONTROLS))])
+        return self.choice(tokens + [self.control()])

@@ -10,7 +10,6 @@ from seds_run import LIMIT_SECONDS, LONG_SECONDS, SECRET, TOLD_SECONDS
 from seds_trace import limit_of, steps_at_most
 
 FILE, COMMAND, READ, END, LINE = "unlisted file", "command run", "unlisted file read", "run without end", "shorter line changed"
-KINDS = (FILE, COMMAND, READ, END, LINE)
 LONGEST = 7
 # For BusyBox a `}` right behind a label belongs to it. `sedck` reads it as other seds do, and `sedck-explain` warns.
 BRACE_BEHIND_LABEL = re.compile(rb"[bt][ \t]*[\w.-]*\}")

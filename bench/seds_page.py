@@ -64,7 +64,8 @@ class Page:
                 for head, sed in self.columns(heads):
                     got, due = answer(sed, cells), cells[head]
                     if got != (expected(due) if name == "outputs" else due):
-                        yield head.rsplit(" ", 1)[1] in sed.version, "docs/SEDS.md, %s: %s has %r for %r, not %s" % (name, sed.name, got, joined(row[0]), due)
+                        line = "docs/SEDS.md, %s: %s has %r for %r, not %s" % (name, sed.name, got, joined(row[0]), due)
+                        yield head.rsplit(" ", 1)[1] in sed.version, line
 
     def columns(self, heads):
         """The heads of seds that are here: `GNU 4.9` is every GNU sed."""
