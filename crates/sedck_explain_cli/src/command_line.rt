@@ -115,7 +115,14 @@ fn explain_source<R: Files + AllocGlobal, S: Source + Drop, W: Sink>(
     };
     let name = shown_path(alloc, path)?;
     let Some(certificate) = request.certificate else {
-        return explain_alone(alloc, style, name.as_str(), request.denied, &mut script, out);
+        return explain_alone(
+            alloc,
+            style,
+            name.as_str(),
+            request.denied,
+            &mut script,
+            out,
+        );
     };
     match fs::open(rt, certificate) {
         Ok(file) => {
