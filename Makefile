@@ -36,6 +36,7 @@ test: build/refuse.so
 	sh examples/check.sh
 	@echo "Testing the reports of sedck-explain ..."
 	python3 tests/explain.py build/sedck-explain build/sedck
+	python3 tests/hints.py build/sedck-explain build/sedck
 	@echo "Refusing each request for memory in turn, and writing reports to streams that accept nothing ..."
 	python3 tests/refusals.py crates/sedck_refusals/out/sedck_refusals build/sedck build/refuse.so build/sedck-explain
 	sh tests/streams.sh build/sedck build/sedck-explain
@@ -47,6 +48,7 @@ examples: build
 explain-tests: build
 	@echo "Testing the reports of sedck-explain ..."
 	python3 tests/explain.py build/sedck-explain build/sedck
+	python3 tests/hints.py build/sedck-explain build/sedck
 
 # `sedck_refusals` makes one call twice; the library refuses one request for memory of the program that it is loaded into.
 refusals: build build/refuse.so

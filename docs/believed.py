@@ -266,7 +266,7 @@ cert.Headline
 flow.Run flow.Substitutes flow.Patterns
 bre.Match bre.Tree
 script.Program script.Names
-script.Spelling script.Items script.Resolution script.Parts script.Cuts
+script.Spelling script.Items script.Resolution script.Parts script.BracketLists script.Cuts
 bre.Shape bre.Brackets bre.WellFormed bre.Text bre.Bytes
 cert.Ranked flow.Flow flow.Nodes script.References bre.Rests
 cert.Certificate cert.Text cert.Versions cert.VersionOne flow.Words flow.VersionOne flow.LiteralKinds
@@ -277,7 +277,7 @@ script.Locations
 script.Faults bre.Faults cert.Faults
 script.FaultWords bre.FaultWords cert.FaultText cli.Lines
 cli.Reports cli.Engines cli.Statuses cli.Faults cert.Streams cli.Inputs
-findings.Answers explain_cli.Explained findings.Positions findings.Shown
+findings.Answers findings.Denial explain_cli.Explained findings.Positions findings.Shown
 bre.Lengths script.Shortest script.Invariant
 bre.View script.View script.ReplacementView cert.View
 bre.Laws bre.Examples script.Laws script.First script.Examples flow.Laws flow.Examples cert.Laws search.Laws

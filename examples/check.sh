@@ -97,7 +97,7 @@ blocks_that_run() {
 # Each command of the console blocks, with all that it prints. After ```console come the words for `has` that a block needs.
 cd .. || exit 1
 PATH=$scratch/build:$PATH
-for document in README.md examples/README.md docs/RECIPES.md docs/TRUST.md; do
+for document in README.md examples/README.md docs/RECIPES.md docs/TRUST.md docs/STRANGERS.md; do
     awk 'sub(/^```console/, "needs") { on = 1 } /^```/ { on = 0 } on' "$documents/$document" > blocks
     blocks_that_run "$document" > shown
     run_shown "$document"

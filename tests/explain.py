@@ -9,6 +9,7 @@ import argparse
 import sys
 import tempfile
 
+import explain_denied
 import explain_json
 import explain_pages
 import explain_refused
@@ -29,6 +30,7 @@ def main():
         explain_texts.check(tools)
         explain_json.check(tools, asked.scripts)
         explain_words.check(tools)
+        explain_denied.check(tools)
         has_graphviz = explain_pages.check(tools)
     for failure in tools.failures:
         print("FAILED: " + failure)

@@ -10,7 +10,7 @@ NO_FLAG = "no flag of POSIX sed stands here, or it is there twice"
 NO_PART = "the replacement has an escape that POSIX sed doesn't know, or a group that the expression lacks"
 NO_ESCAPE = "in a basic regular expression of POSIX this escape has no meaning that all seds share"
 MISSING = "a delimiter is missing, or can't be one"
-LISTS = "the lists of `y` differ in length, or have an escape other than `\\\\`, `\\n` and the delimiter's"
+LISTS = "the lists of `y` differ in length, have an escape other than `\\\\`, `\\n` and the delimiter's, or a `[` in the first that is left open"
 INTERVAL = "an interval is \\{m\\}, \\{m,\\} or \\{m,n\\} with numbers of at most 255"
 
 SPLIT = "split the script into several that run one after another"
@@ -18,18 +18,21 @@ RETURN = "the line ends in a carriage return: save the file with newlines alone"
 MARK = "the file begins with a byte order mark: save it without"
 ANY_ADDRESS = "an address is a line number, `$`, or an expression between delimiters"
 ANY_FLAG = "the flags are `g`, `p`, a number, and `w` with a file name, each once"
-SKIPPED = "for `0~3d` write `n`, `n` and `d`; for `1~2d` write `$!N`, `s/.*\\n//`, `t` and `d`"
-GNU = "this is an extension of GNU sed: write it with the verbs of POSIX"
-BYTE = "write the byte itself; `\\n` and `\\t` are the only ones with names"
-WORD = "match what stands beside the word: a blank, `^` or `$`, with a command for each"
+SKIPPED = "for `0~3d` write `n`, `n` and `d`; for `1~2d` write `$d`, `N` and `s/.*\\n//`; for `2~3d` put an `n` before these"
+STEPS = "for `0~3p` write `n`, `n` and `p`; for `2~5p` write `n`, `p`, `n`, `n` and `n`"
+GNU = "this is an extension of GNU sed that has no counterpart: do it outside of the script"
+BYTE = "write the byte itself"
+WORD = ("match what stands beside the word, with a command for each: `/^WORD$/`, `/^WORD[^[:alnum:]_]/`, `/[^[:alnum:]_]WORD$/` and "
+        "`/[^[:alnum:]_]WORD[^[:alnum:]_]/`")
 ENDS = "for the ends of the pattern space write `^` and `$`"
 OTHER_BYTE = "write the byte without its backslash, or in a list, as in `[%]`"
-BRACKET = "a delimiter in a bracket list ends the expression: write `[\\/]`, or take another delimiter, as in `s,[/],x,` or `\\,[/],p`"
+BRACKET = ("a delimiter in a bracket list ends the expression: take another one, as in `s,[/],x,` or `\\,[/],p`; in `[\\/]` some seds read the "
+           "backslash too")
 DASH = "put a `-` first or last in its list, and a class inside of it, as in `[[:digit:]]`"
 LONGER = "a longer repetition is written as two, as in `a\\{255\\}a\\{45\\}`"
 GROUP = "a group is `\\(` and `\\)`; the bytes alone are `(` and `)`"
-EACH = "write a command for each: `/a/d` and `/b/d` for `/a\\|b/d`; `s/a/x/`, `t done`, `s/b/x/`, `:done` for `s/a\\|b/x/`"
-AGAIN = "one sign of repetition is enough; a group may be repeated again, as in `\\(a*\\)\\{2\\}`"
+EACH = "for `/a\\|b/p` write `/a/b do`, `/b/b do`, `b on`, `:do`, `p` and `:on` on lines of their own"
+AGAIN = "a group may be repeated again, as in `\\(a\\{2\\}\\)*`"
 DELIMITED = "end each part with the delimiter, in the same line: `s/a/b/`; it is no newline and no backslash"
 LETTERS = "for whole lines write `y/abc../ABC../` with the whole alphabet"
 NAME = "the name follows after a blank, and goes on to the end of the line"
@@ -40,35 +43,37 @@ SEPARATED = "end each command by a newline or a `;`"
 REFUSED = [
     (b"p\n" * 524288 + b"p", 524289, 1, "too-long", "the script is longer than 1,048,576 bytes", SPLIT),
     (b"p\n\tp\0p\n", 2, 3, "nul-byte", "a script can't hold a byte 0", None),
-    (b"1~2p\n", 1, 2, "unknown-command", NO_VERB, SKIPPED),
-    (b"p\nT end\n", 2, 1, "unknown-command", NO_VERB, "for `T end` write `t go`, `b end` and `:go` on lines of their own"),
-    (b"$!z\n", 1, 3, "unknown-command", NO_VERB, "for `z` write `s/.*//`"),
+    (b"1~2p\n", 1, 2, "unknown-command", NO_VERB, STEPS),
+    (b"p\nT end\n", 2, 1, "unknown-command", NO_VERB, 
+     "for `T end` write `t go`, `b end` and `:go` on lines of their own; for `/x/T end` put the first two into a block, `/x/{` and `}`"),
+    (b"$!z\n", 1, 3, "unknown-command", NO_VERB, "for `z` write `s/.*//`, which sets the flag that `t` tests"),
     (b"/x/Q", 1, 4, "unknown-command", NO_VERB, "for `/x/Q` write `/x/,$d`"),
     (b"1e", 1, 2, "unknown-command", NO_VERB, "no command of POSIX sed runs another program: run it outside of the script"),
     (b"F\n", 1, 1, "unknown-command", NO_VERB, GNU),
     (b"p;R x\n", 1, 3, "unknown-command", NO_VERB, GNU),
-    (b"p;v\n", 1, 3, "unknown-command", NO_VERB, GNU),
+    (b"p;v\n", 1, 3, "unknown-command", NO_VERB, "`v` asks for a version of GNU sed: leave it out"),
     (b"W x\n", 1, 1, "unknown-command", NO_VERB, GNU),
     (b"k\n", 1, 1, "unknown-command", NO_VERB, None),
-    (b"p;1", 1, 4, "unknown-command", NO_VERB, None),
+    (b"p;1", 1, 4, "unknown-command", NO_VERB, "a command is missing behind the address"),
     (b"\xef\xbb\xbfp\n", 1, 1, "unknown-command", NO_VERB, MARK),
     (b"1p\n/x/\r\n", 2, 4, "unknown-command", NO_VERB, RETURN),
-    (b"1,+2p\n", 1, 3, "bad-address", NO_ADDRESS, "for `/x/,+2d` write `/x/{`, `$!N`, `$!N`, `d` and `}` on lines of their own"),
+    (b"1,+2p\n", 1, 3, "bad-address", NO_ADDRESS, "for `6,+2` write `6,8`"),
     (b"/a/,~4p\n", 1, 5, "bad-address", NO_ADDRESS, "for `addr,~n` count the lines with `n` or `N`"),
-    (b"p\n0~3d\n", 2, 1, "bad-address", NO_ADDRESS, "for `0~3d` write `n`, `n` and `d`"),
+    (b"p\n0~3d\n", 2, 1, "bad-address", NO_ADDRESS, SKIPPED),
     (b"0,/x/s/x/y/\n", 1, 1, "bad-address", NO_ADDRESS,
-     "for `0,/x/s/x/y/` write `/x/{`, `s//y/`, `:rest`, `n`, `b rest` and `}` on lines of their own"),
+     "for `0,/x/s/a/b/` alone in a script write `/x/{`, `s/a/b/`, `:rest`, `n`, `b rest`, `}` and once more `s/a/b/` on lines of their own, "
+     "and so for `p`"),
     (b"0p\n", 1, 1, "bad-address", NO_ADDRESS, "lines are counted from 1"),
     (b"p\n4294967296p\n", 2, 1, "bad-address", NO_ADDRESS, "a line number is at most 4,294,967,295"),
     (b"1,p\n", 1, 3, "bad-address", NO_ADDRESS, ANY_ADDRESS),
     (b"1,2q\n", 1, 4, "too-many-addresses", "the verb takes fewer addresses, or no `!`", None),
     (b"s/a/b", 1, 1, "unterminated", MISSING, DELIMITED),
     (b"p\n /a\n", 2, 2, "unterminated", MISSING, DELIMITED),
-    (b"s/a/\\1/\n", 1, 5, "bad-replacement", NO_PART, "the expression has fewer groups: write `\\(` and `\\)` around what is meant"),
+    (b"s/a/\\1/\n", 1, 5, "bad-replacement", NO_PART, "the expression has fewer groups: a group is `\\(` and `\\)`; is this for `sed -E`?"),
     (b"s/a/\\0/\n", 1, 5, "bad-replacement", NO_PART, "for `\\0` write `&`"),
     (b"s/a/x\\U&/\n", 1, 6, "bad-replacement", NO_PART, LETTERS),
     (b"s/a/\\l&/\n", 1, 5, "bad-replacement", NO_PART, LETTERS),
-    (b"s/a/\\x41/\n", 1, 5, "bad-replacement", NO_PART, BYTE),
+    (b"s/a/\\x41/\n", 1, 5, "bad-replacement", NO_PART, "write the byte itself, `&` as `\\&` and a backslash as `\\\\`"),
     (b"s/a/\\q/\n", 1, 5, "bad-replacement", NO_PART, "write the byte without its backslash"),
     (b"s/a/b/I\n", 1, 7, "bad-flag", NO_FLAG, "for `s/hello/x/I` write `s/[hH][eE][lL][lL][oO]/x/`"),
     (b"s/a/b/e\n", 1, 7, "bad-flag", NO_FLAG, "no flag of POSIX sed runs another program: run it outside of the script"),
@@ -80,7 +85,11 @@ REFUSED = [
     (b"y/a/bc/\n", 1, 1, "bad-transliteration", LISTS, "give both lists equally many bytes"),
     (b"y/a\\t/bc/\n", 1, 4, "bad-transliteration", LISTS,
      "write the byte itself; a backslash stands before a backslash, an `n` or the delimiter alone"),
-    (b"1a", 1, 2, "missing-text", "the command has no text", "write `a\\` and the text on the next line"),
+    (b"1a", 1, 2, "missing-text", "the command has no text, or one in its own line that begins with a backslash", "write `a\\` and the text on the next line"),
+    (b"$a\\", 1, 2, "missing-text", "the command has no text, or one in its own line that begins with a backslash",
+     "as `$a\\` this adds a last newline that is missing, in GNU sed alone: add it before sed; for a text write `a\\` and the text on the next line"),
+    (b"0rx\n", 1, 1, "bad-address", NO_ADDRESS, "`0r` is an extension of GNU sed: put the file before the input, as in `cat FILE - | sed ..`"),
+    (b"1,2,3p\n", 1, 4, "unknown-command", NO_VERB, "a command has at most two addresses"),
     (b"s/a/b/w\n", 1, 7, "missing-name", "the file name is missing", NAME),
     (b"p;r\n", 1, 3, "missing-name", "the file name is missing", NAME),
     (b":\n", 1, 2, "bad-label", "a label is missing, or holds a byte that no label may hold", LABEL),
@@ -101,13 +110,14 @@ REFUSED = [
     (b"p\n\ts/a\\+/b/\n", 2, 5, "bad-escape", NO_ESCAPE, "for `x\\+` write `x\\{1,\\}` or `xx*`"),
     (b"s/a\\/b\\/c\\+d/x/\n", 1, 10, "bad-escape", NO_ESCAPE, "for `x\\+` write `x\\{1,\\}` or `xx*`"),
     (b"s/a\\\\\\/b\\?/x/\n", 1, 9, "bad-escape", NO_ESCAPE, "for `x\\?` write `x\\{0,1\\}`"),
-    (b"\\,[\\,]\\,\\?,p\n", 1, 9, "bad-escape", NO_ESCAPE, "for `x\\?` write `x\\{0,1\\}`"),
-    (b"/\\//,/\\/\\|/p\n", 1, 9, "bad-escape", NO_ESCAPE, EACH),
+    (b"\\,[\\,]\\,\\?,p\n", 1, 9, "bad-escape", NO_ESCAPE, "for `x\\?` write `x\\{0\\,1\\}`, since `,` is the delimiter"),
+    (b"/\\//,/\\/\\|/p\n", 1, 9, "bad-escape", NO_ESCAPE, "a range needs one expression, as `[ab]` for `a\\|b` or `xa\\{0,1\\}` for `x\\|xa`"),
+    (b"/\\//!{/\\/\\|/p\n}", 1, 10, "bad-escape", NO_ESCAPE, EACH),
     (b"/\\s/p\n", 1, 2, "bad-escape", NO_ESCAPE, "for `\\s` write `[[:space:]]`"),
     (b"/\\S/p\n", 1, 2, "bad-escape", NO_ESCAPE, "for `\\S` write `[^[:space:]]`"),
     (b"/\\w/p\n", 1, 2, "bad-escape", NO_ESCAPE, "for `\\w` write `[[:alnum:]_]`"),
     (b"/\\W/p\n", 1, 2, "bad-escape", NO_ESCAPE, "for `\\W` write `[^[:alnum:]_]`"),
-    (b"/\\d/p\n", 1, 2, "bad-escape", NO_ESCAPE, "for a digit write `[[:digit:]]`"),
+    (b"/\\d/p\n", 1, 2, "bad-escape", NO_ESCAPE, "if a digit is meant write `[[:digit:]]`"),
     (b"/a\\b/p\n", 1, 3, "bad-escape", NO_ESCAPE, WORD),
     (b"/\\<a/p\n", 1, 2, "bad-escape", NO_ESCAPE, WORD),
     (b"/\\`a/p\n", 1, 2, "bad-escape", NO_ESCAPE, ENDS),
@@ -115,14 +125,14 @@ REFUSED = [
     (b"/\\x41/p\n", 1, 2, "bad-escape", NO_ESCAPE, BYTE),
     (b"/\\q/p\n", 1, 2, "bad-escape", NO_ESCAPE, OTHER_BYTE),
     (b"s/[/]/x/\n", 1, 3, "unclosed-bracket", "the bracket list isn't closed before the delimiter", BRACKET),
-    (b"s/[z-a]/x/\n", 1, 4, "bad-bracket", "the bracket list has a range, a class or a hyphen that is none", DASH),
+    (b"s/[z-a]/x/\n", 1, 4, "bad-bracket", "the bracket list has a range, a class or a hyphen that is none, or an element that seds read differently", DASH),
     (b"s/[^[:cntrl:]\x01-\xff]/x/\n", 1, 3, "empty-set", "the bracket list matches nothing", None),
     (b"s/\\(a/x/\n", 1, 3, "unclosed-group", "this group isn't closed", GROUP),
     (b"s/a\\)/x/\n", 1, 4, "unopened-group", "this closes no group", GROUP),
-    (b"s/a\\{2/x/\n", 1, 4, "bad-interval", INTERVAL, LONGER),
+    (b"s/a\\{2/x/\n", 1, 4, "bad-interval", INTERVAL, "an interval ends in `\\}`; for the byte `{` write it without a backslash"),
     (b"s/a\\{256\\}/x/\n", 1, 4, "bad-interval", INTERVAL, LONGER),
     (b"s/\\{2\\}/x/\n", 1, 3, "nothing-to-repeat", "nothing stands before this interval",
-     "for the two bytes write `[{]`, or put before it what is to be repeated"),
+     "for the byte write `{`; else put before it what is to be repeated"),
     (b"s/a*\\{2\\}/x/\n", 1, 5, "double-repeat", "what is repeated already can't be repeated again", AGAIN),
     (b"s/\\1/x/\n", 1, 3, "bad-reference", "no group with this number is closed before this", None),
     (b"s/" + b"\\(" * 33 + b"\\)" * 33 + b"/x/\n", 1, 67, "too-deep", "this group is inside of 32 others, which is the most", None),

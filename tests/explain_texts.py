@@ -7,8 +7,10 @@ IDLE = "this loop reads no line, and nothing in it makes the pattern space short
 GROWING = "this loop reads no line, and may make the pattern space longer in each round: a run may go round it for ever"
 ROUND = ("let each round read a line, by `n`, `N` or `d`, or make the pattern space shorter; or go round a fixed number of times by "
          "writing the commands as often")
-ONCE = "let one `s` with the flag `g` do all at once; or write the command as often as it may be needed, without the loop"
-OFTEN = "write the command as often as it may be needed, without the loop; or let one `s` with the flag `g` do all at once"
+ONCE = ("where a replacement makes no new match, let one `s` with the flag `g` do all at once, else write the command as often as it may be "
+        "needed; and then `t c` and `:c`, since the loop leaves the flag of `t` unset")
+OFTEN = ("write the command as often as it may be needed, without the loop; or, where a replacement makes no new match, let one `s` with the flag "
+         "`g` do all at once")
 TAKE = ("take the branch only where a line was read: put it into the block of the `N` or `n`, as in `/x/{`, `N`, `b a`, `}` on lines "
         "of their own")
 UNKNOWN = "every run ends, but no limit on its steps is known, since the pattern space may get longer here"
@@ -97,14 +99,14 @@ s.sed:1:4: error: {GROWING} [loop-growing]
        1:12  ...ta          branches, since something was replaced
         1:1  :a;s/x/xx/;ta  goes on
         1:4  ...s/x/xx/;ta  and so on
-     = hint: {OFTEN}
+     = hint: {ONCE}
 """, f"""\
 s.sed:1:4: error: {GROWING} [loop-growing]
 s.sed:1:4: note: may replace a text by a longer one: it has 2 bytes, and a match may have only 1
 s.sed:1:12: note: branches, since something was replaced
 s.sed:1:1: note: goes on
 s.sed:1:4: note: and so on
-s.sed:1:4: note: hint: {OFTEN}
+s.sed:1:4: note: hint: {ONCE}
 """),
     # the groups of a replacement are kept, and `\\(a\\)b` has one byte outside of them
     (b":a\ns/\\(a\\)b/\\1cc/\nta\n", 1, f"""\
@@ -115,14 +117,14 @@ s.sed:2:1: error: {GROWING} [loop-growing]
        3:1  ta              branches, since something was replaced
        1:1  :a              goes on
        2:1  s/\\(a\\)b/\\1cc/  and so on
-     = hint: {OFTEN}
+     = hint: {ONCE}
 """, f"""\
 s.sed:2:1: error: {GROWING} [loop-growing]
 s.sed:2:1: note: may replace a text by a longer one: it has 2 bytes plus its groups, and a match may have only 1 outside of them
 s.sed:3:1: note: branches, since something was replaced
 s.sed:1:1: note: goes on
 s.sed:2:1: note: and so on
-s.sed:2:1: note: hint: {OFTEN}
+s.sed:2:1: note: hint: {ONCE}
 """),
     (b"G\nD\n", 1, f"""\
 s.sed:1:1: error: {GROWING} [loop-growing]

@@ -25,11 +25,11 @@ def check_refused_words(tools):
 def check_help(tools):
     """The help, which names what can be given, and the version."""
     for words in (["--version"], ["-V"]):
-        tools.same("version", tools.explain(*words), (0, b"sedck-explain 1.0.0\n", b""))
+        tools.same("version", tools.explain(*words), (0, b"sedck-explain 1.1.0\n", b""))
     for words in (["--help"], ["-h"], ["--help", "s.sed"]):
         status, report, errors = tools.explain(*words)
         tools.same("help", (status, errors), (0, b""))
-        for part in (*FORMATS, "--format", "--cert", "--help", "--version", "SCRIPT", "standard input", "0 accepted", "4 a file"):
+        for part in (*FORMATS, "--format", "--cert", "--deny", "--help", "--version", "SCRIPT", "standard input", "0 accepted", "4 a file"):
             tools.holds("help has %s" % part, part.encode() in report)
 
 

@@ -19,7 +19,7 @@ HEADS = {"FAULTS OF SCRIPTS": "Faults of scripts", "FAULTS OF EXPRESSIONS": "Fau
          "FAULTS OF CERTIFICATES": "Faults of certificates", "REJECTIONS": "Rejections"}
 # A refused expression is a finding by its own fault, and lack of memory is none.
 NO_FINDINGS = {"bad-expression", "out-of-memory"}
-FINDERS = ["crates/sedck_findings/src/loops.rt", "crates/sedck_findings/src/names.rt"]
+FINDERS = ["crates/sedck_findings/src/%s.rt" % name for name in ("denied", "looks", "loops", "names")]
 
 
 def section(text, head, mark):
@@ -53,7 +53,7 @@ def findings_differ(names):
     """How the findings of the manual page differ from those names and the ones that the code gives to loops and doubts."""
     page = section(read("docs/sedck-explain.1").replace(r"\-", "-"), ".SH FINDINGS", r"^\.SH ")
     found = set(re.findall(r"^\.TP\n\.B ([a-z-]+)$", page, flags=re.M))
-    given = {code for name in FINDERS for code in re.findall(r'(?:code: |^ +)"([a-z]+-[a-z-]+)",$', read(name), flags=re.M)}
+    given = {code for name in FINDERS for code in re.findall(r'(?:code: |^ +|, )"([a-z]+-[a-z-]+)",', read(name), flags=re.M)}
     due = names - NO_FINDINGS | given
     return "" if found == due and given else "it lacks %s, and has %s too many" % (sorted(due - found), sorted(found - due))
 

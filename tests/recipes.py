@@ -3,7 +3,7 @@
 
     python3 tests/recipes.py build/sedck build/sedck-explain
 
-Each recipe is taken from the page, or from .pre-commit-hooks.yaml, and must pass what it should pass and refuse what it should
+and the script of docs/STRANGERS.md. Each recipe is taken from the page, or from .pre-commit-hooks.yaml, and must pass what it should pass and refuse what it should
 refuse. One that needs a program which this machine lacks is left out, which is said. The status is 0 only where none fails.
 """
 import os
@@ -28,9 +28,9 @@ def read(name):
         return file.read()
 
 
-def block(head, language, nth=0):
+def block(head, language, nth=0, page="docs/RECIPES.md"):
     """A block of a section of the page; the others are examples of what it prints."""
-    section = re.split(r"^## ", read("docs/RECIPES.md").split("\n## %s\n" % head, 1)[1], flags=re.M)[0]
+    section = re.split(r"^## ", read(page).split("\n## %s\n" % head, 1)[1], flags=re.M)[0]
     return re.findall(r"^```%s\n(.*?)^```$" % language, section, flags=re.M | re.S)[nth]
 
 
@@ -124,6 +124,22 @@ def inline_make(scratch):
     os.remove(os.path.join(scratch.folder, "notes"))
     scratch.write("Makefile", text.replace("s/^  *//", ":a\ns/^ / /\nta"))
     holds("loop-idle" in scratch.run(2, "make", "notes") and not scratch.has("notes"), "a script with a loop is run")
+
+
+def stranger(scratch):
+    """The script of docs/STRANGERS.md, for scripts that are run, that are denied, and that are longer than any script."""
+    if not scratch.run(0, "sh", "-c", "sed --version 2> /dev/null || :").startswith("sed (GNU sed)"):
+        print("recipes: stranger is left out: sed isn't GNU sed")
+        return
+    scratch.write("run-stranger.sh", block("Check a copy, and run the copy", "sh", page="docs/STRANGERS.md"))
+    scratch.write("good.sed", "s/a/b/\n")
+    scratch.write("mail", "a\nxa\n")
+    holds(scratch.run(0, "sh", "-c", "sh run-stranger.sh good.sed < mail") == "b\nxb\n", "other texts")
+    for script, code in (("w out\n", "denied-writes"), ("r mail\n", "denied-reads"), ("G\n", "denied-unbounded"), (ENDLESS, "loop-idle"), ("1e id\n", "unknown-command"),
+                         ("s/[0-9]+//\n", "denied-warnings"), ("#" * 1048576 + "\nw out\n", "too-long")):
+        scratch.write("bad.sed", script)
+        holds(code in scratch.run(125, "sh", "-c", "sh run-stranger.sh bad.sed < mail"), "%s isn't shown" % code)
+    holds(sorted(os.listdir(scratch.folder)) == ["bad.sed", "good.sed", "mail", "run-stranger.sh"], "a file is left over")
 
 
 def vim(scratch):
@@ -253,7 +269,7 @@ def pre_commit(scratch):
 
 
 # Each recipe with the programs that it needs.
-RECIPES = [(makefile, "make sed"), (in_place, "sed"), (inline, "sed"), (inline_make, "make sed"), (vim, "vim"), (hook, "git sed"), (step, ""), (lists, ""),
+RECIPES = [(makefile, "make sed"), (in_place, "sed"), (inline, "sed"), (inline_make, "make sed"), (stranger, "sed"), (vim, "vim"), (hook, "git sed"), (step, ""), (lists, ""),
            (github, "yaml bash curl tar sha256sum"), (gitlab, "yaml bash curl tar sha256sum"), (pre_commit, "yaml")]
 
 
@@ -272,7 +288,7 @@ def main():
                 failed += 1
                 print("recipes: %s: %s" % (recipe.__name__, failure))
     if not failed:
-        print("recipes: %d of docs/RECIPES.md do what they should" % run)
+        print("recipes: %d of docs/RECIPES.md and docs/STRANGERS.md do what they should" % run)
     return 1 if failed else 0
 
 

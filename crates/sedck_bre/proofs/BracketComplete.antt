@@ -7,7 +7,7 @@ use Rattle.sedck_bre.specs.Text.{begins}
 use Rattle.sedck_bre.specs.Brackets.{Class, upper, lower, alpha, digit, alnum, xdigit, space, blank, punct, graph, print, cntrl, class_name, Element, One, Range, Members, is_bare, WritesByte, begins_range, WritesElement}
 use Rattle.sedck_bre.specs.Private.Reading.{◌>>=◌}
 use Rattle.sedck_bre.specs.Private.BracketReading.{symbol_at, byte_at, ranges, no_range, class_from, classes, one, range_to, range_or_one, element_at}
-use Rattle.sedck_bre.proofs.BracketLemmas.{plain_before, plain_open, plain_back, range_behind}
+use Rattle.sedck_bre.proofs.BracketLemmas.{plain_before, plain_open, plain_back, range_behind, other_than}
 
 -- ---- One byte
 
@@ -18,23 +18,23 @@ itself_again c next h = go (c == 91) (c == 92) refl refl
     go : (a b : Bool) → (c == 91) ≡ a → (c == 92) ≡ b → byte_at (c ∷ next) ≡ Some (c, next)
     go true b e f =
         let free : begins ":.=" next ≡ false = not-true (begins ":.=" next)
-        (sym (ap (λ x. cond x (not (begins ":.=" next)) (cond (c == 92) (not (begins "n\\" next)) true)) e) ∙ h) in
+        (sym (ap (λ x. cond x (not (begins ":.=" next)) (cond (c == 92) (not (begins "n\\cdox" next)) true)) e) ∙ h) in
         let parts = plain_open next free in
         rw (e, parts.0, parts.1) refl
     go false true e f =
-        let free : begins "n\\" next ≡ false =
-        not-true (begins "n\\" next)
-        (sym (ap (λ x. cond x (not (begins ":.=" next)) (cond (c == 92) (not (begins "n\\" next)) true)) e
-        ∙ ap (λ x. cond x (not (begins "n\\" next)) true) f) ∙ h) in
+        let free : begins "n\\cdox" next ≡ false =
+        not-true (begins "n\\cdox" next)
+        (sym (ap (λ x. cond x (not (begins ":.=" next)) (cond (c == 92) (not (begins "n\\cdox" next)) true)) e
+        ∙ ap (λ x. cond x (not (begins "n\\cdox" next)) true) f) ∙ h) in
         let parts = plain_back next free in
-        rw (e, f, parts.0, parts.1) refl
+        rw (e, f, parts.0, parts.1, parts.2) refl
     go false false e f = rw (e, f) refl
 
 byte_again : (u next : List ℕ) (c : ℕ) → WritesByte u next c → byte_at (u ++ next) ≡ Some (c, next)
 byte_again u next c (inl h) = ap (λ x. byte_at (x ++ next)) h.0 ∙ itself_again c next h.1
 byte_again u next c (inr (inl h)) = ap (λ x. byte_at (x ++ next)) h.0 ∙ ap (λ x. Some (x, next)) (sym h.1)
 byte_again u next c (inr (inr (inl h))) = ap (λ x. byte_at (x ++ next)) h.0 ∙ ap (λ x. Some (x, next)) (sym h.1)
-byte_again u next c (inr (inr (inr h))) = ap (λ x. byte_at (x ++ next)) h
+byte_again u next c (inr (inr (inr h))) = ap (λ x. byte_at (x ++ next)) h.0 ∙ ap (λ b. cond (not b && true) (Some (c, next)) None) (other_than c 46 h.1)
 
 -- what is written before the elements that come is written before them and the closing bracket
 writes_behind : (u v rest : List ℕ) (c : ℕ) → WritesByte u v c → WritesByte u (v ++ 93 ∷ rest) c
@@ -56,7 +56,7 @@ not_open u next c (inl h) =
     go : (b : Bool) → (91 == c) ≡ b → (((91 == c) || false) && begins ":" next ≡ false) × ((((91 == c) || false) && begins "=" next) ≡ false)
     go true e =
         let free : begins ":.=" next ≡ false = not-true (begins ":.=" next)
-        (sym (ap (λ x. cond x (not (begins ":.=" next)) (cond (c == 92) (not (begins "n\\" next)) true)) (turned c e)) ∙ h.1) in
+        (sym (ap (λ x. cond x (not (begins ":.=" next)) (cond (c == 92) (not (begins "n\\cdox" next)) true)) (turned c e)) ∙ h.1) in
         let parts = plain_open next free in
         (ap (λ x. (x || false) && begins ":" next) e ∙ parts.2, ap (λ x. (x || false) && begins "=" next) e ∙ parts.3)
     go false e = (ap (λ x. (x || false) && begins ":" next) e, ap (λ x. (x || false) && begins "=" next) e)
@@ -69,8 +69,8 @@ not_open u next c (inr (inr (inl h))) = (
   ap (λ x. begins "[" (x ++ next) && begins "=" (drop 1 (x ++ next))) h.0,
 )
 not_open u next c (inr (inr (inr h))) = (
-  ap (λ x. begins "[" (x ++ next) && begins ":" (drop 1 (x ++ next))) h,
-  ap (λ x. begins "[" (x ++ next) && begins "=" (drop 1 (x ++ next))) h,
+  ap (λ x. begins "[" (x ++ next) && begins ":" (drop 1 (x ++ next))) h.0,
+  ap (λ x. begins "[" (x ++ next) && begins "=" (drop 1 (x ++ next))) h.0,
 )
 
 -- only a bare `-` begins with one
@@ -84,7 +84,7 @@ dash_alone u next s c (inl h) d =
     single false h = h
 dash_alone u next s c (inr (inl h)) d = absurd (false≢true (sym (ap (λ x. begins "-" (x ++ s)) h.0) ∙ d))
 dash_alone u next s c (inr (inr (inl h))) d = absurd (false≢true (sym (ap (λ x. begins "-" (x ++ s)) h.0) ∙ d))
-dash_alone u next s c (inr (inr (inr h))) d = absurd (false≢true (sym (ap (λ x. begins "-" (x ++ s)) h) ∙ d))
+dash_alone u next s c (inr (inr (inr h))) d = absurd (false≢true (sym (ap (λ x. begins "-" (x ++ s)) h.0) ∙ d))
 
 -- where no class begins, the tests behind choose
 abbrev dash_or_byte : Bool → List ℕ → Option (Element × List ℕ)
@@ -140,7 +140,7 @@ range_dash y v s z (inl h) no_bracket = ap (λ x. ranges (45 ∷ (x ++ s))) h.0 
     go false e = ap (λ b. true && not b) e
 range_dash y v s z (inr (inl h)) no_bracket = ap (λ x. ranges (45 ∷ (x ++ s))) h.0
 range_dash y v s z (inr (inr (inl h))) no_bracket = ap (λ x. ranges (45 ∷ (x ++ s))) h.0
-range_dash y v s z (inr (inr (inr h))) no_bracket = ap (λ x. ranges (45 ∷ (x ++ s))) h
+range_dash y v s z (inr (inr (inr h))) no_bracket = ap (λ x. ranges (45 ∷ (x ++ s))) h.0
 
 before_dash : (u s t : List ℕ) (a : ℕ) → WritesByte u (45 ∷ s) a → WritesByte u (45 ∷ t) a
 before_dash u s t a (inl h) = inl (h.0, same a s t ∙ h.1)
@@ -207,7 +207,9 @@ pub element_again : (first : Bool) (u v rest : List ℕ) (e : Element) → Write
     → element_at first (u ++ (v ++ 93 ∷ rest)) ≡ Some (e, v ++ 93 ∷ rest)
 element_again first u v rest (One c) (inl byte, place, range) = one_again first u v rest c byte place.1 range
 element_again first u v rest (One c) (inr same, place, range) =
-    ap (λ x. element_at first (x ++ (v ++ 93 ∷ rest))) same ∙ ap (λ b. cond b None (Some (One c, v ++ 93 ∷ rest))) (range_behind v rest range)
+    ap (λ x. element_at first (x ++ (v ++ 93 ∷ rest))) same.0
+    ∙ ap (λ b. cond (not b && true) (Some (c, v ++ 93 ∷ rest)) None >>= one >>= no_range) (other_than c 61 same.1)
+    ∙ ap (λ b. cond b None (Some (One c, v ++ 93 ∷ rest))) (range_behind v rest range)
 element_again first u v rest (Range a z) (x, y, is, place, byte, second, no_bracket, le) =
     ap (λ t. element_at first (t ++ (v ++ 93 ∷ rest))) is ∙ range_again first x y v rest a z byte place.1 second no_bracket le
 element_again first u v rest (Members class) (is, range) =

@@ -1,11 +1,11 @@
 -- The bound on the number of elements does not matter: the elements of a list are the first, and those behind it.
-use Rattle.std.proofs.Common.{◌≡◌, ℕ, suc, zero, ◌+◌, ◌<◌, Bool, true, false, cond, List, [], ◌∷◌, ◌++◌, length, drop, Option, Some, None, IfSome, refl, sym, ap, ◌∙◌, arith, append_assoc, length-append, add-one}
+use Rattle.std.proofs.Common.{◌≡◌, ◌≢◌, ℕ, suc, zero, ◌+◌, ◌<◌, Bool, true, false, cond, List, [], ◌∷◌, ◌++◌, length, drop, Option, Some, None, IfSome, refl, sym, ap, ◌∙◌, arith, append_assoc, length-append, add-one}
 use Rattle.std.specs.Prelude.{◌&&◌, not, codes}
 use Rattle.std.proofs.lemmas.List.{append-nil, length-drop}
 use Rattle.sedck_bre.specs.Text.{begins}
 use Rattle.sedck_bre.specs.Brackets.{Class, class_name, Element, One, Range, Members}
 use Rattle.sedck_bre.specs.Private.Reading.{◌>>=◌}
-use Rattle.sedck_bre.specs.Private.BracketReading.{symbol_at, byte_at, ranges, no_range, classes, class_from, one, range_to, range_end_at, range_or_one, byte_or_range_at, whole_class_at, equivalents_at, last_dash_at, element_at, before_elements, others, elements_at, set_of, inside_at}
+use Rattle.sedck_bre.specs.Private.BracketReading.{symbol_at, byte_at, ranges, no_range, classes, class_from, one, range_to, range_end_at, range_or_one, byte_or_range_at, whole_class_at, equivalents_at, last_dash_at, element_at, before_elements, others, elements_at, clear_of, set_of, inside_at}
 use Rattle.sedck_bre.specs.Private.BracketCode.{elements_of, set_at}
 use Rattle.sedck_bre.proofs.ReadLemmas.{bind_holds, cond_holds, and_left}
 use Rattle.sedck_bre.proofs.ReadingFuel.{bind_alike}
@@ -23,7 +23,7 @@ weaker None P Q f h = tt
 weaker (Some x) P Q f h = f x h
 
 symbol_shorter : (mark : ℕ) (text : List ℕ) → IfSome (symbol_at mark text) (Shorter text)
-symbol_shorter mark text = weaker (symbol_at mark text) (λ x. text ≡ x.0 ∷ mark ∷ 93 ∷ x.1) (Shorter text) (λ x h. omega (arith, ap length h))
+symbol_shorter mark text = weaker (symbol_at mark text) (λ x. (text ≡ x.0 ∷ mark ∷ 93 ∷ x.1) × (x.0 ≢ mark)) (Shorter text) (λ x h. omega (arith, ap length h.0))
     (symbol_takes mark text)
 
 byte_shorter : (text : List ℕ) → IfSome (byte_at text) (Shorter text)
@@ -85,11 +85,11 @@ inside_is : (text : List ℕ) → inside_at text ≡ cond (begins "^" text) (set
 unfolding elements_of
 inside_is text = go (begins "^" text) refl
   where
-    go : (b : Bool) → begins "^" text ≡ b → cond b (elements_at (length text) true (drop 1 text) >>= set_of true)
-        (elements_at (length text + 1) true text >>= set_of false) ≡ cond b (set_at true (drop 1 text)) (set_at false text)
+    go : (b : Bool) → begins "^" text ≡ b → cond b (elements_at (length text) true (drop 1 text) >>= clear_of (drop 1 text) >>= set_of true)
+        (elements_at (length text + 1) true text >>= clear_of text >>= set_of false) ≡ cond b (set_at true (drop 1 text)) (set_at false text)
     go true e =
         let longer : length (drop 1 text) < length text = omega (arith, ap length (one_front "^" 94 text refl e)) in
-        ap (λ o. o >>= set_of true) (alike (length text) (length (drop 1 text) + 1) true (drop 1 text) longer (omega arith))
+        ap (λ o. o >>= clear_of (drop 1 text) >>= set_of true) (alike (length text) (length (drop 1 text) + 1) true (drop 1 text) longer (omega arith))
     go false e = refl
 
 pub inside_complement : (text : List ℕ) → begins "^" text ≡ true → inside_at text ≡ set_at true (drop 1 text)

@@ -1,5 +1,5 @@
 -- Small facts on what begins a text, and on what stands before the closing bracket of a list.
-use Rattle.std.proofs.Common.{◌≡◌, ℕ, Bool, true, false, cond, List, [], ◌∷◌, ◌++◌, drop, refl, sym, ap, ◌∙◌}
+use Rattle.std.proofs.Common.{◌≡◌, ◌≢◌, eq-eqb, ℕ, Bool, true, false, cond, List, [], ◌∷◌, ◌++◌, drop, refl, sym, ap, ◌∙◌}
 use Rattle.std.specs.Prelude.{◌==◌, ◌&&◌, ◌||◌, not, codes}
 use Rattle.std.proofs.lemmas.Bool.{false≢true, eqb-true}
 use Prim.Native.String.{String}
@@ -23,8 +23,8 @@ begins_before s (c ∷ v) rest h = refl
 
 pub plain_before : (c : ℕ) (v rest : List ℕ) → is_bare c (v ++ 93 ∷ rest) ≡ is_bare c v
 plain_before c v rest =
-    ap (λ b. cond (c == 91) (not b) (cond (c == 92) (not (begins "n\\" (v ++ 93 ∷ rest))) true)) (begins_before ":.=" v rest refl)
-    ∙ ap (λ b. cond (c == 91) (not (begins ":.=" v)) (cond (c == 92) (not b) true)) (begins_before "n\\" v rest refl)
+    ap (λ b. cond (c == 91) (not b) (cond (c == 92) (not (begins "n\\cdox" (v ++ 93 ∷ rest))) true)) (begins_before ":.=" v rest refl)
+    ∙ ap (λ b. cond (c == 91) (not (begins ":.=" v)) (cond (c == 92) (not b) true)) (begins_before "n\\cdox" v rest refl)
 
 -- none of two tests holds where their parts don't
 pub open_plain : (text : List ℕ) → begins "." text ≡ false → begins ":=" text ≡ false → begins ":.=" text ≡ false
@@ -36,13 +36,14 @@ open_plain (c ∷ text) h k = go (58 == c) (46 == c) (61 == c) h k
     go false true d h k = h
     go false false d h k = k
 
-pub back_plain : (text : List ℕ) → begins "n" text ≡ false → begins "\\" text ≡ false → begins "n\\" text ≡ false
-back_plain [] h k = refl
-back_plain (c ∷ text) h k = go (110 == c) (92 == c) h k
+pub back_plain : (text : List ℕ) → begins "cdox" text ≡ false → begins "n" text ≡ false → begins "\\" text ≡ false → begins "n\\cdox" text ≡ false
+back_plain [] f h k = refl
+back_plain (c ∷ text) f h k = go (110 == c) (92 == c) (begins "cdox" (c ∷ text)) f h k
   where
-    go : (a b : Bool) → (a || false) ≡ false → (b || false) ≡ false → (a || (b || false)) ≡ false
-    go true b h k = h
-    go false b h k = k
+    go : (a b x : Bool) → x ≡ false → (a || false) ≡ false → (b || false) ≡ false → (a || (b || x)) ≡ false
+    go true b x f h k = h
+    go false true x f h k = k
+    go false false x f h k = f
 
 -- and the other way round
 pub plain_open : (text : List ℕ) → begins ":.=" text ≡ false
@@ -57,14 +58,30 @@ plain_open (c ∷ text) h = go (58 == c) (46 == c) (61 == c) h
     go false false true h = absurd (false≢true (sym h))
     go false false false h = (refl, refl, refl, refl)
 
-pub plain_back : (text : List ℕ) → begins "n\\" text ≡ false → (begins "n" text ≡ false) × (begins "\\" text ≡ false)
-plain_back [] h = (refl, refl)
-plain_back (c ∷ text) h = go (110 == c) (92 == c) h
+pub plain_back : (text : List ℕ) → begins "n\\cdox" text ≡ false
+    → (begins "cdox" text ≡ false) × (begins "n" text ≡ false) × (begins "\\" text ≡ false)
+plain_back [] h = (refl, refl, refl)
+plain_back (c ∷ text) h = go (110 == c) (92 == c) (begins "cdox" (c ∷ text)) h
   where
-    go : (a b : Bool) → (a || (b || false)) ≡ false → ((a || false) ≡ false) × ((b || false) ≡ false)
-    go true b h = absurd (false≢true (sym h))
-    go false true h = absurd (false≢true (sym h))
-    go false false h = (refl, refl)
+    go : (a b x : Bool) → (a || (b || x)) ≡ false → (x ≡ false) × ((a || false) ≡ false) × ((b || false) ≡ false)
+    go true b x h = absurd (false≢true (sym h))
+    go false true x h = absurd (false≢true (sym h))
+    go false false x h = (h, refl, refl)
+
+-- ---- A symbol's byte isn't its mark
+
+pub other_than : (c d : ℕ) → c ≢ d → (c == d) ≡ false
+other_than c d h = go (c == d) refl
+  where
+    go : (b : Bool) → (c == d) ≡ b → b ≡ false
+    go true e = absurd (h (eqb-true c d e))
+    go false e = refl
+
+pub than_other : (c d : ℕ) → not (c == d) ≡ true → c ≢ d
+than_other c d h e = absurd (false≢true (sym (ap not (ap (λ x. x == d) e ∙ itself d)) ∙ h))
+  where
+    itself : (d : ℕ) → (d == d) ≡ true
+    itself d = eq-eqb d d refl
 
 -- ---- What no written elements begin with, but for the first
 

@@ -9,18 +9,18 @@ use Rattle.sedck_bre.specs.Brackets.{Class, class_name, Element, One, Range, Mem
 use Rattle.sedck_bre.specs.Private.Reading.{◌>>=◌}
 use Rattle.sedck_bre.specs.Private.BracketReading.{symbol_at, byte_at, ranges, no_range, class_from, classes, one, range_to, range_or_one, element_at, before_elements, others, elements_at}
 use Rattle.sedck_bre.proofs.ReadLemmas.{bind_holds, cond_holds, and_left, nat_le_of}
-use Rattle.sedck_bre.proofs.BracketLemmas.{one_front, plain_before, open_plain, back_plain, is_closing_front, range_before}
+use Rattle.sedck_bre.proofs.BracketLemmas.{one_front, plain_before, open_plain, back_plain, is_closing_front, range_before, than_other}
 
 -- ---- One byte
 
-pub symbol_takes : (mark : ℕ) (text : List ℕ) → IfSome (symbol_at mark text) (λ x. text ≡ x.0 ∷ mark ∷ 93 ∷ x.1)
+pub symbol_takes : (mark : ℕ) (text : List ℕ) → IfSome (symbol_at mark text) (λ x. (text ≡ x.0 ∷ mark ∷ 93 ∷ x.1) × (x.0 ≢ mark))
 symbol_takes mark [] = tt
 symbol_takes mark (c ∷ []) = tt
 symbol_takes mark (c ∷ d ∷ []) = tt
 symbol_takes mark (c ∷ d ∷ e ∷ text) =
-    cond_holds ((d == mark) && (e == 93)) (Some (c, text)) None (λ x. c ∷ d ∷ e ∷ text ≡ x.0 ∷ mark ∷ 93 ∷ x.1)
-    (λ h. let both = and_left (d == mark) (e == 93) h in ap (λ x. c ∷ x ∷ e ∷ text) (eqb-true d mark both.0)
-    ∙ ap (λ x. c ∷ mark ∷ x ∷ text) (eqb-true e 93 both.1))
+    cond_holds (not (c == mark) && ((d == mark) && (e == 93))) (Some (c, text)) None (λ x. (c ∷ d ∷ e ∷ text ≡ x.0 ∷ mark ∷ 93 ∷ x.1) × (x.0 ≢ mark))
+    (λ h. let all = and_left (not (c == mark)) ((d == mark) && (e == 93)) h in let both = and_left (d == mark) (e == 93) all.1 in
+    (ap (λ x. c ∷ x ∷ e ∷ text) (eqb-true d mark both.0) ∙ ap (λ x. c ∷ mark ∷ x ∷ text) (eqb-true e 93 both.1), than_other c mark all.0))
     (λ _. tt)
 
 -- a byte is written at the start of the text, before the rest
@@ -39,21 +39,22 @@ byte_takes (c ∷ text) =
     (λ no_dot. cond_holds (begins ":=" text) None (Some (c, text)) (IsByteBefore (c ∷ text)) (λ _. tt)
     (λ no_other. itself c text (rw (is, open_plain text no_dot no_other) refl))))
     (λ not_open. cond_holds (c == 92) _ (Some (c, text)) (IsByteBefore (c ∷ text))
-    (λ is. cond_holds (begins "n" text) (Some (10, drop 1 text)) _ (IsByteBefore (c ∷ text))
+    (λ is. cond_holds (begins "cdox" text) None _ (IsByteBefore (c ∷ text)) (λ _. tt)
+    (λ no_escape. cond_holds (begins "n" text) (Some (10, drop 1 text)) _ (IsByteBefore (c ∷ text))
     (λ n. (codes "\\n", ap (λ x. x ∷ text) (eqb-true c 92 is) ∙ ap (λ t. 92 ∷ t) (one_front "n" 110 text refl n), inr (inl (refl, refl))))
     (λ no_n. cond_holds (begins "\\" text) (Some (92, drop 1 text)) (Some (c, text)) (IsByteBefore (c ∷ text))
     (λ back. (codes "\\\\", ap (λ x. x ∷ text) (eqb-true c 92 is) ∙ ap (λ t. 92 ∷ t) (one_front "\\" 92 text refl back), inr (inr (inl (refl, refl)))))
-    (λ no_back. itself c text (rw (not_open, is, back_plain text no_n no_back) refl))))
+    (λ no_back. itself c text (rw (not_open, is, back_plain text no_escape no_n no_back) refl)))))
     (λ not_back. itself c text (rw (not_open, not_back) refl)))
   where
     symbol : (c : ℕ) (text : List ℕ) → c ≡ 91 → text ≡ 46 ∷ drop 1 text → (o : Option (ℕ × List ℕ))
-        → IfSome o (λ x. drop 1 text ≡ x.0 ∷ 46 ∷ 93 ∷ x.1) → IfSome o (IsByteBefore (c ∷ text))
+        → IfSome o (λ x. (drop 1 text ≡ x.0 ∷ 46 ∷ 93 ∷ x.1) × (x.0 ≢ 46)) → IfSome o (IsByteBefore (c ∷ text))
     symbol c text is dot None h = tt
     symbol c text is dot (Some x) h = (
       codes "[." ++ x.0 ∷ codes ".]",
       ap (λ y. y ∷ text) is
-          ∙ ap (λ t. 91 ∷ t) (dot ∙ ap (λ t. 46 ∷ t) h),
-      inr (inr (inr refl)),
+          ∙ ap (λ t. 91 ∷ t) (dot ∙ ap (λ t. 46 ∷ t) h.0),
+      inr (inr (inr (refl, h.1))),
     )
 
 -- what is written before a text is written before the part of it up to the closing bracket
@@ -64,7 +65,7 @@ writes_before u v rest c (inr h) = inr h
 -- ---- One element
 
 -- the element is written at the start of the text, whatever elements come up to the closing bracket
-abbrev IsElementBefore : Bool → List ℕ → Element × List ℕ → Type 0
+abbrev pub IsElementBefore : Bool → List ℕ → Element × List ℕ → Type 0
 IsElementBefore first text x = (u : List ℕ) × (text ≡ u ++ x.1)
     × ((v rest : List ℕ) → x.1 ≡ v ++ 93 ∷ rest → is_closing_front v ≡ false → WritesElement first u v x.0)
 
@@ -94,7 +95,7 @@ class_takes (c ∷ cs) text =
     two_more : (c : Class) → length (class_name c ++ codes ":]") ≡ length (class_name c) + 2
     two_more c = length-append (class_name c) (codes ":]")
 
-abbrev IsFirstBracket : Bool → List ℕ → Type 0
+abbrev pub IsFirstBracket : Bool → List ℕ → Type 0
 IsFirstBracket first text = (begins "]" text && not first) ≡ false
 
 -- a bare bracket is first, and a bare `-` too where it isn't last
@@ -125,13 +126,13 @@ same_element : (first : Bool) (text : List ℕ) → text ≡ 91 ∷ 61 ∷ drop 
     → IfSome (symbol_at 61 (drop 2 text) >>= one >>= no_range) (IsElementBefore first text)
 same_element first text front = go (symbol_at 61 (drop 2 text)) (symbol_takes 61 (drop 2 text))
   where
-    go : (o : Option (ℕ × List ℕ)) → IfSome o (λ x. drop 2 text ≡ x.0 ∷ 61 ∷ 93 ∷ x.1) → IfSome (o >>= one >>= no_range) (IsElementBefore first text)
+    go : (o : Option (ℕ × List ℕ)) → IfSome o (λ x. (drop 2 text ≡ x.0 ∷ 61 ∷ 93 ∷ x.1) × (x.0 ≢ 61)) → IfSome (o >>= one >>= no_range) (IsElementBefore first text)
     go None h = tt
     go (Some x) h = no_range_takes (IsElementBefore first text) (One x.0) x.1 (λ k. (
       codes "[=" ++ x.0 ∷ codes "=]",
-      front ∙ ap (λ t. 91 ∷ 61 ∷ t) h,
+      front ∙ ap (λ t. 91 ∷ 61 ∷ t) h.0,
       λ v rest e closing. (
-        inr refl,
+        inr (refl, h.1),
         ((λ is. absurd (omega (arith, ap length is))), (λ is. absurd (omega (arith, ap length is)))),
         range_ends v rest x.1 e closing k,
       ),
@@ -233,7 +234,7 @@ two_fronts s t a b (c ∷ text) d e h =
     dropped : (text : List ℕ) → drop 1 text ≡ drop 2 (c ∷ text)
     dropped text = refl
 
-element_takes : (first : Bool) (text : List ℕ) → IsFirstBracket first text → IfSome (element_at first text) (IsElementBefore first text)
+pub element_takes : (first : Bool) (text : List ℕ) → IsFirstBracket first text → IfSome (element_at first text) (IsElementBefore first text)
 element_takes first text bracket =
     cond_holds (begins "[" text && begins ":" (drop 1 text)) (class_from classes (drop 2 text) >>= no_range) _ (IsElementBefore first text)
     (λ h. class_element first text (two_fronts "[" ":" 91 58 text refl refl h))
@@ -254,7 +255,7 @@ byte_front : (u next t : List ℕ) (c : ℕ) → WritesByte u next c → (u ≡ 
 byte_front u next t c (inl h) = inl h.0
 byte_front u next t c (inr (inl h)) = inr (ap (λ x. is_closing_front (x ++ t)) h.0)
 byte_front u next t c (inr (inr (inl h))) = inr (ap (λ x. is_closing_front (x ++ t)) h.0)
-byte_front u next t c (inr (inr (inr h))) = inr (ap (λ x. is_closing_front (x ++ t)) h)
+byte_front u next t c (inr (inr (inr h))) = inr (ap (λ x. is_closing_front (x ++ t)) h.0)
 
 -- behind the first element a bare bracket doesn't stand, and a bare `-` only at the end
 itself_front : (c : ℕ) (v : List ℕ) → ((c ∷ [] ≡ codes "]") → IsTrue false) → ((c ∷ [] ≡ codes "-") → IsTrue false ⊎ (v ≡ []))
@@ -281,7 +282,7 @@ element_front u v (One c) (inl byte, place, range) =
       | inl is ↦ ap (λ x. is_closing_front (x ++ v)) is ∙ itself_front c v (λ e. place.0 (is ∙ e)) (λ e. place.1 (is ∙ e))
       | inr other ↦ other
     ]
-element_front u v (One c) (inr same, place, range) = ap (λ x. is_closing_front (x ++ v)) same
+element_front u v (One c) (inr same, place, range) = ap (λ x. is_closing_front (x ++ v)) same.0
 element_front u v (Range a z) (x, y, is_text, place, first, second, no_bracket, le) =
     elim (byte_front x (codes "-" ++ y ++ v) (codes "-" ++ y ++ v) a first) [
       | inl is ↦ ap (λ t. is_closing_front (t ++ v)) (is_text ∙ ap (λ t. (t ++ codes "-") ++ y) is)

@@ -150,11 +150,11 @@ all_refused (text ∷ texts) h = All-cons (λ x. (tree : Tree) → ¬ Shape x tr
 
 are_read : AreRead spelled_texts
 unfolding read items bracket_at elements_at interval_at
-are_read = (refl, (refl, (refl, (refl, (refl, (refl, (refl, (refl, (refl, (refl, (refl, (refl, (refl, tt)))))))))))))
+are_read = (refl, (refl, (refl, (refl, (refl, (refl, (refl, (refl, (refl, (refl, (refl, (refl, (refl, (refl, (refl, tt)))))))))))))))
 
 are_refused : AreRefused refused_texts
 unfolding read items bracket_at elements_at interval_at
-are_refused = (refl, (refl, (refl, (refl, (refl, (refl, (refl, (refl, (refl, (refl, (refl, (refl, (refl, tt)))))))))))))
+are_refused = (refl, (refl, (refl, (refl, (refl, (refl, (refl, (refl, (refl, (refl, (refl, (refl, (refl, (refl, (refl, (refl, (refl, (refl, (refl, tt)))))))))))))))))))
 
 pub examples_hold : ExamplesHold
 examples_hold = record {

@@ -30,3 +30,4 @@ pub mod NamedSums
 pub mod LeastRest
 pub mod DifferentGroups
 pub mod TopGroup
+mod Flaws

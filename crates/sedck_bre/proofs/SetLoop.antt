@@ -3,8 +3,8 @@ use Rattle.std.proofs.Common.{◌≡◌, ℕ, Bool, true, false, cond, List, [],
 use Rattle.std.specs.Prelude.{◌==◌, ◌&&◌, ◌||◌, not}
 use Rattle.std.specs.List.{list_any}
 use Rattle.sedck_bre.specs.WellFormed.{IsByteSet}
-use Rattle.sedck_bre.specs.Brackets.{Element, in_element, is_listed}
-use Rattle.sedck_bre.specs.Private.BracketReading.{words_of, set_of}
+use Rattle.sedck_bre.specs.Brackets.{Element, in_element, is_mistakable, is_listed}
+use Rattle.sedck_bre.specs.Private.BracketReading.{words_of, inside_of, clear_of, set_of}
 use Rattle.sedck_bre.specs.Private.Reading.{◌>>=◌}
 use Rattle.sedck_bre.specs.Private.Sets.{bit_of, HasJust, some_word, has_no_word}
 use Rattle.sedck_bre.specs.Private.BracketCode.{is_of, signed, elements_of, set_at}
@@ -58,18 +58,28 @@ signed_same false es b = refl
 
 module _ (complement : Bool) (text rest words : List ℕ) (es : List Element) (read : elements_of true text ≡ Some (es, rest)) (set : IsByteSet words)
     (just : HasJust words (signed complement (is_of es))) where
+  clear_is : (b : Bool) → is_mistakable (inside_of text rest) ≡ b → set_at complement text ≡ cond b None (set_of complement (es, rest))
+  clear_is true e = ap (λ o. o >>= clear_of text >>= set_of complement) read ∙ ap (λ b. cond b None (Some (es, rest)) >>= set_of complement) e
+  clear_is false e = ap (λ o. o >>= clear_of text >>= set_of complement) read ∙ ap (λ b. cond b None (Some (es, rest)) >>= set_of complement) e
+
   words_are : words ≡ words_of (is_listed complement es)
   words_are = just_words words (is_listed complement es) set
       (just_same words (signed complement (is_of es)) (is_listed complement es) (signed_same complement es) just)
 
-  set_is : set_at complement text ≡ cond (not (has_no_word words)) (Some (words, rest)) None
-  set_is =
-      ap (λ o. o >>= set_of complement) read
+  set_is : is_mistakable (inside_of text rest) ≡ false → set_at complement text ≡ cond (not (has_no_word words)) (Some (words, rest)) None
+  set_is clear =
+      clear_is false clear
       ∙ ap (λ w. cond (some_word w) (Some (w, rest)) None) (sym words_are)
       ∙ ap (λ b. cond b (Some (words, rest)) None) (not_none words set.0)
 
-  pub set_given : has_no_word words ≡ false → set_at complement text ≡ Some (words, rest)
-  set_given h = set_is ∙ ap (λ b. cond (not b) (Some (words, rest)) None) h
+  pub set_given : is_mistakable (inside_of text rest) ≡ false → has_no_word words ≡ false → set_at complement text ≡ Some (words, rest)
+  set_given clear h = set_is clear ∙ ap (λ b. cond (not b) (Some (words, rest)) None) h
 
-  pub set_empty : has_no_word words ≡ true → set_at complement text ≡ None
-  set_empty h = set_is ∙ ap (λ b. cond (not b) (Some (words, rest)) None) h
+  pub set_empty : is_mistakable (inside_of text rest) ≡ false → has_no_word words ≡ true → set_at complement text ≡ None
+  set_empty clear h = set_is clear ∙ ap (λ b. cond (not b) (Some (words, rest)) None) h
+
+-- a list that is mistakable isn't read
+pub set_mistakable : (complement : Bool) (text rest : List ℕ) (es : List Element) → elements_of true text ≡ Some (es, rest)
+    → is_mistakable (inside_of text rest) ≡ true → set_at complement text ≡ None
+set_mistakable complement text rest es read e =
+    ap (λ o. o >>= clear_of text >>= set_of complement) read ∙ ap (λ b. cond b None (Some (es, rest)) >>= set_of complement) e

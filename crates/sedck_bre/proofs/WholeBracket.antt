@@ -1,13 +1,14 @@
 -- A whole bracket list: what is read is one, and what is one is read.
-use Rattle.std.proofs.Common.{◌≡◌, ◌≢◌, ℕ, suc, zero, ◌+◌, ◌<◌, ◌≤◌, Bool, true, false, cond, List, [], ◌∷◌, ◌++◌, length, drop, Some, None, IfSome, inl, inr, refl, sym, ap, ◌∙◌, subst, arith, append_assoc, length-append}
+use Rattle.std.proofs.Common.{◌≡◌, ◌≢◌, ℕ, suc, zero, ◌+◌, ◌-◌, ◌<◌, ◌≤◌, Bool, true, false, cond, List, [], ◌∷◌, ◌++◌, length, take, drop, Option, Some, None, IfSome, inl, inr, refl, sym, ap, ◌∙◌, subst, arith, append_assoc, length-append}
 use Rattle.std.specs.Prelude.{◌==◌, ◌&&◌, ◌||◌, not, codes}
+use Rattle.std.proofs.Math.Seq.{take-append_seam}
 use Rattle.std.proofs.lemmas.Bool.{false≢true, eqb-true}
 use Rattle.sedck_bre.specs.Text.{begins}
 use Rattle.sedck_bre.specs.WellFormed.{HasMember}
-use Rattle.sedck_bre.specs.Brackets.{class_name, Element, One, Range, Members, WritesByte, WritesElement, WritesElements, opening, is_listed, IsBracketList}
+use Rattle.sedck_bre.specs.Brackets.{class_name, Element, One, Range, Members, WritesByte, WritesElement, WritesElements, opening, is_mistakable, is_listed, IsBracketList}
 use Rattle.sedck_bre.specs.Shape.{is_empty}
 use Rattle.sedck_bre.specs.Private.Reading.{◌>>=◌}
-use Rattle.sedck_bre.specs.Private.BracketReading.{element_at, before_elements, others, elements_at, words_of, set_of, inside_at, bracket_at}
+use Rattle.sedck_bre.specs.Private.BracketReading.{element_at, before_elements, others, elements_at, words_of, inside_of, clear_of, set_of, inside_at, bracket_at}
 use Rattle.sedck_bre.specs.Private.Sets.{some_word}
 use Rattle.sedck_bre.proofs.ReadLemmas.{bind_holds, cond_holds}
 use Rattle.sedck_bre.proofs.BracketLemmas.{one_front, begins_before, is_closing_front}
@@ -21,11 +22,11 @@ pub byte_some : (u next : List ℕ) (c : ℕ) → WritesByte u next c → 0 < le
 byte_some u next c (inl h) = omega (arith, ap length h.0)
 byte_some u next c (inr (inl h)) = omega (arith, ap length h.0)
 byte_some u next c (inr (inr (inl h))) = omega (arith, ap length h.0)
-byte_some u next c (inr (inr (inr h))) = omega (arith, ap length h)
+byte_some u next c (inr (inr (inr h))) = omega (arith, ap length h.0)
 
 element_some : (first : Bool) (u v : List ℕ) (e : Element) → WritesElement first u v e → 0 < length u
 element_some first u v (One c) (inl byte, place, range) = byte_some u v c byte
-element_some first u v (One c) (inr same, place, range) = omega (arith, ap length same)
+element_some first u v (One c) (inr same, place, range) = omega (arith, ap length same.0)
 element_some first u v (Range a z) (x, y, is, place, byte, second, no_bracket, le) =
     omega (arith, ap length is, length-append (x ++ codes "-") y, length-append x (codes "-"))
 element_some first u v (Members class) (is, range) =
@@ -83,16 +84,28 @@ set_again : (complement : Bool) (es : List Element) (words rest : List ℕ) → 
 set_again complement es words rest is some =
     ap (λ b. cond b (Some (words_of (is_listed complement es), rest)) None) (ap some_word (sym is) ∙ some) ∙ ap (λ w. Some (w, rest)) (sym is)
 
+inside_again : (inside rest : List ℕ) → inside_of (inside ++ 93 ∷ rest) rest ≡ inside
+inside_again inside rest =
+    let size : length (inside ++ 93 ∷ rest) - length rest - 1 ≡ length inside = omega (arith, length-append inside (93 ∷ rest)) in
+    ap (λ n. take n (inside ++ 93 ∷ rest)) size ∙ take-append_seam inside (93 ∷ rest)
+
 pub bracket_again : (u words rest : List ℕ) → IsBracketList u words → HasMember words → bracket_at (u ++ rest) ≡ Some (words, rest)
 unfolding bracket_at
 bracket_again u words rest h member = ap (λ x. bracket_at (x ++ rest)) h.written
     ∙ go h.complement h.sign (set_same words (is_listed h.complement h.elements) h.set h.members)
   where
+    text : List ℕ
+    text = h.inside ++ 93 ∷ rest
+
     tail : (complement : Bool) → (opening complement ++ h.inside ++ codes "]") ++ rest ≡ opening complement ++ (h.inside ++ 93 ∷ rest)
     tail complement = append_assoc (opening complement ++ h.inside) (codes "]") rest ∙ append_assoc (opening complement) h.inside (93 ∷ rest)
 
     set : (complement : Bool) → words ≡ words_of (is_listed complement h.elements) → set_of complement (h.elements, rest) ≡ Some (words, rest)
     set complement is = set_again complement h.elements words rest is (member_tested words h.set.0 member)
+
+    clear : clear_of (h.inside ++ 93 ∷ rest) (h.elements, rest) ≡ Some (h.elements, rest)
+    clear = ap (λ t. cond (is_mistakable t) None (Some (h.elements, rest))) (inside_again h.inside rest)
+        ∙ ap (λ b. cond b None (Some (h.elements, rest))) h.clear
 
     enough : length h.elements ≤ length (h.inside ++ 93 ∷ rest)
     enough = omega (arith, elements_few h.elements true h.inside h.spelled, length-append h.inside (93 ∷ rest))
@@ -100,14 +113,15 @@ bracket_again u words rest h member = ap (λ x. bracket_at (x ++ rest)) h.writte
     go : (complement : Bool) → (complement ≡ false → begins "^" h.inside ≡ false) → words ≡ words_of (is_listed complement h.elements)
         → bracket_at ((opening complement ++ h.inside ++ codes "]") ++ rest) ≡ Some (words, rest)
     go true sign is =
-        ap bracket_at (tail true) ∙ ap (λ o. o >>= set_of true)
-        (elements_again h.elements (suc (length (h.inside ++ 93 ∷ rest))) true h.inside rest h.spelled (λ _. h.some) (omega (arith, enough))) ∙ set true is
+        ap bracket_at (tail true) ∙ ap (λ o. o >>= clear_of (h.inside ++ 93 ∷ rest) >>= set_of true)
+        (elements_again h.elements (suc (length (h.inside ++ 93 ∷ rest))) true h.inside rest h.spelled (λ _. h.some) (omega (arith, enough)))
+        ∙ ap (λ o. o >>= set_of true) clear ∙ set true is
     go false sign is =
         ap bracket_at (tail false)
-        ∙ ap (λ b. cond b (elements_at (length (h.inside ++ 93 ∷ rest)) true (drop 1 (h.inside ++ 93 ∷ rest)) >>= set_of true)
-        (elements_at (length (h.inside ++ 93 ∷ rest) + 1) true (h.inside ++ 93 ∷ rest) >>= set_of false)) (begins_before "^" h.inside rest refl ∙ sign refl)
-        ∙ ap (λ o. o >>= set_of false) (elements_again h.elements (length (h.inside ++ 93 ∷ rest) + 1) true h.inside rest h.spelled (λ _. h.some)
-        (omega (arith, enough))) ∙ set false is
+        ∙ ap (λ b. cond b (elements_at (length text) true (drop 1 text) >>= clear_of (drop 1 text) >>= set_of true)
+        (elements_at (length text + 1) true text >>= clear_of text >>= set_of false)) (begins_before "^" h.inside rest refl ∙ sign refl)
+        ∙ ap (λ o. o >>= clear_of text >>= set_of false) (elements_again h.elements (length text + 1) true h.inside rest h.spelled (λ _. h.some)
+        (omega (arith, enough))) ∙ ap (λ o. o >>= set_of false) clear ∙ set false is
 
 -- ---- What is read is a bracket list
 
@@ -116,9 +130,9 @@ abbrev pub IsListBefore : List ℕ → List ℕ × List ℕ → Type 0
 IsListBefore text x = (u : List ℕ) × (text ≡ u ++ x.1) × (is_empty u ≡ false) × IsBracketList u x.0 × HasMember x.0
 
 list_before : (complement : Bool) (inside : List ℕ) (es : List Element) (rest : List ℕ) → (complement ≡ false → begins "^" inside ≡ false)
-    → WritesElements true inside es → es ≢ []
+    → is_mistakable inside ≡ false → WritesElements true inside es → es ≢ []
     → IfSome (set_of complement (es, rest)) (IsListBefore (opening complement ++ (inside ++ 93 ∷ rest)))
-list_before complement inside es rest sign spelled some =
+list_before complement inside es rest sign clear spelled some =
     let words : List ℕ = words_of (is_listed complement es) in
     cond_holds (some_word words) (Some (words, rest)) None (IsListBefore (opening complement ++ (inside ++ 93 ∷ rest)))
     (λ h. (
@@ -132,6 +146,7 @@ list_before complement inside es rest sign spelled some =
         written = refl;
         sign = sign;
         some = some;
+        clear = clear;
         spelled = spelled;
         set = words_set (is_listed complement es);
         members = words_members (is_listed complement es);
@@ -144,6 +159,20 @@ list_before complement inside es rest sign spelled some =
     opened true inside = refl
     opened false inside = refl
 
+-- the elements behind the opening, where their list isn't mistakable
+list_behind : (complement : Bool) (text : List ℕ) (x : List Element × List ℕ) → (complement ≡ false → begins "^" text ≡ false)
+    → AreElementsBefore true text x → IfSome (clear_of text x >>= set_of complement) (IsListBefore (opening complement ++ text))
+list_behind complement text x sign h =
+    bind_holds (clear_of text x) (set_of complement) (IsListBefore (opening complement ++ text)) (λ y. (is_mistakable h.0 ≡ false) × (y ≡ x))
+    (cond_holds (is_mistakable (inside_of text x.1)) None (Some x) (λ y. (is_mistakable h.0 ≡ false) × (y ≡ x)) (λ _. tt)
+    (λ clear. (sym (ap is_mistakable inside) ∙ clear, refl)))
+    (λ y k. subst (λ z. IfSome (set_of complement z) (IsListBefore (opening complement ++ text))) (sym k.1)
+    (subst (λ t. IfSome (set_of complement x) (IsListBefore (opening complement ++ t))) (sym h.1)
+    (list_before complement h.0 x.0 x.1 (λ is. sym (begins_before "^" h.0 x.1 refl) ∙ (ap (begins "^") (sym h.1) ∙ sign is)) k.0 h.2 (h.3 refl))))
+  where
+    inside : inside_of text x.1 ≡ h.0
+    inside = ap (λ t. inside_of t x.1) h.1 ∙ inside_again h.0 x.1
+
 pub bracket_takes : (text : List ℕ) → IfSome (bracket_at text) (IsListBefore text)
 unfolding bracket_at
 bracket_takes text =
@@ -151,14 +180,18 @@ bracket_takes text =
     (λ open_bracket. subst (λ t. IfSome (inside_at (drop 1 text)) (IsListBefore t)) (sym (one_front "[" 91 text refl open_bracket)) (behind (drop 1 text)))
     (λ _. tt)
   where
+    all : (complement : Bool) (n : ℕ) (text : List ℕ) → (complement ≡ false → begins "^" text ≡ false)
+        → IfSome (elements_at n true text >>= clear_of text >>= set_of complement) (IsListBefore (opening complement ++ text))
+    all complement n text sign = joined (elements_at n true text) (elements_take n true text)
+      where
+        joined : (o : Option (List Element × List ℕ)) → IfSome o (AreElementsBefore true text)
+            → IfSome (o >>= clear_of text >>= set_of complement) (IsListBefore (opening complement ++ text))
+        joined None h = tt
+        joined (Some x) h = list_behind complement text x sign h
+
     behind : (text : List ℕ) → IfSome (inside_at text) (IsListBefore (91 ∷ text))
     behind text =
-        cond_holds (begins "^" text) (elements_at (length text) true (drop 1 text) >>= set_of true) _ (IsListBefore (91 ∷ text))
-        (λ sign. bind_holds (elements_at (length text) true (drop 1 text)) (set_of true) (IsListBefore (91 ∷ text))
-        (AreElementsBefore true (drop 1 text)) (elements_take (length text) true (drop 1 text))
-        (λ x h. subst (λ t. IfSome (set_of true x) (IsListBefore (91 ∷ t))) (sym (one_front "^" 94 text refl sign ∙ ap (λ t. 94 ∷ t) h.1))
-        (list_before true h.0 x.0 x.1 (λ is. absurd (false≢true (sym is))) h.2 (h.3 refl))))
-        (λ sign. bind_holds (elements_at (length text + 1) true text) (set_of false) (IsListBefore (91 ∷ text)) (AreElementsBefore true text)
-        (elements_take (length text + 1) true text)
-        (λ x h. subst (λ t. IfSome (set_of false x) (IsListBefore (91 ∷ t))) (sym h.1)
-        (list_before false h.0 x.0 x.1 (λ _. sym (begins_before "^" h.0 x.1 refl) ∙ (ap (begins "^") (sym h.1) ∙ sign)) h.2 (h.3 refl))))
+        cond_holds (begins "^" text) (elements_at (length text) true (drop 1 text) >>= clear_of (drop 1 text) >>= set_of true) _ (IsListBefore (91 ∷ text))
+        (λ sign. subst (λ t. IfSome (elements_at (length text) true (drop 1 text) >>= clear_of (drop 1 text) >>= set_of true) (IsListBefore (91 ∷ t)))
+        (sym (one_front "^" 94 text refl sign)) (all true (length text) (drop 1 text) (λ is. absurd (false≢true (sym is)))))
+        (λ sign. all false (length text + 1) text (λ _. sign))

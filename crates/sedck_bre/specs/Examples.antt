@@ -40,6 +40,9 @@ spelled_texts =
     -- a `]` that is the first element of a list is a byte; so is a `-` that is the last
     ∷ (codes "[]x]", sequence_of (Set (0 ∷ 72057594574798848 ∷ 0 ∷ 0 ∷ []) ∷ []))
     ∷ (codes "[x-]", sequence_of (Set (35184372088832 ∷ 72057594037927936 ∷ 0 ∷ 0 ∷ []) ∷ []))
+    -- a `[` is a byte of a list where no class or symbol begins, and a backslash before most bytes
+    ∷ (codes "[][]", sequence_of (Set (0 ∷ 671088640 ∷ 0 ∷ 0 ∷ []) ∷ []))
+    ∷ (codes "[\\t]", sequence_of (Set (0 ∷ 4503599895805952 ∷ 0 ∷ 0 ∷ []) ∷ []))
     ∷ []
 
 abbrev pub refused_texts : List (List ℕ)
@@ -52,6 +55,8 @@ refused_texts =
     ∷ codes "a\\{2,1\\}" ∷ codes "a\\{256\\}"
     -- a range backwards, one of three bytes, a class that isn't one, and one as the end of a range
     ∷ codes "[z-a]" ∷ codes "[a-c-e]" ∷ codes "[[:alfa:]]" ∷ codes "[[:alpha:]-z]"
+    -- lists that seds read differently
+    ∷ codes "[[...]]" ∷ codes "[[===]]" ∷ codes "[\\c]" ∷ codes "[a-\\x]" ∷ codes "[[:alpha:][]" ∷ codes "[[.a.][^]"
     ∷ []
 
 -- `\(ab\)\{2,3\}c*\1`

@@ -2,9 +2,10 @@
 
 ghost use Rattle.std.specs.Prelude.{◌≡◌, ◌<◌, ◌≤◌, ◌&&◌, not, length, drop, IsTrue, IfOk, IfErr, MatchResult, Err, None, ℕ, Bool, true};
 ghost use Rattle.sedck_bre.specs.Text.{begins};
+ghost use Rattle.sedck_bre.specs.Brackets.{has_symbol, is_mistakable};
 ghost use Rattle.sedck_bre.specs.Private.BracketReading.{ranges, no_range, range_end_at, byte_or_range_at, whole_class_at, equivalents_at, last_dash_at, element_at, bracket_at};
 ghost use Rattle.sedck_bre.specs.Private.FullReading.{IsTail};
-ghost use Rattle.sedck_bre.specs.Private.BracketCode.{element_of, Reads, HasElements, elements_of, signed, set_at};
+ghost use Rattle.sedck_bre.specs.Private.BracketCode.{element_of, Reads, HasElements, elements_of, signed, set_at, HasNoEscape, IsFlawIn};
 ghost use Rattle.sedck_bre.specs.Faults.{HasOneAt, IsPlaced};
 ghost use Rattle.sedck_bre.specs.Private.Gives.{Gives};
 ghost use Rattle.sedck_bre.specs.Private.Sets.{HasJust};
@@ -29,7 +30,8 @@ fn begins_range(text: &[u8]) -> bool
 
 /// The element, which may be no end of a range.
 fn no_range(element: Element, text: &[u8]) -> Result<(Element, &[u8]), Flaw>
-    ensures { Reads (λ x. (element_of x.0, x.1.now)) result (no_range (element_of element, text.now)) }
+    ensures read { Reads (λ x. (element_of x.0, x.1.now)) result (no_range (element_of element, text.now)) }
+    ensures flaw { IfErr result HasNoEscape }
 {
     if begins_range(text) {
         Err(Flaw::Bad)
@@ -40,7 +42,8 @@ fn no_range(element: Element, text: &[u8]) -> Result<(Element, &[u8]), Flaw>
 
 /// The end of a range, where its first byte and the `-` are read.
 fn range_to(first: u8, text: &[u8]) -> Result<(Element, &[u8]), Flaw>
-    ensures { Reads (λ x. (element_of x.0, x.1.now)) result (range_end_at first text.now) }
+    ensures read { Reads (λ x. (element_of x.0, x.1.now)) result (range_end_at first text.now) }
+    ensures flaw { IfErr result (λ flaw. IsFlawIn text.now flaw) }
 {
     let (last, rest) = byte(text)?;
     if first <= last {
@@ -54,6 +57,7 @@ fn range_to(first: u8, text: &[u8]) -> Result<(Element, &[u8]), Flaw>
 fn byte_or_range(text: &[u8]) -> Result<(Element, &[u8]), Flaw>
     ensures read { Reads (λ x. (element_of x.0, x.1.now)) result (byte_or_range_at text.now) }
     ensures ended { length text.now ≡ 0 → result ≡ Err Flaw.Unclosed }
+    ensures flaw { IfErr result (λ flaw. IsFlawIn text.now flaw) }
 {
     let (first, rest) = byte(text)?;
     if begins_range(rest) {
@@ -96,7 +100,8 @@ fn begins_with_dash(text: &[u8]) -> bool
 
 /// A whole class, where the text stands behind its `[:`.
 fn whole_class(text: &[u8]) -> Result<(Element, &[u8]), Flaw>
-    ensures { Reads (λ x. (element_of x.0, x.1.now)) result (whole_class_at text.now) }
+    ensures read { Reads (λ x. (element_of x.0, x.1.now)) result (whole_class_at text.now) }
+    ensures flaw { IfErr result HasNoEscape }
 {
     match class(text) {
         Some((class, rest)) => no_range(Element::Members(class), rest),
@@ -106,7 +111,8 @@ fn whole_class(text: &[u8]) -> Result<(Element, &[u8]), Flaw>
 
 /// A whole equivalence class, where the text stands behind its `[=`.
 fn equivalents(text: &[u8]) -> Result<(Element, &[u8]), Flaw>
-    ensures { Reads (λ x. (element_of x.0, x.1.now)) result (equivalents_at text.now) }
+    ensures read { Reads (λ x. (element_of x.0, x.1.now)) result (equivalents_at text.now) }
+    ensures flaw { IfErr result HasNoEscape }
 {
     let (byte, rest) = symbol(b'=', text)?;
     no_range(Element::One(byte), rest)
@@ -114,7 +120,8 @@ fn equivalents(text: &[u8]) -> Result<(Element, &[u8]), Flaw>
 
 /// A `-` that isn't first in its list, where the text stands behind it: it has to be last.
 fn last_dash(text: &[u8]) -> Result<(Element, &[u8]), Flaw>
-    ensures { Reads (λ x. (element_of x.0, x.1.now)) result (last_dash_at text.now) }
+    ensures read { Reads (λ x. (element_of x.0, x.1.now)) result (last_dash_at text.now) }
+    ensures flaw { IfErr result HasNoEscape }
 {
     match text {
         [] => Err(Flaw::Unclosed),
@@ -132,6 +139,7 @@ fn last_dash(text: &[u8]) -> Result<(Element, &[u8]), Flaw>
 fn next_element(first: bool, text: &[u8]) -> Result<(Element, &[u8]), Flaw>
     ensures read { Reads (λ x. (element_of x.0, x.1.now)) result (element_at first text.now) }
     ensures ended { length text.now ≡ 0 → result ≡ Err Flaw.Unclosed }
+    ensures flaw { IfErr result (λ flaw. IsFlawIn text.now flaw) }
 {
     if opens_class(text) {
         return whole_class(&text[2..]);
@@ -156,13 +164,32 @@ fn is_over(first: bool, text: &[u8]) -> bool
     }
 }
 
-/// The set of the elements up to the closing bracket, and what follows it. The outer bracket and the text lie in the
-/// whole.
+/// What the flaw of the element at the start of the text is for the expression.
+fn fault_of(whole: &[u8], outer: usize, text: &[u8], flaw: Flaw) -> ReFault
+    requires outer { HasOneAt whole.now outer "[" }
+    requires tail { IsTail whole.now text.now }
+    requires some { flaw ≡ Flaw.Bad → 0 < length text.now }
+    requires flaw { IsFlawIn text.now flaw }
+    ensures { IsPlaced whole.now result }
+{
+    match flaw {
+        Flaw::Unclosed => ReFault::UnclosedBracket { place: outer },
+        Flaw::Bad => ReFault::BadBracket {
+            place: place_in(whole, text),
+        },
+        Flaw::Escape { left } => ReFault::BadEscape {
+            place: whole.len() - left,
+        },
+    }
+}
+
+/// The set of the elements up to the closing bracket, and what follows it. The outer bracket is in the whole, and the text
+/// is its end.
 fn elements<'a>(whole: &[u8], outer: usize, text: &'a [u8]) -> Result<(ByteSet, &'a [u8]), ReFault>
     requires outer { HasOneAt whole.now outer "[" }
-    requires within { length text.now ≤ length whole.now }
+    requires tail { IsTail whole.now text.now }
     ensures value { MatchResult result (λ x. HasElements x.0.0 x.1.now (elements_of true text.now)) (λ _. elements_of true text.now ≡ None) }
-    ensures shorter { IfOk result (λ x. length x.1.now ≤ length text.now) }
+    ensures shorter { IfOk result (λ x. length x.1.now < length text.now) }
     ensures place { IfErr result (λ fault. IsPlaced whole.now fault) }
 {
     let mut set = ByteSet([0; 4]);
@@ -175,15 +202,71 @@ fn elements<'a>(whole: &[u8], outer: usize, text: &'a [u8]) -> Result<(ByteSet, 
                 rest = after;
                 first = false;
             }
-            Err(Flaw::Unclosed) => return Err(ReFault::UnclosedBracket { place: outer }),
-            Err(Flaw::Bad) => {
-                return Err(ReFault::BadBracket {
-                    place: whole.len() - rest.len(),
-                });
-            }
+            Err(flaw) => return Err(fault_of(whole, outer, rest, flaw)),
         }
     }
     Ok((set, behind_first(rest)))
+}
+
+/// Whether a class, an equivalence class or a collating symbol is in the text of a list.
+fn has_symbol(text: &[u8]) -> bool
+    ensures { result ≡ has_symbol text.now }
+{
+    let mut rest = text;
+    'symbols: while let [first, after @ ..] = rest {
+        if *first == b'[' && begins_symbol(after) {
+            return true;
+        }
+        rest = after;
+    }
+    false
+}
+
+/// Whether the text is what follows the bracket that opens a class, an equivalence class or a collating symbol.
+fn begins_symbol(text: &[u8]) -> bool
+    ensures { result ≡ begins ":.=" text.now }
+{
+    match text {
+        [mark, ..] => matches!(*mark, b':' | b'.' | b'='),
+        [] => false,
+    }
+}
+
+/// Whether BusyBox would take the list for closed before its end.
+fn is_mistakable(text: &[u8]) -> bool
+    ensures { result ≡ is_mistakable text.now }
+{
+    (text.ends_with(b"[") || text.ends_with(b"[^")) && has_symbol(text)
+}
+
+/// Where the element begins that the byte at the index belongs to: an offset in the text of a list.
+fn element_around(text: &[u8], index: usize) -> usize
+    ensures { result ≤ index }
+{
+    let mut rest = text;
+    let mut first = true;
+    'elements: while let Ok((_, after)) = next_element(first, rest) {
+        if text.len() - after.len() > index {
+            break;
+        }
+        rest = after;
+        first = false;
+    }
+    text.len() - rest.len()
+}
+
+/// The place of the element by which a list is mistakable, where this is the text of its elements.
+fn mistakable_place(whole: &[u8], text: &[u8], inside: usize) -> usize
+    requires tail { IsTail whole.now text.now }
+    requires within { inside < length text.now }
+    ensures { result < length whole.now }
+{
+    let index = if inside > 0 && text[inside - 1] == b'[' {
+        inside - 1
+    } else {
+        inside.saturating_sub(2)
+    };
+    place_in(whole, text) + element_around(text, index)
 }
 
 /// The set, or its complement.
@@ -201,12 +284,18 @@ fn whole_set<'a>(
     text: &'a [u8],
 ) -> Result<(ByteSet, &'a [u8]), ReFault>
     requires outer { HasOneAt whole.now outer "[" }
-    requires within { length text.now ≤ length whole.now }
+    requires tail { IsTail whole.now text.now }
     ensures value { Gives (λ x. (x.0.0, x.1.now)) result (set_at complemented text.now) }
-    ensures shorter { IfOk result (λ x. length x.1.now ≤ length text.now) }
+    ensures shorter { IfOk result (λ x. length x.1.now < length text.now) }
     ensures place { IfErr result (λ fault. IsPlaced whole.now fault) }
 {
     let (listed, rest) = elements(whole, outer, text)?;
+    let inside = text.len() - rest.len() - 1;
+    if is_mistakable(&text[..inside]) {
+        return Err(ReFault::BadBracket {
+            place: mistakable_place(whole, text, inside),
+        });
+    }
     let set = signed(complemented, listed);
     if is_empty(set) {
         return Err(ReFault::EmptySet { place: outer });

@@ -1,9 +1,10 @@
 //! The bytes, symbols and classes of bracket lists.
 
-ghost use Rattle.std.specs.Prelude.{◌≡◌, length, Err};
+ghost use Rattle.std.specs.Prelude.{◌≡◌, false, length, IfErr, Err};
 ghost use Rattle.std.specs.Option.{option_map};
 ghost use Rattle.sedck_bre.specs.Private.BracketReading.{classes, class_from, symbol_at, opened_at, escaped_at, byte_at};
-ghost use Rattle.sedck_bre.specs.Private.BracketCode.{class_of, element_of, behind_name, Reads};
+ghost use Rattle.sedck_bre.specs.Text.{begins};
+ghost use Rattle.sedck_bre.specs.Private.BracketCode.{class_of, element_of, behind_name, Reads, HasNoEscape, IsFlawIn};
 
 use crate::element::{Class, Element, closed_name};
 
@@ -14,6 +15,8 @@ pub(crate) enum Flaw {
     Unclosed,
     /// The element is closed, and none that a list may have.
     Bad,
+    /// A backslash that no list may have, and how many bytes are left from it on.
+    Escape { left: usize },
 }
 
 const CLASSES: [Class; 12] = [
@@ -32,7 +35,9 @@ const CLASSES: [Class; 12] = [
 ];
 
 /// What is wrong where the text, which has to end in the mark and a `]`, isn't a class or a symbol.
-pub(crate) fn missing_end(mark: u8, text: &[u8]) -> Flaw {
+pub(crate) fn missing_end(mark: u8, text: &[u8]) -> Flaw
+    ensures { HasNoEscape result }
+{
     let is_closed = text
         .windows(2)
         .any(|pair| pair[0] == mark && pair[1] == b']');
@@ -63,13 +68,14 @@ fn behind_name(class: Class, text: &[u8]) -> Option<&[u8]>
     }
 }
 
-/// The byte of a symbol behind its `[.` or `[=`, and what follows its `.]` or `=]`.
+/// The byte of a symbol behind its `[.` or `[=`, and what follows its `.]` or `=]`. The mark itself has no symbol.
 pub(crate) fn symbol(mark: u8, text: &[u8]) -> Result<(u8, &[u8]), Flaw>
-    ensures { Reads (λ x. (x.0, x.1.now)) result (symbol_at mark text.now) }
+    ensures read { Reads (λ x. (x.0, x.1.now)) result (symbol_at mark text.now) }
+    ensures flaw { IfErr result HasNoEscape }
 {
     match text {
         [byte, first, second, rest @ ..] => {
-            if *first == mark && *second == b']' {
+            if *byte != mark && *first == mark && *second == b']' {
                 Ok((*byte, rest))
             } else {
                 Err(missing_end(mark, &text[1..]))
@@ -83,10 +89,12 @@ pub(crate) fn symbol(mark: u8, text: &[u8]) -> Result<(u8, &[u8]), Flaw>
 pub(crate) fn byte(text: &[u8]) -> Result<(u8, &[u8]), Flaw>
     ensures read { Reads (λ x. (x.0, x.1.now)) result (byte_at text.now) }
     ensures ended { length text.now ≡ 0 → result ≡ Err Flaw.Unclosed }
+    ensures flaw { IfErr result (λ flaw. IsFlawIn text.now flaw) }
 {
     match text {
         [] => Err(Flaw::Unclosed),
         [b'[', rest @ ..] => opened(rest),
+        [b'\\', b'c' | b'd' | b'o' | b'x', ..] => Err(Flaw::Escape { left: text.len() }),
         [b'\\', rest @ ..] => escaped(rest),
         [byte, rest @ ..] => Ok((*byte, rest)),
     }
@@ -94,7 +102,8 @@ pub(crate) fn byte(text: &[u8]) -> Result<(u8, &[u8]), Flaw>
 
 /// The byte that a bracket begins, where the text stands behind the bracket.
 fn opened(text: &[u8]) -> Result<(u8, &[u8]), Flaw>
-    ensures { Reads (λ x. (x.0, x.1.now)) result (opened_at 91 text.now) }
+    ensures read { Reads (λ x. (x.0, x.1.now)) result (opened_at 91 text.now) }
+    ensures flaw { IfErr result HasNoEscape }
 {
     match text {
         [b'.', rest @ ..] => symbol(b'.', rest),
@@ -107,7 +116,9 @@ fn opened(text: &[u8]) -> Result<(u8, &[u8]), Flaw>
 
 /// The byte that a backslash begins, where the text stands behind the backslash.
 fn escaped(text: &[u8]) -> Result<(u8, &[u8]), Flaw>
-    ensures { Reads (λ x. (x.0, x.1.now)) result (escaped_at 92 text.now) }
+    requires { begins "cdox" text.now ≡ false }
+    ensures read { Reads (λ x. (x.0, x.1.now)) result (escaped_at 92 text.now) }
+    ensures flaw { IfErr result HasNoEscape }
 {
     match text {
         [b'n', rest @ ..] => Ok((b'\n', rest)),

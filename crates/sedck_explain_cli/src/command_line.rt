@@ -19,7 +19,7 @@ use std::io::{Input, Write};
 const NAME: &[u8] = b"sedck-explain: ";
 
 /// The whole program for the words after its name, and its exit status: of the scripts' statuses the greatest, which are 0 for
-/// accepted, 1 for a rejection or a loop, and 2 for a refused text; 3 for words of no known form, 4 where a stream fails or memory
+/// accepted, 1 for a rejection, a loop or what is denied, and 2 for a refused text; 3 for words of no known form, 4 where a stream fails or memory
 /// runs out.
 ///
 /// A script that can't be read is reported, and the next one follows. After a failed write, or where memory runs out, none does.
@@ -115,7 +115,14 @@ fn explain_source<R: Files + AllocGlobal, S: Source + Drop, W: Sink>(
     };
     let name = shown_path(alloc, path)?;
     let Some(certificate) = request.certificate else {
-        return explain_alone(alloc, style, name.as_str(), &mut script, out);
+        return explain_alone(
+            alloc,
+            style,
+            name.as_str(),
+            request.denied,
+            &mut script,
+            out,
+        );
     };
     match fs::open(rt, certificate) {
         Ok(file) => {
@@ -124,6 +131,7 @@ fn explain_source<R: Files + AllocGlobal, S: Source + Drop, W: Sink>(
                 alloc,
                 style,
                 name.as_str(),
+                request.denied,
                 &mut script,
                 &mut certificate,
                 out,

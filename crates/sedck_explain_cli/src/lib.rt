@@ -12,3 +12,4 @@ mod request;
 pub use command_line::{flushed, out_of_memory, program, words_refused};
 pub use explaining::{explain_alone, explain_with};
 pub use format::{Format, Style};
+pub use sedck_findings::Denied;

@@ -2,15 +2,18 @@
 
 use crate::format::{Format, NAMES};
 use clap::{Arg, ArgAction, Command, Error};
+use sedck_findings::Denied;
 use std::alloc::{AllocError, Global};
 
 /// The version of the program and of its formats.
-const VERSION: &str = "1.0.0";
+const VERSION: &str = "1.1.0";
 
 /// What is asked for.
 #[derive(Drop)]
 pub(crate) struct Request<'a> {
     pub format: Format,
+    /// What a script may not have.
+    pub denied: Denied,
     /// The certificate's path.
     pub certificate: Option<&'a str>,
     /// The scripts' paths, at least one; `-` is standard input.
@@ -25,6 +28,10 @@ pub(crate) fn request_of<'a>(alloc: Global, words: &'a [String]) -> Result<Reque
         None => Format::Text,
     };
     let certificate = matches.get_str("cert");
+    let denied = match matches.get_strs("deny") {
+        Some(words) => denied_by(words),
+        None => Denied::NOTHING,
+    };
     let mut scripts = Vec::new(alloc);
     if let Some(paths) = matches.get_strs("script") {
         for path in paths {
@@ -36,9 +43,23 @@ pub(crate) fn request_of<'a>(alloc: Global, words: &'a [String]) -> Result<Reque
     }
     Ok(Request {
         format,
+        denied,
         certificate,
         scripts,
     })
+}
+
+/// What a script may be denied, by name.
+const DENIALS: [&str; 4] = ["reads", "writes", "warnings", "unbounded"];
+
+/// What these words deny.
+fn denied_by(words: &[&str]) -> Denied {
+    Denied {
+        reads: words.iter().any(|word| *word == "reads"),
+        writes: words.iter().any(|word| *word == "writes"),
+        warnings: words.iter().any(|word| *word == "warnings"),
+        unbounded: words.iter().any(|word| *word == "unbounded"),
+    }
 }
 
 /// The known forms of the words.
@@ -48,6 +69,14 @@ fn command<'a>(alloc: Global) -> Result<Command<'a>, AllocError> {
         .value_name("FORMAT")
         .value_parser(NAMES.as_slice())
         .help("How the report is printed [default: text]");
+    let deny = Arg::new(alloc, "deny")
+        .long("deny")
+        .value_name("WHAT")
+        .value_delimiter(',')
+        .value_parser(DENIALS.as_slice())
+        .help(
+            "What makes an accepted script end with status 1, with commas between: reads, writes, warnings, unbounded",
+        );
     let cert = Arg::new(alloc, "cert").long("cert").value_name("CERT").help(
         "Judge this certificate instead of searching for one; for one script",
     );
@@ -63,9 +92,10 @@ fn command<'a>(alloc: Global) -> Result<Command<'a>, AllocError> {
             "Says where and why a sed script is refused or may run for ever, which files it touches, and what to write instead",
         )
         .after_help(
-            "Exit status: 0 accepted, 1 rejected or a loop, 2 a script or certificate that is refused, 3 a wrong command line, 4 a file that can't be read or a report that can't be written; of several scripts the greatest.",
+            "Exit status: 0 accepted, 1 rejected, a loop or what `--deny` names, 2 a script or certificate that is refused, 3 a wrong command line, 4 a file that can't be read or a report that can't be written; of several scripts the greatest.",
         )
         .arg(format)?
         .arg(cert)?
+        .arg(deny)?
         .arg(script)
 }

@@ -1,6 +1,7 @@
 -- What the public contracts cite, in reading order.
 pub mod Positions
 pub mod Answers
+pub mod Denial
 pub mod Shown
 -- What functions inside the crate promise each other.
 pub mod Private

@@ -1,13 +1,15 @@
 //! What the engines answer of a script, alone or with a certificate.
 
-ghost use Rattle.std.specs.Prelude.{◌≡◌, ℕ, List, IfOk, IfSome, Some, length};
+ghost use Rattle.std.specs.Prelude.{◌≡◌, ◌≤◌, ℕ, List, IfOk, IfSome, Some, length};
 ghost use Rattle.std.specs.Option.{option_map};
 ghost use Rattle.sedck_script.specs.Locations.{locations_of};
 ghost use Rattle.sedck_script.specs.Items.{Item, Items};
 ghost use Rattle.sedck_cert.specs.Headline.{SpellsOnly, IsJudged};
 ghost use Rattle.sedck_findings.specs.Answers.{IsAnswer, status_of};
+ghost use Rattle.sedck_findings.specs.Denial.{nothing, status_under};
 ghost use Rattle.sedck_findings.specs.Private.Answering.{IsFoundAnswer, refusal};
 
+use crate::denied::{Denied, has_reads, has_writes};
 use sedck_cert::{Bound, Cert, CertFault, Fault, Judged, Rejection, Verdict, bound, judge};
 use sedck_script::{Located, Script, ScriptFault, locate};
 use sedck_search::{Found, Walk, search};
@@ -45,6 +47,27 @@ impl Answer {
             Answer::Accepted { .. } => 0,
             Answer::Rejected { .. } | Answer::Endless(_) => 1,
             Answer::ScriptRefused(_) | Answer::CertificateRefused(_) => 2,
+        }
+    }
+
+    /// The exit status where this is denied: 1 for a script that is accepted and has what is denied, else as `status`. One of the
+    /// findings is a warning where `has_warning` says so.
+    pub fn status_under(&self, denied: Denied, has_warning: bool) -> u8
+        ensures value { result ≡ status_under denied has_warning self.now }
+        ensures few { result ≤ 2 }
+        // A no stays what it is, and without a denial a yes does too.
+        ensures never_a_yes { result ≡ 0 → status_of self.now ≡ 0 }
+        ensures same { denied ≡ nothing → result ≡ status_of self.now }
+    {
+        match self {
+            Answer::Accepted { cert, bound } => {
+                let is_denied = (denied.reads && has_reads(cert))
+                    || (denied.writes && has_writes(cert))
+                    || (denied.unbounded && bound.is_none())
+                    || (denied.warnings && has_warning);
+                if is_denied { 1 } else { 0 }
+            }
+            _ => self.status(),
         }
     }
 }

@@ -1,5 +1,8 @@
 //! What is reported of a script.
 
+ghost use Rattle.std.specs.Prelude.{◌≡◌};
+ghost use Rattle.sedck_findings.specs.Denial.{is_warning};
+
 use crate::answer::Answer;
 use crate::places::Position;
 use sedck_flow::{Kind, Node};
@@ -32,6 +35,15 @@ pub struct Finding {
     pub steps: Vec<Step>,
 }
 
+impl Finding {
+    /// Whether it is a warning.
+    pub fn is_warning(&self) -> bool
+        ensures { result ≡ is_warning self.now.level }
+    {
+        matches!(self.level, Level::Warning)
+    }
+}
+
 /// A step of a loop or along an edge that is rejected.
 #[derive(Drop)]
 pub struct Step {
@@ -58,6 +70,8 @@ pub struct NamedFile<'a> {
 pub struct Explanation<'a> {
     pub text: &'a [u8],
     pub answer: Answer,
+    /// The exit status: that of the answer, but 1 where the script is accepted and has what is denied.
+    pub status: u8,
     /// None where the script is refused.
     pub script: Option<Script<'a>>,
     /// Where the verb of each command is; empty where the script is refused.
@@ -68,4 +82,11 @@ pub struct Explanation<'a> {
     pub reads: Vec<NamedFile<'a>>,
     /// Sorted by name.
     pub writes: Vec<NamedFile<'a>>,
+}
+
+impl Explanation<'_> {
+    /// Whether the script is accepted, and has what is denied.
+    pub fn is_denied(&self) -> bool {
+        self.status != self.answer.status()
+    }
 }

@@ -7,9 +7,10 @@
 
 mod answer;
 mod certificates;
+mod denied;
 mod explaining;
 mod finding;
-mod hints;
+mod looks;
 mod loops;
 mod names;
 mod places;
@@ -18,6 +19,7 @@ mod shown;
 mod steps;
 
 pub use answer::Answer;
+pub use denied::Denied;
 pub use explaining::explain;
 pub use finding::{Explanation, Finding, Level, NamedFile, Step};
 pub use places::{Position, line_at, position_at};

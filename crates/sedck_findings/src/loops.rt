@@ -7,7 +7,7 @@ use crate::places::Position;
 use crate::steps::{position_of, step, target_step};
 use sedck_cert::Cert;
 use sedck_flow::{Edge, Kind, Node, edges_of, node_count};
-use sedck_script::{Script, Verb};
+use sedck_script::{Pattern, Script, Verb};
 use sedck_search::{Form, Walk};
 use std::alloc::{AllocError, Global};
 
@@ -73,14 +73,31 @@ fn loop_hint(script: &Script, walk: &Walk) -> &'static str {
     if has_verb(script, walk, VerbForm::Reading) {
         return "take the branch only where a line was read: put it into the block of the `N` or `n`, as in `/x/{`, `N`, `b a`, `}` on lines of their own";
     }
+    if has_verb(script, walk, VerbForm::Testing) {
+        return test_hint(script, walk);
+    }
     match walk.form {
         Form::Growing =>
-            "write the command as often as it may be needed, without the loop; or let one `s` with the flag `g` do all at once",
-        Form::Idle if has_verb(script, walk, VerbForm::Testing) => {
-            "let one `s` with the flag `g` do all at once; or write the command as often as it may be needed, without the loop"
-        }
+            "write the command as often as it may be needed, without the loop; or, where a replacement makes no new match, let one `s` with the flag `g` do all at once",
         Form::Idle =>
             "let each round read a line, by `n`, `N` or `d`, or make the pattern space shorter; or go round a fixed number of times by writing the commands as often",
+    }
+}
+
+/// How loops with `t` are repaired. They leave the flag unset, which a way without a loop must do too.
+fn test_hint(script: &Script, walk: &Walk) -> &'static str {
+    match walk.form {
+        Form::Idle if has_verb(script, walk, VerbForm::MatchingNothing) => {
+            "an `s` that matches the empty text sets the flag all the same: let it match one byte at least, as `s/^xx*//` for `s/^x*//`"
+        }
+        Form::Idle if has_verb(script, walk, VerbForm::ReplacingAll) => {
+            "write the command as often as it may be needed, and then `t c` and `:c`, since the loop leaves the flag of `t` unset; or give it fuel, as docs/MENDING.md shows"
+        }
+        Form::Growing if has_verb(script, walk, VerbForm::ReplacingAll) => {
+            "write the command as often as it may be needed, and then `t c` and `:c`, since the loop leaves the flag of `t` unset"
+        }
+        _ =>
+            "where a replacement makes no new match, let one `s` with the flag `g` do all at once, else write the command as often as it may be needed; and then `t c` and `:c`, since the loop leaves the flag of `t` unset",
     }
 }
 
@@ -99,12 +116,22 @@ fn has_verb(script: &Script, walk: &Walk, form: VerbForm) -> bool {
 enum VerbForm {
     Reading,
     Testing,
+    /// `s` with the flag `g`.
+    ReplacingAll,
+    /// `s` with an expression that matches the empty text.
+    MatchingNothing,
 }
 
 fn is_of(verb: &Verb, form: VerbForm) -> bool {
-    match form {
-        VerbForm::Reading => matches!(verb, Verb::Next | Verb::NextAppend),
-        VerbForm::Testing => matches!(verb, Verb::Test(_)),
+    match (form, verb) {
+        (VerbForm::Reading, Verb::Next | Verb::NextAppend) => true,
+        (VerbForm::Testing, Verb::Test(_)) => true,
+        (VerbForm::ReplacingAll, Verb::Substitute(substitution)) => substitution.global,
+        (VerbForm::MatchingNothing, Verb::Substitute(substitution)) => match &substitution.pattern {
+            Pattern::Expr(expression) => expression.least() == 0,
+            Pattern::Previous => false,
+        },
+        _ => false,
     }
 }
 

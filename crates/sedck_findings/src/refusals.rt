@@ -1,9 +1,9 @@
 //! What is reported of a script's text that is refused.
 
 use crate::finding::{Finding, Level};
-use crate::hints::script_hint;
 use crate::places::position_at;
 use sedck_bre::ReFault;
+use sedck_hints::{Spot, other_kind, script_hint};
 use sedck_script::ScriptFault;
 use std::alloc::{AllocError, Global};
 
@@ -14,13 +14,21 @@ pub(crate) fn script_refusal(
     fault: ScriptFault,
 ) -> Result<Finding, AllocError> {
     let offset = offset_of(text, fault);
-    let rest = text.get(offset..).unwrap_or(&[]);
+    let spot = Spot {
+        before: text.get(..offset).unwrap_or(&[]),
+        rest: text.get(offset..).unwrap_or(&[]),
+        expression: expression_of(fault),
+    };
+    let (message, hint) = match other_kind(text) {
+        Some(foreign) => (foreign.message, Some(foreign.hint)),
+        None => (reason_of(fault), script_hint(fault, spot)),
+    };
     Ok(Finding {
         level: Level::Error,
         code: code_of(fault),
         position: Some(position_at(text, offset)),
-        message: String::from_str(alloc, reason_of(fault))?,
-        hint: script_hint(fault, rest),
+        message: String::from_str(alloc, message)?,
+        hint,
         steps: Vec::new(alloc),
     })
 }
@@ -30,6 +38,14 @@ fn code_of(fault: ScriptFault) -> &'static str {
     match fault {
         ScriptFault::BadExpression { fault, .. } => fault.name(),
         fault => fault.name(),
+    }
+}
+
+/// Where the expression begins in which the fault is; 0 for any other fault.
+fn expression_of(fault: ScriptFault) -> usize {
+    match fault {
+        ScriptFault::BadExpression { place, .. } => place,
+        _ => 0,
     }
 }
 
@@ -79,9 +95,11 @@ fn reason_of(fault: ScriptFault) -> &'static str {
         }
         ScriptFault::BadFlag { .. } => "no flag of POSIX sed stands here, or it is there twice",
         ScriptFault::BadTransliteration { .. } => {
-            "the lists of `y` differ in length, or have an escape other than `\\\\`, `\\n` and the delimiter's"
+            "the lists of `y` differ in length, have an escape other than `\\\\`, `\\n` and the delimiter's, or a `[` in the first that is left open"
         }
-        ScriptFault::MissingText { .. } => "the command has no text",
+        ScriptFault::MissingText { .. } => {
+            "the command has no text, or one in its own line that begins with a backslash"
+        }
         ScriptFault::MissingName { .. } => "the file name is missing",
         ScriptFault::BadLabel { .. } =>
             "a label is missing, or holds a byte that no label may hold",
@@ -112,7 +130,7 @@ fn expression_reason(fault: ReFault) -> &'static str {
         }
         ReFault::UnclosedBracket { .. } => "the bracket list isn't closed before the delimiter",
         ReFault::BadBracket { .. } =>
-            "the bracket list has a range, a class or a hyphen that is none",
+            "the bracket list has a range, a class or a hyphen that is none, or an element that seds read differently",
         ReFault::EmptySet { .. } => "the bracket list matches nothing",
         ReFault::UnclosedGroup { .. } => "this group isn't closed",
         ReFault::UnopenedGroup { .. } => "this closes no group",

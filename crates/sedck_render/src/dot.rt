@@ -28,7 +28,7 @@ pub fn dot_report(
     let mut out = String::from_str(alloc, "digraph sedck {\n  graph [label=\"")?;
     push_escaped(&mut out, name)?;
     out.push_str(": ")?;
-    out.push_str(answer_word(&explanation.answer))?;
+    out.push_str(answer_word(explanation))?;
     out.push_str(HEAD)?;
     match &explanation.script {
         Some(script) => push_graph(alloc, &mut out, script, explanation)?,

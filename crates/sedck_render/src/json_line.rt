@@ -15,9 +15,9 @@ use std::alloc::{AllocError, Global};
 struct JsonReport<'a> {
     /// The script's path, as it is printed.
     file: &'a str,
-    /// The exit status for this script: 0 for accepted, 1 for rejected or a loop, 2 for a refused text.
+    /// The exit status for this script: 0 for accepted, 1 for rejected, a loop or denied, 2 for a refused text.
     status: u8,
-    /// `accepted`, `rejected`, `loop`, `script-refused` or `certificate-refused`.
+    /// `accepted`, `denied`, `rejected`, `loop`, `script-refused` or `certificate-refused`.
     answer: &'static str,
     /// The limit on the steps of any run; null where there is none, or where the script isn't accepted.
     bound: Option<JsonBound>,
@@ -121,8 +121,8 @@ fn json_of<'a>(
     }
     Ok(JsonReport {
         file,
-        status: explanation.answer.status(),
-        answer: answer_word(&explanation.answer),
+        status: explanation.status,
+        answer: answer_word(explanation),
         bound: json_bound(&explanation.answer),
         reads: json_files(alloc, &explanation.reads)?,
         writes: json_files(alloc, &explanation.writes)?,

@@ -33,7 +33,7 @@ pub fn html_report(
     push_text(&mut out, "<title>")?;
     push_html(&mut out, name)?;
     push_text(&mut out, ": ")?;
-    push_text(&mut out, answer_word(&explanation.answer))?;
+    push_text(&mut out, answer_word(explanation))?;
     push_text(&mut out, "</title>\n<style>")?;
     push_text(&mut out, STYLE)?;
     push_text(&mut out, "</style>\n</head>\n<body>\n<header>\n<h1>")?;

@@ -22,8 +22,12 @@ pub(crate) fn push_summary(
     };
     out.push_str(name)?;
     out.push_str(": ")?;
-    push_inked(out, ink, "accepted")?;
-    out.push_str(": every run ends\n")?;
+    if explanation.is_denied() {
+        out.push_str("denied, though every run ends\n")?;
+    } else {
+        push_inked(out, ink, "accepted")?;
+        out.push_str(": every run ends\n")?;
+    }
     if let Some(bound) = *bound {
         out.push_str("  steps: ")?;
         out.push_str(bound_words(alloc, bound)?.as_str())?;

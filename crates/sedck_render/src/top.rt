@@ -13,7 +13,7 @@ pub(crate) fn push_top(
     out: &mut Vec<u8>,
     explanation: &Explanation,
 ) -> Result<(), AllocError> {
-    let (class, answer) = answer_words(&explanation.answer);
+    let (class, answer) = answer_words(explanation);
     push_text(out, "<p class=\"answer ")?;
     push_text(out, class)?;
     push_text(out, "\">")?;
@@ -34,8 +34,11 @@ pub(crate) fn push_top(
 }
 
 /// The class and the words of the answer.
-fn answer_words(answer: &Answer) -> (&'static str, &'static str) {
-    match answer {
+fn answer_words(explanation: &Explanation) -> (&'static str, &'static str) {
+    if explanation.is_denied() {
+        return ("error", "Denied, though every run of the script ends.");
+    }
+    match &explanation.answer {
         Answer::Accepted { .. } => ("accepted", "Accepted: every run of the script ends."),
         Answer::Rejected { .. } => ("error", "The certificate is rejected."),
         Answer::Endless(_) => ("error", "A loop rules out every certificate."),

@@ -1,6 +1,6 @@
 //! Words and numbers that several formats share.
 
-use sedck_findings::{Answer, Level, Position};
+use sedck_findings::{Answer, Explanation, Level, Position};
 use sedck_flow::Kind;
 use std::alloc::{AllocError, Global};
 
@@ -13,9 +13,12 @@ pub(crate) fn level_word(level: Level) -> &'static str {
     }
 }
 
-/// The word for the answer.
-pub(crate) fn answer_word(answer: &Answer) -> &'static str {
-    match answer {
+/// The word for the answer, or that an accepted script has what is denied.
+pub(crate) fn answer_word(explanation: &Explanation) -> &'static str {
+    if explanation.is_denied() {
+        return "denied";
+    }
+    match &explanation.answer {
         Answer::Accepted { .. } => "accepted",
         Answer::Rejected { .. } => "rejected",
         Answer::Endless(_) => "loop",

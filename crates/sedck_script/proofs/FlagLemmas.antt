@@ -4,7 +4,7 @@ use Rattle.std.proofs.Math.Bool.{or-false}
 use Rattle.std.proofs.lemmas.Bool.{false≢true, both_ways, or_from}
 use Rattle.sedck_script.specs.Cuts.{is_blank, is_digit, is_ending}
 use Rattle.sedck_script.specs.Program.{Pattern, Part, Substitution}
-use Rattle.sedck_script.specs.Parts.{Ends, Number, Name, Flags}
+use Rattle.sedck_script.specs.Parts.{Ends, EndsFlags, Number, Name, Flags}
 use Rattle.sedck_script.specs.Parts as p
 use Rattle.sedck_script.specs.Private.Reading.{EndsIn}
 use Rattle.sedck_script.proofs.OffsetLemmas.{number_tail, tail_tail, tail_behind}
@@ -13,7 +13,7 @@ use Rattle.sedck_script.proofs.UniqueParts.{no_end, ends_no_number, ends_first, 
 -- no flag begins with this byte
 pub no_flag_by : {q : Pattern} {ps : List Part} {b : ℕ} {text r : List ℕ} {s : Substitution} → b ≢ 103 → b ≢ 112 → b ≢ 119 → is_digit b ≡ false
     → is_blank b ≡ false → is_ending b ≡ false → Flags q ps (b ∷ text) s r → ⊥
-no_flag_by {b = b} f g h i j k (p.none e) = both_ways (is_blank b || is_ending b) (or_from (is_blank b) (is_ending b) j k) (ends_first e)
+no_flag_by {b = b} f g h i j k (p.none e) = both_ways (is_blank b || is_ending b) (or_from (is_blank b) (is_ending b) j k) (ends_first e.0)
 no_flag_by f g h i j k (p.file e n) = h e
 no_flag_by f g h i j k (p.global e x y) = f e
 no_flag_by f g h i j k (p.print e x y) = g e
@@ -25,7 +25,7 @@ no_flag {q} {ps} {r = r} {s = s} e f g h i j k x = no_flag_by f g h i j k (subst
 
 file_inside : {q : Pattern} {ps : List Part} {b : ℕ} {text r : List ℕ} {s : Substitution} → b ≡ 119 → ((name rest : List ℕ) → Name text name rest → ⊥)
     → Flags q ps (b ∷ text) s r → ⊥
-file_inside h n (p.none e) = no_end h refl e
+file_inside h n (p.none e) = no_end h refl e.0
 file_inside h n (p.file e m) = n _ _ m
 file_inside h n (p.global e x y) = omega (arith, e)
 file_inside h n (p.print e x y) = omega (arith, e)
@@ -38,7 +38,7 @@ no_file {q} {ps} {r = r} {s = s} e h n x = file_inside h n (subst (λ t. Flags q
 
 number_inside : {q : Pattern} {ps : List Part} {b : ℕ} {text r : List ℕ} {s : Substitution} → is_digit b ≡ true
     → ((n : ℕ) (rest : List ℕ) → Number (b ∷ text) n rest → ⊥) → Flags q ps (b ∷ text) s r → ⊥
-number_inside {b = b} h n (p.none e) = digit_no_end b h (ends_first e)
+number_inside {b = b} h n (p.none e) = digit_no_end b h (ends_first e.0)
 number_inside h n (p.file e m) = false≢true (ap is_digit (sym e) ∙ h)
 number_inside h n (p.global e x y) = false≢true (ap is_digit (sym e) ∙ h)
 number_inside h n (p.print e x y) = false≢true (ap is_digit (sym e) ∙ h)
@@ -50,7 +50,7 @@ pub no_number : {q : Pattern} {ps : List Part} {b : ℕ} {text behind r : List �
 no_number {q} {ps} {r = r} {s = s} e h n x = number_inside h (λ m rest a. n m rest (subst (λ t. Number t m rest) (sym e) a)) (subst (λ t. Flags q ps t s r) e x)
 
 no_end_inside : {q : Pattern} {ps : List Part} {b : ℕ} {behind r : List ℕ} {s : Substitution} → b ≢ 103 → b ≢ 112 → b ≢ 119 → is_digit b ≡ false
-    → ((rest : List ℕ) → Ends (b ∷ behind) rest → ⊥) → Flags q ps (b ∷ behind) s r → ⊥
+    → ((rest : List ℕ) → EndsFlags (b ∷ behind) rest → ⊥) → Flags q ps (b ∷ behind) s r → ⊥
 no_end_inside f g h i n (p.none e) = n _ e
 no_end_inside f g h i n (p.file e m) = h e
 no_end_inside f g h i n (p.global e x y) = f e
@@ -59,9 +59,9 @@ no_end_inside f g h i n (p.number a x y) = number_no_byte refl i a
 
 -- no end, and no flag
 pub no_flags_end : {q : Pattern} {ps : List Part} {b : ℕ} {text behind r : List ℕ} {s : Substitution} → text ≡ b ∷ behind → b ≢ 103 → b ≢ 112
-    → b ≢ 119 → is_digit b ≡ false → ((rest : List ℕ) → Ends text rest → ⊥) → Flags q ps text s r → ⊥
+    → b ≢ 119 → is_digit b ≡ false → ((rest : List ℕ) → EndsFlags text rest → ⊥) → Flags q ps text s r → ⊥
 no_flags_end {q} {ps} {r = r} {s = s} e f g h i n x =
-    no_end_inside f g h i (λ rest a. n rest (subst (λ t. Ends t rest) (sym e) a)) (subst (λ t. Flags q ps t s r) e x)
+    no_end_inside f g h i (λ rest a. n rest (subst (λ t. EndsFlags t rest) (sym e) a)) (subst (λ t. Flags q ps t s r) e x)
 
 -- what has been seen may not stand among the others
 pub record Fits (global print : Bool) (nth : Option ℕ) (others : Substitution) : Type 0 where
@@ -106,7 +106,7 @@ record BehindNumber (q : Pattern) (ps : List Part) (n : ℕ) (behind r : List �
 
 global_inside : {q : Pattern} {ps : List Part} {b : ℕ} {behind r : List ℕ} {s : Substitution} → b ≡ 103 → Flags q ps (b ∷ behind) s r
     → BehindGlobal q ps behind r s
-global_inside h (p.none e) = absurd (no_end h refl e)
+global_inside h (p.none e) = absurd (no_end h refl e.0)
 global_inside h (p.file e m) = absurd (omega (arith, e))
 global_inside h (p.global {others = o} e x y) = record { others = o; flags = x; none = y; is = refl }
 global_inside h (p.print e x y) = absurd (omega (arith, e))
@@ -114,7 +114,7 @@ global_inside h (p.number a x y) = absurd (number_no_byte h refl a)
 
 print_inside : {q : Pattern} {ps : List Part} {b : ℕ} {behind r : List ℕ} {s : Substitution} → b ≡ 112 → Flags q ps (b ∷ behind) s r
     → BehindPrint q ps behind r s
-print_inside h (p.none e) = absurd (no_end h refl e)
+print_inside h (p.none e) = absurd (no_end h refl e.0)
 print_inside h (p.file e m) = absurd (omega (arith, e))
 print_inside h (p.global e x y) = absurd (omega (arith, e))
 print_inside h (p.print {others = o} e x y) = record { others = o; flags = x; none = y; is = refl }
@@ -122,7 +122,7 @@ print_inside h (p.number a x y) = absurd (number_no_byte h refl a)
 
 nth_inside : {q : Pattern} {ps : List Part} {n : ℕ} {text behind r : List ℕ} {s : Substitution} → Number text n behind → Flags q ps text s r
     → BehindNumber q ps n behind r s
-nth_inside a (p.none e) = absurd (ends_no_number e a)
+nth_inside a (p.none e) = absurd (ends_no_number e.0 a)
 nth_inside a (p.file e m) = absurd (number_no_byte e refl a)
 nth_inside a (p.global e x y) = absurd (number_no_byte e refl a)
 nth_inside a (p.print e x y) = absurd (number_no_byte e refl a)
@@ -232,7 +232,7 @@ nth_none None = refl
 
 -- at the end of the flags
 pub flags_end : {whole text rest behind : List ℕ} {global print : Bool} {nth : Option ℕ} → FlagsPassed whole text global print nth rest
-    → Ends rest behind → (q : Pattern) (ps : List Part)
+    → EndsFlags rest behind → (q : Pattern) (ps : List Part)
     → Flags q ps text (record { pattern = q; parts = ps; global = global; print = print; nth = nth; file = None }) behind
 flags_end {text = text} {behind = behind} {global = global} {print = print} {nth = nth} h e q ps =
     let x = h.sound q ps _ behind (p.none e) (record { globals = λ g. refl; prints = λ g. refl; numbers = λ n g. refl }) in

@@ -1,10 +1,9 @@
 -- Labels of branches, and what may stand behind a label.
-use Rattle.std.proofs.Common.{◌≡◌, ◌≢◌, ℕ, ◌<◌, ◌≤◌, true, not, eqb, List, [], ◌∷◌, ◌++◌, length, get_or, Option, Some, None, ap, sym, subst, arith}
-use Rattle.std.specs.List.{list_all}
-use Rattle.std.proofs.lemmas.Bool.{and_parts, not_from_false, ne_eqb}
+use Rattle.std.proofs.Common.{◌≡◌, ℕ, false, ◌<◌, List, ◌++◌, length, Option, Some, None, ap, sym, ◌∙◌, subst, arith}
+use Rattle.std.proofs.lemmas.List.{nil_from_length}
 use Rattle.sedck_script.specs.Cuts.{is_blank, is_ending, is_label_byte, IsEmptyOr, Longest}
 use Rattle.sedck_script.specs.Parts.{Ends, LabelText}
-use Rattle.sedck_script.specs.Items.{IsNoComment, IsNoBrace}
+use Rattle.sedck_script.specs.Items.{IsNoComment, IsNoBrace, EndsJump, begins_braced_comment}
 use Rattle.sedck_script.specs.Private.Reading.{IsLabelAt}
 use Rattle.sedck_script.specs.Private.LabelReading.{BranchText}
 use Rattle.sedck_script.proofs.LongestRuns.{longest_one}
@@ -19,40 +18,27 @@ label_there l some = record { blanks = l.blanks; begins = l.begins; skipped = l.
 pub no_label_there : {text name behind g s : List ℕ} → IsLabelAt text name behind → length name ≡ 0 → LabelText text g s → ⊥
 no_label_there l none m = let same = (label_same l m).0 in omega (arith, ap length same, m.some)
 
-blank_no_comment : (c : ℕ) → is_blank c ≡ true → not (eqb c 35) ≡ true
-blank_no_comment c h = grind (arith, h)
-
-comment_behind : (text blanks begins : List ℕ) → text ≡ blanks ++ begins → list_all is_blank blanks ≡ true
-    → (length begins ≡ length text → get_or begins 0 0 ≢ 35) → IsNoComment text
-comment_behind [] blanks begins e all h = tt
-comment_behind (c ∷ text) [] [] e all h = absurd (cc e)
-comment_behind (c ∷ text) [] (b ∷ begins) e all h = let same : c ≡ b = cc e in rw same (not_from_false _ (ne_eqb b 35 (h (ap length (sym e)))))
-comment_behind (c ∷ text) (b ∷ blanks) begins e all h = let same : c ≡ b = cc e in
-    rw same (blank_no_comment b (and_parts (is_blank b) (list_all is_blank blanks) all).0)
-
--- behind blanks the end of a command, which is no comment where there is no blank
-pub end_without_label : {text blanks begins : List ℕ} → Longest is_blank text blanks begins → 1 ≤ length begins → is_ending (get_or begins 0 0) ≡ true
-    → (length begins ≡ length text → get_or begins 0 0 ≢ 35) → IsNoComment text × Ends text begins
-end_without_label {text} {blanks} {begins} l some h n =
-    (comment_behind text blanks begins l.cut l.passes n, record { blanks = blanks; run = l; ending = first begins some h })
-  where
-    first : (rest : List ℕ) → 1 ≤ length rest → is_ending (get_or rest 0 0) ≡ true → IsEmptyOr is_ending rest
-    first [] some h = tt
-    first (b ∷ rest) some h = h
+-- a branch with no label ends behind its blanks
+pub end_without_label : {text name behind : List ℕ} → IsLabelAt text name behind → length name ≡ 0 → IsEmptyOr is_ending behind → Ends text behind
+end_without_label {text} {name} {behind} l none h =
+    let same : l.begins ≡ behind = l.run.cut ∙ ap (λ t. t ++ behind) (nil_from_length name none) in
+    record { blanks = l.blanks; run = subst (λ t. Longest is_blank text l.blanks t) same l.skipped; ending = h }
 
 -- a branch with no label reads none
 pub no_branch_end : {text name behind : List ℕ} → IsLabelAt text name behind → length name ≡ 0
-    → ((rest : List ℕ) → IsNoComment text → Ends text rest → ⊥) → (label : Option (List ℕ)) (rest : List ℕ) → BranchText text label rest → ⊥
-no_branch_end l none h None rest x = h rest x.0 x.1
+    → (IsNoComment behind → IsEmptyOr is_ending behind → begins_braced_comment behind ≡ false → ⊥) → (label : Option (List ℕ)) (rest : List ℕ) → BranchText text label rest → ⊥
+no_branch_end {name = name} {behind = behind} l none h None rest x =
+    let same : rest ≡ behind = (longest_one x.1.0.run l.skipped).1 ∙ l.run.cut ∙ ap (λ t. t ++ behind) (nil_from_length name none) in
+    h (subst IsNoComment same x.0) (subst (λ t. IsEmptyOr is_ending t) same x.1.0.ending) (subst (λ t. begins_braced_comment t ≡ false) same x.1.1)
 no_branch_end l none h (Some name) rest x = no_label_there l none x.1
 
 -- and one with a label reads that one
 pub no_branch_label : {text name behind : List ℕ} → IsLabelAt text name behind → 0 < length name
-    → ((rest : List ℕ) → IsNoComment behind → Ends behind rest → ⊥) → (label : Option (List ℕ)) (rest : List ℕ) → BranchText text label rest → ⊥
-no_branch_label l some h None rest x = label_or_end (label_there l some) x.1
+    → ((rest : List ℕ) → IsNoComment behind → EndsJump behind rest → ⊥) → (label : Option (List ℕ)) (rest : List ℕ) → BranchText text label rest → ⊥
+no_branch_label l some h None rest x = label_or_end (label_there l some) x.1.0
 no_branch_label l some h (Some name) rest x =
     let same = sym (label_same l x.1).1 in
-    h rest (subst IsNoComment same x.2) (subst (λ t. Ends t rest) same x.3)
+    h rest (subst IsNoComment same x.2) (subst (λ t. EndsJump t rest) same x.3)
 
 pub no_definition : {text name behind n b r : List ℕ} → IsLabelAt text name behind → ((rest : List ℕ) → IsNoBrace behind → Ends behind rest → ⊥)
     → LabelText text n b → IsNoBrace b → Ends b r → ⊥

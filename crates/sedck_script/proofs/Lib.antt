@@ -1,9 +1,11 @@
+pub mod LineBytes
 pub mod LongestRuns
 pub mod FirstBytes
 pub mod FirstUnique
 pub mod UniqueCommands
 pub mod NumberLemmas
 pub mod CommandEnds
+pub mod CommentLemmas
 pub mod OffsetLemmas
 pub mod PartLemmas
 pub mod LabelLemmas
@@ -38,4 +40,6 @@ pub mod ShortestLemmas
 pub mod ReferenceLemmas
 pub mod LiteralLengths
 pub mod PlaceLemmas
+pub mod BracketLemmas
+pub mod EscapeLemmas
 pub mod PlacesWithin

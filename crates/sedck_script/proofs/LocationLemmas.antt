@@ -30,14 +30,14 @@ located_along {size} {locations = locations} e h = subst (λ t. LocatedItems siz
 behind_separators : {text separators begins : List ℕ} {items : List Item} (size : ℕ) → Longest is_separator text separators begins
     → (spelled : Items text items) → LocatedItems size begins (locations_of size spelled)
 behind_separators size l (w.nothing m) = (_, w.nothing (begun l m), refl)
-behind_separators size l (w.comment m e k x) = (_, w.comment (begun l m) e k x, refl)
+behind_separators size l (w.comment m e k r x) = (_, w.comment (begun l m) e k r x, refl)
 behind_separators size l (w.closing m e f x) = (_, w.closing (begun l m) e f x, refl)
 behind_separators size l (w.command m c x) = (_, w.command (begun l m) c x, refl)
 
 behind_comment : {b : ℕ} {text behind line rest : List ℕ} {items : List Item} (size : ℕ) → text ≡ b ∷ behind → b ≡ 35
     → Longest (λ c. not (is_newline c)) behind line rest → (spelled : Items text items) → LocatedItems size rest (locations_of size spelled)
 behind_comment size e h k (w.nothing m) = empty_is_not (longest_one m (at_front e (rw h refl))).1
-behind_comment size e h k (w.comment m i n x) =
+behind_comment size e h k (w.comment m i n r x) =
     let same = tails (longest_one m (at_front e (rw h refl))).1 in
     located_along (longest_one (longest_along same n) k).1 (_, x, refl)
 behind_comment size e h k (w.closing m i f x) = absurd (omega (arith, heads (longest_one m (at_front e (rw h refl))).1, h, i))
@@ -46,7 +46,7 @@ behind_comment size e h k (w.command m c x) = no_command_other (longest_one m (a
 behind_closing : {b : ℕ} {text behind rest : List ℕ} {items : List Item} (size : ℕ) → text ≡ b ∷ behind → b ≡ 125 → Ends behind rest
     → (spelled : Items text items) → LocatedItems size rest (locations_of size spelled)
 behind_closing size e h k (w.nothing m) = empty_is_not (longest_one m (at_front e (rw h refl))).1
-behind_closing size e h k (w.comment m i n x) = absurd (omega (arith, heads (longest_one m (at_front e (rw h refl))).1, h, i))
+behind_closing size e h k (w.comment m i n r x) = absurd (omega (arith, heads (longest_one m (at_front e (rw h refl))).1, h, i))
 behind_closing size e h k (w.closing m i f x) =
     let same = tails (longest_one m (at_front e (rw h refl))).1 in
     located_along (ends_one (ends_along same f) k) (_, x, refl)
@@ -73,7 +73,7 @@ behind_command : {text rest : List ℕ} {address : Address} {negated : Bool} {ve
     (size : ℕ) → BeginsCommand text → CommandText text address negated verb rest → IsOnlyLocation size text location
     → (spelled : Items text items) → IsFirstLocation size rest location (locations_of size spelled)
 behind_command size k c only (w.nothing m) = empty_is_not (longest_one m (at_front k.2 k.3)).1
-behind_command size k c only (w.comment m i n x) = absurd (k.4 (heads (sym (longest_one m (at_front k.2 k.3)).1) ∙ i))
+behind_command size k c only (w.comment m i n r x) = absurd (k.4 (heads (sym (longest_one m (at_front k.2 k.3)).1) ∙ i))
 behind_command size k c only (w.closing m i f x) = absurd (k.5 (heads (sym (longest_one m (at_front k.2 k.3)).1) ∙ i))
 behind_command {text} {rest} {address} {negated} {verb} size k c only (w.command {begins = begins} m d x) =
     let same : begins ≡ text = (longest_one m (at_front k.2 k.3)).1 ∙ sym k.2 in
@@ -83,7 +83,7 @@ behind_command {text} {rest} {address} {negated} {verb} size k c only (w.command
 none_left : {text separators : List ℕ} {items : List Item} (size : ℕ) → Longest is_separator text separators [] → (spelled : Items text items)
     → locations_of size spelled ≡ []
 none_left size l (w.nothing m) = refl
-none_left size l (w.comment m i n x) = empty_is_not (longest_one l m).1
+none_left size l (w.comment m i n r x) = empty_is_not (longest_one l m).1
 none_left size l (w.closing m i f x) = empty_is_not (longest_one l m).1
 none_left size l (w.command m c x) = no_command_end (longest_one m l).1 c
 
@@ -92,14 +92,14 @@ none_left size l (w.command m c x) = no_command_end (longest_one m l).1 c
 pub located_count : {text : List ℕ} {items : List Item} (size : ℕ) (spelled : Items text items)
     → length (locations_of size spelled) ≡ length (commands_among items)
 located_count size (w.nothing m) = refl
-located_count size (w.comment m e k x) = located_count size x
+located_count size (w.comment m e k r x) = located_count size x
 located_count size (w.closing m e f x) = located_count size x
 located_count size (w.command m c x) = ap suc (located_count size x)
 
 pub located_order : {text : List ℕ} {items : List Item} (size from : ℕ) → length text ≤ size → from ≤ size - length text
     → (spelled : Items text items) → AreInOrder from size (locations_of size spelled)
 located_order size from h k (w.nothing m) = omega arith
-located_order size from h k (w.comment m e l x) =
+located_order size from h k (w.comment m e l r x) =
     let far = tail_length (tail_cut m) in
     let near = tail_length (tail_cut l) in
     located_order size from (omega (arith, far, near, h)) (omega (arith, far, near, h, k)) x

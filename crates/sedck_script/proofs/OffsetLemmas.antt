@@ -1,5 +1,6 @@
 -- What each part leaves is an end of its text.
 use Rattle.std.proofs.Common.{◌≡◌, ℕ, Bool, List, [], ◌∷◌, ◌++◌, length, take, drop, ◌-◌, ◌<◌, ◌≤◌, refl, ap, sym, ◌∙◌, subst, subst₂, length-append, arith, Some, append_assoc}
+use Rattle.std.proofs.lemmas.List.{take-append-drop}
 use Rattle.sedck_script.specs.Cuts.{Longest}
 use Rattle.std.specs.Prelude.{slice_get}
 use Rattle.sedck_script.specs.Program.{Pattern, Part, Substitution}
@@ -15,6 +16,9 @@ tail_cut {front = front} l = (front, l.cut)
 
 pub tail_tail : {a b c : List ℕ} → EndsIn a b → EndsIn b c → EndsIn a c
 tail_tail {a} {b} {c} h k = (h.0 ++ k.0, h.1 ∙ ap (λ t. h.0 ++ t) k.1 ∙ sym (append_assoc h.0 k.0 c))
+
+pub tail_drop : {whole text : List ℕ} (place : ℕ) → drop place whole ≡ text → EndsIn whole text
+tail_drop {whole} place e = (take place whole, sym (take-append-drop place whole) ∙ ap (λ t. take place whole ++ t) e)
 
 pub tail_behind : {whole text behind : List ℕ} {b : ℕ} → EndsIn whole text → text ≡ b ∷ behind → EndsIn whole behind
 tail_behind {whole} {text} {behind} {b} h e = (h.0 ++ (b ∷ []), h.1 ∙ ap (λ t. h.0 ++ t) e ∙ sym (append_assoc h.0 (b ∷ []) behind))
@@ -85,7 +89,7 @@ replacement_tail (p.part {a = a} {b = b} f g h x) = tail_cons a (tail_cons b (re
 replacement_tail (p.run l x) = tail_tail (tail_cut l) (replacement_tail x)
 
 pub flags_tail : {q : Pattern} {ps : List Part} {text rest : List ℕ} {s : Substitution} → Flags q ps text s rest → EndsIn text rest
-flags_tail (p.none e) = ends_tail e
+flags_tail (p.none e) = ends_tail e.0
 flags_tail (p.file {b = b} h n) = tail_cons b (name_tail n)
 flags_tail (p.global {b = b} h x g) = tail_cons b (flags_tail x)
 flags_tail (p.print {b = b} h x g) = tail_cons b (flags_tail x)
@@ -95,10 +99,10 @@ flags_tail (p.number a x g) = tail_tail (number_tail a) (flags_tail x)
 pub verb_takes : {text rest : List ℕ} {v : WrittenVerb} → VerbText text v rest → (b : ℕ) × (behind : List ℕ) × (text ≡ b ∷ behind) × EndsIn behind rest
 verb_takes (w.simple x e) = (_, _, refl, ends_tail e)
 verb_takes (w.label h l n e) = (_, _, refl, tail_tail (label_text_tail l) (ends_tail e))
-verb_takes (w.branch h l n e) = (_, _, refl, tail_tail (label_text_tail l) (ends_tail e))
-verb_takes (w.branch_to_end h n e) = (_, _, refl, ends_tail e)
-verb_takes (w.test h l n e) = (_, _, refl, tail_tail (label_text_tail l) (ends_tail e))
-verb_takes (w.test_to_end h n e) = (_, _, refl, ends_tail e)
+verb_takes (w.branch h l n e) = (_, _, refl, tail_tail (label_text_tail l) (ends_tail e.0))
+verb_takes (w.branch_to_end h n e) = (_, _, refl, ends_tail e.0)
+verb_takes (w.test h l n e) = (_, _, refl, tail_tail (label_text_tail l) (ends_tail e.0))
+verb_takes (w.test_to_end h n e) = (_, _, refl, ends_tail e.0)
 verb_takes (w.opening h) = (_, _, refl, ([], refl))
 verb_takes (w.append h l g) = (_, _, refl, tail_tail (tail_cut l) (given_tail g))
 verb_takes (w.change h l g) = (_, _, refl, tail_tail (tail_cut l) (given_tail g))
@@ -106,8 +110,8 @@ verb_takes (w.insert h l g) = (_, _, refl, tail_tail (tail_cut l) (given_tail g)
 verb_takes (w.read h n) = (_, _, refl, name_tail n)
 verb_takes (w.write h n) = (_, _, refl, name_tail n)
 verb_takes (w.substitute {delimiter = d} h t x y z g f) =
-    (_, _, refl, tail_cons d (tail_tail (expression_tail x) (tail_tail (replacement_tail z) (flags_tail f))))
-verb_takes (w.transliterate {delimiter = d} h t x y l e) = (_, _, refl, tail_cons d (tail_tail (list_tail x) (tail_tail (list_tail y) (ends_tail e))))
+    (_, _, refl, tail_cons d (tail_tail (expression_tail x.cut) (tail_tail (replacement_tail z) (flags_tail f))))
+verb_takes (w.transliterate {delimiter = d} h t x y l e) = (_, _, refl, tail_cons d (tail_tail (list_tail x.list) (tail_tail (list_tail y) (ends_tail e))))
 
 pub verb_text_tail : {text rest : List ℕ} {v : WrittenVerb} → VerbText text v rest → EndsIn text rest
 verb_text_tail {rest = rest} x = let t = verb_takes x in subst (λ u. EndsIn u rest) (sym t.2) (tail_cons t.0 t.3)

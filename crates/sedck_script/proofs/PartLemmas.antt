@@ -1,17 +1,31 @@
 -- Names and texts.
-use Rattle.std.proofs.Common.{◌≡◌, ◌≢◌, ℕ, ◌<◌, not, List, [], ◌∷◌, length, refl, ap, sym, ◌∙◌, subst, inl, inr, ◌⊎◌}
-use Rattle.sedck_script.specs.Cuts.{is_newline, is_blank, Longest}
-use Rattle.sedck_script.specs.Parts.{Name, Lines, GivenText, BeginsPlainly}
+use Rattle.std.proofs.Common.{◌≡◌, ◌≢◌, ℕ, Bool, true, false, ◌<◌, ◌≤◌, get_or, arith, not, List, [], ◌∷◌, length, refl, ap, sym, ◌∙◌, subst, inl, inr, ◌⊎◌}
+use Rattle.sedck_script.specs.Cuts.{is_newline, is_blank, is_continued, IsEmptyOr, Longest}
+use Rattle.sedck_script.specs.Parts.{is_skipped, Name, Lines, GivenText, BeginsPlainly}
 use Rattle.sedck_script.specs.Parts as p
 use Rattle.sedck_script.proofs.LongestRuns.{longest_one}
 use Rattle.sedck_script.proofs.FirstBytes.{heads}
 use Rattle.std.proofs.lemmas.List.{nil_from_length}
+use Rattle.std.proofs.lemmas.Bool.{false≢true}
 
-pub name_some : {text blanks begins front rest name r : List ℕ} → Longest is_blank text blanks begins
-    → Longest (λ b. not (is_newline b)) begins front rest → Name text name r → 0 < length front
-name_some {front = front} {name = name} {r = r} l m n =
-    let same = (longest_one (subst (λ t. Longest (λ b. not (is_newline b)) t name r) (longest_one n.skipped l).1 n.run) m).0 in
-    subst (λ t. 0 < length t) same n.some
+module _ {text blanks begins front rest name r : List ℕ} (l : Longest is_blank text blanks begins) (m : Longest (λ b. not (is_newline b)) begins front rest)
+    (n : Name text name r) where
+  same : (name ≡ front) × (r ≡ rest)
+  same = longest_one (subst (λ t. Longest (λ b. not (is_newline b)) t name r) (longest_one n.skipped l).1 n.run) m
+
+  pub name_some : 0 < length front
+  name_some = subst (λ t. 0 < length t) same.0 n.some
+
+  pub name_plain : IsEmptyOr (λ b. not (is_skipped b)) front
+  name_plain = subst (IsEmptyOr (λ b. not (is_skipped b))) same.0 n.plain
+
+  pub name_over : (rest ≡ []) ⊎ (is_continued front ≡ false)
+  name_over = subst (λ t. (t ≡ []) ⊎ (is_continued front ≡ false)) same.1 (subst (λ t. (r ≡ []) ⊎ (is_continued t ≡ false)) same.0 n.over)
+
+-- the first byte of a text that isn't empty
+pub first_passes : (test : ℕ → Bool) (text : List ℕ) → 1 ≤ length text → test (get_or text 0 0) ≡ true → IsEmptyOr (λ b. not (test b)) text → ⊥
+first_passes test [] l h e = omega (arith, l)
+first_passes test (b ∷ text) l h e = false≢true (sym (ap not h) ∙ e)
 
 -- What lines the rest begins with, the text begins with lines up to the same end.
 pub record LinesPassed (text rest : List ℕ) : Type 0 where

@@ -1,6 +1,6 @@
 -- How far a delimited part has been read.
 use Rattle.std.proofs.Common.{◌≡◌, ◌≢◌, ℕ, ◌<◌, eqb, cond, Some, None, inl, inr, ◌⊎◌, List, [], ◌∷◌, ◌++◌, length, refl, ap, sym, ◌∙◌, subst, append_assoc, append-nil, arith}
-use Rattle.sedck_script.specs.Parts.{DelimitedExpression, DelimitedList}
+use Rattle.sedck_script.specs.Parts.{DelimitedExpression, ExpressionText, DelimitedList}
 use Rattle.sedck_script.specs.Parts as p
 use Rattle.sedck_script.specs.Private.Reading.{EndsIn}
 use Rattle.sedck_script.specs.declared.delimited.Piece.{Piece}
@@ -195,10 +195,10 @@ pub list_broken : {d b : ℕ} {whole text bytes rest behind : List ℕ} → d �
 list_broken {d} n h k l e r x = let one = h.only e r x in no_list_pair n refl k.1 l (subst (λ t. DelimitedList d t one.0 r) k.0 one.1)
 
 -- an empty expression, and one that isn't
-pub pattern_none : {d : ℕ} {text bytes rest : List ℕ} → DelimitedExpression d text bytes rest → length bytes ≡ 0 → PatternText d text Previous rest
-pattern_none {d} {text} {bytes} {rest} x e = let none = nil_from_length bytes e in ([], subst (λ t. DelimitedExpression d text t rest) none x, previous)
+pub pattern_none : {d : ℕ} {text bytes rest : List ℕ} → ExpressionText d text bytes rest → length bytes ≡ 0 → PatternText d text Previous rest
+pattern_none {d} {text} {bytes} {rest} x e = let none = nil_from_length bytes e in ([], subst (λ t. ExpressionText d text t rest) none x, previous)
 
-pub pattern_some : {d : ℕ} {text bytes rest : List ℕ} {tree : Tree} → DelimitedExpression d text bytes rest → 0 < length bytes → Shape bytes tree
+pub pattern_some : {d : ℕ} {text bytes rest : List ℕ} {tree : Tree} → ExpressionText d text bytes rest → 0 < length bytes → Shape bytes tree
     → PatternText d text (Expression tree) rest
 pattern_some {bytes = bytes} {tree = tree} x some s = (bytes, x, is_expression bytes some s)
   where
@@ -210,9 +210,9 @@ no_pattern_by : (bytes : List ℕ) (pattern : Pattern) → 0 < length bytes → 
 no_pattern_by bytes pattern some n previous = omega arith
 no_pattern_by bytes pattern some n (expression s) = n _ s
 
-pub no_pattern : {d : ℕ} {text bytes rest r : List ℕ} (pattern : Pattern) → d ≢ 92 → DelimitedExpression d text bytes rest → 0 < length bytes
+pub no_pattern : {d : ℕ} {text bytes rest r : List ℕ} (pattern : Pattern) → d ≢ 92 → ExpressionText d text bytes rest → 0 < length bytes
     → ((t : Tree) → Shape bytes t → ⊥) → PatternText d text pattern r → ⊥
-no_pattern {bytes = bytes} pattern k x some n y = no_pattern_by bytes pattern some n (subst (λ t. IsPattern t pattern) (expression_one k y.1 x).0 y.2)
+no_pattern {bytes = bytes} pattern k x some n y = no_pattern_by bytes pattern some n (subst (λ t. IsPattern t pattern) (expression_one k y.1.cut x.cut).0 y.2)
 
 none_only : (q : Pattern) (bytes : List ℕ) → length bytes ≡ 0 → IsPattern bytes q → q ≡ Previous
 none_only q bytes e previous = refl
@@ -222,10 +222,10 @@ some_only : {tree : Tree} (q : Pattern) (bytes : List ℕ) → 0 < length bytes 
 some_only q bytes some n previous = absurd (omega arith)
 some_only q bytes some n (expression {tree = t} s) = ap Expression (n t s)
 
-pub pattern_none_only : {d : ℕ} {text bytes rest r : List ℕ} (q : Pattern) → d ≢ 92 → DelimitedExpression d text bytes rest → length bytes ≡ 0
+pub pattern_none_only : {d : ℕ} {text bytes rest r : List ℕ} (q : Pattern) → d ≢ 92 → ExpressionText d text bytes rest → length bytes ≡ 0
     → PatternText d text q r → (q ≡ Previous) × (r ≡ rest)
-pattern_none_only {bytes = bytes} q k x e y = let one = expression_one k y.1 x in (none_only q bytes e (subst (λ t. IsPattern t q) one.0 y.2), one.1)
+pattern_none_only {bytes = bytes} q k x e y = let one = expression_one k y.1.cut x.cut in (none_only q bytes e (subst (λ t. IsPattern t q) one.0 y.2), one.1)
 
-pub pattern_some_only : {d : ℕ} {text bytes rest r : List ℕ} {tree : Tree} (q : Pattern) → d ≢ 92 → DelimitedExpression d text bytes rest
+pub pattern_some_only : {d : ℕ} {text bytes rest r : List ℕ} {tree : Tree} (q : Pattern) → d ≢ 92 → ExpressionText d text bytes rest
     → 0 < length bytes → ((t : Tree) → Shape bytes t → t ≡ tree) → PatternText d text q r → (q ≡ Expression tree) × (r ≡ rest)
-pattern_some_only {bytes = bytes} q k x some n y = let one = expression_one k y.1 x in (some_only q bytes some n (subst (λ t. IsPattern t q) one.0 y.2), one.1)
+pattern_some_only {bytes = bytes} q k x some n y = let one = expression_one k y.1.cut x.cut in (some_only q bytes some n (subst (λ t. IsPattern t q) one.0 y.2), one.1)

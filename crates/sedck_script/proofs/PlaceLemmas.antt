@@ -13,7 +13,7 @@ use Rattle.sedck_script.specs.declared.fault.ScriptFault.{ScriptFault}
 use Rattle.sedck_script.specs.declared.fault.ScriptFault.TheVariants as fault
 use Rattle.sedck_script.specs.Cuts.{is_blank, is_digit, is_ending, is_label_byte, is_delimiter, IsEmptyOr, Longest}
 use Rattle.sedck_script.specs.Program.{Place, Address, Pattern, Previous, Expression, Verb, verb_patterns}
-use Rattle.sedck_script.specs.Parts.{Number, DelimitedExpression, IsPattern, PlaceText, AddressText}
+use Rattle.sedck_script.specs.Parts.{Number, DelimitedExpression, ExpressionText, IsPattern, PlaceText, AddressText}
 use Rattle.sedck_script.specs.Parts as p
 use Rattle.sedck_script.specs.Items.{WrittenVerb, Simple, VerbText}
 use Rattle.sedck_script.specs.Items as w
@@ -91,7 +91,7 @@ opened_before {whole} {text} {d} h =
     (omega (arith, long), subst (λ n. StandsAt whole n d) same (stands_at_tail h refl))
 
 pub refused_expression : {whole text expression rest : List ℕ} {d : ℕ} {cause : ReFault} → EndsIn whole (d ∷ text) → IsTrue (is_delimiter d)
-    → DelimitedExpression d text expression rest → IsOfText cause → expressions.IsPlaced expression cause
+    → ExpressionText d text expression rest → IsOfText cause → expressions.IsPlaced expression cause
     → ((tree : Tree) → Shape expression tree → ⊥) → IsRefusedExpression whole (length whole - length text) cause
 refused_expression {whole} {text} {expression} {rest} {d} h a x o q n =
     let before = opened_before h in
@@ -102,7 +102,7 @@ refused_expression {whole} {text} {expression} {rest} {d} h a x o q n =
       opened = before.1;
       expression = expression;
       rest = rest;
-      cut = subst (λ t. DelimitedExpression d t expression rest) (sym (cut_at (tail_behind h refl)).1) x;
+      written = subst (λ t. ExpressionText d t expression rest) (sym (cut_at (tail_behind h refl)).1) x;
       of_text = o;
       placed = q;
       refused = n;
@@ -123,7 +123,7 @@ pub empty_place : {whole text rest : List ℕ} {d : ℕ} {q : Pattern} → EndsI
     → PatternText d text q rest → IsEmptyExpression whole (length whole - length text)
 empty_place {d = d} h a e x =
     let before = opened_before h in
-    (d, a, before.0, before.1, stands_at_tail (tail_behind h refl) (empty_end (no_expression e x.2) x.1))
+    (d, a, before.0, before.1, stands_at_tail (tail_behind h refl) (empty_end (no_expression e x.2) x.1.cut))
 
 is_previous : {q : Pattern} → has_previous (q ∷ []) ≡ true → q ≡ Previous
 is_previous {q = Previous} h = refl

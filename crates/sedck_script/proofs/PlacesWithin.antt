@@ -25,7 +25,10 @@ placed_within text (fault.BadExpression place cause) h = omega (arith, slice_get
 placed_within text (fault.Unterminated place) h = within text place _ h.0.1
 placed_within text (fault.BadReplacement place) h = within text place _ h
 placed_within text (fault.BadFlag place) h = within text place _ h.1
-placed_within text (fault.BadTransliteration place) h = within text place _ h.1
+placed_within text (fault.BadTransliteration place) h = elim h [
+  | inl stands ↦ within text place _ stands.1
+  | inr left ↦ omega (arith, ap length left.here, length-drop place text)
+]
 placed_within text (fault.MissingText place) h = within text place _ h.0.1
 placed_within text (fault.MissingName place) h = within text place _ h.0.1
 placed_within text (fault.BadLabel place) h = h.1.0
@@ -37,5 +40,8 @@ placed_within text (fault.TooDeep place) h = within text place _ h
 placed_within text (fault.TooManyCommands place) h = within text place _ h.1
 placed_within text (fault.ExtraText place) h = within text place _ h.1
 placed_within text (fault.NoPreviousExpression place) h = within text place _ h.4
-placed_within text (fault.EscapedDelimiter place) h = within text place _ h
+placed_within text (fault.EscapedDelimiter place) h = elim h [
+  | inl forbidden ↦ within text place _ forbidden.0
+  | inr beside ↦ omega (arith, ap length beside.here, length-drop place text)
+]
 placed_within text fault.OutOfMemory h = tt

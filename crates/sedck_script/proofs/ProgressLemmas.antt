@@ -10,6 +10,7 @@ use Rattle.sedck_script.specs.Parts.{Ends}
 use Rattle.sedck_script.specs.Items.{WrittenVerb, Known, Opening, VerbText, Takes, CommandText, Item, Written, Closing, Items}
 use Rattle.sedck_script.specs.Items as w
 use Rattle.sedck_script.specs.Private.Reading.{EndsIn, IsLabelOf, AreLabelsOnce, HasLabels}
+use Rattle.sedck_script.specs.Private.CommentReading.{CommentText}
 use Rattle.sedck_script.specs.Private.VerbReading.{DefinesKnown}
 use Rattle.sedck_script.specs.Private.ItemReading.{item_of, Turn, Opens, Closes, Stays, commands_among, locations_in, verb_turn, Turned, Nests}
 use Rattle.sedck_script.specs.Private.Locating.{AreFirstLocations}
@@ -37,7 +38,7 @@ skipped {text} {separators} l m = subst (λ t. Longest is_separator text separat
 
 items_back : {text separators begins : List ℕ} {items : List Item} → Longest is_separator text separators begins → Items begins items → Items text items
 items_back l (w.nothing m) = w.nothing (skipped l m)
-items_back l (w.comment m e k x) = w.comment (skipped l m) e k x
+items_back l (w.comment m e k r x) = w.comment (skipped l m) e k r x
 items_back l (w.closing m e f x) = w.closing (skipped l m) e f x
 items_back l (w.command m c x) = w.command (skipped l m) c x
 
@@ -47,7 +48,7 @@ begun {begins = begins} l m = subst (λ t. Longest is_separator begins [] t) (lo
 
 items_forth : {text separators begins : List ℕ} {items : List Item} → Longest is_separator text separators begins → Items text items → Items begins items
 items_forth l (w.nothing m) = w.nothing (begun l m)
-items_forth l (w.comment m e k x) = w.comment (begun l m) e k x
+items_forth l (w.comment m e k r x) = w.comment (begun l m) e k r x
 items_forth l (w.closing m e f x) = w.closing (begun l m) e f x
 items_forth l (w.command m c x) = w.command (begun l m) c x
 
@@ -75,10 +76,19 @@ front_skip f l = record {
 pub at_front : {b : ℕ} {text rest : List ℕ} → text ≡ b ∷ rest → is_separator b ≡ false → Longest is_separator text [] (b ∷ rest)
 at_front {b} e n = record { cut = e; passes = refl; stops = rw n refl }
 
+-- what begins with a `#` goes on with a comment
+comment_first : {b : ℕ} {text behind : List ℕ} {all : List Item} → text ≡ b ∷ behind → b ≡ 35 → Items text all
+    → (line rest : List ℕ) × CommentText behind line rest
+comment_first e h (w.nothing m) = empty_is_not (longest_one m (at_front e (rw h refl))).1
+comment_first e h (w.comment {line = line} {rest = rest} m i n r x) =
+    (line, rest, (longest_along (tails (longest_one m (at_front e (rw h refl))).1) n, r))
+comment_first e h (w.closing m i f x) = absurd (omega (arith, heads (longest_one m (at_front e (rw h refl))).1, h, i))
+comment_first e h (w.command m c x) = no_command_other (longest_one m (at_front e (rw h refl))).1 (inl h) c
+
 comment_step : {b : ℕ} {text behind line rest : List ℕ} {all : List Item} → text ≡ b ∷ behind → b ≡ 35
     → Longest (λ c. not (is_newline c)) behind line rest → Items text all → Items rest all
 comment_step e h k (w.nothing m) = empty_is_not (longest_one m (at_front e (rw h refl))).1
-comment_step e h k (w.comment m i n x) =
+comment_step e h k (w.comment m i n r x) =
     let same = tails (longest_one m (at_front e (rw h refl))).1 in items_along (longest_one (longest_along same n) k).1 x
 comment_step e h k (w.closing m i f x) = absurd (omega (arith, heads (longest_one m (at_front e (rw h refl))).1, h, i))
 comment_step e h k (w.command m c x) = no_command_other (longest_one m (at_front e (rw h refl))).1 (inl h) c
@@ -87,7 +97,7 @@ comment_step e h k (w.command m c x) = no_command_other (longest_one m (at_front
 pub closing_first : {b : ℕ} {text behind : List ℕ} {all : List Item} → text ≡ b ∷ behind → b ≡ 125 → Items text all
     → (more : List Item) × (rest : List ℕ) × (all ≡ Closing ∷ more) × Ends behind rest × Items rest more
 closing_first e h (w.nothing m) = empty_is_not (longest_one m (at_front e (rw h refl))).1
-closing_first e h (w.comment m i n x) = absurd (omega (arith, heads (longest_one m (at_front e (rw h refl))).1, h, i))
+closing_first e h (w.comment m i n r x) = absurd (omega (arith, heads (longest_one m (at_front e (rw h refl))).1, h, i))
 closing_first e h (w.closing {rest = rest} {items = more} m i f x) = (more, rest, refl, ends_along (tails (longest_one m (at_front e (rw h refl))).1) f, x)
 closing_first e h (w.command m c x) = no_command_other (longest_one m (at_front e (rw h refl))).1 (inr h) c
 
@@ -96,11 +106,11 @@ closing_step : {b : ℕ} {text behind rest : List ℕ} {all : List Item} → tex
 closing_step e h k x = let one = closing_first e h x in (one.0, one.2, items_along (ends_one one.3 k) one.4)
 
 pub front_comment : {b : ℕ} {text begins behind line rest : List ℕ} {items : List Item} {depth : ℕ} → IsFront text items depth begins
-    → begins ≡ b ∷ behind → b ≡ 35 → Longest (λ c. not (is_newline c)) behind line rest → IsFront text items depth rest
+    → begins ≡ b ∷ behind → b ≡ 35 → CommentText behind line rest → IsFront text items depth rest
 front_comment {b = b} f e h k = record {
-  tail = tail_tail f.tail (tail_tail (b ∷ [], e) (tail_cut k));
-  sound = λ more x. f.sound more (w.comment (at_front e (rw h refl)) h k x);
-  only = λ all x. let one = f.only all x in (one.0, one.1, comment_step e h k one.2);
+  tail = tail_tail f.tail (tail_tail (b ∷ [], e) (tail_cut k.0));
+  sound = λ more x. f.sound more (w.comment (at_front e (rw h refl)) h k.0 k.1 x);
+  only = λ all x. let one = f.only all x in (one.0, one.1, comment_step e h k.0 one.2);
   nests = f.nests;
   nested = f.nested;
 }
@@ -127,6 +137,11 @@ front_unopened {items = items} {depth = depth} f e h none all x few once nests =
     let one = f.only all x in
     let step = closing_first e h one.2 in
     subst (λ d. Nests (Closing ∷ step.0) d) none (subst (λ t. Nests t depth) step.2 (f.nested one.0 (subst (λ t. Nests t 0) one.1 nests)))
+
+-- a comment that has a carriage return inside
+pub front_no_comment : {b : ℕ} {text begins behind : List ℕ} {items : List Item} {depth : ℕ} → IsFront text items depth begins → begins ≡ b ∷ behind
+    → b ≡ 35 → ((line rest : List ℕ) → CommentText behind line rest → ⊥) → HasNoItems text
+front_no_comment f e h none all x few once nests = let comment = comment_first e h (f.only all x).2 in none comment.0 comment.1 comment.2
 
 -- a `}` without its end
 pub front_unended : {b : ℕ} {text begins behind : List ℕ} {items : List Item} {depth : ℕ} → IsFront text items depth begins → begins ≡ b ∷ behind
@@ -158,7 +173,7 @@ pub command_first : {text : List ℕ} {all : List Item} → BeginsCommand text �
     → (a : Address) × (n : Bool) × (v : WrittenVerb) × (rest : List ℕ) × (more : List Item) × (all ≡ Written a n v ∷ more)
     × CommandText text a n v rest × Items rest more
 command_first k (w.nothing m) = empty_is_not (longest_one m (at_front k.2 k.3)).1
-command_first k (w.comment m i n x) = absurd (k.4 (heads (sym (longest_one m (at_front k.2 k.3)).1) ∙ i))
+command_first k (w.comment m i n r x) = absurd (k.4 (heads (sym (longest_one m (at_front k.2 k.3)).1) ∙ i))
 command_first k (w.closing m i f x) = absurd (k.5 (heads (sym (longest_one m (at_front k.2 k.3)).1) ∙ i))
 command_first k (w.command {rest = r} {address = a} {negated = n} {verb = v} {items = more} m c x) =
     (a, n, v, r, more, refl, command_along ((longest_one m (at_front k.2 k.3)).1 ∙ sym k.2) c, x)
@@ -274,7 +289,7 @@ front_done {text} {rest} {separators} {begins} {items} f l e =
 
 items_end : {text separators : List ℕ} {all : List Item} → Longest is_separator text separators [] → Items text all → all ≡ []
 items_end l (w.nothing m) = refl
-items_end l (w.comment m i n x) = empty_is_not (longest_one l m).1
+items_end l (w.comment m i n r x) = empty_is_not (longest_one l m).1
 items_end l (w.closing m i f x) = empty_is_not (longest_one l m).1
 items_end l (w.command m c x) = no_command_end (longest_one m l).1 c
 

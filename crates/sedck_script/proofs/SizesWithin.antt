@@ -94,7 +94,7 @@ name_size {name = name} {rest = rest} n = omega (arith, ap length n.skipped.cut,
 pub flags_file : {pattern : Pattern} {parts : List Part} {whole text rest : List ℕ} {s : Substitution} → (Contains whole 0 → ⊥) → EndsIn whole text
     → Flags pattern parts text s rest
     → AllByRecursion IsName (option_to_list s.file) × (names_size (option_to_list s.file) + length rest ≤ length text)
-flags_file zeros h (p.none e) = (tt, omega (arith, tail_length (ends_tail e)))
+flags_file zeros h (p.none e) = (tt, omega (arith, tail_length (ends_tail e.0)))
 flags_file zeros h (p.file {b = b} e n) = ((name_is zeros (tail_behind h refl) n, tt), omega (arith, name_size n))
 flags_file zeros h (p.global e f g) = let more = flags_file zeros (tail_behind h refl) f in (more.0, omega (arith, more.1))
 flags_file zeros h (p.print e f g) = let more = flags_file zeros (tail_behind h refl) f in (more.0, omega (arith, more.1))
@@ -172,7 +172,7 @@ module _ {whole : List ℕ} (few : length whole ≤ 1048576) (zeros : Contains w
     cost = omega (arith, name_size n);
   }
   verb_cheap h (w.substitute {substitution = s} b d x y z g f) =
-      let behind = tail_tail (tail_behind (tail_behind h refl) refl) (expression_tail x) in
+      let behind = tail_tail (tail_behind (tail_behind h refl) refl) (expression_tail x.cut) in
       let file = flags_file zeros (tail_tail behind (replacement_tail z)) f in
       record {
         bounded = record {
@@ -185,6 +185,6 @@ module _ {whole : List ℕ} (few : length whole ≤ 1048576) (zeros : Contains w
             rw (flags_parts f) (All-from_recursion IsPart _ (replacement_parts z)),
           );
         };
-        cost = omega (arith, file.1, tail_length (expression_tail x), tail_length (replacement_tail z));
+        cost = omega (arith, file.1, tail_length (expression_tail x.cut), tail_length (replacement_tail z));
       }
   verb_cheap h (w.transliterate b d x y l e) = plain refl refl tt (tail_length (verb_text_tail (w.transliterate b d x y l e)))

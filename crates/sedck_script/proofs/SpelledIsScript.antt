@@ -53,7 +53,7 @@ module _ {whole : List ℕ} (few : length whole ≤ 1048576) (zeros : Contains w
   items_cheap : {text : List ℕ} {items : List Item} → EndsIn whole text → Items text items
       → AllByRecursion IsBoundedItem items × (items_cost items ≤ length text)
   items_cheap h (w.nothing l) = (tt, omega arith)
-  items_cheap h (w.comment l e k x) =
+  items_cheap h (w.comment l e k r x) =
       let tail = tail_tail (tail_behind (tail_cut l) refl) (tail_cut k) in
       let more = items_cheap (tail_tail h tail) x in (more.0, omega (arith, more.1, tail_length tail))
   items_cheap h (w.closing l e k x) =

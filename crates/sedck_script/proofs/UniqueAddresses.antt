@@ -101,8 +101,8 @@ no_second x l n given negated verb rest c = second_by x l.before l.is_comma l.be
 pub place_tail : {text r : List ℕ} {q : Place} → PlaceText text q r → EndsIn text r
 place_tail (p.line n) = number_tail n
 place_tail (p.last {b = b} e) = (b ∷ [], refl)
-place_tail (p.context {b = b} e x y) = tail_cons b (expression_tail x)
-place_tail (p.custom {b = b} {delimiter = d} e i x y) = tail_cons b (tail_cons d (expression_tail x))
+place_tail (p.context {b = b} e x y) = tail_cons b (expression_tail x.cut)
+place_tail (p.custom {b = b} {delimiter = d} e i x y) = tail_cons b (tail_cons d (expression_tail x.cut))
 
 -- the tail behind a place, a comma and the blanks round it
 pub second_tail : {whole text r blanks after more front second : List ℕ} {b : ℕ} {q : Place} → EndsIn whole text → PlaceText text q r

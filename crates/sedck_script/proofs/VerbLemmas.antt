@@ -3,7 +3,7 @@ use Rattle.std.proofs.Common.{◌≡◌, ◌≢◌, ℕ, ◌≤◌, List, ◌∷
 use Rattle.std.specs.Prelude.{IsTrue}
 use Rattle.sedck_script.specs.Cuts.{is_delimiter}
 use Rattle.sedck_script.specs.Program.{Pattern, Part, Substitution, Substitute, Transliterate}
-use Rattle.sedck_script.specs.Parts.{Ends, DelimitedList, Replacement, HasGroups, greatest_group, Flags}
+use Rattle.sedck_script.specs.Parts.{Ends, DelimitedList, FirstList, Replacement, HasGroups, greatest_group, Flags}
 use Rattle.sedck_script.specs.Items.{WrittenVerb, Known, BranchTo, TestTo, Simple, VerbText, IsNoBrace}
 use Rattle.sedck_script.specs.Items as w
 use Rattle.sedck_script.specs.Private.PieceReading.{PatternText}
@@ -101,17 +101,17 @@ pub transliterate_no_lists : {d : ℕ} {text opened : List ℕ} → text ≡ d �
 transliterate_no_lists e n verb rest x = let i = transliterate_inside e x in n i.from i.to i.after i.lists
 
 -- the second of two lists, where the first is known
-second_list : {d : ℕ} {text from behind f t r : List ℕ} → d ≢ 92 → DelimitedList d text from behind → AreLists d text f t r
+second_list : {d : ℕ} {text from behind f t r : List ℕ} → d ≢ 92 → FirstList d text from behind → AreLists d text f t r
     → DelimitedList d behind t r × (length from ≡ length t)
 second_list {d} {t = t} {r = r} k x l =
-    let one = list_one k l.first x in
+    let one = list_one k l.first.list x.list in
     (subst (λ u. DelimitedList d u t r) one.1 l.second, sym (ap length one.0) ∙ l.equal)
 
-pub no_second_list : {d : ℕ} {text from behind : List ℕ} → d ≢ 92 → DelimitedList d text from behind
+pub no_second_list : {d : ℕ} {text from behind : List ℕ} → d ≢ 92 → FirstList d text from behind
     → ((bytes r : List ℕ) → DelimitedList d behind bytes r → ⊥) → (f t r : List ℕ) → AreLists d text f t r → ⊥
 no_second_list k x n f t r l = n t r (second_list k x l).0
 
-pub unequal_lists : {d : ℕ} {text from behind to after : List ℕ} → d ≢ 92 → DelimitedList d text from behind → DelimitedList d behind to after
+pub unequal_lists : {d : ℕ} {text from behind to after : List ℕ} → d ≢ 92 → FirstList d text from behind → DelimitedList d behind to after
     → length from ≢ length to → (f t r : List ℕ) → AreLists d text f t r → ⊥
 unequal_lists k x y n f t r l = let s = second_list k x l in n (s.1 ∙ ap length (list_one k s.0 y).0)
 
@@ -123,4 +123,4 @@ pub transliterate_no_end : {d : ℕ} {text opened from to after : List ℕ} → 
 transliterate_no_end k e l n verb rest x = let i = transliterate_inside e x in n rest (subst (λ t. Ends t rest) (lists_one k l i.lists) i.ends)
 
 pub lists_tail : {d : ℕ} {text from to rest : List ℕ} → AreLists d text from to rest → EndsIn text rest
-lists_tail l = tail_tail (list_tail l.first) (list_tail l.second)
+lists_tail l = tail_tail (list_tail l.first.list) (list_tail l.second)

@@ -15,6 +15,7 @@ pub mod Spelling
 pub mod Items
 pub mod Resolution
 pub mod Locations
+pub mod BracketLists
 pub mod Parts
 pub mod Cuts
 pub mod References

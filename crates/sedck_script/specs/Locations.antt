@@ -15,7 +15,7 @@ location_of {text = text} {rest = rest} size here =
 -- The locations of the commands among the items of a text, in order. The size is that of the whole text, which this one ends.
 abbrev pub locations_of : {text : List ℕ} {items : List Item} → ℕ → Items text items → List Location
 locations_of size (nothing run) = []
-locations_of size (comment run is_hash line more) = locations_of size more
+locations_of size (comment run is_hash line no_return more) = locations_of size more
 locations_of size (closing run is_brace ends more) = locations_of size more
 locations_of size (command run here more) = location_of size here ∷ locations_of size more
 

@@ -1,5 +1,5 @@
 -- What a user sees of the code's types: no pointers and no capacities.
-use Rattle.std.specs.Prelude.{List, map}
+use Rattle.std.specs.Prelude.{map}
 use Rattle.std.specs.Option.{option_copied}
 use Rattle.sedck_script.specs.Program as clean
 pub use Rattle.sedck_script.specs.ReplacementView.{pattern_of, part_of}

@@ -1,17 +1,19 @@
 //! Parts between delimiters.
 
 ghost use Rattle.std.specs.Prelude.{◌≡◌, ◌≢◌, ◌<◌, ◌∷◌, ℕ, List, IsTrue, IfOk, IfErr};
+ghost use Rattle.sedck_bre.specs.Bytes.{letter_y};
 ghost use Rattle.sedck_bre.specs.Faults.{IsOfText};
 ghost use Rattle.sedck_script.specs.Cuts.{is_delimiter};
-ghost use Rattle.sedck_script.specs.Parts.{DelimitedExpression, DelimitedList};
+ghost use Rattle.sedck_script.specs.Parts.{DelimitedExpression, begins_firmly, has_loose_quote, is_misread, ExpressionText, DelimitedList, FirstList};
 ghost use Rattle.sedck_script.specs.Faults.{IsRefusedExpression};
 ghost use Rattle.sedck_script.specs.Private.Reading.{EndsIn};
 ghost use Rattle.sedck_script.specs.Program as clean;
 ghost use Rattle.sedck_script.specs.View.{pattern_of};
-ghost use Rattle.sedck_script.specs.Private.PieceReading.{IsPiece, PatternText, IsPartPlaced, list_escape};
+ghost use Rattle.sedck_script.specs.Private.PieceReading.{IsPiece, PatternText, IsFirstEscape, IsPartPlaced, list_escape};
 ghost use Rattle.sedck_script.specs.declared.delimited.Piece.{Piece};
 
-use crate::bytes::can_be_escaped;
+use crate::bracket_lists::open_bracket;
+use crate::bytes::{can_be_escaped, is_digit, is_letter};
 use crate::fault::ScriptFault;
 use crate::script::Pattern;
 use sedck_bre::{ReFault, parse};
@@ -81,29 +83,34 @@ fn list_escape(b: u8) -> Option<u8>
     }
 }
 
-/// The expression up to the first delimiter that no backslash escapes, with the escaped delimiters replaced, and what
-/// stands behind it.
+/// The expression up to the first delimiter that no backslash escapes, with the escaped delimiters replaced, the place of the
+/// first of these, and what stands behind the expression.
 fn delimited_expression<'a>(
     alloc: Global,
     whole: &[u8],
     opening: usize,
     delimiter: u8,
     text: &'a [u8],
-) -> Result<(Vec<u8>, &'a [u8]), ScriptFault>
+) -> Result<(Vec<u8>, Option<usize>, &'a [u8]), ScriptFault>
     requires delimiter { IsTrue (is_delimiter delimiter) }
     requires tail { EndsIn whole.now text.now }
-    ensures read { IfOk result (λ x. DelimitedExpression delimiter text.now x.0.items x.1.now) }
+    ensures read { IfOk result (λ x. DelimitedExpression delimiter text.now x.0.items x.2.now) }
+    ensures escape { IfOk result (λ x. IsFirstEscape delimiter whole.now text.now x.0.items (delimiter ∷ x.2.now) x.1) }
     ensures refused { IfErr result (λ fault. fault ≢ ScriptFault.OutOfMemory → (expression : List ℕ) (rest : List ℕ) → DelimitedExpression delimiter text.now expression rest → ⊥) }
     ensures placed { IfErr result (λ fault. IsPartPlaced opening whole.now fault) }
 {
     let mut bytes = Vec::new(alloc);
+    let mut escape = None;
     let mut rest = text;
     loop {
         let (piece, behind) = piece_at(whole, opening, delimiter, rest)?;
         match piece {
-            Piece::End => return Ok((bytes, behind)),
+            Piece::End => return Ok((bytes, escape, behind)),
             Piece::Byte(b) => bytes.push(b)?,
-            Piece::Escaped => bytes.push(delimiter)?,
+            Piece::Escaped => {
+                escape = escape.or(Some(whole.len() - rest.len()));
+                bytes.push(delimiter)?;
+            }
             Piece::Pair(b) => {
                 if b == b'\n' {
                     return Err(ScriptFault::Unterminated { place: opening });
@@ -114,6 +121,67 @@ fn delimited_expression<'a>(
         }
         rest = behind;
     }
+}
+
+/// Whether a quote is in the text, and what is right behind it may be left out.
+fn has_loose_quote(text: &[u8]) -> bool
+    ensures { result ≡ has_loose_quote text.now }
+{
+    let mut rest = text;
+    'quotes: while let [first, behind @ ..] = rest {
+        if *first == b'\'' && !begins_firmly(behind) {
+            return true;
+        }
+        rest = behind;
+    }
+    false
+}
+
+/// Whether the text begins with a byte that a match must have.
+fn begins_firmly(text: &[u8]) -> bool
+    ensures { result ≡ begins_firmly text.now }
+{
+    match text {
+        [] => false,
+        [b] => is_letter(*b) || is_digit(*b),
+        [b, next, ..] => (is_letter(*b) || is_digit(*b)) && !matches!(*next, b'*' | b'\\'),
+    }
+}
+
+/// Whether some sed reads an escaped delimiter of the expression otherwise.
+fn is_misread(delimiter: u8, expression: &[u8]) -> bool
+    ensures { result ≡ is_misread delimiter expression.now }
+{
+    match delimiter {
+        b'x' => expression.contains(&b'['),
+        b':' | b'=' => expression.contains(&b'[') && expression.contains(&b'\\'),
+        b'\'' => has_loose_quote(expression),
+        _ => false,
+    }
+}
+
+/// The expression up to the first delimiter that no backslash escapes, and what stands behind it. Where some sed reads an escaped
+/// delimiter otherwise, none is read.
+fn expression_text<'a>(
+    alloc: Global,
+    whole: &[u8],
+    opening: usize,
+    delimiter: u8,
+    text: &'a [u8],
+) -> Result<(Vec<u8>, &'a [u8]), ScriptFault>
+    requires delimiter { IsTrue (is_delimiter delimiter) }
+    requires opened { EndsIn whole.now (delimiter ∷ text.now) }
+    ensures read { IfOk result (λ x. ExpressionText delimiter text.now x.0.items x.1.now) }
+    ensures refused { IfErr result (λ fault. fault ≢ ScriptFault.OutOfMemory → (expression : List ℕ) (rest : List ℕ) → ExpressionText delimiter text.now expression rest → ⊥) }
+    ensures placed { IfErr result (λ fault. IsPartPlaced opening whole.now fault) }
+{
+    let (bytes, escape, rest) = delimited_expression(alloc, whole, opening, delimiter, text)?;
+    if let Some(place) = escape {
+        if is_misread(delimiter, &bytes) {
+            return Err(ScriptFault::EscapedDelimiter { place });
+        }
+    }
+    Ok((bytes, rest))
 }
 
 /// The fault of an expression that begins at the place.
@@ -142,7 +210,7 @@ pub fn pattern<'a>(
     ensures refused { IfErr result (λ fault. fault ≢ ScriptFault.OutOfMemory → (p : clean.Pattern) (rest : List ℕ) → PatternText delimiter text.now p rest → ⊥) }
     ensures placed { IfErr result (λ fault. IsPartPlaced opening whole.now fault) }
 {
-    let (bytes, rest) = delimited_expression(alloc, whole, opening, delimiter, text)?;
+    let (bytes, rest) = expression_text(alloc, whole, opening, delimiter, text)?;
     if bytes.is_empty() {
         return Ok((Pattern::Previous, rest));
     }
@@ -188,4 +256,28 @@ pub fn delimited_list<'a>(
         }
         rest = behind;
     }
+}
+
+/// The first list of a `y` command, in which no bracket list is left open, and what follows it.
+pub fn first_list<'a>(
+    alloc: Global,
+    whole: &[u8],
+    opening: usize,
+    delimiter: u8,
+    text: &'a [u8],
+) -> Result<(Vec<u8>, &'a [u8]), ScriptFault>
+    requires delimiter { IsTrue (is_delimiter delimiter) }
+    requires opened { EndsIn whole.now (letter_y ∷ delimiter ∷ text.now) }
+    ensures read { IfOk result (λ x. FirstList delimiter text.now x.0.items x.1.now) }
+    ensures refused { IfErr result (λ fault. fault ≢ ScriptFault.OutOfMemory → (bytes : List ℕ) (rest : List ℕ) → FirstList delimiter text.now bytes rest → ⊥) }
+    ensures placed { IfErr result (λ fault. IsPartPlaced opening whole.now fault) }
+{
+    let (bytes, rest) = delimited_list(alloc, whole, opening, delimiter, text)?;
+    let (written, _) = text.split_at(text.len() - rest.len() - 1);
+    if let Some(more) = open_bracket(written) {
+        return Err(ScriptFault::BadTransliteration {
+            place: whole.len() - rest.len() - more.len() - 2,
+        });
+    }
+    Ok((bytes, rest))
 }

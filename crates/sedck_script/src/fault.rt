@@ -28,13 +28,15 @@ pub enum ScriptFault {
     BadReplacement { place: usize },
     /// A flag that is unknown or repeated, or a number 0 or above 4,294,967,295, as in `s/a/b/I`. Place: the flag.
     BadFlag { place: usize },
-    /// Another escape in a list of `y`, or lists of different lengths, as in `y/a/bc/`. Place: the backslash, or the verb.
+    /// Another escape in a list of `y`, lists of different lengths, as in `y/a/bc/`, or a bracket list that is open at the end of
+    /// the first one, as in `y/[/a/`. Place: the backslash, the verb, or the `[`.
     BadTransliteration { place: usize },
     /// No text for `a`, `c` or `i`. Place: the verb.
     MissingText { place: usize },
     /// No file name, as in `s/a/b/w`. Place: the verb, or the flag `w`.
     MissingName { place: usize },
-    /// No label after `:`, or a byte that no label may hold. Place: where the label is due, or that byte.
+    /// No label after `:`, a byte that no label may hold, or a comment that some seds take for a label or for a part of one. Place:
+    /// where the label is due, that byte, or right behind the label.
     BadLabel { place: usize },
     /// A label is defined again, as in `:a;:a`. Place: the second one.
     DuplicateLabel { place: usize },
@@ -48,11 +50,12 @@ pub enum ScriptFault {
     TooDeep { place: usize },
     /// The 4,096th command. Place: its verb.
     TooManyCommands { place: usize },
-    /// A byte that may not follow a command, as in `p p`. Place: that byte.
+    /// A byte that may not follow a command, as in `p p`, or a carriage return inside a comment. Place: that byte.
     ExtraText { place: usize },
     /// An empty expression in a script where every one is empty, as in `s//x/`. Place: after its opening delimiter.
     NoPreviousExpression { place: usize },
-    /// A backslash before a delimiter that can't be escaped. Place: the backslash.
+    /// A backslash before a delimiter that can't be escaped, or before the delimiter `x` in an expression that has a `[`, as in
+    /// `sx[\xa]xyx`. Place: the backslash, of several the first.
     EscapedDelimiter { place: usize },
     /// A growth was refused.
     OutOfMemory,

@@ -8,9 +8,9 @@ ghost use Rattle.sedck_script.specs.Private.Reading.{EndsIn};
 ghost use Rattle.sedck_script.specs.Private.FlagReading.{IsFlag, with_flags};
 
 use crate::bytes::{is_blank, is_digit, is_ending};
-use crate::ends::end_of_command;
+use crate::ends::end_of_flags;
 use crate::fault::ScriptFault;
-use crate::names::name;
+use crate::names::{name, name_fault};
 use crate::numbers::number;
 
 /// The flags of a substitution but its file.
@@ -50,7 +50,7 @@ fn flag_at<'a>(whole: &[u8], text: &'a [u8]) -> Result<(Flag<'a>, &'a [u8]), Scr
     }
     if *first == b'w' {
         let Some((name, rest)) = name(behind) else {
-            return Err(ScriptFault::MissingName { place });
+            return Err(name_fault(whole, place, behind));
         };
         return Ok((Flag::File(name), rest));
     }
@@ -63,7 +63,7 @@ fn flag_at<'a>(whole: &[u8], text: &'a [u8]) -> Result<(Flag<'a>, &'a [u8]), Scr
     if !is_blank(*first) && !is_ending(*first) {
         return Err(ScriptFault::BadFlag { place });
     }
-    let rest = end_of_command(whole, text)?;
+    let rest = end_of_flags(whole, text)?;
     Ok((Flag::End, rest))
 }
 

@@ -13,10 +13,10 @@ ghost use Rattle.sedck_script.specs.Private.ItemReading.{item_of, verb_turn, loc
 
 use crate::bytes::separators_len;
 use crate::commands::command_at;
+use crate::comments::comment;
 use crate::ends::end_of_command;
 use crate::fault::ScriptFault;
 use crate::label_places::add_label;
-use crate::names::split_line;
 use crate::verbs::Written;
 use crate::written::{WrittenCommand, WrittenItem};
 use indexmap::IndexMap;
@@ -171,8 +171,7 @@ fn next_item<'a>(
     ensures placed { IfErr result (λ fault. IsPlaced text.now fault) }
 {
     if first == b'#' {
-        let (_, rest) = split_line(behind);
-        return Ok(rest);
+        return comment(text, behind);
     }
     if first == b'}' {
         return close_block(text, begins, behind, progress);

@@ -1,10 +1,10 @@
 //! Labels behind `:`, `b` and `t`.
 
-ghost use Rattle.std.specs.Prelude.{◌≡◌, ◌<◌, ◌+◌, ℕ, Bool, List, Option, length, option_copied, IfOk, IfErr, OnOk};
+ghost use Rattle.std.specs.Prelude.{◌≡◌, ◌<◌, ◌+◌, ℕ, Bool, false, List, Option, length, option_copied, IfOk, IfErr, OnOk};
 ghost use Rattle.sedck_bre.specs.Text.{one_of};
-ghost use Rattle.sedck_script.specs.Cuts.{is_blank, is_ending, is_label_byte, Longest};
+ghost use Rattle.sedck_script.specs.Cuts.{is_ending, is_label_byte, IsEmptyOr, Longest};
 ghost use Rattle.sedck_script.specs.Parts.{Ends, LabelText};
-ghost use Rattle.sedck_script.specs.Items.{IsNoComment, IsNoBrace};
+ghost use Rattle.sedck_script.specs.Items.{IsNoComment, IsNoBrace, EndsJump, begins_braced_comment};
 ghost use Rattle.sedck_script.specs.Faults.{IsLabelBehind, IsPlaced};
 ghost use Rattle.sedck_script.specs.Private.Reading.{IsLabelAt, IsLabelPlace};
 ghost use Rattle.sedck_script.specs.Private.LabelReading.{BranchText, IsBehindVerb, IsBehindLabel};
@@ -86,21 +86,50 @@ fn check_behind_label(whole: &[u8], behind: &[u8]) -> Result<(), ScriptFault>
     Ok(())
 }
 
-/// Whether a branch without a label ends here, behind its blanks. A comment needs one of them.
-fn check_no_label(whole: &[u8], text: &[u8], begins: &[u8]) -> Result<(), ScriptFault>
+/// Whether one or more `}` begin the text, and a `#` is right behind them.
+fn begins_braced_comment(text: &[u8]) -> bool
+    ensures { result ≡ begins_braced_comment text.now }
+{
+    let mut rest = text;
+    'braces: while let [b'}', behind @ ..] = rest {
+        if behind.starts_with(b"#") {
+            return true;
+        }
+        rest = behind;
+    }
+    false
+}
+
+/// The rest of the text from the end of a branch with a label on. Some seds take a `}` right behind the label for a part of it, and
+/// a comment behind that too.
+fn end_of_jump<'a>(whole: &[u8], behind: &'a [u8]) -> Result<&'a [u8], ScriptFault>
+    requires { IsBehindLabel whole.now behind.now }
+    ensures read { IfOk result (λ rest. EndsJump behind.now rest.now) }
+    ensures refused { IfErr result (λ fault. (rest : List ℕ) → EndsJump behind.now rest → ⊥) }
+    ensures placed { IfErr result (λ fault. IsPlaced whole.now fault) }
+{
+    let rest = end_of_command(whole, behind)?;
+    if begins_braced_comment(rest) {
+        return Err(ScriptFault::BadLabel {
+            place: whole.len() - behind.len(),
+        });
+    }
+    Ok(rest)
+}
+
+/// Whether a branch without a label may end here, behind its blanks. A comment may not follow, since some seds take it for a
+/// label.
+fn check_no_label(whole: &[u8], begins: &[u8]) -> Result<(), ScriptFault>
     requires behind { IsBehindLabel whole.now begins.now }
-    requires blanks { (blanks : List ℕ) × Longest is_blank text.now blanks begins.now }
-    ensures allowed { OnOk result (IsNoComment text.now × Ends text.now begins.now) }
-    ensures refused { IfErr result (λ fault. (rest : List ℕ) → IsNoComment text.now → Ends text.now rest → ⊥) }
+    ensures allowed { OnOk result (IsNoComment begins.now × IsEmptyOr is_ending begins.now × (begins_braced_comment begins.now ≡ false)) }
+    ensures refused { IfErr result (λ fault. IsNoComment begins.now → IsEmptyOr is_ending begins.now → begins_braced_comment begins.now ≡ false → ⊥) }
     ensures placed { IfErr result (λ fault. IsPlaced whole.now fault) }
 {
     if let [next, ..] = begins {
-        let place = whole.len() - begins.len();
-        if !is_ending(*next) {
-            return Err(ScriptFault::BadLabel { place });
-        }
-        if *next == b'#' && begins.len() == text.len() {
-            return Err(ScriptFault::BadLabel { place });
+        if !is_ending(*next) || *next == b'#' || begins_braced_comment(begins) {
+            return Err(ScriptFault::BadLabel {
+                place: whole.len() - begins.len(),
+            });
         }
     }
     Ok(())
@@ -119,10 +148,10 @@ pub fn branch_label<'a>(
 {
     let (name, place, behind) = label_parts(whole, text);
     if name.is_empty() {
-        check_no_label(whole, text, behind)?;
+        check_no_label(whole, behind)?;
         return Ok((None, place, behind));
     }
     check_behind_label(whole, behind)?;
-    let rest = end_of_command(whole, behind)?;
+    let rest = end_of_jump(whole, behind)?;
     Ok((Some(name), place, rest))
 }

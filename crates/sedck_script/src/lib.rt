@@ -18,8 +18,10 @@
 #![tactic(auto)]
 
 mod addresses;
+mod bracket_lists;
 mod bytes;
 mod commands;
+mod comments;
 mod delimited;
 mod ends;
 mod expressions;

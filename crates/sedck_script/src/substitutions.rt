@@ -12,7 +12,7 @@ ghost use Rattle.sedck_script.specs.Private.VerbReading.{AreLists};
 ghost use Rattle.sedck_script.specs.View.{verb_of};
 
 use crate::bytes::is_delimiter;
-use crate::delimited::{delimited_list, pattern};
+use crate::delimited::{delimited_list, first_list, pattern};
 use crate::ends::end_of_command;
 use crate::fault::ScriptFault;
 use crate::flags::flags;
@@ -81,13 +81,13 @@ fn equal_lists<'a>(
     text: &'a [u8],
 ) -> Result<(Vec<u8>, Vec<u8>, &'a [u8]), ScriptFault>
     requires delimiter { IsTrue (is_delimiter delimiter) }
-    requires tail { EndsIn whole.now text.now }
+    requires opened { EndsIn whole.now (letter_y ∷ delimiter ∷ text.now) }
     requires stands { StandsAt whole.now place letter_y }
     ensures read { IfOk result (λ x. AreLists delimiter text.now x.0.items x.1.items x.2.now) }
     ensures refused { IfErr result (λ fault. fault ≢ ScriptFault.OutOfMemory → (from to rest : List ℕ) → AreLists delimiter text.now from to rest → ⊥) }
     ensures placed { IfErr result (λ fault. IsPartPlaced place whole.now fault) }
 {
-    let (from, behind) = delimited_list(alloc, whole, place, delimiter, text)?;
+    let (from, behind) = first_list(alloc, whole, place, delimiter, text)?;
     let (to, rest) = delimited_list(alloc, whole, place, delimiter, behind)?;
     if from.len() != to.len() {
         return Err(ScriptFault::BadTransliteration { place });

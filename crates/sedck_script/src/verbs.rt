@@ -15,7 +15,7 @@ use crate::ends::end_of_command;
 use crate::fault::ScriptFault;
 use crate::label_places::place_of;
 use crate::labels::{branch_label, defined_label};
-use crate::names::name;
+use crate::names::{name, name_fault};
 use crate::script::Verb;
 use crate::substitutions::{substitution, transliteration};
 use crate::texts::given_text;
@@ -89,18 +89,20 @@ fn text_verb<'a>(
 
 /// The file behind one of `r` and `w`, and the rest of the script from the end of its line on.
 fn file_verb<'a>(
+    whole: &[u8],
     place: usize,
     verb: u8,
     text: &'a [u8],
 ) -> Result<(Verb<'a>, &'a [u8]), ScriptFault>
-    requires { IsTrue (one_of "rw" verb) }
+    requires verb { IsTrue (one_of "rw" verb) }
+    requires tail { EndsIn whole.now text.now }
     ensures read { IfOk result (λ x. VerbText (verb ∷ text.now) (Known (verb_of x.0)) x.1.now) }
     ensures plain { IfOk result (λ x. (name : List ℕ) → verb_of x.0 ≢ clean.Label name) }
     ensures refused { IfErr result (λ fault. (written : WrittenVerb) (rest : List ℕ) → VerbText (verb ∷ text.now) written rest → ⊥) }
-    ensures placed { IfErr result (λ fault. fault ≡ ScriptFault.MissingName place) }
+    ensures placed { IfErr result (λ fault. (fault ≡ ScriptFault.MissingName place) ⊎ IsPlaced whole.now fault) }
 {
     let Some((name, rest)) = name(text) else {
-        return Err(ScriptFault::MissingName { place });
+        return Err(name_fault(whole, place, text));
     };
     if verb == b'r' {
         return Ok((Verb::Read(name), rest));
@@ -153,7 +155,7 @@ fn known_verb<'a>(
         return text_verb(place, verb, text);
     }
     if b"rw".contains(&verb) {
-        return file_verb(place, verb, text);
+        return file_verb(whole, place, verb, text);
     }
     if verb == b's' {
         return substitution(alloc, whole, place, text);

@@ -1,14 +1,18 @@
 -- How the code's values stand to what is read of a bracket list.
-use Rattle.std.specs.Prelude.{◌≡◌, ℕ, ◌+◌, not, Bool, true, List, ◌++◌, codes, length, drop, nat_eq, if◌then◌else◌, Option, Some, None, Result, Ok, Err}
+use Rattle.std.specs.Prelude.{◌≡◌, ℕ, ◌+◌, not, Bool, true, List, ◌++◌, codes, length, drop, nat_eq, IsTrue, if◌then◌else◌, Option, Some, None, Result, Ok, Err}
 use Rattle.std.specs.List.{list_any, starts_with}
+use Rattle.sedck_bre.specs.Text.{begins}
 use Rattle.sedck_bre.specs.Brackets as brackets
 use Rattle.sedck_bre.specs.Brackets.{class_name, in_element}
 use Rattle.sedck_bre.specs.Private.Reading.{◌>>=◌}
-use Rattle.sedck_bre.specs.Private.BracketReading.{elements_at, set_of}
+use Rattle.sedck_bre.specs.Private.BracketReading.{elements_at, clear_of, set_of}
+use Rattle.sedck_bre.specs.Private.FullReading.{IsTail}
 use Rattle.sedck_bre.specs.Private.Sets.{HasJust}
 use Rattle.sedck_bre.specs.declared.element.Class.{Class}
 use Rattle.sedck_bre.specs.declared.element.Class.TheVariants.{Upper, Lower, Alpha, Digit, Alnum, Xdigit, Space, Blank, Punct, Graph, Print, Cntrl}
 use Rattle.sedck_bre.specs.declared.element.Element.{Element}
+use Rattle.sedck_bre.specs.declared.symbol.Flaw.{Flaw}
+use Rattle.sedck_bre.specs.declared.symbol.Flaw.TheVariants.{Unclosed, Bad, Escape}
 use Rattle.sedck_bre.specs.declared.element.Element.TheVariants.{One, Range, Members}
 
 abbrev pub class_of : Class → brackets.Class
@@ -43,6 +47,16 @@ abbrev pub Reads : {X Y E : Type 0} → (X → Y) → Result X E → Option Y �
 Reads view (Ok x) read = read ≡ Some (view x)
 Reads view (Err flaw) read = read ≡ None
 
+-- an element is flawed, and not by an escape
+abbrev pub HasNoEscape : Flaw → Type 0
+HasNoEscape (Escape left) = ⊥
+HasNoEscape _ = Unit {0}
+
+-- where a refused escape is in the text: at a backslash, from which so many bytes are left
+abbrev pub IsFlawIn : List ℕ → Flaw → Type 0
+IsFlawIn text (Escape left) = (rest : List ℕ) × IsTail text rest × (length rest ≡ left) × IsTrue (begins "\\" rest)
+IsFlawIn text _ = Unit {0}
+
 -- a byte of one of the elements
 abbrev pub is_of : List brackets.Element → ℕ → Bool
 is_of es b = list_any (in_element b) es
@@ -61,4 +75,4 @@ signed complement test b = if complement then not (test b) else test b
 
 -- the set of the elements, or its complement, up to the closing bracket, and what follows it
 abbrev pub set_at : Bool → List ℕ → Option (List ℕ × List ℕ)
-set_at complement text = elements_of true text >>= set_of complement
+set_at complement text = elements_of true text >>= clear_of text >>= set_of complement

@@ -1,13 +1,13 @@
 -- A way to read a bracket list.
-use Rattle.std.specs.Prelude.{ℕ, zero, suc, ◌+◌, ◌^◌, ◌==◌, nat_eq, nat_le, Bool, true, false, not, ◌&&◌, if◌then◌else◌, List, [], ◌∷◌, ◌++◌, length, drop, Option, Some, None, codes}
+use Rattle.std.specs.Prelude.{ℕ, zero, suc, ◌+◌, ◌-◌, ◌^◌, ◌==◌, nat_eq, nat_le, Bool, true, false, not, ◌&&◌, if◌then◌else◌, List, [], ◌∷◌, ◌++◌, length, take, drop, Option, Some, None, codes}
 use Rattle.std.specs.List.{list_any, starts_with}
 use Rattle.sedck_bre.specs.Text.{begins}
-use Rattle.sedck_bre.specs.Brackets.{Class, upper, lower, alpha, digit, alnum, xdigit, space, blank, punct, graph, print, cntrl, class_name, Element, One, Range, Members, is_listed}
+use Rattle.sedck_bre.specs.Brackets.{Class, upper, lower, alpha, digit, alnum, xdigit, space, blank, punct, graph, print, cntrl, class_name, Element, One, Range, Members, is_mistakable, is_listed}
 use Rattle.sedck_bre.specs.Private.Reading.{◌>>=◌}
 
--- one byte, a mark and a `]`
+-- one byte that isn't the mark, the mark and a `]`
 abbrev pub symbol_at : ℕ → List ℕ → Option (ℕ × List ℕ)
-symbol_at mark (c ∷ d ∷ e ∷ text) = if (d == mark) && (e == 93) then Some (c, text) else None
+symbol_at mark (c ∷ d ∷ e ∷ text) = if not (c == mark) && ((d == mark) && (e == 93)) then Some (c, text) else None
 symbol_at mark _ = None
 
 -- the byte that a bracket c begins, from what follows the bracket
@@ -16,7 +16,11 @@ opened_at c text = if begins "." text then symbol_at 46 (drop 1 text) else if be
 
 -- the byte that a backslash c begins, from what follows the backslash
 abbrev pub escaped_at : ℕ → List ℕ → Option (ℕ × List ℕ)
-escaped_at c text = if begins "n" text then Some (10, drop 1 text) else if begins "\\" text then Some (92, drop 1 text) else Some (c, text)
+escaped_at c text =
+    if begins "cdox" text then None
+    else if begins "n" text then Some (10, drop 1 text)
+    else if begins "\\" text then Some (92, drop 1 text)
+    else Some (c, text)
 
 -- a byte: itself, `\n`, `\\` or `[.c.]`
 abbrev pub byte_at : List ℕ → Option (ℕ × List ℕ)
@@ -98,11 +102,19 @@ abbrev pub set_of : Bool → List Element × List ℕ → Option (List ℕ × Li
 set_of complement (es, text) =
     if list_any (λ w. not (w == 0)) (words_of (is_listed complement es)) then Some (words_of (is_listed complement es), text) else None
 
+-- the text of the elements, up to the closing bracket before the rest
+abbrev pub inside_of : List ℕ → List ℕ → List ℕ
+inside_of text rest = take (length text - length rest - 1) text
+
+-- the elements of the text, if their list isn't mistakable
+abbrev pub clear_of : List ℕ → List Element × List ℕ → Option (List Element × List ℕ)
+clear_of text (es, rest) = if is_mistakable (inside_of text rest) then None else Some (es, rest)
+
 -- what follows the opening bracket
 abbrev pub inside_at : List ℕ → Option (List ℕ × List ℕ)
 inside_at text =
-    if begins "^" text then (elements_at (length text) true (drop 1 text) >>= set_of true)
-    else (elements_at (length text + 1) true text >>= set_of false)
+    if begins "^" text then (elements_at (length text) true (drop 1 text) >>= clear_of (drop 1 text) >>= set_of true)
+    else (elements_at (length text + 1) true text >>= clear_of text >>= set_of false)
 
 -- a whole bracket list with a member
 unfoldable pub bracket_at : List ℕ → Option (List ℕ × List ℕ)

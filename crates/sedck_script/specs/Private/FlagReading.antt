@@ -1,7 +1,7 @@
 -- What the readers of flags say of what they read.
 use Rattle.std.specs.Prelude.{◌≡◌, ℕ, List, ◌∷◌, Option}
 use Rattle.sedck_script.specs.Program.{Pattern, Part, Substitution}
-use Rattle.sedck_script.specs.Parts.{Ends, Number, Name}
+use Rattle.sedck_script.specs.Parts.{EndsFlags, Number, Name}
 use Rattle.sedck_script.specs.declared.flags.Seen.{Seen}
 use Rattle.sedck_script.specs.declared.flags.Flag.{Flag}
 use Rattle.sedck_script.specs.declared.flags.Flag.TheVariants as flag
@@ -12,7 +12,7 @@ IsFlag text flag.Global rest = text ≡ 103 ∷ rest
 IsFlag text flag.Print rest = text ≡ 112 ∷ rest
 IsFlag text (flag.Nth n) rest = Number text n rest
 IsFlag text (flag.File name) rest = (behind : List ℕ) × (text ≡ 119 ∷ behind) × Name behind name.now rest
-IsFlag text flag.End rest = Ends text rest
+IsFlag text flag.End rest = EndsFlags text rest
 
 -- the substitution with these flags
 abbrev pub with_flags : Pattern → List Part → Seen → Option (List ℕ) → Substitution

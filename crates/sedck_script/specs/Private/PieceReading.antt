@@ -1,8 +1,8 @@
 -- What the readers of delimited parts say of what they read.
-use Rattle.std.specs.Prelude.{◌≡◌, ◌≢◌, ℕ, ◌==◌, List, ◌∷◌, Option, Some, None, IsTrue, if◌then◌else◌}
+use Rattle.std.specs.Prelude.{◌≡◌, ◌≢◌, ℕ, ◌==◌, List, ◌∷◌, ◌++◌, drop, Option, Some, None, IsTrue, if◌then◌else◌}
 use Rattle.sedck_script.specs.Cuts.{newline, backslash, can_be_escaped}
 use Rattle.sedck_script.specs.Program.{Pattern}
-use Rattle.sedck_script.specs.Parts.{DelimitedExpression, IsPattern}
+use Rattle.sedck_script.specs.Parts.{ExpressionText, IsPattern}
 use Rattle.sedck_script.specs.Faults.{IsPlaced}
 use Rattle.sedck_script.specs.declared.fault.ScriptFault.{ScriptFault}
 use Rattle.sedck_script.specs.declared.fault.ScriptFault.TheVariants as fault
@@ -18,7 +18,15 @@ IsPiece delimiter text (piece.Pair b) rest = (text ≡ backslash ∷ b ∷ rest)
 
 -- a pattern behind its opening delimiter, and what follows it
 abbrev pub PatternText : ℕ → List ℕ → Pattern → List ℕ → Type 0
-PatternText delimiter text pattern rest = (expression : List ℕ) × DelimitedExpression delimiter text expression rest × IsPattern expression pattern
+PatternText delimiter text pattern rest = (expression : List ℕ) × ExpressionText delimiter text expression rest × IsPattern expression pattern
+
+-- These bytes of an expression have been read of the text, and rest is left: its first escaped delimiter is at the place in the
+-- whole, or there is none, and the text has the very bytes.
+pub data IsFirstEscape (delimiter : ℕ) (whole text : List ℕ) : List ℕ → List ℕ → Option ℕ → Type 0 where
+  as_written : {bytes rest : List ℕ} → text ≡ bytes ++ rest → IsFirstEscape delimiter whole text bytes rest None
+  escaped : {bytes rest : List ℕ} {place : ℕ} (front behind more : List ℕ) → text ≡ front ++ backslash ∷ delimiter ∷ behind
+      → bytes ≡ front ++ delimiter ∷ more → drop place whole ≡ backslash ∷ delimiter ∷ behind
+      → IsFirstEscape delimiter whole text bytes rest (Some place)
 
 -- what a backslash and this byte mean in a list of `y`
 abbrev pub list_escape : ℕ → Option ℕ

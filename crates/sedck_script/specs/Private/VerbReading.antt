@@ -3,7 +3,7 @@ use Rattle.std.specs.Prelude.{◌≡◌, ℕ, List, length, Some, option_copied}
 use Rattle.std.specs.Borrow.{Bor}
 use Rattle.std.specs.HashMap.{HashMap}
 use Rattle.sedck_script.specs.Program.{Label}
-use Rattle.sedck_script.specs.Parts.{DelimitedList}
+use Rattle.sedck_script.specs.Parts.{DelimitedList, FirstList}
 use Rattle.sedck_script.specs.Items.{WrittenVerb, Known, BranchTo, TestTo, Opening}
 use Rattle.sedck_script.specs.View.{verb_of}
 use Rattle.sedck_script.specs.Private.Reading.{label_place, IsLabelPlace}
@@ -29,7 +29,7 @@ IsWrittenAt text code.Opening = Unit {0}
 -- two lists behind the delimiter of a `y`, equally long
 pub record AreLists (delimiter : ℕ) (text from to rest : List ℕ) : Type 0 where
   pub behind : List ℕ
-  pub first : DelimitedList delimiter text from behind
+  pub first : FirstList delimiter text from behind
   pub second : DelimitedList delimiter behind to rest
   pub equal : length from ≡ length to
 

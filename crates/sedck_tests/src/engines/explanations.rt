@@ -3,7 +3,7 @@ use super::fakes::{Given, Kept, sink_with, source_of};
 use super::{AMPLE, LOOP, LOOP_TEXT};
 use crate::texts::{require, require_bytes, require_count};
 use sedck_cli::{Input, RunFault};
-use sedck_explain_cli::{Format, Style, explain_alone, explain_with};
+use sedck_explain_cli::{Denied, Format, Style, explain_alone, explain_with};
 use std::alloc::Global;
 use std::process::Abort;
 
@@ -19,7 +19,7 @@ static ALONE: [(&'static str, u8, &'static str); 4] = [
     (
         "p;q9",
         2,
-        "f:1:4: error: this may not follow a command [extra-text]\nf:1:4: note: hint: end each command by a newline or a `;`\n",
+        "f:1:4: error: this may not follow a command [extra-text]\nf:1:4: note: hint: an exit status of `q` and a width of `l` are extensions of GNU sed: leave them out\n",
     ),
     (
         "b z",
@@ -42,8 +42,16 @@ fn answered(
     out: &mut Kept,
 ) -> u8 {
     let result = match certificate {
-        Some(certificate) => explain_with(alloc, EDITORS, "f", script, certificate, out),
-        None => explain_alone(alloc, EDITORS, "f", script, out),
+        Some(certificate) => explain_with(
+            alloc,
+            EDITORS,
+            "f",
+            Denied::NOTHING,
+            script,
+            certificate,
+            out,
+        ),
+        None => explain_alone(alloc, EDITORS, "f", Denied::NOTHING, script, out),
     };
     match result {
         Ok(status) => status,

@@ -132,7 +132,7 @@ fn numbers(rt: HostRuntime) {
     have_numbers(&rt, rt.alloc(), true, &[(most.as_slice(), 99)]);
 }
 
-static READ: [Row; 66] = [
+static READ: [Row; 65] = [
     (b"\\.\\[\\\\\\*\\^\\$\\n\\t", 0, 0),
     (b"\\]\\-\\\"\\&\\,\\;\\:\\!\\@\\#\\%\\=\\~\\_\\ ", 0, 0),
     (b"{}()+?|", 0, 0),
@@ -172,7 +172,6 @@ static READ: [Row; 66] = [
     (b"[]-a]", 0, 0),
     (b"[a-c-]", 0, 0),
     (b"[[:alpha:]-]", 0, 0),
-    (b"[[...]]", 0, 0),
     (b"[[.].]]", 0, 0),
     (b"[[.-.]-a]", 0, 0),
     (b"[[=]=]]", 0, 0),
@@ -199,6 +198,29 @@ static READ: [Row; 66] = [
     (b"[*]", 0, 0),
     (b"[^^]", 0, 0),
     (b"[\\*]", 0, 0),
+];
+
+/// Lists that are near to those that seds read differently.
+static LISTS: [Row; 19] = [
+    (b"[[.=.]]", 0, 0),
+    (b"[[=.=]]", 0, 0),
+    (b"[[.a.]]", 0, 0),
+    (b"[[:alpha:][a]", 0, 0),
+    (b"[][]", 0, 0),
+    (b"[^][]", 0, 0),
+    (b"[[:alpha:]^]", 0, 0),
+    (b"[\\f]", 0, 0),
+    (b"[\\C]", 0, 0),
+    (b"[\\\\c]", 0, 0),
+    (b"[\\w]", 0, 0),
+    (b"[[.[.]]", 0, 0),
+    (b"[[.\\.]x]", 0, 0),
+    (b"[+-[.].]]", 0, 0),
+    (b"[[:alpha:][-]", 0, 0),
+    (b"[[:alpha:]+-[.[.]]", 0, 0),
+    (b"[[:alpha:][.[.]]", 0, 0),
+    (b"[+-[]", 0, 0),
+    (b"[+-[^]", 0, 0),
 ];
 
 static INTERVALS: [Row; 8] = [
@@ -229,6 +251,7 @@ fn is_memory(fault: ReFault) -> bool {
 #[test]
 fn read(rt: HostRuntime) {
     have_faults(&rt, rt.alloc(), &Kind::Expression, &READ);
+    have_faults(&rt, rt.alloc(), &Kind::Expression, &LISTS);
     have_faults(&rt, rt.alloc(), &Kind::Expression, &INTERVALS);
     long_texts_have_faults(&rt, rt.alloc(), &Kind::Expression, &LIMITS);
 }

@@ -118,6 +118,36 @@ static BRACKETS: [Row; 37] = [
     (b"ab[^\x01-\xff[:cntrl:]]", 5, 2),
 ];
 
+/// Lists that seds read differently: where GNU sed or BusyBox loses their end, or reads an escape in them.
+static MISTAKABLE: [Row; 26] = [
+    (b"[[...]]", 4, 1),
+    (b"[[===]]", 4, 1),
+    (b"[a[...]b]", 4, 2),
+    (b"[^[===][:alpha:]]", 4, 2),
+    (b"[+-[...]]", 4, 1),
+    (b"[[...]-a]", 4, 1),
+    (b"[\\c]", 2, 1),
+    (b"[a\\d093]", 2, 2),
+    (b"[\\x5d]", 2, 1),
+    (b"[^\\o135]", 2, 2),
+    (b"[!-\\x]", 2, 3),
+    (b"[\\c-z]", 2, 1),
+    (b"[]\\cA]", 2, 2),
+    (b"[[:alpha:][]", 4, 10),
+    (b"[[.a.]b[]", 4, 7),
+    (b"[[=a=][^]", 4, 6),
+    (b"[][:digit:][]", 4, 11),
+    (b"[[.].][]", 4, 6),
+    (b"[[:alpha:]\\n-[]", 4, 10),
+    (b"[[.+.]-[]", 4, 1),
+    (b"[[:digit:]+-[^]", 4, 10),
+    (b"[[:alpha:]\\[]", 4, 11),
+    (b"[\\c", 2, 1),
+    (b"[[:\\x:]]", 4, 1),
+    (b"[[:alpha:][", 3, 0),
+    (b"[[....]]", 4, 1),
+];
+
 static SEVERAL: [Row; 15] = [
     (b"[a-", 3, 0),
     (b"[a-c-", 3, 0),
@@ -141,4 +171,5 @@ fn refused(rt: HostRuntime) {
     have_faults(&rt, rt.alloc(), &Kind::Expression, &STRUCTURE);
     have_faults(&rt, rt.alloc(), &Kind::Expression, &BRACKETS);
     have_faults(&rt, rt.alloc(), &Kind::Expression, &SEVERAL);
+    have_faults(&rt, rt.alloc(), &Kind::Expression, &MISTAKABLE);
 }

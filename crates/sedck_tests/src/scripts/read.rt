@@ -7,7 +7,7 @@ type Names = &'static [&'static [u8]];
 /// A text, the number of its commands, the names read, the names written, and whether it is quiet.
 type Row = (&'static [u8], usize, Names, Names, bool);
 
-static SCRIPTS: [Row; 14] = [
+static SCRIPTS: [Row; 22] = [
     (b"", 0, &[], &[], false),
     (b"#n", 0, &[], &[], true),
     (b"#n\np", 1, &[], &[], true),
@@ -21,6 +21,16 @@ static SCRIPTS: [Row; 14] = [
     (b"q\nr after", 2, &[b"after"], &[], false),
     (b"1!{w x y \n}", 2, &[], &[b"x y "], false),
     (b"s//a/;/b/p", 2, &[], &[], false),
+    // a carriage return that ends the line of a comment
+    (b"# a\r\np", 1, &[], &[], false),
+    (b"# a\r", 0, &[], &[], false),
+    (b"p # b\r\nw f", 2, &[], &[b"f"], false),
+    (b"#n\r\np", 1, &[], &[], false),
+    // an escaped delimiter `x` where the expression has no `[`, and other ones beside a `[`
+    (b"sxa\\xbxyx", 1, &[], &[], false),
+    (b"sx[a]xy\\xx", 1, &[], &[], false),
+    (b"\\xa\\xbxp", 1, &[], &[], false),
+    (b"s,[\\,x],y,", 1, &[], &[], false),
     // blocks as deep as they may be
     (
         b"{{{{{{{{{{{{{{{{{{{{{{{{{{{{{{{{{{{{{{{{{{{{{{{{{{{{{{{{{{{{{{{{}}}}}}}}}}}}}}}}}}}}}}}}}}}}}}}}}}}}}}}}}}}}}}}}}}}}}}}}}}}}}}}}",

@@ -107,6 +107,114 @@ static LISTS: [Row; 11] = [
     (b"y|a\\|b|c|", 22, 3),
 ];
 
+/// What some seds read as another script: comments that they take for a label or end at a carriage return, ..
+static COMMENTS: [Row; 24] = [
+    (b"t #", 13, 2),
+    (b"b  # x", 13, 3),
+    (b":a\nt\t#a", 13, 5),
+    (b"{b #}\n}", 13, 3),
+    (b"b #\n", 13, 2),
+    (b"t # a;w f", 13, 2),
+    (b"b#", 13, 1),
+    (b"# a\rb", 20, 3),
+    (b"p # \r\r\n", 20, 4),
+    (b"#n\rp", 20, 2),
+    (b"p;#\r \n", 20, 3),
+    (b"#\r;w f", 20, 1),
+    (b":a #\rb\r\n", 20, 4),
+    (b"{p}#a\rb\r", 20, 5),
+    (b"#\r\n#a\r\r", 20, 5),
+    (b"b z #\rp", 20, 5),
+    (b"{b}#;w F", 13, 2),
+    (b"{{t}}#;w F", 13, 3),
+    (b"{b }#", 13, 3),
+    (b"{ba}#;w F\n:a", 13, 3),
+    (b"{ta }#\n:a", 13, 3),
+    (b"{b} #;w F", 0, 0),
+    (b"{b;}#;w F", 0, 0),
+    (b"{p}#;w F", 0, 0),
+];
+
+/// .. an escaped delimiter `x` that they read with the bytes behind it, beside a `[`, ..
+static ESCAPES: [Row; 12] = [
+    (b"sx[\\xa]xyx", 22, 3),
+    (b"\\x[\\x5b]xp", 22, 3),
+    (b"sxa\\x[b]xyx", 22, 3),
+    (b"sxa\\x\\[xyx", 22, 3),
+    (b"1,\\x[a]\\xxp", 22, 7),
+    // the first of them; behind the end of the part, and before its expression and the replacement
+    (b"sx\\x[\\x\\x]xyx", 22, 2),
+    (b"p;sx[a\\x\\xxyx", 22, 6),
+    (b"sx\\x[b\\(xyx", 22, 2),
+    (b"sx\\x[b]x\\qx", 22, 2),
+    (b"sx\\x[b]", 7, 0),
+    (b"sx\\x[b\nxyx", 7, 0),
+    (b"sx[\\xyx", 22, 3),
+];
+
+/// .. and bracket lists in the first list of a `y`, outside of which they look for its end.
+static BRACKETS: [Row; 16] = [
+    (b"y/[/a/", 10, 2),
+    (b"y/a[/b]/", 10, 3),
+    (b"y/[]/ab/", 10, 2),
+    (b"y/[^]/abc/", 10, 2),
+    (b"y/[^/ab/", 10, 2),
+    (b"p;y,x[]\\,,abcd,", 10, 5),
+    (b"y/[a][/abcd/", 10, 5),
+    (b"y/[]][/abcd/", 10, 5),
+    (b"y/a\\/[b/abcd/", 10, 5),
+    (b"y/\\\\[/ab/", 10, 4),
+    (b"yx[x]x", 10, 2),
+    (b"y/[\\\\/ab/", 10, 2),
+    // behind the end of the first list, and before the second one
+    (b"y/[\\q/", 10, 3),
+    (b"y/[", 7, 0),
+    (b"y/[/\\q/", 10, 2),
+    (b"y/[/ab", 10, 2),
+];
+
+/// Lines that BusyBox joins with the next one, bytes that it skips before a name, and what is near to them.
+static LINES: [Row; 21] = [
+    (b"w \x0cF", 20, 2),
+    (b"r\x0bF", 20, 1),
+    (b"w \t\rF", 20, 3),
+    (b"s/a/b/w \rF", 20, 8),
+    (b"s/a/b/w out\\\ni;w F", 20, 11),
+    (b"w \\\np", 20, 2),
+    (b"w a\\\\\\\np", 20, 5),
+    (b"w \r", 20, 2),
+    (b"s/x/x/ # c\\\nb", 20, 10),
+    (b"s/x/x/g#\\\np", 20, 8),
+    (b"w a\\\\\np", 0, 0),
+    (b"w a\\", 0, 0),
+    (b"w \x0eF", 0, 0),
+    (b"w a\x0cb\np", 0, 0),
+    (b"w F\r", 0, 0),
+    (b"s/x/x/ # c\\\\\np", 0, 0),
+    (b"s/x/x/ # c\\", 0, 0),
+    (b"s/x/x/;# c\\\np", 0, 0),
+    (b"p # c\\\nd", 0, 0),
+    (b"s/x/x/ #\np", 0, 0),
+    (b"# c\\\nd", 0, 0),
+];
+
+/// Escaped delimiters that GNU sed or BusyBox read in another way, and what is near to them.
+static DELIMITERS: [Row; 13] = [
+    (b"s=[[\\=a\\=]\\|b]=x=", 22, 4),
+    (b"s:[\\:]\\(a\\):x:", 22, 3),
+    (b"s:[[\\:alpha\\:]]:x:", 0, 0),
+    (b"s=[a]\\(b\\)=x=", 0, 0),
+    (b"s:\\:\\(a\\):x:", 0, 0),
+    (b"s'a\\''b'", 22, 3),
+    (b"s'a\\'b*'c'", 22, 3),
+    (b"s'a\\'b\\{2\\}'c'", 22, 3),
+    (b"s'a\\'.'b'", 22, 3),
+    (b"\\'a\\''p", 22, 3),
+    (b"s'a\\'b'c'", 0, 0),
+    (b"s'a'\\''", 0, 0),
+    (b"s'a\\'b\\''c'", 22, 3),
+];
+
 static REPLACEMENTS: [Row; 12] = [
     (b"s", 7, 0),
     (b"s\na\nb\n", 7, 0),
@@ -258,6 +366,15 @@ fn refused(rt: HostRuntime) {
     have_faults(&rt, rt.alloc(), &Kind::Script, &VERBS);
     have_faults(&rt, rt.alloc(), &Kind::Script, &LABELS);
     have_faults(&rt, rt.alloc(), &Kind::Script, &LISTS);
+}
+
+#[test]
+fn read_differently(rt: HostRuntime) {
+    have_faults(&rt, rt.alloc(), &Kind::Script, &COMMENTS);
+    have_faults(&rt, rt.alloc(), &Kind::Script, &ESCAPES);
+    have_faults(&rt, rt.alloc(), &Kind::Script, &BRACKETS);
+    have_faults(&rt, rt.alloc(), &Kind::Script, &LINES);
+    have_faults(&rt, rt.alloc(), &Kind::Script, &DELIMITERS);
 }
 
 #[test]

@@ -58,7 +58,7 @@ static NAMES: [(&'static [u8], Words); 4] = [
     (b":a #c", &[(b':', b"a", 0)]),
 ];
 
-static BRANCHES: [(&'static [u8], Words); 13] = [
+static BRANCHES: [(&'static [u8], Words); 15] = [
     // the block leads behind its end, the branch to its label
     (
         b":a;$!{N;ba};s/\\n/ /g",
@@ -98,7 +98,10 @@ static BRANCHES: [(&'static [u8], Words); 13] = [
     (b"b;p", &[(b'b', b"", 2), (b'p', b"", 0)]),
     (b"{t}", &[(b'{', b"", 2), (b't', b"", 2)]),
     (b"b  ", &[(b'b', b"", 1)]),
-    (b"b #c", &[(b'b', b"", 1)]),
+    // a comment behind a branch without a label needs a `;` or a newline before it
+    (b"b;#c", &[(b'b', b"", 1)]),
+    (b"t\n#a", &[(b't', b"", 1)]),
+    (b":a;t a\t# x", &[(b':', b"a", 0), (b't', b"", 0)]),
     (b"t\np", &[(b't', b"", 2), (b'p', b"", 0)]),
 ];
 
@@ -110,11 +113,19 @@ fn words(rt: HostRuntime) {
 }
 
 /// A text, the number of its commands, the place of the `y` among them, and its lists.
-static LISTS: [(&'static [u8], usize, usize, &'static [u8], &'static [u8]); 4] = [
+static LISTS: [(&'static [u8], usize, usize, &'static [u8], &'static [u8]); 11] = [
     (b"y/abc/\\n\\\\\\// ;p", 2, 0, b"abc", b"\n\\/"),
     (b"y///", 1, 0, b"", b""),
     (b"{yxa\\xxb\\\\x}", 2, 1, b"ax", b"b\\"),
-    (b"y,[,],#", 1, 0, b"[", b"]"),
+    // bracket lists in the first list are closed; in the second one they need not be
+    (b"y,],[,#", 1, 0, b"]", b"["),
+    (b"y/ab/[]/", 1, 0, b"ab", b"[]"),
+    (b"y/[a]/bcd/", 1, 0, b"[a]", b"bcd"),
+    (b"y/[]]/abc/", 1, 0, b"[]]", b"abc"),
+    (b"y/[^]]/abcd/", 1, 0, b"[^]]", b"abcd"),
+    (b"y/[[]]/abcd/", 1, 0, b"[[]]", b"abcd"),
+    (b"y/\\\\[]]/abcd/", 1, 0, b"\\[]]", b"abcd"),
+    (b"y,[\\,],abc,", 1, 0, b"[,]", b"abc"),
 ];
 
 #[test]

@@ -1,4 +1,4 @@
-use Rattle.std.proofs.Common.{◌∙◌, ℕ, List, true, sym, subst, ap, Bor, Result, Ok, Err}
+use Rattle.std.proofs.Common.{◌≡◌, ◌∙◌, ℕ, List, drop, true, sym, subst, ap, Bor, Result, Ok, Err}
 use Rattle.std.specs.Prelude.{IfOk}
 use Rattle.sedck_bre.specs.declared.tree.ByteSet.{ByteSet}
 use Rattle.sedck_bre.specs.declared.fault.ReFault.{ReFault}
@@ -7,7 +7,7 @@ use Rattle.sedck_bre.specs.Private.BracketReading.{bracket_at, inside_at}
 use Rattle.sedck_bre.specs.Private.BracketCode.{set_at}
 use Rattle.sedck_bre.specs.Private.Gives.{Gives}
 use Rattle.sedck_bre.proofs.BracketFuel.{inside_complement, inside_plain}
-use Rattle.sedck_bre.proofs.OffsetLemmas.{bracket_is, bracket_tail}
+use Rattle.sedck_bre.proofs.OffsetLemmas.{bracket_is, bracket_tail, tail_drop}
 use Rattle.sedck_bre.proofs.bracket.bracket.Goals as goal
 
 -- the set and what follows it
@@ -50,3 +50,16 @@ returns-else-begins_with_caret-clause-tail c =
     let is = bracket_is c.args.text.now c.requires.opens ∙ inside
     ∙ inside_plain c.behind_first-inside.result.now (sym c.begins_with_caret.ensures.value ∙ c.if-begins_with_caret.false) in
     gives_tail c.args.whole.now c.args.text.now r c.requires.tail (subst (Gives viewed r) (sym is) c.whole_set-else-begins_with_caret.ensures.value)
+
+inside_tail : (whole text inside : List ℕ) → IsTail whole text → inside ≡ drop 1 text → IsTail whole inside
+inside_tail whole text inside tail e = subst (IsTail whole) (sym e) (tail_drop whole text 1 tail)
+
+pub whole_set-requires-clause-tail : goal.whole_set-requires-clause-tail
+whole_set-requires-clause-tail c =
+    inside_tail c.args.whole.now c.behind_first-inside.result.now c.behind_first.result.now
+    (inside_tail c.args.whole.now c.args.text.now c.behind_first-inside.result.now c.requires.tail c.behind_first-inside.ensures.value)
+    c.behind_first.ensures.value
+
+pub whole_set-requires-else-begins_with_caret-clause-tail : goal.whole_set-requires-else-begins_with_caret-clause-tail
+whole_set-requires-else-begins_with_caret-clause-tail c =
+    inside_tail c.args.whole.now c.args.text.now c.behind_first-inside.result.now c.requires.tail c.behind_first-inside.ensures.value

@@ -8,11 +8,12 @@ pub returns-clause-status : goal.returns-clause-status
 returns-clause-status g c =
     let left = g.R.Source.left c.args.script.now in
     let made = c.in_ok-report.ensures.status in
-    on_ok (λ answered. answered ≡ c.in_ok-report.status) (IsExplained left) c.written.result
+    on_ok (λ answered. answered ≡ c.in_ok-report.status) (IsExplained c.args.denied left) c.written.result
     (λ answered is. record {
       text = c.deref.result.now;
       is_text = subst (IsRead 1048577 left) (sym c.deref.ensures.value) c.in_ok-text.ensures.read;
       answer = made.0;
       is_answer = made.1;
-      is_status = is ∙ made.2;
+      has_warning = made.2.0;
+      is_status = is ∙ made.2.1;
     }) c.written.ensures.status

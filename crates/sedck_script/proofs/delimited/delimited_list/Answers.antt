@@ -1,4 +1,4 @@
-use Rattle.std.proofs.Common.{◌≡◌, None, refl, ap, sym, subst}
+use Rattle.std.proofs.Common.{◌≡◌, None, inl, refl, ap, sym, subst}
 use Rattle.sedck_script.specs.Private.PieceReading.{IsPiece, list_escape}
 use Rattle.sedck_script.proofs.OffsetLemmas.{stands_at_tail}
 use Rattle.sedck_script.proofs.ResultLemmas.{if_err_each}
@@ -45,4 +45,4 @@ loop-bytes-preserved c =
 pub returns-in_default-clause-placed : goal.returns-in_default-clause-placed
 returns-in_default-clause-placed c =
     let pair = subst (λ x. IsPiece c.args.delimiter c.loop-bytes.rest.now x c.in_ok-piece.behind.now) c.in-Pair.is c.in_ok-piece.ensures.read in
-    (92, stands_at_tail c.loop-bytes.invariant.tail pair.0, refl)
+    inl (92, stands_at_tail c.loop-bytes.invariant.tail pair.0, refl)

@@ -1,7 +1,6 @@
-use Rattle.std.proofs.Common.{refl, sym, subst, arith}
+use Rattle.std.proofs.Common.{sym, subst, arith}
 use Rattle.sedck_bre.specs.Shape.{Shape}
 use Rattle.sedck_bre.specs.Faults.{IsPlaced}
-use Rattle.sedck_script.proofs.OffsetLemmas.{tail_behind}
 use Rattle.sedck_script.proofs.PlaceLemmas.{refused_expression}
 use Rattle.sedck_script.proofs.UniqueVerbs.{no_backslash}
 use Rattle.sedck_script.proofs.PieceLemmas.{pattern_none, pattern_some, pattern_none_only, pattern_some_only, no_pattern}
@@ -28,9 +27,6 @@ pub returns-in-Ok-clause-only : goal.returns-in-Ok-clause-only
 returns-in-Ok-clause-only c = λ p rest x.
     pattern_some_only p (no_backslash c.requires.delimiter) c.in_ok-bytes.ensures.read (grind (arith, c.if-is_empty.ensures))
     (λ t s. c.in-Ok.ensures.only t (subst (λ u. Shape u t) (sym c.deref.ensures.value) s)) x
-
-pub delimited_expression-requires-clause-tail : goal.delimited_expression-requires-clause-tail
-delimited_expression-requires-clause-tail c = tail_behind c.requires.opened refl
 
 pub returns-clause-placed : goal.returns-clause-placed
 returns-clause-placed c = c.expression_fault.ensures.placed c.args.whole.now c.args.opening (λ of_text.

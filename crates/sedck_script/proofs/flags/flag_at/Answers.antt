@@ -1,8 +1,9 @@
 use Rattle.std.proofs.Common.{refl, ◌∙◌, sym}
 use Rattle.sedck_script.proofs.ResultLemmas.{if_err_always}
-use Rattle.sedck_script.proofs.OffsetLemmas.{stands_at_tail}
+use Rattle.sedck_script.proofs.OffsetLemmas.{stands_at_tail, tail_behind}
 use Rattle.sedck_script.proofs.PlaceLemmas.{extra_digit, cut_at, unread_verb}
 use Rattle.sedck_script.proofs.VerbCases.{no_name}
+use Rattle.sedck_script.proofs.LineBytes.{name_placed}
 use Rattle.sedck_script.proofs.FlagLemmas.{no_flag, no_file, no_number, no_flags_end}
 use Rattle.sedck_script.proofs.flags.flag_at.Goals as goal
 
@@ -10,7 +11,7 @@ pub returns-in_default-name-clause-refused : goal.returns-in_default-name-clause
 returns-in_default-name-clause-refused c = λ q ps s r x. no_file c.in-Some.ensures.cases.0 c.if-first-eq119.true c.in_default-name.ensures.none x
 
 pub returns-in_default-name-clause-placed : goal.returns-in_default-name-clause-placed
-returns-in_default-name-clause-placed c = (
+returns-in_default-name-clause-placed c = name_placed _ _ c.name_fault.ensures (
   (_, stands_at_tail c.requires c.in-Some.ensures.cases.0, rw c.if-first-eq119.true refl),
   unread_verb c.args.whole.now _ ((cut_at c.requires).1 ∙ c.in-Some.ensures.cases.0) (rw c.if-first-eq119.true refl)
       (no_name c.in-Some.first.now (rw c.if-first-eq119.true refl) c.in_default-name.ensures.none),
@@ -40,3 +41,6 @@ returns-then-not-is_ending-clause-placed c = (
   stands_at_tail c.requires c.in-Some.ensures.cases.0,
   rw (sym c.is_blank.ensures ∙ c.if-not-is_blank.true, sym c.is_ending.ensures ∙ c.if-not-is_ending.true) refl,
 )
+
+pub name_fault-requires : goal.name_fault-requires
+name_fault-requires c = record { tail = tail_behind c.requires c.in-Some.ensures.cases.0 }

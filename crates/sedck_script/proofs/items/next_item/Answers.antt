@@ -1,8 +1,18 @@
-use Rattle.sedck_script.proofs.ProgressLemmas.{progress_at, front_comment}
+use Rattle.sedck_script.proofs.ResultLemmas.{if_ok_more, if_err_more}
+use Rattle.sedck_script.proofs.OffsetLemmas.{tail_behind}
+use Rattle.sedck_script.proofs.ProgressLemmas.{progress_at, front_comment, front_no_comment}
 use Rattle.sedck_script.proofs.LocationLemmas.{located_comment}
 use Rattle.sedck_script.proofs.items.next_item.Goals as goal
 
+pub comment-requires : goal.comment-requires
+comment-requires c = record { tail = tail_behind c.requires.progress.front.tail c.requires.first }
+
 pub returns-then-first-eq35-clause-progress : goal.returns-then-first-eq35-clause-progress
-returns-then-first-eq35-clause-progress c = progress_at c.requires.progress
-    (front_comment c.requires.progress.front c.requires.first c.if-first-eq35.true c.split_line.ensures)
-    (located_comment _ c.requires.progress.located c.requires.first c.if-first-eq35.true c.split_line.ensures)
+returns-then-first-eq35-clause-progress c = if_ok_more c.comment.result
+    (λ rest x. progress_at c.requires.progress
+    (front_comment c.requires.progress.front c.requires.first c.if-first-eq35.true x.1)
+    (located_comment _ c.requires.progress.located c.requires.first c.if-first-eq35.true x.1.0)) c.comment.ensures.read
+
+pub returns-then-first-eq35-clause-refused : goal.returns-then-first-eq35-clause-refused
+returns-then-first-eq35-clause-refused c = if_err_more c.comment.result
+    (λ fault none memory. front_no_comment c.requires.progress.front c.requires.first c.if-first-eq35.true none) c.comment.ensures.refused

@@ -11,7 +11,7 @@ returns-in_err-check_no_label-clause-refused c = if_err_always c.from_residual.r
 pub returns-in_err-check_behind_label-clause-refused : goal.returns-in_err-check_behind_label-clause-refused
 returns-in_err-check_behind_label-clause-refused c =
     if_err_always c.from_residual-in_err-check_behind_label.result
-    (no_branch_label c.label_parts-place.ensures.parts (grind (arith, c.if-is_empty.ensures)) c.in_err-check_behind_label.ensures.refused)
+    (no_branch_label c.label_parts-place.ensures.parts (grind (arith, c.if-is_empty.ensures)) (λ rest n e. c.in_err-check_behind_label.ensures.refused rest n e.0))
 
 pub returns-in_err-rest-clause-refused : goal.returns-in_err-rest-clause-refused
 returns-in_err-rest-clause-refused c = if_err_always c.from_residual-in_err-rest.result

@@ -1,5 +1,5 @@
-use Rattle.std.proofs.Common.{arith}
-use Rattle.sedck_script.proofs.OffsetLemmas.{tail_tail, list_tail}
+use Rattle.std.proofs.Common.{refl, arith}
+use Rattle.sedck_script.proofs.OffsetLemmas.{tail_tail, tail_behind, list_tail}
 use Rattle.sedck_script.proofs.ResultLemmas.{if_err_from}
 use Rattle.sedck_script.proofs.UniqueVerbs.{no_backslash}
 use Rattle.sedck_script.proofs.VerbLemmas.{no_second_list, unequal_lists}
@@ -9,8 +9,8 @@ pub returns-in_err-from-clause-refused : goal.returns-in_err-from-clause-refused
 returns-in_err-from-clause-refused c =
     if_err_from _ c.from_residual.result _ c.from_residual.ensures.1 (λ memory f t r l. c.in_err-from.ensures.refused memory f l.behind l.first)
 
-pub delimited_list-requires-2-clause-tail : goal.delimited_list-requires-2-clause-tail
-delimited_list-requires-2-clause-tail c = tail_tail c.requires.tail (list_tail c.in_ok-from.ensures.read)
+pub delimited_list-requires-clause-tail : goal.delimited_list-requires-clause-tail
+delimited_list-requires-clause-tail c = tail_tail (tail_behind (tail_behind c.requires.opened refl) refl) (list_tail c.in_ok-from.ensures.read.list)
 
 pub returns-in_err-to-clause-refused : goal.returns-in_err-to-clause-refused
 returns-in_err-to-clause-refused c =

@@ -29,7 +29,7 @@ returns-in_err-pattern-clause-refused c =
     (λ memory. substitute_no_pattern c.in_ok-delimiter.ensures.read.0 (c.in_err-pattern.ensures.refused memory))
 
 pub replacement-requires-clause-tail : goal.replacement-requires-clause-tail
-replacement-requires-clause-tail c = tail_tail (tail_behind c.requires.tail c.in_ok-delimiter.ensures.read.0) (expression_tail c.in_ok-pattern.ensures.read.1)
+replacement-requires-clause-tail c = tail_tail (tail_behind c.requires.tail c.in_ok-delimiter.ensures.read.0) (expression_tail c.in_ok-pattern.ensures.read.1.cut)
 
 pub returns-in_err-parts-clause-refused : goal.returns-in_err-parts-clause-refused
 returns-in_err-parts-clause-refused c =
@@ -45,7 +45,7 @@ outside_of-outside-requires c =
 
 pub flags-requires : goal.flags-requires
 flags-requires c =
-    tail_tail (tail_tail (tail_behind c.requires.tail c.in_ok-delimiter.ensures.read.0) (expression_tail c.in_ok-pattern.ensures.read.1))
+    tail_tail (tail_tail (tail_behind c.requires.tail c.in_ok-delimiter.ensures.read.0) (expression_tail c.in_ok-pattern.ensures.read.1.cut))
     (replacement_tail c.in_ok-parts.ensures.read)
 
 pub returns-in_err-seen-clause-refused : goal.returns-in_err-seen-clause-refused
@@ -81,6 +81,6 @@ returns-in_err-parts-clause-placed c =
 pub literal_length-literal-requires : goal.literal_length-literal-requires
 literal_length-literal-requires c =
     let opened = tail_length (tail_behind {text = c.args.text.now} ([], refl) c.in_ok-delimiter.ensures.read.0) in
-    let behind = tail_length (expression_tail c.in_ok-pattern.ensures.read.1) in
+    let behind = tail_length (expression_tail c.in_ok-pattern.ensures.read.1.cut) in
     let small = replacement_size c.in_ok-parts.ensures.read in
     subst (λ parts. literal_length (map part_of parts) < 2 ^ 64) (sym c.deref-2.ensures.value) (omega (arith, opened, behind, small))

@@ -1,13 +1,13 @@
-use Rattle.std.proofs.Common.{refl}
-use Rattle.sedck_script.proofs.OffsetLemmas.{tail_tail, tail_behind}
+use Rattle.std.proofs.Common.{◌∷◌, refl, ap, ◌∙◌}
+use Rattle.sedck_script.proofs.OffsetLemmas.{tail_tail, tail_drop, tail_behind}
 use Rattle.sedck_script.proofs.ResultLemmas.{if_err_each, if_err_from}
 use Rattle.sedck_script.proofs.PlaceLemmas.{part_placed, unread_verb}
 use Rattle.sedck_script.proofs.UniqueVerbs.{no_backslash}
 use Rattle.sedck_script.proofs.VerbLemmas.{transliterate_read, transliterate_no_delimiter, transliterate_no_lists, transliterate_no_end, lists_tail}
 use Rattle.sedck_script.proofs.substitutions.transliteration.Goals as goal
 
-pub equal_lists-requires-clause-tail : goal.equal_lists-requires-clause-tail
-equal_lists-requires-clause-tail c = tail_behind c.requires.tail c.in_ok-delimiter.ensures.read.0
+pub equal_lists-requires-clause-opened : goal.equal_lists-requires-clause-opened
+equal_lists-requires-clause-opened c = tail_drop c.args.place (c.requires.here ∙ ap (λ t. 121 ∷ t) c.in_ok-delimiter.ensures.read.0)
 
 pub returns-in_err-from-clause-refused : goal.returns-in_err-from-clause-refused
 returns-in_err-from-clause-refused c =

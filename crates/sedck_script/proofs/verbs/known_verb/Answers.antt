@@ -4,6 +4,7 @@ use Rattle.sedck_script.specs.Faults.{begins_address, IsPlaced}
 use Rattle.sedck_script.proofs.ResultLemmas.{if_err_both}
 use Rattle.sedck_script.proofs.PlaceLemmas.{unread_verb}
 use Rattle.sedck_script.proofs.VerbCases.{unknown_byte}
+use Rattle.sedck_script.proofs.LineBytes.{name_placed}
 use Rattle.sedck_script.proofs.verbs.known_verb.Goals as goal
 
 no_address_aci : (b : ℕ) → one_of "aci" b ≡ true → begins_address b ≡ false
@@ -23,7 +24,7 @@ returns-then-contains-clause-placed c =
 pub returns-then-contains-2-clause-placed : goal.returns-then-contains-2-clause-placed
 returns-then-contains-2-clause-placed c =
     let listed = sym c.contains-2.ensures.value ∙ c.if-contains-2.true in
-    if_err_both c.file_verb.result (λ fault is none. subst (IsPlaced c.args.whole.now) (sym is) (
+    if_err_both c.file_verb.result (λ fault is none. name_placed _ _ is (
       (c.args.verb, c.requires.stands, listed),
       unread_verb c.args.whole.now c.args.place c.requires.here (no_address_rw c.args.verb listed) none,
     )) c.file_verb.ensures.placed c.file_verb.ensures.refused

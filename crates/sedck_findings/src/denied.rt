@@ -1,0 +1,146 @@
+//! What a caller denies of an accepted script, and what is reported of it.
+
+ghost use Rattle.std.specs.Prelude.{◌≡◌};
+ghost use Rattle.sedck_findings.specs.Denial.{has_warning, is_there};
+
+use crate::finding::{Finding, Level, NamedFile};
+use crate::places::Position;
+use crate::shown::shown_name;
+use sedck_cert::Cert;
+use std::alloc::{AllocError, Global};
+
+/// What an accepted script may not have.
+#[derive(Clone, Copy, Debug, PartialEq, Eq)]
+pub struct Denied {
+    /// A file that it reads.
+    pub reads: bool,
+    /// A file that it writes.
+    pub writes: bool,
+    /// A finding of the level of warnings.
+    pub warnings: bool,
+    /// Steps without a known limit.
+    pub unbounded: bool,
+}
+
+impl Denied {
+    /// All is allowed.
+    pub const NOTHING: Denied = Denied {
+        reads: false,
+        writes: false,
+        warnings: false,
+        unbounded: false,
+    };
+}
+
+/// Whether one of the findings is a warning.
+pub(crate) fn any_warning(findings: &[Finding]) -> bool
+    ensures { result ≡ has_warning findings.now }
+{
+    findings.iter().any(|finding| finding.is_warning())
+}
+
+/// Whether a file is read.
+pub(crate) fn has_reads(cert: &Cert) -> bool
+    ensures { result ≡ is_there cert.now.reads }
+{
+    !cert.reads().is_empty()
+}
+
+/// Whether a file is written.
+pub(crate) fn has_writes(cert: &Cert) -> bool
+    ensures { result ≡ is_there cert.now.writes }
+{
+    !cert.writes().is_empty()
+}
+
+/// The findings on an accepted script behind an error for each thing that is denied and there.
+pub(crate) fn with_denials(
+    alloc: Global,
+    findings: Vec<Finding>,
+    denied: Denied,
+    reads: &[NamedFile],
+    writes: &[NamedFile],
+    is_bounded: bool,
+) -> Result<Vec<Finding>, AllocError> {
+    let mut all = Vec::new(alloc);
+    if denied.reads {
+        push_files(alloc, &mut all, reads, "denied-reads", "reads")?;
+    }
+    if denied.writes {
+        push_files(alloc, &mut all, writes, "denied-writes", "writes")?;
+    }
+    if denied.unbounded && !is_bounded {
+        all.push(unbounded_denial(alloc, &findings)?)?;
+    }
+    if denied.warnings {
+        push_warnings(alloc, &mut all, &findings)?;
+    }
+    for finding in findings {
+        all.push(finding)?;
+    }
+    Ok(all)
+}
+
+/// Adds an error for each of the files, at the first command that names it.
+fn push_files(
+    alloc: Global,
+    findings: &mut Vec<Finding>,
+    files: &[NamedFile],
+    code: &'static str,
+    does: &'static str,
+) -> Result<(), AllocError> {
+    for file in files {
+        let name = shown_name(alloc, file.name)?;
+        let message = format!(in alloc; "this {does} \"{name}\", which `--deny {does}` rules out")?;
+        findings.push(denial(alloc, code, file.positions.first().copied(), message))?;
+    }
+    Ok(())
+}
+
+/// Adds an error for each warning, at its place.
+fn push_warnings(
+    alloc: Global,
+    findings: &mut Vec<Finding>,
+    given: &[Finding],
+) -> Result<(), AllocError> {
+    for finding in given {
+        if finding.is_warning() {
+            let code = finding.code;
+            let message = format!(in alloc;
+                "the warning `{code}` is here, which `--deny warnings` rules out"
+            )?;
+            findings.push(denial(alloc, "denied-warnings", finding.position, message))?;
+        }
+    }
+    Ok(())
+}
+
+/// The error where no limit on the steps is known, at the place of the note that says so.
+fn unbounded_denial(alloc: Global, findings: &[Finding]) -> Result<Finding, AllocError> {
+    let position = findings
+        .iter()
+        .find(|finding| finding.code == "no-bound")
+        .and_then(|finding| finding.position);
+    let message = String::from_str(
+        alloc,
+        "no limit on the steps is known, which `--deny unbounded` rules out",
+    )?;
+    Ok(denial(alloc, "denied-unbounded", position, message))
+}
+
+/// An error on something that is denied.
+fn denial(
+    alloc: Global,
+    code: &'static str,
+    position: Option<Position>,
+    message: String,
+) -> Finding {
+    Finding {
+        level: Level::Error,
+        code,
+        position,
+        message,
+        hint: None,
+        steps: Vec::new(alloc),
+    }
+}

@@ -1,0 +1,187 @@
+//! Scripts that are read as POSIX has them, and look as if something else was meant.
+
+use crate::finding::{Finding, Level};
+use crate::places::{Position, position_at, positions};
+use sedck_hints::{Reading, behind_part, is_blank};
+use sedck_script::Location;
+use std::alloc::{AllocError, Global};
+
+/// Warns of options in the first line, of a `}` behind a label, and of the first expression that looks like an extended one.
+pub(crate) fn look_warnings(
+    alloc: Global,
+    findings: &mut Vec<Finding>,
+    text: &[u8],
+    locations: &[Location],
+) -> Result<(), AllocError> {
+    if has_options(text) {
+        findings.push(warning(
+            alloc,
+            position_at(text, 0),
+            "options-in-first-line",
+            "this line gives sed other options than -n and -f, and nothing is said of runs with these",
+            "with `-E` the expressions mean something else, `-i` writes files, `-s` and `-z` cut the input in another way",
+        )?)?;
+    }
+    for position in positions(alloc, text, &braces(alloc, text, locations)?)? {
+        findings.push(warning(
+            alloc,
+            position,
+            "brace-behind-label",
+            "BusyBox takes this for a part of the label, so that the block goes on",
+            "write a `;` or a newline before the `}`",
+        )?)?;
+    }
+    for location in locations {
+        if let Some(offset) = extended_in(text, *location) {
+            findings.push(warning(
+                alloc,
+                position_at(text, offset),
+                "looks-extended",
+                "in a basic regular expression this is the byte itself: is the script for `sed -E`?",
+                "write `\\(` and `\\)` for a group, `\\{1,\\}` for `+` and `\\{0,1\\}` for `?`; there is no bar. If the byte is meant, put it into a list, as in `[+]`",
+            )?)?;
+            return Ok(());
+        }
+    }
+    Ok(())
+}
+
+/// A warning at this position.
+fn warning(
+    alloc: Global,
+    position: Position,
+    code: &'static str,
+    message: &str,
+    hint: &'static str,
+) -> Result<Finding, AllocError> {
+    Ok(Finding {
+        level: Level::Warning,
+        code,
+        position: Some(position),
+        message: String::from_str(alloc, message)?,
+        hint: Some(hint),
+        steps: Vec::new(alloc),
+    })
+}
+
+/// Whether the first line calls sed with other options than `-n` and `-f`.
+fn has_options(text: &[u8]) -> bool {
+    if !text.starts_with(b"#!") {
+        return false;
+    }
+    let line = text.split(|byte| *byte == b'\n').next().unwrap_or(&[]);
+    let mut is_behind = false;
+    for word in line.split(|byte| is_blank(*byte)) {
+        if is_behind && is_option(word) {
+            return true;
+        }
+        is_behind = is_behind || word.ends_with(b"sed");
+    }
+    false
+}
+
+/// Whether the word is an option other than `-n` and `-f`.
+fn is_option(word: &[u8]) -> bool {
+    match word.strip_prefix(b"-") {
+        Some(letters) => letters.iter().any(|byte| !matches!(*byte, b'n' | b'f')),
+        None => false,
+    }
+}
+
+/// Where branches end in a `}` with no blank before it.
+fn braces(alloc: Global, text: &[u8], locations: &[Location]) -> Result<Vec<usize>, AllocError> {
+    let mut offsets = Vec::new(alloc);
+    for location in locations {
+        if let (Some(b'b' | b't'), Some(b'}')) = (text.get(location.verb), text.get(location.end)) {
+            let branch = text.get(location.verb..location.end).unwrap_or(&[]);
+            if !branch.ends_with(b" ") && !branch.ends_with(b"\t") {
+                offsets.push(location.end)?;
+            }
+        }
+    }
+    Ok(offsets)
+}
+
+/// The first sign of an extended expression in what the command has of them.
+fn extended_in(text: &[u8], location: Location) -> Option<usize> {
+    let mut behind = text.get(location.start..location.verb).unwrap_or(&[]);
+    if let Some((start, delimiter)) = expression_at(text, location.start) {
+        let found = extended_at(text, start, delimiter);
+        if found.is_some() {
+            return found;
+        }
+        let rest = behind_part(text.get(start..).unwrap_or(&[]), delimiter);
+        behind = text
+            .get(text.len().saturating_sub(rest.len())..location.verb)
+            .unwrap_or(&[]);
+    }
+    if let Some(second) = second_address(behind) {
+        let at = location.verb.saturating_sub(second.len());
+        if let Some((start, delimiter)) = expression_at(text, at) {
+            let found = extended_at(text, start, delimiter);
+            if found.is_some() {
+                return found;
+            }
+        }
+    }
+    match text.get(location.verb..).unwrap_or(&[]) {
+        [b's', delimiter, ..] => extended_at(text, location.verb.checked_add(2)?, *delimiter),
+        _ => None,
+    }
+}
+
+/// What follows the comma behind a first address, and its blanks.
+fn second_address(behind: &[u8]) -> Option<&[u8]> {
+    let comma = behind.iter().position(|byte| *byte == b',')?;
+    let rest = behind.get(comma.checked_add(1)?..)?;
+    let blanks = rest.iter().position(|byte| !is_blank(*byte))?;
+    rest.get(blanks..)
+}
+
+/// Where the expression of an address begins that is here, and its delimiter.
+fn expression_at(text: &[u8], at: usize) -> Option<(usize, u8)> {
+    match text.get(at..).unwrap_or(&[]) {
+        [b'/', ..] => Some((at.checked_add(1)?, b'/')),
+        [b'\\', delimiter, ..] => Some((at.checked_add(2)?, *delimiter)),
+        _ => None,
+    }
+}
+
+/// The first sign of an extended expression in the one that begins there: `+`, `?` or an interval behind a list, a `)` or a `.`, or
+/// a bar between parentheses.
+fn extended_at(text: &[u8], start: usize, delimiter: u8) -> Option<usize> {
+    let part = text.get(start..).unwrap_or(&[]);
+    let behind = behind_part(part, delimiter);
+    let length = part.len().saturating_sub(behind.len() + 1);
+    let mut reading = Reading::START;
+    let mut may_repeat = false;
+    let mut is_open = false;
+    let mut bar = None;
+    for (index, byte) in part.iter().take(length).enumerate() {
+        let next = reading.after(*byte);
+        let is_plain = !reading.is_in_list() && !reading.is_escaped();
+        if is_plain {
+            match *byte {
+                b'+' | b'?' if may_repeat => return start.checked_add(index),
+                b'{' if may_repeat && is_digit(part.get(index + 1)) => {
+                    return start.checked_add(index);
+                }
+                b'(' => is_open = true,
+                b'|' if is_open => bar = start.checked_add(index),
+                b')' if bar.is_some() => return bar,
+                _ => {}
+            }
+        }
+        may_repeat = (reading.is_in_list() && !next.is_in_list())
+            || (is_plain && matches!(*byte, b')' | b'.'));
+        reading = next;
+    }
+    None
+}
+
+fn is_digit(byte: Option<&u8>) -> bool {
+    match byte {
+        Some(byte) => byte.is_ascii_digit(),
+        None => false,
+    }
+}

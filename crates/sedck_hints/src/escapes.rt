@@ -1,0 +1,84 @@
+//! What to write in place of an escape of an expression that is refused.
+
+use crate::spot::{Purpose, Spot};
+
+/// By the byte behind the backslash, and by what is around it.
+pub fn escape_hint(spot: Spot) -> &'static str {
+    if spot.reading().is_in_list() {
+        return list_escape_hint(spot.rest);
+    }
+    match spot.rest {
+        [_, b'+' | b'?', ..] => repeat_hint(spot),
+        [_, b'|', ..] => bar_hint(spot),
+        [_, b's', ..] => "for `\\s` write `[[:space:]]`",
+        [_, b'S', ..] => "for `\\S` write `[^[:space:]]`",
+        [_, b'w', ..] => "for `\\w` write `[[:alnum:]_]`",
+        [_, b'W', ..] => "for `\\W` write `[^[:alnum:]_]`",
+        [_, b'b' | b'B' | b'<' | b'>', ..] => word_hint(spot),
+        [_, b'`' | b'\'', ..] => "for the ends of the pattern space write `^` and `$`",
+        [_, b'd', b'0'..=b'9', ..] | [_, b'x' | b'o' | b'c', ..] => { "write the byte itself" }
+        [_, b'd', ..] => "if a digit is meant write `[[:digit:]]`",
+        [_, b'r' | b'f' | b'v' | b'a', ..] =>
+            "GNU sed takes this for a byte with a name, as `\\a` for BEL: write that byte itself; or the letter, if it is meant",
+        _ => "write the byte without its backslash, or in a list, as in `[%]`",
+    }
+}
+
+/// In a bracket list.
+fn list_escape_hint(rest: &[u8]) -> &'static str {
+    match rest {
+        [_, b'd', b'0'..=b'9', ..]
+        | [_, b'o', b'0'..=b'7', ..]
+        | [_, b'x', b'0'..=b'9' | b'a'..=b'f' | b'A'..=b'F', ..] => {
+            "GNU sed makes a byte of this before it reads the list: write that byte itself"
+        }
+        [_, b'd', ..] =>
+            "if a digit is meant write `[[:digit:]]`; GNU sed takes it for a `d`, and for a backslash and a `d` write `[\\\\d]`",
+        _ =>
+            "GNU sed makes a byte of `\\c` and what follows it: for a backslash and the letter write two backslashes, as in `[\\\\c]`",
+    }
+}
+
+/// For `\+` and `\?`.
+fn repeat_hint(spot: Spot) -> &'static str {
+    let is_comma = spot.delimiter() == b',';
+    match spot.rest {
+        _ if spot.begins() =>
+            "first in an expression or a group this is the byte for GNU sed: write it without its backslash",
+        [_, b'+', ..] if is_comma =>
+            "for `x\\+` write `xx*`, or `x\\{1\\,\\}`, since `,` is the delimiter",
+        [_, b'+', ..] => "for `x\\+` write `x\\{1,\\}` or `xx*`",
+        _ if is_comma => "for `x\\?` write `x\\{0\\,1\\}`, since `,` is the delimiter",
+        _ => "for `x\\?` write `x\\{0,1\\}`",
+    }
+}
+
+/// For `\|`.
+fn bar_hint(spot: Spot) -> &'static str {
+    if spot.reading().is_in_group() {
+        return "write `\\([ab]\\)` for `\\(a\\|b\\)`, `\\(64\\)\\{0,1\\}` for `\\(\\|64\\)` and `\\(\\.[ch]\\)` for `\\(\\.c\\|\\.h\\)`; else one command for each alternative";
+    }
+    match spot.purpose() {
+        Purpose::ReplacesAll =>
+            "for `s/a\\|b/x/g` write `s/a/x/g` and `s/b/x/g`, where no match of one overlaps or makes a match of the other",
+        Purpose::Replaces =>
+            "for `s/a\\|b/x/` write `s/a/x/` and `s/b/x/`, where no line has both and `x` has no match of `b`",
+        Purpose::Range =>
+            "a range needs one expression, as `[ab]` for `a\\|b` or `xa\\{0,1\\}` for `x\\|xa`",
+        Purpose::Unless =>
+            "for `/a\\|b/!d` write `/a/b keep`, `/b/b keep`, `d` and `:keep` on lines of their own",
+        Purpose::Deletes => "for `/a\\|b/d` write `/a/d` and `/b/d`",
+        Purpose::Selects =>
+            "for `/a\\|b/p` write `/a/b do`, `/b/b do`, `b on`, `:do`, `p` and `:on` on lines of their own",
+    }
+}
+
+/// For `\b`, `\<` and `\>`.
+fn word_hint(spot: Spot) -> &'static str {
+    match spot.purpose() {
+        Purpose::Replaces | Purpose::ReplacesAll =>
+            "for `s/\\bWORD\\b/NEW/g` write `s/.*/\\n&\\n/`, twice `s/\\([^[:alnum:]_]\\)WORD\\([^[:alnum:]_]\\)/\\1NEW\\2/g`, and `s/^\\n\\(.*\\)\\n$/\\1/`; without `g` once; the first sets the flag that `t` tests",
+        _ =>
+            "match what stands beside the word, with a command for each: `/^WORD$/`, `/^WORD[^[:alnum:]_]/`, `/[^[:alnum:]_]WORD$/` and `/[^[:alnum:]_]WORD[^[:alnum:]_]/`",
+    }
+}

@@ -1,0 +1,90 @@
+//! Texts that are no scripts of sed, by how they begin.
+
+use crate::lists::is_blank;
+
+/// What is said of a refused text that looks like something else.
+#[derive(Clone, Copy)]
+pub struct Foreign {
+    pub message: &'static str,
+    pub hint: &'static str,
+}
+
+const INSIDE: &str =
+    "scripts of sed inside of it are checked one by one: docs/RECIPES.md shows how they get to standard input";
+
+/// Words with which a line of a shell script begins, and no usual line of sed.
+const SHELL_WORDS: [&[u8]; 14] = [
+    b"if ", b"for ", b"while ", b"case ", b"set -", b"export ", b"echo ", b"exec ", b"cd ",
+    b"test ", b"[ ", b"sed ", b"cat ", b"grep ",
+];
+
+/// What the text looks like, if it isn't a script of sed.
+pub fn other_kind(text: &[u8]) -> Option<Foreign> {
+    if text.starts_with(b"#!") {
+        let first = text.split(|byte| *byte == b'\n').next().unwrap_or(&[]);
+        return if names_sed(first) {
+            None
+        } else {
+            Some(Foreign {
+                message: "the first line names another program than sed: this is no script of sed",
+                hint: INSIDE,
+            })
+        };
+    }
+    let mut lines = text
+        .split(|byte| *byte == b'\n')
+        .filter(|line| !is_left_out(line));
+    let first = lines.next()?;
+    let second = lines.next().unwrap_or(&[]);
+    if is_target(first) && second.starts_with(b"\t") {
+        return Some(Foreign {
+            message: "this looks like a makefile, and is no script of sed",
+            hint: INSIDE,
+        });
+    }
+    if is_assignment(first) || SHELL_WORDS.iter().any(|word| first.starts_with(*word)) {
+        return Some(Foreign {
+            message: "this looks like a shell script or a makefile, and is no script of sed",
+            hint: INSIDE,
+        });
+    }
+    None
+}
+
+/// Whether a word of the line ends in `sed`.
+fn names_sed(line: &[u8]) -> bool {
+    line.split(|byte| is_blank(*byte))
+        .any(|word| word.ends_with(b"sed"))
+}
+
+/// Whether the line is blank or a comment.
+fn is_left_out(line: &[u8]) -> bool {
+    match line.iter().find(|byte| !is_blank(**byte)) {
+        Some(byte) => *byte == b'#',
+        None => true,
+    }
+}
+
+/// Whether the line begins with a name of at least two bytes and a `=`, as `prefix=/usr` and `CC := cc`.
+fn is_assignment(line: &[u8]) -> bool {
+    let length = name_length(line);
+    let rest = line.get(length..).unwrap_or(&[]);
+    let start = rest
+        .iter()
+        .position(|byte| !matches!(*byte, b' ' | b':' | b'?' | b'+'))
+        .unwrap_or(rest.len());
+    length > 1 && rest.get(start) == Some(&b'=')
+}
+
+/// Whether the line begins with a name of at least two bytes and a `:`, as `all: sedck`.
+fn is_target(line: &[u8]) -> bool {
+    let length = name_length(line);
+    length > 1 && line.get(length) == Some(&b':')
+}
+
+/// How many letters, digits, `_`, `.` and `-` the line begins with.
+fn name_length(line: &[u8]) -> usize {
+    line.iter()
+        .position(|byte| !(byte.is_ascii_alphanumeric() || matches!(*byte, b'_' | b'.' | b'-')))
+        .unwrap_or(line.len())
+}

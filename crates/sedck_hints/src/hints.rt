@@ -1,0 +1,380 @@
+//! What to write in place of what is refused.
+
+use crate::escapes::escape_hint;
+use crate::lists::is_blank;
+use crate::spot::{Spot, behind_part};
+use sedck_bre::ReFault;
+use sedck_script::ScriptFault;
+
+/// What to write instead, by the fault and by what is around it.
+pub fn script_hint(fault: ScriptFault, spot: Spot) -> Option<&'static str> {
+    if let Some(hint) = file_hint(spot.rest) {
+        return Some(hint);
+    }
+    match fault {
+        ScriptFault::UnknownCommand { .. } => command_hint(spot),
+        ScriptFault::BadAddress { .. } => address_hint(spot),
+        ScriptFault::BadExpression { fault, .. } => expression_hint(fault, spot),
+        ScriptFault::BadReplacement { .. } => replacement_hint(spot.rest),
+        ScriptFault::BadFlag { .. } => flag_hint(spot.rest),
+        ScriptFault::BadTransliteration { .. } => list_hint(spot.rest),
+        ScriptFault::MissingText { .. } => Some(text_hint(spot.rest)),
+        ScriptFault::BadLabel { .. } => Some(label_hint(spot.rest)),
+        ScriptFault::ExtraText { .. } => Some(end_hint(spot)),
+        ScriptFault::EscapedDelimiter { .. } => Some(delimiter_hint(spot.rest)),
+        fault => other_hint(fault),
+    }
+}
+
+/// Where the file as a whole isn't what sed expects.
+fn file_hint(rest: &[u8]) -> Option<&'static str> {
+    match rest {
+        [b'\r'] | [b'\r', b'\n', ..] => {
+            Some("the line ends in a carriage return: save the file with newlines alone")
+        }
+        [b'\r', ..] => Some(
+            "BusyBox ends a line at a carriage return: take it out, or save the file with newlines alone",
+        ),
+        [0xef, 0xbb, 0xbf, ..] => Some("the file begins with a byte order mark: save it without"),
+        _ => None,
+    }
+}
+
+fn command_hint(spot: Spot) -> Option<&'static str> {
+    match spot.rest {
+        [b'T', ..] => Some(
+            "for `T end` write `t go`, `b end` and `:go` on lines of their own; for `/x/T end` put the first two into a block, `/x/{` and `}`",
+        ),
+        [b'z', ..] => Some("for `z` write `s/.*//`, which sets the flag that `t` tests"),
+        [b'Q', ..] if spot.previous() == Some(b'!') => Some(
+            "for `/x/!Q` write `/x/!{`, `:end`, `$d`, `N`, `s/.*\\n//`, `b end` and `}` on lines of their own",
+        ),
+        [b'Q', ..] => Some("for `/x/Q` write `/x/,$d`"),
+        [b'I', ..] => Some("for `/hello/I` write `/[hH][eE][lL][lL][oO]/`"),
+        [b'~', behind @ ..] => Some(multiples_hint(behind)),
+        [b'e', ..] => Some(
+            "no command of POSIX sed runs another program: run it outside of the script",
+        ),
+        [b'v', ..] => Some("`v` asks for a version of GNU sed: leave it out"),
+        [b'F' | b'R' | b'W', ..] => Some(
+            "this is an extension of GNU sed that has no counterpart: do it outside of the script",
+        ),
+        [b'\\', b'!', ..] => Some("`!` needs no backslash here"),
+        [b'"' | b'\'', ..] => Some("quotes belong to the shell: leave them out of the script"),
+        [b'$', ..] if spot.previous() == Some(b'$') => Some(
+            "in a makefile `$$` is the `$` of sed: write one, or check what the shell gets",
+        ),
+        [b',', ..] => Some("a command has at most two addresses"),
+        [] | [b'\n' | b';' | b'}', ..] => Some("a command is missing behind the address"),
+        _ => None,
+    }
+}
+
+/// By what follows the `~`.
+fn multiples_hint(behind: &[u8]) -> &'static str {
+    match verb_in(behind) {
+        Some(b'd') =>
+            "for `0~3d` write `n`, `n` and `d`; for `1~2d` write `$d`, `N` and `s/.*\\n//`; for `2~3d` put an `n` before these",
+        _ => "for `0~3p` write `n`, `n` and `p`; for `2~5p` write `n`, `p`, `n`, `n` and `n`",
+    }
+}
+
+/// The byte behind digits and blanks.
+fn verb_in(text: &[u8]) -> Option<u8> {
+    text.iter()
+        .find(|byte| !is_blank(**byte) && !matches!(**byte, b'0'..=b'9'))
+        .copied()
+}
+
+fn address_hint(spot: Spot) -> Option<&'static str> {
+    match spot.rest {
+        [b'0', b'~', behind @ ..] => Some(multiples_hint(behind)),
+        [b'0', b',', b'/', behind @ ..] => Some(first_match_hint(behind_part(behind, b'/'))),
+        [b'0', b'r', ..] => Some(
+            "`0r` is an extension of GNU sed: put the file before the input, as in `cat FILE - | sed ..`",
+        ),
+        [b'+', behind @ ..] => Some(following_hint(spot, behind)),
+        [b'~', ..] => Some("for `addr,~n` count the lines with `n` or `N`"),
+        [b'0', ..] => Some("lines are counted from 1"),
+        [b'1'..=b'9', ..] => Some("a line number is at most 4,294,967,295"),
+        _ => Some("an address is a line number, `$`, or an expression between delimiters"),
+    }
+}
+
+/// By what follows `0,/x/`.
+fn first_match_hint(behind: &[u8]) -> &'static str {
+    match verb_in(behind) {
+        Some(b'd') =>
+            "for `0,/x/d` alone in a script write `/x/!d`, `$d`, `N`, `s/.*\\n//`, `:rest`, `n` and `b rest` on lines of their own",
+        Some(b's' | b'p' | b'y' | b'=' | b'w' | b'a' | b'i' | b'r' | b'l') =>
+            "for `0,/x/s/a/b/` alone in a script write `/x/{`, `s/a/b/`, `:rest`, `n`, `b rest`, `}` and once more `s/a/b/` on lines of their own, and so for `p`",
+        _ => "`1,/x/` is the same where the first line isn't matched",
+    }
+}
+
+/// By what is around the `+`.
+fn following_hint(spot: Spot, behind: &[u8]) -> &'static str {
+    let start = spot
+        .before
+        .strip_suffix(b",")
+        .and_then(|text| text.last().copied());
+    match (start, behind, verb_in(behind)) {
+        (Some(b'0'..=b'9'), _, _) => "for `6,+2` write `6,8`",
+        (_, [b'0', next, ..], _) if !matches!(*next, b'0'..=b'9') => "for `/x/,+0` write `/x/`",
+        (_, _, Some(b'd')) =>
+            "for `/x/,+2d` write `/x/{`, `$!N`, `$!N`, `d` and `}` on lines of their own",
+        _ =>
+            "for `/x/,+2p` alone in a script write `/x/{`, `p`, `n`, `p`, `n`, `p` and `}` on lines of their own; for `d` write `$!N` twice and one `d`",
+    }
+}
+
+fn expression_hint(fault: ReFault, spot: Spot) -> Option<&'static str> {
+    match fault {
+        ReFault::BadEscape { .. } => Some(escape_hint(spot)),
+        ReFault::UnclosedBracket { .. } => Some(unclosed_hint(spot)),
+        ReFault::BadBracket { .. } => Some(element_hint(spot.rest)),
+        ReFault::BadInterval { .. } => Some(interval_hint(spot)),
+        ReFault::NothingToRepeat { .. } => Some(
+            "for the byte write `{`; else put before it what is to be repeated",
+        ),
+        ReFault::DoubleRepeat { .. } => Some(match (spot.previous(), spot.rest) {
+            (Some(b'*'), [b'*', ..]) => "one `*` is enough",
+            _ => "a group may be repeated again, as in `\\(a\\{2\\}\\)*`",
+        }),
+        ReFault::UnclosedGroup { .. } | ReFault::UnopenedGroup { .. } => {
+            Some("a group is `\\(` and `\\)`; the bytes alone are `(` and `)`")
+        }
+        _ => None,
+    }
+}
+
+/// Where a list isn't closed: the delimiter ends it, or it has the beginning of a class or a symbol.
+fn unclosed_hint(spot: Spot) -> &'static str {
+    let behind = behind_part(spot.rest, spot.delimiter());
+    let list = spot
+        .rest
+        .get(1..spot.rest.len().saturating_sub(behind.len()))
+        .unwrap_or(&[]);
+    let begins = list
+        .windows(2)
+        .any(|pair| matches!(pair, [b'[', b'.' | b':' | b'=']));
+    if begins && list.contains(&b']') {
+        return "in a list `[.`, `[=` and `[:` begin a symbol or a class: put the `[` last, as in `[].*[]`";
+    }
+    "a delimiter in a bracket list ends the expression: take another one, as in `s,[/],x,` or `\\,[/],p`; in `[\\/]` some seds read the backslash too"
+}
+
+/// By an element that is none.
+fn element_hint(rest: &[u8]) -> &'static str {
+    match rest {
+        [b'[', b'.' | b'=', byte, mark, b']', ..] if byte == mark => {
+            "write the byte itself: `[.]` for `[[...]]`, `[=]` for `[[===]]`"
+        }
+        [b'[', b']' | b'^', ..]
+        | [_, b'-', b'[', b']' | b'^', ..]
+        | [_, _, b'-', b'[', b']' | b'^', ..]
+        | [_, _, _, _, _, b'-', b'[', b']' | b'^', ..] => {
+            "BusyBox ends this list too early: put the `[`, or the range that ends in it, before the class, as in `[[[:alpha:]]`"
+        }
+        _ => "put a `-` first or last in its list, and a class inside of it, as in `[[:digit:]]`",
+    }
+}
+
+/// By the bytes of an interval.
+fn interval_hint(spot: Spot) -> &'static str {
+    if spot.delimiter() == b',' && !ends_before(spot.rest, b",") {
+        return "the comma is the delimiter here: write `\\{1\\,2\\}`, or take another delimiter";
+    }
+    match spot.rest {
+        [_, _, b',', ..] => "for `x\\{,3\\}` write `x\\{0,3\\}`",
+        rest if ends_before(rest, b"\n") =>
+            "a longer repetition is written as two, as in `a\\{255\\}a\\{45\\}`",
+        _ => "an interval ends in `\\}`; for the byte `{` write it without a backslash",
+    }
+}
+
+/// Whether the interval has its `\}` before any of these bytes.
+fn ends_before(rest: &[u8], ends: &[u8]) -> bool {
+    for pair in rest.windows(2) {
+        match pair {
+            [b'\\', b'}'] => return true,
+            [byte, _] if ends.contains(byte) => return false,
+            _ => {}
+        }
+    }
+    false
+}
+
+fn replacement_hint(rest: &[u8]) -> Option<&'static str> {
+    match rest {
+        [_, b'0', ..] => Some("for `\\0` write `&`"),
+        [_, b'U' | b'L' | b'u' | b'l' | b'E', ..] => {
+            Some("for whole lines write `y/abc../ABC../` with the whole alphabet")
+        }
+        [_, b'1'..=b'9', ..] => Some(
+            "the expression has fewer groups: a group is `\\(` and `\\)`; is this for `sed -E`?",
+        ),
+        [_, b'x' | b'o' | b'c' | b'd', ..] => {
+            Some("write the byte itself, `&` as `\\&` and a backslash as `\\\\`")
+        }
+        [_, b'r' | b'f' | b'v' | b'a', ..] => Some(
+            "GNU sed takes this for a byte with a name: write that byte itself; or the letter, if it is meant",
+        ),
+        _ => Some("write the byte without its backslash"),
+    }
+}
+
+fn flag_hint(rest: &[u8]) -> Option<&'static str> {
+    match rest {
+        [b'I' | b'i', ..] => Some("for `s/hello/x/I` write `s/[hH][eE][lL][lL][oO]/x/`"),
+        [b'e', ..] => Some(
+            "no flag of POSIX sed runs another program: run it outside of the script",
+        ),
+        [b'm' | b'M', ..] => Some(
+            "`^` and `$` are the ends of the pattern space alone: match `\\n` itself",
+        ),
+        [b'0', ..] => Some("matches are counted from 1"),
+        [b'1'..=b'9', ..] => Some("one number may stand among the flags, of at most 4,294,967,295"),
+        _ => Some("the flags are `g`, `p`, a number, and `w` with a file name, each once"),
+    }
+}
+
+/// At a backslash, at a `[` of the first list, or at the verb.
+fn list_hint(rest: &[u8]) -> Option<&'static str> {
+    match rest {
+        [b'\\', ..] => Some(
+            "write the byte itself; a backslash stands before a backslash, an `n` or the delimiter alone",
+        ),
+        [b'[', ..] => Some(
+            "BusyBox takes `[` for the beginning of a list here: write one byte more and a `]` behind it, in both lists, as in `y/[a]/(a]/` for `y/[/(/`",
+        ),
+        _ => Some("give both lists equally many bytes"),
+    }
+}
+
+/// At the verb of a text.
+fn text_hint(rest: &[u8]) -> &'static str {
+    let behind = rest.get(1..).unwrap_or(&[]);
+    match without_blanks(behind) {
+        [b'\\'] | [b'\\', b'\n'] =>
+            "as `$a\\` this adds a last newline that is missing, in GNU sed alone: add it before sed; for a text write `a\\` and the text on the next line",
+        [b'\\', ..] =>
+            "seds differ on a text that begins with a backslash: write `a\\`, a newline and the text",
+        _ => "write `a\\` and the text on the next line",
+    }
+}
+
+/// The text behind the blanks with which it begins.
+fn without_blanks(text: &[u8]) -> &[u8] {
+    let start = text
+        .iter()
+        .position(|byte| !is_blank(*byte))
+        .unwrap_or(text.len());
+    text.get(start..).unwrap_or(&[])
+}
+
+fn label_hint(rest: &[u8]) -> &'static str {
+    match rest {
+        [b'#', ..] => "some seds take `#` for a label here: write the comment on a line of its own",
+        _ => "a label is one or more letters, digits, `_`, `.` or `-`",
+    }
+}
+
+/// Behind a command that should have ended.
+fn end_hint(spot: Spot) -> &'static str {
+    let line = current_line(spot.before);
+    match (ended_command(line), spot.rest) {
+        (_, [b'\\', b'\n', ..]) =>
+            "BusyBox joins this line with the next one: let the name or the comment end in another byte",
+        (_, [11 | 12, ..]) => "BusyBox skips this byte: let the name begin with another one",
+        (
+            Some(b's'),
+            [
+                b'g' | b'p' | b'w' | b'0'..=b'9' | b'I' | b'i' | b'm' | b'M' | b'e',
+                ..
+            ],
+        ) => "take out the blank before the flag: `s/a/b/p` for `s/a/b/ p`",
+        (Some(b'y'), [b'g', ..]) => "`y` has no flags, and replaces each byte: leave it out",
+        (Some(b':'), _) =>
+            "a label has no blanks: write `:two_words`, and the same behind `b` and `t`; a command follows a `;` or a newline",
+        (_, [b'0'..=b'9', ..]) if matches!(spot.previous(), Some(b'q' | b'l' | b'L')) => {
+            "an exit status of `q` and a width of `l` are extensions of GNU sed: leave them out"
+        }
+        _ => "end each command by a newline or a `;`",
+    }
+}
+
+/// What precedes in the line, of which the last 512 bytes are looked at.
+fn current_line(before: &[u8]) -> &[u8] {
+    let near = before
+        .get(before.len().saturating_sub(512)..)
+        .unwrap_or(&[]);
+    let start = near.iter().rposition(|byte| *byte == b'\n');
+    near.get(start.map_or(0, |at| at + 1)..).unwrap_or(&[])
+}
+
+/// Whether the line ends in `s`, `y` or `:` with all that it takes: the verb.
+fn ended_command(line: &[u8]) -> Option<u8> {
+    for start in 0..line.len() {
+        let ended = match line.get(start..).unwrap_or(&[]) {
+            [b's', delimiter, part @ ..] => ends_in_flags(part, *delimiter, b"gpIiemM0123456789"),
+            [b'y', delimiter, part @ ..] => ends_in_flags(part, *delimiter, b""),
+            [b':', label @ ..] if line.iter().take(start).all(|byte| is_blank(*byte)) => {
+                label
+                    .iter()
+                    .all(|byte| is_blank(*byte) || is_of_label(*byte))
+            }
+            _ => false,
+        };
+        if ended {
+            return line.get(start).copied();
+        }
+    }
+    None
+}
+
+/// Whether two parts, then these flags and blanks are all of the text.
+fn ends_in_flags(text: &[u8], delimiter: u8, flags: &[u8]) -> bool {
+    let second = behind_part(text, delimiter);
+    let behind = behind_part(second, delimiter);
+    let is_ended = second.len() > behind.len() && text.len() > second.len();
+    let has_two = text.get(text.len().saturating_sub(behind.len() + 1)) == Some(&delimiter);
+    is_ended
+        && has_two
+        && behind
+            .iter()
+            .all(|byte| is_blank(*byte) || flags.contains(byte))
+}
+
+fn is_of_label(byte: u8) -> bool {
+    byte.is_ascii_alphanumeric() || matches!(byte, b'_' | b'.' | b'-')
+}
+
+fn delimiter_hint(rest: &[u8]) -> &'static str {
+    match rest {
+        [b'\\', b'x', ..] =>
+            "GNU sed takes `\\x` for the beginning of a number: take another delimiter, one that the expression doesn't have",
+        _ => "take another delimiter, one that the expression doesn't have",
+    }
+}
+
+fn other_hint(fault: ScriptFault) -> Option<&'static str> {
+    match fault {
+        ScriptFault::TooLong { .. } | ScriptFault::TooManyCommands { .. } => {
+            Some("split the script into several that run one after another")
+        }
+        ScriptFault::Unterminated { .. } => {
+            Some(
+                "end each part with the delimiter, in the same line: `s/a/b/`; it is no newline and no backslash",
+            )
+        }
+        ScriptFault::MissingName { .. } => Some(
+            "the name follows after a blank, and goes on to the end of the line",
+        ),
+        ScriptFault::UnclosedBlock { .. } => Some(
+            "write its `}` on a line of its own; after a file name or a text it is a part of these",
+        ),
+        ScriptFault::NoPreviousExpression { .. } => Some("write the expression"),
+        _ => None,
+    }
+}

@@ -1,0 +1,15 @@
+//! What to write in place of what is refused, by the fault and by what is around it.
+//!
+//! Nothing is promised of these words by a contract: tests follow each hint, and compare what sed makes of both scripts.
+#![tactic(auto)]
+
+mod escapes;
+mod foreign;
+mod hints;
+mod lists;
+mod spot;
+
+pub use foreign::{Foreign, other_kind};
+pub use hints::script_hint;
+pub use lists::{Reading, is_blank};
+pub use spot::{Purpose, Spot, behind_part};

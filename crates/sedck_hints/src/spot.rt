@@ -1,0 +1,110 @@
+//! What is around a fault, as far as a hint depends on it.
+
+use crate::lists::{Reading, is_blank};
+
+/// Where a fault is, and what is around it.
+#[derive(Clone, Copy)]
+pub struct Spot<'a> {
+    /// The script up to the fault.
+    pub before: &'a [u8],
+    /// The script from the fault on.
+    pub rest: &'a [u8],
+    /// Where the expression begins in which the fault is; 0 for any other fault.
+    pub expression: usize,
+}
+
+/// What an expression is for.
+#[derive(Clone, Copy, PartialEq, Eq)]
+pub enum Purpose {
+    /// The expression of `s`.
+    Replaces,
+    /// That of `s` with the flag `g`.
+    ReplacesAll,
+    /// One of two addresses.
+    Range,
+    /// The address of a command with `!`.
+    Unless,
+    /// The address of `d`.
+    Deletes,
+    /// The address of another command.
+    Selects,
+}
+
+impl<'a> Spot<'a> {
+    /// The delimiter of the expression.
+    pub fn delimiter(self) -> u8 {
+        self.before
+            .get(self.expression.saturating_sub(1))
+            .copied()
+            .unwrap_or(b'/')
+    }
+
+    /// Where a reader of the expression is at the fault.
+    pub fn reading(self) -> Reading {
+        Reading::of(self.before.get(self.expression..).unwrap_or(&[]))
+    }
+
+    /// Whether nothing precedes the fault in its expression or group, but for an anchor.
+    pub fn begins(self) -> bool {
+        let inside = self.before.get(self.expression..).unwrap_or(&[]);
+        inside.is_empty()
+            || inside.ends_with(b"\\(")
+            || matches!(inside, b"^")
+            || inside.ends_with(b"\\(^")
+    }
+
+    /// The byte before the blanks before the fault.
+    pub fn previous(self) -> Option<u8> {
+        last_byte(self.before)
+    }
+
+    /// What the expression is for.
+    pub fn purpose(self) -> Purpose {
+        let delimiter = self.delimiter();
+        let behind = behind_part(self.rest, delimiter);
+        let opening = self
+            .before
+            .get(..self.expression.saturating_sub(1))
+            .unwrap_or(&[]);
+        if opening.ends_with(b"s") {
+            let flags = behind_part(behind, delimiter);
+            return match flags
+                .iter()
+                .find(|byte| !matches!(**byte, b'0'..=b'9' | b'p'))
+            {
+                Some(b'g') => Purpose::ReplacesAll,
+                _ => Purpose::Replaces,
+            };
+        }
+        let opening = opening.strip_suffix(b"\\").unwrap_or(opening);
+        if last_byte(opening) == Some(b',') {
+            return Purpose::Range;
+        }
+        match behind.iter().find(|byte| !is_blank(**byte)) {
+            Some(b',') => Purpose::Range,
+            Some(b'!') => Purpose::Unless,
+            Some(b'd') => Purpose::Deletes,
+            _ => Purpose::Selects,
+        }
+    }
+}
+
+/// What follows the delimiter that ends this part.
+pub fn behind_part(part: &[u8], delimiter: u8) -> &[u8] {
+    let mut is_escaped = false;
+    for (index, byte) in part.iter().enumerate() {
+        if is_escaped {
+            is_escaped = false;
+        } else if *byte == b'\\' {
+            is_escaped = true;
+        } else if *byte == delimiter {
+            return part.get(index + 1..).unwrap_or(&[]);
+        }
+    }
+    &[]
+}
+
+/// The last byte that is no blank.
+fn last_byte(text: &[u8]) -> Option<u8> {
+    text.iter().rev().find(|byte| !is_blank(**byte)).copied()
+}

@@ -1,0 +1,83 @@
+-- Where a byte of a line is in the whole text.
+use Rattle.std.proofs.Common.{◌≡◌, ℕ, Bool, true, false, cond, suc, ◌+◌, ◌-◌, ◌<◌, ◌≤◌, ◌⊎◌, inl, inr, append_assoc, Some, List, [], ◌∷◌, ◌++◌, length, take, drop, get_or, refl, ap, sym, ◌∙◌, subst, length-append, arith}
+use Rattle.std.proofs.Math.Seq.{split_at, get_or-append_seam}
+use Rattle.std.proofs.lemmas.List.{length-drop}
+use Rattle.std.proofs.lemmas.Bool.{false≢true, eqb-true, and_parts, cases_order}
+use Rattle.std.specs.Prelude.{◌==◌, IsTrue, nat_le, slice_get}
+use Rattle.sedck_bre.proofs.ReadLemmas.{nat_le_of}
+use Rattle.sedck_script.specs.Cuts.{is_continued}
+use Rattle.sedck_script.specs.Parts.{is_skipped}
+use Rattle.sedck_script.specs.Faults.{StandsWhere, is_extra, IsPlaced}
+use Rattle.sedck_script.specs.declared.fault.ScriptFault.{ScriptFault}
+use Rattle.sedck_script.specs.declared.fault.ScriptFault.TheVariants.{MissingName}
+use Rattle.sedck_script.specs.Private.Reading.{EndsIn}
+use Rattle.sedck_script.proofs.OffsetLemmas.{tail_tail, tail_length, stands_at_tail}
+
+pub line_byte : {whole text : List ℕ} (b : ℕ) (line rest : List ℕ) (at : ℕ) → EndsIn whole text → text ≡ line ++ rest → get_or line at 0 ≡ b → at < length line
+    → slice_get whole (length whole - length text + at) ≡ Some b
+line_byte {whole} {text} b line rest at tail cut is within =
+    let begins = b ∷ (drop (suc at) line ++ rest) in
+    let line_cut : line ≡ take at line ++ b ∷ drop (suc at) line = split_at line at 0 within ∙ ap (λ x. take at line ++ x ∷ drop (suc at) line) is in
+    let all : text ≡ take at line ++ begins =
+    cut ∙ ap (λ t. t ++ rest) line_cut ∙ append_assoc (take at line) (b ∷ drop (suc at) line) rest in
+    let long : length text ≡ length line + length rest = ap length cut ∙ length-append line rest in
+    let left = length-append (drop (suc at) line) rest in
+    let place : length whole - length begins ≡ length whole - length text + at =
+    omega (arith, within, long, left, length-drop (suc at) line, tail_length tail) in
+    subst (λ p. slice_get whole p ≡ Some b) place (stands_at_tail (tail_tail tail (take at line, all)) refl)
+
+-- ---- Bytes that may not be in a name
+
+skipped_cases : (b : ℕ) → is_skipped b ≡ true → (b ≡ 11) ⊎ ((b ≡ 12) ⊎ (b ≡ 13))
+skipped_cases b h =
+    let both = and_parts (nat_le 11 b) (nat_le b 13) h in
+    let low : 11 ≤ b = nat_le_of 11 b both.0 in
+    let high : b ≤ 13 = nat_le_of b 13 both.1 in
+    elim (cases_order b 12) [ inl e ↦ inr (inl e) | inr (inl less) ↦ inl (omega (arith, less, low)) | inr (inr more) ↦ inr (inr (omega (arith, more, high))) ]
+
+pub skipped_extra : (b : ℕ) → is_skipped b ≡ true → IsTrue (is_extra b)
+skipped_extra b h = elim (skipped_cases b h) [ inl e ↦ rw e refl | inr (inl e) ↦ rw e refl | inr (inr e) ↦ rw e refl ]
+
+pub skipped_stands : {whole begins : List ℕ} (name rest : List ℕ) → EndsIn whole begins → begins ≡ name ++ rest → 0 < length name
+    → is_skipped (get_or name 0 0) ≡ true → StandsWhere is_extra whole (length whole - length begins)
+skipped_stands {whole} {begins} name rest tail cut some h =
+    let b = get_or name 0 0 in
+    let place : length whole - length begins + 0 ≡ length whole - length begins = omega arith in
+    (b, subst (λ p. slice_get whole p ≡ Some b) place (line_byte b name rest 0 tail cut refl some), skipped_extra b h)
+
+pub last_stands : {whole begins : List ℕ} (line rest : List ℕ) → EndsIn whole begins → begins ≡ line ++ rest → 0 < length line
+    → get_or line (length line - 1) 0 ≡ 92 → StandsWhere is_extra whole (length whole - length begins + (length line - 1))
+last_stands line rest tail cut some h = (92, line_byte 92 line rest (length line - 1) tail cut h (omega (arith, some)), refl)
+
+-- a fault that is either placed or the one that is known to be
+pub name_placed : (whole : List ℕ) (place : ℕ) {fault : ScriptFault} → (fault ≡ MissingName place) ⊎ IsPlaced whole fault → IsPlaced whole (MissingName place)
+    → IsPlaced whole fault
+name_placed whole place (inl is) h = subst (IsPlaced whole) (sym is) h
+name_placed whole place (inr placed) h = placed
+
+-- ---- Lines that are continued
+
+-- the last byte of such a line is a backslash
+pub continued_cut : (line : List ℕ) → is_continued line ≡ true → (front : List ℕ) × (line ≡ front ++ 92 ∷ [])
+continued_cut [] h = absurd (false≢true h)
+continued_cut (b ∷ []) h = ([], ap (λ x. x ∷ []) (eqb-true b 92 h))
+continued_cut (b ∷ c ∷ line) h = go (b == 92) refl (λ k. continued_cut line k) (λ k. continued_cut (c ∷ line) k)
+  where
+    under : (x : Bool) → (b == 92) ≡ x → cond x (is_continued line) (is_continued (c ∷ line)) ≡ true
+    under x e = sym (ap (λ y. cond y (is_continued line) (is_continued (c ∷ line))) e) ∙ h
+
+    go : (x : Bool) → (b == 92) ≡ x → (is_continued line ≡ true → (front : List ℕ) × (line ≡ front ++ 92 ∷ []))
+        → (is_continued (c ∷ line) ≡ true → (front : List ℕ) × (c ∷ line ≡ front ++ 92 ∷ [])) → (front : List ℕ) × (b ∷ c ∷ line ≡ front ++ 92 ∷ [])
+    go true e pair one = let k = pair (under true e) in (b ∷ c ∷ k.0, ap (λ t. b ∷ c ∷ t) k.1)
+    go false e pair one = let k = one (under false e) in (b ∷ k.0, ap (λ t. b ∷ t) k.1)
+
+pub continued_stands : {whole text : List ℕ} (line rest : List ℕ) → EndsIn whole text → text ≡ line ++ rest → is_continued line ≡ true
+    → StandsWhere is_extra whole (length whole - length rest - 1)
+continued_stands {whole} {text} line rest tail cut h =
+    let k = continued_cut line h in
+    let size : length line ≡ length k.0 + 1 = ap length k.1 ∙ length-append k.0 (92 ∷ []) in
+    let last : get_or line (length line - 1) 0 ≡ 92 =
+    ap (λ t. get_or t (length line - 1) 0) k.1 ∙ ap (λ n. get_or (k.0 ++ 92 ∷ []) n 0) (omega (arith, size)) ∙ get_or-append_seam k.0 92 [] 0 in
+    let long : length text ≡ length line + length rest = ap length cut ∙ length-append line rest in
+    let place : length whole - length text + (length line - 1) ≡ length whole - length rest - 1 = omega (arith, long, size, tail_length tail) in
+    subst (StandsWhere is_extra whole) place (last_stands line rest tail cut (omega (arith, size)) last)

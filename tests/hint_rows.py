@@ -1,0 +1,169 @@
+"""Scripts that are refused or have a loop, each with the script to which its hint leads."""
+from typing import NamedTuple
+
+
+class Row(NamedTuple):
+    """A hint that is followed."""
+    name: str
+    refused: str
+    # Words of the hint.
+    hint: str
+    mended: str
+    inputs: tuple
+    # What is printed, where GNU sed can't say it: it refuses the first script, or runs it for ever.
+    due: tuple = ()
+    # Scripts that are accepted and do something else.
+    wrong: tuple = ()
+
+
+WORDS = ("cat\n", "a cat\na dog\nbird\n", "dog dog\ncat cat\n\n")
+LINES = ("1\n2\n3\n4\n5\n6\n7\n", "1\n2\n", "x\n\ny\nz\nx\n")
+FOUND = ("a\nx\nb\nc\nd\n", "x\nx\nx\nx\nx\n", "a\nb\nx\n")
+
+REPLACED = [
+    Row("blank before a flag", "s/a\\(.\\)/\\1a/ p\n", "take out the blank before the flag", "s/a\\(.\\)/\\1a/p\n",
+        ("ab\nb\n", "b\n", "abab\n"), wrong=("s/a\\(.\\)/\\1a/;p\n",)),
+    Row("blank before g", "s/a/b/  g\n", "take out the blank before the flag", "s/a/b/g\n", ("aa\n", "b\n", "xaxa\n"),
+        wrong=("s/a/b/;g\n", "s/a/b/\n")),
+    Row("flag I", "s/cat/dog/I\n", "`s/[hH][eE][lL][lL][oO]/x/`", "s/[cC][aA][tT]/dog/\n", ("a Cat\n", "CAT cat\n", "dog\n")),
+    Row("flag m", "N\ns/$/;/mg\n", "match `\\n` itself", "N\ns/\\n/;&/\ns/$/;/\n", ("a\nb\n", "a\n\n", "\n\nc\nd\n"), wrong=("N\ns/$/;/g\n",)),
+    Row("whole match", "s/b/[\\0]/\n", "for `\\0` write `&`", "s/b/[&]/\n", ("abc\n", "x\n", "bb\n"), wrong=("s/b/[0]/\n",)),
+    Row("capitals", "s/.*/\\U&/\n", "`y/abc../ABC../`", "y/abcdefghijklmnopqrstuvwxyz/ABCDEFGHIJKLMNOPQRSTUVWXYZ/\n",
+        ("one Two\n", "\n", "x1\n")),
+    Row("named byte in a replacement", "s/,/\\x26/\n", "`&` as `\\&`", "s/,/\\&/\n", ("a,b\n", "x\n", ",,\n"), wrong=("s/,/&/\n", "s/,/x26/\n")),
+    Row("letter in a replacement", "s/a/\\q/\n", "without its backslash", "s/a/q/\n", ("a\n", "b\n", "aa\n")),
+    Row("delimiter in a list", "s/[/]/x/g\n", "take another one, as in `s,[/],x,`", "s,[/],x,g\n",
+        ("a/b\n", "a\\b/c\n", "\\/\\/\n"), wrong=("s/[\\/]/x/g\n",)),
+    Row("delimiter in an address's list", "/[/]/d\n", "`\\,[/],p`", "\\,[/],d\n", ("a/b\nc\n", "a\\b\nc/d\n", "x\n"), wrong=("/[\\/]/d\n",)),
+    Row("bracket and point in a list", "s/[][.*^$]/X/g\n", "put the `[` last", "s/[].*^$[]/X/g\n",
+        ("a[b]\n", "x.y*z\n", "^$\n-\n"), due=("aXbX\n", "xXyXz\n", "XX\n-\n"), wrong=("s/[].*^$]/X/g\n",)),
+]
+
+ESCAPES = [
+    Row("plus", "s/ab\\+/x/g\n", "`x\\{1,\\}`", "s/ab\\{1,\\}/x/g\n", ("abb\n", "a ab\n", "b\n"), wrong=("s/ab*/x/g\n", "s/ab+/x/g\n")),
+    Row("plus by two", "s/ab\\+/x/g\n", "`xx*`", "s/abb*/x/g\n", ("abb\n", "a ab\n", "b\n")),
+    Row("question mark", "s/ab\\?c/x/\n", "`x\\{0,1\\}`", "s/ab\\{0,1\\}c/x/\n", ("abc\n", "ac\n", "abbc\n"), wrong=("s/ab*c/x/\n",)),
+    Row("question mark and comma", "s,\\(tags/\\)\\?x,y,\n", "`x\\{0\\,1\\}`", "s,\\(tags/\\)\\{0\\,1\\}x,y,\n", ("tags/x\n", "x\n", "tags/tags/x\n")),
+    Row("plus and comma", "s,a\\+,y,g\n", "`x\\{1\\,\\}`", "s,a\\{1\\,\\},y,g\n", ("aa\n", "b\n", "a,aa\n")),
+    Row("question mark first", "/^\\?/d\n", "without its backslash", "/^?/d\n", ("?\na\n", "\n", "x?\n"), wrong=("/^x\\{0,1\\}/d\n",)),
+    Row("plus first in a group", "s/\\(\\+a\\)/<\\1>/\n", "without its backslash", "s/\\(+a\\)/<\\1>/\n", ("+a\n", "a\n", "++a\n")),
+    Row("space", "s/\\s\\S/_/\n", "`[[:space:]]`", "s/[[:space:]][^[:space:]]/_/\n", ("a b\n", "a\tb\n", "a  \n")),
+    Row("word byte", "s/\\w\\W/_/\n", "`[[:alnum:]_]`", "s/[[:alnum:]_][^[:alnum:]_]/_/\n", ("a b\n", "_.\n", "1\n"),
+        wrong=("s/[[:alnum:]][^[:alnum:]]/_/\n",)),
+    Row("byte by its number", "s/a\\x2c\\d098/X/\n", "write the byte itself", "s/a,b/X/\n", ("a,b\n", "ab\n", "a,b,b\n"), wrong=("s/ax2cb/X/\n",)),
+    Row("bell", "s/\\all/x/\n", "write that byte itself", "s/\x07ll/x/\n", ("all\n", "\x07ll\n", "ll\n"), wrong=("s/all/x/\n",)),
+    Row("ends of the pattern space", "s/\\`a\\'/x/\n", "write `^` and `$`", "s/^a$/x/\n", ("a\n", "ab\n", "ba\n")),
+    Row("words", "s/\\bcat\\b/dog/g\n", "`s/.*/\\n&\\n/`",
+        "s/.*/\\n&\\n/\ns/\\([^[:alnum:]_]\\)cat\\([^[:alnum:]_]\\)/\\1dog\\2/g\ns/\\([^[:alnum:]_]\\)cat\\([^[:alnum:]_]\\)/\\1dog\\2/g\ns/^\\n\\(.*\\)\\n$/\\1/\n",
+        ("cat cat cat\n", "concat cat\ncats\n", "\n_cat cat_ -cat-\n"), wrong=("s/cat/dog/g\n", "s/ cat / dog /g\n")),
+    Row("word once", "s/\\<cat\\>/dog/\n", "without `g` once",
+        "s/.*/\\n&\\n/\ns/\\([^[:alnum:]_]\\)cat\\([^[:alnum:]_]\\)/\\1dog\\2/\ns/^\\n\\(.*\\)\\n$/\\1/\n",
+        ("cat cat cat\n", "concat cat\ncats\n", "\n_cat cat_ -cat-\n"), wrong=("s/cat/dog/\n",)),
+    Row("word in an address", "/\\<cat\\>/d\n", "with a command for each",
+        "/^cat$/d\n/^cat[^[:alnum:]_]/d\n/[^[:alnum:]_]cat$/d\n/[^[:alnum:]_]cat[^[:alnum:]_]/d\n",
+        ("cat\ncats\n", "a cat\ncat a\n_cat\n", "a cat b\nconcat\n"), wrong=("/cat/d\n", "/ cat /d\n")),
+    Row("interval without its least", "s/a\\{,2\\}/x/\n", "`x\\{0,3\\}`", "s/a\\{0,2\\}/x/\n", ("aaa\n", "b\n", "a\n")),
+    Row("long interval", "s/a\\{300\\}/x/\n", "`a\\{255\\}a\\{45\\}`", "s/a\\{255\\}a\\{45\\}/x/\n", ("a" * 301 + "\n", "a" * 299 + "\n", "b\n")),
+    Row("interval and comma", "s,a\\{1,2\\},x,\n", "`\\{1\\,2\\}`", "s,a\\{1\\,2\\},x,\n", ("aaa\n", "a\n", "b\n"), due=("xa\n", "x\n", "b\n")),
+    Row("two stars", "s/ba**/x/\n", "one `*` is enough", "s/ba*/x/\n", ("baa\n", "b\n", "a\n"), due=("x\n", "x\n", "a\n")),
+    Row("star of an interval", "s/ba\\{2\\}*/x/\n", "a group may be repeated again", "s/b\\(a\\{2\\}\\)*/x/\n", ("baaa\n", "b\n", "baaaa\n"),
+        due=("xa\n", "x\n", "x\n"), wrong=("s/ba*/x/\n",)),
+]
+
+BARS = [
+    Row("bar with d", "/^a\\|z$/d\n", "`/a/d` and `/b/d`", "/^a/d\n/z$/d\n", ("ab\nyz\nb\n", "az\n", "b\nc\n")),
+    Row("bar with p", "/a\\|b/p\n", "`b on`", "/a/b do\n/b/b do\nb on\n:do\np\n:on\n", ("ab\n", "a\nb\nc\n", "c\n"), wrong=("/a/p\n/b/p\n",)),
+    Row("bar with !", "/a\\|b/!d\ns/a/A/\n", "`/a/b keep`", "/a/b keep\n/b/b keep\nd\n:keep\ns/a/A/\n", ("a\nb\nc\n", "ab\n", "c\nc\nb\n"),
+        wrong=("/a/d\n/b/d\ns/a/A/\n", "/a/!d\n/b/!d\ns/a/A/\n", "/a/b\n/b/b\nd\ns/a/A/\n")),
+    Row("bar of a range", "/a\\|b/,/c/d\n", "a range needs one expression", "/[ab]/,/c/d\n", ("b\na\nc\nx\n", "x\na\ny\nc\nb\n", "x\n"),
+        wrong=("/a/,/c/d\n/b/,/c/d\n",)),
+    Row("bar in s", "s/cat\\|dog/pet/\n", "where no line has both", "s/cat/pet/\ns/dog/pet/\n", WORDS),
+    Row("bar in s with g", "s/^a\\|b//g\n", "`s/a/x/g` and `s/b/x/g`", "s/^a//g\ns/b//g\n", ("bab\n", "aab\n", "ba\nabb\n"),
+        wrong=("s/^a//g\nt done\ns/b//g\n:done\n",)),
+    Row("bar of bytes in a group", "s/\\(a\\|b\\)c/<\\1>/\n", "`\\([ab]\\)` for `\\(a\\|b\\)`", "s/\\([ab]\\)c/<\\1>/\n", ("ac\n", "bc ac\n", "c\n")),
+    Row("bar before something in a group", "s/x\\(\\|64\\)y/<\\1>/\n", "`\\(64\\)\\{0,1\\}`", "s/x\\(64\\)\\{0,1\\}y/<\\1>/\n",
+        ("xy\n", "x64y\n", "x6464y\n"), wrong=("s/x\\(64\\)*y/<\\1>/\n",)),
+    Row("bar of endings", "s/\\(\\.c\\|\\.h\\)$/<\\1>/\n", "`\\(\\.[ch]\\)`", "s/\\(\\.[ch]\\)$/<\\1>/\n", ("a.c\n", "a.h.c\n", "ch\n")),
+]
+
+ADDRESSES = [
+    Row("first step", "0~3d\n", "`n`, `n` and `d`", "n\nn\nd\n", LINES),
+    Row("steps of d", "1~2d\n", "`$d`, `N` and `s/.*\\n//`", "$d\nN\ns/.*\\n//\n", LINES, wrong=("N\ns/.*\\n//\n",)),
+    Row("later steps of d", "2~3d\n", "put an `n` before these", "n\n$d\nN\ns/.*\\n//\n", LINES),
+    Row("steps of s", "0~3s/./x/\n", "write `n`, `n` and `p`", "n\nn\ns/./x/\n", LINES, wrong=("n\nn\nd\ns/./x/\n",)),
+    Row("later steps of p", "2~5p\n", "`n`, `p`, `n`, `n` and `n`", "n\np\nn\nn\nn\n", LINES),
+    Row("following lines of d", "/x/,+2d\n", "`$!N`, `$!N`, `d`", "/x/{\n$!N\n$!N\nd\n}\n", FOUND, wrong=("/x/{\nN\nN\nd\n}\n", "/x/,2d\n")),
+    Row("following lines of p", "/x/,+2p\n", "`p`, `n`, `p`, `n`, `p`", "/x/{\np\nn\np\nn\np\n}\n", FOUND),
+    Row("following lines of a number", "2,+2p\n", "for `6,+2` write `6,8`", "2,4p\n", FOUND),
+    Row("no following line", "/x/,+0p\n", "for `/x/,+0` write `/x/`", "/x/p\n", FOUND),
+    Row("up to the first with d", "0,/x/d\n", "`/x/!d`, `$d`, `N`", "/x/!d\n$d\nN\ns/.*\\n//\n:rest\nn\nb rest\n", FOUND,
+        wrong=("/x/{\nd\n:rest\nn\nb rest\n}\n", "1,/x/d\n")),
+    Row("up to the first with s", "0,/x/s/./X/\n", "once more `s/a/b/`", "/x/{\ns/./X/\n:rest\nn\nb rest\n}\ns/./X/\n", FOUND,
+        wrong=("/x/{\ns/./X/\n:rest\nn\nb rest\n}\n", "1,/x/s/./X/\n")),
+    Row("up to the first with p", "0,/x/p\n", "and so for `p`", "/x/{\np\n:rest\nn\nb rest\n}\np\n", FOUND),
+    Row("up to the first with a block", "0,/x/{\ns/./X/\n}\n", "`1,/x/` is the same where the first line isn't matched", "1,/x/{\ns/./X/\n}\n",
+        ("a\nx\nb\n", "b\nb\n", "a\nb\nx\nx\n")),
+    Row("letters of any case", "/hello/Id\n", "`/[hH][eE][lL][lL][oO]/`", "/[hH][eE][lL][lL][oO]/d\n", ("Hello\nx\n", "HELLO\n\n", "ello\n")),
+]
+
+COMMANDS = [
+    Row("T", "s/a/b/\nT\ns/b/c/2\n", "`t go`, `b end` and `:go`", "s/a/b/\nt go\nb\n:go\ns/b/c/2\n", ("ab\nb b\n", "b b\n", "aa\n")),
+    Row("T with an address", "s/a/b/\n/x/T end\ns/b/c/\n:end\n", "into a block", "s/a/b/\n/x/{\nt go\nb end\n}\n:go\ns/b/c/\n:end\n",
+        ("ax\n", "xb\n", "b\nxa\n"), wrong=("s/a/b/\n/x/t go\nb end\n:go\ns/b/c/\n:end\n",)),
+    Row("z", "/b/z\n", "for `z` write `s/.*//`", "/b/s/.*//\n", ("a\nb\n", "ab\n", "\n")),
+    Row("Q", "/c/Q\n", "for `/x/Q` write `/x/,$d`", "/c/,$d\n", ("a\nc\nb\n", "c\n", "a\n"), wrong=("/c/d\n", "/c/q\n")),
+    Row("Q with !", "/x/!Q\n", "for `/x/!Q`", "/x/!{\n:end\n$d\nN\ns/.*\\n//\nb end\n}\n", ("x\nx\nb\nx\n", "b\nx\n", "x\n"), wrong=("/x/,$d\n", "/x/!d\n")),
+    Row("v", "v 4.2\ns/a/b/\n", "leave it out", "s/a/b/\n", ("a\n", "b\n", "aa\n")),
+    Row("status", "/x/q5\n", "leave them out", "/x/q\n", FOUND),
+    Row("width", "l 1\n", "leave them out", "l\n", ("a\n", "\t\n", "a b\n"), due=("a$\na\n", "\\t$\n\t\n", "a b$\na b\n")),
+    Row("backslash before !", "/x/\\!d\n", "needs no backslash", "/x/!d\n", FOUND, due=("x\n", "x\nx\nx\nx\nx\n", "x\n"), wrong=("/x/d\n",)),
+    Row("quotes", "'s/a/b/'\n", "quotes belong to the shell", "s/a/b/\n", ("a\n", "b\n", "aa\n"), due=("b\n", "b\n", "ba\n")),
+    Row("dollar of make", "$$s/,$$//\n", "in a makefile `$$`", "$s/,$//\n", ("a,\nb,\n", "a\n", ",\n"), due=("a,\nb\n", "a\n", "\n")),
+    Row("text with a backslash", "1a\\\\-x\n", "write `a\\`, a newline and the text", "1a\\\n-x\n", ("a\nb\n", "\n", "x\n")),
+    Row("label of two words", "s/a/b/\nt\n:two words\ns/b/c/\n", "a label has no blanks", "s/a/b/\nt\n:two_words\ns/b/c/\n",
+        ("a\n", "b\n", "aa\n"), due=("b\n", "c\n", "ba\n")),
+    Row("flag of y", "y/ab/xy/g\n", "`y` has no flags", "y/ab/xy/\n", ("ab\n", "aa\n", "c\n"), due=("xy\n", "xx\n", "c\n"), wrong=("y/ab/xy/;g\n",)),
+]
+
+NINES = ("1299\n9\n12\n", "9999\n", "a\n99\n")
+CARRY = "s/9\\(_*\\)$/_\\1/\n"
+LOOPS = [
+    Row("digits with a flag behind", ":d\n%st d\ns/^\\(_*\\)$/1\\1/\nt n\ns/$/!/\n:n\n" % CARRY, "and then `t c` and `:c`",
+        "%st c\n:c\ns/^\\(_*\\)$/1\\1/\nt n\ns/$/!/\n:n\n" % (CARRY * 9), NINES,
+        wrong=("%ss/^\\(_*\\)$/1\\1/\nt n\ns/$/!/\n:n\n" % (CARRY * 9), "s/9\\(_*\\)$/_\\1/g\ns/^\\(_*\\)$/1\\1/\nt n\ns/$/!/\n:n\n")),
+    Row("all at once with a flag behind", ":a\ns/x/y/\nt a\ns/b/c/\nt e\ns/$/!/\n:e\n", "let one `s` with the flag `g` do all at once",
+        "s/x/y/g\nt c\n:c\ns/b/c/\nt e\ns/$/!/\n:e\n", ("x\n", "xxb\n", "b\na\n"), wrong=("s/x/y/g\ns/b/c/\nt e\ns/$/!/\n:e\n",)),
+    Row("already with g", ":a\ns/- /--/g\nta\n", "write the command as often as it may be needed", "s/- /--/g\n" * 5 + "t c\n:c\n",
+        ("-   x\n", "- -\n", "ab - c\n"), wrong=("s/- /--/g\n",)),
+    Row("a match of nothing", ":a\ns/^x*//\ns/^y//\nta\ns/$/!/\n", "let it match one byte at least", ":a\ns/^xx*//\ns/^y//\nta\ns/$/!/\n",
+        ("xxyxz\n", "\n", "zx\n"), due=("z!\n", "!\n", "zx!\n")),
+    Row("growing", ":a\ns/\\(.*[0-9]\\)\\([0-9]\\{3\\}\\)/\\1,\\2/\nta\n", "write the command as often as it may be needed",
+        "s/\\(.*[0-9]\\)\\([0-9]\\{3\\}\\)/\\1,\\2/\n" * 4 + "t c\n:c\n", ("1234567\n", "12\n1234\n", "123456789012\n")),
+    Row("waiting for a line", ":a\n/;$/!{\n$!N\nba\n}\ns/\\n/ /g\n", "put it into the block of the `N` or `n`",
+        ":a\n/;$/!{\n$!{\nN\nba\n}\n}\ns/\\n/ /g\n", ("a\nb;\nc;\n", "a;\n", "a\n\n;\n")),
+]
+
+# Forms that some seds read as another script.
+NARROWED = [
+    Row("a point as a symbol", "s/[[...]]/x/\n", "write the byte itself", "s/[.]/x/\n", ("a.b\n", "ab\n", "..\n"), due=("axb\n", "ab\n", "x.\n"),
+        wrong=("s/./x/\n",)),
+    Row("an equals sign as a class", "s/[a[===]]/x/\n", "`[=]` for `[[===]]`", "s/[a=]/x/\n", ("=a\n", "b\n", "b=\n"), due=("xa\n", "b\n", "bx\n")),
+    Row("backslash and c in a list", "s/[\\c]/X/g\n", "write two backslashes", "s/[\\\\c]/X/g\n", ("a\\cb\n", "abc\n", "b\n"),
+        due=("aXXb\n", "abX\n", "b\n"), wrong=("s/[c]/X/g\n",)),
+    Row("backslash and d in a list", "s/[\\d]/X/g\n", "GNU sed takes it for a `d`", "s/[d]/X/g\n", ("a\\d1\n", "d\n", "1\n"), wrong=("s/[[:digit:]]/X/g\n",)),
+    Row("number of a byte in a list", "s/[\\x41\\d066]/X/g\n", "write that byte itself", "s/[AB]/X/g\n", ("ABC\n", "x41\n", "\\\n"),
+        wrong=("s/[\\\\x41]/X/g\n",)),
+    Row("bracket behind a class", "s/[[:alpha:][]/X/g\n", "before the class", "s/[[[:alpha:]]/X/g\n", ("a[1]\n", "1\n", "[[\n"), wrong=("s/[[:alpha:]]/X/g\n",)),
+    Row("bracket behind a class in a complement", "s/[^[:alpha:][]/X/g\n", "before the class", "s/[^[[:alpha:]]/X/g\n", ("a[1]\n", "1\n", "[[\n")),
+    Row("comment behind t", "s/a/b/\nt # done\ns/b/c/\n", "write the comment on a line of its own", "s/a/b/\n# done\nt\ns/b/c/\n", ("a\n", "b\n", "ab\n"),
+        due=("b\n", "c\n", "bb\n")),
+    Row("carriage return in a comment", "# a\rb\ns/a/b/\n", "take it out", "# ab\ns/a/b/\n", ("a\n", "b\n", "aa\n")),
+    Row("x as the delimiter of a list", "sx[\\x5b]xZx\n", "take another delimiter", "s,[x5b],Z,\n", ("x\n", "[\n", "5b\n"), due=("Z\n", "[\n", "Zb\n")),
+    Row("open list in y", "y/[/(/\n", "in both lists", "y/[a]/(a]/\n", ("[a]\n", "b\n", "[[\n"), wrong=("y/[a]/(a)/\n",)),
+    Row("comment with a backslash at its end", "s/a/b/ # c\\\ns/b/c/\n", "BusyBox joins this line with the next one", "s/a/b/ # c\ns/b/c/\n",
+        ("a\n", "b\n", "ab\n")),
+    Row("name with a backslash at its end", "w out\\\ns/b/c/\n", "BusyBox joins this line with the next one", "w out\ns/b/c/\n", ("a\n", "b\n", "ab\n")),
+    Row("name with a form feed", "w \fout\ns/b/c/\n", "BusyBox skips this byte", "w out\ns/b/c/\n", ("a\n", "b\n", "ab\n")),
+]
+
+ROWS = NARROWED + REPLACED + ESCAPES + BARS + ADDRESSES + COMMANDS + LOOPS
