@@ -273,9 +273,17 @@ fn without_blanks(text: &[u8]) -> &[u8] {
     text.get(start..).unwrap_or(&[])
 }
 
+/// Whether braces are next, behind blanks or none, and a comment right behind them.
+fn has_braced_comment(rest: &[u8]) -> bool {
+    let braces = without_blanks(rest);
+    braces.starts_with(b"}") && braces.iter().find(|byte| **byte != b'}') == Some(&b'#')
+}
+
 fn label_hint(rest: &[u8]) -> &'static str {
     match rest {
         [b'#', ..] => "some seds take `#` for a label here: write the comment on a line of its own",
+        _ if has_braced_comment(rest) =>
+            "BusyBox takes the `}` and the comment for a part of the label: write a `;` before the `}`",
         _ => "a label is one or more letters, digits, `_`, `.` or `-`",
     }
 }
