@@ -29,7 +29,7 @@ demo: build
 	build/sedck-explain examples/$(LOOP).sed || [ $$? -eq 1 ]
 
 test: build/refuse.so
-	@echo "Running the gate: every proof from nothing, the must-fail edits, the tests and the program (60 to 110 processor minutes) ..."
+	@echo "Running the gate: every proof from nothing, the must-fail edits, the tests and the program (60 to 120 processor minutes) ..."
 	$(RT) ci
 	@$(COPY)
 	@echo "Checking the examples with the programs that the gate built ..."
