@@ -89,8 +89,8 @@ class Report:
         kinds = collections.defaultdict(dict)
         for name, counts, what, script, given, detail in self.found:
             kinds[not counts, name, what].setdefault(script, (given, detail))
-        for (told, name, what), scripts in sorted(kinds.items()):
-            yield "%s: %s: %s, in %d scripts" % ("told" if told else "FOUND", name, what, len(scripts))
+        for (apart, name, what), scripts in sorted(kinds.items()):
+            yield "%s: %s: %s, in %d scripts" % ("apart" if apart else "FOUND", name, what, len(scripts))
             for script in sorted(scripts, key=len)[:SHOWN]:
                 yield "  script %r\n  input %r: %s" % (script, *scripts[script])
         yield "%d findings" % self.failures()
@@ -214,7 +214,7 @@ def main():
         return 1 if wrong else 0
     seds, report = seds_found(asked.sed), Report()
     for sed in seds:
-        print("%s: %s%s" % (sed.name, sed.version, "" if sed.counts else ", whose findings are told alone"))
+        print("%s: %s%s" % (sed.name, sed.version, "" if sed.counts else ", whose findings don't count"))
     if not seds:
         print("no sed is found")
         return 0

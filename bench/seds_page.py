@@ -1,7 +1,7 @@
 """The tables of docs/SEDS.md, run again.
 
 A script's lines, and an input's, are code spans; a control character is its picture (`␍`), and a bar has a backslash before it. The
-heads of seds are a name and a version. Where a sed of that version answers something else, that is a fault, else it is told.
+heads of seds are a name and a version. Where a sed of that version answers something else, that is a fault, else it is reported.
 """
 import os
 import re
