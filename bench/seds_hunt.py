@@ -12,7 +12,6 @@ from seds_trace import limit_of, steps_at_most
 FILE, COMMAND, READ, END, LINE = "unlisted file", "command run", "unlisted file read", "run without end", "shorter line changed"
 LONGEST = 7
 # For BusyBox a `}` right behind a label belongs to it. `sedck` reads it as other seds do, and `sedck-explain` warns.
-BRACE_BEHIND_LABEL = re.compile(rb"[bt][ \t]*[\w.-]*\}")
 
 
 def is_inside(names):
@@ -159,8 +158,6 @@ class Hunt:
         """What was found, once it is certain that `sedck rank` and `check` accept the script too."""
         if self.judge.certificate(script) != 0:
             raise SystemExit("sedck and sedck-explain answer otherwise: %r" % script)
-        if sed.name == "busybox" and what == END and BRACE_BEHIND_LABEL.search(script):
-            what, sed = END + ", with a } behind a label", sed._replace(counts=False)
         self.report.finding(sed, what, script, given, detail)
 
 

@@ -157,6 +157,8 @@ NARROWED = [
     Row("bracket behind a class in a complement", "s/[^[:alpha:][]/X/g\n", "before the class", "s/[^[[:alpha:]]/X/g\n", ("a[1]\n", "1\n", "[[\n")),
     Row("comment behind a brace behind a label", "/a/{s/a/b/;tx}#;w F\ns/$/!/\n:x\n", "write a `;` before the `}`", "/a/{s/a/b/;tx;}#;w F\ns/$/!/\n:x\n",
         ("a\n", "b\n", "ab\nc\n"), wrong=("/a/{s/a/b/;t x\n#;w F\n}\n:x\ns/$/!/\n",)),
+    Row("brace behind a label in an inner block", ":a\n$!{/x/{N;ba};s/$/!/;}\n", "write a `;` before it", ":a\n$!{/x/{N;ba;};s/$/!/;}\n",
+        ("x\nb\n", "a\nb\nc\n", "x\nx\nc\n"), wrong=(":a\n$!{/x/{N;ba\n;s/$/!/;}}\n",)),
     Row("comment behind t", "s/a/b/\nt # done\ns/b/c/\n", "write the comment on a line of its own", "s/a/b/\n# done\nt\ns/b/c/\n", ("a\n", "b\n", "ab\n"),
         due=("b\n", "c\n", "bb\n")),
     Row("carriage return in a comment", "# a\rb\ns/a/b/\n", "take it out", "# ab\ns/a/b/\n", ("a\n", "b\n", "aa\n")),

@@ -284,6 +284,8 @@ fn label_hint(rest: &[u8]) -> &'static str {
         [b'#', ..] => "some seds take `#` for a label here: write the comment on a line of its own",
         _ if has_braced_comment(rest) =>
             "BusyBox takes the `}` and the comment for a part of the label: write a `;` before the `}`",
+        [b'}', ..] =>
+            "in a block inside of another one BusyBox takes the `}` for a part of the label: write a `;` before it",
         _ => "a label is one or more letters, digits, `_`, `.` or `-`",
     }
 }

@@ -1,5 +1,5 @@
 -- Labels of branches, and what may stand behind a label.
-use Rattle.std.proofs.Common.{◌≡◌, ℕ, false, ◌<◌, List, ◌++◌, length, Option, Some, None, ap, sym, ◌∙◌, subst, arith}
+use Rattle.std.proofs.Common.{◌≡◌, ℕ, Bool, false, ◌<◌, List, ◌++◌, length, Option, Some, None, ap, sym, ◌∙◌, subst, arith}
 use Rattle.std.proofs.lemmas.List.{nil_from_length}
 use Rattle.sedck_script.specs.Cuts.{is_blank, is_ending, is_label_byte, IsEmptyOr, Longest}
 use Rattle.sedck_script.specs.Parts.{Ends, LabelText}
@@ -26,17 +26,19 @@ end_without_label {text} {name} {behind} l none h =
 
 -- a branch with no label reads none
 pub no_branch_end : {text name behind : List ℕ} → IsLabelAt text name behind → length name ≡ 0
-    → (IsNoComment behind → IsEmptyOr is_ending behind → begins_braced_comment behind ≡ false → ⊥) → (label : Option (List ℕ)) (rest : List ℕ) → BranchText text label rest → ⊥
-no_branch_end {name = name} {behind = behind} l none h None rest x =
+    → (IsNoComment behind → IsEmptyOr is_ending behind → begins_braced_comment behind ≡ false → ⊥) → (label : Option (List ℕ)) (braced : Bool) (rest : List ℕ)
+    → BranchText text label braced rest → ⊥
+no_branch_end {name = name} {behind = behind} l none h None braced rest x =
     let same : rest ≡ behind = (longest_one x.1.0.run l.skipped).1 ∙ l.run.cut ∙ ap (λ t. t ++ behind) (nil_from_length name none) in
     h (subst IsNoComment same x.0) (subst (λ t. IsEmptyOr is_ending t) same x.1.0.ending) (subst (λ t. begins_braced_comment t ≡ false) same x.1.1)
-no_branch_end l none h (Some name) rest x = no_label_there l none x.1
+no_branch_end l none h (Some name) braced rest x = no_label_there l none x.1
 
 -- and one with a label reads that one
 pub no_branch_label : {text name behind : List ℕ} → IsLabelAt text name behind → 0 < length name
-    → ((rest : List ℕ) → IsNoComment behind → EndsJump behind rest → ⊥) → (label : Option (List ℕ)) (rest : List ℕ) → BranchText text label rest → ⊥
-no_branch_label l some h None rest x = label_or_end (label_there l some) x.1.0
-no_branch_label l some h (Some name) rest x =
+    → ((rest : List ℕ) → IsNoComment behind → EndsJump behind rest → ⊥) → (label : Option (List ℕ)) (braced : Bool) (rest : List ℕ)
+    → BranchText text label braced rest → ⊥
+no_branch_label l some h None braced rest x = label_or_end (label_there l some) x.1.0
+no_branch_label l some h (Some name) braced rest x =
     let same = sym (label_same l x.1).1 in
     h rest (subst IsNoComment same x.2) (subst (λ t. EndsJump t rest) same x.3)
 

@@ -4,14 +4,14 @@ use Rattle.sedck_script.specs.Program.{Address, NoAddress, Label, Verb, Branch, 
 use Rattle.sedck_script.specs.Items.{Known, Item, Written, Closing}
 use Rattle.sedck_script.specs.Resolution.{Defines, AreLabelsDistinct, Resolves, done, known, branch, test, opening, closing}
 use Rattle.sedck_script.specs.Private.Reading.{IsLabelOf, AreLabelsOnce}
-use Rattle.sedck_script.specs.Private.ItemReading.{commands_among, Turn, Opens, Closes, Stays, turn_of, Turned, Nests}
+use Rattle.sedck_script.specs.Private.ItemReading.{commands_among, Turn, Opens, Closes, Stays, Jumps, turn_of, Turned, Nests}
 use Rattle.sedck_script.proofs.UniqueCommands.{verbs_same}
 
 pub resolves_nests : {A cs : List Command} {blocks : List ℕ} {place : ℕ} {items : List Item} → Resolves A blocks place items cs → Nests items (length blocks)
 resolves_nests done = refl
 resolves_nests (known r) = resolves_nests r
-resolves_nests (branch h r) = resolves_nests r
-resolves_nests (test h r) = resolves_nests r
+resolves_nests (branch may h r) = (may, resolves_nests r)
+resolves_nests (test may h r) = (may, resolves_nests r)
 resolves_nests (opening h r) = (h, resolves_nests r)
 resolves_nests (closing h r) = resolves_nests r
 
@@ -19,8 +19,8 @@ pub resolves_length : {A cs : List Command} {blocks : List ℕ} {place : ℕ} {i
     → length cs ≡ length (commands_among items)
 resolves_length done = refl
 resolves_length (known r) = ap suc (resolves_length r)
-resolves_length (branch h r) = ap suc (resolves_length r)
-resolves_length (test h r) = ap suc (resolves_length r)
+resolves_length (branch may h r) = ap suc (resolves_length r)
+resolves_length (test may h r) = ap suc (resolves_length r)
 resolves_length (opening h r) = ap suc (resolves_length r)
 resolves_length (closing h r) = resolves_length r
 
@@ -35,6 +35,7 @@ turned_one Closes P one zero e h k = absurd h
 turned_one Closes P one (suc d) zero h k = absurd k
 turned_one Closes P one (suc d) (suc e) h k = ap suc (one d e h k)
 turned_one Stays P one d e h k = one d e h k
+turned_one (Jumps braced) P one d e h k = one d e h.1 k.1
 
 -- items close one number of blocks
 pub nests_one : (items : List Item) (d e : ℕ) → Nests items d → Nests items e → d ≡ e
@@ -46,6 +47,7 @@ turned_some Opens P d h = (suc d, h.1)
 turned_some Closes P zero h = absurd h
 turned_some Closes P (suc d) h = (d, h)
 turned_some Stays P d h = (d, h)
+turned_some (Jumps braced) P d h = (d, h.1)
 
 -- an end of items that nest nests
 pub nests_behind : (front items : List Item) (d : ℕ) → Nests (front ++ items) d → (e : ℕ) × Nests items e
@@ -75,12 +77,12 @@ pub label_defined : {A cs : List Command} {blocks : List ℕ} {place : ℕ} {ite
     → (name : List ℕ) (i : ℕ) → IsLabelOf (commands_among items) name i → Defines cs name i
 label_defined done name i h = absurd (cc h)
 label_defined (known r) name zero h = ap Some (label_command h)
-label_defined (branch x r) name zero h = absurd (no_branch_verb (ap (λ c. c.verb) (label_command h)))
-label_defined (test x r) name zero h = absurd (no_branch_verb (ap (λ c. c.verb) (label_command h)))
+label_defined (branch may x r) name zero h = absurd (no_branch_verb (ap (λ c. c.verb) (label_command h)))
+label_defined (test may x r) name zero h = absurd (no_branch_verb (ap (λ c. c.verb) (label_command h)))
 label_defined (opening x r) name zero h = absurd (no_branch_verb (ap (λ c. c.verb) (label_command h)))
 label_defined (known r) name (suc i) h = label_defined r name i h
-label_defined (branch x r) name (suc i) h = label_defined r name i h
-label_defined (test x r) name (suc i) h = label_defined r name i h
+label_defined (branch may x r) name (suc i) h = label_defined r name i h
+label_defined (test may x r) name (suc i) h = label_defined r name i h
 label_defined (opening x r) name (suc i) h = label_defined r name i h
 label_defined (closing x r) name i h = label_defined r name i h
 
@@ -98,12 +100,12 @@ pub label_written : {A cs : List Command} {blocks : List ℕ} {place : ℕ} {ite
     → (name : List ℕ) (i : ℕ) → Defines cs name i → IsLabelOf (commands_among items) name i
 label_written done name i h = absurd (cc h)
 label_written (known r) name zero h = same_written h
-label_written (branch x r) name zero h = absurd (cc (verbs_same h))
-label_written (test x r) name zero h = absurd (cc (verbs_same h))
+label_written (branch may x r) name zero h = absurd (cc (verbs_same h))
+label_written (test may x r) name zero h = absurd (cc (verbs_same h))
 label_written (opening x r) name zero h = absurd (cc (verbs_same h))
 label_written (known r) name (suc i) h = label_written r name i h
-label_written (branch x r) name (suc i) h = label_written r name i h
-label_written (test x r) name (suc i) h = label_written r name i h
+label_written (branch may x r) name (suc i) h = label_written r name i h
+label_written (test may x r) name (suc i) h = label_written r name i h
 label_written (opening x r) name (suc i) h = label_written r name i h
 label_written (closing x r) name i h = label_written r name i h
 

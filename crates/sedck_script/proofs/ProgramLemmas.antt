@@ -54,13 +54,13 @@ module _ {S : Type 0} (labels : HashMap (Bor (List ℕ)) ℕ S) where
       → (name : List ℕ) × (at : ℕ) × (label_place labels name ≡ None) × Defines all name at
   lost_at k d done lt l = absurd (omega arith)
   lost_at zero d (known r) lt l = absurd l
-  lost_at {all = all} zero d (branch {target = t} {label = n} h r) lt l = lost_by all n t h l
-  lost_at {all = all} zero d (test {target = t} {label = n} h r) lt l = lost_by all n t h l
+  lost_at {all = all} zero d (branch {target = t} {label = n} may h r) lt l = lost_by all n t h l
+  lost_at {all = all} zero d (test {target = t} {label = n} may h r) lt l = lost_by all n t h l
   lost_at zero d (opening h r) lt l = absurd l
   lost_at zero d (closing h r) lt l = absurd l
   lost_at (suc k) d (known r) lt l = lost_at k d r (omega arith) l
-  lost_at (suc k) d (branch h r) lt l = lost_at k d r (omega arith) l
-  lost_at (suc k) d (test h r) lt l = lost_at k d r (omega arith) l
+  lost_at (suc k) d (branch may h r) lt l = lost_at k d r (omega arith) l
+  lost_at (suc k) d (test may h r) lt l = lost_at k d r (omega arith) l
   lost_at (suc k) d (opening h r) lt l = lost_at k d r (omega arith) l
   lost_at (suc k) d (closing h r) lt l = lost_at k d r (omega arith) l
 
@@ -111,8 +111,8 @@ resolved_patterns : {all cs : List Command} {blocks : List ℕ} {place : ℕ} {i
     → patterns cs ≡ item_patterns items
 resolved_patterns done = refl
 resolved_patterns (known {address = a} {verb = v} r) = ap (λ t. (address_patterns a ++ verb_patterns v) ++ t) (resolved_patterns r)
-resolved_patterns (branch {address = a} h r) = ap (λ t. (address_patterns a ++ []) ++ t) (resolved_patterns r)
-resolved_patterns (test {address = a} h r) = ap (λ t. (address_patterns a ++ []) ++ t) (resolved_patterns r)
+resolved_patterns (branch {address = a} may h r) = ap (λ t. (address_patterns a ++ []) ++ t) (resolved_patterns r)
+resolved_patterns (test {address = a} may h r) = ap (λ t. (address_patterns a ++ []) ++ t) (resolved_patterns r)
 resolved_patterns (opening {address = a} h r) = ap (λ t. (address_patterns a ++ []) ++ t) (resolved_patterns r)
 resolved_patterns (closing h r) = resolved_patterns r
 

@@ -1,5 +1,5 @@
 -- How the items of a script go on.
-use Rattle.std.proofs.Common.{◌≡◌, ℕ, suc, ◌<◌, ◌≤◌, ◌-◌, Bool, false, not, List, [], ◌∷◌, ◌++◌, length, map, Some, refl, ap, sym, ◌∙◌, subst, append_assoc, append-nil, length-append, inl, inr, ◌⊎◌, arith}
+use Rattle.std.proofs.Common.{◌≡◌, ℕ, suc, ◌<◌, ◌≤◌, ◌-◌, Bool, true, false, not, List, [], ◌∷◌, ◌++◌, length, map, Some, refl, ap, sym, ◌∙◌, subst, append_assoc, append-nil, length-append, inl, inr, ◌⊎◌, arith}
 use Rattle.std.specs.Prelude.{slice_get}
 use Rattle.sedck_script.specs.Cuts.{is_newline, is_separator, Longest}
 use Rattle.std.specs.Borrow.{Bor}
@@ -7,12 +7,12 @@ use Rattle.std.specs.HashMap.{HashMap}
 use Rattle.std.proofs.lemmas.Option.{slice_get_within}
 use Rattle.sedck_script.specs.Program.{Address, NoAddress, Label}
 use Rattle.sedck_script.specs.Parts.{Ends}
-use Rattle.sedck_script.specs.Items.{WrittenVerb, Known, Opening, VerbText, Takes, CommandText, Item, Written, Closing, Items}
+use Rattle.sedck_script.specs.Items.{WrittenVerb, Known, BranchTo, TestTo, Opening, VerbText, Takes, CommandText, Item, Written, Closing, Items}
 use Rattle.sedck_script.specs.Items as w
 use Rattle.sedck_script.specs.Private.Reading.{EndsIn, IsLabelOf, AreLabelsOnce, HasLabels}
 use Rattle.sedck_script.specs.Private.CommentReading.{CommentText}
-use Rattle.sedck_script.specs.Private.VerbReading.{DefinesKnown}
-use Rattle.sedck_script.specs.Private.ItemReading.{item_of, Turn, Opens, Closes, Stays, commands_among, locations_in, verb_turn, Turned, Nests}
+use Rattle.sedck_script.specs.Private.VerbReading.{is_braced, DefinesKnown}
+use Rattle.sedck_script.specs.Private.ItemReading.{item_of, Turn, Opens, Closes, Stays, Jumps, commands_among, locations_in, verb_turn, Turned, Nests}
 use Rattle.sedck_script.specs.Private.Locating.{AreFirstLocations}
 use Rattle.sedck_script.specs.Private.Progress.{IsFront, IsProgress, HasNoItems, BeginsCommand, IsBeyond}
 use Rattle.sedck_script.specs.declared.items.Progress.{Progress}
@@ -190,11 +190,13 @@ deeper : (t : Turn) (depth deep : ℕ) (P : ℕ → Type 0) → Deeper t depth d
 deeper Opens depth deep P h x = (h.1, subst P h.0 x)
 deeper Closes depth deep P h x = absurd h
 deeper Stays depth deep P h x = subst P h x
+deeper (Jumps braced) depth deep P h x = (h.1, subst P h.0 x)
 
 less_deep : (t : Turn) (depth deep : ℕ) (P : ℕ → Type 0) → Deeper t depth deep → Turned t P depth → P deep
 less_deep Opens depth deep P h x = subst P (sym h.0) x.1
 less_deep Closes depth deep P h x = absurd h
 less_deep Stays depth deep P h x = subst P (sym h) x
+less_deep (Jumps braced) depth deep P h x = subst P (sym h.0) x.1
 
 pub front_command : {depth deep : ℕ} {text begins rest : List ℕ} {items : List Item} {a : Address} {n : Bool} {v : WrittenVerb}
     → IsFront text items depth begins → BeginsCommand begins → CommandText begins a n v rest
@@ -215,6 +217,12 @@ front_command {depth} {deep} {begins = begins} {items = items} {a = a} {n = n} {
 too_deep : (v : WrittenVerb) (depth : ℕ) (P : ℕ → Type 0) → v ≡ Opening → 64 ≤ depth → Turned (verb_turn v) P depth → ⊥
 too_deep v depth P e h t = let x = subst (λ u. Turned (verb_turn u) P depth) e t in omega (arith, x.0)
 
+too_braced : (v : WrittenVerb) (depth : ℕ) (P : ℕ → Type 0) → is_braced v ≡ true → 2 ≤ depth → Turned (verb_turn v) P depth → ⊥
+too_braced (Known v) depth P e h t = absurd (cc e)
+too_braced (BranchTo label braced) depth P e h t = omega (arith, t.0 e, h)
+too_braced (TestTo label braced) depth P e h t = omega (arith, t.0 e, h)
+too_braced Opening depth P e h t = absurd (cc e)
+
 -- a command that may not stand there
 pub front_refused : {S : Type 0} {text begins : List ℕ} {items : List Item} {depth count : ℕ} (labels : HashMap (Bor (List ℕ)) ℕ S)
     → IsFront text items depth begins → BeginsCommand begins → HasLabels labels (commands_among items) → count ≡ length (commands_among items)
@@ -231,7 +239,9 @@ front_refused {items = items} {depth = depth} {count = count} labels f k h e non
           (among ∙ ap (λ y. commands_among items ++ y ∷ commands_among first.4) (label_item first.2 known.2 first.6.taken)) once
       | inr (inl deep) ↦ too_deep first.2 depth (Nests first.4) deep.0 deep.1
           (subst (λ t. Nests t depth) first.5 (f.nested one.0 (subst (λ t. Nests t 0) one.1 nests)))
-      | inr (inr many) ↦ omega (
+      | inr (inr (inl braced)) ↦ too_braced first.2 depth (Nests first.4) braced.0 braced.1
+          (subst (λ t. Nests t depth) first.5 (f.nested one.0 (subst (λ t. Nests t 0) one.1 nests)))
+      | inr (inr (inr many)) ↦ omega (
         arith,
         e,
         many,
@@ -245,10 +255,10 @@ opening_last : {text rest : List ℕ} {v : WrittenVerb} → v ≡ Opening → Ve
 opening_last e (w.opening h) = rw h refl
 opening_last e (w.simple x f) = absurd (cc e)
 opening_last e (w.label h l n f) = absurd (cc e)
-opening_last e (w.branch h l n f) = absurd (cc e)
-opening_last e (w.branch_to_end h n f) = absurd (cc e)
-opening_last e (w.test h l n f) = absurd (cc e)
-opening_last e (w.test_to_end h n f) = absurd (cc e)
+opening_last e (w.branch h l n f brace) = absurd (cc e)
+opening_last e (w.branch_to_end h n f brace) = absurd (cc e)
+opening_last e (w.test h l n f brace) = absurd (cc e)
+opening_last e (w.test_to_end h n f brace) = absurd (cc e)
 opening_last e (w.append h l g) = absurd (cc e)
 opening_last e (w.change h l g) = absurd (cc e)
 opening_last e (w.insert h l g) = absurd (cc e)

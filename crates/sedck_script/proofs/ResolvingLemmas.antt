@@ -8,7 +8,7 @@ use Rattle.std.specs.Borrow.{Bor}
 use Rattle.std.specs.HashMap.{HashMap}
 use Rattle.sedck_script.specs.Program.{Address, Command}
 use Rattle.sedck_script.specs.Items.{WrittenVerb, Known, BranchTo, TestTo, Opening, Item, Written, Closing}
-use Rattle.sedck_script.specs.Resolution.{Defines, LeadsTo, Resolves, done, known, branch, test, opening, closing}
+use Rattle.sedck_script.specs.Resolution.{Defines, MayBeBraced, LeadsTo, Resolves, done, known, branch, test, opening, closing}
 use Rattle.sedck_script.specs.Private.Reading.{label_place, HasLabels}
 use Rattle.sedck_script.specs.Private.ItemReading.{commands_among, verb_turn, Turned, Nests, IsKnownLabel, label_of, item_label, item_of, target_of, resolved_verb, TakesTarget}
 use Rattle.sedck_script.specs.declared.written.WrittenItem.{WrittenItem}
@@ -47,16 +47,21 @@ not_empty xs h e = omega (arith, h, length-reverse xs, ap length e)
 abbrev pub made_of : {S : Type 0} → HashMap (Bor (List ℕ)) ℕ S → ℕ → ℕ → Address → Bool → WrittenVerb → Command
 made_of labels end target a n v = record { address = a; negated = n; verb = resolved_verb labels end target v }
 
+-- where nothing is taken, as many blocks are open as nest
+as_deep : {all made : List Command} {place : ℕ} (braced : Bool) (old new : List ℕ) (suffix : List Item) (depth : ℕ) → new ≡ old
+    → MayBeBraced braced depth × Nests suffix depth → Resolves all (reverse old) place suffix made → MayBeBraced braced (length (reverse new))
+as_deep braced old new suffix depth e d r h = omega (arith, d.0 h, nests_one suffix (length (reverse old)) depth (resolves_nests r) d.1, ap (λ b. length (reverse b)) e)
+
 step : {S : Type 0} (labels : HashMap (Bor (List ℕ)) ℕ S) (end place target depth : ℕ) (all made : List Command) (old new : List ℕ)
     (suffix : List Item) (a : Address) (n : Bool) (v : WrittenVerb)
     → Knows labels end all → IsKnownLabel labels (label_of v) → TakesTarget (verb_turn v) old new target → Turned (verb_turn v) (Nests suffix) depth
     → Resolves all (reverse old) (suc place) suffix made → Resolves all (reverse new) place (Written a n v ∷ suffix) (made_of labels end target a n v ∷ made)
 step labels end place target depth all made old new suffix a n (Known v) k l t d r =
     known (subst (λ b. Resolves all (reverse b) (suc place) suffix made) (sym t) r)
-step labels end place target depth all made old new suffix a n (BranchTo label) k l t d r =
-    branch (leads labels end all label k l) (subst (λ b. Resolves all (reverse b) (suc place) suffix made) (sym t) r)
-step labels end place target depth all made old new suffix a n (TestTo label) k l t d r =
-    test (leads labels end all label k l) (subst (λ b. Resolves all (reverse b) (suc place) suffix made) (sym t) r)
+step labels end place target depth all made old new suffix a n (BranchTo label braced) k l t d r =
+    branch (as_deep braced old new suffix depth t d r) (leads labels end all label k l) (subst (λ b. Resolves all (reverse b) (suc place) suffix made) (sym t) r)
+step labels end place target depth all made old new suffix a n (TestTo label braced) k l t d r =
+    test (as_deep braced old new suffix depth t d r) (leads labels end all label k l) (subst (λ b. Resolves all (reverse b) (suc place) suffix made) (sym t) r)
 step labels end place target depth all made old new suffix a n Opening k l t d r =
     let deep : length (reverse old) ≡ suc depth = nests_one suffix (length (reverse old)) (suc depth) (resolves_nests r) d.1 in
     let cut : old ≡ new ++ target ∷ [] = t (not_empty old (omega (arith, deep))) in

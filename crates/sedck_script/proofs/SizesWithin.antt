@@ -155,10 +155,10 @@ module _ {whole : List ℕ} (few : length whole ≤ 1048576) (zeros : Contains w
   pub verb_cheap : {text rest : List ℕ} {v : WrittenVerb} → EndsIn whole text → VerbText text v rest → IsCheapWritten v text rest
   verb_cheap h (w.simple x e) = simple_cheap x (tail_length (verb_text_tail (w.simple x e)))
   verb_cheap h (w.label b l n e) = plain refl refl tt (tail_length (verb_text_tail (w.label b l n e)))
-  verb_cheap h (w.branch b l n e) = tail_length (verb_text_tail (w.branch b l n e))
-  verb_cheap h (w.branch_to_end b n e) = tail_length (verb_text_tail (w.branch_to_end b n e))
-  verb_cheap h (w.test b l n e) = tail_length (verb_text_tail (w.test b l n e))
-  verb_cheap h (w.test_to_end b n e) = tail_length (verb_text_tail (w.test_to_end b n e))
+  verb_cheap h (w.branch b l n e brace) = tail_length (verb_text_tail (w.branch b l n e brace))
+  verb_cheap h (w.branch_to_end b n e brace) = tail_length (verb_text_tail (w.branch_to_end b n e brace))
+  verb_cheap h (w.test b l n e brace) = tail_length (verb_text_tail (w.test b l n e brace))
+  verb_cheap h (w.test_to_end b n e brace) = tail_length (verb_text_tail (w.test_to_end b n e brace))
   verb_cheap h (w.opening b) = omega arith
   verb_cheap h (w.append b l g) = plain refl refl tt (tail_length (verb_text_tail (w.append b l g)))
   verb_cheap h (w.change b l g) = plain refl refl tt (tail_length (verb_text_tail (w.change b l g)))

@@ -26,8 +26,8 @@ use Rattle.sedck_script.proofs.SizesWithin.{verb_cost, IsBounded, IsCheapWritten
 
 abbrev item_cost : Item → ℕ
 item_cost (Written a n (Known v)) = verb_cost v
-item_cost (Written a n (BranchTo l)) = 0
-item_cost (Written a n (TestTo l)) = 0
+item_cost (Written a n (BranchTo l braced)) = 0
+item_cost (Written a n (TestTo l braced)) = 0
 item_cost (Written a n Opening) = 0
 item_cost Closing = 0
 
@@ -37,16 +37,16 @@ items_cost (x ∷ items) = item_cost x + items_cost items
 
 abbrev IsBoundedItem : Item → Type 0
 IsBoundedItem (Written a n (Known v)) = IsBounded v
-IsBoundedItem (Written a n (BranchTo l)) = Unit {0}
-IsBoundedItem (Written a n (TestTo l)) = Unit {0}
+IsBoundedItem (Written a n (BranchTo l braced)) = Unit {0}
+IsBoundedItem (Written a n (TestTo l braced)) = Unit {0}
 IsBoundedItem (Written a n Opening) = Unit {0}
 IsBoundedItem Closing = Unit {0}
 
 written_cheap : (text rest : List ℕ) (a : Address) (n : Bool) (v : WrittenVerb) → IsCheapWritten v text rest
     → IsBoundedItem (Written a n v) × (item_cost (Written a n v) + length rest ≤ length text)
 written_cheap text rest a n (Known v) h = (h.bounded, h.cost)
-written_cheap text rest a n (BranchTo l) h = (tt, omega arith)
-written_cheap text rest a n (TestTo l) h = (tt, omega arith)
+written_cheap text rest a n (BranchTo l braced) h = (tt, omega arith)
+written_cheap text rest a n (TestTo l braced) h = (tt, omega arith)
 written_cheap text rest a n Opening h = (tt, omega arith)
 
 module _ {whole : List ℕ} (few : length whole ≤ 1048576) (zeros : Contains whole 0 → ⊥) where
@@ -78,8 +78,8 @@ commands_cheap : {A cs : List Command} {blocks : List ℕ} {place : ℕ} {items 
     → AllByRecursion (λ c. IsBounded c.verb) cs × (commands_cost cs ≤ items_cost items)
 commands_cheap done h = (tt, omega arith)
 commands_cheap (known r) h = let more = commands_cheap r h.1 in ((h.0, more.0), omega (arith, more.1))
-commands_cheap (branch k r) h = let more = commands_cheap r h.1 in ((no_names refl refl tt, more.0), omega (arith, more.1))
-commands_cheap (test k r) h = let more = commands_cheap r h.1 in ((no_names refl refl tt, more.0), omega (arith, more.1))
+commands_cheap (branch may k r) h = let more = commands_cheap r h.1 in ((no_names refl refl tt, more.0), omega (arith, more.1))
+commands_cheap (test may k r) h = let more = commands_cheap r h.1 in ((no_names refl refl tt, more.0), omega (arith, more.1))
 commands_cheap (opening k r) h = let more = commands_cheap r h.1 in ((no_names refl refl tt, more.0), omega (arith, more.1))
 commands_cheap (closing k r) h = let more = commands_cheap r h.1 in (more.0, omega (arith, more.1))
 

@@ -6,13 +6,14 @@ use Rattle.sedck_script.specs.Program.{Address, Verb}
 use Rattle.sedck_script.specs.Items.{WrittenVerb, Known, BranchTo, TestTo, Opening, Takes, Item, Written, Closing}
 use Rattle.sedck_script.specs.Faults.{StandsAt}
 use Rattle.sedck_script.specs.Cuts.{brace}
-use Rattle.sedck_script.specs.Private.ItemReading.{Turn, Opens, Closes, Stays, verb_turn, commands_among, locations_in}
+use Rattle.sedck_script.specs.Private.ItemReading.{Turn, Opens, Closes, Stays, Jumps, verb_turn, commands_among, locations_in}
 use Rattle.sedck_script.specs.Private.Progress.{patterns_of, item_patterns, NotesLabel, NotesBlock}
 use Rattle.std.specs.Borrow.{Bor}
 use Rattle.std.specs.HashMap.{HashMap}
 use Rattle.std.proofs.lemmas.List.Elements.{All-push}
 use Rattle.sedck_script.specs.Private.Reading.{HasLabels, label_place}
-use Rattle.sedck_script.specs.Private.VerbReading.{written_verb, IsWrittenAt, DefinesKnown}
+use Rattle.sedck_script.specs.Private.VerbReading.{written_verb, is_braced, IsWrittenAt, DefinesKnown}
+use Rattle.sedck_script.specs.Resolution.{MayBeBraced}
 use Rattle.sedck_script.specs.declared.written.WrittenCommand.{WrittenCommand}
 use Rattle.sedck_script.specs.declared.written.WrittenItem.{WrittenItem}
 use Rattle.sedck_script.specs.declared.written.WrittenItem.TheVariants as item
@@ -64,8 +65,8 @@ pub labels_noted : {S : Type 0} (old new : HashMap (Bor (List ℕ)) ℕ S) (xs :
 labels_noted old new xs text a n (code.Known v) h w t f k = labels_other old new xs h _ (λ q e. w q (known_same e)) k
 labels_noted old new xs text a n (code.Label name) h w t f k =
     rw (t.0, t.1) (labels_label old new xs h name.now (no_place (label_place old name.now) (λ i e. f (name.now, i, refl, e))) k)
-labels_noted old new xs text a n (code.BranchTo l place) h w t f k = labels_other old new xs h _ (λ q e. absurd (cc e)) k
-labels_noted old new xs text a n (code.TestTo l place) h w t f k = labels_other old new xs h _ (λ q e. absurd (cc e)) k
+labels_noted old new xs text a n (code.BranchTo jump) h w t f k = labels_other old new xs h _ (λ q e. absurd (cc e)) k
+labels_noted old new xs text a n (code.TestTo jump) h w t f k = labels_other old new xs h _ (λ q e. absurd (cc e)) k
 labels_noted old new xs text a n code.Opening h w t f k = labels_other old new xs h _ (λ q e. absurd (cc e)) k
 
 -- ---- Blocks
@@ -75,6 +76,7 @@ abbrev pub Deeper : Turn → ℕ → ℕ → Type 0
 Deeper Opens depth deep = (deep ≡ suc depth) × (depth < 64)
 Deeper Closes depth deep = ⊥
 Deeper Stays depth deep = deep ≡ depth
+Deeper (Jumps braced) depth deep = (deep ≡ depth) × MayBeBraced braced depth
 
 abbrev pub AreOpen : List ℕ → List ℕ → Type 0
 AreOpen text places = All (λ place. StandsAt text place brace) places
@@ -83,10 +85,10 @@ open_push : (text xs : List ℕ) (x : ℕ) → AreOpen text xs → StandsAt text
 open_push text xs x h k = All-push (λ place. StandsAt text place brace) xs x h k
 
 pub blocks_noted : (v : WrittenVerb) (text old new : List ℕ) (place : ℕ) → NotesBlock (verb_turn v) old new place → (v ≡ Opening → length old < 64)
-    → (v ≡ Opening → StandsAt text place brace) → AreOpen text old
+    → (v ≡ Opening → StandsAt text place brace) → MayBeBraced (is_braced v) (length old) → AreOpen text old
     → Deeper (verb_turn v) (length old) (length new) × AreOpen text new
-blocks_noted (Known v) text old new place k few at o = (ap length k, subst (AreOpen text) (sym k) o)
-blocks_noted (BranchTo l) text old new place k few at o = (ap length k, subst (AreOpen text) (sym k) o)
-blocks_noted (TestTo l) text old new place k few at o = (ap length k, subst (AreOpen text) (sym k) o)
-blocks_noted Opening text old new place k few at o =
+blocks_noted (Known v) text old new place k few at may o = (ap length k, subst (AreOpen text) (sym k) o)
+blocks_noted (BranchTo l braced) text old new place k few at may o = ((ap length k, may), subst (AreOpen text) (sym k) o)
+blocks_noted (TestTo l braced) text old new place k few at may o = ((ap length k, may), subst (AreOpen text) (sym k) o)
+blocks_noted Opening text old new place k few at may o =
     ((omega (arith, ap length k, length-append old (place ∷ [])), few refl), subst (AreOpen text) (sym k) (open_push text old place o (at refl)))

@@ -137,29 +137,31 @@ defines_known labels l some verb rest x =
     let at = some_of _ some in
     (i.name, at.0, i.is, ap (label_place labels) same ∙ at.1)
 
-pub branch_read : {text rest : List ℕ} (label : Option (List ℕ)) → BranchText text label rest → VerbText (98 ∷ text) (BranchTo label) rest
-branch_read (Some name) x = w.branch refl x.1 x.2 x.3
-branch_read None x = w.branch_to_end refl x.0 x.1
+pub branch_read : {text rest : List ℕ} (label : Option (List ℕ)) {braced : Bool} → BranchText text label braced rest
+    → VerbText (98 ∷ text) (BranchTo label braced) rest
+branch_read (Some name) x = w.branch refl x.1 x.2 x.3 x.4
+branch_read None x = w.branch_to_end refl x.0 x.1 x.2
 
-pub test_read : {text rest : List ℕ} (label : Option (List ℕ)) → BranchText text label rest → VerbText (116 ∷ text) (TestTo label) rest
-test_read (Some name) x = w.test refl x.1 x.2 x.3
-test_read None x = w.test_to_end refl x.0 x.1
+pub test_read : {text rest : List ℕ} (label : Option (List ℕ)) {braced : Bool} → BranchText text label braced rest
+    → VerbText (116 ∷ text) (TestTo label braced) rest
+test_read (Some name) x = w.test refl x.1 x.2 x.3 x.4
+test_read None x = w.test_to_end refl x.0 x.1 x.2
 
-branch_at : {text rest : List ℕ} {verb : WrittenVerb} → VerbText (98 ∷ text) verb rest → (label : Option (List ℕ)) × BranchText text label rest
-branch_at (w.branch {name = n} {behind = b} h l k e) = (Some n, (b, l, k, e))
-branch_at (w.branch_to_end h k e) = (None, (k, e))
+branch_at : {text rest : List ℕ} {verb : WrittenVerb} → VerbText (98 ∷ text) verb rest → (label : Option (List ℕ)) × (braced : Bool) × BranchText text label braced rest
+branch_at (w.branch {name = n} {behind = b} h l k e brace) = (Some n, _, (b, l, k, e, brace))
+branch_at (w.branch_to_end h k e brace) = (None, _, (k, e, brace))
 branch_at x = absurd (differ 98 (class_of x) refl (begins x))
 
-test_at : {text rest : List ℕ} {verb : WrittenVerb} → VerbText (116 ∷ text) verb rest → (label : Option (List ℕ)) × BranchText text label rest
-test_at (w.test {name = n} {behind = b} h l k e) = (Some n, (b, l, k, e))
-test_at (w.test_to_end h k e) = (None, (k, e))
+test_at : {text rest : List ℕ} {verb : WrittenVerb} → VerbText (116 ∷ text) verb rest → (label : Option (List ℕ)) × (braced : Bool) × BranchText text label braced rest
+test_at (w.test {name = n} {behind = b} h l k e brace) = (Some n, _, (b, l, k, e, brace))
+test_at (w.test_to_end h k e brace) = (None, _, (k, e, brace))
 test_at x = absurd (differ 116 (class_of x) refl (begins x))
 
 -- a `b` or a `t`, behind which no label stands
-pub no_jump : {b : ℕ} {text : List ℕ} → (b ≡ 98) ⊎ (b ≡ 116) → ((label : Option (List ℕ)) (rest : List ℕ) → BranchText text label rest → ⊥)
+pub no_jump : {b : ℕ} {text : List ℕ} → (b ≡ 98) ⊎ (b ≡ 116) → ((label : Option (List ℕ)) (braced : Bool) (rest : List ℕ) → BranchText text label braced rest → ⊥)
     → (verb : WrittenVerb) (rest : List ℕ) → VerbText (b ∷ text) verb rest → ⊥
 no_jump h n verb rest x =
-    elim h [ inl e ↦ (let i = branch_at (byte_along e x) in n i.0 rest i.1) | inr e ↦ (let i = test_at (byte_along e x) in n i.0 rest i.1) ]
+    elim h [ inl e ↦ (let i = branch_at (byte_along e x) in n i.0 i.1 rest i.2) | inr e ↦ (let i = test_at (byte_along e x) in n i.0 i.1 rest i.2) ]
 
 pub verb_behind : {b c : ℕ} {text behind rest : List ℕ} {verb : WrittenVerb} → text ≡ b ∷ behind → b ≡ c → VerbText text verb rest
     → VerbText (c ∷ behind) verb rest

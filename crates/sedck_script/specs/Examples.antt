@@ -17,7 +17,7 @@ plain_command verb = record { address = NoAddress; negated = false; verb = verb 
 
 -- `:a;N;b a`
 abbrev pub join_items : List Item
-join_items = plain_item (Known (Label (codes "a"))) ∷ plain_item (Known NextAppend) ∷ plain_item (BranchTo (Some (codes "a"))) ∷ []
+join_items = plain_item (Known (Label (codes "a"))) ∷ plain_item (Known NextAppend) ∷ plain_item (BranchTo (Some (codes "a")) false) ∷ []
 
 abbrev pub join_commands : List Command
 join_commands = plain_command (Label (codes "a")) ∷ plain_command NextAppend ∷ plain_command (Branch 0) ∷ []

@@ -7,9 +7,10 @@ ghost use Rattle.sedck_script.specs.Cuts.{bang, Longest};
 ghost use Rattle.sedck_script.specs.Program as clean;
 ghost use Rattle.sedck_script.specs.Program.{address_patterns};
 ghost use Rattle.sedck_script.specs.Items.{WrittenVerb, Opening, VerbText, Takes, IsNoBrace, CommandText};
+ghost use Rattle.sedck_script.specs.Resolution.{MayBeBraced};
 ghost use Rattle.sedck_script.specs.Faults.{BeginsCommand, IsVerbDue, IsEmptyExpression, IsPlaced, verb_bytes};
 ghost use Rattle.sedck_script.specs.Private.Reading.{EndsIn};
-ghost use Rattle.sedck_script.specs.Private.VerbReading.{written_verb, IsWrittenAt, DefinesKnown};
+ghost use Rattle.sedck_script.specs.Private.VerbReading.{written_verb, is_braced, IsWrittenAt, DefinesKnown};
 ghost use Rattle.sedck_script.specs.Private.AddressReading.{is_mark, has_previous, IsEmptyAt};
 ghost use Rattle.sedck_script.specs.Private.Progress.{takes, written_patterns, IsBeyond, AreAllowed};
 ghost use Rattle.sedck_script.specs.Private.Locating.{IsOnlyLocation};
@@ -87,6 +88,20 @@ fn check_verb(
     Ok(())
 }
 
+/// Whether the verb may be where this many blocks are open: no `}` may be right behind its label inside of two of them.
+fn check_brace(verb: &Written, depth: usize) -> Result<(), ScriptFault>
+    ensures allowed { OnOk result (MayBeBraced (is_braced (written_verb verb.now)) depth) }
+    ensures refused { OnErr result ((is_braced (written_verb verb.now) ≡ true) × (2 ≤ depth)) }
+    ensures placed { IfErr result (λ fault. (text : List ℕ) → IsWrittenAt text verb.now → IsPlaced text fault) }
+{
+    if let Written::BranchTo(jump) | Written::TestTo(jump) = verb {
+        if let (Some(place), 2..) = (jump.brace, depth) {
+            return Err(ScriptFault::BadLabel { place });
+        }
+    }
+    Ok(())
+}
+
 /// Where the verb has an empty expression, the place behind its delimiter.
 fn empty_verb(verb: &Written, behind: usize) -> Option<usize>
     ensures { (text : List ℕ) → (has_previous (written_patterns (written_verb verb.now)) ≡ true → IsEmptyExpression text behind) → IsEmptyAt text (written_patterns (written_verb verb.now)) result }
@@ -116,13 +131,16 @@ fn allowed_verb<'a>(
     ensures taken { IfOk result (λ x. Takes (written_verb x.0) (address_of address.now) negated) }
     ensures fresh { IfOk result (λ x. DefinesKnown labels.now (written_verb x.0) → ⊥) }
     ensures shallow { IfOk result (λ x. written_verb x.0 ≡ Opening → depth < 64) }
+    ensures braced { IfOk result (λ x. MayBeBraced (is_braced (written_verb x.0)) depth) }
     ensures few { IfOk result (λ x. count < 4095) }
     ensures label { IfOk result (λ x. IsWrittenAt whole.now x.0) }
     ensures refused { IfErr result (λ fault. fault ≢ ScriptFault.OutOfMemory → (verb : WrittenVerb) (rest : List ℕ) → VerbText text.now verb rest → Takes verb (address_of address.now) negated → DefinesKnown labels.now verb ⊎ IsBeyond depth count verb) }
     ensures placed { IfErr result (λ fault. IsPlaced whole.now fault) }
 {
     check_verb(whole, address, negated, depth, count, text)?;
-    verb_at(alloc, whole, labels, text)
+    let (verb, rest) = verb_at(alloc, whole, labels, text)?;
+    check_brace(&verb, depth)?;
+    Ok((verb, rest))
 }
 
 /// The command at the start, the place of its first empty expression, and what follows it.
@@ -139,6 +157,7 @@ pub fn command_at<'a>(
     ensures read { IfOk result (λ x. CommandText text.now (address_of x.0.address) x.0.negated (written_verb x.0.verb) x.2.now) }
     ensures fresh { IfOk result (λ x. DefinesKnown labels.now (written_verb x.0.verb) → ⊥) }
     ensures shallow { IfOk result (λ x. written_verb x.0.verb ≡ Opening → depth < 64) }
+    ensures braced { IfOk result (λ x. MayBeBraced (is_braced (written_verb x.0.verb)) depth) }
     ensures few { IfOk result (λ x. count < 4095) }
     ensures label { IfOk result (λ x. IsWrittenAt whole.now x.0.verb) }
     ensures located { IfOk result (λ x. IsOnlyLocation (length whole.now) text.now x.0.location) }

@@ -1,17 +1,28 @@
 //! Labels behind `:`, `b` and `t`.
 
-ghost use Rattle.std.specs.Prelude.{◌≡◌, ◌<◌, ◌+◌, ℕ, Bool, false, List, Option, length, option_copied, IfOk, IfErr, OnOk};
-ghost use Rattle.sedck_bre.specs.Text.{one_of};
+ghost use Rattle.std.specs.Prelude.{◌≡◌, ◌<◌, ◌+◌, ℕ, Bool, false, List, Option, length, is_some, option_copied, IfOk, IfErr, IfSome, OnOk};
+ghost use Rattle.sedck_bre.specs.Text.{begins, one_of};
 ghost use Rattle.sedck_script.specs.Cuts.{is_ending, is_label_byte, IsEmptyOr, Longest};
 ghost use Rattle.sedck_script.specs.Parts.{Ends, LabelText};
 ghost use Rattle.sedck_script.specs.Items.{IsNoComment, IsNoBrace, EndsJump, begins_braced_comment};
 ghost use Rattle.sedck_script.specs.Faults.{IsLabelBehind, IsPlaced};
-ghost use Rattle.sedck_script.specs.Private.Reading.{IsLabelAt, IsLabelPlace};
+ghost use Rattle.sedck_script.specs.Private.Reading.{IsLabelAt};
 ghost use Rattle.sedck_script.specs.Private.LabelReading.{BranchText, IsBehindVerb, IsBehindLabel};
+ghost use Rattle.sedck_script.specs.Private.VerbReading.{IsJumpAt};
 
 use crate::bytes::{is_ending, is_spacing, label_len, split_blanks};
 use crate::ends::end_of_command;
 use crate::fault::ScriptFault;
+
+/// Where a branch or a test leads.
+#[derive(Clone, Copy, Debug)]
+pub struct Jump<'a> {
+    pub label: Option<&'a [u8]>,
+    /// The offset of the label's first byte, or of what is there where it is missing.
+    pub place: usize,
+    /// The offset of a `}` that is right behind the label.
+    pub brace: Option<usize>,
+}
 
 /// The bytes of a label at the start, and what follows them.
 fn split_label(text: &[u8]) -> (&[u8], &[u8])
@@ -135,23 +146,49 @@ fn check_no_label(whole: &[u8], begins: &[u8]) -> Result<(), ScriptFault>
     Ok(())
 }
 
-/// The label of a branch or none, the place where it begins, and the rest of the text from the command's end on.
-pub fn branch_label<'a>(
-    whole: &[u8],
-    text: &'a [u8],
-) -> Result<(Option<&'a [u8]>, usize, &'a [u8]), ScriptFault>
+/// The offset of the `}` that is right behind a label, or behind a verb without one.
+fn brace_behind(whole: &[u8], behind: &[u8]) -> Option<usize>
+    requires { IsBehindLabel whole.now behind.now }
+    ensures brace { is_some result ≡ begins "}" behind.now }
+    ensures placed { IfSome result (λ place. IsPlaced whole.now (ScriptFault.BadLabel place)) }
+{
+    if behind.starts_with(b"}") {
+        return Some(whole.len() - behind.len());
+    }
+    None
+}
+
+/// The label of a branch or none, and the rest of the text from the command's end on.
+pub fn branch_label<'a>(whole: &[u8], text: &'a [u8]) -> Result<(Jump<'a>, &'a [u8]), ScriptFault>
     requires { IsBehindVerb (one_of "bt") whole.now text.now }
-    ensures read { IfOk result (λ x. BranchText text.now (option_copied x.0) x.2.now) }
-    ensures label { IfOk result (λ x. IsLabelPlace whole.now x.1 (option_copied x.0)) }
-    ensures refused { IfErr result (λ fault. (label : Option (List ℕ)) (rest : List ℕ) → BranchText text.now label rest → ⊥) }
+    ensures read { IfOk result (λ x. BranchText text.now (option_copied x.0.label) (is_some x.0.brace) x.1.now) }
+    ensures label { IfOk result (λ x. IsJumpAt whole.now x.0) }
+    ensures refused { IfErr result (λ fault. (label : Option (List ℕ)) (braced : Bool) (rest : List ℕ) → BranchText text.now label braced rest → ⊥) }
     ensures placed { IfErr result (λ fault. IsPlaced whole.now fault) }
 {
     let (name, place, behind) = label_parts(whole, text);
+    let brace = brace_behind(whole, behind);
     if name.is_empty() {
         check_no_label(whole, behind)?;
-        return Ok((None, place, behind));
+        let label = None;
+        return Ok((
+            Jump {
+                label,
+                place,
+                brace,
+            },
+            behind,
+        ));
     }
     check_behind_label(whole, behind)?;
     let rest = end_of_jump(whole, behind)?;
-    Ok((Some(name), place, rest))
+    let label = Some(name);
+    Ok((
+        Jump {
+            label,
+            place,
+            brace,
+        },
+        rest,
+    ))
 }

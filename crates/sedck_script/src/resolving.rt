@@ -11,6 +11,7 @@ ghost use Rattle.sedck_script.specs.Private.ItemReading.{item_of, commands_among
 
 use crate::fault::ScriptFault;
 use crate::label_places::place_of;
+use crate::labels::Jump;
 use crate::script::{Command, Verb};
 use crate::verbs::Written;
 use crate::written::{WrittenCommand, WrittenItem};
@@ -45,8 +46,8 @@ fn command_of<'a>(
     let verb = match verb {
         Written::Known(verb) => verb,
         Written::Label(name) => Verb::Label(name),
-        Written::BranchTo { label, place: _ } => Verb::Branch(target_of(labels, end, label)),
-        Written::TestTo { label, place: _ } => Verb::Test(target_of(labels, end, label)),
+        Written::BranchTo(jump) => Verb::Branch(target_of(labels, end, jump.label)),
+        Written::TestTo(jump) => Verb::Test(target_of(labels, end, jump.label)),
         Written::Opening => Verb::Block(block),
     };
     Command {
@@ -76,8 +77,8 @@ fn label_of<'a>(item: &WrittenItem<'a>) -> Option<(&'a [u8], usize)>
         return None;
     };
     match &command.verb {
-        Written::BranchTo { label, place } => label.map(|name| (name, *place)),
-        Written::TestTo { label, place } => label.map(|name| (name, *place)),
+        Written::BranchTo(Jump { label, place, .. }) => label.map(|name| (name, *place)),
+        Written::TestTo(Jump { label, place, .. }) => label.map(|name| (name, *place)),
         Written::Known(_) | Written::Label(_) | Written::Opening => None,
     }
 }

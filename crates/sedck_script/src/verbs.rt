@@ -14,7 +14,7 @@ use crate::bytes::split_blanks;
 use crate::ends::end_of_command;
 use crate::fault::ScriptFault;
 use crate::label_places::place_of;
-use crate::labels::{branch_label, defined_label};
+use crate::labels::{Jump, branch_label, defined_label};
 use crate::names::{name, name_fault};
 use crate::script::Verb;
 use crate::substitutions::{substitution, transliteration};
@@ -22,19 +22,13 @@ use crate::texts::given_text;
 use indexmap::IndexMap;
 use std::alloc::Global;
 
-/// A verb as it is written; a branch and a test with the place of their label's first byte.
+/// A verb as it is written.
 #[derive(Drop)]
 pub enum Written<'a> {
     Known(Verb<'a>),
     Label(&'a [u8]),
-    BranchTo {
-        label: Option<&'a [u8]>,
-        place: usize,
-    },
-    TestTo {
-        label: Option<&'a [u8]>,
-        place: usize,
-    },
+    BranchTo(Jump<'a>),
+    TestTo(Jump<'a>),
     Opening,
 }
 
@@ -197,11 +191,11 @@ fn jump<'a>(whole: &[u8], verb: u8, text: &'a [u8]) -> Result<(Written<'a>, &'a 
     ensures refused { IfErr result (λ fault. (written : WrittenVerb) (rest : List ℕ) → VerbText (verb ∷ text.now) written rest → ⊥) }
     ensures placed { IfErr result (λ fault. IsPlaced whole.now fault) }
 {
-    let (label, place, rest) = branch_label(whole, text)?;
+    let (jump, rest) = branch_label(whole, text)?;
     if verb == b'b' {
-        Ok((Written::BranchTo { label, place }, rest))
+        Ok((Written::BranchTo(jump), rest))
     } else {
-        Ok((Written::TestTo { label, place }, rest))
+        Ok((Written::TestTo(jump), rest))
     }
 }
 

@@ -1,9 +1,10 @@
 -- What the readers of items, and the resolver of their labels, say of them.
-use Rattle.std.specs.Prelude.{◌≡◌, ℕ, suc, zero, ◌<◌, List, [], ◌∷◌, ◌++◌, Option, Some, None, unwrap_or}
+use Rattle.std.specs.Prelude.{◌≡◌, ℕ, suc, zero, ◌<◌, Bool, List, [], ◌∷◌, ◌++◌, Option, Some, None, unwrap_or}
 use Rattle.std.specs.Borrow.{Bor}
 use Rattle.std.specs.HashMap.{HashMap}
 use Rattle.sedck_script.specs.Program.{Verb, Branch, Test, Block, Command}
 use Rattle.sedck_script.specs.Items.{WrittenVerb, Known, BranchTo, TestTo, Opening, Item, Written, Closing}
+use Rattle.sedck_script.specs.Resolution.{MayBeBraced}
 use Rattle.sedck_script.specs.View.{address_of}
 use Rattle.sedck_script.specs.Private.Reading.{label_place}
 use Rattle.sedck_script.specs.Private.VerbReading.{written_verb, IsWrittenAt}
@@ -30,28 +31,31 @@ locations_in [] = []
 locations_in (code.Command c ∷ items) = c.location ∷ locations_in items
 locations_in (code.Closing ∷ items) = locations_in items
 
--- what an item does to the number of open blocks
+-- what an item does to the number of open blocks; a jump leaves it, and says whether a `}` is right behind its label
 pub data Turn : Type 0 where
   Opens : Turn
   Closes : Turn
   Stays : Turn
+  Jumps : Bool → Turn
 
 abbrev pub verb_turn : WrittenVerb → Turn
 verb_turn (Known v) = Stays
-verb_turn (BranchTo label) = Stays
-verb_turn (TestTo label) = Stays
+verb_turn (BranchTo label braced) = Jumps braced
+verb_turn (TestTo label braced) = Jumps braced
 verb_turn Opening = Opens
 
 abbrev pub turn_of : Item → Turn
 turn_of (Written a n v) = verb_turn v
 turn_of Closing = Closes
 
--- what follows is right for the number of blocks that are open behind the turn, of which there are at most 64
+-- what follows is right for the number of blocks that are open behind the turn, of which there are at most 64, and at most one
+-- where a `}` is right behind a label
 abbrev pub Turned : Turn → (ℕ → Type 0) → ℕ → Type 0
 Turned Opens P depth = (depth < 64) × P (suc depth)
 Turned Closes P zero = ⊥
 Turned Closes P (suc depth) = P depth
 Turned Stays P depth = P depth
+Turned (Jumps braced) P depth = MayBeBraced braced depth × P depth
 
 -- where this many blocks are open, the items close each block, and open none too deep
 abbrev pub Nests : List Item → ℕ → Type 0
@@ -77,8 +81,8 @@ IsLostLabel labels (Some name) = label_place labels name ≡ None
 
 -- the label to which a verb leads, if it leads to one
 abbrev pub label_of : WrittenVerb → Option (List ℕ)
-label_of (BranchTo label) = label
-label_of (TestTo label) = label
+label_of (BranchTo label braced) = label
+label_of (TestTo label braced) = label
 label_of (Known v) = None
 label_of Opening = None
 
@@ -94,8 +98,8 @@ target_of labels end (Some name) = unwrap_or (label_place labels name) end
 -- the verb with its target, where a block leads to this place
 abbrev pub resolved_verb : {S : Type 0} → HashMap (Bor (List ℕ)) ℕ S → ℕ → ℕ → WrittenVerb → Verb
 resolved_verb labels end block (Known v) = v
-resolved_verb labels end block (BranchTo label) = Branch (target_of labels end label)
-resolved_verb labels end block (TestTo label) = Test (target_of labels end label)
+resolved_verb labels end block (BranchTo label braced) = Branch (target_of labels end label)
+resolved_verb labels end block (TestTo label braced) = Test (target_of labels end label)
 resolved_verb labels end block Opening = Block block
 
 -- the command with its target
@@ -107,3 +111,4 @@ abbrev pub TakesTarget : Turn → List ℕ → List ℕ → ℕ → Type 0
 TakesTarget Opens old new target = (old ≡ [] → ⊥) → old ≡ new ++ target ∷ []
 TakesTarget Closes old new target = new ≡ old
 TakesTarget Stays old new target = new ≡ old
+TakesTarget (Jumps braced) old new target = new ≡ old

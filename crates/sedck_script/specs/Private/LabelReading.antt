@@ -1,15 +1,16 @@
 -- What the readers of labels say of what they read.
-use Rattle.std.specs.Prelude.{ℕ, ◌-◌, Bool, not, List, ◌∷◌, length, Option, Some, None, IsTrue}
+use Rattle.std.specs.Prelude.{◌≡◌, ℕ, ◌-◌, Bool, not, List, ◌∷◌, length, Option, Some, None, IsTrue}
+use Rattle.sedck_bre.specs.Text.{begins}
 use Rattle.sedck_script.specs.Cuts.{is_label_byte, IsEmptyOr}
-use Rattle.sedck_script.specs.Parts.{Ends, LabelText}
+use Rattle.sedck_script.specs.Parts.{LabelText}
 use Rattle.sedck_script.specs.Items.{IsNoComment, EndsJump}
 use Rattle.sedck_script.specs.Faults.{FollowsLabel}
 use Rattle.sedck_script.specs.Private.Reading.{EndsIn}
 
--- a label or none behind a branch or a test, and its end
-abbrev pub BranchText : List ℕ → Option (List ℕ) → List ℕ → Type 0
-BranchText text (Some name) rest = (behind : List ℕ) × LabelText text name behind × IsNoComment behind × EndsJump behind rest
-BranchText text None rest = IsNoComment rest × EndsJump text rest
+-- a label or none behind a branch or a test, whether a `}` is right behind it, and its end
+abbrev pub BranchText : List ℕ → Option (List ℕ) → Bool → List ℕ → Type 0
+BranchText text (Some name) braced rest = (behind : List ℕ) × LabelText text name behind × IsNoComment behind × EndsJump behind rest × (braced ≡ begins "}" behind)
+BranchText text None braced rest = IsNoComment rest × EndsJump text rest × (braced ≡ begins "}" rest)
 
 -- the text stands in the whole right behind a verb that passes the test
 abbrev pub IsBehindVerb : (ℕ → Bool) → List ℕ → List ℕ → Type 0

@@ -10,9 +10,10 @@ use Rattle.sedck_script.specs.Items.{WrittenVerb, Known, BranchTo, TestTo, Openi
 use Rattle.sedck_script.specs.Faults.{StandsAt}
 pub use Rattle.sedck_script.specs.Faults.{BeginsCommand}
 use Rattle.sedck_script.specs.Private.Reading.{EndsIn, HasLabels, AreLabelsOnce, label_place}
-use Rattle.sedck_script.specs.Private.ItemReading.{Turn, Opens, Closes, Stays, item_of, commands_among, locations_in, Nests, IsItemAt}
+use Rattle.sedck_script.specs.Private.ItemReading.{Turn, Opens, Closes, Stays, Jumps, item_of, commands_among, locations_in, Nests, IsItemAt}
 use Rattle.sedck_script.specs.Private.Locating.{AreFirstLocations}
 use Rattle.sedck_script.specs.Private.AddressReading.{IsEmptyAt}
+use Rattle.sedck_script.specs.Private.VerbReading.{is_braced}
 use Rattle.sedck_script.specs.declared.items.Progress.{Progress}
 use Rattle.sedck_script.specs.declared.verbs.Written.{Written as WrittenCode}
 use Rattle.sedck_script.specs.declared.verbs.Written.TheVariants as code
@@ -40,8 +41,8 @@ takes b given negated =
 -- the patterns of a verb
 abbrev pub written_patterns : WrittenVerb → List Pattern
 written_patterns (Known verb) = verb_patterns verb
-written_patterns (BranchTo label) = []
-written_patterns (TestTo label) = []
+written_patterns (BranchTo label braced) = []
+written_patterns (TestTo label braced) = []
 written_patterns Opening = []
 
 abbrev pub patterns_of : Item → List Pattern
@@ -52,9 +53,9 @@ patterns_of Closing = []
 abbrev pub item_patterns : List Item → List Pattern
 item_patterns items = flat_map patterns_of items
 
--- the verb opens a block though 64 are open, or there are 4,095 commands
+-- the verb opens a block though 64 are open, or has a `}` right behind its label though two are, or there are 4,095 commands
 abbrev pub IsBeyond : ℕ → ℕ → WrittenVerb → Type 0
-IsBeyond depth count verb = ((verb ≡ Opening) × (64 ≤ depth)) ⊎ (4095 ≤ count)
+IsBeyond depth count verb = ((verb ≡ Opening) × (64 ≤ depth)) ⊎ ((is_braced verb ≡ true) × (2 ≤ depth)) ⊎ (4095 ≤ count)
 
 -- the text's verbs take the addresses, and are within the limits
 abbrev pub AreAllowed : Address → Bool → ℕ → ℕ → List ℕ → Type 0
@@ -91,8 +92,8 @@ HasNoItems text = (items : List Item) → Items text items → length (commands_
 abbrev pub NotesLabel : {S : Type 0} → HashMap (Bor (List ℕ)) ℕ S → HashMap (Bor (List ℕ)) ℕ S → ℕ → WrittenCode → Type 0
 NotesLabel old new place (code.Label name) = (q : List ℕ) → label_place new q ≡ (if bytes_eq name.now q then Some place else label_place old q)
 NotesLabel old new place (code.Known verb) = (q : List ℕ) → label_place new q ≡ label_place old q
-NotesLabel old new place (code.BranchTo label at) = (q : List ℕ) → label_place new q ≡ label_place old q
-NotesLabel old new place (code.TestTo label at) = (q : List ℕ) → label_place new q ≡ label_place old q
+NotesLabel old new place (code.BranchTo jump) = (q : List ℕ) → label_place new q ≡ label_place old q
+NotesLabel old new place (code.TestTo jump) = (q : List ℕ) → label_place new q ≡ label_place old q
 NotesLabel old new place code.Opening = (q : List ℕ) → label_place new q ≡ label_place old q
 
 -- the place is added where a block is opened
@@ -100,3 +101,4 @@ abbrev pub NotesBlock : Turn → List ℕ → List ℕ → ℕ → Type 0
 NotesBlock Opens old new place = new ≡ old ++ place ∷ []
 NotesBlock Closes old new place = new ≡ old
 NotesBlock Stays old new place = new ≡ old
+NotesBlock (Jumps braced) old new place = new ≡ old

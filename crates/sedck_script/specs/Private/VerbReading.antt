@@ -1,12 +1,15 @@
 -- What the readers of verbs say of what they read.
-use Rattle.std.specs.Prelude.{◌≡◌, ℕ, List, length, Some, option_copied}
+use Rattle.std.specs.Prelude.{◌≡◌, ℕ, Bool, false, List, length, Some, IfSome, is_some, option_copied}
 use Rattle.std.specs.Borrow.{Bor}
 use Rattle.std.specs.HashMap.{HashMap}
 use Rattle.sedck_script.specs.Program.{Label}
+use Rattle.sedck_script.specs.Faults.{IsPlaced}
 use Rattle.sedck_script.specs.Parts.{DelimitedList, FirstList}
 use Rattle.sedck_script.specs.Items.{WrittenVerb, Known, BranchTo, TestTo, Opening}
 use Rattle.sedck_script.specs.View.{verb_of}
 use Rattle.sedck_script.specs.Private.Reading.{label_place, IsLabelPlace}
+use Rattle.sedck_script.specs.declared.fault.ScriptFault.TheVariants.{BadLabel}
+use Rattle.sedck_script.specs.declared.labels.Jump.{Jump}
 use Rattle.sedck_script.specs.declared.verbs.Written.{Written}
 use Rattle.sedck_script.specs.declared.verbs.Written.TheVariants as code
 
@@ -14,17 +17,28 @@ use Rattle.sedck_script.specs.declared.verbs.Written.TheVariants as code
 abbrev pub written_verb : Written → WrittenVerb
 written_verb (code.Known verb) = Known (verb_of verb)
 written_verb (code.Label name) = Known (Label name.now)
-written_verb (code.BranchTo label place) = BranchTo (option_copied label)
-written_verb (code.TestTo label place) = TestTo (option_copied label)
+written_verb (code.BranchTo jump) = BranchTo (option_copied jump.label) (is_some jump.brace)
+written_verb (code.TestTo jump) = TestTo (option_copied jump.label) (is_some jump.brace)
 written_verb code.Opening = Opening
+
+-- the label begins at its place, and a `}` right behind it is where no label may go on
+abbrev pub IsJumpAt : List ℕ → Jump → Type 0
+IsJumpAt text jump = IsLabelPlace text jump.place (option_copied jump.label) × IfSome jump.brace (λ place. IsPlaced text (BadLabel place))
 
 -- A known verb is no label, and the label of a branch or a test begins at its place.
 abbrev pub IsWrittenAt : List ℕ → Written → Type 0
 IsWrittenAt text (code.Known verb) = (name : List ℕ) → verb_of verb ≡ Label name → ⊥
 IsWrittenAt text (code.Label name) = Unit {0}
-IsWrittenAt text (code.BranchTo label place) = IsLabelPlace text place (option_copied label)
-IsWrittenAt text (code.TestTo label place) = IsLabelPlace text place (option_copied label)
+IsWrittenAt text (code.BranchTo jump) = IsJumpAt text jump
+IsWrittenAt text (code.TestTo jump) = IsJumpAt text jump
 IsWrittenAt text code.Opening = Unit {0}
+
+-- a `}` is right behind the label of a branch or a test
+abbrev pub is_braced : WrittenVerb → Bool
+is_braced (Known verb) = false
+is_braced (BranchTo label braced) = braced
+is_braced (TestTo label braced) = braced
+is_braced Opening = false
 
 -- two lists behind the delimiter of a `y`, equally long
 pub record AreLists (delimiter : ℕ) (text from to rest : List ℕ) : Type 0 where

@@ -135,6 +135,31 @@ static COMMENTS: [Row; 24] = [
     (b"{p}#;w F", 0, 0),
 ];
 
+/// .. a `}` that they take for a part of a label, where it closes a block inside of another one, ..
+static BRACES: [Row; 20] = [
+    (b":a\n{\n/q/{b}\nn\n}\nba", 13, 10),
+    (b"{{b}}", 13, 3),
+    (b"{{t};p}", 13, 3),
+    (b"{{b \t}}", 13, 5),
+    (b":x\n{{ bx}}", 13, 8),
+    (b":x\n{p;{tx}\n}", 13, 9),
+    (b"{{{b}}}", 13, 4),
+    (b"{{p}{b}}", 13, 6),
+    // what follows makes no difference, and neither does what precedes the two blocks
+    (b"{{b}", 13, 3),
+    (b"{{b}}p p", 13, 3),
+    (b"{p}{{b}}", 13, 6),
+    (b"{p}{b}", 0, 0),
+    (b"{{p};b}", 0, 0),
+    (b"{{b;}}", 0, 0),
+    (b"{{b\n}}", 0, 0),
+    (b":x\n{{bx }}", 0, 0),
+    (b":x\n{{bx;}}", 0, 0),
+    (b":x\n{{tx\n}}", 0, 0),
+    (b"$!{N;b}", 0, 0),
+    (b":x\n{p;tx}", 0, 0),
+];
+
 /// .. an escaped delimiter `x` that they read with the bytes behind it, beside a `[`, ..
 static ESCAPES: [Row; 12] = [
     (b"sx[\\xa]xyx", 22, 3),
@@ -371,6 +396,7 @@ fn refused(rt: HostRuntime) {
 #[test]
 fn read_differently(rt: HostRuntime) {
     have_faults(&rt, rt.alloc(), &Kind::Script, &COMMENTS);
+    have_faults(&rt, rt.alloc(), &Kind::Script, &BRACES);
     have_faults(&rt, rt.alloc(), &Kind::Script, &ESCAPES);
     have_faults(&rt, rt.alloc(), &Kind::Script, &BRACKETS);
     have_faults(&rt, rt.alloc(), &Kind::Script, &LINES);

@@ -1,4 +1,4 @@
-use Rattle.std.proofs.Common.{◌⊎◌, ◌<◌, ◌∷◌, [], map, refl, ap, ◌∙◌, subst, length-append, arith}
+use Rattle.std.proofs.Common.{◌⊎◌, ◌<◌, ◌≤◌, ◌∷◌, [], map, refl, ap, ◌∙◌, subst, length-append, arith}
 use Rattle.std.proofs.lemmas.List.{map_push}
 use Rattle.std.proofs.lemmas.List.Elements.{All-push}
 use Rattle.sedck_script.specs.Items.{Written}
@@ -43,7 +43,7 @@ returns-clause-progress c =
     let noted = blocks_noted
     (written_verb command.verb) c.args.text.now old.open_blocks.items c.note_command.new.progress.open_blocks.items _ c.in_ok-note_command.ensures.opened
     (λ e. subst (λ d. d < 64) (omega (arith, c.len.ensures)) (c.in_ok-command.ensures.shallow e))
-    (λ e. brace_stands _ c.requires.progress.front.tail c.in_ok-command.ensures.read refl e) c.requires.progress.opened in
+    (λ e. brace_stands _ c.requires.progress.front.tail c.in_ok-command.ensures.read refl e) (λ e. subst (λ d. d ≤ 1) (omega (arith, c.len.ensures)) (c.in_ok-command.ensures.braced e)) c.requires.progress.opened in
     record {
       front = rw items (front_command c.requires.progress.front c.requires.begins c.in_ok-command.ensures.read noted.0);
       labels = rw (items, among_append) (labels_noted old.labels c.note_command.new.progress.labels (commands_among (map item_of old.items.items))

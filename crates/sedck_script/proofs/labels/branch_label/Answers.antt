@@ -18,4 +18,5 @@ returns-in_err-rest-clause-refused c = if_err_always c.from_residual-in_err-rest
     (no_branch_label c.label_parts-place.ensures.parts (grind (arith, c.if-is_empty.ensures)) (λ rest n e. c.in_err-rest.ensures.refused rest e))
 
 pub returns-clause-label : goal.returns-clause-label
-returns-clause-label c = c.label_parts-place.ensures.label (one_of "bt") c.requires (grind (arith, c.if-is_empty.ensures))
+returns-clause-label c =
+    (c.label_parts-place.ensures.label (one_of "bt") c.requires (grind (arith, c.if-is_empty.ensures)), c.brace_behind-brace.ensures.placed)

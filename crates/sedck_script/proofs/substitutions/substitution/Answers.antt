@@ -13,6 +13,10 @@ use Rattle.sedck_script.proofs.VerbLemmas.{substitute_read, substitute_no_delimi
 use Rattle.sedck_script.proofs.SizesWithin.{replacement_parts, replacement_size}
 use Rattle.sedck_script.proofs.substitutions.substitution.Goals as goal
 
+pub returns-in_err-delimiter-clause-refused : goal.returns-in_err-delimiter-clause-refused
+returns-in_err-delimiter-clause-refused c =
+    if_err_each _ c.from_residual.result (λ fault memory. substitute_no_delimiter c.in_err-delimiter.ensures.refused)
+
 pub returns-in_err-delimiter-clause-placed : goal.returns-in_err-delimiter-clause-placed
 returns-in_err-delimiter-clause-placed c = if_err_from _ c.from_residual.result _ c.from_residual.ensures.1
     (part_placed c.args.place c.args.whole.now _ (c.in_err-delimiter.ensures.placed c.args.whole.now) (λ is. (
