@@ -3,7 +3,6 @@
 A finding is a file that was made and isn't listed, a command that was run, an unlisted file that was read, a run that doesn't end
 within its bound, or a substitution that takes out less than the least length of its expression.
 """
-import re
 
 from seds_draw import CONTROLS, Grammar
 from seds_run import LIMIT_SECONDS, LONG_SECONDS, SECRET, TOLD_SECONDS
