@@ -373,8 +373,9 @@ bre.Laws bre.Examples script.Laws script.First script.Examples flow.Laws flow.Ex
 
 # What is promised, in parts: a title, a sentence, and groups of the same with the contracts that they rest on.
 PARTS = [
-    ("To trust a yes", "What the clause `promise` of `judge` and `verify` says: an accepted script's runs end, and their files are listed. Whoever only trusts a yes has to believe this and nothing else: "
-     "what a run is, which script the bytes of a script spell, and which lists the bytes of a certificate have. The edges of the flow graph, and what they ask of ranks, are not among it.", [
+    ("To trust a yes", "What the clause `promise` of `judge` and `verify` says: an accepted script's runs end, and their files are listed. Of all definitions, whoever only trusts a yes has to believe these and no others: "
+     "what a run is, which script the bytes of a script spell, and which lists the bytes of a certificate have. The edges of the flow graph, and what they ask of ranks, are not among them. "
+     "That the program writes `accepted` only for such an answer is said by what \"Reports and statuses\" lists below.", [
         ("The promise", "", [("sedck_cert", "judge", ("promise",)), ("sedck_cert", "verify", ("promise",))]),
     ]),
     ("Which certificates are accepted", "What the other clauses of `judge` and `verify`, and those of `check`, say: which answer comes exactly where. A mistake here could make the program reject too much "
