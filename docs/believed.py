@@ -5,13 +5,16 @@
     python3 docs/believed.py --check    compares it with the file, and checks the shelves:
                                         no exported contract reaches specs/Private, and
                                         each word outside of specs/Private is reached
-    python3 docs/believed.py --words    prints each public file's words and who reaches them
+
+A line of a file of definitions that belongs to nothing stops it. tests/believed.py tests it.
 """
 import re, sys
 from pathlib import Path
 
 TOP = Path(__file__).resolve().parent.parent
-CRATES = ["sedck_bre", "sedck_script", "sedck_flow", "sedck_cert", "sedck_search", "sedck_cli", "sedck_findings", "sedck_render", "sedck_explain_cli"]
+# The libraries, lowest first; what is in a crate's tests alone needn't be believed.
+NAMES = re.findall(r"^(\w+)(?: [^:]*)?:", (TOP / "crates.txt").read_text(), re.M)
+CRATES = [name for name in NAMES if (TOP / "crates" / name / "src" / "lib.rt").exists() and name != "sedck_tests"]
 TOKEN = re.compile(r"[^\s(){}\[\];,λ→×∷\"]+")
 STRING = re.compile(r'"(?:[^"\\]|\\.)*"')
 
@@ -23,17 +26,133 @@ class Block:
         self.refs = set()
 
 
+class Unplaced(Exception):
+    """A line of a file of definitions that belongs to nothing."""
+
+
 def uses(text, scope):
     """Reads the lines that import words: the local name of each, with its module and its name there."""
     for match in re.finditer(r"^\s*(?:pub |ghost )*use (Rattle\.[\w.]+?)(?:\.\{(.*?)\}| as (\w+))?;?\s*$", text, re.M | re.S):
         module, words, alias = match.groups()
-        if alias:
-            scope["modules"][alias] = module
-        elif words is not None:
+        if words is None:
+            scope["modules"][alias or module.rpartition(".")[2]] = module
+        else:
             for word in words.split(","):
                 name, _, local = word.strip().partition(" as ")
                 if name:
                     scope["words"][(local or name).strip()] = (module, name)
+
+
+# What begins a definition, and what is given inside of one.
+START = re.compile(r"(?:(?P<kind>abbrev|unfoldable|opaque) )?(?:pub )?(?:(?P<mutual>mutual)\s*$|(?P<form>record|data) (?P<type>\S+)|(?P<word>\S+) :)")
+INNER = re.compile(r"(?:pub )?(?:(?P<form>record|data) (?P<type>\S+)|(?P<word>\S+) :)")
+FIELD = re.compile(r"(?:pub )?\S+ :")
+
+
+def parts_of(name):
+    """The tokens of an operator, as `≡` of `◌≡◌`; none of a word."""
+    return [part for part in name.split("◌") if part] if "◌" in name else []
+
+
+def is_equation_of(names, line):
+    """Whether a line defines one of these: a word at its start, or an operator before the first `=`."""
+    left = tokens(line.partition(" =")[0])
+    return any(all(part in left for part in parts_of(name)) if "◌" in name else left[:1] == [name] for name in names)
+
+
+class Reader:
+    """Reads a file of definitions, line by line. Each line has its place, or the file is refused."""
+    def __init__(self, path, module, head):
+        self.path, self.module = path, module
+        # Comments that the next line decides on, what is being read, and whether that is an import.
+        self.blocks, self.waiting, self.current, self.importing = [], [], None, False
+        # Of what is being read: its form, how deep its own lines are, and the form of the one inside a mutual block.
+        self.form, self.inner = None, None
+        self.at = head
+
+    def refuse(self, why):
+        raise Unplaced(f"{self.path}:{self.at}: {why}")
+
+    def keep(self, line, comment=False):
+        """Adds a line to what is being read, with the comments above."""
+        if self.current is None:
+            self.refuse("it belongs to no definition")
+        self.current.lines += self.waiting + [line]
+        if not comment:
+            self.current.rest.append(line)
+        self.waiting = []
+
+    def begin(self, names, form):
+        self.current, self.form, self.inner = Block(self.module, names, [], []), form, None
+        self.blocks.append(self.current)
+
+    def name(self, name):
+        if name not in self.current.names:
+            self.current.names.append(name)
+
+    def line(self, line):
+        self.at += 1
+        if self.importing:
+            self.importing = "}" not in line
+        elif not line.strip():
+            pass
+        elif re.match(r"(pub )?use |pub mod ", line):
+            self.importing = "{" in line and "}" not in line
+            self.current = None
+        elif line.startswith("-- ----"):
+            self.end()
+        elif line.startswith("--"):
+            self.waiting.append(line)
+        elif line[0] in " \t":
+            self.indented(line)
+        else:
+            self.outer(line)
+
+    def outer(self, line):
+        """A line at the margin: a definition begins, or an equation of the one that is being read."""
+        start = START.match(line)
+        if re.match(r"infix[lr]? \d+ ", line):
+            self.begin([line.split()[2]], "operator")
+        elif start and start["mutual"]:
+            self.begin([], "mutual")
+        elif start and start["form"]:
+            self.begin([start["type"]], start["form"])
+        elif start and self.form == "operator" and self.current and start["word"] in self.current.names:
+            self.form = "word"
+        elif start and not is_equation_of(self.current.names if self.current else [], line):
+            self.begin([start["word"]], "word")
+        elif not self.current or self.form != "word" or not (is_equation_of(self.current.names, line) or re.fullmatch(r"[})\]]+", line.strip())):
+            self.refuse("it is no equation of the definition above, and begins none")
+        self.keep(line)
+
+    def indented(self, line):
+        depth, text = len(line) - len(line.lstrip()), line.strip()
+        if text.startswith("--"):
+            return self.keep(line, comment=True)
+        if self.form == "mutual" and depth == 2:
+            start = INNER.match(text)
+            if start:
+                self.inner = start["form"] or "word"
+                self.name(start["type"] or start["word"])
+            elif not is_equation_of(self.current.names, text):
+                self.refuse("it is nothing of the mutual block above")
+        form, own = (self.inner, 4) if self.form == "mutual" else (self.form, 2)
+        if form == "data" and depth == own:
+            start = re.match(r"(\S+) :", text)
+            if not start:
+                self.refuse("it is no constructor of the type above")
+            self.name(start[1])
+        if form == "record" and depth == own and not FIELD.match(text):
+            self.refuse("it is no field of the record above")
+        self.keep(line)
+
+    def end(self):
+        """At a heading, or at the end: comments with nothing below belong to what is above."""
+        if self.waiting and self.current is None:
+            self.refuse("the comment above belongs to no definition")
+        if self.waiting:
+            self.current.lines += self.waiting
+        self.waiting, self.current = [], None
 
 
 def definitions(path, module):
@@ -44,54 +163,20 @@ def definitions(path, module):
     lines = text.split("\n")
     head = []
     for line in lines:
-        if not line.startswith("--"):
+        if not line.startswith("--") or line.startswith("-- ----"):
             break
         head.append(line[2:].strip())
-    blocks, comment, current = [], [], None
+    reader = Reader(path, module, len(head))
     for line in lines[len(head):]:
-        if re.match(r"(pub )?use ", line) or line.startswith("pub mod ") or line.startswith("-- ----"):
-            comment, current = [], None
-        elif not line.strip():
-            comment = []
-            if current is not None and not current.names[0].startswith("mutual"):
-                pass
-        elif line.startswith("--"):
-            comment.append(line)
-            current = None
-        elif line[0] not in " \t":
-            start = re.match(r"(?:(?:abbrev|unfoldable|opaque) (?:pub )?(mutual)\s*$|(mutual)\s*$|(?:abbrev|unfoldable|opaque) (?:pub )?(\S+) :|(?:pub )?(?:record|data) (\S+))", line)
-            theorem = re.match(r"(?:pub )?(\S+) :", line)
-            if start:
-                names = [n for n in start.groups() if n and n != "mutual"]
-                current = Block(module, names, comment + [line], [line])
-                blocks.append(current)
-                comment = []
-            elif theorem and (current is None or theorem.group(1) not in current.names):
-                current = Block(module, [theorem.group(1)], comment + [line], [line])
-                blocks.append(current)
-                comment = []
-            elif current is not None:
-                current.lines.append(line)
-                current.rest.append(line)
-        elif current is not None:
-            current.lines.append(line)
-            if not line.strip().startswith("--"):
-                current.rest.append(line)
-                inner = re.match(r"  (?:pub )?(?:(?:data|record) )?(\S+) .*:", line)
-                constructor = re.match(r"\s+(?:pub )?([A-Z]\S*) :", line)
-                is_data = any(re.match(r"\s*(?:pub )?data ", old) for old in current.rest)
-                is_mutual = current.rest[0].rstrip().endswith("mutual")
-                if is_mutual and inner and inner.group(1) not in ("where",):
-                    name = inner.group(1)
-                    if name not in current.names:
-                        current.names.append(name)
-                if is_data and constructor and constructor.group(1) not in current.names:
-                    current.names.append(constructor.group(1))
-    return blocks, scope, head
+        reader.line(line)
+    reader.end()
+    return reader.blocks, scope, head
 
 
 def tokens(text):
-    return TOKEN.findall(STRING.sub(" ", text))
+    """The words of a text, without its comments; `[]` and `∷` are words too."""
+    text = re.sub(r"(?m)(^|\s)--.*$", " ", STRING.sub(" ", text))
+    return TOKEN.findall(text) + re.findall(r"\[\]|∷", text)
 
 
 def resolve(token, scope, own):
@@ -105,6 +190,9 @@ def resolve(token, scope, own):
         return (scope["modules"][first], second.split(".")[0])
     if dot and (first in own or first in scope["words"]):
         return resolve(first, scope, own)
+    for name in [*own, *scope["words"]]:
+        if token in parts_of(name):
+            return (own[name], name) if name in own else scope["words"][name]
     return None
 
 
@@ -283,23 +371,102 @@ bre.View script.View script.ReplacementView cert.View
 bre.Laws bre.Examples script.Laws script.First script.Examples flow.Laws flow.Examples cert.Laws search.Laws
 """.split()
 
-# What is promised, one group after another: a title, a sentence, and the contracts that it rests on.
-GROUPS = [
-    ("The headline", "`verify` and `judge` answer `Accepted` only for a script whose runs end and whose files are listed, and exactly for a "
-     "certificate that meets the definition.", [("sedck_cert", "verify", ("promise", "answer")), ("sedck_cert", "judge", ("promise", "answer"))]),
-    ("Why a certificate is rejected", "A rejection names the first reason that holds.", [("sedck_cert", "verify", ("why",)), ("sedck_cert", "check", None)]),
-    ("The bound", "The limit on the steps of a run.", [("sedck_cert", "judge", ("judged",)), ("sedck_cert", "bound", None), ("sedck_cert", "steady_runs_are_counted", None)]),
-    ("The search", "`search` finds a certificate, or a loop that rules out every certificate.", [("sedck_search", "search", None), ("sedck_search", "count_bits", None)]),
-    ("Refusals", "Which fault is reported of a text that is refused, and where.", [("sedck_cert", "judge", ("reported",)), ("sedck_bre", "parse", None), ("sedck_script", "parse", None),
-     ("sedck_cert", "read_cert", None), ("sedck_cert", "read_any", None), ("sedck_bre", "ReFault*", None), ("sedck_script", "ScriptFault*", None), ("sedck_cert", "CertFault*", None)]),
-    ("Where commands stand", "`locate` gives the offsets of each command in the text of a script.", [("sedck_script", "locate", ("count", "locations", "order"))]),
-    ("Reports and statuses", "What the program prints, and its status.", [("sedck_cli", "*", None), ("sedck_cert", "write_cert", None)]),
-    ("What is explained", "What `sedck-explain` answers of a script and with which status, where commands stand, and how lines and names are shown.",
-     [("sedck_findings", "*", None), ("sedck_explain_cli", "*", None)]),
-    ("Certificates of version 1", "They are read, accepted where they were, and upgraded.", [("sedck_cert", "read_cert_one", None), ("sedck_cert", "upgrade*", None), ("sedck_cert", "CertOne*", None),
-     ("sedck_flow", "edges_were_there", None), ("sedck_flow", "kinds_agree", None), ("sedck_flow", "literal_kinds_stay", None), ("sedck_search", "obstacles_were_there", None)]),
-    ("The parts, and laws", "What the functions below promise those that call them, and what is proved of the definitions themselves.", [(crate, "*", None) for crate in CRATES]),
+# What is promised, in parts: a title, a sentence, and groups of the same with the contracts that they rest on.
+PARTS = [
+    ("To trust a yes", "What the clause `promise` of `judge` and `verify` says: an accepted script's runs end, and their files are listed. Of all definitions, whoever only trusts a yes has to believe these and no others: "
+     "what a run is, which script the bytes of a script spell, and which lists the bytes of a certificate have. The edges of the flow graph, and what they ask of ranks, are not among them. "
+     "That the program writes `accepted` only for such an answer is said by what \"Reports and statuses\" lists below.", [
+        ("The promise", "", [("sedck_cert", "judge", ("promise",)), ("sedck_cert", "verify", ("promise",))]),
+    ]),
+    ("Which certificates are accepted", "What the other clauses of `judge` and `verify`, and those of `check`, say: which answer comes exactly where. A mistake here could make the program reject too much "
+     "or give a wrong reason. It couldn't make a yes wrong.", [
+        ("Accepted, rejected or refused", "Each answer comes exactly where its condition holds.", [("sedck_cert", "judge", ("answer",)), ("sedck_cert", "verify", ("answer",)), ("sedck_cert", "check", ("accepted",))]),
+        ("Why a certificate is rejected", "A rejection names the first reason that holds.", [("sedck_cert", "verify", ("why",)), ("sedck_cert", "check", ("rejected",))]),
+        ("What was judged", "The script, the certificate, the verdict, and the limit on the steps of a run, where there is one.", [("sedck_cert", "judge", ("judged",))]),
+        ("The fault of a text that is refused", "What is reported of it, and where.", [("sedck_cert", "judge", ("reported",)), ("sedck_cert", "verify", ("reported",))]),
+    ]),
+    ("The rest", "What the other contracts say.", [
+        ("The bound", "The limit on the steps of a run, and why it is one.", [("sedck_cert", "bound", None), ("sedck_cert", "steady_runs_are_counted", None)]),
+        ("The search", "`search` finds a certificate, or a loop that rules out every certificate.", [("sedck_search", "search", None), ("sedck_search", "count_bits", None)]),
+        ("Readers and faults", "What each reader reports of a text that it refuses, and how it is printed.", [("sedck_bre", "parse", None), ("sedck_script", "parse", None),
+         ("sedck_cert", "read_cert", None), ("sedck_cert", "read_any", None), ("sedck_bre", "ReFault*", None), ("sedck_script", "ScriptFault*", None), ("sedck_cert", "CertFault*", None)]),
+        ("Where commands stand", "`locate` gives the offsets of each command in the text of a script.", [("sedck_script", "locate", ("count", "locations", "order"))]),
+        ("Reports and statuses", "What the program prints, and its status.", [("sedck_cli", "*", None), ("sedck_cert", "write_cert", None)]),
+        ("What is explained", "What `sedck-explain` answers of a script and with which status, where commands stand, and how lines and names are shown.",
+         [("sedck_findings", "*", None), ("sedck_explain_cli", "*", None)]),
+        ("Certificates of version 1", "They are read, accepted where they were, and upgraded.", [("sedck_cert", "read_cert_one", None), ("sedck_cert", "upgrade*", None), ("sedck_cert", "CertOne*", None),
+         ("sedck_flow", "edges_were_there", None), ("sedck_flow", "kinds_agree", None), ("sedck_flow", "literal_kinds_stay", None), ("sedck_search", "obstacles_were_there", None)]),
+        ("The parts, and laws", "What the functions below promise those that call them, and what is proved of the definitions themselves.", [(crate, "*", None) for crate in CRATES]),
+        ("The first part of the language", "A grammar by which no code reads, and two laws: each text that it spells, the whole grammar spells as the same program, and it spells one program at most.",
+         [("sedck_script", "first_part*", None)]),
+    ]),
 ]
+
+# The words of the toolchain's library that the promise's definitions use, each in plain words.
+LIBRARY = {
+    "ℕ": "the numbers 0, 1, 2 and so on, without a limit",
+    "zero": "0",
+    "suc": "`suc n` is n + 1",
+    "◌+◌": "the sum",
+    "◌-◌": "the difference, and 0 where it would be below 0",
+    "◌*◌": "the product",
+    "◌^◌": "the power",
+    "◌/◌": "the quotient, rounded down",
+    "◌%◌": "the remainder",
+    "max": "the greater of two numbers",
+    "◌<◌": "one number is less than another",
+    "◌≤◌": "one number is at most another",
+    "nat_le": "whether one number is at most another",
+    "nat_eq": "whether two numbers are equal",
+    "◌==◌": "whether two numbers are equal",
+    "bit_at": "`bit_at n i` is the bit with the value 2 ^ i of n: 0 or 1",
+    "Bool": "`true` or `false`",
+    "true": "yes",
+    "false": "no",
+    "not": "no of yes, and yes of no",
+    "◌&&◌": "yes where both are",
+    "◌||◌": "yes where one is, or both",
+    "if◌then◌else◌": "the first of two values where a test says yes, else the second",
+    "IsTrue": "it is `true`",
+    "MatchBool": "`MatchBool b P Q` is P where b is `true`, and Q where it is `false`",
+    "◌≡◌": "two values are the same",
+    "◌≢◌": "two values aren't the same",
+    "◌⊎◌": "one or the other holds, or both",
+    "◌↔◌": "each follows from the other",
+    "Option": "`None`, or `Some` with a value",
+    "None": "no value",
+    "Some": "a value",
+    "MatchOption": "`MatchOption o P Q` is P where o is `None`, and `Q x` where it is `Some x`",
+    "IfSome": "`IfSome o P` is `P x` where o is `Some x`, and holds where it is `None`",
+    "unwrap_or": "the value, or another one that is given where there is none",
+    "option_to_list": "the list of the value alone, or the empty list",
+    "Result": "`Ok` with a value, or `Err` with a fault",
+    "Ok": "an answer",
+    "Err": "a fault in place of an answer",
+    "List": "a finite list; a text is a list of numbers, one for each byte",
+    "[]": "the empty list",
+    "◌∷◌": "`x ∷ xs` is the list that begins with x and goes on with xs",
+    "◌++◌": "one list and then another, as one list",
+    "length": "how many elements a list has",
+    "slice_get": "`slice_get xs i` is the element at i, counted from 0, or `None` where there is none",
+    "slice_index": "`slice_index xs i` is the number at i, counted from 0, and 0 behind the end",
+    "Contains": "the list has this element",
+    "All": "it holds of each element",
+    "AllPairs": "it holds of each element and each later one",
+    "list_all": "whether each element passes a test",
+    "list_any": "whether some element passes a test",
+    "flat_map": "the lists that a function gives for the elements, joined",
+    "sum_by": "the sum of the numbers that a function gives for the elements",
+    "before_first": "what is before the first element that passes a test; the whole list where none does",
+    "ends_with": "whether one list ends with another, by a test of when two elements are equal",
+    "Less": "the answer of a comparison that the first is before the second",
+    "nat_cmp": "the comparison of two numbers",
+    "slice_cmp": "the comparison of two lists by their first difference; a list is before those that it begins",
+    "codes": "`codes \"..\"` is the list of the bytes between the quotes (ASCII)",
+    "decimal": "the decimal digits of a number as a text, without leading zeros",
+    "digits_value": "`digits_value 10 text` is the number that the decimal digits of the text write",
+    "IsAsciiDigit": "the byte is one of `0` to `9`",
+}
 
 
 def short(module):
@@ -314,7 +481,8 @@ def size(blocks):
 def roots(book, crate, name, labels):
     prefix = name.rstrip("*")
     for contract in book.contracts:
-        if contract.crate == crate and (contract.name == name or name.endswith("*") and contract.name.startswith(prefix)):
+        is_of_part = name == "*" and contract.name.startswith("first_part")
+        if contract.crate == crate and not is_of_part and (contract.name == name or name.endswith("*") and contract.name.startswith(prefix)):
             for label, refs in contract.clauses.items():
                 if labels is None or label in labels:
                     yield from refs
@@ -330,32 +498,78 @@ def is_private(module):
     return ".specs.Private" in module
 
 
+def place_in_order(module):
+    return ORDER.index(short(module)) if short(module) in ORDER else len(ORDER)
+
+
+class Seen:
+    """What the page has had so far: definitions, and types of the code."""
+    def __init__(self):
+        self.blocks, self.types = set(), set()
+
+
+def table(book, blocks):
+    """The files of these definitions, in reading order, each with its lines."""
+    rows = ["| file | lines | what it says |", "|---|---|---|"]
+    for module in sorted({b.module for b in blocks}, key=place_in_order):
+        here = [b for b in blocks if b.module == module]
+        path = book.paths[module].relative_to(TOP)
+        rows.append(f"| [`{path.relative_to('crates')}`](../{path}) | {size(here)} | {sentence(book.heads[module])} |")
+    return "\n".join(rows)
+
+
+def group_text(book, seen, what, contracts_of):
+    """The text of a group, and the definitions that it adds."""
+    reached, types = book.reach({r for root in contracts_of for r in roots(book, *root)})
+    new = reached - seen.blocks
+    seen.blocks |= reached
+    text = what + "\n\n" if what else ""
+    text += table(book, new) if new else "It adds no definition."
+    new_types = sorted((t for t in types - seen.types if t in book.types), key=lambda t: (CRATES.index(t[0].split(".")[1]), t[1]))
+    seen.types |= types
+    if new_types:
+        names = ", ".join(f"`{module.split('.')[1]}::{name}` ({len(book.types[(module, name)][1].splitlines())})" for module, name in new_types)
+        text += f"\n\nTypes of the code that these take, with their lines: {names}."
+    return text, new
+
+
+def library_words(blocks):
+    """The words of the toolchain's library that these definitions use."""
+    return {name for block in blocks for module, name in block.refs if module.startswith("Rattle.std.")}
+
+
+def library_text():
+    rows = ["| word | what it is |", "|---|---|"]
+    for word, meaning in LIBRARY.items():
+        shown = "`" + word.replace("◌", " _ ").strip().replace("  ", " ") + "`" if "◌" in word else f"`{word}`"
+        rows.append(f"| {shown} | {meaning} |".replace("`_ || _`", "`_ \\|\\| _`"))
+    return "\n".join(rows)
+
+
 def page(book):
     """The text of docs/BELIEVED.md."""
-    seen, seen_types, parts, totals = set(), set(), [], []
-    for title, what, contracts_of in GROUPS:
-        words = {r for root in contracts_of for r in roots(book, *root)}
-        reached, types = book.reach(words)
-        new = reached - seen
-        seen |= reached
-        rows = []
-        for module in sorted({b.module for b in new}, key=lambda m: ORDER.index(short(m))):
-            here = [b for b in new if b.module == module]
-            path = book.paths[module].relative_to(TOP)
-            rows.append(f"| [`{path.relative_to('crates')}`](../{path}) | {size(here)} | {sentence(book.heads[module])} |")
-        totals.append((title, size(new)))
-        parts.append(f"## {title}: {size(new)} lines\n\n{what}\n\n| file | lines | what it says |\n|---|---|---|\n" + "\n".join(rows))
-        new_types = sorted(((module, name) for module, name in types - seen_types if (module, name) in book.types), key=lambda t: (CRATES.index(t[0].split(".")[1]), t[1]))
-        seen_types |= types
-        if new_types:
-            names = ", ".join(f"`{module.split('.')[1]}::{name}` ({len(book.types[(module, name)][1].splitlines())})" for module, name in new_types)
-            parts[-1] += f"\n\nTypes of the code that these take, with their lines: {names}."
-    everything = sum(n for _, n in totals)
+    seen, parts, totals = Seen(), [], []
+    for title, what, groups in PARTS:
+        texts, total = [], 0
+        for name, why, contracts_of in groups:
+            text, new = group_text(book, seen, why, contracts_of)
+            total += size(new)
+            texts.append(text if len(groups) == 1 else f"### {name}: {size(new):,} lines\n\n{text}")
+        totals.append(total)
+        parts.append(f"## {title}: {total:,} lines\n\n{what}\n\n" + "\n\n".join(texts))
+        if len(parts) == 1:
+            parts[0] += f"""
+
+### Words of the toolchain's library
+
+These definitions are written with {len(LIBRARY)} words of the library. Beside them they use the language's own: `→` "implies" or "for each", `×` "and", `(x : A) × P` "there is an x with P", `λ` for a function, `¬` "not", `⊥` "never", `Unit` "always", and `record` and `data` for types.
+
+{library_text()}"""
     return f"""# What must be believed
 
-What the contracts say is proved; what their words mean is for a reader to judge. This page lists the definitions that the contracts of exported functions reach, in the order in which an expert of sed may read them: the headline first, and then, for each further promise, what it adds. Lines are those of the definitions with their comments, blank lines and imports left out: {totals[0][1]:,} for the headline, {everything:,} in all. In a file that serves several promises the lines are those that the promise adds.
+What the contracts say is proved; what their words mean is for a reader to judge. This page lists the definitions that the contracts of exported functions reach, in the order in which an expert of sed may read them. It tells three things apart: what one must believe to trust a yes, {totals[0]:,} lines; what says exactly which certificates are accepted, {totals[1]:,} more; and the rest, {totals[2]:,} more. Lines are those of the definitions with their comments, blank lines and imports left out. In a file that serves several promises the lines are those that the promise adds.
 
-`python3 docs/believed.py` writes this page from the contracts and definitions, and `make examples` compares it. It also checks that no contract of an exported function reaches a definition in a folder `specs/Private`, and that each definition outside of these folders is reached: what stands in `specs/Private` is what functions inside a crate promise each other and what proofs use, and needn't be believed. How a value of a type with private fields represents its value (its `view` and `invariant`) is checked in the same way, and isn't listed. `docs/DEFINITIONS.md` explains the definitions.
+`python3 docs/believed.py` writes this page from the contracts and definitions, and `make examples` compares it; it stops at a line of a definition that it can't place, and `tests/believed.py` counts the lines in another way. It also checks that no contract of an exported function reaches a definition in a folder `specs/Private`, and that each definition outside of these folders is reached: what stands in `specs/Private` is what functions inside a crate promise each other and what proofs use, and needn't be believed. How a value of a type with private fields represents its value (its `view` and `invariant`) is checked in the same way, and isn't listed. `docs/DEFINITIONS.md` explains the definitions.
 
 """ + "\n\n".join(parts) + "\n"
 
@@ -369,6 +583,9 @@ def faults(book):
             for block in book.reach(refs)[0]:
                 if is_private(block.module):
                     wrong.append(f"{contract.crate}::{contract.name}, {label}: reaches {block.names[0]} of {short(block.module)}")
+    used = library_words(book.reach({r for root in PARTS[0][2][0][2] for r in roots(book, *root)})[0])
+    wrong += [f"docs/believed.py says nothing of the library's word {word}, which the promise uses" for word in sorted(used - set(LIBRARY))]
+    wrong += [f"docs/believed.py explains the library's word {word}, which the promise doesn't use" for word in sorted(set(LIBRARY) - used)]
     for module, blocks in book.all_blocks.items():
         for block in blocks:
             if not is_private(module) and block not in reached:
@@ -380,14 +597,22 @@ def faults(book):
     return wrong
 
 
+def main(words):
+    try:
+        book = Book()
+    except Unplaced as line:
+        sys.exit(f"{line}")
+    if "--check" not in words:
+        sys.stdout.write(page(book))
+        return
+    wrong = faults(book)
+    kept = TOP / "docs" / "BELIEVED.md"
+    if not kept.exists() or kept.read_text() != page(book):
+        wrong.append("docs/BELIEVED.md isn't what `python3 docs/believed.py` prints")
+    for line in wrong:
+        print(line)
+    sys.exit(1 if wrong else 0)
+
+
 if __name__ == "__main__":
-    book = Book()
-    if "--check" in sys.argv[1:]:
-        wrong = faults(book)
-        kept = TOP / "docs" / "BELIEVED.md"
-        if not kept.exists() or kept.read_text() != page(book):
-            wrong.append("docs/BELIEVED.md isn't what `python3 docs/believed.py` prints")
-        for line in wrong:
-            print(line)
-        sys.exit(1 if wrong else 0)
-    sys.stdout.write(page(book))
+    main(sys.argv[1:])

@@ -141,6 +141,7 @@ version=$(awk '/^## [0-9]/ { print $2; exit }' "$documents/CHANGELOG.md")
 (cd "$documents" && python3 tests/pages.py build/sedck docs/FAULTS.md docs/MENDING.md) >&2 || fail "a script of docs/FAULTS.md or docs/MENDING.md isn't answered as the page says"
 
 # The list of what must be believed is made from the contracts, and no exported contract reaches a private definition.
+python3 "$documents/tests/believed.py" >&2 || fail "docs/believed.py loses a line of a definition"
 python3 "$documents/docs/believed.py" --check >&2 || fail "docs/BELIEVED.md or a folder specs/Private isn't as it should be"
 
 [ $failures -eq 0 ] || exit 1

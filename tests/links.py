@@ -1,8 +1,9 @@
 #!/usr/bin/env python3
-"""Checks links and versions in the documents: python3 tests/links.py, in any folder.
+"""Checks links, versions and edits in the documents: python3 tests/links.py, in any folder.
 
 Each link to a file of the repository must lead to one, and to a heading of it where it names one; each page is linked from README.md;
-the manual pages have the version of the first entry of CHANGELOG.md. The status is 0 only where all of this holds.
+the manual pages have the version of the first entry of CHANGELOG.md; each edit in the table of wrong bodies of docs/PROVED.md is there.
+The status is 0 only where all of this holds.
 """
 import re
 import sys
@@ -32,7 +33,25 @@ def links(page):
             yield target, (page.parent / name).resolve() if name else page, head
 
 
+def edits():
+    """The files of the edits in the table of wrong bodies: in its second column, each behind the name of its crate."""
+    table = (TOP / "docs" / "PROVED.md").read_text().partition("| wrong body | edits | refused by |")[2]
+    for row in re.findall(r"^\| .*$", table, flags=re.M):
+        crate = ""
+        for word in re.findall(r"`([^`]+)`", row.split(" | ")[1]):
+            if word.startswith("sedck_"):
+                crate = word
+            else:
+                yield TOP / "crates" / crate / "must-fail" / (word + ".edit")
+
+
 def faults():
+    wrong_bodies = list(edits())
+    if not wrong_bodies:
+        yield "docs/PROVED.md has no table of wrong bodies"
+    for file in wrong_bodies:
+        if not file.exists():
+            yield "docs/PROVED.md: no edit %s" % file.relative_to(TOP)
     for page in PAGES:
         for target, file, head in links(page):
             if not file.exists():
