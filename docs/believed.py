@@ -364,8 +364,8 @@ search.Found search.Obstacle search.Rows search.NodeSet search.VersionOne
 script.Locations
 script.Faults bre.Faults cert.Faults
 script.FaultWords bre.FaultWords cert.FaultText cli.Lines
-cli.Reports cli.Engines cli.Statuses cli.Faults cert.Streams cli.Inputs
-findings.Answers findings.Denial explain_cli.Explained findings.Positions findings.Shown
+cli.Reports cli.Engines cli.Statuses cli.Causes cli.Faults cert.Streams cli.Inputs cli.Opened
+findings.Answers findings.Denial explain_cli.Explained findings.Positions findings.Shown escapes.Html
 bre.Lengths script.Shortest script.Invariant
 bre.View script.View script.ReplacementView cert.View
 bre.Laws bre.Examples script.Laws script.First script.Examples flow.Laws flow.Examples cert.Laws search.Laws
@@ -392,8 +392,8 @@ PARTS = [
          ("sedck_cert", "read_cert", None), ("sedck_cert", "read_any", None), ("sedck_bre", "ReFault*", None), ("sedck_script", "ScriptFault*", None), ("sedck_cert", "CertFault*", None)]),
         ("Where commands stand", "`locate` gives the offsets of each command in the text of a script.", [("sedck_script", "locate", ("count", "locations", "order"))]),
         ("Reports and statuses", "What the program prints, and its status.", [("sedck_cli", "*", None), ("sedck_cert", "write_cert", None)]),
-        ("What is explained", "What `sedck-explain` answers of a script and with which status, where commands stand, and how lines and names are shown.",
-         [("sedck_findings", "*", None), ("sedck_explain_cli", "*", None)]),
+        ("What is explained", "What `sedck-explain` answers of a script and with which status, where commands stand, and how lines, names and text in pages are shown.",
+         [("sedck_findings", "*", None), ("sedck_explain_cli", "*", None), ("sedck_escapes", "*", None)]),
         ("Certificates of version 1", "They are read, accepted where they were, and upgraded.", [("sedck_cert", "read_cert_one", None), ("sedck_cert", "upgrade*", None), ("sedck_cert", "CertOne*", None),
          ("sedck_flow", "edges_were_there", None), ("sedck_flow", "kinds_agree", None), ("sedck_flow", "literal_kinds_stay", None), ("sedck_search", "obstacles_were_there", None)]),
         ("The parts, and laws", "What the functions below promise those that call them, and what is proved of the definitions themselves.", [(crate, "*", None) for crate in CRATES]),

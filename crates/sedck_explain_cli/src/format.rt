@@ -1,7 +1,8 @@
 //! The formats, by name.
 
 use sedck_findings::Explanation;
-use sedck_render::{dot_report, gcc_report, html_report, json_report, text_report};
+use sedck_pages::{dot_report, html_report};
+use sedck_render::{gcc_report, json_report, text_report};
 use std::alloc::{AllocError, Global};
 
 /// How a report is printed.

@@ -3,10 +3,10 @@
 ghost use Rattle.std.specs.Prelude.{IfOk};
 ghost use Rattle.std.specs.Str.{IsAscii};
 
-use crate::ascii::push_ascii;
-use crate::words::{answer_word, kind_word, level_word};
 use sedck_cert::Bound;
+use sedck_escapes::push_ascii;
 use sedck_findings::{Answer, Explanation, Finding, NamedFile, Position, Step, shown_name};
+use sedck_words::{answer_word, kind_word, level_word};
 use serde::Serialize;
 use std::alloc::{AllocError, Global};
 
@@ -115,10 +115,6 @@ fn json_of<'a>(
     file: &'a str,
     explanation: &'a Explanation,
 ) -> Result<JsonReport<'a>, AllocError> {
-    let mut findings = Vec::new(alloc);
-    for finding in &explanation.findings {
-        findings.push(json_finding(alloc, finding)?)?;
-    }
     Ok(JsonReport {
         file,
         status: explanation.status,
@@ -126,7 +122,7 @@ fn json_of<'a>(
         bound: json_bound(&explanation.answer),
         reads: json_files(alloc, &explanation.reads)?,
         writes: json_files(alloc, &explanation.writes)?,
-        findings,
+        findings: json_findings(alloc, &explanation.findings)?,
         commands: json_positions(alloc, &explanation.positions)?,
     })
 }
@@ -135,16 +131,11 @@ fn json_bound(answer: &Answer) -> Option<JsonBound> {
     let Answer::Accepted { bound, .. } = answer else {
         return None;
     };
-    let Some(
-        Bound {
-            per_byte,
-            per_line,
-            fixed,
-        },
-    ) = *bound
-    else {
-        return None;
-    };
+    let Bound {
+        per_byte,
+        per_line,
+        fixed,
+    } = (*bound)?;
     Some(JsonBound {
         per_byte,
         per_line,
@@ -182,6 +173,17 @@ fn json_position(position: Position) -> JsonPosition {
         line,
         column,
     }
+}
+
+fn json_findings<'a>(
+    alloc: Global,
+    findings: &'a [Finding],
+) -> Result<Vec<JsonFinding<'a>>, AllocError> {
+    let mut out = Vec::new(alloc);
+    for finding in findings {
+        out.push(json_finding(alloc, finding)?)?;
+    }
+    Ok(out)
 }
 
 fn json_finding<'a>(alloc: Global, finding: &'a Finding) -> Result<JsonFinding<'a>, AllocError> {

@@ -1,8 +1,18 @@
 //! The parts of a report in text: where a finding is, and what it says.
 
-use crate::words::level_word;
 use sedck_findings::{Finding, Position};
+use sedck_words::{level_word, push_all};
 use std::alloc::{AllocError, Global};
+
+/// What precedes and what follows coloured words.
+#[derive(Clone, Copy)]
+pub(crate) struct Ink {
+    pub on: &'static str,
+    pub off: &'static str,
+}
+
+/// No colour.
+pub(crate) const NO_INK: Ink = Ink { on: "", off: "" };
 
 /// `FILE:LINE:COLUMN: `, or `FILE: ` without a position.
 pub(crate) fn prefix(
@@ -20,13 +30,15 @@ pub(crate) fn prefix(
     }
 }
 
-/// `LEVEL: MESSAGE [code]`, in two parts: the level, and the rest.
-pub(crate) fn headline(
-    alloc: Global,
+/// Adds the place, and `LEVEL: MESSAGE [code]` with the level in the colour.
+pub(crate) fn push_headline(
+    out: &mut Vec<u8>,
+    place: &str,
+    ink: Ink,
     finding: &Finding,
-) -> Result<(&'static str, String), AllocError> {
-    let message = finding.message.as_str();
-    let code = finding.code;
-    let rest = format!(in alloc; ": {message} [{code}]")?;
-    Ok((level_word(finding.level), rest))
+) -> Result<(), AllocError> {
+    push_all(out, &[place])?;
+    push_all(out, &[ink.on, level_word(finding.level), ink.off, ": "])?;
+    push_all(out, &[finding.message.as_str(), " ["])?;
+    push_all(out, &[finding.code, "]\n"])
 }

@@ -1,10 +1,10 @@
 //! The report for people at a terminal: each finding with its line, and what an accepted script may do.
 
-use crate::excerpt::{command_line, excerpt};
-use crate::parts::{headline, prefix};
+use crate::columns::{push_aligned, push_padded, push_spaces};
+use crate::parts::{Ink, NO_INK, prefix, push_headline};
 use crate::summary::push_summary;
-use crate::words::{place_words, push_aligned, push_padded, push_spaces};
 use sedck_findings::{Explanation, Finding, Level, Position, Step};
+use sedck_words::{Source, command_line, decimal, excerpt, place_words, push_all, source_of};
 use std::alloc::{AllocError, Global};
 
 /// The most characters of a line that are shown above a caret.
@@ -32,19 +32,13 @@ pub fn text_report(
     explanation: &Explanation,
     colour: bool,
 ) -> Result<Vec<u8>, AllocError> {
-    let mut out = String::new(alloc);
+    let mut out = Vec::new(alloc);
+    let source = source_of(explanation);
     for finding in &explanation.findings {
-        push_finding(alloc, &mut out, name, explanation, finding, colour)?;
+        push_finding(alloc, &mut out, name, source, finding, colour)?;
     }
     push_summary(alloc, &mut out, name, explanation, ink_where(colour, GREEN))?;
-    Ok(out.into_bytes())
-}
-
-/// What precedes and what follows coloured words.
-#[derive(Clone, Copy)]
-pub(crate) struct Ink {
-    pub on: &'static str,
-    pub off: &'static str,
+    Ok(out)
 }
 
 /// The colour, where colours are wanted.
@@ -52,7 +46,7 @@ fn ink_where(colour: bool, on: &'static str) -> Ink {
     if colour {
         Ink { on, off: PLAIN }
     } else {
-        Ink { on: "", off: "" }
+        NO_INK
     }
 }
 
@@ -65,42 +59,31 @@ fn level_ink(colour: bool, level: Level) -> Ink {
     }
 }
 
-/// Adds the words in the colour.
-pub(crate) fn push_inked(out: &mut String, ink: Ink, words: &str) -> Result<(), AllocError> {
-    out.push_str(ink.on)?;
-    out.push_str(words)?;
-    out.push_str(ink.off)
-}
-
 /// Adds a finding.
 fn push_finding(
     alloc: Global,
-    out: &mut String,
+    out: &mut Vec<u8>,
     name: &str,
-    explanation: &Explanation,
+    source: Source,
     finding: &Finding,
     colour: bool,
 ) -> Result<(), AllocError> {
     let ink = level_ink(colour, finding.level);
-    let (level, rest) = headline(alloc, finding)?;
-    out.push_str(prefix(alloc, name, finding.position)?.as_str())?;
-    push_inked(out, ink, level)?;
-    out.push_str(rest.as_str())?;
-    out.push('\n')?;
-    let gutter = gutter_width(alloc, finding)?;
+    let place = prefix(alloc, name, finding.position)?;
+    push_headline(out, place.as_str(), ink, finding)?;
+    let gutter = gutter_width(alloc, finding.position)?;
     if let Some(position) = finding.position {
-        push_line(alloc, out, explanation.text, position, gutter, ink)?;
+        push_line(alloc, out, source.text, position, gutter, ink)?;
     }
-    push_steps(alloc, out, explanation, &finding.steps, gutter)?;
-    push_hint(out, finding.hint, gutter, colour)
+    push_steps(alloc, out, source, &finding.steps, gutter)?;
+    push_hint(out, finding.hint, gutter, ink_where(colour, CYAN))
 }
 
 /// How many columns precede the bar beside a finding's line.
-fn gutter_width(alloc: Global, finding: &Finding) -> Result<usize, AllocError> {
-    match finding.position {
+fn gutter_width(alloc: Global, position: Option<Position>) -> Result<usize, AllocError> {
+    match position {
         Some(position) => {
-            let number = position.line;
-            let digits = format!(in alloc; "{number}")?;
+            let digits = decimal(alloc, position.line)?;
             Ok(digits.len().saturating_add(2).max(4))
         }
         None => Ok(4),
@@ -110,41 +93,39 @@ fn gutter_width(alloc: Global, finding: &Finding) -> Result<usize, AllocError> {
 /// Adds the line in which the position is, and a caret under the byte.
 fn push_line(
     alloc: Global,
-    out: &mut String,
+    out: &mut Vec<u8>,
     text: &[u8],
     position: Position,
     gutter: usize,
     ink: Ink,
 ) -> Result<(), AllocError> {
     let shown = excerpt(alloc, text, position, LINE_WIDTH)?;
-    let number = position.line;
-    push_aligned(out, format!(in alloc; "{number}")?.as_str(), gutter)?;
-    out.push_str(" | ")?;
-    out.push_str(shown.shown.as_str())?;
-    out.push('\n')?;
+    let number = decimal(alloc, position.line)?;
+    push_aligned(out, number.as_str(), gutter)?;
+    push_all(out, &[" | ", shown.shown.as_str(), "\n"])?;
+    push_caret(out, gutter, shown.before, ink)
+}
+
+/// Adds a caret so many columns behind the bar.
+fn push_caret(out: &mut Vec<u8>, gutter: usize, before: usize, ink: Ink) -> Result<(), AllocError> {
     push_spaces(out, gutter)?;
-    out.push_str(" | ")?;
-    push_spaces(out, shown.before)?;
-    push_inked(out, ink, "^")?;
-    out.push('\n')
+    push_all(out, &[" | "])?;
+    push_spaces(out, before)?;
+    push_all(out, &[ink.on, "^", ink.off, "\n"])
 }
 
 /// Adds the hint, if there is one.
 fn push_hint(
-    out: &mut String,
+    out: &mut Vec<u8>,
     hint: Option<&'static str>,
     gutter: usize,
-    colour: bool,
+    ink: Ink,
 ) -> Result<(), AllocError> {
     let Some(hint) = hint else {
         return Ok(());
     };
     push_spaces(out, gutter)?;
-    out.push_str(" = ")?;
-    push_inked(out, ink_where(colour, CYAN), "hint")?;
-    out.push_str(": ")?;
-    out.push_str(hint)?;
-    out.push('\n')
+    push_all(out, &[" = ", ink.on, "hint", ink.off, ": ", hint, "\n"])
 }
 
 /// A step as it is printed.
@@ -155,44 +136,26 @@ struct Row<'a> {
     message: &'a str,
 }
 
-/// Adds the steps, one a line, in columns.
+/// Adds the steps, one a line.
 fn push_steps(
     alloc: Global,
-    out: &mut String,
-    explanation: &Explanation,
+    out: &mut Vec<u8>,
+    source: Source,
     steps: &[Step],
     gutter: usize,
 ) -> Result<(), AllocError> {
     let mut rows = Vec::new(alloc);
-    let mut place_width = 0;
-    let mut source_width = 0;
     for step in steps {
-        let row = step_row(alloc, explanation, step)?;
-        place_width = place_width.max(row.place.len());
-        source_width = source_width.max(row.source.len());
-        rows.push(row)?;
+        rows.push(step_row(alloc, source, step)?)?;
     }
-    for row in &rows {
-        push_spaces(out, gutter.saturating_add(3))?;
-        push_aligned(out, row.place.as_str(), place_width)?;
-        out.push_str("  ")?;
-        push_padded(out, row.source.as_str(), source_width)?;
-        out.push_str("  ")?;
-        out.push_str(row.message)?;
-        out.push('\n')?;
-    }
-    Ok(())
+    push_rows(out, &rows, gutter)
 }
 
 /// The parts of a step's line.
-fn step_row<'a>(
-    alloc: Global,
-    explanation: &Explanation,
-    step: &'a Step,
-) -> Result<Row<'a>, AllocError> {
+fn step_row<'a>(alloc: Global, source: Source, step: &'a Step) -> Result<Row<'a>, AllocError> {
     let place = place_words(alloc, step.position)?;
     let source = match step.position {
-        Some(position) => command_line(alloc, explanation, step.node.at, position, STEP_WIDTH)?,
+        Some(position) => command_line(alloc, source, step.node.at, position, STEP_WIDTH)?,
         None => String::new(alloc),
     };
     Ok(Row {
@@ -200,4 +163,22 @@ fn step_row<'a>(
         source,
         message: step.message.as_str(),
     })
+}
+
+/// Adds the rows in columns.
+fn push_rows(out: &mut Vec<u8>, rows: &[Row], gutter: usize) -> Result<(), AllocError> {
+    let mut place_width = 0;
+    let mut source_width = 0;
+    for row in rows {
+        place_width = place_width.max(row.place.len());
+        source_width = source_width.max(row.source.len());
+    }
+    for row in rows {
+        push_spaces(out, gutter.saturating_add(3))?;
+        push_aligned(out, row.place.as_str(), place_width)?;
+        push_all(out, &["  "])?;
+        push_padded(out, row.source.as_str(), source_width)?;
+        push_all(out, &["  ", row.message, "\n"])?;
+    }
+    Ok(())
 }

@@ -1,0 +1,134 @@
+//! The top of a page: the answer, and what was found.
+
+use crate::boxes::push_box;
+use crate::markup::push_prose;
+use sedck_escapes::push_text;
+use sedck_findings::{Answer, Explanation, Finding, Position};
+use sedck_words::{Source, decimal, level_word, push_all, push_grouped, push_limit, source_of};
+use std::alloc::{AllocError, Global};
+
+/// Adds the answer, the limit on steps, and a list of the findings, with links to those that are beside a line.
+pub(crate) fn push_top(
+    alloc: Global,
+    out: &mut Vec<u8>,
+    explanation: &Explanation,
+) -> Result<(), AllocError> {
+    let (class, answer) = answer_words(explanation);
+    push_all(out, &["<p class=\"answer ", class, "\">", answer, "</p>\n"])?;
+    push_steps(alloc, out, &explanation.answer)?;
+    push_counts(alloc, out, explanation)?;
+    push_findings(alloc, out, source_of(explanation), &explanation.findings)
+}
+
+/// The class and the words of the answer.
+fn answer_words(explanation: &Explanation) -> (&'static str, &'static str) {
+    if explanation.is_denied() {
+        return ("error", "Denied, though every run of the script ends.");
+    }
+    match &explanation.answer {
+        Answer::Accepted { .. } => ("accepted", "Accepted: every run of the script ends."),
+        Answer::Rejected { .. } => ("error", "The certificate is rejected."),
+        Answer::Endless(_) => ("error", "A loop rules out every certificate."),
+        Answer::ScriptRefused(_) => ("error", "The script is refused."),
+        Answer::CertificateRefused(_) => ("error", "The certificate is refused."),
+    }
+}
+
+/// Adds the limit on steps, where there is one.
+fn push_steps(alloc: Global, out: &mut Vec<u8>, answer: &Answer) -> Result<(), AllocError> {
+    let Answer::Accepted { bound, .. } = answer else {
+        return Ok(());
+    };
+    let Some(bound) = *bound else {
+        return Ok(());
+    };
+    push_text(out, "<p>Steps of a run: ")?;
+    push_limit(alloc, out, bound)?;
+    push_text(out, ".</p>\n")
+}
+
+/// Adds how many commands and files the script has, unless it is refused.
+fn push_counts(
+    alloc: Global,
+    out: &mut Vec<u8>,
+    explanation: &Explanation,
+) -> Result<(), AllocError> {
+    if explanation.script.is_none() {
+        return Ok(());
+    }
+    let parts = [
+        ("<p>Commands: ", explanation.positions.len()),
+        (
+            ". <a href=\"#files\">Files</a> that are read: ",
+            explanation.reads.len(),
+        ),
+        (", and written: ", explanation.writes.len()),
+    ];
+    for (words, count) in parts {
+        push_text(out, words)?;
+        push_grouped(alloc, out, count as u64)?;
+    }
+    push_text(out, ".</p>\n")
+}
+
+/// Adds the findings as a list, and in full those that are beside no line.
+fn push_findings(
+    alloc: Global,
+    out: &mut Vec<u8>,
+    source: Source,
+    findings: &[Finding],
+) -> Result<(), AllocError> {
+    if findings.is_empty() {
+        return Ok(());
+    }
+    push_text(out, "<h2>Findings</h2>\n<ul>\n")?;
+    for (index, finding) in findings.iter().enumerate() {
+        push_entry(alloc, out, finding, index)?;
+    }
+    push_text(out, "</ul>\n")?;
+    push_whole(alloc, out, source, findings)
+}
+
+/// Adds a line for a finding: a link where it is beside a line.
+fn push_entry(
+    alloc: Global,
+    out: &mut Vec<u8>,
+    finding: &Finding,
+    index: usize,
+) -> Result<(), AllocError> {
+    let index = decimal(alloc, index)?;
+    push_all(out, &["<li><a href=\"#F", index.as_str(), "\">"])?;
+    push_position(alloc, out, finding.position)?;
+    push_all(out, &[level_word(finding.level), "</a>: "])?;
+    push_prose(out, finding.message.as_str())?;
+    push_text(out, "</li>\n")
+}
+
+/// Adds the line and the column, if there are any.
+fn push_position(
+    alloc: Global,
+    out: &mut Vec<u8>,
+    position: Option<Position>,
+) -> Result<(), AllocError> {
+    let Some(position) = position else {
+        return Ok(());
+    };
+    let line = position.line;
+    let column = position.column;
+    push_text(out, format!(in alloc; "{line}:{column} ")?.as_str())
+}
+
+/// Adds the findings that are beside no line.
+fn push_whole(
+    alloc: Global,
+    out: &mut Vec<u8>,
+    source: Source,
+    findings: &[Finding],
+) -> Result<(), AllocError> {
+    for (index, finding) in findings.iter().enumerate() {
+        if finding.position.is_none() {
+            push_box(alloc, out, source, finding, index)?;
+        }
+    }
+    Ok(())
+}

@@ -1,2 +1,0 @@
--- What functions inside the crate promise each other. No public contract cites it.
-pub mod Html

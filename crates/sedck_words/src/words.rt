@@ -1,0 +1,77 @@
+//! Words and numbers that several formats share.
+
+use sedck_findings::{Answer, Explanation, Level, Position};
+use sedck_flow::Kind;
+use std::alloc::{AllocError, Global};
+
+/// The word for a level.
+pub fn level_word(level: Level) -> &'static str {
+    match level {
+        Level::Error => "error",
+        Level::Warning => "warning",
+        Level::Note => "note",
+    }
+}
+
+/// The word for the answer, or that an accepted script has what is denied.
+pub fn answer_word(explanation: &Explanation) -> &'static str {
+    if explanation.is_denied() {
+        return "denied";
+    }
+    match &explanation.answer {
+        Answer::Accepted { .. } => "accepted",
+        Answer::Rejected { .. } => "rejected",
+        Answer::Endless(_) => "loop",
+        Answer::ScriptRefused(_) => "script-refused",
+        Answer::CertificateRefused(_) => "certificate-refused",
+    }
+}
+
+/// The word for the kind.
+pub fn kind_word(kind: Kind) -> &'static str {
+    match kind {
+        Kind::Consume => "consume",
+        Kind::Shorten => "shorten",
+        Kind::Keep => "keep",
+        Kind::Grow => "grow",
+    }
+}
+
+/// `LINE:COLUMN`, or `end` for the script's end.
+pub fn place_words(alloc: Global, position: Option<Position>) -> Result<String, AllocError> {
+    match position {
+        Some(position) => {
+            let line = position.line;
+            let column = position.column;
+            format!(in alloc; "{line}:{column}")
+        }
+        None => String::from_str(alloc, "end"),
+    }
+}
+
+/// Adds the words, one after another.
+pub fn push_all(out: &mut Vec<u8>, words: &[&str]) -> Result<(), AllocError> {
+    for part in words {
+        out.extend_from_slice(part.as_bytes())?;
+    }
+    Ok(())
+}
+
+/// The number in decimal.
+pub fn decimal(alloc: Global, number: usize) -> Result<String, AllocError> {
+    format!(in alloc; "{number}")
+}
+
+/// Adds the number with a comma before each group of three digits.
+pub fn push_grouped(alloc: Global, out: &mut Vec<u8>, number: u64) -> Result<(), AllocError> {
+    let digits = format!(in alloc; "{number}")?;
+    let mut left = digits.len();
+    for digit in digits.as_str().as_bytes() {
+        if left % 3 == 0 && left < digits.len() {
+            out.push(b',')?;
+        }
+        out.push(*digit)?;
+        left = left.saturating_sub(1);
+    }
+    Ok(())
+}
