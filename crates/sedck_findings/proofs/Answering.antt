@@ -21,7 +21,7 @@ judge_refusal : (text bytes : List ℕ) (why : Fault) → ((¬ IsOutOfMemory (Er
     → ReportsFault text bytes (Err why) → IfSome (refusal why) (IsAnswer text (Some bytes))
 judge_refusal text bytes (below.Script script.OutOfMemory) answered reported = tt
 judge_refusal text bytes (below.Certificate cert.OutOfMemory) answered reported = tt
-judge_refusal text bytes (below.Script why) answered reported = ((answered (λ want. want)).script_fault.0 tt, reported)
+judge_refusal text bytes (below.Script why) answered reported = ((λ e. cc), (answered (λ want. want)).script_fault.0 tt, reported)
 judge_refusal text bytes (below.Certificate why) answered (inl memory) = cc
 judge_refusal text bytes (below.Certificate why) answered (inr is_fault) =
     let both = (answered (λ want. want)).certificate_fault.0 tt in (both.0, both.1, is_fault)
@@ -35,7 +35,7 @@ judge_refused text bytes why answer is answered reported =
 locate_refusal : (text : List ℕ) (given : Option (List ℕ)) (why : ScriptFault) → (why ≢ script.OutOfMemory → (p : Program) → ¬ Spells text p)
     → IsScriptFaultOf text why → IfSome (refusal (below.Script why)) (IsAnswer text given)
 locate_refusal text given script.OutOfMemory refused is_fault = tt
-locate_refusal text given why refused is_fault = (refused (λ e. cc), is_fault)
+locate_refusal text given why refused is_fault = ((λ e. cc), refused (λ e. cc), is_fault)
 
 -- what `locate` refuses
 pub locate_refused : (text : List ℕ) (given : Option (List ℕ)) (why : ScriptFault) (answer : Answer) → refusal (below.Script why) ≡ Some answer

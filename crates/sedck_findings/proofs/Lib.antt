@@ -1,2 +1,4 @@
 pub mod Positions
 pub mod Answering
+pub mod Errors
+pub mod Explanations

@@ -1,8 +1,9 @@
 -- What the engines answer of a script's text, alone or with a certificate's, this project's own: the verdict of `judge`, or what
 -- `search` finds.
-use Rattle.std.specs.Prelude.{◌≡◌, ℕ, List, Option, Some, None}
+use Rattle.std.specs.Prelude.{◌≡◌, ◌≢◌, ℕ, List, Option, Some, None}
 use Rattle.sedck_script.specs.Program.{Program}
 use Rattle.sedck_script.specs.Spelling.{Spells}
+use Rattle.sedck_script.specs.declared.fault.ScriptFault.TheVariants.{OutOfMemory}
 use Rattle.sedck_cert.specs.Certificate.{Certificate}
 use Rattle.sedck_cert.specs.Versions.{SpellsCertificate, IsFaultIn}
 use Rattle.sedck_cert.specs.Ranked.{Accepts}
@@ -18,7 +19,7 @@ SpellsOneWith text Holds = (p : Program) × SpellsOnly text p × Holds p
 
 -- the answer for a script's text and a certificate's text, where there is one
 abbrev pub IsAnswer : List ℕ → Option (List ℕ) → Answer → Type 0
-IsAnswer text given (ScriptRefused why) = ((p : Program) → ¬ Spells text p) × IsScriptFaultOf text why
+IsAnswer text given (ScriptRefused why) = (why ≢ OutOfMemory) × ((p : Program) → ¬ Spells text p) × IsScriptFaultOf text why
 IsAnswer text (Some bytes) (CertificateRefused why) =
     ((p : Program) × Spells text p) × ((c : Certificate) → ¬ SpellsCertificate bytes c) × IsFaultIn bytes why
 IsAnswer text None (CertificateRefused why) = ⊥

@@ -2,6 +2,8 @@
 pub mod Positions
 pub mod Answers
 pub mod Denial
+pub mod Errors
+pub mod Explanations
 pub mod Shown
 -- What functions inside the crate promise each other.
 pub mod Private

@@ -1,1 +1,3 @@
 pub mod Answering
+pub mod Errors
+pub mod Explaining

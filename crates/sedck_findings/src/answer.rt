@@ -1,6 +1,6 @@
 //! What the engines answer of a script, alone or with a certificate.
 
-ghost use Rattle.std.specs.Prelude.{◌≡◌, ◌≤◌, ℕ, List, IfOk, IfSome, Some, length};
+ghost use Rattle.std.specs.Prelude.{◌≡◌, ◌≤◌, ℕ, List, IfOk, IfSome, Some, None, length};
 ghost use Rattle.std.specs.Option.{option_map};
 ghost use Rattle.sedck_script.specs.Locations.{locations_of};
 ghost use Rattle.sedck_script.specs.Items.{Item, Items};
@@ -8,6 +8,7 @@ ghost use Rattle.sedck_cert.specs.Headline.{SpellsOnly, IsJudged};
 ghost use Rattle.sedck_findings.specs.Answers.{IsAnswer, status_of};
 ghost use Rattle.sedck_findings.specs.Denial.{nothing, status_under};
 ghost use Rattle.sedck_findings.specs.Private.Answering.{IsFoundAnswer, refusal};
+ghost use Rattle.sedck_findings.specs.Private.Errors.{IsRefused};
 
 use crate::denied::{Denied, has_reads, has_writes};
 use sedck_cert::{Bound, Cert, CertFault, Fault, Judged, Rejection, Verdict, bound, judge};
@@ -88,6 +89,7 @@ pub(crate) fn answer_of<'a>(
     ensures script { IfOk result (λ a. IfSome a.located (λ located. SpellsOnly text.now located.script)) }
     ensures locations { IfOk result (λ a. IfSome a.located (λ located. (items : List Item) (spelled : Items text.now items)
         → located.locations.items ≡ locations_of (length text.now) spelled)) }
+    ensures refused { IfOk result (λ a. a.located ≡ None → IsRefused text.now a.answer) }
 {
     let located = match locate(alloc, text) {
         Ok(located) => located,

@@ -1,15 +1,22 @@
 //! What is reported of a certificate that is refused or rejected.
 
+ghost use Rattle.std.specs.Prelude.{◌≡◌, None, IfOk};
+ghost use Rattle.sedck_findings.specs.Errors.{rejection_position as position_of_rejection};
+ghost use Rattle.sedck_findings.specs.declared.finding.Level.TheVariants.{Error};
+
 use crate::finding::{Finding, Level, Step};
 use crate::places::Position;
-use crate::steps::{step, target_step};
+use crate::steps::{position_of, step, target_step};
 use sedck_cert::{Cert, CertFault, Rejection};
 use sedck_flow::{Edge, Node};
 use sedck_script::Script;
 use std::alloc::{AllocError, Global};
 
 /// The finding for a certificate's text that is refused.
-pub(crate) fn certificate_refusal(alloc: Global, fault: CertFault) -> Result<Finding, AllocError> {
+pub(crate) fn certificate_refusal(alloc: Global, fault: CertFault) -> Result<Finding, AllocError>
+    ensures level { IfOk result (λ finding. finding.level ≡ Error) }
+    ensures position { IfOk result (λ finding. finding.position ≡ None) }
+{
     let wanted = match fault {
         CertFault::BadHeader { .. } => "`sedck 2`, or `sedck 1` in a certificate of version 1",
         CertFault::BadCount { .. } => "`commands` and the number of commands",
@@ -36,7 +43,10 @@ pub(crate) fn rejection(
     positions: &[Position],
     cert: &Cert,
     why: Rejection,
-) -> Result<Finding, AllocError> {
+) -> Result<Finding, AllocError>
+    ensures level { IfOk result (λ finding. finding.level ≡ Error) }
+    ensures position { IfOk result (λ finding. finding.position ≡ position_of_rejection positions.now why) }
+{
     let (code, words, hint) = rejection_words(why);
     let steps = match why {
         Rejection::LeavesRanked(edge) | Rejection::NotLowered(edge) => {
@@ -55,11 +65,23 @@ pub(crate) fn rejection(
     Ok(Finding {
         level: Level::Error,
         code,
-        position: steps.first().and_then(|step| step.position),
+        position: rejection_position(positions, why),
         message,
         hint: Some(hint),
         steps,
     })
+}
+
+/// Where the edge begins that fails; none for any other rejection.
+fn rejection_position(positions: &[Position], why: Rejection) -> Option<Position>
+    ensures { result ≡ position_of_rejection positions.now why }
+{
+    match why {
+        Rejection::LeavesRanked(edge) | Rejection::NotLowered(edge) => {
+            position_of(positions, edge.from)
+        }
+        _ => None,
+    }
 }
 
 /// The name of a rejection, what it says, and how to go on.

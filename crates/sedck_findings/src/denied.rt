@@ -1,7 +1,8 @@
 //! What a caller denies of an accepted script, and what is reported of it.
 
-ghost use Rattle.std.specs.Prelude.{◌≡◌};
-ghost use Rattle.sedck_findings.specs.Denial.{has_warning, is_there};
+ghost use Rattle.std.specs.Prelude.{◌≡◌, ◌&&◌, ◌||◌, not, true, false, IfOk, OnOk};
+ghost use Rattle.sedck_findings.specs.Denial.{has_warning, is_there, is_warning};
+ghost use Rattle.sedck_findings.specs.Errors.{has_error, is_error};
 
 use crate::finding::{Finding, Level, NamedFile};
 use crate::places::Position;
@@ -56,12 +57,17 @@ pub(crate) fn has_writes(cert: &Cert) -> bool
 /// The findings on an accepted script behind an error for each thing that is denied and there.
 pub(crate) fn with_denials(
     alloc: Global,
-    findings: Vec<Finding>,
+    mut findings: Vec<Finding>,
     denied: Denied,
     reads: &[NamedFile],
     writes: &[NamedFile],
     is_bounded: bool,
-) -> Result<Vec<Finding>, AllocError> {
+) -> Result<Vec<Finding>, AllocError>
+    // There is an error where something is denied and there, or was one before; all warnings are kept.
+    ensures errors { IfOk result (λ all. has_error all.items ≡ ((denied.reads && is_there reads.now) || (denied.writes && is_there writes.now)
+        || (denied.unbounded && not is_bounded) || (denied.warnings && has_warning findings.items) || has_error findings.items)) }
+    ensures warnings { IfOk result (λ all. has_warning all.items ≡ has_warning findings.items) }
+{
     let mut all = Vec::new(alloc);
     if denied.reads {
         push_files(alloc, &mut all, reads, "denied-reads", "reads")?;
@@ -75,9 +81,7 @@ pub(crate) fn with_denials(
     if denied.warnings {
         push_warnings(alloc, &mut all, &findings)?;
     }
-    for finding in findings {
-        all.push(finding)?;
-    }
+    all.append(&mut findings)?;
     Ok(all)
 }
 
@@ -88,7 +92,10 @@ fn push_files(
     files: &[NamedFile],
     code: &'static str,
     does: &'static str,
-) -> Result<(), AllocError> {
+) -> Result<(), AllocError>
+    ensures errors { OnOk result (has_error findings.new.items ≡ (has_error findings.old.items || is_there files.now)) }
+    ensures warnings { OnOk result (has_warning findings.new.items ≡ has_warning findings.old.items) }
+{
     for file in files {
         let name = shown_name(alloc, file.name)?;
         let message = format!(in alloc; "this {does} \"{name}\", which `--deny {does}` rules out")?;
@@ -102,7 +109,10 @@ fn push_warnings(
     alloc: Global,
     findings: &mut Vec<Finding>,
     given: &[Finding],
-) -> Result<(), AllocError> {
+) -> Result<(), AllocError>
+    ensures errors { OnOk result (has_error findings.new.items ≡ (has_error findings.old.items || has_warning given.now)) }
+    ensures warnings { OnOk result (has_warning findings.new.items ≡ has_warning findings.old.items) }
+{
     for finding in given {
         if finding.is_warning() {
             let code = finding.code;
@@ -116,7 +126,10 @@ fn push_warnings(
 }
 
 /// The error where no limit on the steps is known, at the place of the note that says so.
-fn unbounded_denial(alloc: Global, findings: &[Finding]) -> Result<Finding, AllocError> {
+fn unbounded_denial(alloc: Global, findings: &[Finding]) -> Result<Finding, AllocError>
+    ensures error { IfOk result (λ finding. is_error finding.level ≡ true) }
+    ensures warning { IfOk result (λ finding. is_warning finding.level ≡ false) }
+{
     let position = findings
         .iter()
         .find(|finding| finding.code == "no-bound")
@@ -129,12 +142,10 @@ fn unbounded_denial(alloc: Global, findings: &[Finding]) -> Result<Finding, Allo
 }
 
 /// An error on something that is denied.
-fn denial(
-    alloc: Global,
-    code: &'static str,
-    position: Option<Position>,
-    message: String,
-) -> Finding {
+fn denial(alloc: Global, code: &'static str, position: Option<Position>, message: String) -> Finding
+    ensures error { is_error result.level ≡ true }
+    ensures warning { is_warning result.level ≡ false }
+{
     Finding {
         level: Level::Error,
         code,

@@ -1,13 +1,11 @@
 //! All that is reported of a script.
 
-ghost use Rattle.std.specs.Prelude.{◌≡◌, ◌≤◌, List, Some, None, IfOk, IfSome, IsSome, length, map};
+ghost use Rattle.std.specs.Prelude.{◌≡◌, ◌≤◌, [], IfOk, map};
 ghost use Rattle.std.specs.Option.{option_map};
-ghost use Rattle.sedck_script.specs.Items.{Item, Items};
-ghost use Rattle.sedck_script.specs.Locations.{locations_of};
-ghost use Rattle.sedck_cert.specs.Headline.{SpellsOnly};
-ghost use Rattle.sedck_findings.specs.Answers.{IsAnswer};
-ghost use Rattle.sedck_findings.specs.Denial.{has_warning, status_under};
+ghost use Rattle.sedck_findings.specs.Explanations.{IsExplanation, KeepsNothing};
 ghost use Rattle.sedck_findings.specs.Positions.{position_in};
+ghost use Rattle.sedck_findings.specs.Private.Errors.{IsOfScript, IsRefused, CanBeReported, AreFindingsOf, IsFindingOf};
+ghost use Rattle.sedck_findings.specs.Private.Explaining.{Explains, KeepsLocated, HasLists, AreDeniedFindings};
 
 use crate::answer::{Answer, Answered, answer_of};
 use crate::certificates::{certificate_refusal, rejection};
@@ -29,12 +27,8 @@ pub fn explain<'a>(
     certificate: Option<&[u8]>,
     denied: Denied,
 ) -> Result<Explanation<'a>, AllocError>
-    ensures answer { IfOk result (λ e. IsAnswer text.now (option_map (λ bytes. bytes.now) certificate.entry) e.answer) }
-    ensures status { IfOk result (λ e. e.status ≡ status_under denied (has_warning e.findings.items) e.answer) }
+    ensures explanation { IfOk result (IsExplanation text.now (option_map (λ bytes. bytes.now) certificate.entry) denied) }
     ensures few { IfOk result (λ e. e.status ≤ 2) }
-    ensures script { IfOk result (λ e. IfSome e.script (SpellsOnly text.now)) }
-    ensures positions { IfOk result (λ e. (items : List Item) (spelled : Items text.now items) → IsSome e.script
-        → e.positions.items ≡ map (λ location. position_in text.now location.verb) (locations_of (length text.now) spelled)) }
 {
     let Answered { answer, located } = answer_of(alloc, text, certificate)?;
     match located {
@@ -51,32 +45,23 @@ fn explained<'a>(
     located: Located<'a>,
     denied: Denied,
 ) -> Result<Explanation<'a>, AllocError>
-    ensures answer { IfOk result (λ e. e.answer ≡ answer) }
-    ensures status { IfOk result (λ e. e.status ≡ status_under denied (has_warning e.findings.items) e.answer) }
+    requires { IsOfScript text.now located.script answer }
+    ensures explains { IfOk result (Explains text.now denied answer) }
+    ensures keeps { IfOk result (KeepsLocated text.now located.entry.script located.entry.locations.items) }
     ensures few { IfOk result (λ e. e.status ≤ 2) }
-    ensures script { IfOk result (λ e. e.script ≡ Some located.entry.script) }
-    ensures positions { IfOk result (λ e. e.positions.items ≡ map (λ location. position_in text.now location.verb) located.entry.locations.items) }
 {
-    let Located { script, locations } = located;
-    let positions = verb_positions(alloc, text, &locations)?;
-    let reads = named_files(alloc, script.reads(), &script, &positions, Access::Read)?;
-    let writes = named_files(alloc, script.writes(), &script, &positions, Access::Write)?;
-    let mut findings = Vec::new(alloc);
-    if let Some(finding) = answer_finding(alloc, text, &script, &positions, &answer)? {
-        findings.push(finding)?;
-    }
-    look_warnings(alloc, &mut findings, text, &locations)?;
-    name_warnings(alloc, &mut findings, &reads, &writes, Access::Read)?;
-    name_warnings(alloc, &mut findings, &writes, &reads, Access::Write)?;
-    if let Answer::Accepted { bound, .. } = &answer {
-        findings = with_denials(alloc, findings, denied, &reads, &writes, bound.is_some())?;
-    }
+    let positions = verb_positions(alloc, text, &located.locations)?;
+    let script = &located.script;
+    let reads = named_files(alloc, script.reads(), script, &positions, Access::Read)?;
+    let writes = named_files(alloc, script.writes(), script, &positions, Access::Write)?;
+    let found = findings_of(alloc, text, &located, &positions, &answer, &reads, &writes)?;
+    let findings = denied_findings(alloc, found, denied, &answer, &reads, &writes)?;
     let status = answer.status_under(denied, any_warning(&findings));
     Ok(Explanation {
         text,
         answer,
         status,
-        script: Some(script),
+        script: Some(located.script),
         positions,
         findings,
         reads,
@@ -91,15 +76,12 @@ fn refused<'a>(
     answer: Answer,
     denied: Denied,
 ) -> Result<Explanation<'a>, AllocError>
-    ensures answer { IfOk result (λ e. e.answer ≡ answer) }
-    ensures status { IfOk result (λ e. e.status ≡ status_under denied (has_warning e.findings.items) e.answer) }
+    requires { IsRefused text.now answer }
+    ensures explains { IfOk result (Explains text.now denied answer) }
+    ensures keeps { IfOk result KeepsNothing }
     ensures few { IfOk result (λ e. e.status ≤ 2) }
-    ensures script { IfOk result (λ e. e.script ≡ None) }
 {
-    let mut findings = Vec::new(alloc);
-    if let Answer::ScriptRefused(fault) = &answer {
-        findings.push(script_refusal(alloc, text, *fault)?)?;
-    }
+    let findings = refusal_findings(alloc, text, &answer)?;
     let status = answer.status_under(denied, any_warning(&findings));
     Ok(Explanation {
         text,
@@ -111,6 +93,59 @@ fn refused<'a>(
         reads: Vec::new(alloc),
         writes: Vec::new(alloc),
     })
+}
+
+/// What is reported of the answer that a script is refused.
+fn refusal_findings(alloc: Global, text: &[u8], answer: &Answer) -> Result<Vec<Finding>, AllocError>
+    requires { IsRefused text.now answer.now }
+    ensures { IfOk result (λ findings. AreFindingsOf text.now [] answer.now findings.items) }
+{
+    let mut findings = Vec::new(alloc);
+    let Answer::ScriptRefused(fault) = answer else {
+        return Ok(findings);
+    };
+    findings.push(script_refusal(alloc, text, *fault)?)?;
+    Ok(findings)
+}
+
+/// What is reported before anything is denied: of the answer, of how the script looks, and of its names.
+fn findings_of(
+    alloc: Global,
+    text: &[u8],
+    located: &Located,
+    positions: &[Position],
+    answer: &Answer,
+    reads: &[NamedFile],
+    writes: &[NamedFile],
+) -> Result<Vec<Finding>, AllocError>
+    requires { CanBeReported text.now answer.now }
+    ensures { IfOk result (λ findings. AreFindingsOf text.now positions.now answer.now findings.items) }
+{
+    let mut findings = answer_findings(alloc, text, &located.script, positions, answer)?;
+    look_warnings(alloc, &mut findings, text, &located.locations)?;
+    name_warnings(alloc, &mut findings, reads, writes, Access::Read)?;
+    name_warnings(alloc, &mut findings, writes, reads, Access::Write)?;
+    Ok(findings)
+}
+
+/// The findings, behind an error for each thing that is denied where the script is accepted.
+fn denied_findings(
+    alloc: Global,
+    findings: Vec<Finding>,
+    denied: Denied,
+    answer: &Answer,
+    reads: &[NamedFile],
+    writes: &[NamedFile],
+) -> Result<Vec<Finding>, AllocError>
+    requires { HasLists reads.now writes.now answer.now }
+    ensures { IfOk result (λ all. AreDeniedFindings denied findings.items all.items answer.now) }
+{
+    match answer {
+        Answer::Accepted { bound, .. } => {
+            with_denials(alloc, findings, denied, reads, writes, bound.is_some())
+        }
+        _ => Ok(findings),
+    }
 }
 
 /// The position of each command's verb.
@@ -128,6 +163,25 @@ fn verb_positions(
     positions(alloc, text, &offsets)
 }
 
+/// What is reported of the answer, alone.
+fn answer_findings(
+    alloc: Global,
+    text: &[u8],
+    script: &Script,
+    positions: &[Position],
+    answer: &Answer,
+) -> Result<Vec<Finding>, AllocError>
+    requires { CanBeReported text.now answer.now }
+    ensures { IfOk result (λ findings. AreFindingsOf text.now positions.now answer.now findings.items) }
+{
+    let mut findings = Vec::new(alloc);
+    let Some(finding) = answer_finding(alloc, text, script, positions, answer)? else {
+        return Ok(findings);
+    };
+    findings.push(finding)?;
+    Ok(findings)
+}
+
 /// What is reported of the answer, where there is something to be said.
 fn answer_finding(
     alloc: Global,
@@ -135,7 +189,10 @@ fn answer_finding(
     script: &Script,
     positions: &[Position],
     answer: &Answer,
-) -> Result<Option<Finding>, AllocError> {
+) -> Result<Option<Finding>, AllocError>
+    requires { CanBeReported text.now answer.now }
+    ensures { IfOk result (IsFindingOf text.now positions.now answer.now) }
+{
     match answer {
         Answer::ScriptRefused(fault) => Ok(Some(script_refusal(alloc, text, *fault)?)),
         Answer::CertificateRefused(fault) => Ok(Some(certificate_refusal(alloc, *fault)?)),

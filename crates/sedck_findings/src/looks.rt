@@ -1,5 +1,9 @@
 //! Scripts that are read as POSIX has them, and look as if something else was meant.
 
+ghost use Rattle.std.specs.Prelude.{◌≡◌, false, IfOk, OnOk};
+ghost use Rattle.sedck_findings.specs.Errors.{is_error};
+ghost use Rattle.sedck_findings.specs.Private.Errors.{AddsNoError};
+
 use crate::finding::{Finding, Level};
 use crate::places::{Position, position_at, positions};
 use sedck_hints::{Reading, behind_part, is_blank};
@@ -12,7 +16,9 @@ pub(crate) fn look_warnings(
     findings: &mut Vec<Finding>,
     text: &[u8],
     locations: &[Location],
-) -> Result<(), AllocError> {
+) -> Result<(), AllocError>
+    ensures { OnOk result (AddsNoError findings.old.items findings.new.items) }
+{
     if has_options(text) {
         findings.push(warning(
             alloc,
@@ -22,6 +28,19 @@ pub(crate) fn look_warnings(
             "with `-E` the expressions mean something else, `-i` writes files, `-s` and `-z` cut the input in another way",
         )?)?;
     }
+    brace_warnings(alloc, findings, text, locations)?;
+    extended_warning(alloc, findings, text, locations)
+}
+
+/// A warning for each `}` that follows a label.
+fn brace_warnings(
+    alloc: Global,
+    findings: &mut Vec<Finding>,
+    text: &[u8],
+    locations: &[Location],
+) -> Result<(), AllocError>
+    ensures { OnOk result (AddsNoError findings.old.items findings.new.items) }
+{
     for position in positions(alloc, text, &braces(alloc, text, locations)?)? {
         findings.push(warning(
             alloc,
@@ -31,6 +50,18 @@ pub(crate) fn look_warnings(
             "write a `;` or a newline before the `}`",
         )?)?;
     }
+    Ok(())
+}
+
+/// A warning for the first expression that looks like an extended one.
+fn extended_warning(
+    alloc: Global,
+    findings: &mut Vec<Finding>,
+    text: &[u8],
+    locations: &[Location],
+) -> Result<(), AllocError>
+    ensures { OnOk result (AddsNoError findings.old.items findings.new.items) }
+{
     for location in locations {
         if let Some(offset) = extended_in(text, *location) {
             findings.push(warning(
@@ -53,7 +84,9 @@ fn warning(
     code: &'static str,
     message: &str,
     hint: &'static str,
-) -> Result<Finding, AllocError> {
+) -> Result<Finding, AllocError>
+    ensures { IfOk result (λ finding. is_error finding.level ≡ false) }
+{
     Ok(Finding {
         level: Level::Warning,
         code,

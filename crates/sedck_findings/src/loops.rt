@@ -1,6 +1,8 @@
 //! What is reported of a loop, and of a script whose steps have no limit.
 
-ghost use Rattle.std.specs.Prelude.{◌≤◌, length};
+ghost use Rattle.std.specs.Prelude.{◌≡◌, ◌≤◌, false, length, IfOk, IfSome};
+ghost use Rattle.sedck_findings.specs.Errors.{first_position, is_error};
+ghost use Rattle.sedck_findings.specs.declared.finding.Level.TheVariants.{Error};
 
 use crate::finding::{Finding, Level, Step};
 use crate::places::Position;
@@ -17,7 +19,10 @@ pub(crate) fn loop_finding(
     script: &Script,
     positions: &[Position],
     walk: &Walk,
-) -> Result<Finding, AllocError> {
+) -> Result<Finding, AllocError>
+    ensures level { IfOk result (λ finding. finding.level ≡ Error) }
+    ensures position { IfOk result (λ finding. finding.position ≡ first_position positions.now walk.now.nodes.items) }
+{
     let (code, message) = match walk.form {
         Form::Idle => (
             "loop-idle",
@@ -32,11 +37,21 @@ pub(crate) fn loop_finding(
     Ok(Finding {
         level: Level::Error,
         code,
-        position: steps.first().and_then(|step| step.position),
+        position: loop_position(positions, walk),
         message: String::from_str(alloc, message)?,
         hint: Some(loop_hint(script, walk)),
         steps,
     })
+}
+
+/// Where the loop begins.
+fn loop_position(positions: &[Position], walk: &Walk) -> Option<Position>
+    ensures { result ≡ first_position positions.now walk.now.nodes.items }
+{
+    match walk.nodes.first() {
+        Some(node) => position_of(positions, *node),
+        None => None,
+    }
 }
 
 /// The steps of the loop, in the order of a run, and the node that it comes back to.
@@ -141,7 +156,9 @@ pub(crate) fn unbounded(
     script: &Script,
     positions: &[Position],
     cert: &Cert,
-) -> Result<Option<Finding>, AllocError> {
+) -> Result<Option<Finding>, AllocError>
+    ensures { IfOk result (λ found. IfSome found (λ finding. is_error finding.level ≡ false)) }
+{
     let Some(edge) = first_growth(script, cert) else {
         return Ok(None);
     };

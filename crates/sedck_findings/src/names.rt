@@ -1,5 +1,10 @@
 //! The files that a script names, and the names at which a reader should look twice.
 
+ghost use Rattle.std.specs.Prelude.{◌≡◌, false, IfOk, OnOk, map};
+ghost use Rattle.sedck_findings.specs.Explanations.{names_of};
+ghost use Rattle.sedck_findings.specs.Errors.{is_error};
+ghost use Rattle.sedck_findings.specs.Private.Errors.{AddsNoError};
+
 use crate::finding::{Finding, Level, NamedFile};
 use crate::places::Position;
 use crate::shown::{is_printable, shown_name};
@@ -20,14 +25,10 @@ pub(crate) fn named_files<'a>(
     script: &Script<'a>,
     positions: &[Position],
     access: Access,
-) -> Result<Vec<NamedFile<'a>>, AllocError> {
-    let mut files = Vec::new(alloc);
-    for name in names {
-        files.push(NamedFile {
-            name,
-            positions: Vec::new(alloc),
-        })?;
-    }
+) -> Result<Vec<NamedFile<'a>>, AllocError>
+    ensures { IfOk result (λ files. names_of files.items ≡ map (λ name. name.now) names.now) }
+{
+    let mut files = unplaced_files(alloc, names)?;
     for (command, position) in script.commands().iter().zip(positions) {
         let Some(name) = name_of(command, access) else {
             continue;
@@ -35,9 +36,23 @@ pub(crate) fn named_files<'a>(
         let Ok(index) = names.binary_search(&name) else {
             continue;
         };
-        if let Some(file) = files.get_mut(index) {
-            file.positions.push(*position)?;
+        if index < files.len() {
+            files[index].positions.push(*position)?;
         }
+    }
+    Ok(files)
+}
+
+/// The names in this order, without positions yet.
+fn unplaced_files<'a>(alloc: Global, names: &[&'a [u8]]) -> Result<Vec<NamedFile<'a>>, AllocError>
+    ensures { IfOk result (λ files. names_of files.items ≡ map (λ name. name.now) names.now) }
+{
+    let mut files = Vec::new(alloc);
+    for name in names {
+        files.push(NamedFile {
+            name,
+            positions: Vec::new(alloc),
+        })?;
     }
     Ok(files)
 }
@@ -58,20 +73,36 @@ pub(crate) fn name_warnings(
     files: &[NamedFile],
     others: &[NamedFile],
     access: Access,
-) -> Result<(), AllocError> {
+) -> Result<(), AllocError>
+    ensures { OnOk result (AddsNoError findings.old.items findings.new.items) }
+{
     for file in files {
-        let doubts = [
-            path_doubt(file.name),
-            upward_doubt(file.name),
-            byte_doubt(file.name),
-            end_doubt(file.name),
-            command_doubt(file.name),
-            both_doubt(file, others, access),
-        ];
-        for doubt in doubts {
-            if let Some(doubt) = doubt {
-                findings.push(warning(alloc, file, access, doubt)?)?;
-            }
+        file_warnings(alloc, findings, file, others, access)?;
+    }
+    Ok(())
+}
+
+/// A warning for each reason to look at this name twice.
+fn file_warnings(
+    alloc: Global,
+    findings: &mut Vec<Finding>,
+    file: &NamedFile,
+    others: &[NamedFile],
+    access: Access,
+) -> Result<(), AllocError>
+    ensures { OnOk result (AddsNoError findings.old.items findings.new.items) }
+{
+    let doubts = [
+        path_doubt(file.name),
+        upward_doubt(file.name),
+        byte_doubt(file.name),
+        end_doubt(file.name),
+        command_doubt(file.name),
+        both_doubt(file, others, access),
+    ];
+    for doubt in doubts {
+        if let Some(doubt) = doubt {
+            findings.push(warning(alloc, file, access, doubt)?)?;
         }
     }
     Ok(())
@@ -90,7 +121,9 @@ fn warning(
     file: &NamedFile,
     access: Access,
     doubt: Doubt,
-) -> Result<Finding, AllocError> {
+) -> Result<Finding, AllocError>
+    ensures { IfOk result (λ finding. is_error finding.level ≡ false) }
+{
     let does = match access {
         Access::Read => "reads",
         Access::Write => "writes",

@@ -1,5 +1,11 @@
 //! What is reported of a script's text that is refused.
 
+ghost use Rattle.std.specs.Prelude.{◌≡◌, ◌≢◌, ◌≤◌, ℕ, length, Some, IfOk};
+ghost use Rattle.sedck_findings.specs.Errors.{IsFaultOffset};
+ghost use Rattle.sedck_findings.specs.Positions.{position_in};
+ghost use Rattle.sedck_findings.specs.Private.Errors.{IsReportable};
+ghost use Rattle.sedck_findings.specs.declared.finding.Level.TheVariants.{Error};
+
 use crate::finding::{Finding, Level};
 use crate::places::position_at;
 use sedck_bre::ReFault;
@@ -12,7 +18,11 @@ pub(crate) fn script_refusal(
     alloc: Global,
     text: &[u8],
     fault: ScriptFault,
-) -> Result<Finding, AllocError> {
+) -> Result<Finding, AllocError>
+    requires { IsReportable text.now fault }
+    ensures level { IfOk result (λ finding. finding.level ≡ Error) }
+    ensures position { IfOk result (λ finding. (offset : ℕ) × IsFaultOffset text.now fault offset × (finding.position ≡ Some (position_in text.now offset))) }
+{
     let offset = offset_of(text, fault);
     let spot = Spot {
         before: text.get(..offset).unwrap_or(&[]),
@@ -50,7 +60,10 @@ fn expression_of(fault: ScriptFault) -> usize {
 }
 
 /// Where the fault is in the script's text.
-fn offset_of(text: &[u8], fault: ScriptFault) -> usize {
+fn offset_of(text: &[u8], fault: ScriptFault) -> usize
+    requires { IsReportable text.now fault }
+    ensures { IsFaultOffset text.now fault result }
+{
     match fault {
         ScriptFault::BadExpression { place, fault } => {
             offset_in_expression(text, place, fault.place().unwrap_or(0))
@@ -61,7 +74,11 @@ fn offset_of(text: &[u8], fault: ScriptFault) -> usize {
 
 /// Where a byte of an expression stands in the script's text, which has a backslash before each delimiter in it. The
 /// expression begins at `start`, after its delimiter.
-fn offset_in_expression(text: &[u8], start: usize, offset: usize) -> usize {
+fn offset_in_expression(text: &[u8], start: usize, offset: usize) -> usize
+    requires { start ≤ length text.now }
+    ensures behind { start ≤ result }
+    ensures within { result ≤ length text.now }
+{
     let delimiter = text.get(start.saturating_sub(1)).copied().unwrap_or(b'/');
     let mut rest = text.get(start..).unwrap_or(&[]);
     let mut left = offset;

@@ -1,5 +1,8 @@
 //! What a step from one command to the next does, in words.
 
+ghost use Rattle.std.specs.Prelude.{◌≡◌};
+ghost use Rattle.sedck_findings.specs.Errors.{node_position};
+
 use crate::finding::Step;
 use crate::places::Position;
 use sedck_flow::{Edge, Kind, Node};
@@ -37,7 +40,9 @@ pub(crate) fn target_step(
 }
 
 /// Where the node's command is; none for the script's end.
-pub(crate) fn position_of(positions: &[Position], node: Node) -> Option<Position> {
+pub(crate) fn position_of(positions: &[Position], node: Node) -> Option<Position>
+    ensures { result ≡ node_position positions.now node }
+{
     positions.get(usize::from(node.at)).copied()
 }
 

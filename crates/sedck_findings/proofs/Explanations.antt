@@ -1,0 +1,112 @@
+-- From an answer to its explanation.
+use Rattle.std.proofs.Common.{◌≡◌, ◌∙◌, ℕ, List, Option, Some, None, Result, Ok, Err, IfOk, length, map, refl, sym, ap, subst}
+use Rattle.std.proofs.lemmas.List.{length-map}
+use Rattle.sedck_script.specs.Program.{Program}
+use Rattle.sedck_script.specs.Names.{reads, writes}
+use Rattle.sedck_script.specs.Items.{Item, Items}
+use Rattle.sedck_script.specs.Locations.{locations_of}
+use Rattle.sedck_script.specs.declared.location.Location.{Location}
+use Rattle.sedck_flow.specs.Run.{NamesForReading, NamesForWriting}
+use Rattle.sedck_cert.specs.Certificate.{Certificate}
+use Rattle.sedck_cert.specs.Ranked.{Accepts}
+use Rattle.sedck_cert.specs.Headline.{SpellsOnly}
+use Rattle.sedck_cert.proofs.NamesListed.{reads_listed, writes_listed, only_list}
+use Rattle.sedck_findings.specs.Answers.{IsAnswer}
+use Rattle.sedck_findings.specs.Positions.{position_in}
+use Rattle.sedck_findings.specs.Denial.{is_there}
+use Rattle.sedck_findings.specs.Explanations.{Keeps, KeepsNothing, IsExplanation, names_of}
+use Rattle.sedck_findings.specs.Private.Errors.{IsOfScript, IsRefused, CanBeReported}
+use Rattle.sedck_findings.specs.Private.Explaining.{Explains, KeepsLocated, HasLists}
+use Rattle.sedck_findings.specs.declared.answer.Answer.{Answer}
+use Rattle.sedck_findings.specs.declared.answer.Answer.TheVariants.{ScriptRefused, CertificateRefused, Accepted, Rejected, Endless}
+use Rattle.sedck_findings.specs.declared.denied.Denied.{Denied}
+use Rattle.sedck_findings.specs.declared.finding.Explanation.{Explanation}
+use Rattle.sedck_findings.specs.declared.finding.NamedFile.{NamedFile}
+
+-- what follows from two promises on success
+pub on_both : {T E : Type 0} (P Q R : T → Type 0) (r : Result T E) → ((x : T) → P x → Q x → R x) → IfOk r P → IfOk r Q → IfOk r R
+on_both P Q R (Ok x) follows one two = follows x one two
+on_both P Q R (Err e) follows one two = one
+
+-- an accepted certificate has the names of the script
+accepted_names : (p q : Program) (cert : Certificate) → q ≡ p → Accepts q cert → (cert.reads ≡ reads p) × (cert.writes ≡ writes p)
+accepted_names p q cert same accepts =
+    let mine : Accepts p cert = subst (λ x. Accepts x cert) same accepts in (
+      (only_list (NamesForReading p) (reads p) cert.reads (reads_listed p)).1 mine.reads,
+      (only_list (NamesForWriting p) (writes p) cert.writes (writes_listed p)).1 mine.writes,
+    )
+
+-- what is known of the answer for a script that was read
+pub of_script : (text : List ℕ) (given : Option (List ℕ)) (p : Program) (answer : Answer) → SpellsOnly text p → IsAnswer text given answer
+    → IsOfScript text p answer
+of_script text given p (ScriptRefused why) spelled is = (is.0, is.2.placed)
+of_script text (Some bytes) p (Accepted cert bound) spelled is =
+    accepted_names p is.program cert (spelled.only is.program is.spelled.spells) (subst (Accepts is.program) is.holds.0 is.holds.1)
+of_script text None p (Accepted cert bound) spelled is = accepted_names p is.0 cert (spelled.only is.0 is.1.spells) is.2.0
+of_script text given p (CertificateRefused why) spelled is = tt
+of_script text given p (Rejected cert why) spelled is = tt
+of_script text given p (Endless walk) spelled is = tt
+
+-- the fault of such an answer can be reported
+pub can_be_reported : (text : List ℕ) (p : Program) (answer : Answer) → IsOfScript text p answer → CanBeReported text answer
+can_be_reported text p (ScriptRefused why) is = is
+can_be_reported text p (CertificateRefused why) is = tt
+can_be_reported text p (Accepted cert bound) is = tt
+can_be_reported text p (Rejected cert why) is = tt
+can_be_reported text p (Endless walk) is = tt
+
+-- lists with the same names both have something, or neither has
+there_by_names : (files : List NamedFile) (names : List (List ℕ)) → names_of files ≡ names → is_there names ≡ is_there files
+there_by_names files names is =
+    let same : length names ≡ length files = ap length (sym is) ∙ length-map files (λ file. file.name.now) in rw same refl
+
+pub lists_of_script : (text : List ℕ) (p : Program) (answer : Answer) (read written : List NamedFile) → IsOfScript text p answer
+    → names_of read ≡ reads p → names_of written ≡ writes p → HasLists read written answer
+lists_of_script text p (Accepted cert bound) read written is are_read are_written =
+    (there_by_names read cert.reads (are_read ∙ sym is.0), there_by_names written cert.writes (are_written ∙ sym is.1))
+lists_of_script text p (ScriptRefused why) read written is are_read are_written = tt
+lists_of_script text p (CertificateRefused why) read written is are_read are_written = tt
+lists_of_script text p (Rejected cert why) read written is are_read are_written = tt
+lists_of_script text p (Endless walk) read written is are_read are_written = tt
+
+-- a script that is read is kept
+pub keeps_script : (text : List ℕ) (given : Option (List ℕ)) (p : Program) (locations : List Location) (answer : Answer) (e : Explanation)
+    → SpellsOnly text p → ((items : List Item) (spelled : Items text items) → locations ≡ locations_of (length text) spelled)
+    → IsAnswer text given answer → KeepsLocated text p locations e → Keeps text answer e
+keeps_script text given p locations (ScriptRefused why) e spelled located is kept = absurd (is.1 p spelled.spells)
+keeps_script text given p locations _ e spelled located is kept = record {
+  script = p;
+  is_kept = kept.is_kept;
+  spelled = spelled;
+  reads = kept.reads;
+  writes = kept.writes;
+  positions = λ items spells. kept.positions ∙ ap (map (λ location. position_in text location.verb)) (located items spells);
+}
+
+-- nothing is kept of one that is refused
+pub keeps_nothing : (text : List ℕ) (answer : Answer) (e : Explanation) → IsRefused text answer → KeepsNothing e → Keeps text answer e
+keeps_nothing text (ScriptRefused why) e refused kept = kept
+keeps_nothing text _ e refused kept = absurd refused
+
+-- the explanation of a script that is read
+pub explained_script : (text : List ℕ) (given : Option (List ℕ)) (denied : Denied) (p : Program) (locations : List Location) (answer : Answer) (e : Explanation)
+    → SpellsOnly text p → ((items : List Item) (spelled : Items text items) → locations ≡ locations_of (length text) spelled)
+    → IsAnswer text given answer → Explains text denied answer e → KeepsLocated text p locations e → IsExplanation text given denied e
+explained_script text given denied p locations answer e spelled located is explains kept = record {
+  is_text = explains.is_text;
+  is_answer = subst (IsAnswer text given) (sym explains.is_answer) is;
+  is_status = explains.is_status;
+  keeps = subst (λ (a : Answer). Keeps text a e) (sym explains.is_answer) (keeps_script text given p locations answer e spelled located is kept);
+  errors = explains.errors;
+}
+
+-- and of one that is refused
+pub explained_refusal : (text : List ℕ) (given : Option (List ℕ)) (denied : Denied) (answer : Answer) (e : Explanation) → IsRefused text answer
+    → IsAnswer text given answer → Explains text denied answer e → KeepsNothing e → IsExplanation text given denied e
+explained_refusal text given denied answer e refused is explains kept = record {
+  is_text = explains.is_text;
+  is_answer = subst (IsAnswer text given) (sym explains.is_answer) is;
+  is_status = explains.is_status;
+  keeps = subst (λ (a : Answer). Keeps text a e) (sym explains.is_answer) (keeps_nothing text answer e refused kept);
+  errors = explains.errors;
+}

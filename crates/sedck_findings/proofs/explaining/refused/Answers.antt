@@ -1,0 +1,24 @@
+use Rattle.std.proofs.Common.{◌≡◌, ◌∙◌, refl, ap, sym, subst}
+use Rattle.sedck_findings.specs.Denial.{has_warning, status_under}
+use Rattle.sedck_findings.specs.Errors.{BeginsWithAnswer}
+use Rattle.sedck_findings.proofs.Errors.{errors_of_refusal}
+use Rattle.sedck_findings.proofs.explaining.refused.Goals as goal
+
+pub returns-clause-explains : goal.returns-clause-explains
+returns-clause-explains c =
+    let text = c.args.text.now in
+    let answer = c.args.answer in
+    let findings = c.in_ok-findings.findings.items in
+    let status : c.status_under-status.result ≡ status_under c.args.denied (has_warning findings) answer =
+    c.status_under-status.ensures.value
+    ∙ ap (λ warned. status_under c.args.denied warned answer) (c.any_warning.ensures ∙ ap has_warning c.deref.ensures.value) in
+    let errors = errors_of_refusal text c.args.denied answer findings c.status_under-status.result c.requires c.in_ok-findings.ensures status in
+    record {
+      is_text = refl;
+      is_answer = refl;
+      is_status = status;
+      errors = record {
+        exactly = errors.0;
+        first = subst (λ positions. BeginsWithAnswer text positions findings answer) (sym c.new.ensures.items) errors.1;
+      };
+    }

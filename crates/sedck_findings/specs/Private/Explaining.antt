@@ -1,0 +1,40 @@
+-- The steps to an explanation.
+use Rattle.std.specs.Prelude.{◌≡◌, ◌||◌, ℕ, List, Some, map}
+use Rattle.sedck_script.specs.Program.{Program}
+use Rattle.sedck_script.specs.Names.{reads, writes}
+use Rattle.sedck_script.specs.declared.location.Location.{Location}
+use Rattle.sedck_findings.specs.Positions.{position_in}
+use Rattle.sedck_findings.specs.Denial.{is_there, has_warning, is_denied, status_under}
+use Rattle.sedck_findings.specs.Errors.{has_error, HasErrors}
+use Rattle.sedck_findings.specs.Explanations.{names_of}
+use Rattle.sedck_findings.specs.declared.answer.Answer.{Answer}
+use Rattle.sedck_findings.specs.declared.answer.Answer.TheVariants.{Accepted}
+use Rattle.sedck_findings.specs.declared.denied.Denied.{Denied}
+use Rattle.sedck_findings.specs.declared.finding.Explanation.{Explanation}
+use Rattle.sedck_findings.specs.declared.finding.Finding.{Finding}
+use Rattle.sedck_findings.specs.declared.finding.NamedFile.{NamedFile}
+
+-- the explanation of this answer, but for what it keeps of the script
+pub record Explains (text : List ℕ) (denied : Denied) (answer : Answer) (e : Explanation) : Type 0 where
+  pub is_text : e.text.now ≡ text
+  pub is_answer : e.answer ≡ answer
+  pub is_status : e.status ≡ status_under denied (has_warning e.findings.items) e.answer
+  pub errors : HasErrors text e
+
+-- the script is kept, with its names and with the positions of these locations
+pub record KeepsLocated (text : List ℕ) (script : Program) (locations : List Location) (e : Explanation) : Type 0 where
+  pub is_kept : e.script ≡ Some script
+  pub reads : names_of e.reads.items ≡ reads script
+  pub writes : names_of e.writes.items ≡ writes script
+  pub positions : e.positions.items ≡ map (λ location. position_in text location.verb) locations
+
+-- the lists of files have something where those of an accepted certificate do
+abbrev pub HasLists : List NamedFile → List NamedFile → Answer → Type 0
+HasLists reads writes (Accepted cert bound) = (is_there cert.reads ≡ is_there reads) × (is_there cert.writes ≡ is_there writes)
+HasLists reads writes _ = Unit {0}
+
+-- what is denied adds errors to the findings of a script that is accepted
+abbrev pub AreDeniedFindings : Denied → List Finding → List Finding → Answer → Type 0
+AreDeniedFindings denied before all (Accepted cert bound) =
+    has_error all ≡ (is_denied denied (has_warning all) (Accepted cert bound) || has_error before)
+AreDeniedFindings denied before all _ = all ≡ before
