@@ -35,6 +35,7 @@ LOOKS = [
     (b"#!/bin/sed --posix -f\np\n", [(1, 1, OPTIONS)]),
     (b":a\n$!{N;ba}\n", [(2, 8, BRACE)]),
     (b"/x/{s/a/b/;t}\n", [(1, 13, BRACE)]),
+    (b"/x/{s/a/b/;t }\n", [(1, 14, BRACE)]),
     # ordinary scripts
     (b"#!/bin/sed -nf\np\n", []), (b"#!/usr/bin/sed -f\np\n", []), (b"#!/usr/bin/env -S sed -n -f\np\n", []), (b"#n\np\n", []),
     (b"s/+/ /g;s/c++/C/;s/1+1/2/\n", []), (b"s/?.*//;s/what?/x/\n", []), (b"s/ | /,/;s|(a)|b|\n", []), (b"s/(a)/b/\n", []), (b"s/\\(a\\)\\{1,\\}//\n", []),

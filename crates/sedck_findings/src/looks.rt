@@ -121,13 +121,22 @@ fn is_option(word: &[u8]) -> bool {
     }
 }
 
-/// Where branches end in a `}` with no blank before it.
+/// Whether what is behind the branch is right behind its label, or behind blanks where there is none.
+fn is_joined(branch: &[u8]) -> bool {
+    match branch {
+        [_, label @ ..] => !label.ends_with(b" ") && !label.ends_with(b"\t")
+            || label.iter().all(|byte| is_blank(*byte)),
+        [] => false,
+    }
+}
+
+/// Where branches end in a `}` that some seds take for a part of the label.
 fn braces(alloc: Global, text: &[u8], locations: &[Location]) -> Result<Vec<usize>, AllocError> {
     let mut offsets = Vec::new(alloc);
     for location in locations {
         if let (Some(b'b' | b't'), Some(b'}')) = (text.get(location.verb), text.get(location.end)) {
             let branch = text.get(location.verb..location.end).unwrap_or(&[]);
-            if !branch.ends_with(b" ") && !branch.ends_with(b"\t") {
+            if is_joined(branch) {
                 offsets.push(location.end)?;
             }
         }
