@@ -4,7 +4,7 @@ ghost use Rattle.std.specs.Prelude.{◌≡◌, ◌≢◌, ◌⊎◌, ◌<◌, �
 ghost use Rattle.std.specs.Io.KnownBytes.{Keeps, Appends};
 ghost use Rattle.sedck_cli.specs.Opened.{unknown};
 ghost use Rattle.sedck_cli.specs.Statuses.{status_of, asked, asked_of_one, Check, Upgrade, Nothing, MayBeNo, Reports, BreaksOff, IsOfWords, begins_with_hyphen, has_option};
-ghost use Rattle.sedck_cli.specs.Causes.{AreOpened};
+ghost use Rattle.sedck_cli.specs.Causes.{AreOpened, IsCause};
 ghost use Rattle.sedck_cli.specs.Lines.{refusal_line, SaysRefusal, SaysRefusalFor};
 ghost use Rattle.sedck_cli.specs.Private.Requests.{report_asked, request_asks, asked_by, Leaves};
 ghost use Rattle.sedck_cli.specs.declared.command_line.Refusal.TheVariants.{Run};
@@ -142,7 +142,9 @@ pub fn program_over<O: Opener, W: Sink, E: Sink>(
     // A refusal writes nothing, but where writing fails.
     ensures refused { 1 < result → result < 4 → Keeps (W.taken out.old) (W.taken out.new) }
     ensures failed { result ≡ 4 → Keeps (W.taken out.old) (W.taken out.new) ⊎ BreaksOff (O.known files.now) (asked words.now) (W.taken out.old) (W.taken out.new) }
-    // Its line, unless a write of it has failed. It says what is wrong with the bytes of these files, or what has failed.
+    // A refusal says what is wrong with the bytes of these files, or what has failed.
+    ensures cause { 1 < result → (refusal : Refusal) × (status_of refusal ≡ result) × IsCause (O.known files.now) (asked words.now) (W.has_failed out.new) refusal }
+    // Its line, unless a write of it has failed.
     ensures reported { 1 < result → E.has_failed err.new ≡ false → SaysRefusalFor (O.known files.now) (asked words.now) (W.has_failed out.new) result (E.taken err.old) (E.taken err.new) }
     ensures silent { result < 2 → Keeps (E.taken err.old) (E.taken err.new) }
 {

@@ -65,3 +65,12 @@ returns-in-Err-clause-reported g c above sound = (
       c.in-Err.refusal c.in-Err.ensures.leaves,
   c.report.ensures.line sound,
 )
+
+pub returns-in-Err-clause-cause : goal.returns-in-Err-clause-cause
+returns-in-Err-clause-cause g c above = (
+  c.in-Err.refusal,
+  sym c.report.ensures.status,
+  is_cause (g.O.Opener.known c.args.files.now) _
+      (record { before = g.W.Sink.taken c.args.out.now; after = g.W.Sink.taken c.run.new.out; failed = g.W.Sink.has_failed c.run.new.out })
+      c.in-Err.refusal c.in-Err.ensures.leaves,
+)
