@@ -3,3 +3,4 @@ pub mod Answering
 pub mod Ending
 pub mod GraphLines
 pub mod LineParts
+mod ExactAnswers

@@ -7,10 +7,12 @@ pub use Rattle.sedck_cert.specs.Certificate
 pub use Rattle.sedck_cert.specs.Headline
 pub use Rattle.sedck_search.specs.Found
 pub mod Inputs
+pub mod Opened
 pub mod Reports
 pub mod Engines
 pub mod Faults
 pub mod Statuses
+pub mod Causes
 pub mod Lines
 -- What functions inside the crate promise each other.
 pub mod Private

@@ -1,5 +1,5 @@
 -- What a refusal says, this project's own.
-use Rattle.std.specs.Prelude.{◌≡◌, ℕ, List, ◌++◌, Option, codes}
+use Rattle.std.specs.Prelude.{◌≡◌, ℕ, Bool, List, ◌++◌, Option, codes}
 use Rattle.std.specs.Io.KnownBytes.{Appends}
 use Rattle.sedck_script.specs.FaultWords.{fault_words}
 use Rattle.sedck_cert.specs.FaultText.{fault_text}
@@ -8,7 +8,9 @@ use Rattle.sedck_cli.specs.declared.answer.RunFault.TheVariants as fault
 use Rattle.sedck_cli.specs.declared.command_line.Refusal.{Refusal}
 use Rattle.sedck_cli.specs.declared.command_line.Refusal.TheVariants.{Usage, Run}
 use Rattle.sedck_cli.specs.Reports.{input_text}
-use Rattle.sedck_cli.specs.Statuses.{status_of, Asked, IsFor}
+use Rattle.sedck_cli.specs.Opened.{Known}
+use Rattle.sedck_cli.specs.Statuses.{status_of, Asked}
+use Rattle.sedck_cli.specs.Causes.{IsCause}
 
 abbrev pub refusal_words : Refusal → List ℕ
 refusal_words Usage = codes "usage: sedck rank SCRIPT, check SCRIPT CERT, files SCRIPT, graph SCRIPT, upgrade CERT"
@@ -26,7 +28,7 @@ refusal_line refusal = line (codes "sedck: " ++ refusal_words refusal)
 abbrev pub SaysRefusal : ℕ → Option (List ℕ) → Option (List ℕ) → Type 0
 SaysRefusal status before after = (refusal : Refusal) × (status_of refusal ≡ status) × Appends before after (refusal_line refusal)
 
--- and the refusal speaks of no input but those that are read for what was asked
-abbrev pub SaysRefusalFor : Asked → ℕ → Option (List ℕ) → Option (List ℕ) → Type 0
-SaysRefusalFor asked status before after =
-    (refusal : Refusal) × (status_of refusal ≡ status) × IsFor asked refusal × Appends before after (refusal_line refusal)
+-- and the refusal is right: it speaks of what was asked for, and of the bytes of its files
+abbrev pub SaysRefusalFor : Known → Asked → Bool → ℕ → Option (List ℕ) → Option (List ℕ) → Type 0
+SaysRefusalFor k asked failed status before after =
+    (refusal : Refusal) × (status_of refusal ≡ status) × IsCause k asked failed refusal × Appends before after (refusal_line refusal)

@@ -1,8 +1,10 @@
 //! The program `sedck` for the words of its command line.
 
-ghost use Rattle.std.specs.Prelude.{◌≡◌, ◌≢◌, ◌⊎◌, ◌<◌, ◌≤◌, true, false, Ok, Err, IfOk, IfErr};
+ghost use Rattle.std.specs.Prelude.{◌≡◌, ◌≢◌, ◌⊎◌, ◌<◌, ◌≤◌, true, false, Ok, Err, Some, IsTrue, IfOk, IfErr, IfSome, OnErr};
 ghost use Rattle.std.specs.Io.KnownBytes.{Keeps, Appends};
-ghost use Rattle.sedck_cli.specs.Statuses.{status_of, asked, asked_of_one, Check, Rank, Upgrade, Nothing, Reports, BreaksOff, IsOfWords, begins_with_hyphen, has_option};
+ghost use Rattle.sedck_cli.specs.Opened.{unknown};
+ghost use Rattle.sedck_cli.specs.Statuses.{status_of, asked, asked_of_one, Check, Upgrade, Nothing, MayBeNo, Reports, BreaksOff, IsOfWords, begins_with_hyphen, has_option};
+ghost use Rattle.sedck_cli.specs.Causes.{AreOpened, IsCause};
 ghost use Rattle.sedck_cli.specs.Lines.{refusal_line, SaysRefusal, SaysRefusalFor};
 ghost use Rattle.sedck_cli.specs.Private.Requests.{report_asked, request_asks, asked_by, Leaves};
 ghost use Rattle.sedck_cli.specs.declared.command_line.Refusal.TheVariants.{Run};
@@ -10,12 +12,12 @@ ghost use Rattle.sedck_cli.specs.declared.answer.RunFault.TheVariants as fault;
 
 use crate::answer::{Input, Outcome, RunFault};
 use crate::engines::{ScriptReport, run_check, run_script, run_upgrade};
+use crate::opener::{FromFiles, Opener};
 use crate::refusal_line::write_refusal;
 use clap::error::ErrorKind;
 use clap::{Arg, Command};
-use sedck_cert::streams::{FromRead, Sink};
+use sedck_cert::streams::Sink;
 use std::alloc::{AllocError, Global};
-use std::fs;
 use std::fs::Files;
 use std::io::Write;
 
@@ -97,7 +99,7 @@ enum Request<'a> {
 /// The whole program for the words after its name, and its exit status: 0 for yes, 1 for no, 2 where the script or the
 /// certificate is refused, 3 for words of no known form, 4 where a stream fails or memory runs out.
 ///
-/// Which words `clap` takes, and which files are opened, is shown by tests.
+/// It is `program_over` the files of the system, of which nothing is known: reports and refusals are those of some bytes.
 pub fn program<R: Files + AllocGlobal, W: Sink, E: Sink>(
     rt: &R,
     words: &[String],
@@ -107,18 +109,46 @@ pub fn program<R: Files + AllocGlobal, W: Sink, E: Sink>(
     ensures within { result ≤ 4 }
     ensures option { has_option words.now ≡ true → result ≡ 3 }
     ensures nothing { asked words.now ≡ Nothing → (result ≡ 3) ⊎ (result ≡ 4) }
-    // The whole report of what was asked for.
-    ensures yes { result ≡ 0 → Reports (asked words.now) (W.taken out.old) (W.taken out.new) Outcome.Yes }
-    ensures no { result ≡ 1 → Reports (asked words.now) (W.taken out.old) (W.taken out.new) Outcome.No }
-    ensures never_no { result ≡ 1 → (asked words.now ≡ Check) ⊎ (asked words.now ≡ Rank) }
-    // A refusal writes nothing, but where writing fails.
+    ensures usage { result ≡ 3 → (has_option words.now ≡ true) ⊎ (asked words.now ≡ Nothing) }
+    ensures yes { result ≡ 0 → Reports unknown (asked words.now) (W.taken out.old) (W.taken out.new) Outcome.Yes }
+    ensures no { result ≡ 1 → Reports unknown (asked words.now) (W.taken out.old) (W.taken out.new) Outcome.No }
+    ensures never_no { result ≡ 1 → MayBeNo (asked words.now) }
     ensures refused { 1 < result → result < 4 → Keeps (W.taken out.old) (W.taken out.new) }
-    ensures failed { result ≡ 4 → Keeps (W.taken out.old) (W.taken out.new) ⊎ BreaksOff (asked words.now) (W.taken out.old) (W.taken out.new) }
-    // Its line, unless a write of it has failed. It speaks of no input but those that are read for what was asked.
-    ensures reported { 1 < result → E.has_failed err.new ≡ false → SaysRefusalFor (asked words.now) result (E.taken err.old) (E.taken err.new) }
+    ensures failed { result ≡ 4 → Keeps (W.taken out.old) (W.taken out.new) ⊎ BreaksOff unknown (asked words.now) (W.taken out.old) (W.taken out.new) }
+    ensures reported { 1 < result → E.has_failed err.new ≡ false → SaysRefusalFor unknown (asked words.now) (W.has_failed out.new) result (E.taken err.old) (E.taken err.new) }
     ensures silent { result < 2 → Keeps (E.taken err.old) (E.taken err.new) }
 {
-    match run(rt, words, out) {
+    program_over(rt.alloc(), &FromFiles::new(rt), words, out, err)
+}
+
+/// The whole program over files that an opener opens.
+pub fn program_over<O: Opener, W: Sink, E: Sink>(
+    alloc: Global,
+    files: &O,
+    words: &[String],
+    out: &mut W,
+    err: &mut E,
+) -> u8
+    ensures within { result ≤ 4 }
+    ensures option { has_option words.now ≡ true → result ≡ 3 }
+    ensures nothing { asked words.now ≡ Nothing → (result ≡ 3) ⊎ (result ≡ 4) }
+    // Words of a known form are never refused.
+    ensures usage { result ≡ 3 → (has_option words.now ≡ true) ⊎ (asked words.now ≡ Nothing) }
+    // The whole report of what was asked for, on the bytes of the files at these paths.
+    ensures yes { result ≡ 0 → Reports (O.known files.now) (asked words.now) (W.taken out.old) (W.taken out.new) Outcome.Yes }
+    ensures no { result ≡ 1 → Reports (O.known files.now) (asked words.now) (W.taken out.old) (W.taken out.new) Outcome.No }
+    ensures never_no { result ≡ 1 → MayBeNo (asked words.now) }
+    ensures opened { result < 3 → AreOpened (O.known files.now) (asked words.now) }
+    // A refusal writes nothing, but where writing fails.
+    ensures refused { 1 < result → result < 4 → Keeps (W.taken out.old) (W.taken out.new) }
+    ensures failed { result ≡ 4 → Keeps (W.taken out.old) (W.taken out.new) ⊎ BreaksOff (O.known files.now) (asked words.now) (W.taken out.old) (W.taken out.new) }
+    // A refusal says what is wrong with the bytes of these files, or what has failed.
+    ensures cause { 1 < result → (refusal : Refusal) × (status_of refusal ≡ result) × IsCause (O.known files.now) (asked words.now) (W.has_failed out.new) refusal }
+    // Its line, unless a write of it has failed.
+    ensures reported { 1 < result → E.has_failed err.new ≡ false → SaysRefusalFor (O.known files.now) (asked words.now) (W.has_failed out.new) result (E.taken err.old) (E.taken err.new) }
+    ensures silent { result < 2 → Keeps (E.taken err.old) (E.taken err.new) }
+{
+    match run(alloc, files, words, out) {
         Ok(Outcome::Yes) => 0,
         Ok(Outcome::No) => 1,
         Err(refusal) => refusal.report(err),
@@ -143,88 +173,101 @@ pub fn flushed<W: Write + Drop, E: Sink>(status: u8, mut out: W, err: &mut E) ->
 }
 
 /// Does what the words ask for.
-fn run<R: Files + AllocGlobal, W: Sink>(
-    rt: &R,
+fn run<O: Opener, W: Sink>(
+    alloc: Global,
+    files: &O,
     words: &[String],
     out: &mut W,
 ) -> Result<Outcome, Refusal>
-    ensures leaves { Leaves (asked words.now) (W.taken out.old) (W.taken out.new) result }
+    ensures leaves { Leaves (O.known files.now) (asked words.now) (record { before = W.taken out.old; after = W.taken out.new; failed = W.has_failed out.new }) result }
     ensures option { has_option words.now ≡ true → result ≡ Err Refusal.Usage }
+    ensures usage { IfErr result (λ refusal. refusal ≡ Refusal.Usage → (has_option words.now ≡ true) ⊎ (asked words.now ≡ Nothing)) }
 {
-    match read_request(rt.alloc(), words)? {
+    match read_request(alloc, words)? {
         Request::Check {
             script,
             certificate,
-        } => check(rt, script, certificate, out),
-        Request::Report { kind, script } => report(rt, kind, script, out),
-        Request::Upgrade { certificate } => upgrade(rt, certificate, out),
+        } => check(alloc, files, script, certificate, out),
+        Request::Report { kind, script } => report(alloc, files, kind, script, out),
+        Request::Upgrade { certificate } => upgrade(alloc, files, certificate, out),
     }
 }
 
 /// Checks the script with the certificate. Both files are opened before either is read.
-fn check<R: Files + AllocGlobal, W: Sink>(
-    rt: &R,
+fn check<O: Opener, W: Sink>(
+    alloc: Global,
+    files: &O,
     script: &str,
     certificate: &str,
     out: &mut W,
 ) -> Result<Outcome, Refusal>
-    ensures { Leaves Check (W.taken out.old) (W.taken out.new) result }
+    ensures leaves { Leaves (O.known files.now) (Check script.now certificate.now) (record { before = W.taken out.old; after = W.taken out.new; failed = W.has_failed out.new }) result }
+    ensures run { IfErr result (λ refusal. refusal ≢ Refusal.Usage) }
 {
-    let mut script = open(rt, script, Input::Script)?;
-    let mut certificate = open(rt, certificate, Input::Certificate)?;
-    Ok(run_check(rt.alloc(), &mut script, &mut certificate, out)?)
+    let mut script = open(files, script, Input::Script)?;
+    let mut certificate = open(files, certificate, Input::Certificate)?;
+    Ok(run_check(alloc, &mut script, &mut certificate, out)?)
 }
 
 /// Reports on the script at the path.
-fn report<R: Files + AllocGlobal, W: Sink>(
-    rt: &R,
+fn report<O: Opener, W: Sink>(
+    alloc: Global,
+    files: &O,
     kind: ScriptReport,
     path: &str,
     out: &mut W,
 ) -> Result<Outcome, Refusal>
-    ensures { Leaves (report_asked kind) (W.taken out.old) (W.taken out.new) result }
+    ensures leaves { Leaves (O.known files.now) (report_asked kind path.now) (record { before = W.taken out.old; after = W.taken out.new; failed = W.has_failed out.new }) result }
+    ensures run { IfErr result (λ refusal. refusal ≢ Refusal.Usage) }
 {
-    let mut script = open(rt, path, Input::Script)?;
-    Ok(run_script(rt.alloc(), kind, &mut script, out)?)
+    let mut script = open(files, path, Input::Script)?;
+    Ok(run_script(alloc, kind, &mut script, out)?)
 }
 
 /// Upgrades the certificate at the path.
-fn upgrade<R: Files + AllocGlobal, W: Sink>(
-    rt: &R,
+fn upgrade<O: Opener, W: Sink>(
+    alloc: Global,
+    files: &O,
     path: &str,
     out: &mut W,
 ) -> Result<Outcome, Refusal>
-    ensures { Leaves Upgrade (W.taken out.old) (W.taken out.new) result }
+    ensures leaves { Leaves (O.known files.now) (Upgrade path.now) (record { before = W.taken out.old; after = W.taken out.new; failed = W.has_failed out.new }) result }
+    ensures run { IfErr result (λ refusal. refusal ≢ Refusal.Usage) }
 {
-    let mut certificate = open(rt, path, Input::Certificate)?;
-    Ok(run_upgrade(rt.alloc(), &mut certificate, out)?)
+    let mut certificate = open(files, path, Input::Certificate)?;
+    Ok(run_upgrade(alloc, &mut certificate, out)?)
 }
 
 /// Opens the file that is this input.
-fn open<R: Files>(rt: &R, path: &str, input: Input) -> Result<FromRead<R::File>, Refusal>
-    ensures { IfErr result (λ refusal. refusal ≡ Refusal.Run (RunFault.Read input)) }
+fn open<O: Opener>(files: &O, path: &str, input: Input) -> Result<O::File, Refusal>
+    ensures bytes { IfOk result (λ file. IfSome ((O.known files.now).bytes_at path.now) (λ bytes. O.File.left file ≡ Some bytes)) }
+    ensures opened { IfOk result (λ file. (O.known files.now).may_open path.now true) }
+    ensures refused { IfErr result (λ refusal. refusal ≡ Refusal.Run (RunFault.Read input)) }
+    ensures unopened { OnErr result ((O.known files.now).may_open path.now false) }
+    ensures failing { (file : O.File) → IsTrue (O.File.has_failed file) → (O.known files.now).may_fail }
 {
-    match fs::open(rt, path) {
-        Ok(file) => Ok(FromRead::new(file)),
+    match files.open(path) {
+        Ok(file) => Ok(file),
         Err(_) => Err(Refusal::Run(RunFault::Read(input))),
     }
 }
 
-/// What the words ask for. `clap` says whether they are of a known form; the request is then read from the words
-/// themselves, so that no theorem rests on `clap`. There are no options: any word that begins with a hyphen is refused.
+/// What the words ask for, read from the words themselves, so that no theorem rests on `clap`: it is asked about words of no known
+/// form alone. There are no options: any word that begins with a hyphen is refused.
 fn read_request<'a>(alloc: Global, words: &'a [String]) -> Result<Request<'a>, Refusal>
     ensures asked { IfOk result (λ request. request_asks request ≡ asked words.now) }
     ensures refused { IfErr result IsOfWords }
     ensures option { has_option words.now ≡ true → result ≡ Err Refusal.Usage }
+    ensures usage { OnErr result ((has_option words.now ≡ true) ⊎ (asked words.now ≡ Nothing)) }
 {
     if contains_option(words) {
         return Err(Refusal::Usage);
     }
-    command(alloc)?.try_get_matches_from(words)?;
-    match request_of(words) {
-        Some(request) => Ok(request),
-        None => Err(Refusal::Usage),
+    if let Some(request) = request_of(words) {
+        return Ok(request);
     }
+    command(alloc)?.try_get_matches_from(words)?;
+    Err(Refusal::Usage)
 }
 
 /// What the words ask for, by the first one and their number.
@@ -243,7 +286,7 @@ fn request_of<'a>(words: &'a [String]) -> Option<Request<'a>>
 
 /// What the name asks for, of one file.
 fn request_of_one<'a>(name: &str, file: &'a str) -> Option<Request<'a>>
-    ensures { asked_by result ≡ asked_of_one name.now }
+    ensures { asked_by result ≡ asked_of_one name.now file.now }
 {
     match name {
         "files" => Some(report_of(ScriptReport::Files, file)),
@@ -256,7 +299,7 @@ fn request_of_one<'a>(name: &str, file: &'a str) -> Option<Request<'a>>
 
 /// A report on this script.
 fn report_of<'a>(kind: ScriptReport, script: &'a str) -> Request<'a>
-    ensures { request_asks result ≡ report_asked kind }
+    ensures { request_asks result ≡ report_asked kind script.now }
 {
     Request::Report { kind, script }
 }

@@ -1,0 +1,116 @@
+-- From the program's promise over two files in memory to an exact answer.
+use Rattle.std.proofs.Common.{◌≡◌, ◌⊎◌, ◌↔◌, ◌<◌, ◌≤◌, ℕ, Bool, true, false, List, [], ◌∷◌, refl, subst, sym, ◌∙◌, inl, inr, arith, String, string_bytes, codes}
+use Rattle.std.proofs.lemmas.Bool.{both_ways, cases_order}
+use Rattle.std.specs.declared.alloc.Global.{Global}
+use Rattle.sedck_cert.specs.Ranked.{Accepts}
+use Rattle.sedck_cert.specs.Headline.{SpellBoth, IsSafe}
+use Rattle.sedck_cert.specs.declared.checking.Verdict.TheVariants.{Accepted, Rejected}
+use Rattle.sedck_cert.proofs.Promise.{safe, not_accepted}
+use Rattle.sedck_cli.specs.declared.answer.Outcome.TheVariants.{Yes, No}
+use Rattle.sedck_cli.specs.declared.answer.Input.TheVariants as input
+use Rattle.sedck_cli.specs.declared.answer.RunFault.TheVariants as fault
+use Rattle.sedck_cli.specs.declared.command_line.Refusal.{Refusal}
+use Rattle.sedck_cli.specs.declared.command_line.Refusal.TheVariants.{Usage, Run}
+use Rattle.sedck_cli.specs.Engines.{ChecksTo, IsRefusedScript, IsRefusedCertificate}
+use Rattle.sedck_cli.specs.Statuses.{status_of, Asked, Check, Nothing, asked, has_option, IsReportFor}
+use Rattle.sedck_cli.specs.Opened.{two_files}
+use Rattle.sedck_cli.specs.Causes.{IsCause}
+
+-- a report of yes is one of an accepted certificate
+pub yes_accepts : (text bytes report : List ℕ) → ChecksTo text bytes Yes report → SpellBoth text bytes Accepts
+yes_accepts text bytes report (Accepted, is, both) =
+    record { program = both.program; spelled = both.spelled; cert = both.cert; written = both.written; holds = both.holds.0 }
+yes_accepts text bytes report (Rejected why, is, both) = cc
+
+-- and a report of no one of a rejected certificate
+pub no_rejects : (text bytes report : List ℕ) → ChecksTo text bytes No report → SpellBoth text bytes Accepts → ⊥
+no_rejects text bytes report (Accepted, is, both) accepted = cc
+no_rejects text bytes report (Rejected why, is, both) accepted =
+    not_accepted both.program both.cert why both.holds.0
+    (subst (λ p. Accepts p both.cert) (both.spelled.only accepted.program accepted.spelled.spells)
+    (subst (λ c. Accepts accepted.program c) (both.written.only accepted.cert accepted.written.is_text) accepted.holds))
+
+-- no refusal but the words' and those of status 4 is right where both texts spell something
+pub no_refusal : (text bytes : List ℕ) (failed : Bool) (refusal : Refusal) → IsCause (two_files text bytes) (Check (97 ∷ []) (98 ∷ [])) failed refusal
+    → SpellBoth text bytes Accepts → (status_of refusal ≡ 3) ⊎ (status_of refusal ≡ 4)
+no_refusal text bytes failed Usage is both = inl refl
+no_refusal text bytes failed (Run (fault.Script why)) is both = absurd (is.1.none both.program both.spelled.spells)
+no_refusal text bytes failed (Run (fault.Certificate why)) is both = absurd (is.2.none both.cert both.written.is_text)
+no_refusal text bytes failed (Run (fault.Read read)) is both = inr refl
+no_refusal text bytes failed (Run fault.Write) is both = inr refl
+no_refusal text bytes failed (Run fault.OutOfMemory) is both = inr refl
+
+-- an accepted certificate is safe
+pub accepted_safe : (text bytes : List ℕ) → SpellBoth text bytes Accepts → SpellBoth text bytes IsSafe
+accepted_safe text bytes both =
+    record {
+      program = both.program;
+      spelled = both.spelled;
+      cert = both.cert;
+      written = both.written;
+      holds = safe text both.program both.cert both.spelled.spells both.holds;
+    }
+
+-- ---- Words and statuses
+
+pub words_check : (x y z : String Global) → string_bytes x ≡ codes "check" → string_bytes y ≡ codes "a" → string_bytes z ≡ codes "b"
+    → asked (x ∷ y ∷ z ∷ []) ≡ Check (97 ∷ []) (98 ∷ [])
+words_check x y z e f g = rw (e, f, g) refl
+
+pub words_plain : (x y z : String Global) → string_bytes x ≡ codes "check" → string_bytes y ≡ codes "a" → string_bytes z ≡ codes "b"
+    → has_option (x ∷ y ∷ z ∷ []) ≡ false
+words_plain x y z e f g = rw (e, f, g) refl
+
+-- what is known of a run of the program on two files in memory
+pub record Ran (text bytes : List ℕ) (words : List (String Global)) (status : ℕ) : Type 0 where
+  pub within : status ≤ 4
+  pub is_check : asked words ≡ Check (97 ∷ []) (98 ∷ [])
+  pub is_plain : has_option words ≡ false
+  pub yes : status ≡ 0 → (report : List ℕ) × IsReportFor (two_files text bytes) (asked words) Yes report
+  pub negative : status ≡ 1 → (report : List ℕ) × IsReportFor (two_files text bytes) (asked words) No report
+  pub usage : status ≡ 3 → (has_option words ≡ true) ⊎ (asked words ≡ Nothing)
+  pub cause : 1 < status → (failed : Bool) × (refusal : Refusal) × (status_of refusal ≡ status)
+      × IsCause (two_files text bytes) (asked words) failed refusal
+
+ran_yes : {text bytes : List ℕ} {words : List (String Global)} {status : ℕ} → Ran text bytes words status → status ≡ 0 → SpellBoth text bytes Accepts
+ran_yes {text} {bytes} r is =
+    let report = r.yes is in
+    yes_accepts text bytes report.0 (subst (λ a. IsReportFor (two_files text bytes) a Yes report.0) r.is_check report.1)
+
+no_check : {a b : List ℕ} → Check a b ≡ Nothing → ⊥
+no_check e = cc e
+
+-- status 3 is none of these words
+ran_usage : {text bytes : List ℕ} {words : List (String Global)} {status : ℕ} → Ran text bytes words status → status ≡ 3 → ⊥
+ran_usage r is = elim (r.usage is) [ inl option ↦ both_ways _ r.is_plain option | inr nothing ↦ no_check (sym r.is_check ∙ nothing) ]
+
+ran_no : {text bytes : List ℕ} {words : List (String Global)} {status : ℕ} → Ran text bytes words status → status ≡ 1 → SpellBoth text bytes Accepts → ⊥
+ran_no {text} {bytes} r is both =
+    let report = r.negative is in
+    no_rejects text bytes report.0 (subst (λ a. IsReportFor (two_files text bytes) a No report.0) r.is_check report.1) both
+
+ran_refused : {text bytes : List ℕ} {words : List (String Global)} {status : ℕ} → Ran text bytes words status → 1 < status → SpellBoth text bytes Accepts
+    → (status ≡ 3) ⊎ (status ≡ 4)
+ran_refused {text} {bytes} r above both =
+    let why = r.cause above in
+    let is = subst (λ a. IsCause (two_files text bytes) a why.0 why.1) r.is_check why.3 in
+    subst (λ s. (s ≡ 3) ⊎ (s ≡ 4)) why.2 (no_refusal text bytes why.0 why.1 is both)
+
+accepted_zero : {text bytes : List ℕ} {words : List (String Global)} {status : ℕ} → Ran text bytes words status → SpellBoth text bytes Accepts
+    → (status ≡ 0) ⊎ (status ≡ 4)
+accepted_zero {status = status} r both = elim (cases_order status 1) [
+  | inl one ↦ absurd (ran_no r one both)
+  | inr (inl below) ↦ inl (omega (arith, below))
+  | inr (inr above) ↦ elim (ran_refused r above both) [ inl three ↦ absurd (ran_usage r three) | inr four ↦ inr four ]
+]
+
+pub exact : {text bytes : List ℕ} {words : List (String Global)} {status : ℕ} → Ran text bytes words status
+    → (status ≡ 4) ⊎ ((status ≡ 0) ↔ SpellBoth text bytes Accepts)
+exact {status = status} r = elim (cases_order status 4) [
+  | inl four ↦ inl four
+  | inr (inl below) ↦ inr (ran_yes r, λ both. elim (accepted_zero r both) [ inl zero ↦ zero | inr four ↦ absurd (omega (arith, four, below)) ])
+  | inr (inr above) ↦ absurd (omega (arith, above, r.within))
+]
+
+pub promised : {text bytes : List ℕ} {words : List (String Global)} {status : ℕ} → Ran text bytes words status → status ≡ 0 → SpellBoth text bytes IsSafe
+promised {text} {bytes} r is = accepted_safe text bytes (ran_yes r is)
