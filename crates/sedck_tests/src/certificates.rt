@@ -3,6 +3,7 @@ pub mod read;
 mod refused;
 mod refused_one;
 mod upgraded;
+mod verified;
 
 // These are statics: a constant's bytes would stand in the proof of each function that names it.
 
