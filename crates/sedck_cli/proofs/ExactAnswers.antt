@@ -13,7 +13,7 @@ use Rattle.sedck_cli.specs.declared.command_line.Refusal.{Refusal}
 use Rattle.sedck_cli.specs.declared.command_line.Refusal.TheVariants.{Usage, Run}
 use Rattle.sedck_cli.specs.Engines.{ChecksTo, IsRefusedScript, IsRefusedCertificate}
 use Rattle.sedck_cli.specs.Statuses.{status_of, Asked, Check, Nothing, asked, has_option, IsReportFor}
-use Rattle.sedck_cli.specs.Opened.{two_files}
+use Rattle.sedck_cli.specs.Private.Requests.{two_files}
 use Rattle.sedck_cli.specs.Causes.{IsCause}
 
 -- a report of yes is one of an accepted certificate

@@ -1,6 +1,5 @@
 -- What may be known of the files that are opened, this project's own.
-use Rattle.std.specs.Prelude.{◌≡◌, ◌||◌, ℕ, Bool, List, Option, Some, None, if◌then◌else◌, codes}
-use Rattle.std.specs.Str.{bytes_eq}
+use Rattle.std.specs.Prelude.{ℕ, Bool, List, Option, None}
 
 -- By path: the bytes that the file has, where they are known, and whether an attempt to open it may end so (true: it is open).
 -- And whether a read may fail.
@@ -8,14 +7,6 @@ pub record Known : Type 1 where
   pub bytes_at : List ℕ → Option (List ℕ)
   pub may_open : List ℕ → Bool → Type 0
   pub may_fail : Type 0
-
--- two files, at the paths `a` and `b`, which are read without fail
-abbrev pub two_files : List ℕ → List ℕ → Known
-two_files a b = record {
-  bytes_at = λ path. if bytes_eq path (codes "a") then Some a else if bytes_eq path (codes "b") then Some b else None;
-  may_open = λ path opened. opened ≡ (bytes_eq path (codes "a") || bytes_eq path (codes "b"));
-  may_fail = ⊥;
-}
 
 -- nothing is known
 abbrev pub unknown : Known

@@ -4,7 +4,7 @@ ghost use Rattle.std.specs.Prelude.{◌≡◌, ◌⊎◌, ◌↔◌, Some, false
 ghost use Rattle.sedck_cert.specs.Ranked.{Accepts};
 ghost use Rattle.sedck_cert.specs.Headline.{SpellBoth, IsSafe};
 ghost use Rattle.sedck_cli.specs.Engines.{ChecksTo};
-ghost use Rattle.sedck_cli.specs.Opened.{two_files};
+ghost use Rattle.sedck_cli.specs.Private.Requests.{two_files};
 
 use crate::answer::Outcome;
 use crate::command_line::program_over;

@@ -1,5 +1,6 @@
 -- What a request asks for, and what it leaves on the output.
-use Rattle.std.specs.Prelude.{◌≡◌, ℕ, IsTrue, List, Option, Some, None, IfSome, Result, Ok, Err}
+use Rattle.std.specs.Prelude.{◌||◌, if◌then◌else◌, codes, ◌≡◌, ℕ, IsTrue, List, Option, Some, None, IfSome, Result, Ok, Err}
+use Rattle.std.specs.Str.{bytes_eq}
 use Rattle.std.specs.Io.KnownBytes.{Keeps}
 use Rattle.sedck_cli.specs.Opened.{Known}
 use Rattle.sedck_cli.specs.Engines.{Reading, Writing}
@@ -40,3 +41,11 @@ abbrev pub Leaves : Known → Asked → Writing → Result Outcome Refusal → T
 Leaves k asked w (Ok outcome) = AreOpened k asked × Reports k asked w.before w.after outcome
 Leaves k asked w (Err (Run fault.Write)) = IsCause k asked w.failed (Run fault.Write) × BreaksOff k asked w.before w.after
 Leaves k asked w (Err refusal) = IsCause k asked w.failed refusal × Keeps w.before w.after
+
+-- two files, at the paths `a` and `b`, which are read without fail
+abbrev pub two_files : List ℕ → List ℕ → Known
+two_files a b = record {
+  bytes_at = λ path. if bytes_eq path (codes "a") then Some a else if bytes_eq path (codes "b") then Some b else None;
+  may_open = λ path opened. opened ≡ (bytes_eq path (codes "a") || bytes_eq path (codes "b"));
+  may_fail = ⊥;
+}
