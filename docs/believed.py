@@ -277,7 +277,7 @@ script.Locations
 script.Faults bre.Faults cert.Faults
 script.FaultWords bre.FaultWords cert.FaultText cli.Lines
 cli.Reports cli.Engines cli.Statuses cli.Faults cert.Streams cli.Inputs
-findings.Answers findings.Denial explain_cli.Explained findings.Positions findings.Shown
+findings.Answers findings.Denial findings.Explanations findings.Errors explain_cli.Explained explain_cli.Statuses findings.Positions findings.Shown
 bre.Lengths script.Shortest script.Invariant
 bre.View script.View script.ReplacementView cert.View
 bre.Laws bre.Examples script.Laws script.First script.Examples flow.Laws flow.Examples cert.Laws search.Laws
