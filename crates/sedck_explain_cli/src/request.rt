@@ -1,7 +1,7 @@
 //! What the words of the command line ask for.
 
 use crate::format::{Format, NAMES};
-use clap::{Arg, ArgAction, Command, Error};
+use clap::{Arg, ArgAction, ArgMatches, Command, Error};
 use sedck_findings::Denied;
 use std::alloc::{AllocError, Global};
 
@@ -23,15 +23,24 @@ pub(crate) struct Request<'a> {
 /// What the words ask for, or why nothing, in words of `clap`.
 pub(crate) fn request_of<'a>(alloc: Global, words: &'a [String]) -> Result<Request<'a>, Error> {
     let matches = command(alloc)?.try_get_matches_from(words)?;
-    let format = match matches.get_str("format") {
+    Ok(Request {
+        format: format_of(&matches),
+        denied: denied_of(&matches),
+        certificate: matches.get_str("cert"),
+        scripts: scripts_of(alloc, &matches)?,
+    })
+}
+
+/// The format that is asked for, or text.
+fn format_of(matches: &ArgMatches) -> Format {
+    match matches.get_str("format") {
         Some(name) => Format::named(name).unwrap_or(Format::Text),
         None => Format::Text,
-    };
-    let certificate = matches.get_str("cert");
-    let denied = match matches.get_strs("deny") {
-        Some(words) => denied_by(words),
-        None => Denied::NOTHING,
-    };
+    }
+}
+
+/// The scripts' paths, or that of standard input.
+fn scripts_of<'a>(alloc: Global, matches: &ArgMatches<'a>) -> Result<Vec<&'a str>, AllocError> {
     let mut scripts = Vec::new(alloc);
     if let Some(paths) = matches.get_strs("script") {
         for path in paths {
@@ -41,50 +50,46 @@ pub(crate) fn request_of<'a>(alloc: Global, words: &'a [String]) -> Result<Reque
     if scripts.is_empty() {
         scripts.push("-")?;
     }
-    Ok(Request {
-        format,
-        denied,
-        certificate,
-        scripts,
-    })
+    Ok(scripts)
 }
 
 /// What a script may be denied, by name.
 const DENIALS: [&str; 4] = ["reads", "writes", "warnings", "unbounded"];
 
-/// What these words deny.
-fn denied_by(words: &[&str]) -> Denied {
-    Denied {
-        reads: words.iter().any(|word| *word == "reads"),
-        writes: words.iter().any(|word| *word == "writes"),
-        warnings: words.iter().any(|word| *word == "warnings"),
-        unbounded: words.iter().any(|word| *word == "unbounded"),
+/// What is denied.
+fn denied_of(matches: &ArgMatches) -> Denied {
+    match matches.get_strs("deny") {
+        Some(words) => Denied {
+            reads: has(words, "reads"),
+            writes: has(words, "writes"),
+            warnings: has(words, "warnings"),
+            unbounded: has(words, "unbounded"),
+        },
+        None => Denied::NOTHING,
     }
+}
+
+/// Whether the word is among the words.
+fn has(words: &[&str], word: &str) -> bool {
+    for other in words {
+        if *other == word {
+            return true;
+        }
+    }
+    false
 }
 
 /// The known forms of the words.
 fn command<'a>(alloc: Global) -> Result<Command<'a>, AllocError> {
-    let format = Arg::new(alloc, "format")
-        .long("format")
-        .value_name("FORMAT")
-        .value_parser(NAMES.as_slice())
-        .help("How the report is printed [default: text]");
-    let deny = Arg::new(alloc, "deny")
-        .long("deny")
-        .value_name("WHAT")
-        .value_delimiter(',')
-        .value_parser(DENIALS.as_slice())
-        .help(
-            "What makes an accepted script end with status 1, with commas between: reads, writes, warnings, unbounded",
-        );
-    let cert = Arg::new(alloc, "cert").long("cert").value_name("CERT").help(
-        "Judge this certificate instead of searching for one; for one script",
-    );
-    let script = Arg::new(alloc, "script")
-        .value_name("SCRIPT")
-        .action(ArgAction::Append)
-        .num_args(0..)
-        .help("Scripts of sed; none or `-` is standard input");
+    described(alloc)
+        .arg(format(alloc))?
+        .arg(certificate(alloc))?
+        .arg(deny(alloc))?
+        .arg(scripts(alloc))
+}
+
+/// The program, with what its help says of it.
+fn described<'a>(alloc: Global) -> Command<'a> {
     Command::new(alloc, "sedck-explain")
         .no_binary_name(true)
         .version(VERSION)
@@ -94,8 +99,37 @@ fn command<'a>(alloc: Global) -> Result<Command<'a>, AllocError> {
         .after_help(
             "Exit status: 0 accepted, 1 rejected, a loop or what `--deny` names, 2 a script or certificate that is refused, 3 a wrong command line, 4 a file that can't be read or a report that can't be written; of several scripts the greatest.",
         )
-        .arg(format)?
-        .arg(cert)?
-        .arg(deny)?
-        .arg(script)
+}
+
+fn format<'a>(alloc: Global) -> Arg<'a> {
+    Arg::new(alloc, "format")
+        .long("format")
+        .value_name("FORMAT")
+        .value_parser(NAMES.as_slice())
+        .help("How the report is printed [default: text]")
+}
+
+fn certificate<'a>(alloc: Global) -> Arg<'a> {
+    Arg::new(alloc, "cert").long("cert").value_name("CERT").help(
+        "Judge this certificate instead of searching for one; for one script",
+    )
+}
+
+fn deny<'a>(alloc: Global) -> Arg<'a> {
+    Arg::new(alloc, "deny")
+        .long("deny")
+        .value_name("WHAT")
+        .value_delimiter(',')
+        .value_parser(DENIALS.as_slice())
+        .help(
+            "What makes an accepted script end with status 1, with commas between: reads, writes, warnings, unbounded",
+        )
+}
+
+fn scripts<'a>(alloc: Global) -> Arg<'a> {
+    Arg::new(alloc, "script")
+        .value_name("SCRIPT")
+        .action(ArgAction::Append)
+        .num_args(0..)
+        .help("Scripts of sed; none or `-` is standard input")
 }
