@@ -1,12 +1,13 @@
-# sedck and sedck-explain, on a machine that has the Rattle toolchain: `make demo` builds them and shows them, `make test` proves and
-# tests everything.
+# sedck and sedck-explain, on a machine that has the Rattle toolchain: `make demo` shows them without a proof, `make build` proves and
+# builds them, `make test` proves and tests everything.
 
 RT ?= rt
 PREFIX ?= /usr/local
-EXAMPLE = next-line-loop
-LOOP = join-all-loop
 
-.PHONY: all build demo test examples explain-tests refusals streams bench seds install clean
+.PHONY: all build demo test docs examples explain-tests refusals refusals-program streams tools-tests bench seds install dist clean
+
+# One target after the other, also under `make -j`: proofs want all processors and much memory, and tests have limits of time.
+.NOTPARALLEL:
 
 all: build
 
@@ -14,36 +15,28 @@ all: build
 COPY = mkdir -p build && cp crates/sedck/out/sedck build/sedck.new && mv build/sedck.new build/sedck && \
 	cp crates/sedck_explain/out/sedck_explain build/sedck-explain.new && mv build/sedck-explain.new build/sedck-explain
 
-# `rt run` proves and builds a program and the crates that it uses, where they have changed, and runs it once.
+# `rt run` proves and builds a program, and the crates that it uses, where they have changed; the script has it done crate by crate.
 build:
 	@echo "Proving and building sedck and sedck-explain (a first build proves everything: 30 to 50 processor minutes) ..."
-	cd crates/sedck && $(RT) run -- check ../../examples/$(EXAMPLE).sed ../../examples/$(EXAMPLE).cert > /dev/null
-	cd crates/sedck_explain && $(RT) run -- --version > /dev/null
+	@python3 tools/prove.py "$(RT)"
 	@$(COPY)
 	@echo "The programs are build/sedck and build/sedck-explain."
 
-demo: build
-	@echo "Checking examples/$(EXAMPLE).sed with its certificate:"
-	build/sedck check examples/$(EXAMPLE).sed examples/$(EXAMPLE).cert
-	@echo "Explaining examples/$(LOOP).sed, which has a loop:"
-	build/sedck-explain examples/$(LOOP).sed || [ $$? -eq 1 ]
+# `rt try` runs the programs without a proof, and leaves nothing behind.
+demo:
+	@python3 tools/demo.py "$(RT)"
 
+# The gate proves everything and builds the programs; the tests are then those that stand alone, with `build` and `refusals-program` as
+# they are, so that nothing is proved or built again. A C compiler that is missing is missed before the gate.
 test: build/refuse.so
 	@echo "Running the gate: every proof from nothing, the must-fail edits, the tests and the program (60 to 120 processor minutes) ..."
 	$(RT) ci
 	@$(COPY)
-	@echo "Checking the examples with the programs that the gate built ..."
-	sh examples/check.sh
-	@echo "Testing the reports of sedck-explain ..."
-	python3 tests/explain.py build/sedck-explain build/sedck
-	python3 tests/hints.py build/sedck-explain build/sedck
-	@echo "Refusing each request for memory in turn, and writing reports to streams that accept nothing ..."
-	python3 tests/refusals.py crates/sedck_refusals/out/sedck_refusals build/sedck build/refuse.so build/sedck-explain
-	sh tests/streams.sh build/sedck build/sedck-explain
+	@$(MAKE) --no-print-directory -o build -o refusals-program docs explain-tests refusals streams tools-tests
 
-examples: build
-	@echo "Checking the examples: answers, certificates, and each command that the documents show ..."
-	sh examples/check.sh
+docs examples: build
+	@echo "Checking the documents: the examples and their certificates, and each command that the pages show ..."
+	sh tests/documents.sh
 
 explain-tests: build
 	@echo "Testing the reports of sedck-explain ..."
@@ -51,10 +44,12 @@ explain-tests: build
 	python3 tests/hints.py build/sedck-explain build/sedck
 
 # `sedck_refusals` makes one call twice; the library refuses one request for memory of the program that it is loaded into.
-refusals: build build/refuse.so
+refusals: build refusals-program build/refuse.so
 	@echo "Refusing each request for memory in turn ..."
-	cd crates/sedck_refusals && $(RT) run -- files '#' > /dev/null
 	python3 tests/refusals.py crates/sedck_refusals/out/sedck_refusals build/sedck build/refuse.so build/sedck-explain
+
+refusals-program:
+	cd crates/sedck_refusals && $(RT) run -- files '#' > /dev/null
 
 build/refuse.so: tests/refuse.c
 	@mkdir -p build
@@ -64,6 +59,10 @@ streams: build
 	@echo "Writing reports to streams that accept nothing ..."
 	sh tests/streams.sh build/sedck build/sedck-explain
 
+tools-tests:
+	@echo "Testing make build, make demo and make dist with a stand-in for rt ..."
+	python3 tests/tools.py
+
 bench: build
 	@echo "Measuring build/sedck and build/sedck-explain (bench/run.py prints the tables of docs/BENCH.md) ..."
 	python3 bench/run.py build/sedck
@@ -72,16 +71,22 @@ bench: build
 # More arguments in SEDS, such as `--scripts 200000 --jobs 3`, `--folder DIR` or `--sed NAME=COMMAND`.
 seds: build
 	@echo "Running every sed that is found beside build/sedck (20,000 scripts take up to ten processor minutes) ..."
-	python3 bench/seds.py build/sedck $(SEDS)
+	python3 tests/seds/seds.py build/sedck $(SEDS)
 
 install: build
-	@echo "Installing sedck, sedck-explain and their manual pages under $(PREFIX) ..."
-	install -d $(DESTDIR)$(PREFIX)/bin $(DESTDIR)$(PREFIX)/share/man/man1 $(DESTDIR)$(PREFIX)/share/man/man5
+	@echo "Installing sedck, sedck-explain, their manual pages and the pages on loops and faults under $(PREFIX) ..."
+	install -d $(DESTDIR)$(PREFIX)/bin $(DESTDIR)$(PREFIX)/share/man/man1 $(DESTDIR)$(PREFIX)/share/man/man5 $(DESTDIR)$(PREFIX)/share/doc/sedck
 	install -m 755 build/sedck $(DESTDIR)$(PREFIX)/bin/sedck
 	install -m 755 build/sedck-explain $(DESTDIR)$(PREFIX)/bin/sedck-explain
-	install -m 644 docs/sedck.1 $(DESTDIR)$(PREFIX)/share/man/man1/sedck.1
-	install -m 644 docs/sedck-explain.1 $(DESTDIR)$(PREFIX)/share/man/man1/sedck-explain.1
-	install -m 644 docs/sedck.5 $(DESTDIR)$(PREFIX)/share/man/man5/sedck.5
+	install -m 644 man/sedck.1 $(DESTDIR)$(PREFIX)/share/man/man1/sedck.1
+	install -m 644 man/sedck-explain.1 $(DESTDIR)$(PREFIX)/share/man/man1/sedck-explain.1
+	install -m 644 man/sedck.5 $(DESTDIR)$(PREFIX)/share/man/man5/sedck.5
+	install -m 644 docs/MENDING.md $(DESTDIR)$(PREFIX)/share/doc/sedck/MENDING.md
+	install -m 644 docs/FAULTS.md $(DESTDIR)$(PREFIX)/share/doc/sedck/FAULTS.md
+
+dist: build
+	@echo "Packing both programs, their manual pages and four pages of the documents, with their check sums ..."
+	@python3 tools/dist.py "$(RT)"
 
 clean:
 	@echo "Removing what was built, and what checks left in crates/*/out ..."

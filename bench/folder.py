@@ -3,7 +3,7 @@
 
     python3 bench/folder.py build/sedck build/sedck-explain [SCRIPTS] [RUNS]
 
-The scripts are made by the generator of bench/seds.py, always the same ones. Many calls are made by `xargs -n 1`. All output goes
+The scripts are made by the generator of tests/seds/seds.py, always the same ones. Many calls are made by `xargs -n 1`. All output goes
 to /dev/null; before that it is compared: a line of JSON for each script, with the status of `sedck rank`.
 """
 import json
@@ -14,7 +14,8 @@ import sys
 import tempfile
 import time
 
-from seds import Draw
+sys.path.insert(0, os.path.join(os.path.dirname(os.path.dirname(os.path.abspath(__file__))), "tests", "seds"))
+from seds_draw import Draw  # noqa: E402
 
 SEED = 1
 

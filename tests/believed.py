@@ -1,7 +1,7 @@
 #!/usr/bin/env python3
-"""Tests docs/believed.py: that it keeps every line of every definition.
+"""Tests tools/believed.py: that it keeps every line of every definition.
 
-    python3 tests/believed.py              tests docs/believed.py
+    python3 tests/believed.py              tests tools/believed.py
     python3 tests/believed.py SCRIPT       tests another version of it
 
 Small files that are made here are read, and must give the names, the lines and the words that are
@@ -163,7 +163,7 @@ def faults_of_specs(believed):
 
 
 def main(words):
-    believed = script(Path(words[0]) if words else TOP / "docs" / "believed.py")
+    believed = script(Path(words[0]) if words else TOP / "tools" / "believed.py")
     wrong = []
     for title, (text, wanted) in READ.items():
         wrong += faults_of_read(believed, title, text, wanted)

@@ -2,7 +2,7 @@
 """Tests of the program `sedck-explain`: python3 tests/explain.py build/sedck-explain build/sedck [--scripts N]
 
 Its contracts have the exit status, the answer and the places of the commands; texts and formats are tested here. What is expected
-was worked out by hand from the rules of docs/FORMATS.md, or comes from `sedck`. N scripts are drawn by bench/seds.py. The status is
+was worked out by hand from the rules of docs/FORMATS.md, or comes from `sedck`. N scripts are drawn by tests/seds/seds.py. The status is
 0 only where everything is as expected.
 """
 import argparse

@@ -14,8 +14,8 @@ from explain_texts import PRINT, REFUSED_CERTIFICATES, WITH_CERTIFICATE
 from explain_tools import place, shown_name
 
 TOP = os.path.dirname(os.path.dirname(os.path.abspath(__file__)))
-sys.path.insert(0, os.path.join(TOP, "bench"))
-from seds import Draw  # noqa: E402
+sys.path.insert(0, os.path.join(TOP, "tests", "seds"))
+from seds_draw import Draw  # noqa: E402
 
 WHOLE = 200
 COMMANDS = 4095

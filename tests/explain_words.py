@@ -12,9 +12,9 @@ FORMATS = ("text", "gcc", "json", "html", "dot")
 
 
 def check_refused_words(tools):
-    """Words of no known form: status 3, nothing on standard output, and a line on standard error that begins with the name."""
+    """Invalid arguments: status 3, nothing on standard output, and a line on standard error that begins with the name."""
     for words in (["--wrong"], ["-x"], ["--format", "xml", "s.sed"], ["--format"], ["--format=", "s.sed"], ["--cert"],
-                  ["--format", "text", "--format", "gcc", "s.sed"], ["--cert", "s.cert", "s.sed", "s.sed"], ["--cert", "s.cert", "s.sed", "-"],
+                  ["--format", "text", "--format", "gcc", "s.sed"], ["--stdin-filename"], ["--cert", "s.cert", "s.sed", "s.sed"], ["--cert", "s.cert", "s.sed", "-"],
                   ["--format", "html", "s.sed", "s.sed"], ["--format", "dot", "s.sed", "t.sed"], [b"\xff.sed"]):
         status, report, errors = tools.explain(*words, given=b"p\n")
         tools.same("status of %r" % words, (status, report), (3, b""))
@@ -29,7 +29,7 @@ def check_help(tools):
     for words in (["--help"], ["-h"], ["--help", "s.sed"]):
         status, report, errors = tools.explain(*words)
         tools.same("help", (status, errors), (0, b""))
-        for part in (*FORMATS, "--format", "--cert", "--deny", "--help", "--version", "SCRIPT", "standard input", "0 accepted", "4 a file"):
+        for part in (*FORMATS, "--format", "--cert", "--deny", "--stdin-filename", "--help", "--version", "SCRIPT", "standard input", "0 accepted", "4 a file"):
             tools.holds("help has %s" % part, part.encode() in report)
 
 
@@ -39,6 +39,11 @@ def check_scripts(tools):
     given = (ACCEPTED % "-").encode()
     tools.same("none", tools.explain(given=NEXT_LINE), (0, given, b""))
     tools.same("-", tools.explain("-", given=NEXT_LINE), (0, given, b""))
+    named = (ACCEPTED % "my.sed").encode()
+    tools.same("a name for standard input", tools.explain("--stdin-filename", "my.sed", given=NEXT_LINE), (0, named, b""))
+    tools.same("the same for -, between files", tools.explain("s.sed", "-", "--stdin-filename=my.sed", "t.sed", given=NEXT_LINE), (2, one + named + two, b""))
+    tools.same("a file keeps its name", tools.explain("--stdin-filename", "my.sed", "s.sed"), (0, one, b""))
+    tools.same("a refused script by that name", tools.explain("--stdin-filename", "a\nb", given=b"b z"), (2, (UNKNOWN % "a?b").encode(), b""))
     tools.same("- with a certificate", tools.explain("--cert", "s.cert", "-", given=NEXT_LINE), (0, given, b""))
     tools.same("none with a certificate", tools.explain("--cert=s.cert", given=NEXT_LINE), (0, given, b""))
     tools.same("- between files", tools.explain("s.sed", "-", "t.sed", given=NEXT_LINE), (2, one + given + two, b""))

@@ -1,9 +1,9 @@
 #!/usr/bin/env python3
 """Compares what the pages say of faults: python3 tests/faults.py build/sedck build/sedck-explain, in the folder of the repository.
 
-The faults and rejections that docs/FORMATS.md lists must be just those of docs/sedck.5 and docs/FAULTS.md, by number and name, and
+The faults and rejections that docs/FORMATS.md lists must be just those of man/sedck.5 and docs/FAULTS.md, by number and name, and
 each example in the tables of docs/FORMATS.md must get the fault of its row, at the offset that is said there. The findings of
-docs/sedck-explain.1 must be these faults and rejections, by name, and the loops, warnings and notes of the code; it must name each
+man/sedck-explain.1 must be these faults and rejections, by name, and the loops, warnings and notes of the code; it must name each
 field of the format for programs. The status is 0 only where all of this holds.
 """
 import json
@@ -51,7 +51,7 @@ def answer(sedck, script):
 
 def findings_differ(names):
     """How the findings of the manual page differ from those names and the ones that the code gives to loops and doubts."""
-    page = section(read("docs/sedck-explain.1").replace(r"\-", "-"), ".SH FINDINGS", r"^\.SH ")
+    page = section(read("man/sedck-explain.1").replace(r"\-", "-"), ".SH FINDINGS", r"^\.SH ")
     found = set(re.findall(r"^\.TP\n\.B ([a-z-]+)$", page, flags=re.M))
     given = {code for name in FINDERS for code in re.findall(r'(?:code: |^ +|, )"([a-z]+-[a-z-]+)",', read(name), flags=re.M)}
     due = names - NO_FINDINGS | given
@@ -66,7 +66,7 @@ def fields(value):
 
 def fields_unnamed(explain):
     """The fields that the program prints of a loop, a limit and a file, and the manual page doesn't name."""
-    page = section(read("docs/sedck-explain.1"), ".SS json", r"^\.SS ")
+    page = section(read("man/sedck-explain.1"), ".SS json", r"^\.SS ")
     named = set(re.findall(r"[a-z_]+", " ".join(re.findall(r"^\.B[RI]? (.*)$", page, flags=re.M))))
     scripts = ["examples/join-all-loop.sed", "examples/write-section.sed"]
     lines = subprocess.run([explain, "--format", "json", *scripts], capture_output=True, text=True).stdout.splitlines()
@@ -76,7 +76,7 @@ def fields_unnamed(explain):
 
 def main():
     sedck, wrong, examples = os.path.abspath(sys.argv[1]), 0, 0
-    formats, manual, page = read("docs/FORMATS.md"), read("docs/sedck.5").replace(r"\-", "-"), read("docs/FAULTS.md")
+    formats, manual, page = read("docs/FORMATS.md"), read("man/sedck.5").replace(r"\-", "-"), read("docs/FAULTS.md")
     count, names = 0, set()
     for family, head in FAMILIES.items():
         rows = list(listed(formats, family))
@@ -84,7 +84,7 @@ def main():
         count += len(due)
         names |= {name for _, name in due}
         for where, text, form in (
-                ("docs/sedck.5", re.split(r'^\.SH ', re.split(r'^\.SH "?%s"?\n' % head, manual, flags=re.M)[1], flags=re.M)[0], r"^\.B (\d+) ([a-z][\w-]+)$"),
+                ("man/sedck.5", re.split(r'^\.SH ', re.split(r'^\.SH "?%s"?\n' % head, manual, flags=re.M)[1], flags=re.M)[0], r"^\.B (\d+) ([a-z][\w-]+)$"),
                 ("docs/FAULTS.md", section(page, "# " + HEADS[head], r"^# "), r"(?:^## |^\| |, )(\d+) `?([a-z][\w-]+)`?(?=[,:\n ])")):
             found = set(re.findall(form, text, flags=re.M))
             if found != due:
@@ -104,11 +104,11 @@ def main():
     differs = findings_differ(names)
     if differs:
         wrong += 1
-        print("docs/sedck-explain.1, FINDINGS: " + differs)
+        print("man/sedck-explain.1, FINDINGS: " + differs)
     unnamed = fields_unnamed(os.path.abspath(sys.argv[2]))
     if unnamed:
         wrong += 1
-        print("docs/sedck-explain.1, FORMATS: fields that it doesn't name: %s" % unnamed)
+        print("man/sedck-explain.1, FORMATS: fields that it doesn't name: %s" % unnamed)
     if not wrong:
         print("faults: %d are the same on three pages, and %d examples get theirs" % (count, examples))
     return 1 if wrong or not examples else 0

@@ -10,8 +10,8 @@ import sys
 from pathlib import Path
 
 TOP = Path(__file__).resolve().parent.parent
-PAGES = [TOP / "README.md", TOP / "CHANGELOG.md", TOP / "examples" / "README.md"] + sorted((TOP / "docs").glob("*.md"))
-MANUAL = sorted((TOP / "docs").glob("sedck*.[1-8]"))
+PAGES = [TOP / "README.md", TOP / "CONTRIBUTING.md", TOP / "CHANGELOG.md", TOP / "examples" / "README.md"] + sorted((TOP / "docs").glob("*.md"))
+MANUAL = sorted((TOP / "man").glob("sedck*.[1-8]"))
 
 
 def without_code(text):

@@ -1,4 +1,4 @@
-//! The program `sedck-explain`: its words, its standard streams and its exit status. All else stands in `sedck_explain_cli`.
+//! The program `sedck-explain`: its arguments, its standard streams and its exit status. All else is in `sedck_explain_cli`.
 #![tactic(auto)]
 
 use sedck_cli::FromWrite;

@@ -1,7 +1,10 @@
-//! The program `sedck-explain` for the words of its command line.
+//! The program `sedck-explain` for its arguments.
 
-ghost use Rattle.std.specs.Prelude.{◌≡◌, ◌≢◌, ◌⊎◌, ◌<◌, ◌≤◌, IfOk};
-ghost use Rattle.std.specs.Io.KnownBytes.{Keeps};
+ghost use Rattle.std.specs.Prelude.{◌≡◌, ◌≢◌, ◌⊎◌, ◌<◌, ◌≤◌, ◌++◌, false, codes, IfOk, OnOk};
+ghost use Rattle.std.specs.Io.KnownBytes.{Keeps, Appends};
+ghost use Rattle.sedck_cert.specs.Streams.{ReportsFailure};
+ghost use Rattle.sedck_explain_cli.specs.Explained.{error_line};
+ghost use Rattle.sedck_explain_cli.specs.Statuses.{certificate_of, scripts_of, HasStatus, StatusAt, IsGreatest};
 
 use crate::explaining::{explain_alone, explain_with};
 use crate::format::Style;
@@ -9,17 +12,16 @@ use crate::request::{Request, request_of};
 use clap::Error;
 use clap::error::ErrorKind;
 use sedck_cert::streams::{Failed, FromRead, Sink, Source, write_all};
-use sedck_cli::{Input as InputOf, RunFault};
+use sedck_cli::{FromFiles, Input as InputOf, Opener, RunFault};
 use std::alloc::{AllocError, Global};
-use std::fs;
 use std::fs::Files;
 use std::io::{Input, Write};
 
 /// What is written to standard error is begun with.
 const NAME: &[u8] = b"sedck-explain: ";
 
-/// The whole program for the words after its name, and its exit status: of the scripts' statuses the greatest, which are 0 for
-/// accepted, 1 for a rejection, a loop or what is denied, and 2 for a refused text; 3 for words of no known form, 4 where a stream fails or memory
+/// The whole program for the arguments after its name, and its exit status: of the scripts' statuses the greatest, which are 0 for
+/// accepted, 1 for a rejection, a loop or what is denied, and 2 for a refused text; 3 for invalid arguments, 4 where a stream fails or memory
 /// runs out.
 ///
 /// A script that can't be read is reported, and the next one follows. After a failed write, or where memory runs out, none does.
@@ -31,7 +33,7 @@ pub fn program<R: Files + Input + AllocGlobal, W: Sink, E: Sink>(
     err: &mut E,
 ) -> u8
     ensures within { result ≤ 4 }
-    // Words of no known form write nothing to the output.
+    // Invalid arguments write nothing to the output.
     ensures refused { result ≡ 3 → Keeps (W.taken out.old) (W.taken out.new) }
     ensures silent { result < 3 → Keeps (E.taken err.old) (E.taken err.new) }
 {
@@ -47,12 +49,23 @@ pub fn program<R: Files + Input + AllocGlobal, W: Sink, E: Sink>(
             return end(err, b"this format is for one script\n", 3);
         }
     }
-    explain_all(rt, &request, colour, out, err)
+    explain_all(
+        rt.alloc(),
+        &FromFiles::new(rt),
+        rt,
+        &request,
+        colour,
+        out,
+        err,
+    )
 }
 
-/// Explains each script, in the order in which they are given.
-fn explain_all<R: Files + Input + AllocGlobal, W: Sink, E: Sink>(
-    rt: &R,
+/// Explains each script of the request, in the order in which they are given, and answers the exit status: the greatest of theirs,
+/// or 4 where one can't be read, a write fails, or memory runs out.
+pub fn explain_all<O: Opener, R: Input, W: Sink, E: Sink>(
+    alloc: Global,
+    files: &O,
+    input: &R,
     request: &Request,
     colour: bool,
     out: &mut W,
@@ -60,11 +73,12 @@ fn explain_all<R: Files + Input + AllocGlobal, W: Sink, E: Sink>(
 ) -> u8
     ensures within { result ≤ 4 }
     ensures known { result ≢ 3 }
+    ensures greatest { result < 3 → IsGreatest (StatusAt (O.known files.now) request.now) (scripts_of request.now) result }
     ensures silent { result < 3 → Keeps (E.taken err.old) (E.taken err.new) }
 {
     let mut status = 0;
     for path in &request.scripts {
-        match explain_path(rt, request, colour, path, out) {
+        match explain_path(alloc, files, input, request, colour, path, out) {
             Ok(one) => status = one.max(status),
             Err(fault) => {
                 status = 4;
@@ -79,72 +93,82 @@ fn explain_all<R: Files + Input + AllocGlobal, W: Sink, E: Sink>(
 }
 
 /// Explains the script at the path, with the certificate where one is given.
-fn explain_path<R: Files + Input + AllocGlobal, W: Sink>(
-    rt: &R,
+fn explain_path<O: Opener, R: Input, W: Sink>(
+    alloc: Global,
+    files: &O,
+    input: &R,
     request: &Request,
     colour: bool,
     path: &str,
     out: &mut W,
 ) -> Result<u8, RunFault>
-    ensures { IfOk result (λ status. status ≤ 2) }
+    ensures few { IfOk result (λ status. status ≤ 2) }
+    ensures status { IfOk result (StatusAt (O.known files.now) request.now path.now) }
 {
     if path == "-" {
-        return explain_source(rt, request, colour, path, FromRead::new(rt.reader()), out);
+        let source = FromRead::new(input.reader());
+        return explain_source(
+            alloc,
+            files,
+            request,
+            colour,
+            request.stdin_name,
+            source,
+            out,
+        );
     }
-    match fs::open(rt, path) {
-        Ok(file) => explain_source(rt, request, colour, path, FromRead::new(file), out),
+    match files.open(path) {
+        Ok(source) => explain_source(alloc, files, request, colour, path, source, out),
         Err(_) => Err(RunFault::Read(InputOf::Script)),
     }
 }
 
-/// Explains the script of this source.
-fn explain_source<R: Files + AllocGlobal, S: Source + Drop, W: Sink>(
-    rt: &R,
+/// Explains the script of this source, which reports call by this name.
+fn explain_source<O: Opener, S: Source + Drop, W: Sink>(
+    alloc: Global,
+    files: &O,
     request: &Request,
     colour: bool,
-    path: &str,
+    name: &str,
     mut script: S,
     out: &mut W,
 ) -> Result<u8, RunFault>
-    ensures { IfOk result (λ status. status ≤ 2) }
+    ensures few { IfOk result (λ status. status ≤ 2) }
+    ensures status { IfOk result (HasStatus (O.known files.now) request.now.denied (certificate_of request.now) (S.left script)) }
 {
-    let alloc = rt.alloc();
     let style = Style {
         format: request.format,
         colour,
     };
-    let name = shown_path(alloc, path)?;
+    let name = shown_name(alloc, name)?;
     let Some(certificate) = request.certificate else {
         return explain_alone(
             alloc,
-            style,
+            &style,
             name.as_str(),
             request.denied,
             &mut script,
             out,
         );
     };
-    match fs::open(rt, certificate) {
-        Ok(file) => {
-            let mut certificate = FromRead::new(file);
-            explain_with(
-                alloc,
-                style,
-                name.as_str(),
-                request.denied,
-                &mut script,
-                &mut certificate,
-                out,
-            )
-        }
+    match files.open(certificate) {
+        Ok(mut certificate) => explain_with(
+            alloc,
+            &style,
+            name.as_str(),
+            request.denied,
+            &mut script,
+            &mut certificate,
+            out,
+        ),
         Err(_) => Err(RunFault::Read(InputOf::Certificate)),
     }
 }
 
-/// The path with `?` for each control character, which could move a terminal's cursor or end a line.
-fn shown_path(alloc: Global, path: &str) -> Result<String, AllocError> {
+/// The name with `?` for each control character, which could move a terminal's cursor or end a line.
+fn shown_name(alloc: Global, name: &str) -> Result<String, AllocError> {
     let mut shown = String::new(alloc);
-    for letter in path.chars() {
+    for letter in name.chars() {
         shown.push(if letter.is_control() { '?' } else { letter })?;
     }
     Ok(shown)
@@ -164,6 +188,7 @@ fn write_fault<E: Sink>(
 ) -> Result<(), Failed> {
     write_all(err, NAME)?;
     match fault {
+        RunFault::Read(InputOf::Script) if path == "-" => write_unread(err, request.stdin_name),
         RunFault::Read(InputOf::Script) => write_unread(err, path),
         RunFault::Read(InputOf::Certificate) => write_unread(
             err,
@@ -189,14 +214,18 @@ fn write_unread<E: Sink>(err: &mut E, path: &str) -> Result<(), Failed> {
 
 /// Writes why the program ends, and answers its exit status.
 fn end<E: Sink>(err: &mut E, words: &[u8], status: u8) -> u8
-    ensures { result ≡ status }
+    ensures status { result ≡ status }
+    ensures line { E.has_failed err.new ≡ false → Appends (E.taken err.old) (E.taken err.new) (codes "sedck-explain: " ++ words.now) }
 {
     let _ = write_refusal(err, words);
     status
 }
 
 /// Writes why the words are refused.
-fn write_refusal<E: Sink>(err: &mut E, words: &[u8]) -> Result<(), Failed> {
+fn write_refusal<E: Sink>(err: &mut E, words: &[u8]) -> Result<(), Failed>
+    ensures written { OnOk result (Appends (E.taken err.old) (E.taken err.new) (codes "sedck-explain: " ++ words.now)) }
+    ensures failure { ReportsFailure result (E.has_failed err.old) (E.has_failed err.new) }
+{
     write_all(err, NAME)?;
     write_all(err, words)
 }
@@ -244,7 +273,8 @@ pub fn out_of_memory<E: Sink>(err: &mut E) -> u8
 
 /// Reports that the output can't be written, and answers the exit status.
 fn unwritten<E: Sink>(err: &mut E) -> u8
-    ensures { result ≡ 4 }
+    ensures status { result ≡ 4 }
+    ensures line { E.has_failed err.new ≡ false → Appends (E.taken err.old) (E.taken err.new) (error_line (codes "cannot write")) }
 {
     end(err, b"cannot write\n", 4)
 }
@@ -253,6 +283,7 @@ fn unwritten<E: Sink>(err: &mut E) -> u8
 /// says so.
 pub fn flushed<W: Write + Drop, E: Sink>(status: u8, mut out: W, err: &mut E) -> u8
     ensures within { (result ≡ status) ⊎ (result ≡ 4) }
+    ensures reported { result ≢ status → E.has_failed err.new ≡ false → Appends (E.taken err.old) (E.taken err.new) (error_line (codes "cannot write")) }
     ensures silent { result ≢ 4 → Keeps (E.taken err.old) (E.taken err.new) }
 {
     match out.flush() {

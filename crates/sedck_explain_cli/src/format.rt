@@ -1,5 +1,8 @@
 //! The formats, by name.
 
+ghost use Rattle.std.specs.Prelude.{None};
+
+use crate::reporter::Reporter;
 use sedck_findings::Explanation;
 use sedck_pages::{dot_report, html_report};
 use sedck_render::{gcc_report, json_report, text_report};
@@ -53,18 +56,22 @@ pub struct Style {
     pub colour: bool,
 }
 
-/// The report on the script with this name.
-pub(crate) fn report(
-    alloc: Global,
-    style: Style,
-    name: &str,
-    explanation: &Explanation,
-) -> Result<Vec<u8>, AllocError> {
-    match style.format {
-        Format::Text => text_report(alloc, name, explanation, style.colour),
-        Format::Gcc => gcc_report(alloc, name, explanation),
-        Format::Json => json_report(alloc, name, explanation),
-        Format::Html => html_report(alloc, name, explanation),
-        Format::Dot => dot_report(alloc, name, explanation),
+impl Reporter for Style {
+    // What the formats make of an explanation isn't said.
+    ghost reported = { λ _ _ _. None };
+
+    fn report(
+        &self,
+        alloc: Global,
+        name: &str,
+        explanation: &Explanation,
+    ) -> Result<Vec<u8>, AllocError> {
+        match self.format {
+            Format::Text => text_report(alloc, name, explanation, self.colour),
+            Format::Gcc => gcc_report(alloc, name, explanation),
+            Format::Json => json_report(alloc, name, explanation),
+            Format::Html => html_report(alloc, name, explanation),
+            Format::Dot => dot_report(alloc, name, explanation),
+        }
     }
 }

@@ -1,4 +1,4 @@
-//! What the words of the command line ask for.
+//! What the arguments ask for.
 
 use crate::format::{Format, NAMES};
 use clap::{Arg, ArgAction, ArgMatches, Command, Error};
@@ -10,23 +10,26 @@ const VERSION: &str = "1.1.0";
 
 /// What is asked for.
 #[derive(Drop)]
-pub(crate) struct Request<'a> {
+pub struct Request<'a> {
     pub format: Format,
     /// What a script may not have.
     pub denied: Denied,
     /// The certificate's path.
     pub certificate: Option<&'a str>,
+    /// The name of standard input in reports.
+    pub stdin_name: &'a str,
     /// The scripts' paths, at least one; `-` is standard input.
     pub scripts: Vec<&'a str>,
 }
 
-/// What the words ask for, or why nothing, in words of `clap`.
+/// What the arguments ask for, or why nothing, in words of `clap`.
 pub(crate) fn request_of<'a>(alloc: Global, words: &'a [String]) -> Result<Request<'a>, Error> {
     let matches = command(alloc)?.try_get_matches_from(words)?;
     Ok(Request {
         format: format_of(&matches),
         denied: denied_of(&matches),
         certificate: matches.get_str("cert"),
+        stdin_name: matches.get_str("stdin-filename").unwrap_or("-"),
         scripts: scripts_of(alloc, &matches)?,
     })
 }
@@ -79,12 +82,13 @@ fn has(words: &[&str], word: &str) -> bool {
     false
 }
 
-/// The known forms of the words.
+/// The valid arguments.
 fn command<'a>(alloc: Global) -> Result<Command<'a>, AllocError> {
     described(alloc)
         .arg(format(alloc))?
         .arg(certificate(alloc))?
         .arg(deny(alloc))?
+        .arg(stdin_name(alloc))?
         .arg(scripts(alloc))
 }
 
@@ -124,6 +128,13 @@ fn deny<'a>(alloc: Global) -> Arg<'a> {
         .help(
             "What makes an accepted script end with status 1, with commas between: reads, writes, warnings, unbounded",
         )
+}
+
+fn stdin_name<'a>(alloc: Global) -> Arg<'a> {
+    Arg::new(alloc, "stdin-filename")
+        .long("stdin-filename")
+        .value_name("NAME")
+        .help("The name of standard input in reports [default: -]")
 }
 
 fn scripts<'a>(alloc: Global) -> Arg<'a> {

@@ -44,14 +44,14 @@ fn answered(
     let result = match certificate {
         Some(certificate) => explain_with(
             alloc,
-            EDITORS,
+            &EDITORS,
             "f",
             Denied::NOTHING,
             script,
             certificate,
             out,
         ),
-        None => explain_alone(alloc, EDITORS, "f", Denied::NOTHING, script, out),
+        None => explain_alone(alloc, &EDITORS, "f", Denied::NOTHING, script, out),
     };
     match result {
         Ok(status) => status,

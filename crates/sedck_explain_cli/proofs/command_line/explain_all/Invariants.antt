@@ -1,6 +1,13 @@
-use Rattle.std.proofs.Common.{◌≢◌, ◌<◌, ◌≤◌}
+use Rattle.std.proofs.Common.{◌≢◌, ◌<◌, ◌≤◌, take}
 use Rattle.std.specs.Io.KnownBytes.{Keeps}
+use Rattle.sedck_explain_cli.specs.Statuses.{scripts_of, StatusAt, IsGreatest}
 use Rattle.sedck_explain_cli.proofs.command_line.explain_all.Given as goal
 
+-- the greatest status so far
 abbrev pub invariant-loop-path : goal.invariant-loop-path
-invariant-loop-path g l = (l.status ≤ 4) × (l.status ≢ 3) × (l.status < 3 → Keeps (g.E.Sink.taken l.initial.err) (g.E.Sink.taken l.err))
+invariant-loop-path g l = record {
+  within : l.status ≤ 4;
+  known : l.status ≢ 3;
+  greatest : l.status < 3 → IsGreatest (StatusAt (g.O.Opener.known l.files) l.request) (take l.path-index (scripts_of l.request)) l.status;
+  silent : l.status < 3 → Keeps (g.E.Sink.taken l.initial.err) (g.E.Sink.taken l.err);
+}

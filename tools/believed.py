@@ -1,8 +1,8 @@
 #!/usr/bin/env python3
 """What must be believed: which definitions the exported contracts reach, file by file.
 
-    python3 docs/believed.py            prints docs/BELIEVED.md
-    python3 docs/believed.py --check    compares it with the file, and checks the shelves:
+    python3 tools/believed.py            prints docs/BELIEVED.md
+    python3 tools/believed.py --check    compares it with the file, and checks the shelves:
                                         no exported contract reaches specs/Private, and
                                         each word outside of specs/Private is reached
 
@@ -365,7 +365,7 @@ script.Locations
 script.Faults bre.Faults cert.Faults
 script.FaultWords bre.FaultWords cert.FaultText cli.Lines
 cli.Reports cli.Engines cli.Statuses cli.Causes cli.Faults cert.Streams cli.Inputs cli.Opened
-findings.Answers findings.Denial findings.Explanations findings.Errors explain_cli.Explained findings.Positions findings.Shown escapes.Html
+findings.Answers findings.Denial findings.Explanations findings.Errors explain_cli.Explained explain_cli.Statuses findings.Positions findings.Shown escapes.Html
 bre.Lengths script.Shortest script.Invariant
 bre.View script.View script.ReplacementView cert.View
 bre.Laws bre.Examples script.Laws script.First script.Examples flow.Laws flow.Examples cert.Laws search.Laws
@@ -569,7 +569,7 @@ These definitions are written with {len(LIBRARY)} words of the library. Beside t
 
 What the contracts say is proved; what their words mean is for a reader to judge. This page lists the definitions that the contracts of exported functions reach, in the order in which an expert of sed may read them. It tells three things apart: what one must believe to trust a yes, {totals[0]:,} lines; what says exactly which certificates are accepted, {totals[1]:,} more; and the rest, {totals[2]:,} more. Lines are those of the definitions with their comments, blank lines and imports left out. In a file that serves several promises the lines are those that the promise adds.
 
-`python3 docs/believed.py` writes this page from the contracts and definitions, and `make examples` compares it; it stops at a line of a definition that it can't place, and `tests/believed.py` counts the lines in another way. It also checks that no contract of an exported function reaches a definition in a folder `specs/Private`, and that each definition outside of these folders is reached: what stands in `specs/Private` is what functions inside a crate promise each other and what proofs use, and needn't be believed. How a value of a type with private fields represents its value (its `view` and `invariant`) is checked in the same way, and isn't listed. `docs/DEFINITIONS.md` explains the definitions.
+`python3 tools/believed.py` writes this page from the contracts and definitions, and `make docs` compares it; it stops at a line of a definition that it can't place, and `tests/believed.py` counts the lines in another way. It also checks that no contract of an exported function reaches a definition in a folder `specs/Private`, and that each definition outside of these folders is reached: what stands in `specs/Private` is what functions inside a crate promise each other and what proofs use, and needn't be believed. How a value of a type with private fields represents its value (its `view` and `invariant`) is checked in the same way, and isn't listed. `docs/DEFINITIONS.md` explains the definitions.
 
 """ + "\n\n".join(parts) + "\n"
 
@@ -584,14 +584,14 @@ def faults(book):
                 if is_private(block.module):
                     wrong.append(f"{contract.crate}::{contract.name}, {label}: reaches {block.names[0]} of {short(block.module)}")
     used = library_words(book.reach({r for root in PARTS[0][2][0][2] for r in roots(book, *root)})[0])
-    wrong += [f"docs/believed.py says nothing of the library's word {word}, which the promise uses" for word in sorted(used - set(LIBRARY))]
-    wrong += [f"docs/believed.py explains the library's word {word}, which the promise doesn't use" for word in sorted(set(LIBRARY) - used)]
+    wrong += [f"tools/believed.py says nothing of the library's word {word}, which the promise uses" for word in sorted(used - set(LIBRARY))]
+    wrong += [f"tools/believed.py explains the library's word {word}, which the promise doesn't use" for word in sorted(set(LIBRARY) - used)]
     for module, blocks in book.all_blocks.items():
         for block in blocks:
             if not is_private(module) and block not in reached:
                 wrong.append(f"{short(module)}: no exported contract reaches {block.names[0] if block.names else block.rest[0]}")
         if not is_private(module) and short(module) not in ORDER:
-            wrong.append(f"{short(module)}: not in the reading order of docs/believed.py")
+            wrong.append(f"{short(module)}: not in the reading order of tools/believed.py")
         if not is_private(module) and not book.heads[module]:
             wrong.append(f"{short(module)}: has no head")
     return wrong
@@ -608,7 +608,7 @@ def main(words):
     wrong = faults(book)
     kept = TOP / "docs" / "BELIEVED.md"
     if not kept.exists() or kept.read_text() != page(book):
-        wrong.append("docs/BELIEVED.md isn't what `python3 docs/believed.py` prints")
+        wrong.append("docs/BELIEVED.md isn't what `python3 tools/believed.py` prints")
     for line in wrong:
         print(line)
     sys.exit(1 if wrong else 0)

@@ -1,8 +1,8 @@
 #!/usr/bin/env python3
 """Runs real seds beside sedck: on scripts that are drawn, on the examples and on folders of your own.
 
-    python3 bench/seds.py build/sedck [--scripts N] [--seed S] [--jobs J] [--inputs K] [--folder DIR] [--sed NAME=COMMAND] ..
-    python3 bench/seds.py build/sedck --table
+    python3 tests/seds/seds.py build/sedck [--scripts N] [--seed S] [--jobs J] [--inputs K] [--folder DIR] [--sed NAME=COMMAND] ..
+    python3 tests/seds/seds.py build/sedck --table
 
 Scripts that hide commands, and substitutions, are drawn from all of the grammar (seds_draw.py); those that `sedck` accepts are run by
 each sed, and what their certificates rule out is a finding (seds_hunt.py). A twentieth as many scripts, with K inputs each, and the
@@ -29,7 +29,7 @@ from seds_page import answers_of_sedck, compared  # noqa: E402
 from seds_run import Judge, Scratch, become_nobody, make_top  # noqa: E402
 from seds_trace import Graph, Trace, limit_of, unexplained  # noqa: E402
 
-TOP = os.path.dirname(os.path.dirname(os.path.abspath(__file__)))
+TOP = os.path.dirname(os.path.dirname(os.path.dirname(os.path.abspath(__file__))))
 PAGE = os.path.join(TOP, "docs", "SEDS.md")
 BATCH = 200
 SHOWN = 4

@@ -1,14 +1,14 @@
 #!/bin/sh
-# Checks the examples by what README.md says: the answer in each row of its tables, each certificate as `rank`
+# Checks the examples by what their README.md says: the answer in each row of its tables, each certificate as `rank`
 # writes it, what each command prints that the documents show, the answers in docs/FAULTS.md and docs/MENDING.md,
 # the tables of edges and faults, the picture, and docs/BELIEVED.md. Needs build/sedck, build/sedck-explain and Python 3; blocks that need
 # more, as a sed, are left out where it is missing. Says what was left out and what failed, and ends with status 1 on any failure.
 
 CDPATH= cd -- "$(dirname -- "$0")/.." || exit 1
 for program in sedck sedck-explain; do
-    [ -x build/$program ] || { echo "examples: build/$program is missing; make build makes it" >&2; exit 1; }
+    [ -x build/$program ] || { echo "documents: build/$program is missing; make build makes it" >&2; exit 1; }
 done
-scratch=${TMPDIR:-/tmp}/sedck-examples.$$
+scratch=${TMPDIR:-/tmp}/sedck-documents.$$
 mkdir "$scratch" || exit 1
 trap 'rm -rf "$scratch"' EXIT
 trap 'exit 1' HUP INT PIPE TERM
@@ -18,7 +18,7 @@ cd "$scratch/examples" || exit 1
 failures=0
 
 fail() {
-    echo "examples: $*" >&2
+    echo "documents: $*" >&2
     failures=$((failures + 1))
 }
 
@@ -90,7 +90,7 @@ blocks_that_run() {
     awk -v lacks="$lacks" -v page="$1" '
         /^needs( |$)/ { on = 1; for (k = 2; k <= NF; k++) if (index(lacks, " " $k " ")) on = 0; left += !on; next }
         on
-        END { if (left) print "examples: " page ": blocks left out: " left + 0 ", since this machine lacks" lacks > "/dev/stderr" }
+        END { if (left) print "documents: " page ": blocks left out: " left + 0 ", since this machine lacks" lacks > "/dev/stderr" }
     ' blocks
 }
 
@@ -105,7 +105,7 @@ done
 
 # Those of the manual pages, in the folder of the examples as it was: a command that goes on in a line with `> ` is one line.
 cd examples || exit 1
-for document in docs/sedck.1 docs/sedck-explain.1 docs/sedck.5; do
+for document in man/sedck.1 man/sedck-explain.1 man/sedck.5; do
     cp "$documents"/examples/* . || exit 1
     awk -v quote="'" '/^\.SH/ { page = ($2 == "EXAMPLES") }
         /^\.\\" needs / { needs = substr($0, 10) }
@@ -121,15 +121,15 @@ done
 # The picture of README.md has the boxes and edges of the graph; where they are drawn depends on the version of Graphviz.
 words_drawn() { grep -E '<(title|text)' | sed 's/ x="[^>]*>/>/' | sort; }
 if has dot; then
-    words_drawn < "$documents/docs/explain.svg" > shown
+    words_drawn < "$documents/docs/img/explain.svg" > shown
     (cd .. && build/sedck-explain --format dot examples/join-all-loop.sed | dot -Tsvg) | words_drawn > drawn
-    diff shown drawn >&2 || fail "docs/explain.svg isn't the graph of join-all-loop.sed"
+    diff shown drawn >&2 || fail "docs/img/explain.svg isn't the graph of join-all-loop.sed"
 else
-    echo "examples: docs/explain.svg isn't compared, since this machine lacks dot" >&2
+    echo "documents: docs/img/explain.svg isn't compared, since this machine lacks dot" >&2
 fi
 
 # What sedck answers in the table of seds; links, and the version in the manual pages.
-(cd "$documents" && python3 bench/seds.py build/sedck --table) >&2 || fail "the table of docs/SEDS.md has other statuses of sedck"
+(cd "$documents" && python3 tests/seds/seds.py build/sedck --table) >&2 || fail "the table of docs/SEDS.md has other statuses of sedck"
 (cd "$documents" && python3 tests/links.py) >&2 || fail "a link leads nowhere, or a page or a version is missing"
 version=$(awk '/^## [0-9]/ { print $2; exit }' "$documents/CHANGELOG.md")
 [ "$(../build/sedck-explain --version)" = "sedck-explain $version" ] || fail "sedck-explain isn't of version $version, as CHANGELOG.md"
@@ -141,8 +141,8 @@ version=$(awk '/^## [0-9]/ { print $2; exit }' "$documents/CHANGELOG.md")
 (cd "$documents" && python3 tests/pages.py build/sedck docs/FAULTS.md docs/MENDING.md) >&2 || fail "a script of docs/FAULTS.md or docs/MENDING.md isn't answered as the page says"
 
 # The list of what must be believed is made from the contracts, and no exported contract reaches a private definition.
-python3 "$documents/tests/believed.py" >&2 || fail "docs/believed.py loses a line of a definition"
-python3 "$documents/docs/believed.py" --check >&2 || fail "docs/BELIEVED.md or a folder specs/Private isn't as it should be"
+python3 "$documents/tests/believed.py" >&2 || fail "tools/believed.py loses a line of a definition"
+python3 "$documents/tools/believed.py" --check >&2 || fail "docs/BELIEVED.md or a folder specs/Private isn't as it should be"
 
 [ $failures -eq 0 ] || exit 1
-echo "examples: all are answered as they should be"
+echo "documents: all are answered as they should be"

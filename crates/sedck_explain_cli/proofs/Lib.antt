@@ -1,0 +1,3 @@
+-- What several proofs use.
+mod Writing
+mod Greatest

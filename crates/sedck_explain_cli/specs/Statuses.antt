@@ -1,0 +1,46 @@
+-- The exit status of several scripts, by what is known of their files, this project's own.
+use Rattle.std.specs.Prelude.{◌≡◌, ℕ, List, [], ◌∷◌, map, Option, Some, None, codes, max, if◌then◌else◌}
+use Rattle.std.specs.Str.{bytes_eq}
+use Rattle.std.specs.Option.{option_map}
+use Rattle.sedck_cli.specs.Inputs.{IsRead}
+use Rattle.sedck_cli.specs.Opened.{Known}
+use Rattle.sedck_findings.specs.Explanations.{IsExplanation}
+use Rattle.sedck_findings.specs.declared.denied.Denied.{Denied}
+use Rattle.sedck_findings.specs.declared.finding.Explanation.{Explanation}
+use Rattle.sedck_explain_cli.specs.declared.request.Request.{Request}
+
+-- the bytes that the script at the path has, where they are known: `-` is standard input, of which nothing is
+abbrev pub script_bytes : Known → List ℕ → Option (List ℕ)
+script_bytes k path = if bytes_eq path (codes "-") then None else k.bytes_at path
+
+-- what was read of the certificate at the path, where one is given
+abbrev pub IsGiven : Known → Option (List ℕ) → Option (List ℕ) → Type 0
+IsGiven k None given = given ≡ None
+IsGiven k (Some path) given = (bytes : List ℕ) × (given ≡ Some bytes) × IsRead 1572865 (k.bytes_at path) bytes
+
+-- the status of the explanation of what was read of a script that has these bytes, where they are known
+pub record HasStatus (k : Known) (denied : Denied) (certificate : Option (List ℕ)) (script : Option (List ℕ)) (status : ℕ) : Type 0 where
+  pub text : List ℕ
+  pub is_text : IsRead 1048577 script text
+  pub given : Option (List ℕ)
+  pub is_given : IsGiven k certificate given
+  pub explanation : Explanation
+  pub is_explanation : IsExplanation text given denied explanation
+  pub is_status : status ≡ explanation.status
+
+-- the path of the request's certificate, if it has one
+abbrev pub certificate_of : Request → Option (List ℕ)
+certificate_of request = option_map (λ path. path.now) request.certificate
+
+-- the paths of its scripts, in their order
+abbrev pub scripts_of : Request → List (List ℕ)
+scripts_of request = map (λ path. path.now) request.scripts.items
+
+-- the status of the script at the path
+abbrev pub StatusAt : Known → Request → List ℕ → ℕ → Type 0
+StatusAt k request path = HasStatus k request.denied (certificate_of request) (script_bytes k path)
+
+-- the greatest of the statuses of the scripts at these paths, and 0 where there are none
+abbrev pub IsGreatest : (List ℕ → ℕ → Type 0) → List (List ℕ) → ℕ → Type 0
+IsGreatest Has [] status = status ≡ 0
+IsGreatest Has (path ∷ rest) status = (one : ℕ) × (others : ℕ) × Has path one × IsGreatest Has rest others × (status ≡ max one others)
