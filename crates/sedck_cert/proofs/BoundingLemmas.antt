@@ -1,6 +1,6 @@
 -- The bound of a steady script: its numbers, its limit, and the edges that don't grow.
 use Rattle.std.proofs.Common.{◌≡◌, ◌≢◌, ℕ, ◌+◌, ◌*◌, ◌<◌, List, [], ◌∷◌, ◌++◌, length, take, get_or, refl, sym, ap, ◌∙◌, arith}
-use Rattle.std.specs.Prelude.{Option, Some, None, max}
+use Rattle.std.specs.Prelude.{true, false, Option, Some, None, is_some, max, MatchOption}
 use Rattle.std.specs.List.{AllByRecursion}
 use Rattle.std.specs.Ordering.{nat_cmp, ord_max}
 use Rattle.std.proofs.lemmas.Grind.{common_steps}
@@ -8,13 +8,15 @@ use Rattle.std.proofs.lemmas.List.{take_more}
 use Rattle.std.proofs.lemmas.List.Elements.{Contains-append_right}
 use Rattle.sedck_script.specs.Invariant.{AreWellFormed}
 use Rattle.sedck_script.specs.Program.{Program}
-use Rattle.sedck_flow.specs.Flow.{ListsEdges, FlowFrom}
+use Rattle.sedck_flow.specs.Nodes.{node_index}
+use Rattle.sedck_flow.specs.Flow.{ListsEdges, Flow, FlowFrom}
 use Rattle.sedck_flow.specs.Spaces.{bytes_of}
+use Rattle.sedck_flow.proofs.NodeLemmas.{before-index}
 use Rattle.sedck_flow.specs.declared.graph.Node.{Node}
 use Rattle.sedck_flow.specs.declared.graph.Edge.{Edge}
 use Rattle.sedck_flow.specs.declared.graph.Kind.TheVariants.{Grow}
 use Rattle.sedck_cert.specs.Certificate.{Certificate}
-use Rattle.sedck_cert.specs.Ranked.{ranks_at, IsSteady, NeverGrows}
+use Rattle.sedck_cert.specs.Ranked.{ranks_at, IsSteady, NeverGrows, IsGrowth, IsFirstGrowth}
 use Rattle.sedck_cert.specs.StepLimit.{greatest_first, greatest_second}
 use Rattle.sedck_cert.specs.Bounds.{IsBoundOf, BoundsRuns}
 use Rattle.sedck_cert.specs.declared.limits.Bound.{Bound}
@@ -25,13 +27,36 @@ pub record HasNoGrowUpTo (IsEdge : Edge → Type 0) (done coming : List Edge) : 
   pub listed : ListsEdges (done ++ coming) IsEdge
   pub none : AllByRecursion (λ e. e.kind ≢ Grow) done
 
--- an edge of a node with ranks that grows is one too many
+-- an edge of a node with ranks on which the pattern space may grow
 pub one_grows : (p : Program) (c : Certificate) (n : Node) (done coming : List Edge) (e : Edge) → ListsEdges (done ++ e ∷ coming) (FlowFrom p n)
     → e.kind ≡ Grow → ranks_at c n ≢ None
-    → ¬ NeverGrows c (FlowFrom p n)
-one_grows p c n done coming e listed grows ranked never =
+    → IsGrowth c (FlowFrom p n) e
+one_grows p c n done coming e listed grows ranked =
     let is_edge = (listed.same e).0 (Contains-append_right done (e ∷ coming) e (0, omega arith, refl)) in
-    ranked (ap (ranks_at c) (sym is_edge.1) ∙ never e is_edge grows)
+    record { is_edge = is_edge; grows = grows; ranked = λ none. ranked (ap (ranks_at c) (sym is_edge.1) ∙ none) }
+
+-- the first of a node, where none leaves the nodes before it
+pub first_growth_of : (p : Program) (c : Certificate) (n : Node) (found : Option Edge)
+    → NeverGrows c (λ e. Flow p e × (node_index e.from < node_index n)) → MatchOption found (NeverGrows c (FlowFrom p n)) (IsGrowth c (FlowFrom p n))
+    → is_some found ≡ true
+    → MatchOption found (NeverGrows c (Flow p)) (IsFirstGrowth p c)
+first_growth_of p c n None before given some = cc
+first_growth_of p c n (Some e) before given some = record {
+  growth = record { is_edge = given.is_edge.0; grows = given.grows; ranked = given.ranked };
+  first = λ other growth earlier.
+      growth.ranked (before other (growth.is_edge, omega (arith, before-index other.from e.from earlier, ap node_index given.is_edge.1)) growth.grows);
+}
+
+-- so an accepted certificate is steady exactly where there is none
+pub grows_somewhere : (p : Program) (c : Certificate) (found : Option Edge) → MatchOption found (NeverGrows c (Flow p)) (IsFirstGrowth p c) → is_some found ≡ true
+    → ¬ IsSteady p c
+grows_somewhere p c None given some = cc
+grows_somewhere p c (Some e) given some = λ steady. given.growth.ranked (steady.never_grows e given.growth.is_edge given.growth.grows)
+
+pub grows_nowhere : (p : Program) (c : Certificate) (found : Option Edge) → MatchOption found (NeverGrows c (Flow p)) (IsFirstGrowth p c) → is_some found ≡ false
+    → NeverGrows c (Flow p)
+grows_nowhere p c None given none = given
+grows_nowhere p c (Some e) given none = cc
 
 -- ---- The greatest ranks, one node more at a time
 

@@ -1,9 +1,9 @@
 //! The limit on the steps of a steady script's runs.
 
-ghost use Rattle.std.specs.Prelude.{◌≡◌, ◌↔◌, ◌≤◌, length, IsTrue, IsSome, IfSome};
+ghost use Rattle.std.specs.Prelude.{◌≡◌, ◌↔◌, ◌≤◌, length, IsSome, IfSome, MatchOption};
 ghost use Rattle.sedck_script.specs.Invariant.{AreWellFormed};
 ghost use Rattle.sedck_flow.specs.Flow.{Flow, FlowFrom};
-ghost use Rattle.sedck_cert.specs.Ranked.{Accepts, IsSteady, NeverGrows};
+ghost use Rattle.sedck_cert.specs.Ranked.{Accepts, IsSteady, NeverGrows, IsGrowth, IsFirstGrowth};
 ghost use Rattle.sedck_cert.specs.StepLimit.{greatest_first, greatest_second};
 ghost use Rattle.sedck_cert.specs.Bounds.{IsBoundOf, BoundsRuns};
 ghost use Rattle.sedck_cert.specs.Headline.{IsLimit};
@@ -11,7 +11,7 @@ ghost use Rattle.sedck_cert.specs.Headline.{IsLimit};
 use crate::certificate::Cert;
 use crate::checking::{Verdict, check, ranks_of};
 use crate::limits::Bound;
-use sedck_flow::{Kind, Node, edges_of, node_count};
+use sedck_flow::{Edge, Kind, Node, edges_of, node_count};
 use sedck_script::Script;
 
 /// The limit on the steps of any run of the script, where the certificate is accepted and the pattern
@@ -29,45 +29,47 @@ pub fn bound(script: &Script, cert: &Cert) -> Option<Bound>
     }
 }
 
-/// The limit on the steps of a script for which the certificate is accepted.
-pub(crate) fn limit(script: &Script, cert: &Cert) -> Option<Bound>
+/// The limit on the steps of any run of a script for which the certificate is accepted.
+pub fn limit(script: &Script, cert: &Cert) -> Option<Bound>
     requires { Accepts script.now cert.now }
     ensures { IsLimit script.now cert.now result }
 {
-    if !never_grows(script, cert) {
+    if first_growth(script, cert).is_some() {
         return None;
     }
     Some(bound_of(cert))
 }
 
-/// Whether no edge on which the pattern space may grow leaves a node with ranks.
-fn never_grows(script: &Script, cert: &Cert) -> bool
-    ensures steady { IsTrue result ↔ NeverGrows cert.now (Flow script.now) }
+/// The first edge from a node with ranks on which the pattern space may grow, by the order of the nodes: the reason why an
+/// accepted certificate gives no limit.
+pub fn first_growth(script: &Script, cert: &Cert) -> Option<Edge>
+    ensures growth { MatchOption result (NeverGrows cert.now (Flow script.now)) (IsFirstGrowth script.now cert.now) }
     // What the law on steady runs asks of the script.
     ensures formed { AreWellFormed script.now }
 {
     for index in 0..node_count(script.commands().len()) {
-        if !never_grows_from(script, cert, Node::nth(index)) {
-            return false;
+        let growth = growth_from(script, cert, Node::nth(index));
+        if growth.is_some() {
+            return growth;
         }
     }
-    true
+    None
 }
 
-/// The same of the edges that leave the node.
-fn never_grows_from(script: &Script, cert: &Cert, node: Node) -> bool
+/// The first of those edges that leaves the node.
+fn growth_from(script: &Script, cert: &Cert, node: Node) -> Option<Edge>
     requires { node.at ≤ length script.now.commands }
-    ensures { IsTrue result ↔ NeverGrows cert.now (FlowFrom script.now node) }
+    ensures { MatchOption result (NeverGrows cert.now (FlowFrom script.now node)) (IsGrowth cert.now (FlowFrom script.now node)) }
 {
     if ranks_of(cert, node).is_none() {
-        return true;
+        return None;
     }
     for edge in edges_of(script, node) {
         if edge.kind == Kind::Grow {
-            return false;
+            return Some(edge);
         }
     }
-    true
+    None
 }
 
 /// The numbers of the limit, by the greatest ranks.

@@ -13,7 +13,7 @@ mod version_one;
 mod versions;
 mod writing;
 
-pub use bounding::bound;
+pub use bounding::{bound, first_growth, limit};
 pub use certificate::Cert;
 pub use checking::{Rejection, Verdict, check};
 pub use limits::Bound;

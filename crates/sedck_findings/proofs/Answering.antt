@@ -1,36 +1,53 @@
 -- From what an engine answers to the answer.
-use Rattle.std.proofs.Common.{◌≡◌, ◌≢◌, ℕ, List, Option, Some, None, Result, Ok, Err, IfOk, IfSome, subst, inl, inr}
+use Rattle.std.proofs.Common.{◌≡◌, ◌≢◌, ◌⊎◌, ℕ, List, Option, Some, None, Result, Ok, Err, IfOk, IfSome, refl, subst, inl, inr}
 use Rattle.sedck_script.specs.Program.{Program}
 use Rattle.sedck_script.specs.Spelling.{Spells}
 use Rattle.sedck_script.specs.declared.fault.ScriptFault.{ScriptFault}
 use Rattle.sedck_script.specs.declared.fault.ScriptFault.TheVariants as script
-use Rattle.sedck_cert.specs.Headline.{SpellsOnly, IsAnswered, IsOutOfMemory, IsScriptFaultOf, ReportsFault}
+use Rattle.sedck_cert.specs.Certificate.{Certificate}
+use Rattle.sedck_cert.specs.Versions.{SpellsCertificate, IsFaultIn}
+use Rattle.sedck_cert.specs.Headline.{SpellsOnly, IsTextOfOnly, IsScriptFaultOf}
+use Rattle.sedck_cert.specs.declared.reading.CertFault.{CertFault}
 use Rattle.sedck_cert.specs.declared.reading.CertFault.TheVariants as cert
 use Rattle.sedck_cert.specs.declared.verifying.Fault.{Fault}
 use Rattle.sedck_cert.specs.declared.verifying.Fault.TheVariants as below
 use Rattle.sedck_findings.specs.declared.answer.Answer.{Answer}
-use Rattle.sedck_findings.specs.declared.answer.Answer.TheVariants.{Accepted, Endless}
+use Rattle.sedck_findings.specs.declared.answer.Answer.TheVariants.{CertificateRefused, Accepted, Rejected, Endless}
 use Rattle.sedck_findings.specs.Answers.{IsAnswer}
-use Rattle.sedck_findings.specs.Private.Answering.{IsFoundAnswer, refusal}
+use Rattle.sedck_findings.specs.Private.Answering.{IsFoundAnswer, IsJudgedAnswer, IsAcceptedAnswer, refusal}
 
 -- what holds of what is there holds of the value that is there
 pub of_some : {A : Type 0} (P : A → Type 0) (o : Option A) (x : A) → o ≡ Some x → IfSome o P → P x
 of_some P o x is holds = subst (λ o. IfSome o P) is holds
 
-judge_refusal : (text bytes : List ℕ) (why : Fault) → ((¬ IsOutOfMemory (Err why)) → IsAnswered text bytes (Err why))
-    → ReportsFault text bytes (Err why) → IfSome (refusal why) (IsAnswer text (Some bytes))
-judge_refusal text bytes (below.Script script.OutOfMemory) answered reported = tt
-judge_refusal text bytes (below.Certificate cert.OutOfMemory) answered reported = tt
-judge_refusal text bytes (below.Script why) answered reported = ((λ e. cc), (answered (λ want. want)).script_fault.0 tt, reported)
-judge_refusal text bytes (below.Certificate why) answered (inl memory) = cc
-judge_refusal text bytes (below.Certificate why) answered (inr is_fault) =
-    let both = (answered (λ want. want)).certificate_fault.0 tt in (both.0, both.1, is_fault)
+certificate_refusal : (p : Program) (bytes : List ℕ) (why : CertFault)
+    → (why ≡ cert.OutOfMemory) ⊎ (((c : Certificate) → ¬ SpellsCertificate bytes c) × IsFaultIn bytes why)
+    → IfSome (refusal (below.Certificate why)) (IsJudgedAnswer p bytes)
+certificate_refusal p bytes cert.OutOfMemory refused = tt
+certificate_refusal p bytes why (inl memory) = cc
+certificate_refusal p bytes why (inr is_fault) = is_fault
 
--- what `judge` refuses
-pub judge_refused : (text bytes : List ℕ) (why : Fault) (answer : Answer) → refusal why ≡ Some answer
-    → ((¬ IsOutOfMemory (Err why)) → IsAnswered text bytes (Err why)) → ReportsFault text bytes (Err why) → IsAnswer text (Some bytes) answer
-judge_refused text bytes why answer is answered reported =
-    of_some (IsAnswer text (Some bytes)) (refusal why) answer is (judge_refusal text bytes why answered reported)
+-- what `read_any` refuses
+pub certificate_refused : (p : Program) (bytes : List ℕ) (why : CertFault) (answer : Answer) → refusal (below.Certificate why) ≡ Some answer
+    → (why ≡ cert.OutOfMemory) ⊎ (((c : Certificate) → ¬ SpellsCertificate bytes c) × IsFaultIn bytes why) → IsJudgedAnswer p bytes answer
+certificate_refused p bytes why answer is refused =
+    of_some (IsJudgedAnswer p bytes) (refusal (below.Certificate why)) answer is (certificate_refusal p bytes why refused)
+
+-- a certificate that is accepted, whether it was found or read
+pub accepted_found : (p : Program) (c : Certificate) (answer : Answer) → IsAcceptedAnswer p c answer → IsFoundAnswer p answer
+accepted_found p c answer h = rw h.1 (h.2, h.3)
+
+pub accepted_judged : (p : Program) (bytes : List ℕ) (c : Certificate) (answer : Answer) → IsTextOfOnly bytes c → IsAcceptedAnswer p c answer
+    → IsJudgedAnswer p bytes answer
+accepted_judged p bytes c answer written h = rw h.1 (written, h.2, h.3)
+
+-- the answer for the script's text, where this script is read from it
+pub judged_answer : (text bytes : List ℕ) (p : Program) (answer : Answer) → SpellsOnly text p → IsJudgedAnswer p bytes answer → IsAnswer text (Some bytes) answer
+judged_answer text bytes p (CertificateRefused why) spelled h = ((p, spelled.spells), h.0, h.1)
+judged_answer text bytes p (Accepted c bound) spelled h =
+    record { program = p; spelled = spelled; cert = c; written = h.0; holds = (refl, h.1, h.2) }
+judged_answer text bytes p (Rejected c why) spelled h = record { program = p; spelled = spelled; cert = c; written = h.0; holds = (refl, h.1) }
+judged_answer text bytes p _ spelled h = absurd h
 
 locate_refusal : (text : List ℕ) (given : Option (List ℕ)) (why : ScriptFault) → (why ≢ script.OutOfMemory → (p : Program) → ¬ Spells text p)
     → IsScriptFaultOf text why → IfSome (refusal (below.Script why)) (IsAnswer text given)

@@ -4,14 +4,15 @@ ghost use Rattle.std.specs.Prelude.{◌≡◌, ◌≤◌, ℕ, List, IfOk, IfSom
 ghost use Rattle.std.specs.Option.{option_map};
 ghost use Rattle.sedck_script.specs.Locations.{locations_of};
 ghost use Rattle.sedck_script.specs.Items.{Item, Items};
-ghost use Rattle.sedck_cert.specs.Headline.{SpellsOnly, IsJudged};
+ghost use Rattle.sedck_cert.specs.Ranked.{Accepts};
+ghost use Rattle.sedck_cert.specs.Headline.{SpellsOnly};
 ghost use Rattle.sedck_findings.specs.Answers.{IsAnswer, status_of};
 ghost use Rattle.sedck_findings.specs.Denial.{nothing, status_under};
-ghost use Rattle.sedck_findings.specs.Private.Answering.{IsFoundAnswer, refusal};
+ghost use Rattle.sedck_findings.specs.Private.Answering.{IsFoundAnswer, IsJudgedAnswer, IsAcceptedAnswer, refusal};
 ghost use Rattle.sedck_findings.specs.Private.Errors.{IsRefused};
 
 use crate::denied::{Denied, has_reads, has_writes};
-use sedck_cert::{Bound, Cert, CertFault, Fault, Judged, Rejection, Verdict, bound, judge};
+use sedck_cert::{Bound, Cert, CertFault, Fault, Rejection, Verdict, check, limit, read_any};
 use sedck_script::{Located, Script, ScriptFault, locate};
 use sedck_search::{Found, Walk, search};
 use std::alloc::{AllocError, Global};
@@ -101,7 +102,7 @@ pub(crate) fn answer_of<'a>(
         }
     };
     let answer = match certificate {
-        Some(certificate) => judged_answer(alloc, text, certificate)?,
+        Some(certificate) => judged_answer(alloc, &located.script, certificate)?,
         None => found_answer(alloc, &located.script)?,
     };
     Ok(Answered {
@@ -110,14 +111,27 @@ pub(crate) fn answer_of<'a>(
     })
 }
 
-/// The answer of the judge.
-fn judged_answer(alloc: Global, text: &[u8], certificate: &[u8]) -> Result<Answer, AllocError>
-    ensures { IfOk result (IsAnswer text.now (Some certificate.now)) }
+/// The answer for a script that was read, with this certificate's text.
+fn judged_answer(alloc: Global, script: &Script, certificate: &[u8]) -> Result<Answer, AllocError>
+    ensures { IfOk result (IsJudgedAnswer script.now certificate.now) }
 {
-    match judge(alloc, text, certificate) {
-        Ok(judged) => Ok(verdict_answer(judged)),
-        Err(fault) => refused(fault),
+    let cert = match read_any(alloc, certificate) {
+        Ok(cert) => cert,
+        Err(fault) => return refused(Fault::Certificate(fault)),
+    };
+    match check(script, &cert) {
+        Verdict::Accepted => Ok(accepted(script, cert)),
+        Verdict::Rejected(why) => Ok(Answer::Rejected { cert, why }),
     }
+}
+
+/// The answer for a certificate that is accepted.
+fn accepted(script: &Script, cert: Cert) -> Answer
+    requires { Accepts script.now cert }
+    ensures { IsAcceptedAnswer script.now cert result }
+{
+    let bound = limit(script, &cert);
+    Answer::Accepted { cert, bound }
 }
 
 /// The answer for a text that is refused.
@@ -132,31 +146,12 @@ fn refused(fault: Fault) -> Result<Answer, AllocError>
     }
 }
 
-/// The verdict, with the certificate and its bound where it is accepted.
-fn verdict_answer(judged: Judged) -> Answer
-    ensures { (text bytes : List ℕ) → IsJudged text bytes judged.entry → IsAnswer text (Some bytes) result }
-{
-    let Judged {
-        script: _,
-        cert,
-        verdict,
-        bound,
-    } = judged;
-    match verdict {
-        Verdict::Accepted => Answer::Accepted { cert, bound },
-        Verdict::Rejected(why) => Answer::Rejected { cert, why },
-    }
-}
-
 /// The answer of the search.
 fn found_answer(alloc: Global, script: &Script) -> Result<Answer, AllocError>
     ensures { IfOk result (IsFoundAnswer script.now) }
 {
     match search(alloc, script)? {
-        Found::Ranks(cert) => {
-            let bound = bound(script, &cert);
-            Ok(Answer::Accepted { cert, bound })
-        }
+        Found::Ranks(cert) => Ok(accepted(script, cert)),
         Found::Loop(walk) => Ok(Answer::Endless(walk)),
     }
 }

@@ -1,14 +1,14 @@
 //! What is reported of a loop, and of a script whose steps have no limit.
 
-ghost use Rattle.std.specs.Prelude.{◌≡◌, ◌≤◌, false, length, IfOk, IfSome};
+ghost use Rattle.std.specs.Prelude.{◌≡◌, false, IfOk, IfSome};
 ghost use Rattle.sedck_findings.specs.Errors.{first_position, is_error};
 ghost use Rattle.sedck_findings.specs.declared.finding.Level.TheVariants.{Error};
 
 use crate::finding::{Finding, Level, Step};
 use crate::places::Position;
 use crate::steps::{position_of, step, target_step};
-use sedck_cert::Cert;
-use sedck_flow::{Edge, Kind, Node, edges_of, node_count};
+use sedck_cert::{Cert, first_growth};
+use sedck_flow::Edge;
 use sedck_script::{Pattern, Script, Verb};
 use sedck_search::{Form, Walk};
 use std::alloc::{AllocError, Global};
@@ -175,30 +175,4 @@ pub(crate) fn unbounded(
         hint: None,
         steps,
     }))
-}
-
-/// The first edge on which the pattern space may grow, from a node with ranks.
-fn first_growth(script: &Script, cert: &Cert) -> Option<Edge> {
-    let ranks = cert.ranks();
-    for index in 0..node_count(script.commands().len()) {
-        if !matches!(ranks.get(index), Some(Some(_))) {
-            continue;
-        }
-        if let Some(edge) = growth_from(script, Node::nth(index)) {
-            return Some(edge);
-        }
-    }
-    None
-}
-
-/// The first edge from the node on which the pattern space may grow.
-fn growth_from(script: &Script, node: Node) -> Option<Edge>
-    requires { node.at ≤ length script.now.commands }
-{
-    for edge in edges_of(script, node) {
-        if edge.kind == Kind::Grow {
-            return Some(edge);
-        }
-    }
-    None
 }

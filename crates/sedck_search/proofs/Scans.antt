@@ -57,7 +57,7 @@ module _ (p : Program) (n : Node) where
   target_coming script done coming e h = (inside p script.targets e (edge_coming done coming e h).0).1
 
 -- a node of the script has its place in a list with four places a command and four for the end
-pub place_in : (p : Program) (xs : List ℕ) → length xs ≡ node_count (length p.commands) → (n : Node) → n.at ≤ length p.commands → node_index n < length xs
+pub place_in : {A : Type 0} (p : Program) (xs : List A) → length xs ≡ node_count (length p.commands) → (n : Node) → n.at ≤ length p.commands → node_index n < length xs
 place_in p xs long n h = omega (arith, long, index_below n (length p.commands) h)
 
 -- ---- Places in lists
@@ -69,7 +69,7 @@ pub entry_of : (xs : List ℕ) (n : Node) (i v : ℕ) → i ≡ node_index n →
 entry_of xs n i v is has = get_or_from_slice_get xs i v 0 (ap (slice_get xs) is ∙ has)
 
 -- one entry more
-pub entries_push : (xs : List ℕ) (y : ℕ) (f : ℕ → ℕ) → ((i : ℕ) → i < length xs → slice_get xs i ≡ Some (f i)) → y ≡ f (length xs) → (i : ℕ)
+pub entries_push : {A : Type 0} (xs : List A) (y : A) (f : ℕ → A) → ((i : ℕ) → i < length xs → slice_get xs i ≡ Some (f i)) → y ≡ f (length xs) → (i : ℕ)
     → i < suc (length xs) → slice_get (xs ++ y ∷ []) i ≡ Some (f i)
 entries_push [] y f all is zero below = ap Some is
 entries_push [] y f all is (suc i) below = absurd (omega (arith, below))

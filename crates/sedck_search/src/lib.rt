@@ -25,4 +25,5 @@ mod searching;
 mod sets;
 
 pub use answer::{Form, Found, Walk};
+pub use reachable::reachability;
 pub use searching::search;

@@ -2,6 +2,7 @@
 
 ghost use Rattle.std.specs.Prelude.{IfOk};
 ghost use Rattle.sedck_script.specs.Invariant.{IsScript};
+ghost use Rattle.sedck_search.specs.Obstacle.{MarkReachable};
 ghost use Rattle.sedck_search.specs.Private.Reaching.{ArePartlyCounted};
 ghost use Rattle.sedck_search.specs.declared.filter.EdgeFilter.{EdgeFilter};
 
@@ -14,10 +15,10 @@ use sedck_flow::{Node, node_count};
 use sedck_script::Script;
 use std::alloc::{AllocError, Global};
 
-/// For each node a mark whether one of the two starts reaches it.
-pub(crate) fn reachable_marks(alloc: Global, script: &Script) -> Result<Vec<u16>, AllocError>
+/// For each node, by its index, whether one of the two starts reaches it.
+pub fn reachability(alloc: Global, script: &Script) -> Result<Vec<bool>, AllocError>
     ensures script { IsScript script.now }
-    ensures marks { IfOk result (λ marks. (filter : EdgeFilter) → ArePartlyCounted script.now filter marks.items) }
+    ensures marks { IfOk result (λ marks. MarkReachable script.now marks.items) }
 {
     let count = node_count(script.commands().len());
     let none = KeptSets::none(alloc);
@@ -43,11 +44,20 @@ pub(crate) fn reachable_marks(alloc: Global, script: &Script) -> Result<Vec<u16>
     );
     let mut marks = Vec::new(alloc);
     for index in 0..count {
-        marks.push(if reached.has(index) {
-            UNCOUNTED
-        } else {
-            UNREACHED
-        })?;
+        marks.push(reached.has(index))?;
+    }
+    Ok(marks)
+}
+
+/// The same as counts: each reachable node is still to be counted.
+pub(crate) fn reachable_marks(alloc: Global, script: &Script) -> Result<Vec<u16>, AllocError>
+    ensures script { IsScript script.now }
+    ensures marks { IfOk result (λ marks. (filter : EdgeFilter) → ArePartlyCounted script.now filter marks.items) }
+{
+    let reachable = reachability(alloc, script)?;
+    let mut marks = Vec::new(alloc);
+    for is_reachable in &reachable {
+        marks.push(if *is_reachable { UNCOUNTED } else { UNREACHED })?;
     }
     Ok(marks)
 }

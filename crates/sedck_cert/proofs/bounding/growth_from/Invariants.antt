@@ -1,6 +1,6 @@
 use Rattle.sedck_flow.specs.Flow.{FlowFrom}
 use Rattle.sedck_cert.proofs.BoundingLemmas.{HasNoGrowUpTo}
-use Rattle.sedck_cert.proofs.bounding.never_grows_from.Given as goal
+use Rattle.sedck_cert.proofs.bounding.growth_from.Given as goal
 
 -- none of the edges so far grows, and those to come are the rest of the node's
 abbrev pub invariant-loop-edge : goal.invariant-loop-edge

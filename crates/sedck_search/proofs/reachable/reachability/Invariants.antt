@@ -1,0 +1,11 @@
+use Rattle.std.proofs.Common.{◌≡◌, ℕ, ◌<◌, length}
+use Rattle.std.specs.Prelude.{Some, slice_get}
+use Rattle.sedck_search.specs.Private.NodeSet.{has}
+use Rattle.sedck_search.proofs.reachable.reachability.Given as goal
+
+-- the marks so far
+abbrev pub invariant-loop-index : goal.invariant-loop-index
+invariant-loop-index l = record {
+  long : length l.marks.items ≡ l.index;
+  entries : (i : ℕ) → i < l.index → slice_get l.marks.items i ≡ Some (has l.reached i);
+}
