@@ -86,7 +86,7 @@ dash_alone u next s c (inr (inl h)) d = absurd (false≢true (sym (ap (λ x. beg
 dash_alone u next s c (inr (inr (inl h))) d = absurd (false≢true (sym (ap (λ x. begins "-" (x ++ s)) h.0) ∙ d))
 dash_alone u next s c (inr (inr (inr h))) d = absurd (false≢true (sym (ap (λ x. begins "-" (x ++ s)) h.0) ∙ d))
 
--- where no class begins, the tests behind choose
+-- where no class begins, the tests after choose
 abbrev dash_or_byte : Bool → List ℕ → Option (Element × List ℕ)
 dash_or_byte first text =
     if begins "-" text && not first then (if begins "]" (drop 1 text) then Some (One 45, drop 1 text) else None)
@@ -131,7 +131,7 @@ one_again first u v rest c byte place range =
         let is = dash_alone u v (v ++ 93 ∷ rest) c byte e in
         elim (place is.0) [ inl wrong ↦ absurd (false≢true wrong) | inr none ↦ last v none is ]
 
--- a range begins where a `-` stands before another byte than a bare bracket
+-- a range begins where a `-` is before another byte than a bare bracket
 range_dash : (y v s : List ℕ) (z : ℕ) → WritesByte y v z → (y ≡ codes "]" → ⊥) → ranges (45 ∷ (y ++ s)) ≡ true
 range_dash y v s z (inl h) no_bracket = ap (λ x. ranges (45 ∷ (x ++ s))) h.0 ∙ go (z == 93) refl
   where

@@ -1,4 +1,4 @@
--- The bound on the number of elements does not matter: the elements of a list are the first, and those behind it.
+-- The bound on the number of elements does not matter: the elements of a list are the first, and those after it.
 use Rattle.std.proofs.Common.{◌≡◌, ◌≢◌, ℕ, suc, zero, ◌+◌, ◌<◌, Bool, true, false, cond, List, [], ◌∷◌, ◌++◌, length, drop, Option, Some, None, IfSome, refl, sym, ap, ◌∙◌, arith, append_assoc, length-append, add-one}
 use Rattle.std.specs.Prelude.{◌&&◌, not, codes}
 use Rattle.std.proofs.lemmas.List.{append-nil, length-drop}

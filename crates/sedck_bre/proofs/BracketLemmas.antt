@@ -1,4 +1,4 @@
--- Small facts on what begins a text, and on what stands before the closing bracket of a list.
+-- Small facts on what begins a text, and on what is before the closing bracket of a list.
 use Rattle.std.proofs.Common.{◌≡◌, ◌≢◌, eq-eqb, ℕ, Bool, true, false, cond, List, [], ◌∷◌, ◌++◌, drop, refl, sym, ap, ◌∙◌}
 use Rattle.std.specs.Prelude.{◌==◌, ◌&&◌, ◌||◌, not, codes}
 use Rattle.std.proofs.lemmas.Bool.{false≢true, eqb-true}

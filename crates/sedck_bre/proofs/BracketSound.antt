@@ -72,7 +72,7 @@ IsElementBefore first text x = (u : List ℕ) × (text ≡ u ++ x.1)
 range_ends : (v rest after : List ℕ) → after ≡ v ++ 93 ∷ rest → is_closing_front v ≡ false → ranges after ≡ false → begins_range v ≡ false
 range_ends v rest after e h k = range_before v rest h (sym (ap ranges e) ∙ k)
 
--- no range begins behind a class and an equivalence class
+-- no range begins after a class and an equivalence class
 pub no_range_takes : (P : Element × List ℕ → Type 0) (e : Element) (text : List ℕ) → (ranges text ≡ false → P (e, text)) → IfSome (no_range (e, text)) P
 no_range_takes P e text h = cond_holds (ranges text) None (Some (e, text)) P (λ _. tt) h
 
@@ -257,7 +257,7 @@ byte_front u next t c (inr (inl h)) = inr (ap (λ x. is_closing_front (x ++ t)) 
 byte_front u next t c (inr (inr (inl h))) = inr (ap (λ x. is_closing_front (x ++ t)) h.0)
 byte_front u next t c (inr (inr (inr h))) = inr (ap (λ x. is_closing_front (x ++ t)) h.0)
 
--- behind the first element a bare bracket doesn't stand, and a bare `-` only at the end
+-- after the first element there is no bare bracket, and a bare `-` only at the end
 itself_front : (c : ℕ) (v : List ℕ) → ((c ∷ [] ≡ codes "]") → IsTrue false) → ((c ∷ [] ≡ codes "-") → IsTrue false ⊎ (v ≡ []))
     → is_closing_front (c ∷ v) ≡ false
 itself_front c [] bracket dash = no_bracket c bracket

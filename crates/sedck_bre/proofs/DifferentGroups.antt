@@ -14,7 +14,7 @@ use Rattle.sedck_bre.proofs.LeastReached.{least-met}
 use Rattle.sedck_bre.proofs.NamedSums.{item_sum, items_sum, without, items_sum-below, items_sum-grows, later_item}
 use Rattle.sedck_bre.proofs.LeastRest.{lengths, outside-floor, outside-split, least-rest}
 
--- each is an item of the whole expression, and none stands there twice
+-- each is an item of the whole expression, and none is there twice
 abbrev pub AreDifferentTopGroups : Tree → List ℕ → Type 0
 AreDifferentTopGroups t [] = Unit {0}
 AreDifferentTopGroups t (k ∷ ks) = IsTrue (is_top_group t k) × (is_in k ks ≡ false) × AreDifferentTopGroups t ks

@@ -95,7 +95,7 @@ any_read inner level place deep opened closed [] l h = absurd (omega arith)
 any_read inner level place deep opened closed (b ∷ text) l h =
     ap (λ x. atom full inner level place deep opened closed (x ∷ text)) h ∙ ap (λ r. Some (Any, r)) (sym (rest_is (b ∷ text) 1))
 
--- behind a backslash stands no opening of a group
+-- after a backslash is no opening of a group
 pub no_group : (text : List ℕ) → get_or text 0 0 ≡ 92 → begins_pair 40 text ≡ false → begins_pair 40 (92 ∷ take (length text - 1) (drop 1 text)) ≡ false
 no_group text h e = ap (λ t. begins_pair 40 (92 ∷ t)) (rest_is text 1) ∙ go text h e
   where

@@ -124,11 +124,11 @@ items_sum-grows picked f g (Then t ts) h =
 abbrev pub PicksItems : (ℕ → Bool) → ℕ → List ℕ → Trees → Type 0
 PicksItems picked a ks ts = (k : ℕ) → picked k ≡ true → ((a ≤ k) × (k < a + length ks) × (is_item k ts ≡ true))
 
--- an item behind the first
+-- an item after the first
 pub later_item : (a b : Bool) → a ≡ false → (a || b) ≡ true → b ≡ true
 later_item a b other h = rw other at h
 
--- once a group is taken away, what is picked is behind it
+-- once a group is taken away, what is picked is after it
 picks_later : (picked : ℕ → Bool) (a : ℕ) (ks : List ℕ) (j : ℕ) (body : Tree) (ts : Trees) → PicksItems picked a ks (Then (Group j body) ts)
     → PicksItems (without j picked) a ks ts
 picks_later picked a ks j body ts p k = go (k == j) refl
@@ -140,7 +140,7 @@ picks_later picked a ks j body ts p k = go (k == j) refl
         let other : (j == k) ≡ false = grind (arith, nat_tests) in
         (found.0, found.1, later_item (j == k) (is_item k ts) other found.2)
 
--- where a group isn't picked, what is picked is behind it
+-- where a group isn't picked, what is picked is after it
 picks_behind : (picked : ℕ → Bool) (a : ℕ) (ks : List ℕ) (j : ℕ) (body : Tree) (ts : Trees) → PicksItems picked a ks (Then (Group j body) ts)
     → picked j ≡ false → PicksItems picked a ks ts
 picks_behind picked a ks j body ts p left_out k = go (j == k) refl

@@ -98,7 +98,7 @@ module _ (text : List ℕ) (value : ℕ) (rest : List ℕ) (is : capped_from 0 t
       let small : nat_le (digits_value 10 (digits_at text).0) 255 ≡ true = grind (arith, nat_tests) in
       given (digits_at text).0 (digits_at text).1 value rest some small same rest_is
 
--- the reading is over where no digit stands first
+-- the reading is over where no digit is first
 pub capped_over : (n : ℕ) (text : List ℕ) → (0 < length text → 48 ≤ get_or text 0 0 → get_or text 0 0 ≤ 57 → ⊥) → capped_from n text ≡ (n, text)
 capped_over n [] h = refl
 capped_over n (c ∷ text) h = go (is_from 48 57 c) refl

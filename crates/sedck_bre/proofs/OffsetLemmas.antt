@@ -23,7 +23,7 @@ tail_drop whole text n h = record {
 pub rest_is : (text : List ℕ) (n : ℕ) → take (length text - n) (drop n text) ≡ drop n text
 rest_is text n = ap (λ k. take k (drop n text)) (sym (length-drop n text)) ∙ take-length (drop n text)
 
--- a part behind the first bytes, as a slice gives it
+-- a part after the first bytes, as a slice gives it
 pub tail_rest : (whole text : List ℕ) (n : ℕ) → IsTail whole text → IsTail whole (take (length text - n) (drop n text))
 tail_rest whole text n h = subst (IsTail whole) (sym (rest_is text n)) (tail_drop whole text n h)
 

@@ -1,4 +1,4 @@
--- The bound on the depth of calls does not matter: a list of items is an item with its sign, and the items behind it.
+-- The bound on the depth of calls does not matter: a list of items is an item with its sign, and the items after it.
 use Rattle.std.proofs.Common.{◌≡◌, ℕ, zero, suc, ◌+◌, ◌-◌, ◌<◌, ◌≤◌, Bool, true, false, cond, List, [], ◌∷◌, ◌++◌, length, Option, Some, None, refl, ap, ◌∙◌, arith, IfSome, length-append, add-one}
 use Rattle.std.specs.Prelude.{◌==◌, nat_lt, nat_le, ◌&&◌}
 use Rattle.sedck_bre.specs.Text.{one_of}

@@ -159,7 +159,7 @@ list_before complement inside es rest sign clear spelled some =
     opened true inside = refl
     opened false inside = refl
 
--- the elements behind the opening, where their list isn't mistakable
+-- the elements after the opening, where their list isn't mistakable
 list_behind : (complement : Bool) (text : List ℕ) (x : List Element × List ℕ) → (complement ≡ false → begins "^" text ≡ false)
     → AreElementsBefore true text x → IfSome (clear_of text x >>= set_of complement) (IsListBefore (opening complement ++ text))
 list_behind complement text x sign h =

@@ -17,7 +17,7 @@ use crate::symbol::{Flaw, byte, class, missing_end, symbol};
 use crate::text::{behind_first, place_in};
 use crate::tree::ByteSet;
 
-/// Whether what stands before the text would begin a range.
+/// Whether what is before the text would begin a range.
 fn begins_range(text: &[u8]) -> bool
     ensures value { result ≡ ranges text.now }
     ensures long { IsTrue result → 2 ≤ length text.now }
@@ -67,7 +67,7 @@ fn byte_or_range(text: &[u8]) -> Result<(Element, &[u8]), Flaw>
     }
 }
 
-/// Whether the text begins with a bracket and this mark, which begin a class or a symbol.
+/// Whether the text begins with `[:`, the beginning of a class.
 fn opens_class(text: &[u8]) -> bool
     ensures value { result ≡ (begins "[" text.now && begins ":" (drop 1 text.now)) }
     ensures long { IsTrue result → 2 ≤ length text.now }
@@ -98,7 +98,7 @@ fn begins_with_dash(text: &[u8]) -> bool
     }
 }
 
-/// A whole class, where the text stands behind its `[:`.
+/// A whole class, of which the text follows the `[:`.
 fn whole_class(text: &[u8]) -> Result<(Element, &[u8]), Flaw>
     ensures read { Reads (λ x. (element_of x.0, x.1.now)) result (whole_class_at text.now) }
     ensures flaw { IfErr result HasNoEscape }
@@ -109,7 +109,7 @@ fn whole_class(text: &[u8]) -> Result<(Element, &[u8]), Flaw>
     }
 }
 
-/// A whole equivalence class, where the text stands behind its `[=`.
+/// A whole equivalence class, of which the text follows the `[=`.
 fn equivalents(text: &[u8]) -> Result<(Element, &[u8]), Flaw>
     ensures read { Reads (λ x. (element_of x.0, x.1.now)) result (equivalents_at text.now) }
     ensures flaw { IfErr result HasNoEscape }
@@ -118,7 +118,7 @@ fn equivalents(text: &[u8]) -> Result<(Element, &[u8]), Flaw>
     no_range(Element::One(byte), rest)
 }
 
-/// A `-` that isn't first in its list, where the text stands behind it: it has to be last.
+/// A `-` that isn't first in its list, and that the text follows: it has to be last.
 fn last_dash(text: &[u8]) -> Result<(Element, &[u8]), Flaw>
     ensures read { Reads (λ x. (element_of x.0, x.1.now)) result (last_dash_at text.now) }
     ensures flaw { IfErr result HasNoEscape }

@@ -15,7 +15,7 @@ pub enum ReFault {
     BadEscape { place: usize },
     /// A bracket list, class or symbol that is not closed: the outer bracket.
     UnclosedBracket { place: usize },
-    /// An element that is none: its first byte.
+    /// An invalid element: its first byte.
     BadBracket { place: usize },
     /// A complement without members: the bracket.
     EmptySet { place: usize },
@@ -40,71 +40,48 @@ pub enum ReFault {
 }
 
 impl ReFault {
-    ghost use Rattle.sedck_bre.specs.FaultWords.{fault_number, fault_name, fault_place};
+    ghost use Rattle.sedck_bre.specs.FaultWords.{fault_number, fault_name, fault_place, fault_row};
 
     /// The number that is printed. It stays the same for ever: scripts compare it.
     pub fn number(self) -> u8
         ensures { result ≡ fault_number self }
     {
-        match self {
-            ReFault::TrailingBackslash { .. } => 1,
-            ReFault::BadEscape { .. } => 2,
-            ReFault::UnclosedBracket { .. } => 3,
-            ReFault::BadBracket { .. } => 4,
-            ReFault::EmptySet { .. } => 5,
-            ReFault::UnclosedGroup { .. } => 6,
-            ReFault::UnopenedGroup { .. } => 7,
-            ReFault::BadInterval { .. } => 8,
-            ReFault::NothingToRepeat { .. } => 9,
-            ReFault::DoubleRepeat { .. } => 10,
-            ReFault::BadReference { .. } => 11,
-            ReFault::TooDeep { .. } => 12,
-            ReFault::TooManyGroups { .. } => 13,
-            ReFault::OutOfMemory => 14,
-        }
+        self.row().0
     }
 
     /// The name that is printed: in lower case, with hyphens between its words.
     pub fn name(self) -> &'static str
         ensures { result.now ≡ fault_name self }
     {
-        match self {
-            ReFault::TrailingBackslash { .. } => "trailing-backslash",
-            ReFault::BadEscape { .. } => "bad-escape",
-            ReFault::UnclosedBracket { .. } => "unclosed-bracket",
-            ReFault::BadBracket { .. } => "bad-bracket",
-            ReFault::EmptySet { .. } => "empty-set",
-            ReFault::UnclosedGroup { .. } => "unclosed-group",
-            ReFault::UnopenedGroup { .. } => "unopened-group",
-            ReFault::BadInterval { .. } => "bad-interval",
-            ReFault::NothingToRepeat { .. } => "nothing-to-repeat",
-            ReFault::DoubleRepeat { .. } => "double-repeat",
-            ReFault::BadReference { .. } => "bad-reference",
-            ReFault::TooDeep { .. } => "too-deep",
-            ReFault::TooManyGroups { .. } => "too-many-groups",
-            ReFault::OutOfMemory => "out-of-memory",
-        }
+        self.row().1
     }
 
     /// The place, which every fault but `OutOfMemory` has.
     pub fn place(self) -> Option<usize>
         ensures { result ≡ fault_place self }
     {
+        self.row().2
+    }
+
+    /// The number, the name and the place.
+    fn row(self) -> (u8, &'static str, Option<usize>)
+        ensures { (result.0, result.1.now, result.2) ≡ fault_row self }
+    {
         match self {
-            ReFault::TrailingBackslash { place }
-            | ReFault::BadEscape { place }
-            | ReFault::UnclosedBracket { place }
-            | ReFault::BadBracket { place }
-            | ReFault::EmptySet { place }
-            | ReFault::UnclosedGroup { place }
-            | ReFault::UnopenedGroup { place }
-            | ReFault::BadInterval { place }
-            | ReFault::NothingToRepeat { place }
-            | ReFault::DoubleRepeat { place }
-            | ReFault::BadReference { place }
-            | ReFault::TooDeep { place }
-            | ReFault::TooManyGroups { place } => Some(place),
-            ReFault::OutOfMemory => None,
+            ReFault::TrailingBackslash { place } => (1, "trailing-backslash", Some(place)),
+            ReFault::BadEscape { place } => (2, "bad-escape", Some(place)),
+            ReFault::UnclosedBracket { place } => (3, "unclosed-bracket", Some(place)),
+            ReFault::BadBracket { place } => (4, "bad-bracket", Some(place)),
+            ReFault::EmptySet { place } => (5, "empty-set", Some(place)),
+            ReFault::UnclosedGroup { place } => (6, "unclosed-group", Some(place)),
+            ReFault::UnopenedGroup { place } => (7, "unopened-group", Some(place)),
+            ReFault::BadInterval { place } => (8, "bad-interval", Some(place)),
+            ReFault::NothingToRepeat { place } => (9, "nothing-to-repeat", Some(place)),
+            ReFault::DoubleRepeat { place } => (10, "double-repeat", Some(place)),
+            ReFault::BadReference { place } => (11, "bad-reference", Some(place)),
+            ReFault::TooDeep { place } => (12, "too-deep", Some(place)),
+            ReFault::TooManyGroups { place } => (13, "too-many-groups", Some(place)),
+            ReFault::OutOfMemory => (14, "out-of-memory", None),
         }
     }
 }

@@ -17,11 +17,11 @@ use crate::text::{begins_with, behind_first, place_in};
 use crate::tree::Bre;
 use std::alloc::Global;
 
-/// Where an item stands in its list.
+/// Where an item is in its list.
 #[derive(Clone, Copy)]
 pub(crate) enum Position {
     First,
-    /// Right behind a `^` that is first.
+    /// Right after a `^` that is first.
     Anchored,
     Later,
 }
@@ -96,7 +96,7 @@ fn begins_with_star(text: &[u8]) -> bool
     }
 }
 
-/// The item with the sign of repetition behind it, if there is one.
+/// The item with the sign of repetition after it, if there is one.
 pub(crate) fn signed<'a>(
     alloc: Global,
     whole: &[u8],
@@ -133,7 +133,7 @@ pub(crate) fn signed<'a>(
     Ok((Bre::Repeat { body, least, most }, rest))
 }
 
-/// An interval where no item stands that it could repeat.
+/// An interval where there is no item that it could repeat.
 pub(crate) fn misplaced(position: Position, start: usize) -> ReFault
     ensures value { IsOfText result }
     ensures place { (whole : List ℕ) → HasOneAt whole start "\\" → IsPlaced whole result }

@@ -6,8 +6,8 @@
 //! - `Bre` is what was written, as a tree; `ByteSet` is the set of a bracket list.
 //! - `ReFault` is why a text is no expression, with a number, a name and a place.
 //!
-//! How a text spells a tree stands in `specs/Shape.antt`, and no text spells two. What a tree means, `Match` and
-//! `Language`, stands in `specs/Match.antt`: no text is matched here.
+//! How a text spells a tree is said in `specs/Shape.antt`, and no text spells two. What a tree means, `Match` and
+//! `Language`, is said in `specs/Match.antt`: no text is matched here.
 #![tactic(auto)]
 
 mod bracket;

@@ -181,7 +181,7 @@ fn backslash<'a>(
     Ok((item, rest))
 }
 
-/// What a byte behind a backslash stands for, where it opens no group.
+/// What a byte after a backslash stands for, where it opens no group.
 fn escaped(position: Position, start: usize, groups: &Groups, b: u8) -> Result<Bre, ReFault>
     requires other { b ≢ 40 }
     ensures value { (inner : List ℕ → Option (Trees × List ℕ)) (deep opened : ℕ) (closed rest : List ℕ) → ClosedIs groups.now.closed closed → Gives (λ x. (tree x, rest)) result (escaped inner deep opened closed b rest) }

@@ -44,7 +44,7 @@ pub(crate) fn missing_end(mark: u8, text: &[u8]) -> Flaw
     if is_closed { Flaw::Bad } else { Flaw::Unclosed }
 }
 
-/// The class whose name stands behind `[:`, and what follows its `:]`.
+/// The class whose name follows `[:`, and what follows its `:]`.
 pub(crate) fn class(text: &[u8]) -> Option<(Class, &[u8])>
     ensures { option_map (λ x. (element_of (Element.Members x.0), x.1.now)) result ≡ class_from classes text.now }
 {
@@ -68,7 +68,7 @@ fn behind_name(class: Class, text: &[u8]) -> Option<&[u8]>
     }
 }
 
-/// The byte of a symbol behind its `[.` or `[=`, and what follows its `.]` or `=]`. The mark itself has no symbol.
+/// The byte of a symbol after its `[.` or `[=`, and what follows its `.]` or `=]`. The mark itself has no symbol.
 pub(crate) fn symbol(mark: u8, text: &[u8]) -> Result<(u8, &[u8]), Flaw>
     ensures read { Reads (λ x. (x.0, x.1.now)) result (symbol_at mark text.now) }
     ensures flaw { IfErr result HasNoEscape }
@@ -100,7 +100,7 @@ pub(crate) fn byte(text: &[u8]) -> Result<(u8, &[u8]), Flaw>
     }
 }
 
-/// The byte that a bracket begins, where the text stands behind the bracket.
+/// The byte that a bracket begins, which the text follows.
 fn opened(text: &[u8]) -> Result<(u8, &[u8]), Flaw>
     ensures read { Reads (λ x. (x.0, x.1.now)) result (opened_at 91 text.now) }
     ensures flaw { IfErr result HasNoEscape }
@@ -114,7 +114,7 @@ fn opened(text: &[u8]) -> Result<(u8, &[u8]), Flaw>
     }
 }
 
-/// The byte that a backslash begins, where the text stands behind the backslash.
+/// The byte that a backslash begins, which the text follows.
 fn escaped(text: &[u8]) -> Result<(u8, &[u8]), Flaw>
     requires { begins "cdox" text.now ≡ false }
     ensures read { Reads (λ x. (x.0, x.1.now)) result (escaped_at 92 text.now) }

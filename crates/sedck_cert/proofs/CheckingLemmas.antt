@@ -26,7 +26,7 @@ pub record IsUpTo (c : Certificate) (IsEdge : Edge → Type 0) (done coming : Li
 
 -- ---- The order of edges
 
--- in order, an edge is earlier than all behind it
+-- in order, an edge is earlier than all after it
 all_behind : (e : Edge) (coming : List Edge) → AreInOrder (e ∷ coming) → AllByRecursion (IsEarlier e) coming
 all_behind e [] h = tt
 all_behind e (f ∷ coming) h =
@@ -47,7 +47,7 @@ order_behind (e ∷ f ∷ done) coming h = order_behind (f ∷ done) coming h.1
 one_of_all : (P : Edge → Type 0) (edges : List Edge) (e : Edge) → AllByRecursion P edges → Contains edges e → P e
 one_of_all P edges e all h = All-contains P edges e (All-from_recursion P edges all) h
 
--- an edge behind the first of these isn't earlier than it
+-- an edge after the first of these isn't earlier than it
 not_earlier : (e f : Edge) (coming : List Edge) → AreInOrder (e ∷ coming) → Contains (e ∷ coming) f → IsEarlier f e → ⊥
 not_earlier e f coming order h earlier =
     elim (Contains-cons_cases e coming f h) [
@@ -116,7 +116,7 @@ first_unmet : (p : Program) (c : Certificate) (e : Edge) → Flow p e → ¬ Mee
     → IsFirstUnmet p c e
 first_unmet p c e is_edge unmet earlier = record { is_edge = is_edge; unmet = unmet; earlier = earlier }
 
--- behind count and start, the first edge that isn't met is what is rejected
+-- after count and start, the first edge that isn't met is what is rejected
 pub edge_rejection : (p : Program) (c : Certificate) (why : Rejection) → IsStarted p c → IsFirstUnmetOf c (Flow p) why → IsRejection p c why
 edge_rejection p c WrongCount started h = absurd h.unmet
 edge_rejection p c StartUnranked started h = absurd h.unmet

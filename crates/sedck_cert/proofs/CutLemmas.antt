@@ -55,7 +55,7 @@ ranks_parts text first second (Some r) within cut is =
     (is ∙ append_assoc (decimal r.0) (codes " ") (decimal r.1)) in
     (r.0, r.1, within.0, within.1, both.0, both.1, refl)
 
--- ---- The words of a node, each with a space behind it
+-- ---- The words of a node, each with a space after it
 
 -- a text that begins with the two words of a text that begins with the first
 words_on : (text a b mid rest : List ℕ) → text ≡ a ++ 32 ∷ mid → mid ≡ b ++ 32 ∷ rest → text ≡ (a ++ codes " " ++ b) ++ 32 ∷ rest
@@ -72,7 +72,7 @@ FindsBehind text word r = MatchOption r ((rest : List ℕ) → text ≡ word ++ 
 pub first_missing : (text a b : List ℕ) → ((rest : List ℕ) → text ≡ a ++ 32 ∷ rest → ⊥) → (rest : List ℕ) → text ≡ (a ++ codes " " ++ b) ++ 32 ∷ rest → ⊥
 first_missing text a b none rest is = none (b ++ 32 ∷ rest) (words_apart text a b rest is)
 
--- behind the first word, the second
+-- after the first word, the second
 pub behind_both : (text a b mid : List ℕ) (r : Option (Bor (List ℕ))) → text ≡ a ++ 32 ∷ mid → FindsBehind mid b r → FindsBehind text (a ++ codes " " ++ b) r
 behind_both text a b mid None is h = λ rest e.
     let same : 32 ∷ mid ≡ 32 ∷ (b ++ 32 ∷ rest) = append_cancel_left a (32 ∷ mid) (32 ∷ (b ++ 32 ∷ rest)) (sym is ∙ words_apart text a b rest e) in
@@ -88,7 +88,7 @@ flag_text-digit false = sym (decimal_digit 0 (omega arith))
 pub front_of_number : (text front more rest : List ℕ) (n : ℕ) → n < 2 ^ 64 → IsCut 32 text front more → text ≡ decimal n ++ 32 ∷ rest → front ≡ decimal n
 front_of_number text front more rest n small cut is = (decimal-cut text front more rest n 32 small (omega arith) cut is).0
 
--- the ranks behind the words
+-- the ranks after the words
 pub ranks_behind : (text words rest : List ℕ) (r : Option (Option (ℕ × ℕ))) → text ≡ words ++ 32 ∷ rest
     → MatchOption r ((ranks : Option (ℕ × ℕ)) → AreWithin ranks → rest ≡ ranks_text ranks → ⊥) (λ ranks. AreWithin ranks × (rest ≡ ranks_text ranks))
     → MatchOption r ((ranks : Option (ℕ × ℕ)) → AreWithin ranks → text ≡ words ++ codes " " ++ ranks_text ranks → ⊥)

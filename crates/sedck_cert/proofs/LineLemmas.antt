@@ -38,7 +38,7 @@ pub wrong_word : (v : Version) (due : Due) (rest word : List ℕ) → ((text : L
     → ((more : List ℕ) → IsCut 10 rest word more → ⊥) → IsWrong v due rest
 wrong_word v due rest word told none = wrong_cuts v due rest (λ text more next cut is. none more (subst (λ t. IsCut 10 rest t more) (told text next is) cut))
 
--- the number behind the word in a line
+-- the number after the word in a line
 abbrev pub NoCount : List ℕ → List ℕ → Type 0
 NoCount rest word = (n : ℕ) → n ≤ 4095 → (more : List ℕ) → IsCut 10 rest (word ++ decimal n) more → ⊥
 
@@ -90,7 +90,7 @@ leads_on v a b c xs ys {x} {y} {z} h k = record {
   are_due = are_due-append v xs ys a b c h.are_due k.are_due;
 }
 
--- what stops behind lines that are due
+-- what stops after lines that are due
 pub leads_stops : (v : Version) (a b : Due) (xs : List (List ℕ)) (fault : CertFault) {x y : Lines} → Leads v a x xs y b → Stops v b y fault → Stops v a x fault
 leads_stops v a b xs fault {x} {y} h k = record {
   before = xs ++ k.before;

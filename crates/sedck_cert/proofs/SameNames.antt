@@ -8,7 +8,7 @@ use Rattle.std.proofs.lemmas.List.Elements.{All-from_recursion, All-contains, re
 use Rattle.sedck_script.specs.Names.{IsBefore, AreIncreasing}
 use Rattle.sedck_script.proofs.SortedNames.{Contains-cons_cases, Contains-cons_more}
 
--- each name is before all behind it
+-- each name is before all after it
 abbrev ComesAfter : List (List ℕ) → Type 0
 ComesAfter [] = Unit {0}
 ComesAfter (name ∷ names) = AllByRecursion (IsBefore name) names × ComesAfter names
@@ -38,7 +38,7 @@ first_same a b xs ys rise_a rise_b has_a has_b =
       ]
     ]
 
--- a name behind the first is behind the other list's first
+-- a name after the first is after the other list's first
 still_behind : (a b x : List ℕ) (xs ys : List (List ℕ)) → a ≡ b → ComesAfter (a ∷ xs) → Contains xs x → Contains (b ∷ ys) x → Contains ys x
 still_behind a b x xs ys same rise has within =
     elim (Contains-cons_cases b ys x within) [

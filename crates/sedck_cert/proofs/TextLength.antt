@@ -20,7 +20,7 @@ length-append_two a b c = length-append (a ++ b) c ∙ ap (λ n. n + length c) (
 
 -- ---- The lines of the nodes
 
--- What the lines of the nodes before this one take at most: a number of bytes each, and one more for each digit of a place behind its first.
+-- What the lines of the nodes before this one take at most: a number of bytes each, and one more for each digit of a place after its first.
 -- From place 10 on places have two digits.
 abbrev pub limit_before : Version → ℕ → ℕ
 limit_before One node = 16 * node + (node - 20) + (node - 200) + (node - 2000)

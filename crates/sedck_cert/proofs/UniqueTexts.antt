@@ -16,7 +16,7 @@ use Rattle.sedck_cert.proofs.CutLemmas.{parts_one, has_byte, dash_lacks, decimal
 use Rattle.sedck_cert.proofs.LineLemmas.{line-behind}
 use Rattle.sedck_cert.proofs.LinesAreText.{certificate_lines-joined, certificate_is_due}
 
--- the first lines of one text, and what is behind them
+-- the first lines of one text, and what is after them
 pub lines_one : (a b r s : List ℕ) → IsOneLine a → IsOneLine b → line a ++ r ≡ line b ++ s → (a ≡ b) × (r ≡ s)
 lines_one a b r s one two e = parts_one 10 a b r s one two (sym (line-behind a r) ∙ e ∙ line-behind b s)
 
@@ -118,7 +118,7 @@ length-node_texts : (v : Version) (node : ℕ) (xs : List (Option (ℕ × ℕ)))
 length-node_texts v node [] = refl
 length-node_texts v node (x ∷ xs) = ap suc (length-node_texts v (suc node) xs)
 
--- two lists, and what is behind them
+-- two lists, and what is after them
 lists_one : (files : Files) (xs ys as' bs : List (List ℕ)) → length xs ≤ 4095 → length ys ≤ 4095
     → list_texts files xs ++ as' ≡ list_texts files ys ++ bs → (xs ≡ ys) × (as' ≡ bs)
 lists_one files xs ys as' bs few less e =

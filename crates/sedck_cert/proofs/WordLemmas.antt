@@ -14,7 +14,7 @@ same_front text word rest test is =
     let front : take (length word) text ≡ word = same_text (take (length word) text) word (sym test) in
     sym (take-append-drop (length word) text) ∙ ap (λ t. t ++ drop (length word) text) front ∙ ap (λ t. word ++ t) (sym is)
 
--- a number behind a word
+-- a number after a word
 pub counted : (text word rest : List ℕ) (r : Option ℕ) → text ≡ word ++ rest
     → MatchOption r ((n : ℕ) → n ≤ 4095 → rest ≡ decimal n → ⊥) (λ n. (n ≤ 4095) × (rest ≡ decimal n))
     → MatchOption r ((n : ℕ) → n ≤ 4095 → text ≡ word ++ decimal n → ⊥) (λ n. (n ≤ 4095) × (text ≡ word ++ decimal n))

@@ -26,7 +26,7 @@ appends_join (Some as') (Some bs) (Some cs) xs ys h k = k ∙ ap (λ t. t ++ ys)
 pub begins_longer : (a b : Option (List ℕ)) (text rest : List ℕ) → AppendsPrefix a b text → AppendsPrefix a b (text ++ rest)
 begins_longer a b text rest h = (h.0, (h.1.0 ++ rest, ap (λ t. t ++ rest) h.1.1 ∙ append_assoc h.0 h.1.0 rest), h.2)
 
--- a front behind what was taken
+-- a front after what was taken
 pub begins_later : (a b c : Option (List ℕ)) (front text : List ℕ) → Appends a b front → AppendsPrefix b c text → AppendsPrefix a c (front ++ text)
 begins_later a b c front text h k = (front ++ k.0, (k.1.0, ap (λ t. front ++ t) k.1.1 ∙ sym (append_assoc front k.0 k.1.0)), appends_join a b c front k.0 h k.2)
 

@@ -28,7 +28,7 @@ abbrev pub ComesAfter : List (List ℕ) → List ℕ → Type 0
 ComesAfter [] name = Unit {0}
 ComesAfter (before ∷ more) name = IsBefore before name
 
--- behind a list comes the other one, or the end
+-- after a list comes the other one, or the end
 abbrev pub after_list : Files → ℕ → Due
 after_list Reads size = Names Writes size
 after_list Writes size = Last
@@ -99,7 +99,7 @@ line_of (BadNames n) = Some n
 line_of (BadEnd n) = Some n
 line_of OutOfMemory = None
 
--- the line is one of the text, or the one behind its last newline
+-- the line is one of the text, or the one after its last newline
 abbrev pub IsLineOf : List ℕ → ℕ → Type 0
 IsLineOf text n = (1 ≤ n) × (n ≤ count_by (λ b. b == newline) text + 1)
 

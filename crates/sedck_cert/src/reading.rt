@@ -37,7 +37,7 @@ pub enum CertFault {
     BadNode { line: usize },
     /// The line isn't the count of a list, at most 4095, or the next name, after the one before and within the limit on bytes.
     BadNames { line: usize },
-    /// The line isn't `end`, or something stands behind it: then the line is the one after.
+    /// The line isn't `end`, or something follows it: then the line is the one after.
     BadEnd { line: usize },
     /// A growth was refused.
     OutOfMemory,
@@ -48,41 +48,36 @@ impl CertFault {
     pub fn number(self) -> u8
         ensures { result ≡ number_of self }
     {
-        match self {
-            CertFault::BadHeader { .. } => 1,
-            CertFault::BadCount { .. } => 2,
-            CertFault::BadNode { .. } => 3,
-            CertFault::BadNames { .. } => 4,
-            CertFault::BadEnd { .. } => 5,
-            CertFault::OutOfMemory => 6,
-        }
+        self.row().0
     }
 
     /// The name that is printed with the number.
     pub fn name(self) -> &'static str
         ensures { result.now ≡ name_of self }
     {
-        match self {
-            CertFault::BadHeader { .. } => "bad-header",
-            CertFault::BadCount { .. } => "bad-count",
-            CertFault::BadNode { .. } => "bad-node",
-            CertFault::BadNames { .. } => "bad-names",
-            CertFault::BadEnd { .. } => "bad-end",
-            CertFault::OutOfMemory => "out-of-memory",
-        }
+        self.row().1
     }
 
     /// The line, counted from 1. Running out of memory has none.
     pub fn line(self) -> Option<usize>
         ensures { result ≡ line_of self }
     {
+        self.row().2
+    }
+
+    /// The number, the name and the line.
+    fn row(self) -> (u8, &'static str, Option<usize>)
+        ensures number { result.0 ≡ number_of self }
+        ensures name { result.1.now ≡ name_of self }
+        ensures line { result.2 ≡ line_of self }
+    {
         match self {
-            CertFault::BadHeader { line }
-            | CertFault::BadCount { line }
-            | CertFault::BadNode { line }
-            | CertFault::BadNames { line }
-            | CertFault::BadEnd { line } => Some(line),
-            CertFault::OutOfMemory => None,
+            CertFault::BadHeader { line } => (1, "bad-header", Some(line)),
+            CertFault::BadCount { line } => (2, "bad-count", Some(line)),
+            CertFault::BadNode { line } => (3, "bad-node", Some(line)),
+            CertFault::BadNames { line } => (4, "bad-names", Some(line)),
+            CertFault::BadEnd { line } => (5, "bad-end", Some(line)),
+            CertFault::OutOfMemory => (6, "out-of-memory", None),
         }
     }
 }
@@ -117,7 +112,7 @@ impl<T: Drop> From<AllocFailed<T>> for CertFault {
 
 /// Reads a certificate from a text of version 2.
 pub fn read_cert(alloc: Global, text: &[u8]) -> Result<Cert, CertFault>
-    // What is read is the certificate whose text stands there, and no other has that text.
+    // What is read is the certificate whose text this is, and no other has that text.
     ensures read { IfOk result (IsTextOf Two text.now) }
     ensures only { IfOk result (λ cert. (other : Certificate) → IsTextOf Two text.now other → other ≡ cert) }
     // Unless memory runs out, a text is refused only where it is no certificate's, by the fault of its first wrong line.

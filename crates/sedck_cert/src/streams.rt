@@ -18,7 +18,7 @@ pub trait Source {
     /// Whether a read has failed.
     ghost has_failed: { Self → Bool };
 
-    /// Reads into the start of `buf`. None into some room is the end.
+    /// Reads into the start of `buf`. 0 bytes into a non-empty buffer is the end.
     fn read(&mut self, buf: &mut [u8]) -> Result<usize, Failed>
         ensures bound { IfOk result (λ count. count ≤ length buf.new) }
         ensures bytes { ReadConsumes (left self.old) (left self.new) result buf.new }

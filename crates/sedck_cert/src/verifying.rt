@@ -32,7 +32,7 @@ pub struct Judged<'a> {
 ///
 /// Where the verdict is `Accepted`, the script's runs end: for every finite list of input lines
 /// there is a number of steps that no run of the script exceeds. And every file that a run creates,
-/// writes or reads by a command stands in the certificate's lists.
+/// writes or reads by a command is in the certificate's lists.
 pub fn judge<'a>(alloc: Global, script: &'a [u8], certificate: &[u8]) -> Result<Judged<'a>, Fault>
     ensures promise { IsAccepted (verdict_of result) → SpellBoth script.now certificate.now IsSafe }
     ensures answer { (¬ IsOutOfMemory (verdict_of result)) → IsAnswered script.now certificate.now (verdict_of result) }
@@ -74,7 +74,7 @@ fn with_verdict<'a>(script: Script<'a>, cert: Cert) -> Judged<'a>
 ///
 /// Where the answer is `Ok(Accepted)`, the script's runs end: for every finite list of input lines
 /// there is a number of steps that no run of the script exceeds. And every file that a run creates,
-/// writes or reads by a command stands in the certificate's lists.
+/// writes or reads by a command is in the certificate's lists.
 pub fn verify(alloc: Global, script: &[u8], certificate: &[u8]) -> Result<Verdict, Fault>
     ensures promise { IsAccepted result → SpellBoth script.now certificate.now IsSafe }
     ensures answer { (¬ IsOutOfMemory result) → IsAnswered script.now certificate.now result }

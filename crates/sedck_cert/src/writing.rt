@@ -25,7 +25,7 @@ pub fn write_cert<W: Sink>(cert: &Cert, out: &mut W) -> Result<(), Failed>
     write_line(out, b"end")
 }
 
-/// Writes the decimal of the number, and a byte behind it.
+/// Writes the decimal of the number, and a byte after it.
 fn write_field<W: Sink>(out: &mut W, number: u16, end: u8) -> Result<(), Failed>
     ensures written { OnOk result (Appends (W.taken out.old) (W.taken out.new) (decimal number ++ end ∷ [])) }
     ensures begun { OnErr result (AppendsPrefix (W.taken out.old) (W.taken out.new) (decimal number ++ end ∷ [])) }
@@ -82,7 +82,7 @@ fn write_nodes<W: Sink>(out: &mut W, ranks: &[Option<(u16, u16)>]) -> Result<(),
     Ok(())
 }
 
-/// Writes what stands before the nodes.
+/// Writes what is before the nodes.
 fn write_head<W: Sink>(out: &mut W, commands: u16) -> Result<(), Failed>
     ensures written { OnOk result (Appends (W.taken out.old) (W.taken out.new) (line (header Two) ++ line (codes "commands " ++ decimal commands))) }
     ensures begun { OnErr result (AppendsPrefix (W.taken out.old) (W.taken out.new) (line (header Two) ++ line (codes "commands " ++ decimal commands))) }

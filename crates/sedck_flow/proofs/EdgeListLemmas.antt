@@ -71,7 +71,7 @@ place_less (x ∷ xs) (suc i) zero c d z below within is less = absurd (omega ar
 place_less (x ∷ xs) (suc i) (suc n) c d z below within is less =
     ap (λ ys. x ∷ ys) (place_less xs i n c d z (omega arith) (omega arith) is less)
 
--- the carried number belongs behind the present one, which stays
+-- the carried number belongs after the present one, which stays
 pub place_more : (xs : List ℕ) (i n c d z : ℕ) → i < n → n ≤ length xs → d ≡ get_or xs i z → d < c
     → take (suc i) xs ++ with_number c (drop (suc i) (take n xs)) ≡ take i xs ++ with_number c (drop i (take n xs))
 place_more [] i n c d z below within is more = absurd (omega arith)
@@ -92,7 +92,7 @@ place_same (x ∷ xs) (suc i) zero c d z below within is same = absurd (omega ar
 place_same (x ∷ xs) (suc i) (suc n) c d z below within is same =
     ap (λ ys. x ∷ ys) (place_same xs i n c d z (omega arith) (omega arith) is same)
 
--- behind the last one
+-- after the last one
 pub place_last : (xs : List ℕ) (n c : ℕ) → n < length xs
     → take (suc n) (set xs n c) ≡ take n xs ++ with_number c (drop n (take n xs))
 place_last [] n c below = absurd (omega arith)
@@ -208,10 +208,6 @@ kind_nth (suc zero) below = refl
 kind_nth (suc (suc zero)) below = refl
 kind_nth (suc (suc (suc zero))) below = refl
 kind_nth (suc (suc (suc (suc i)))) below = absurd (omega arith)
-
--- the kind with a place in the order of kinds is the one at this place
-pub nth_kind_is : (kind : Kind) (i : ℕ) → kind_index kind ≡ i → kind ≡ nth_kind i
-nth_kind_is kind i is = kind_same kind (nth_kind i) (is ∙ sym (kind_nth i (omega (arith, is, index_small kind))))
 
 -- the number of the edge with a number
 pub number_at : (from : Node) (number : ℕ) → edge_number (edge_at from number).kind (edge_at from number).to ≡ number

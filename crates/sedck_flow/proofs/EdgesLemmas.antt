@@ -13,7 +13,7 @@ use Rattle.sedck_bre.specs.WellFormed.{IsWellFormed}
 use Rattle.sedck_flow.specs.Patterns.{StandsFor}
 use Rattle.sedck_flow.specs.Private.Least.{IsFormed, HasFormed}
 use Rattle.sedck_flow.specs.Nodes.{start}
-use Rattle.sedck_flow.specs.Flow.{MayApplyAt, MayPassByAt, ReadsLine, VerbEdge, node_past, CommandEdge, Flow, FlowFrom, ListsEdges}
+use Rattle.sedck_flow.specs.Flow.{MayApplyAt, MaySkipAt, ReadsLine, VerbEdge, node_past, CommandEdge, Flow, FlowFrom, ListsEdges}
 use Rattle.sedck_flow.specs.Private.EdgeList.{edge_at, AddsEdge, ListsTargets}
 use Rattle.sedck_flow.specs.declared.graph.Node.{Node}
 use Rattle.sedck_flow.specs.declared.graph.Edge.{Edge}
@@ -43,7 +43,7 @@ applied p c n edges may lists = lists_same edges (VerbEdge p c.address c.verb n)
 pub not_applied : (p : Program) (c : Command) (n : Node) → ¬ MayApplyAt c n → ListsTargets [] (Applied p c n)
 not_applied p c n may_not = lists_same [] (λ k t. ⊥) (Applied p c n) (λ k t. (λ h. absurd h, λ h. may_not h.0)) lists_none
 
-pub conditional : (p : Program) (c : Command) (n : Node) (edges all : List ℕ) → MayPassByAt c n
+pub conditional : (p : Program) (c : Command) (n : Node) (edges all : List ℕ) → MaySkipAt c n
     → ListsTargets edges (Applied p c n) → AddsEdge Keep (node_past c.verb n) edges all
     → ListsTargets all (CommandEdge p c n)
 conditional p c n edges all may lists adds =
@@ -51,7 +51,7 @@ conditional p c n edges all may lists adds =
     (λ k t. (elim [ inl h ↦ inl (may, h.0, h.1) | inr h ↦ inr h ], elim [ inl h ↦ inl (h.1, h.2) | inr h ↦ inr h ]))
     (lists_more edges all (Applied p c n) Keep (node_past c.verb n) lists adds)
 
-pub unconditional : (p : Program) (c : Command) (n : Node) (edges : List ℕ) → ¬ MayPassByAt c n
+pub unconditional : (p : Program) (c : Command) (n : Node) (edges : List ℕ) → ¬ MaySkipAt c n
     → ListsTargets edges (Applied p c n) → ListsTargets edges (CommandEdge p c n)
 unconditional p c n edges may_not lists =
     lists_same _ (Applied p c n) (CommandEdge p c n) (λ k t. (λ h. inr h, elim [ inl h ↦ absurd (may_not h.0) | inr h ↦ h ])) lists

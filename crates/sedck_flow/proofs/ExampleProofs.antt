@@ -127,7 +127,7 @@ group_never_lengthens = (
       omega (arith, lengths.0, lengths.1),
 )
 
--- the groups behind `abc`
+-- the groups after `abc`
 b_alone : Groups
 b_alone = with_text no_groups 1 (98 ∷ [])
 
@@ -184,8 +184,8 @@ examples_hold = record {
   drops_reset = inr (tt, inr (refl, false, inr refl, refl));
   drops_all = inr (tt, inl (refl, refl, true, refl));
   drops_last = elim [ inl (_, e, _) ↦ cc | inr (_, inl (left, _, _, _)) ↦ false-true (sym left) | inr (_, inr (e, _, _, _)) ↦ cc ];
-  passed_by = inl ((refl, tt), refl, refl);
-  not_passed_by = elim [
+  skipped = inl ((refl, tt), refl, refl);
+  not_skipped = elim [
     | inl (_, _, e) ↦ flags_differ 1 1 true false false false refl refl (sym e)
     | inr (_, inl (_, e, _, _)) ↦ cc
     | inr (_, inr (e, _, _, _)) ↦ cc

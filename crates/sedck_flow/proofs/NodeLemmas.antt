@@ -1,11 +1,9 @@
 -- Nodes, their order, and their index in it.
 use Rattle.std.proofs.Common.{◌≡◌, ℕ, ◌+◌, ◌*◌, ◌<◌, ◌≤◌, Bool, true, false, ◌⊎◌, refl, sym, ap, ◌∙◌, inl, inr, arith}
-use Rattle.std.specs.Prelude.{◌/◌, ◌%◌, ◌==◌, ◌≢◌, if◌then◌else◌, decimal}
+use Rattle.std.specs.Prelude.{◌/◌, ◌%◌, ◌==◌, ◌≢◌, if◌then◌else◌}
 use Rattle.std.proofs.lemmas.Bool.Decides.{nat_tests}
-use Rattle.std.proofs.lemmas.Fmt.{decimal_digit}
 use Rattle.std.proofs.lemmas.Bool.{cases_lt}
 use Rattle.sedck_flow.specs.Nodes.{IsBefore, node_index, nth_node, node_count}
-use Rattle.sedck_flow.specs.Words.{flag_text}
 use Rattle.sedck_flow.specs.declared.graph.Node.{Node}
 
 -- a node by its parts
@@ -141,14 +139,6 @@ parts-nth n i is =
       ap (λ (m : Node). if m.flag then 1 else 0) same ∙ bit_even (i / 2) (i / 2 % 2 == 1) refl,
       ap (λ (m : Node). if m.last then 1 else 0) same ∙ bit_even i (i % 2 == 1) refl,
     )
-
--- a bit in words
-pub flag_text-bit : (i : ℕ) → flag_text (i % 2 == 1) ≡ decimal (i % 2)
-flag_text-bit i = by_bit (i % 2 == 1) (bit_even i (i % 2 == 1) refl)
-  where
-    by_bit : (b : Bool) → (if b then 1 else 0) ≡ i % 2 → flag_text b ≡ decimal (i % 2)
-    by_bit true is = sym (decimal_digit 1 (omega arith)) ∙ ap decimal is
-    by_bit false is = sym (decimal_digit 0 (omega arith)) ∙ ap decimal is
 
 -- ---- The nodes of a script are those with an index below their number
 

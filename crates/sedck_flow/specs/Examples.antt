@@ -95,17 +95,17 @@ pub record ExamplesHold : Type 0 where
   pub test_taken : Flow (delete_matches one_x) (edge 2 true true 0 false true Keep)
   pub test_passed : Flow (delete_matches one_x) (edge 2 false true 3 false true Keep)
   pub test_resets : ¬ Flow (delete_matches one_x) (edge 2 true true 0 true true Keep)
-  -- `D` with the flag kept or reset, and passed by with the flag alone; on the last line it reads no other one
+  -- `D` with the flag kept or reset, and skipped with the flag alone; on the last line it reads no other one
   pub drops_kept : Flow drop_lines_with_x (edge 0 true false 0 true false Shorten)
   pub drops_reset : Flow drop_lines_with_x (edge 0 true false 0 false false Shorten)
   pub drops_all : Flow drop_lines_with_x (edge 0 true false 0 false true Consume)
   pub drops_last : ¬ Flow drop_lines_with_x (edge 0 true true 0 false true Consume)
-  pub passed_by : Flow drop_lines_with_x (edge 0 true false 1 true false Keep)
-  pub not_passed_by : ¬ Flow drop_lines_with_x (edge 0 true false 1 false false Keep)
-  -- behind the last command a line is read and the flag is reset, where a line is left
+  pub skipped : Flow drop_lines_with_x (edge 0 true false 1 true false Keep)
+  pub not_skipped : ¬ Flow drop_lines_with_x (edge 0 true false 1 false false Keep)
+  -- after the last command a line is read and the flag is reset, where a line is left
   pub begins_again : Flow drop_lines_with_x (edge 1 true false 0 false true Consume)
   pub ends : ¬ Flow drop_lines_with_x (edge 1 true true 0 false true Consume)
-  -- `$!N` reads a line where one is left, which may be the last, and is passed by where none is
+  -- `$!N` reads a line where one is left, which may be the last, and is skipped where none is
   pub appends : Flow append_unless_last (edge 0 false false 1 false false Consume)
   pub appends_last : Flow append_unless_last (edge 0 false false 1 false true Consume)
   pub always_appends : ¬ Flow append_unless_last (edge 0 false false 1 false false Keep)
@@ -121,11 +121,11 @@ pub record ExamplesHold : Type 0 where
   -- `&` alone keeps the length, and two of them may lengthen
   pub whole_keeps : Flow (replace_once one_x (Whole ∷ [])) (edge 0 false false 1 true false Keep)
   pub whole_twice_grows : Flow (replace_once one_x (Whole ∷ Whole ∷ [])) (edge 0 false false 1 true false Grow)
-  -- on the last line `$!N` is passed by, and on another it isn't
+  -- on the last line `$!N` is skipped, and on another it isn't
   pub last_line : Step append_unless_last (At (machine [])) Silent (At (record (machine []) { at = 1 }))
   pub not_applied : ¬ Step append_unless_last (At (machine [])) Silent Done
   pub other_line : ¬ Step append_unless_last (At (machine (codes "b" ∷ []))) Silent (At (record (machine (codes "b" ∷ [])) { at = 1 }))
   -- the empty script on one line: the step that begins the run, and the one that ends it
   pub empty_script : Run (script_of []) (codes "b" ∷ []) ((Silent, At (record { at = 0; flag = false; unread = []; pattern = codes "b"; hold = [] })) ∷ (Silent, Done) ∷ [])
-  -- each match of x* in `ab` is replaced, the empty ones too, and none is directly behind another
+  -- each match of x* in `ab` is replaced, the empty ones too, and none is directly after another
   pub substitutes : Substitutes (script_of []) (replacing any_xs (Text (codes "-") ∷ []) true) (codes "ab") (codes "-a-b-")

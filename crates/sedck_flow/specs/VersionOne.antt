@@ -85,18 +85,18 @@ VerbEdgeOne kinds a (Substitute s) n kind to =
 VerbEdgeOne kinds a (Test target) n kind to = (kind ≡ Keep) × (to ≡ (if n.flag then flagged_one (moved_one n target) false else next_one n))
 VerbEdgeOne kinds a _ n kind to = (kind ≡ Keep) × (to ≡ next_one n)
 
--- the node behind a command that isn't applied
+-- the node after a command that isn't applied
 abbrev pub node_past_one : Verb → NodeOne → NodeOne
 node_past_one (Block behind) n = moved_one n behind
 node_past_one _ n = next_one n
 
--- a command with an address or `!` may be passed by
+-- a command with an address or `!` may be skipped
 abbrev pub CommandEdgeOne : Kinds → Command → NodeOne → Kind → NodeOne → Type 0
 CommandEdgeOne kinds c n kind to =
     (IsTrue (is_conditional c) × (kind ≡ Keep) × (to ≡ node_past_one c.verb n))
     ⊎ VerbEdgeOne kinds c.address c.verb n kind to
 
--- behind the last command the next cycle begins by reading
+-- after the last command the next cycle begins by reading
 abbrev pub FlowOne : Kinds → Program → EdgeOne → Type 0
 FlowOne kinds p e = MatchOption (slice_get p.commands e.from.at)
     ((e.from.at ≡ length p.commands) × (e.kind ≡ Consume) × (e.to ≡ start_one))

@@ -107,7 +107,7 @@ impl EdgeList {
         }
     }
 
-    /// With the edges on which a line is read: to the node behind the last line, and to the one before it. No line is
+    /// With the edges on which a line is read: to the node after the last line, and to the one before it. No line is
     /// read where none is left.
     pub(crate) fn with_line(self, from: Node, to: Node) -> Self
         requires room { length self < 4 }

@@ -3,7 +3,7 @@
 ghost use Rattle.std.specs.Prelude.{◌≡◌, ◌↔◌, ◌<◌, ◌≤◌, length, IsTrue};
 ghost use Rattle.sedck_script.specs.Invariant.{IsTargetWithin, IsReplacement};
 ghost use Rattle.sedck_script.specs.View.{address_of, command_of, verb_of};
-ghost use Rattle.sedck_flow.specs.Flow.{node_past as node_past_verb, MayApplyAt, MayPassByAt, VerbEdge, CommandEdge, ListsEdges, FlowFrom};
+ghost use Rattle.sedck_flow.specs.Flow.{node_past as node_past_verb, MayApplyAt, MaySkipAt, VerbEdge, CommandEdge, ListsEdges, FlowFrom};
 ghost use Rattle.sedck_flow.specs.Private.EdgeList.{ListsTargets};
 ghost use Rattle.sedck_flow.specs.Private.Least.{HasFormed};
 
@@ -82,7 +82,7 @@ fn command_edges(script: &Script, command: &Command, from: Node) -> EdgeList
     ensures few { length result ≤ 5 }
 {
     let applied = applied_edges(script, command, from);
-    if may_pass_by(command, from) {
+    if may_skip(command, from) {
         return applied.with(Kind::Keep, node_past(&command.verb, from));
     }
     applied
@@ -114,10 +114,10 @@ fn may_apply(command: &Command, node: Node) -> bool
     }
 }
 
-/// Whether the command may be passed by at the node, since it has an address or `!`; where `$` selects it, only before the
+/// Whether the command may be skipped at the node, since it has an address or `!`; where `$` selects it, only before the
 /// last line, and with `!` only on it.
-fn may_pass_by(command: &Command, node: Node) -> bool
-    ensures { IsTrue result ↔ MayPassByAt (command_of command.now) node }
+fn may_skip(command: &Command, node: Node) -> bool
+    ensures { IsTrue result ↔ MaySkipAt (command_of command.now) node }
 {
     match &command.address {
         Address::None => command.negated,
@@ -126,7 +126,7 @@ fn may_pass_by(command: &Command, node: Node) -> bool
     }
 }
 
-/// The node behind a command that isn't applied.
+/// The node after a command that isn't applied.
 fn node_past(verb: &Verb, from: Node) -> Node
     requires place { from.at < 4095 }
     requires target { IsTargetWithin 4095 (verb_of verb.now) }

@@ -1,6 +1,6 @@
 //! The runs of a script, and its flow graph.
 //!
-//! What a run is stands in `specs/Run.antt`, what the graph is in `specs/Flow.antt`, and what is proved of both
+//! `specs/Run.antt` says what a run is, `specs/Flow.antt` what the graph is, and what is proved of both
 //! in `laws`. `edges_of` lists the edges that leave a node. Nothing here takes memory.
 #![tactic(auto)]
 

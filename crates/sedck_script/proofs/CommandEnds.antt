@@ -12,12 +12,12 @@ no_ending : (rest : List ℕ) → 1 ≤ length rest → is_ending (get_or rest 0
 no_ending [] some other h = absurd (omega arith)
 no_ending (b ∷ rest) some other h = both_ways (is_ending b) other h
 
--- behind the blanks stands a byte that ends no command
+-- after the blanks is a byte that ends no command
 pub no_end : {text blanks begins rest : List ℕ} → Longest is_blank text blanks begins → 1 ≤ length begins → is_ending (get_or begins 0 0) ≡ false
     → Ends text rest → ⊥
 no_end {begins = begins} l some other e = no_ending begins some other (subst (λ t. IsEmptyOr is_ending t) (longest_one e.run l).1 e.ending)
 
--- and that byte may not stand behind a command
+-- and that byte may not be after a command
 pub extra_stands : {whole text blanks : List ℕ} (begins : List ℕ) → EndsIn whole text → Longest is_blank text blanks begins → 1 ≤ length begins
     → is_ending (get_or begins 0 0) ≡ false → StandsWhere is_extra whole (length whole - length begins)
 extra_stands [] t l some other = absurd (omega arith)

@@ -1,4 +1,4 @@
--- Where carriage returns stand in a comment.
+-- Where carriage returns are in a comment.
 use Rattle.std.proofs.Common.{◌≡◌, ℕ, suc, ◌+◌, ◌-◌, ◌<◌, ◌≤◌, true, inl, inr, Option, Some, None, List, [], ◌∷◌, ◌++◌, length, take, drop, get_or, refl, ap, ◌∙◌, length-append, arith}
 use Rattle.std.proofs.Math.Seq.{split_at, get_or-append_seam}
 use Rattle.std.proofs.lemmas.List.{nil_from_length, length-drop}
@@ -33,12 +33,12 @@ no_inner_return line first is last front behind e = by first is last
 return_cut : (line : List ℕ) (at : ℕ) → is_byte 13 (get_or line at 0) ≡ true → at < length line → line ≡ take at line ++ 13 ∷ drop (suc at) line
 return_cut line at is within = split_at line at 0 within ∙ ap (λ b. take at line ++ b ∷ drop (suc at) line) (eqb-true _ 13 is)
 
--- where one stands before another byte
+-- where one is before another byte
 pub inner_return : (line : List ℕ) (at : ℕ) → is_byte 13 (get_or line at 0) ≡ true → suc at < length line → HasNoInnerReturn line → ⊥
 inner_return line at is more none =
     omega (arith, more, ap length (none _ _ (return_cut line at is (omega (arith, more)))), length-drop (suc at) line)
 
--- a carriage return of the line stands there in the whole
+-- a carriage return of the line is there in the whole
 pub return_stands : {whole text : List ℕ} (line rest : List ℕ) (at : ℕ) → EndsIn whole text → text ≡ line ++ rest → is_byte 13 (get_or line at 0) ≡ true
     → at < length line → StandsWhere is_extra whole (length whole - length text + at)
 return_stands line rest at tail cut is within = (13, line_byte 13 line rest at tail cut (eqb-true _ 13 is) within, refl)

@@ -16,7 +16,7 @@ use Rattle.sedck_script.proofs.PlaceLemmas.{cut_at, opened_before}
 
 -- ---- Escaped delimiters
 
--- more bytes that stand in the text as they do in the expression
+-- more bytes that are in the text as they are in the expression
 pub escape_more : {d : ℕ} {whole text bytes rest behind : List ℕ} {escape : Option ℕ} (front all : List ℕ) → all ≡ bytes ++ front → rest ≡ front ++ behind
     → IsFirstEscape d whole text bytes rest escape → IsFirstEscape d whole text all behind escape
 escape_more {bytes = bytes} {behind = behind} front all e f (as_written h) =

@@ -1,4 +1,4 @@
--- Texts that are the same begin with the same byte, and the same stands behind it.
+-- Texts that are the same begin with the same byte, and the same is after it.
 use Rattle.std.proofs.Common.{◌≡◌, ℕ, List, ◌∷◌}
 
 pub heads : {a b : ℕ} {s t : List ℕ} → (a ∷ s) ≡ (b ∷ t) → a ≡ b

@@ -63,7 +63,7 @@ pub no_flags_end : {q : Pattern} {ps : List Part} {b : ℕ} {text behind r : Lis
 no_flags_end {q} {ps} {r = r} {s = s} e f g h i n x =
     no_end_inside f g h i (λ rest a. n rest (subst (λ t. EndsFlags t rest) (sym e) a)) (subst (λ t. Flags q ps t s r) e x)
 
--- what has been seen may not stand among the others
+-- what has been seen may not be among the others
 pub record Fits (global print : Bool) (nth : Option ℕ) (others : Substitution) : Type 0 where
   pub globals : global ≡ true → others.global ≡ false
   pub prints : print ≡ true → others.print ≡ false
@@ -85,7 +85,7 @@ pub record FlagsPassed (whole text : List ℕ) (global print : Bool) (nth : Opti
   pub only : (q : Pattern) (ps : List Part) (s : Substitution) (r : List ℕ) → Flags q ps text s r
       → (others : Substitution) × Flags q ps rest others r × Fits global print nth others
 
--- the flags behind a `g`, a `p` or a number
+-- the flags after a `g`, a `p` or a number
 record BehindGlobal (q : Pattern) (ps : List Part) (behind r : List ℕ) (s : Substitution) : Type 0 where
   others : Substitution
   flags : Flags q ps behind others r

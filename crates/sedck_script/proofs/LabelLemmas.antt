@@ -1,7 +1,7 @@
--- Labels of branches, and what may stand behind a label.
+-- Labels of branches, and what may be after a label.
 use Rattle.std.proofs.Common.{◌≡◌, ℕ, Bool, false, ◌<◌, List, ◌++◌, length, Option, Some, None, ap, sym, ◌∙◌, subst, arith}
 use Rattle.std.proofs.lemmas.List.{nil_from_length}
-use Rattle.sedck_script.specs.Cuts.{is_blank, is_ending, is_label_byte, IsEmptyOr, Longest}
+use Rattle.sedck_script.specs.Cuts.{is_ending, is_label_byte, IsEmptyOr, Longest}
 use Rattle.sedck_script.specs.Parts.{Ends, LabelText}
 use Rattle.sedck_script.specs.Items.{IsNoComment, IsNoBrace, EndsJump, begins_braced_comment}
 use Rattle.sedck_script.specs.Private.Reading.{IsLabelAt}
@@ -17,12 +17,6 @@ label_there l some = record { blanks = l.blanks; begins = l.begins; skipped = l.
 
 pub no_label_there : {text name behind g s : List ℕ} → IsLabelAt text name behind → length name ≡ 0 → LabelText text g s → ⊥
 no_label_there l none m = let same = (label_same l m).0 in omega (arith, ap length same, m.some)
-
--- a branch with no label ends behind its blanks
-pub end_without_label : {text name behind : List ℕ} → IsLabelAt text name behind → length name ≡ 0 → IsEmptyOr is_ending behind → Ends text behind
-end_without_label {text} {name} {behind} l none h =
-    let same : l.begins ≡ behind = l.run.cut ∙ ap (λ t. t ++ behind) (nil_from_length name none) in
-    record { blanks = l.blanks; run = subst (λ t. Longest is_blank text l.blanks t) same l.skipped; ending = h }
 
 -- a branch with no label reads none
 pub no_branch_end : {text name behind : List ℕ} → IsLabelAt text name behind → length name ≡ 0

@@ -54,7 +54,7 @@ behind_closing size e h k (w.command m c x) = no_command_other (longest_one m (a
 
 -- ---- A command
 
--- a command of another text, which is the same one, stands where this one does
+-- a command of another text, which is the same one, is where this one does
 only_along : (size : ℕ) {a b rest : List ℕ} {address : Address} {negated : Bool} {verb : WrittenVerb} {location : Location} → a ≡ b
     → IsOnlyLocation size b location → (c : CommandText a address negated verb rest) → location ≡ location_of size c
 only_along size {location = location} e only c =

@@ -15,7 +15,8 @@ use Rattle.std.specs.Prelude.{option_to_list}
 use Rattle.std.proofs.Math.Seq.{drop-cons}
 use Rattle.sedck_script.specs.Names.{IsBefore, AreIncreasing, placed, with_name, sorted_names}
 use Rattle.sedck_script.specs.View.{verb_of, command_of}
-use Rattle.sedck_script.specs.Private.NameReading.{accessed, all_accessed, with_any}
+use Rattle.sedck_script.specs.Names.{accessed}
+use Rattle.sedck_script.specs.Private.NameReading.{all_accessed, with_any}
 use Rattle.sedck_script.specs.declared.script.Command.{Command}
 use Rattle.sedck_script.specs.declared.name_lists.Access.{Access}
 
@@ -33,7 +34,7 @@ map_length : (xs : List (Bor (List ℕ))) → length (map (λ n. n.now) xs) ≡ 
 map_length [] = refl
 map_length (x ∷ xs) = ap suc (map_length xs)
 
--- what is before the name stands in front of what isn't
+-- what is before the name is in front of what isn't
 pub rising_split : (xs : List (Bor (List ℕ))) (name : List ℕ) → AreIncreasing (map (λ n. n.now) xs) → IsPartitionedBy (λ n. is_lt (slice_cmp nat_cmp n.now name)) xs
 rising_split xs name rising i j d le lt h = elim (same_or_less i j le) [
   | inl same ↦ subst (λ k. is_lt (slice_cmp nat_cmp (get_or xs k d).now name) ≡ true) (sym same) h
@@ -53,7 +54,7 @@ rising_split xs name rising i j d le lt h = elim (same_or_less i j le) [
 turned : (a b : List ℕ) {o : Ordering} → slice_cmp nat_cmp a b ≡ o → slice_cmp nat_cmp b a ≡ ordering_reverse o
 turned a b e = nat_list_cmp_total.antisymm b a ∙ ap ordering_reverse e
 
--- a name goes behind those that are before it, unless it is there
+-- a name goes after those that are before it, unless it is there
 pub with_name_at : (xs : List (List ℕ)) (name : List ℕ) (i : ℕ) → i ≤ length xs
     → ((k : ℕ) (d : List ℕ) → k < i → is_lt (slice_cmp nat_cmp (get_or xs k d) name) ≡ true)
     → ((d : List ℕ) → i < length xs → slice_cmp nat_cmp (get_or xs i d) name ≡ Greater) → with_name name xs ≡ insert xs i name
@@ -127,7 +128,7 @@ any_before : (o : Option (List ℕ)) (names : List (List ℕ)) → sorted_names 
 any_before None names = refl
 any_before (Some name) names = refl
 
--- the names from a command on, from those behind it
+-- the names from a command on, from those after it
 pub names_from : (a : Access) (commands : List Command) (i : ℕ) (d : Command) (o : Option (List ℕ)) → i < length commands
     → option_to_list o ≡ accessed a (verb_of (get_or commands i d).verb)
     → sorted_names (all_accessed a (map command_of (drop i commands))) ≡ with_any o (sorted_names (all_accessed a (map command_of (drop (suc i) commands))))

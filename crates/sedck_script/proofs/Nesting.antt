@@ -1,4 +1,4 @@
--- Items that resolve to commands close each block; and their labels stand at their commands.
+-- Items that resolve to commands close each block; and their labels are at their commands.
 use Rattle.std.proofs.Common.{◌≡◌, ℕ, Bool, false, zero, suc, List, [], ◌∷◌, ◌++◌, length, Option, Some, None, refl, ap, sym, ◌∙◌, arith}
 use Rattle.sedck_script.specs.Program.{Address, NoAddress, Label, Verb, Branch, Command}
 use Rattle.sedck_script.specs.Items.{Known, Item, Written, Closing}
@@ -109,7 +109,7 @@ label_written (test may x r) name (suc i) h = label_written r name i h
 label_written (opening x r) name (suc i) h = label_written r name i h
 label_written (closing x r) name i h = label_written r name i h
 
--- the labels of commands are distinct where those of their items stand once, and the other way round
+-- the labels of commands are distinct where those of their items are once, and the other way round
 pub labels_once : {A cs : List Command} {blocks : List ℕ} {place : ℕ} {items : List Item} → Resolves A blocks place items cs → AreLabelsDistinct cs
     → AreLabelsOnce (commands_among items)
 labels_once r d name i j h k = d name i j (label_defined r name i h) (label_defined r name j k)

@@ -27,7 +27,7 @@ pub stands_behind : (front tail : List ℕ) (b : ℕ) → slice_get (front ++ b 
 stands_behind [] tail b = refl
 stands_behind (x ∷ front) tail b = stands_behind front tail b
 
--- the byte at the start of a tail stands where the tail begins
+-- the byte at the start of a tail is where the tail begins
 pub stands_at_tail : {whole text behind : List ℕ} {b : ℕ} → EndsIn whole text → text ≡ b ∷ behind → slice_get whole (length whole - length text) ≡ Some b
 stands_at_tail {whole} {text} {behind} {b} h e =
     let same : whole ≡ h.0 ++ b ∷ behind = h.1 ∙ ap (λ t. h.0 ++ t) e in
@@ -123,7 +123,7 @@ pub take_front : (front rest : List ℕ) (n : ℕ) → n ≡ length front → (t
 take_front [] rest n e = rw e (refl, refl)
 take_front (b ∷ front) rest n e = let t = take_front front rest (length front) refl in rw e (ap (λ u. b ∷ u) t.0, t.1)
 
--- a text split behind its lines
+-- a text split after its lines
 pub lines_parts : {text bytes rest : List ℕ} (f r : List ℕ) (n : ℕ) → Lines text bytes rest → n ≡ length text - length rest → f ≡ take n text
     → r ≡ drop n text → Lines text f r
 lines_parts {text} {bytes} {rest} f r n x e g h =

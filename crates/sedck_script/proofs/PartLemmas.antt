@@ -80,7 +80,7 @@ no_given_by g n l h (inl k) (p.behind i j y) = j.4 (sym (same_first l h j.3) ∙
 no_given_by g n l h (inr k) (p.behind i j y) = j.5 (sym (same_first l h j.3) ∙ k)
 no_given_by g n l h k (p.at_once i j y) = j g
 
--- behind the backslash stands neither a newline nor a byte that begins a text
+-- after the backslash is neither a newline nor a byte that begins a text
 pub no_given : {text behind blanks begins more below bytes rest : List ℕ} {a b c : ℕ} → text ≡ a ∷ behind → a ≡ 92 → behind ≡ c ∷ below → c ≢ 10
     → Longest is_blank behind blanks begins → begins ≡ b ∷ more → (b ≡ 10) ⊎ (b ≡ 92) → GivenText text bytes rest → ⊥
 no_given {bytes = bytes} {rest = rest} e g f n l h k x = no_given_by g (λ d t i j. n (heads (sym f ∙ i) ∙ j)) l h k (subst (λ t. GivenText t bytes rest) e x)

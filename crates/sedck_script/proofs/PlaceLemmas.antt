@@ -30,7 +30,7 @@ use Rattle.sedck_script.proofs.VerbBytes.{same_byte, byte_of}
 use Rattle.sedck_script.proofs.UniqueItems.{place_first}
 use Rattle.sedck_script.proofs.FirstBytes.{heads}
 
--- where a tail begins, the text is cut into what stands before it and the tail
+-- where a tail begins, the text is cut into what is before it and the tail
 pub cut_at : {whole text : List ℕ} (h : EndsIn whole text) → (take (length whole - length text) whole ≡ h.0) × (drop (length whole - length text) whole ≡ text)
 cut_at {whole} {text} h =
     let place = length whole - length text in
@@ -45,7 +45,7 @@ ends_or_fails {whole} {text = []} test h n =
 ends_or_fails {whole} {text = c ∷ text} test h n =
     (omega arith, λ b at. ap test (same_byte at (stands_at_tail h refl)) ∙ not-true (test c) n)
 
--- where a command begins, its verb is due behind its addresses, blanks and `!`
+-- where a command begins, its verb is due after its addresses, blanks and `!`
 pub verb_due : {whole text behind marks begins : List ℕ} {address : Address} → EndsIn whole text → BeginsCommand text → AddressText text address behind
     → Longest is_mark behind marks begins → EndsIn whole begins → IsVerbDue whole (length whole - length begins)
 unfolding IsVerbDue
@@ -82,7 +82,7 @@ no_second_place {whole} {text} {second} h c n =
 
 -- ---- Expressions
 
--- the delimiter stands right before what it opens
+-- the delimiter is right before what it opens
 pub opened_before : {whole text : List ℕ} {d : ℕ} → EndsIn whole (d ∷ text)
     → (0 < length whole - length text) × StandsAt whole (length whole - length text - 1) d
 opened_before {whole} {text} {d} h =
@@ -145,7 +145,7 @@ simple_plain w.print_first_line h = false≢true h
 simple_plain w.quit h = false≢true h
 simple_plain w.exchange h = false≢true h
 
--- an empty expression of a verb ends two bytes behind the verb
+-- an empty expression of a verb ends two bytes after the verb
 pub empty_verb_place : {whole begins rest : List ℕ} {v : WrittenVerb} (place : ℕ) → EndsIn whole begins → VerbText begins v rest
     → place ≡ length whole - (length begins - 2) → has_previous (written_patterns v) ≡ true → IsEmptyExpression whole place
 empty_verb_place {whole} place h (w.substitute {text = text} e a x q z g f) is some =
@@ -193,7 +193,7 @@ pub no_label_place : {whole behind : List ℕ} → IsBehindLabel whole behind
     → FollowsLabel whole (length whole - length behind) × EndsOrFails is_label_byte whole (length whole - length behind)
 no_label_place h = (h.follows, ends_or_fails is_label_byte h.tail h.stops)
 
--- a label begins behind its verb and blanks
+-- a label begins after its verb and blanks
 pub label_begins : {whole text blanks begins name behind : List ℕ} (test : ℕ → Bool) → IsBehindVerb test whole text → Longest is_blank text blanks begins
     → Longest is_label_byte begins name behind → 0 < length name → IsLabelBehind test whole (length whole - length begins) name
 label_begins {whole} {blanks = blanks} {begins = begins} {name = name} {behind = behind} test v l m some =

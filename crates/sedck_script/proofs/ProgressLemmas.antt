@@ -27,7 +27,7 @@ use Rattle.sedck_script.proofs.UniqueItems.{longest_along, ends_along, items_alo
 
 -- ---- Separators
 
--- behind a longest run stands none of its bytes
+-- after a longest run is none of its bytes
 no_more : {test : ℕ → Bool} {text front rest : List ℕ} → Longest test text front rest → Longest test rest [] rest
 no_more l = record { cut = refl; passes = refl; stops = l.stops }
 
@@ -160,7 +160,7 @@ label_item : {a : Address} {n : Bool} {name : List ℕ} (v : WrittenVerb) → v 
     → Written a n v ≡ Written NoAddress false (Known (Label name))
 label_item {a} {n} v e t = let x = subst (λ u. Takes u a n) e t in cc (x.0, x.1, e)
 
--- a label that stands there already
+-- a label that is there already
 twice : (items more all : List Item) (name : List ℕ) (i : ℕ) → IsLabelOf items name i
     → all ≡ items ++ Written NoAddress false (Known (Label name)) ∷ more → AreLabelsOnce all → ⊥
 twice items more all name i here e once =
@@ -223,7 +223,7 @@ too_braced (BranchTo label braced) depth P e h t = omega (arith, t.0 e, h)
 too_braced (TestTo label braced) depth P e h t = omega (arith, t.0 e, h)
 too_braced Opening depth P e h t = absurd (cc e)
 
--- a command that may not stand there
+-- a command that may not be there
 pub front_refused : {S : Type 0} {text begins : List ℕ} {items : List Item} {depth count : ℕ} (labels : HashMap (Bor (List ℕ)) ℕ S)
     → IsFront text items depth begins → BeginsCommand begins → HasLabels labels (commands_among items) → count ≡ length (commands_among items)
     → ((a : Address) (n : Bool) (v : WrittenVerb) (rest : List ℕ) → CommandText begins a n v rest → DefinesKnown labels v ⊎ IsBeyond depth count v)
@@ -272,7 +272,7 @@ stands_at whole front rest place e p =
     let at : place ≡ length front = omega (arith, p, ap length e, length-append front (123 ∷ rest)) in
     rw (at, e) (stands_behind front rest 123)
 
--- the `{` of a block stands right before what follows it
+-- the `{` of a block is right before what follows it
 pub brace_stands : {whole text rest : List ℕ} {a : Address} {n : Bool} {v : WrittenVerb} (place : ℕ) → EndsIn whole text → CommandText text a n v rest
     → place ≡ length whole - length rest - 1 → v ≡ Opening → slice_get whole place ≡ Some 123
 brace_stands {whole} {rest = rest} place h c p e =

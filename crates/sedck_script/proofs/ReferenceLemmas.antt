@@ -83,7 +83,7 @@ coded_part parts i d l h =
     subst IsPart (get_or-map part_of parts i d (part_of d) l)
     (All-get_or IsPart (map part_of parts) i (part_of d) (omega (arith, length-map parts part_of, l)) h)
 
--- what the parts from this one on decide, the part decides with those behind it
+-- what the parts from this one on decide, the part decides with those after it
 pub kept_more : {next : Option ℕ} (pattern : Pattern) (bits : ℕ) (parts : List Coded) (i : ℕ) (d : Coded) → i < length parts
     → kept_with pattern bits (part_of (get_or parts i d)) ≡ next
     → kept_from pattern (Some bits) (drop i (map part_of parts)) ≡ kept_from pattern next (drop (i + 1) (map part_of parts))

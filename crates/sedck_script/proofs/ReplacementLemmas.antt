@@ -124,7 +124,7 @@ first_pair {d} {b} {text} {behind} g first n h e w = record {
   only = λ all r x. only_pair n h.1 e (subst (λ t. Replacement d t all r) h.0 x);
 }
 
--- where no piece stands, no replacement does
+-- where no piece is, no replacement does
 pub replacement_stuck : {d : ℕ} {text r : List ℕ} {ps : List Part} → d ≢ 92 → ((x : Piece) (rest : List ℕ) → IsPiece d text x rest → ⊥)
     → Replacement d text ps r → ⊥
 replacement_stuck k n x = let some = replacement_piece k x in n some.kind some.rest some.is
@@ -144,7 +144,7 @@ no_pair n m k (p.escaped f g h x) w = m g
 no_pair {g = greatest} n m k (p.part {first = first} {parts = parts} f g h x) w = k first h (within_first greatest first parts w)
 no_pair n m k (p.run l x) w = (no_plain _ _ (plain_first _ l)).1 refl
 
--- where an escape stands that means nothing
+-- where an escape is that means nothing
 pub replacement_broken : {d b g : ℕ} {text behind r : List ℕ} {all : List Part} → d ≢ 92 → IsPiece d text (piece.Pair b) behind
     → ((q : Part) → EscapedPart b q → IsGroupWithin g q → ⊥) → Replacement d text all r → HasGroupsUpTo g all → ⊥
 replacement_broken {d} {r = r} {all = all} n h k x w = no_pair n h.1 k (subst (λ t. Replacement d t all r) h.0 x) w

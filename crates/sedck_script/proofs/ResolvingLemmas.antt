@@ -19,7 +19,7 @@ pub record Knows {S : Type 0} (labels : HashMap (Bor (List ℕ)) ℕ S) (end : �
   pub len : end ≡ length all
   pub at : (name : List ℕ) (i : ℕ) → label_place labels name ≡ Some i → Defines all name i
 
--- These items are left, and those behind them have become the commands.
+-- These items are left, and those after them have become the commands.
 pub record IsBack {S : Type 0} (labels : HashMap (Bor (List ℕ)) ℕ S) (end : ℕ) (whole left : List Item) (made : List Command) (blocks : List ℕ) : Type 0 where
   pub suffix : List Item
   pub split : whole ≡ left ++ suffix

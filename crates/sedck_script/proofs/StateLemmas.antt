@@ -71,7 +71,7 @@ labels_noted old new xs text a n code.Opening h w t f k = labels_other old new x
 
 -- ---- Blocks
 
--- this many blocks are open behind a turn
+-- this many blocks are open after a turn
 abbrev pub Deeper : Turn → ℕ → ℕ → Type 0
 Deeper Opens depth deep = (deep ≡ suc depth) × (depth < 64)
 Deeper Closes depth deep = ⊥

@@ -42,7 +42,7 @@ one_by x n p.none m v = absurd (no_place_here x m v)
 one_by x n (p.one y) m v = let one = one_place y x in (ap One one.0, one.1)
 one_by x n (p.two {more = more} {b = b} y c h d z) m v = absurd (n _ more b (longest_along (one_place y x).1 c) h)
 
--- one address, behind which no comma stands
+-- one address, after which no comma is
 pub only_one : {text r : List ℕ} {q : Place} → PlaceText text q r → HasNoComma r → IsOnlyAddress text (One q) r
 only_one x n other behind marks begins left verb a m v = one_by x n a m v
 
@@ -91,7 +91,7 @@ second_by x l h d n (p.two y i j k o) m v =
     let second = longest_one (longest_along (tails blanks.1) k) d in
     n _ _ (place_along second.1 o)
 
--- where behind a comma no address stands
+-- where after a comma no address is
 pub no_second : {text r second : List ℕ} {q : Place} → PlaceText text q r → IsBehindComma r second
     → ((u : Place) (t : List ℕ) → PlaceText second u t → ⊥) → IsNoCommand text
 no_second x l n given negated verb rest c = second_by x l.before l.is_comma l.behind n c.addresses c.run c.verbs
@@ -104,7 +104,7 @@ place_tail (p.last {b = b} e) = (b ∷ [], refl)
 place_tail (p.context {b = b} e x y) = tail_cons b (expression_tail x.cut)
 place_tail (p.custom {b = b} {delimiter = d} e i x y) = tail_cons b (tail_cons d (expression_tail x.cut))
 
--- the tail behind a place, a comma and the blanks round it
+-- the tail after a place, a comma and the blanks round it
 pub second_tail : {whole text r blanks after more front second : List ℕ} {b : ℕ} {q : Place} → EndsIn whole text → PlaceText text q r
     → Longest is_blank r blanks after → after ≡ b ∷ more → Longest is_blank more front second → EndsIn whole second
 second_tail h x l e m = tail_tail (tail_behind (tail_tail h (tail_tail (place_tail x) (tail_cut l))) e) (tail_cut m)

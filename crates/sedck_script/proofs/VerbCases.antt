@@ -78,7 +78,7 @@ write_at : {text rest : List ℕ} {verb : WrittenVerb} → VerbText (119 ∷ tex
 write_at (w.write {name = n} h x) = (n, x)
 write_at x = absurd (differ 119 (class_of x) refl (begins x))
 
--- a verb with a file, where no name stands
+-- a verb with a file, where no name is
 pub no_name : (b : ℕ) {text : List ℕ} → one_of "rw" b ≡ true → ((name r : List ℕ) → Name text name r → ⊥) → (verb : WrittenVerb) (rest : List ℕ)
     → VerbText (b ∷ text) verb rest → ⊥
 no_name b h n verb rest x = elim (cases_Bool (eqb b 114)) [
@@ -157,7 +157,7 @@ test_at (w.test {name = n} {behind = b} h l k e brace) = (Some n, _, (b, l, k, e
 test_at (w.test_to_end h k e brace) = (None, _, (k, e, brace))
 test_at x = absurd (differ 116 (class_of x) refl (begins x))
 
--- a `b` or a `t`, behind which no label stands
+-- a `b` or a `t`, after which no label is
 pub no_jump : {b : ℕ} {text : List ℕ} → (b ≡ 98) ⊎ (b ≡ 116) → ((label : Option (List ℕ)) (braced : Bool) (rest : List ℕ) → BranchText text label braced rest → ⊥)
     → (verb : WrittenVerb) (rest : List ℕ) → VerbText (b ∷ text) verb rest → ⊥
 no_jump h n verb rest x =

@@ -7,19 +7,19 @@ use Rattle.sedck_script.specs.Cuts.{Longest}
 abbrev pub closing_bracket : ℕ
 closing_bracket = 93
 
--- A bracket list begins behind its `[` with bytes that don't close it, whatever they are: one, or two where the first is a `^`.
+-- A bracket list begins after its `[` with bytes that don't close it, whatever they are: one, or two where the first is a `^`.
 pub data BracketBegins : List ℕ → List ℕ → Type 0 where
   negated : {a b : ℕ} {text : List ℕ} → a ≡ caret → BracketBegins (a ∷ b ∷ text) text
   plain : {b : ℕ} {text : List ℕ} → b ≢ caret → BracketBegins (b ∷ text) text
 
--- a bracket list behind its `[`, and what stands behind the `]` that closes it
+-- a bracket list after its `[`, and what follows the `]` that closes it
 pub record BracketList (text behind : List ℕ) : Type 0 where
   pub begins : List ℕ
   pub inside : List ℕ
   pub first : BracketBegins text begins
   pub run : Longest (λ b. not (b == closing_bracket)) begins inside (closing_bracket ∷ behind)
 
--- Up to the rest, each bracket list of the text is closed. A `[` opens one, but for the byte behind a backslash, which is passed.
+-- Up to the rest, each bracket list of the text is closed. A `[` opens one, but for the byte after a backslash, which is passed.
 pub data BracketsClose : List ℕ → List ℕ → Type 0 where
   here : {text : List ℕ} → BracketsClose text text
   byte : {b : ℕ} {text rest : List ℕ} → b ≢ opening_bracket → b ≢ backslash → BracketsClose text rest → BracketsClose (b ∷ text) rest

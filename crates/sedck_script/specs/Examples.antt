@@ -29,7 +29,7 @@ block_items = Written (One Last) true Opening ∷ plain_item (Known Print) ∷ C
 abbrev pub block_commands : List Command
 block_commands = record { address = One Last; negated = true; verb = Block 2 } ∷ plain_command Print ∷ []
 
--- where a command stands: its start, its verb and its end
+-- where a command is: its start, its verb and its end
 abbrev pub at : ℕ → ℕ → ℕ → Location
 at start verb end = record { start = start; verb = verb; end = end }
 
@@ -56,7 +56,7 @@ pub record ExamplesHold : Type 0 where
   -- the first list of `y/[a]/bcd/`; in that of `y/[]/ab/` a bracket list is left open
   pub closed_list : FirstList slash (codes "[a]/bcd/") (codes "[a]") (codes "bcd/")
   pub no_open_list : (bytes rest : List ℕ) → ¬ FirstList slash (codes "[]/ab/") bytes rest
-  -- `t #` has no label, and no comment may stand there
+  -- `t #` has no label, and no comment may be there
   pub no_comment_for_a_label : (verb : WrittenVerb) (rest : List ℕ) → ¬ VerbText (codes "t #") verb rest
   -- a carriage return may end a comment's line, and may not be inside of it
   pub return_last : HasNoInnerReturn (97 ∷ carriage_return ∷ [])

@@ -1,11 +1,11 @@
--- Where the commands of a script stand in its text (ours). A location is three offsets, counted in bytes from 0, of the very
+-- Where the commands of a script are in its text (ours). A location is three offsets, counted in bytes from 0, of the very
 -- cuts that the grammar makes: nothing here reads a text.
 use Rattle.std.specs.Prelude.{ℕ, ◌-◌, ◌<◌, ◌≤◌, Bool, List, [], ◌∷◌, length}
 use Rattle.sedck_script.specs.Program.{Address}
 use Rattle.sedck_script.specs.Items.{WrittenVerb, CommandText, Item, Items, nothing, comment, closing, command}
 use Rattle.sedck_script.specs.declared.location.Location.{Location}
 
--- Where a command stands in a text of this size that ends with it and what follows it: it starts with its addresses, or else
+-- Where a command is in a text of this size that ends with it and what follows it: it starts with its addresses, or else
 -- with a `!` or its verb; then come the byte of its verb, and the end, where the rest begins.
 abbrev pub location_of : {text rest : List ℕ} {address : Address} {negated : Bool} {verb : WrittenVerb}
     → ℕ → CommandText text address negated verb rest → Location

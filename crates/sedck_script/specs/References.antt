@@ -22,7 +22,7 @@ abbrev pub IsNotIn : ℕ → List ℕ → Type 0
 IsNotIn k [] = Unit {0}
 IsNotIn k (j ∷ js) = (k ≢ j) × IsNotIn k js
 
--- no number stands there twice
+-- no number is there twice
 abbrev pub AreDistinct : List ℕ → Type 0
 AreDistinct [] = Unit {0}
 AreDistinct (k ∷ ks) = IsNotIn k ks × AreDistinct ks

@@ -1,4 +1,4 @@
--- What a user sees of a pattern and of the parts of a replacement. It stands apart, since what a substitution knows of its
+-- What a user sees of a pattern and of the parts of a replacement. It is a file of its own, since what a substitution knows of its
 -- matches is said of these.
 use Rattle.sedck_script.specs.Program as clean
 use Rattle.sedck_script.specs.declared.script.Pattern.{Pattern}

@@ -25,8 +25,8 @@ fn begins_address(b: u8) -> bool
     is_digit(b) || b"$/\\".contains(&b)
 }
 
-/// An address between delimiters, behind its opening one; the place of its expression where that is empty; and what
-/// stands behind it.
+/// An address between delimiters, after its opening one; the place of its expression where that is empty; and what
+/// follows it.
 fn context<'a>(
     alloc: Global,
     whole: &[u8],
@@ -49,7 +49,7 @@ fn context<'a>(
     Ok((Place::Context(pattern), empty, rest))
 }
 
-/// An address with a delimiter of its own, behind its backslash.
+/// An address with a delimiter of its own, after its backslash.
 fn custom_context<'a>(
     alloc: Global,
     whole: &[u8],
@@ -143,7 +143,7 @@ fn behind_comma(text: &[u8]) -> Option<&[u8]>
     Some(second)
 }
 
-/// The address behind a comma, where one stands here.
+/// The address after a comma, where there is one here.
 fn second_at<'a>(
     alloc: Global,
     whole: &[u8],

@@ -27,7 +27,7 @@ fn split_bracket(text: &[u8]) -> (&[u8], &[u8])
     text.split_at(bracket_len(text))
 }
 
-/// What follows a bracket list behind its `[`, where it is closed.
+/// What follows a bracket list after its `[`, where it is closed.
 fn behind_bracket_list(text: &[u8]) -> Option<&[u8]>
     ensures some { IfSome result (λ behind. BracketList text.now behind.now) }
     ensures none { IfNone result ((behind : List ℕ) → BracketList text.now behind → ⊥) }

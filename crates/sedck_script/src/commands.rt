@@ -34,7 +34,7 @@ fn split_marks(text: &[u8]) -> (&[u8], &[u8])
     text.split_at(marks_len(text))
 }
 
-/// Whether a command may begin with the byte behind its addresses.
+/// Whether a command may begin with the byte after its addresses.
 fn is_verb(b: u8) -> bool
     ensures { result ≡ is_in b verb_bytes }
 {
@@ -88,7 +88,7 @@ fn check_verb(
     Ok(())
 }
 
-/// Whether the verb may be where this many blocks are open: no `}` may be right behind its label inside of two of them.
+/// Whether the verb may be where this many blocks are open: no `}` may be right after its label inside of two of them.
 fn check_brace(verb: &Written, depth: usize) -> Result<(), ScriptFault>
     ensures allowed { OnOk result (MayBeBraced (is_braced (written_verb verb.now)) depth) }
     ensures refused { OnErr result ((is_braced (written_verb verb.now) ≡ true) × (2 ≤ depth)) }
@@ -102,7 +102,7 @@ fn check_brace(verb: &Written, depth: usize) -> Result<(), ScriptFault>
     Ok(())
 }
 
-/// Where the verb has an empty expression, the place behind its delimiter.
+/// Where the verb has an empty expression, the place after its delimiter.
 fn empty_verb(verb: &Written, behind: usize) -> Option<usize>
     ensures { (text : List ℕ) → (has_previous (written_patterns (written_verb verb.now)) ≡ true → IsEmptyExpression text behind) → IsEmptyAt text (written_patterns (written_verb verb.now)) result }
 {

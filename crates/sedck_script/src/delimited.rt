@@ -84,7 +84,7 @@ fn list_escape(b: u8) -> Option<u8>
 }
 
 /// The expression up to the first delimiter that no backslash escapes, with the escaped delimiters replaced, the place of the
-/// first of these, and what stands behind the expression.
+/// first of these, and what follows the expression.
 fn delimited_expression<'a>(
     alloc: Global,
     whole: &[u8],
@@ -123,7 +123,7 @@ fn delimited_expression<'a>(
     }
 }
 
-/// Whether a quote is in the text, and what is right behind it may be left out.
+/// Whether a quote is in the text, and what is right after it may be left out.
 fn has_loose_quote(text: &[u8]) -> bool
     ensures { result ≡ has_loose_quote text.now }
 {
@@ -160,7 +160,7 @@ fn is_misread(delimiter: u8, expression: &[u8]) -> bool
     }
 }
 
-/// The expression up to the first delimiter that no backslash escapes, and what stands behind it. Where some sed reads an escaped
+/// The expression up to the first delimiter that no backslash escapes, and what follows it. Where some sed reads an escaped
 /// delimiter otherwise, none is read.
 fn expression_text<'a>(
     alloc: Global,

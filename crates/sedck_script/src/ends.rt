@@ -37,7 +37,7 @@ fn begins_comment(text: &[u8]) -> bool
     }
 }
 
-/// The rest of the text from the end of a substitution on, behind its flags.
+/// The rest of the text from the end of a substitution on, after its flags.
 pub fn end_of_flags<'a>(whole: &[u8], text: &'a [u8]) -> Result<&'a [u8], ScriptFault>
     requires tail { EndsIn whole.now text.now }
     ensures read { IfOk result (λ rest. EndsFlags text.now rest.now) }

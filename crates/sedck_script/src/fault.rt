@@ -36,7 +36,7 @@ pub enum ScriptFault {
     /// No file name, as in `s/a/b/w`. Place: the verb, or the flag `w`.
     MissingName { place: usize },
     /// No label after `:`, a byte that no label may hold, or a comment that some seds take for a label or for a part of one. Place:
-    /// where the label is due, that byte, or right behind the label.
+    /// where the label is due, that byte, or right after the label.
     BadLabel { place: usize },
     /// A label is defined again, as in `:a;:a`. Place: the second one.
     DuplicateLabel { place: usize },
@@ -62,98 +62,61 @@ pub enum ScriptFault {
 }
 
 impl ScriptFault {
-    ghost use Rattle.sedck_script.specs.FaultWords.{fault_number, fault_name, fault_place};
+    ghost use Rattle.sedck_script.specs.FaultWords.{fault_number, fault_name, fault_place, fault_row};
 
     /// The number that is printed. It stays the same for ever: scripts compare it.
     pub fn number(self) -> u8
         ensures { result ≡ fault_number self }
     {
-        match self {
-            ScriptFault::TooLong { .. } => 1,
-            ScriptFault::NulByte { .. } => 2,
-            ScriptFault::UnknownCommand { .. } => 3,
-            ScriptFault::BadAddress { .. } => 4,
-            ScriptFault::TooManyAddresses { .. } => 5,
-            ScriptFault::BadExpression { .. } => 6,
-            ScriptFault::Unterminated { .. } => 7,
-            ScriptFault::BadReplacement { .. } => 8,
-            ScriptFault::BadFlag { .. } => 9,
-            ScriptFault::BadTransliteration { .. } => 10,
-            ScriptFault::MissingText { .. } => 11,
-            ScriptFault::MissingName { .. } => 12,
-            ScriptFault::BadLabel { .. } => 13,
-            ScriptFault::DuplicateLabel { .. } => 14,
-            ScriptFault::UnknownLabel { .. } => 15,
-            ScriptFault::UnopenedBlock { .. } => 16,
-            ScriptFault::UnclosedBlock { .. } => 17,
-            ScriptFault::TooDeep { .. } => 18,
-            ScriptFault::TooManyCommands { .. } => 19,
-            ScriptFault::ExtraText { .. } => 20,
-            ScriptFault::NoPreviousExpression { .. } => 21,
-            ScriptFault::EscapedDelimiter { .. } => 22,
-            ScriptFault::OutOfMemory => 23,
-        }
+        self.row().0
     }
 
     /// The name that is printed: in lower case, with hyphens between its words.
     pub fn name(self) -> &'static str
         ensures { result.now ≡ fault_name self }
     {
-        match self {
-            ScriptFault::TooLong { .. } => "too-long",
-            ScriptFault::NulByte { .. } => "nul-byte",
-            ScriptFault::UnknownCommand { .. } => "unknown-command",
-            ScriptFault::BadAddress { .. } => "bad-address",
-            ScriptFault::TooManyAddresses { .. } => "too-many-addresses",
-            ScriptFault::BadExpression { .. } => "bad-expression",
-            ScriptFault::Unterminated { .. } => "unterminated",
-            ScriptFault::BadReplacement { .. } => "bad-replacement",
-            ScriptFault::BadFlag { .. } => "bad-flag",
-            ScriptFault::BadTransliteration { .. } => "bad-transliteration",
-            ScriptFault::MissingText { .. } => "missing-text",
-            ScriptFault::MissingName { .. } => "missing-name",
-            ScriptFault::BadLabel { .. } => "bad-label",
-            ScriptFault::DuplicateLabel { .. } => "duplicate-label",
-            ScriptFault::UnknownLabel { .. } => "unknown-label",
-            ScriptFault::UnopenedBlock { .. } => "unopened-block",
-            ScriptFault::UnclosedBlock { .. } => "unclosed-block",
-            ScriptFault::TooDeep { .. } => "too-deep",
-            ScriptFault::TooManyCommands { .. } => "too-many-commands",
-            ScriptFault::ExtraText { .. } => "extra-text",
-            ScriptFault::NoPreviousExpression { .. } => "no-previous-expression",
-            ScriptFault::EscapedDelimiter { .. } => "escaped-delimiter",
-            ScriptFault::OutOfMemory => "out-of-memory",
-        }
+        self.row().1
     }
 
     /// The place, which every fault but `OutOfMemory` has.
     pub fn place(self) -> Option<usize>
         ensures { result ≡ fault_place self }
     {
+        self.row().2
+    }
+
+    /// The number, the name and the place.
+    fn row(self) -> (u8, &'static str, Option<usize>)
+        ensures { (result.0, result.1.now, result.2) ≡ fault_row self }
+    {
         match self {
-            ScriptFault::TooLong { place }
-            | ScriptFault::NulByte { place }
-            | ScriptFault::UnknownCommand { place }
-            | ScriptFault::BadAddress { place }
-            | ScriptFault::TooManyAddresses { place }
-            | ScriptFault::BadExpression { place, .. }
-            | ScriptFault::Unterminated { place }
-            | ScriptFault::BadReplacement { place }
-            | ScriptFault::BadFlag { place }
-            | ScriptFault::BadTransliteration { place }
-            | ScriptFault::MissingText { place }
-            | ScriptFault::MissingName { place }
-            | ScriptFault::BadLabel { place }
-            | ScriptFault::DuplicateLabel { place }
-            | ScriptFault::UnknownLabel { place }
-            | ScriptFault::UnopenedBlock { place }
-            | ScriptFault::UnclosedBlock { place }
-            | ScriptFault::TooDeep { place }
-            | ScriptFault::TooManyCommands { place }
-            | ScriptFault::ExtraText { place }
-            | ScriptFault::NoPreviousExpression { place }
-            | ScriptFault::EscapedDelimiter { place } => Some(place),
-            ScriptFault::OutOfMemory => None,
+            ScriptFault::TooLong { place } => (1, "too-long", Some(place)),
+            ScriptFault::NulByte { place } => (2, "nul-byte", Some(place)),
+            ScriptFault::UnknownCommand { place } => (3, "unknown-command", Some(place)),
+            ScriptFault::BadAddress { place } => (4, "bad-address", Some(place)),
+            ScriptFault::TooManyAddresses { place } => (5, "too-many-addresses", Some(place)),
+            ScriptFault::BadExpression { place, .. } => (6, "bad-expression", Some(place)),
+            ScriptFault::Unterminated { place } => (7, "unterminated", Some(place)),
+            ScriptFault::BadReplacement { place } => (8, "bad-replacement", Some(place)),
+            ScriptFault::BadFlag { place } => (9, "bad-flag", Some(place)),
+            ScriptFault::BadTransliteration { place } => (10, "bad-transliteration", Some(place)),
+            ScriptFault::MissingText { place } => (11, "missing-text", Some(place)),
+            ScriptFault::MissingName { place } => (12, "missing-name", Some(place)),
+            ScriptFault::BadLabel { place } => (13, "bad-label", Some(place)),
+            ScriptFault::DuplicateLabel { place } => (14, "duplicate-label", Some(place)),
+            ScriptFault::UnknownLabel { place } => (15, "unknown-label", Some(place)),
+            ScriptFault::UnopenedBlock { place } => (16, "unopened-block", Some(place)),
+            ScriptFault::UnclosedBlock { place } => (17, "unclosed-block", Some(place)),
+            ScriptFault::TooDeep { place } => (18, "too-deep", Some(place)),
+            ScriptFault::TooManyCommands { place } => (19, "too-many-commands", Some(place)),
+            ScriptFault::ExtraText { place } => (20, "extra-text", Some(place)),
+            ScriptFault::NoPreviousExpression { place } => (
+                21,
+                "no-previous-expression",
+                Some(place),
+            ),
+            ScriptFault::EscapedDelimiter { place } => (22, "escaped-delimiter", Some(place)),
+            ScriptFault::OutOfMemory => (23, "out-of-memory", None),
         }
     }
 }

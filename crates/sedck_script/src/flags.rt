@@ -67,7 +67,7 @@ fn flag_at<'a>(whole: &[u8], text: &'a [u8]) -> Result<(Flag<'a>, &'a [u8]), Scr
     Ok((Flag::End, rest))
 }
 
-/// The flags with their file, and the rest of the text from the end of the command on. None stands there twice.
+/// The flags with their file, and the rest of the text from the end of the command on. None is there twice.
 pub fn flags<'a>(
     whole: &[u8],
     text: &'a [u8],

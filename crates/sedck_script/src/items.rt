@@ -36,7 +36,7 @@ pub struct Progress<'a> {
     pub empty: Option<usize>,
 }
 
-/// What may stand between commands, and what follows it.
+/// What may be between commands, and what follows it.
 fn split_separators(text: &[u8]) -> (&[u8], &[u8])
     ensures { Longest is_separator text.now result.0.now result.1.now }
 {

@@ -1,4 +1,4 @@
-//! Labels behind `:`, `b` and `t`.
+//! Labels after `:`, `b` and `t`.
 
 ghost use Rattle.std.specs.Prelude.{◌≡◌, ◌<◌, ◌+◌, ℕ, Bool, false, List, Option, length, is_some, option_copied, IfOk, IfErr, IfSome, OnOk};
 ghost use Rattle.sedck_bre.specs.Text.{begins, one_of};
@@ -10,7 +10,7 @@ ghost use Rattle.sedck_script.specs.Private.Reading.{IsLabelAt};
 ghost use Rattle.sedck_script.specs.Private.LabelReading.{BranchText, IsBehindVerb, IsBehindLabel};
 ghost use Rattle.sedck_script.specs.Private.VerbReading.{IsJumpAt};
 
-use crate::bytes::{is_ending, is_spacing, label_len, split_blanks};
+use crate::bytes::{is_ending, is_separator, label_len, split_blanks};
 use crate::ends::end_of_command;
 use crate::fault::ScriptFault;
 
@@ -20,7 +20,7 @@ pub struct Jump<'a> {
     pub label: Option<&'a [u8]>,
     /// The offset of the label's first byte, or of what is there where it is missing.
     pub place: usize,
-    /// The offset of a `}` that is right behind the label.
+    /// The offset of a `}` that is right after the label.
     pub brace: Option<usize>,
 }
 
@@ -31,7 +31,7 @@ fn split_label(text: &[u8]) -> (&[u8], &[u8])
     text.split_at(label_len(text))
 }
 
-/// The bytes of a label behind blanks, their place, and what follows them. There may be none.
+/// The bytes of a label after blanks, their place, and what follows them. There may be none.
 fn label_parts<'a>(whole: &[u8], text: &'a [u8]) -> (&'a [u8], usize, &'a [u8])
     requires { IsBehindVerb (one_of ":bt") whole.now text.now }
     ensures parts { IsLabelAt text.now result.0.now result.2.now }
@@ -52,7 +52,7 @@ fn check_behind_definition(whole: &[u8], behind: &[u8]) -> Result<(), ScriptFaul
     ensures placed { IfErr result (λ fault. IsPlaced whole.now fault) }
 {
     if let [next, ..] = behind {
-        if !is_spacing(*next) && *next != b';' {
+        if !is_separator(*next) {
             return Err(ScriptFault::BadLabel {
                 place: whole.len() - behind.len(),
             });
@@ -88,7 +88,7 @@ fn check_behind_label(whole: &[u8], behind: &[u8]) -> Result<(), ScriptFault>
     ensures placed { IfErr result (λ fault. IsPlaced whole.now fault) }
 {
     if let [next, ..] = behind {
-        if !is_spacing(*next) && *next != b';' && *next != b'}' {
+        if !is_separator(*next) && *next != b'}' {
             return Err(ScriptFault::BadLabel {
                 place: whole.len() - behind.len(),
             });
@@ -97,7 +97,7 @@ fn check_behind_label(whole: &[u8], behind: &[u8]) -> Result<(), ScriptFault>
     Ok(())
 }
 
-/// Whether one or more `}` begin the text, and a `#` is right behind them.
+/// Whether one or more `}` begin the text, and a `#` is right after them.
 fn begins_braced_comment(text: &[u8]) -> bool
     ensures { result ≡ begins_braced_comment text.now }
 {
@@ -111,8 +111,8 @@ fn begins_braced_comment(text: &[u8]) -> bool
     false
 }
 
-/// The rest of the text from the end of a branch with a label on. Some seds take a `}` right behind the label for a part of it, and
-/// a comment behind that too.
+/// The rest of the text from the end of a branch with a label on. Some seds take a `}` right after the label for a part of it, and
+/// a comment after that too.
 fn end_of_jump<'a>(whole: &[u8], behind: &'a [u8]) -> Result<&'a [u8], ScriptFault>
     requires { IsBehindLabel whole.now behind.now }
     ensures read { IfOk result (λ rest. EndsJump behind.now rest.now) }
@@ -128,7 +128,7 @@ fn end_of_jump<'a>(whole: &[u8], behind: &'a [u8]) -> Result<&'a [u8], ScriptFau
     Ok(rest)
 }
 
-/// Whether a branch without a label may end here, behind its blanks. A comment may not follow, since some seds take it for a
+/// Whether a branch without a label may end here, after its blanks. A comment may not follow, since some seds take it for a
 /// label.
 fn check_no_label(whole: &[u8], begins: &[u8]) -> Result<(), ScriptFault>
     requires behind { IsBehindLabel whole.now begins.now }
@@ -146,7 +146,7 @@ fn check_no_label(whole: &[u8], begins: &[u8]) -> Result<(), ScriptFault>
     Ok(())
 }
 
-/// The offset of the `}` that is right behind a label, or behind a verb without one.
+/// The offset of the `}` that is right after a label, or after a verb without one.
 fn brace_behind(whole: &[u8], behind: &[u8]) -> Option<usize>
     requires { IsBehindLabel whole.now behind.now }
     ensures brace { is_some result ≡ begins "}" behind.now }

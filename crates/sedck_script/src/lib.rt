@@ -48,5 +48,6 @@ mod written;
 
 pub use fault::ScriptFault;
 pub use location::Location;
+pub use name_lists::{Access, name_of};
 pub use parsing::{Located, locate, parse};
 pub use script::{Address, Command, Part, Pattern, Place, Script, Substitution, Verb};

@@ -1,4 +1,4 @@
-//! Where commands stand in the text.
+//! Where commands are in the text.
 
 ghost use Rattle.std.specs.Prelude.{◌≡◌, ◌≤◌, ◌-◌, length, IfOk, IfErr};
 ghost use Rattle.sedck_script.specs.Private.ItemReading.{locations_in};
@@ -7,7 +7,7 @@ use crate::fault::ScriptFault;
 use crate::written::WrittenItem;
 use std::alloc::Global;
 
-/// Where a command stands in its script's text, in bytes from 0.
+/// Where a command is in its script's text, in bytes from 0.
 #[derive(Clone, Copy, Debug, PartialEq, Eq)]
 pub struct Location {
     /// Its first byte: that of its addresses, or else of a `!` or its verb.
@@ -19,7 +19,7 @@ pub struct Location {
     pub end: usize,
 }
 
-/// Where a command stands in the whole text: it starts where `text` begins, its verb where `begins` does,
+/// Where a command is in the whole text: it starts where `text` begins, its verb where `begins` does,
 /// and `rest` follows it.
 pub fn location_of(whole: &[u8], text: &[u8], begins: &[u8], rest: &[u8]) -> Location
     requires text { length text.now ≤ length whole.now }

@@ -5,22 +5,22 @@ ghost use Rattle.std.specs.Cmp.Lexicographic.{slice_cmp};
 ghost use Rattle.std.specs.Ordering.{is_lt, nat_cmp};
 ghost use Rattle.std.specs.Prelude.{◌<◌, ◌≡◌, ◌≤◌, List, OnOk, false, length, map, slice_index_or, true, ℕ, IfErr, IfOk, option_to_list};
 ghost use Rattle.std.specs.Option.{option_copied};
-ghost use Rattle.sedck_script.specs.Names.{AreIncreasing, with_name, sorted_names as sorted};
+ghost use Rattle.sedck_script.specs.Names.{AreIncreasing, accessed, with_name, sorted_names as sorted};
 ghost use Rattle.sedck_script.specs.View.{verb_of, command_of};
-ghost use Rattle.sedck_script.specs.Private.NameReading.{accessed, all_accessed, with_any};
+ghost use Rattle.sedck_script.specs.Private.NameReading.{all_accessed, with_any};
 
 use crate::fault::ScriptFault;
 use crate::script::{Command, Verb};
 use std::alloc::Global;
 
-/// Whether a name stands before another, in the order of bytes.
+/// Whether a name is before another, in the order of bytes.
 fn is_before(a: &[u8], b: &[u8]) -> bool
     ensures { result ≡ is_lt (slice_cmp nat_cmp a.now b.now) }
 {
     a.cmp(&b).is_lt()
 }
 
-/// The place of a name in a sorted list: behind those that are before it.
+/// The place of a name in a sorted list: after those that are before it.
 fn place_among(names: &[&[u8]], name: &[u8]) -> usize
     requires { AreIncreasing (map (λ n. n.now) names.now) }
     ensures within { result ≤ length names.now }
@@ -69,14 +69,14 @@ fn insert_any<'a>(names: &mut Vec<&'a [u8]>, name: Option<&'a [u8]>) -> Result<(
 }
 
 /// What a command does with a file.
-#[derive(Clone, Copy)]
+#[derive(Clone, Copy, Debug, PartialEq, Eq)]
 pub enum Access {
     Read,
     Write,
 }
 
-/// The file that a command reads, or writes.
-fn name_of<'a>(command: &Command<'a>, access: Access) -> Option<&'a [u8]>
+/// The file that a command reads, or writes by its verb or its flag.
+pub fn name_of<'a>(command: &Command<'a>, access: Access) -> Option<&'a [u8]>
     ensures { option_to_list (option_copied result) ≡ accessed access (verb_of command.now.verb) }
 {
     match (&command.verb, access) {

@@ -9,7 +9,7 @@ ghost use Rattle.sedck_script.specs.Private.Reading.{EndsIn};
 use crate::bytes::{line_len, split_blanks};
 use crate::fault::ScriptFault;
 
-/// The rest of the line, and what stands from its end on.
+/// The rest of the line, and what follows its end.
 pub fn split_line(text: &[u8]) -> (&[u8], &[u8])
     ensures { Longest (λ b. not (is_newline b)) text.now result.0.now result.1.now }
 {
@@ -37,7 +37,7 @@ fn is_skipped(byte: u8) -> bool
     matches!(byte, 11..=13)
 }
 
-/// The file name behind the blanks at the start, and the text from the end of its line on.
+/// The file name after the blanks at the start, and the text from the end of its line on.
 pub fn name(text: &[u8]) -> Option<(&[u8], &[u8])>
     ensures read { IfSome result (λ x. Name text.now x.0.now x.1.now) }
     ensures none { IfNone result ((name : List ℕ) (rest : List ℕ) → Name text.now name rest → ⊥) }
@@ -56,7 +56,7 @@ pub fn name(text: &[u8]) -> Option<(&[u8], &[u8])>
     Some((name, rest))
 }
 
-/// Why no name can be read behind the verb or the flag at the place: there is none, or it is one that some seds read differently.
+/// Why no name can be read after the verb or the flag at the place: there is none, or it is one that some seds read differently.
 pub fn name_fault(whole: &[u8], place: usize, text: &[u8]) -> ScriptFault
     requires tail { EndsIn whole.now text.now }
     ensures { (result ≡ ScriptFault.MissingName place) ⊎ IsPlaced whole.now result }

@@ -117,7 +117,7 @@ pub fn parse<'a>(alloc: Global, text: &'a [u8]) -> Result<Script<'a>, ScriptFaul
     script(alloc, text, progress)
 }
 
-/// A script, and where each of its commands stands in its text.
+/// A script, and where each of its commands is in its text.
 #[derive(Drop)]
 pub struct Located<'a> {
     pub script: Script<'a>,

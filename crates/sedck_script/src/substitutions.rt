@@ -21,7 +21,7 @@ use crate::replacements::{greatest_group, replacement};
 use crate::script::{Substitution, Verb};
 use std::alloc::Global;
 
-/// The delimiter behind a verb, and what follows it.
+/// The delimiter after a verb, and what follows it.
 fn opening_delimiter<'a>(opening: usize, text: &'a [u8]) -> Result<(u8, &'a [u8]), ScriptFault>
     ensures read { IfOk result (λ x. (text.now ≡ x.0 ∷ x.1.now) × IsTrue (is_delimiter x.0)) }
     ensures refused { IfErr result (λ fault. (delimiter : ℕ) (rest : List ℕ) → text.now ≡ delimiter ∷ rest → IsTrue (is_delimiter delimiter) → ⊥) }

@@ -31,7 +31,7 @@ pub fn split_lines(text: &[u8]) -> (&[u8], &[u8])
     text.split_at(text.len() - behind_lines(text).len())
 }
 
-/// The text that is given behind a verb and its blanks, and what stands from its end on.
+/// The text that is given after a verb and its blanks, and what follows its end.
 pub fn given_text(text: &[u8]) -> Option<(&[u8], &[u8])>
     ensures read { IfSome result (λ x. GivenText text.now x.0.now x.1.now) }
     ensures none { IfNone result ((bytes : List ℕ) (rest : List ℕ) → GivenText text.now bytes rest → ⊥) }

@@ -56,7 +56,7 @@ fn simple_verb<'a>(b: u8) -> Option<Verb<'a>>
     }
 }
 
-/// The text behind one of `a`, `c` and `i`, and the rest of the script from its end on.
+/// The text after one of `a`, `c` and `i`, and the rest of the script from its end on.
 fn text_verb<'a>(
     place: usize,
     verb: u8,
@@ -81,7 +81,7 @@ fn text_verb<'a>(
     Ok((Verb::Insert(bytes), rest))
 }
 
-/// The file behind one of `r` and `w`, and the rest of the script from the end of its line on.
+/// The file after one of `r` and `w`, and the rest of the script from the end of its line on.
 fn file_verb<'a>(
     whole: &[u8],
     place: usize,
@@ -160,7 +160,7 @@ fn known_verb<'a>(
     simple_command(whole, place, verb, text)
 }
 
-/// The label that is defined behind a `:`, and the rest of the script from its end on.
+/// The label that is defined after a `:`, and the rest of the script from its end on.
 fn definition<'a>(
     whole: &[u8],
     labels: &IndexMap<&'a [u8], usize>,
@@ -201,7 +201,7 @@ fn jump<'a>(whole: &[u8], verb: u8, text: &'a [u8]) -> Result<(Written<'a>, &'a 
 
 /// The verb at the start with what it takes, and the rest of the text from its end on.
 ///
-/// The labels are those that stand before it: one of them may not be defined again. That is reported before the end of the
+/// The labels are those that are before it: one of them may not be defined again. That is reported before the end of the
 /// command is looked at.
 pub fn verb_at<'a>(
     alloc: Global,

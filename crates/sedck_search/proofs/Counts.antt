@@ -1,25 +1,23 @@
 -- What the counts of two nodes say of the paths between them.
-use Rattle.std.proofs.Common.{◌≡◌, ◌≢◌, ◌⊎◌, ℕ, suc, ◌<◌, ◌≤◌, ◌/◌, Bool, true, false, List, [], ◌∷◌, length, refl, sym, ap, ◌∙◌, subst, inl, inr, arith}
+use Rattle.std.proofs.Common.{◌≡◌, ◌≢◌, ◌⊎◌, ℕ, ◌<◌, ◌≤◌, true, List, length, refl, sym, ◌∙◌, subst, inl, inr, arith}
 use Rattle.std.specs.Prelude.{Some, slice_get, set}
-use Rattle.std.proofs.lemmas.Bool.{cases_eq, true≢false}
+use Rattle.std.proofs.lemmas.Bool.{cases_eq}
 use Rattle.std.proofs.lemmas.List.{length-set}
 use Rattle.std.proofs.lemmas.List.Elements.{All-contains}
 use Rattle.std.proofs.lemmas.Option.{slice_get_within, same_Some}
 use Rattle.sedck_script.specs.Program.{Program}
 use Rattle.sedck_flow.specs.Nodes.{node_index}
 use Rattle.sedck_flow.specs.declared.graph.Node.{Node}
-use Rattle.sedck_search.specs.Private.NodeSet.{has, IsNodeSet, HasChanged}
-use Rattle.sedck_flow.specs.declared.graph.Edge.{Edge}
-use Rattle.sedck_flow.specs.declared.graph.Kind.{Kind}
-use Rattle.sedck_search.specs.Private.Reaching.{AreFollowed, FollowedEdge, IsClosed, Reaches, IsIn, IsReachCount, HasCount, HasNoCount, IsUncounted, ArePartlyCounted, IsReachOf}
+use Rattle.sedck_search.specs.Private.NodeSet.{has, IsNodeSet}
+use Rattle.sedck_search.specs.Private.Reaching.{IsClosed, Reaches, IsIn, IsReachCount, HasCount, HasNoCount, IsUncounted, ArePartlyCounted, IsReachOf}
 use Rattle.sedck_search.specs.Private.KeptSets.{IsKeptFor, AreKept, AreCounts}
 use Rattle.sedck_search.specs.Rows.{bit_count}
-use Rattle.sedck_search.specs.Obstacle.{IsPath, IsReachable}
+use Rattle.sedck_search.specs.Obstacle.{IsReachable}
 use Rattle.sedck_search.specs.declared.filter.EdgeFilter.{EdgeFilter}
 use Rattle.sedck_search.proofs.NodeSets.{fewer_or_same, same_nodes, counts_node, count_within}
 use Rattle.sedck_flow.proofs.NodeLemmas.{node_same, node_at}
 use Rattle.sedck_search.proofs.Scans.{set_same, set_other}
-use Rattle.sedck_search.proofs.Paths.{reaches_self, reaches-trans, reaches_edge, closed_reaches}
+use Rattle.sedck_search.proofs.Paths.{reaches_self, reaches-trans, closed_reaches}
 
 -- sets are compared node by node
 pub nodes_within : (a b : List ℕ) → ((m : Node) → IsIn a m → IsIn b m) → (i : ℕ) → has a i ≡ true → has b i ≡ true
@@ -58,10 +56,6 @@ module _ (p : Program) (filter : EdgeFilter) where
       → IsReachOf p filter n set
   closed_reach set is_set closed n has_n reached =
       record { is_set = is_set; same = λ m. (reached m, λ to. closed_reaches p filter set closed to.0 n m to.1 to.2 has_n) }
-
-  pub reach_closed : (n : Node) (set : List ℕ) → IsReachOf p filter n set → IsClosed p filter set
-  reach_closed n set reach e followed x =
-      (reach.same e.to).1 (reaches-trans p filter n e.from e.to ((reach.same e.from).0 x) (reaches_edge p filter e followed))
 
   pub reach_count : (n : Node) (set : List ℕ) → IsReachOf p filter n set → IsReachCount p filter n (bit_count set)
   reach_count n set reach = record { members = set; reach = reach; counts = refl }

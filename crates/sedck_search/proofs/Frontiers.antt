@@ -213,7 +213,7 @@ module _ (p : Program) (filter : EdgeFilter) (n : Node) (before : List ℕ) wher
     waits_next : (k : Node) → IsIn frontier'' k → Reaches p filter n k
     waits_next k w = elim (h.waits k w) [ inl old ↦ s.waits k (waited k old) | inr (r, _) ↦ from_node k r ]
 
-    -- no node of the frontier stands before the one visited
+    -- no node of the frontier is before the one visited
     front_next : (k : Node) → IsIn frontier'' k → first'' ≤ node_index k
     front_next k w = elim (h.waits k w) [
       | inl old ↦ elim (cases_lt (node_index k) (node_index m)) [

@@ -1,5 +1,5 @@
 -- Links of nodes in the depth-first search, and what members of a component count.
-use Rattle.std.proofs.Common.{◌≡◌, ◌≢◌, ℕ, ◌<◌, ◌≤◌, List, length, sym, ap, ◌∙◌, subst, inl, inr, arith}
+use Rattle.std.proofs.Common.{◌≡◌, ℕ, ◌<◌, ◌≤◌, List, length, sym, ap, ◌∙◌, subst, inl, inr, arith}
 use Rattle.std.specs.Prelude.{Some, slice_get, set}
 use Rattle.std.proofs.lemmas.Bool.{cases_eq}
 use Rattle.std.proofs.lemmas.Option.{same_Some}
@@ -10,19 +10,14 @@ use Rattle.sedck_flow.proofs.NodeLemmas.{node_same}
 use Rattle.sedck_search.specs.Rows.{bit_count}
 use Rattle.sedck_search.specs.Private.NodeSet.{IsNodeSet}
 use Rattle.sedck_search.specs.Private.Reaching.{ArePartlyCounted, IsClosed, Reaches}
-use Rattle.sedck_search.specs.Private.Components.{AreIndices, AreLinks, IsMember, IsOrder, IsOrderOf}
+use Rattle.sedck_search.specs.Private.Components.{AreLinks, IsMember, IsOrder, IsOrderOf}
 use Rattle.sedck_search.specs.declared.filter.EdgeFilter.{EdgeFilter}
 use Rattle.sedck_search.specs.declared.order.Order.{Order}
 use Rattle.sedck_search.proofs.NodeSets.{counts_node, count_within}
-use Rattle.sedck_search.proofs.Paths.{reaches_self}
 use Rattle.sedck_search.proofs.Scans.{set_same, set_other}
 use Rattle.sedck_search.proofs.Counts.{counted_at, counted_set, closed_reached, closed_reach, reach_count}
 
 module _ (p : Program) (filter : EdgeFilter) where
-  -- each node reaches itself
-  pub own_links : (links : List ℕ) → AreIndices links → AreLinks p filter links
-  own_links links own n m is = subst (λ k. Reaches p filter n k) (node_same n m (sym (own (node_index n) (node_index m) is))) (reaches_self p filter n)
-
   -- one node is linked anew
   links_set : (links : List ℕ) → AreLinks p filter links → (n : Node) (to : ℕ) → node_index n < length links
       → ((m : Node) → node_index m ≡ to → Reaches p filter n m) → AreLinks p filter (set links (node_index n) to)

@@ -98,7 +98,7 @@ first_none words members from is none i above below =
     ap (λ r. has r i) (sym is) ∙ none_in_word words from (from / 64) (from_bit (slice_index words (from / 64)) (from % 64))
     (first_word words from) none i above below
 
--- ---- The words behind it
+-- ---- The words after it
 
 later_word : (words members : List ℕ) (from j : ℕ) → words ≡ members → from / 64 + 1 ≤ j → ((i : ℕ) → from ≤ i → i < 64 * j → has members i ≡ false)
     → IsFirstWord words from j (slice_index words j)
@@ -121,6 +121,6 @@ pub later_none : (words members : List ℕ) (from j : ℕ) → words ≡ members
 later_none words members from j is behind none zeroes i above below =
     ap (λ r. has r i) (sym is) ∙ none_in_word words from j (slice_index words j) (later_word words members from j is behind none) zeroes i above below
 
--- no node lies behind the last word
+-- no node lies after the last word
 pub last_none : (words members : List ℕ) → words ≡ members → IsNodeSet words → (i : ℕ) → 256 ≤ i / 64 → has members i ≡ false
 last_none words members is good i behind = ap (λ r. has r i) (sym is) ∙ none_behind words i (omega (arith, behind, good.long))

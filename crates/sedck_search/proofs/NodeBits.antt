@@ -44,7 +44,7 @@ has_at words j k now l e =
     let low : (64 * j + k) % 64 ≡ k = omega arith in
     has_by_bit words (64 * j + k) now (ap (λ m. bit_at (slice_index words m) ((64 * j + k) % 64)) at ∙ ap (λ m. bit_at (slice_index words j) m) low ∙ e)
 
--- no node lies behind the words
+-- no node lies after the words
 pub none_behind : (words : List ℕ) (i : ℕ) → length words ≤ i / 64 → has words i ≡ false
 none_behind words i l =
     has_by_bit words i false (ap (λ m. bit_at m (i % 64)) (get_or_past words (i / 64) 0 l) ∙ bit_at-zero (i % 64))

@@ -14,7 +14,7 @@ use Rattle.sedck_flow.proofs.NodeLemmas.{index_below}
 use Rattle.sedck_flow.specs.declared.graph.Node.{Node}
 use Rattle.sedck_flow.specs.declared.graph.Edge.{Edge}
 
--- the edges of a node, of which something holds for those behind us
+-- the edges of a node, of which something holds for those that follow
 pub record AreScanned (p : Program) (n : Node) (done coming : List Edge) (Holds : Edge → Type 0) : Type 0 where
   pub listed : ListsEdges (done ++ coming) (FlowFrom p n)
   pub held : (e : Edge) → Contains done e → Holds e
@@ -43,7 +43,7 @@ module _ (p : Program) (n : Node) where
   pub edge_coming : {Holds : Edge → Type 0} (done coming : List Edge) (e : Edge) → AreScanned p n done (e ∷ coming) Holds → FlowFrom p n e
   edge_coming done coming e h = (h.listed.same e).0 (Contains-append_right done (e ∷ coming) e (0, omega arith, refl))
 
-  -- behind the last edge it holds for all
+  -- after the last edge it holds for all
   pub scan_all : {Holds : Edge → Type 0} (done : List Edge) → AreScanned p n done [] Holds → (e : Edge) → FlowFrom p n e → Holds e
   scan_all done h e is_edge = h.held e (subst (λ edges. Contains edges e) (append-nil done) ((h.listed.same e).1 is_edge))
 

@@ -1,6 +1,6 @@
 //! The order in which nodes are counted: strongly connected components, by Tarjan's depth-first search.
 //!
-//! A component is counted when its root is finished, behind all that it leads to, so that what it reaches is put
+//! A component is counted when its root is finished, after all that it leads to, so that what it reaches is put
 //! together from kept sets; and all its nodes reach the same. No proof rests on the order: each node of a component
 //! is counted only where it is seen to reach what the root does, and a node left out would be counted by a walk.
 

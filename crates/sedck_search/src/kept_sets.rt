@@ -1,7 +1,7 @@
 //! Sets of what counted nodes reach. A set that is kept saves a walk over its nodes.
 //!
-//! A set for each node would take 16 MiB or more. So the sets stored last are kept, and of all others that of each
-//! so many-th node: then a walk soon comes to a node with a kept set. Only time depends on which sets are kept.
+//! A set for each node would take 16 MiB or more. So the sets stored last are kept, and of the others every `STRIDE`-th:
+//! then a walk soon comes to a node with a kept set. Only time depends on which sets are kept.
 
 ghost use Rattle.std.specs.Prelude.{◌≡◌, ◌<◌, [], length, All, IfSome, IfOk};
 ghost use Rattle.sedck_search.specs.Private.NodeSet.{IsEmpty, IsNodeSet};
@@ -10,10 +10,10 @@ ghost use Rattle.sedck_search.specs.Private.KeptSets.{IsKeptFor, StoresSet};
 use crate::node_set::NodeSet;
 use std::alloc::{AllocError, Global};
 
-/// So many of the sets stored last are kept.
+/// How many of the sets stored last are kept.
 const LATEST: u32 = 64;
 
-/// Of the other sets that of each so many-th node is kept. It is a prime: where nodes of several kinds take turns,
+/// Of the other sets every one with this step between them is kept. It is a prime: where nodes of several kinds take turns,
 /// as those with the flag set and reset do, sets of each kind are kept.
 const STRIDE: u32 = 13;
 

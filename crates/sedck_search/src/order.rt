@@ -15,7 +15,7 @@ pub(crate) struct Order {
     pub(crate) parents: Vec<u16>,
     /// For each node the first visited one of its component that it is known to reach, at first itself.
     pub(crate) links: Vec<u16>,
-    /// Where each visited node stands on the stack.
+    /// Where each visited node is on the stack.
     pub(crate) positions: Vec<u16>,
     /// Below the height: the visited nodes whose component isn't counted, in the order of their visits.
     pub(crate) stack: Vec<u16>,

@@ -1,4 +1,4 @@
-//! Scripts that ask nowhere for the last line: nodes on either side of it reach as many.
+//! Scripts without a lone `$`: nodes on both sides of the last line reach equally many nodes.
 
 ghost use Rattle.std.specs.Prelude.{◌≡◌, ◌≢◌, ◌↔◌, IsTrue, length};
 ghost use Rattle.std.specs.Bool.{OnFalse};

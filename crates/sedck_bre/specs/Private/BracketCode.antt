@@ -1,4 +1,4 @@
--- How the code's values stand to what is read of a bracket list.
+-- How the code's values relate to what is read of a bracket list.
 use Rattle.std.specs.Prelude.{◌≡◌, ℕ, ◌+◌, not, Bool, true, List, ◌++◌, codes, length, drop, nat_eq, IsTrue, if◌then◌else◌, Option, Some, None, Result, Ok, Err}
 use Rattle.std.specs.List.{list_any, starts_with}
 use Rattle.sedck_bre.specs.Text.{begins}
@@ -34,7 +34,7 @@ element_of (One c) = brackets.One c
 element_of (Range a z) = brackets.Range a z
 element_of (Members class) = brackets.Members (class_of class)
 
--- what a class's name and the `:]` behind it are
+-- what a class's name and the `:]` after it are
 abbrev pub closed_name : brackets.Class → List ℕ
 closed_name class = class_name class ++ codes ":]"
 

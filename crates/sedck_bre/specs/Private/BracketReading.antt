@@ -27,7 +27,7 @@ abbrev pub byte_at : List ℕ → Option (ℕ × List ℕ)
 byte_at [] = None
 byte_at (c ∷ text) = if c == 91 then opened_at c text else if c == 92 then escaped_at c text else Some (c, text)
 
--- what stands before this text would begin a range
+-- what is before this text would begin a range
 abbrev pub ranges : List ℕ → Bool
 ranges (c ∷ d ∷ _) = (c == 45) && not (d == 93)
 ranges _ = false

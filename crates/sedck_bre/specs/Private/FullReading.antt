@@ -13,7 +13,7 @@ full = record { bracket = bracket_at; interval = interval_at }
 abbrev pub set_at : List ℕ → Option (Tree × List ℕ)
 set_at text = bracket_at text >>= set_before
 
--- the text stands at the end of the whole
+-- the text is the end of the whole
 pub record IsTail (whole text : List ℕ) : Type 0 where
   pub front : List ℕ
   pub made : whole ≡ front ++ text

@@ -1,4 +1,4 @@
--- How the parser's values stand to those of a reading.
+-- How the parser's values relate to those of a reading.
 use Rattle.std.specs.Prelude.{◌≡◌, ℕ, ◌<◌, Bool, false, if◌then◌else◌, List, Option, Some, None, Result, Ok, Err, slice_index_or}
 use Rattle.sedck_bre.specs.Tree.{is_in}
 use Rattle.sedck_bre.specs.Shape as shape

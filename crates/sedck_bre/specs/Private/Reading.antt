@@ -90,7 +90,7 @@ atom readers inner level position deep opened closed (b ∷ text) =
 abbrev pub repeat_before : Tree → ℕ × Option ℕ × List ℕ → Option (Tree × List ℕ)
 repeat_before t (least, most, rest) = Some (Repeat t least most, rest)
 
--- the item with the sign of repetition behind it, if there is one
+-- the item with the sign of repetition after it, if there is one
 abbrev pub signed : Readers → Tree → List ℕ → Option (Tree × List ℕ)
 signed readers t text =
     if begins "*" text then Some (Repeat t 0 None, drop 1 text)
@@ -107,7 +107,7 @@ before_all t (ts, rest) = Some (Then t ts, rest)
 abbrev pub Lister : Type 0
 Lister = Level → Position → ℕ → ℕ → List ℕ → List ℕ → Option (Trees × List ℕ)
 
--- the items behind the first
+-- the items after the first
 abbrev pub more : Lister → Level → Position → ℕ → ℕ → List ℕ → Tree × List ℕ → Option (Trees × List ℕ)
 more list level position deep opened closed (t, rest) =
     list level (behind position t) deep (opened + length (groups_in t)) (closed ++ groups_in t) rest >>= before_all t

@@ -13,18 +13,18 @@ use Rattle.sedck_cert.specs.declared.reading.names.Files.TheVariants.{Reads, Wri
 use Rattle.sedck_cert.specs.declared.reading.lines.Lines.{Lines}
 use Rattle.sedck_cert.specs.declared.reading.CertFault.{CertFault}
 
--- the line stands next
+-- the line is next
 pub record IsNext (old : Lines) (text : List ℕ) (new : Lines) : Type 0 where
   pub cut : IsCut newline old.rest.now text new.rest.now
   pub number : new.number ≡ old.number + 1
 
--- these lines stand next and are what is due, and what is due behind them
+-- these lines are next and are what is due, and what is due after them
 pub record Leads (v : Version) (due : Due) (old : Lines) (texts : List (List ℕ)) (new : Lines) (next : Due) : Type 0 where
   pub is_text : old.rest.now ≡ joined_lines texts ++ new.rest.now
   pub number : new.number ≡ old.number + length texts
   pub are_due : AreDue v due texts next
 
--- behind lines that are due stands what isn't, and this is its fault
+-- after lines that are due comes one that isn't, and this is its fault
 pub record Stops (v : Version) (due : Due) (old : Lines) (fault : CertFault) : Type 0 where
   pub before : List (List ℕ)
   pub rest : List ℕ
@@ -63,7 +63,7 @@ abbrev pub certificate_lines : Version → Certificate → List (List ℕ)
 certificate_lines v c =
     header v ∷ (codes "commands " ++ decimal c.commands) ∷ (node_texts v 0 c.ranks ++ (list_texts Reads c.reads ++ (list_texts Writes c.writes ++ codes "end" ∷ [])))
 
--- sorted names behind the one before, if there is one, and within the limit on bytes
+-- sorted names after the one before, if there is one, and within the limit on bytes
 abbrev pub AreNext : List (List ℕ) → List (List ℕ) → ℕ → Type 0
 AreNext before [] size = size ≤ 1048576
 AreNext before (name ∷ names) size = IsName name × ComesAfter before name × (size + length name + 1 ≤ 1048576) × AreNext (name ∷ []) names (size + length name + 1)

@@ -37,7 +37,7 @@ pub fn command_count(lines: &mut Lines, version: Version) -> Result<u16, CertFau
     next_count(lines, b"commands ").ok_or(CertFault::BadCount { line })
 }
 
-/// The line `end`, with nothing behind it.
+/// The line `end`, with nothing after it.
 pub fn ending(lines: &mut Lines) -> Result<(), CertFault>
     ensures read { OnOk result ((v : Version) → Leads v Last lines.old (codes "end" ∷ []) lines.new Nothing) }
     ensures last { OnOk result (lines.new.rest.now ≡ []) }
@@ -64,7 +64,7 @@ pub fn next_is(lines: &mut Lines, text: &[u8]) -> bool
     }
 }
 
-/// The number behind the word in the next line.
+/// The number after the word in the next line.
 pub fn next_count(lines: &mut Lines, word: &[u8]) -> Option<u16>
     ensures { MatchOption result ((n : ℕ) → n ≤ 4095 → (more : List ℕ) → IsCut newline lines.old.rest.now (word.now ++ decimal n) more → ⊥) (λ n. (n ≤ 4095) × IsNext lines.old (word.now ++ decimal n) lines.new) }
 {

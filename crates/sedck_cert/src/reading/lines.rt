@@ -37,7 +37,7 @@ impl<'a> Lines<'a> {
     }
 }
 
-/// What stands before the first such byte, and behind it.
+/// What is before the first such byte, and what is after it.
 pub fn cut(text: &[u8], byte: u8) -> Option<(&[u8], &[u8])>
     ensures { MatchOption result (Contains text.now byte → ⊥) (λ parts. IsCut byte text.now parts.0.now parts.1.now) }
 {

@@ -21,7 +21,7 @@ pub enum Files {
 }
 
 impl Files {
-    /// What stands before the count of the list.
+    /// What is before the count of the list.
     fn word(self) -> &'static [u8]
         ensures { result.now ≡ list_word self }
     {

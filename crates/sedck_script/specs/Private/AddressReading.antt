@@ -8,7 +8,7 @@ use Rattle.sedck_script.specs.Parts.{PlaceText, AddressText}
 use Rattle.sedck_script.specs.Items.{WrittenVerb, VerbText, CommandText}
 use Rattle.sedck_script.specs.Private.PieceReading.{PatternText}
 
--- what may stand between the addresses and the verb
+-- what may be between the addresses and the verb
 abbrev pub is_mark : ℕ → Bool
 is_mark b = is_blank b || (b == bang)
 
@@ -23,11 +23,11 @@ abbrev pub IsEmptyAt : List ℕ → List Pattern → Option ℕ → Type 0
 IsEmptyAt text patterns None = has_previous patterns ≡ false
 IsEmptyAt text patterns (Some place) = (has_previous patterns ≡ true) × IsEmptyExpression text place
 
--- an address between delimiters, behind the opening one
+-- an address between delimiters, after the opening one
 abbrev pub ContextText : ℕ → List ℕ → Place → List ℕ → Type 0
 ContextText delimiter text place rest = (pattern : Pattern) × (place ≡ Context pattern) × PatternText delimiter text pattern rest
 
--- an address with a delimiter of its own, behind its backslash
+-- an address with a delimiter of its own, after its backslash
 abbrev pub CustomText : List ℕ → Place → List ℕ → Type 0
 CustomText text place rest = (delimiter : ℕ) × (behind : List ℕ) × (text ≡ delimiter ∷ behind) × IsTrue (is_delimiter delimiter) × ContextText delimiter behind place rest
 
@@ -48,7 +48,7 @@ IsOnlyAddress text address rest = (other : Address) (behind marks begins left : 
 abbrev pub IsNoCommand : List ℕ → Type 0
 IsNoCommand text = (address : Address) (negated : Bool) (verb : WrittenVerb) (rest : List ℕ) → CommandText text address negated verb rest → ⊥
 
--- behind the blanks at the start stand a comma and blanks, and then the second text
+-- after the blanks at the start come a comma and blanks, and then the second text
 pub record IsBehindComma (text second : List ℕ) : Type 0 where
   pub comma : ℕ
   pub blanks : List ℕ
@@ -58,14 +58,14 @@ pub record IsBehindComma (text second : List ℕ) : Type 0 where
   pub is_comma : comma ≡ 44
   pub behind : Longest is_blank more front second
 
--- behind the blanks at the start stands no comma
+-- after the blanks at the start there is no comma
 abbrev pub HasNoComma : List ℕ → Type 0
 HasNoComma text = (blanks more : List ℕ) (b : ℕ) → Longest is_blank text blanks (b ∷ more) → b ≡ 44 → ⊥
 
--- an address behind a comma
+-- an address after a comma
 abbrev pub IsSecond : List ℕ → Place → List ℕ → Type 0
 IsSecond text place rest = (second : List ℕ) × IsBehindComma text second × PlaceText second place rest
 
--- behind a comma stands no address
+-- after a comma there is no address
 abbrev pub BeginsNoSecond : List ℕ → Type 0
 BeginsNoSecond text = (second : List ℕ) × IsBehindComma text second × ((place : Place) (rest : List ℕ) → PlaceText second place rest → ⊥)

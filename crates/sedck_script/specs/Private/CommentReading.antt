@@ -3,6 +3,6 @@ use Rattle.std.specs.Prelude.{ℕ, not, List}
 use Rattle.sedck_script.specs.Cuts.{is_newline, Longest}
 use Rattle.sedck_script.specs.Items.{HasNoInnerReturn}
 
--- a comment behind its `#`, and what stands from the end of its line on
+-- a comment after its `#`, and what follows the end of its line
 abbrev pub CommentText : List ℕ → List ℕ → List ℕ → Type 0
 CommentText text line rest = Longest (λ b. not (is_newline b)) text line rest × HasNoInnerReturn line

@@ -25,13 +25,13 @@ commands_among [] = []
 commands_among (Written a n v ∷ items) = Written a n v ∷ commands_among items
 commands_among (Closing ∷ items) = commands_among items
 
--- where the commands among the items stand
+-- where the commands among the items are
 abbrev pub locations_in : List WrittenItem → List Location
 locations_in [] = []
 locations_in (code.Command c ∷ items) = c.location ∷ locations_in items
 locations_in (code.Closing ∷ items) = locations_in items
 
--- what an item does to the number of open blocks; a jump leaves it, and says whether a `}` is right behind its label
+-- what an item does to the number of open blocks; a jump leaves it, and says whether a `}` is right after its label
 pub data Turn : Type 0 where
   Opens : Turn
   Closes : Turn
@@ -48,8 +48,8 @@ abbrev pub turn_of : Item → Turn
 turn_of (Written a n v) = verb_turn v
 turn_of Closing = Closes
 
--- what follows is right for the number of blocks that are open behind the turn, of which there are at most 64, and at most one
--- where a `}` is right behind a label
+-- what follows is right for the number of blocks that are open after the turn, of which there are at most 64, and at most one
+-- where a `}` is right after a label
 abbrev pub Turned : Turn → (ℕ → Type 0) → ℕ → Type 0
 Turned Opens P depth = (depth < 64) × P (suc depth)
 Turned Closes P zero = ⊥

@@ -1,13 +1,8 @@
 -- The names that commands read, or write.
 use Rattle.std.specs.Prelude.{ℕ, List, Option, Some, None, flat_map}
-use Rattle.sedck_script.specs.Program.{Verb, Command}
-use Rattle.sedck_script.specs.Names.{read_names, write_names, with_name}
+use Rattle.sedck_script.specs.Program.{Command}
+use Rattle.sedck_script.specs.Names.{accessed, with_name}
 use Rattle.sedck_script.specs.declared.name_lists.Access.{Access}
-use Rattle.sedck_script.specs.declared.name_lists.Access.TheVariants as access
-
-abbrev pub accessed : Access → Verb → List (List ℕ)
-accessed access.Read v = read_names v
-accessed access.Write v = write_names v
 
 abbrev pub all_accessed : Access → List Command → List (List ℕ)
 all_accessed a cs = flat_map (λ c. accessed a c.verb) cs

@@ -16,7 +16,7 @@ IsPiece delimiter text (piece.Byte b) rest = (text ≡ b ∷ rest) × (b ≢ del
 IsPiece delimiter text piece.Escaped rest = (text ≡ backslash ∷ delimiter ∷ rest) × IsTrue (can_be_escaped delimiter)
 IsPiece delimiter text (piece.Pair b) rest = (text ≡ backslash ∷ b ∷ rest) × (b ≢ delimiter)
 
--- a pattern behind its opening delimiter, and what follows it
+-- a pattern after its opening delimiter, and what follows it
 abbrev pub PatternText : ℕ → List ℕ → Pattern → List ℕ → Type 0
 PatternText delimiter text pattern rest = (expression : List ℕ) × ExpressionText delimiter text expression rest × IsPattern expression pattern
 

@@ -30,7 +30,7 @@ is_two NoAddress = false
 is_two (One p) = false
 is_two (Two p q) = true
 
--- a command that begins with this byte behind its addresses takes them
+-- a command that begins with this byte after its addresses takes them
 abbrev pub takes : ℕ → Address → Bool → Bool
 takes b given negated =
     if one_of "}#" b then false
@@ -53,7 +53,7 @@ patterns_of Closing = []
 abbrev pub item_patterns : List Item → List Pattern
 item_patterns items = flat_map patterns_of items
 
--- the verb opens a block though 64 are open, or has a `}` right behind its label though two are, or there are 4,095 commands
+-- the verb opens a block though 64 are open, or has a `}` right after its label though two are, or there are 4,095 commands
 abbrev pub IsBeyond : ℕ → ℕ → WrittenVerb → Type 0
 IsBeyond depth count verb = ((verb ≡ Opening) × (64 ≤ depth)) ⊎ ((is_braced verb ≡ true) × (2 ≤ depth)) ⊎ (4095 ≤ count)
 
@@ -82,7 +82,7 @@ pub record IsProgress (text rest : List ℕ) (progress : Progress) : Type 0 wher
   pub opened : All (λ place. StandsAt text place brace) progress.open_blocks.items
   pub empty : IsEmptyAt text (item_patterns (map item_of progress.items.items)) progress.empty
 
--- the text has no items that close each block and are within the limits, and whose labels stand once
+-- the text has no items that close each block and are within the limits, and whose labels are there once
 abbrev pub HasNoItems : List ℕ → Type 0
 HasNoItems text = (items : List Item) → Items text items → length (commands_among items) ≤ 4095 → AreLabelsOnce (commands_among items) → Nests items 0 → ⊥
 

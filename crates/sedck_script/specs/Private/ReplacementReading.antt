@@ -16,7 +16,7 @@ IsGroupWithin greatest Whole = Unit {0}
 abbrev pub HasGroupsUpTo : ℕ → List Part → Type 0
 HasGroupsUpTo greatest parts = (k : ℕ) → Contains parts (Group k) → k ≤ greatest
 
--- the text begins with this part of a replacement and with no other, and behind it stands rest
+-- the text begins with this part of a replacement and with no other, and rest follows it
 pub record IsFirstPart (delimiter greatest : ℕ) (text : List ℕ) (part : Part) (rest : List ℕ) : Type 0 where
   pub tail : EndsIn text rest
   pub shorter : length rest < length text

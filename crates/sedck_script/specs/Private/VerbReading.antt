@@ -21,7 +21,7 @@ written_verb (code.BranchTo jump) = BranchTo (option_copied jump.label) (is_some
 written_verb (code.TestTo jump) = TestTo (option_copied jump.label) (is_some jump.brace)
 written_verb code.Opening = Opening
 
--- the label begins at its place, and a `}` right behind it is where no label may go on
+-- the label begins at its place, and a `}` right after it is where no label may go on
 abbrev pub IsJumpAt : List ℕ → Jump → Type 0
 IsJumpAt text jump = IsLabelPlace text jump.place (option_copied jump.label) × IfSome jump.brace (λ place. IsPlaced text (BadLabel place))
 
@@ -33,14 +33,14 @@ IsWrittenAt text (code.BranchTo jump) = IsJumpAt text jump
 IsWrittenAt text (code.TestTo jump) = IsJumpAt text jump
 IsWrittenAt text code.Opening = Unit {0}
 
--- a `}` is right behind the label of a branch or a test
+-- a `}` is right after the label of a branch or a test
 abbrev pub is_braced : WrittenVerb → Bool
 is_braced (Known verb) = false
 is_braced (BranchTo label braced) = braced
 is_braced (TestTo label braced) = braced
 is_braced Opening = false
 
--- two lists behind the delimiter of a `y`, equally long
+-- two lists after the delimiter of a `y`, equally long
 pub record AreLists (delimiter : ℕ) (text from to rest : List ℕ) : Type 0 where
   pub behind : List ℕ
   pub first : FirstList delimiter text from behind

@@ -16,7 +16,7 @@ pub record AreSearchSets (members frontier : List ℕ) : Type 0 where
   pub is_frontier : IsNodeSet frontier
   pub among : (n : Node) → IsIn frontier n → IsIn members n
 
--- The sets before and after a node was added to both, unless it was there. `first` isn't behind it.
+-- The sets before and after a node was added to both, unless it was there. `first` isn't after it.
 pub record AddsNode (node : Node) (members frontier members' frontier' : List ℕ) (first first' : ℕ) : Type 0 where
   pub kept : (n : Node) → IsIn members n → IsIn members' n
   pub waits_on : (n : Node) → IsIn frontier n → IsIn frontier' n
@@ -43,7 +43,7 @@ abbrev pub LeadsInto : Program → EdgeFilter → List ℕ → Node → Type 0
 LeadsInto p filter members n = (e : Edge) → FollowedEdge p filter e → e.from ≡ n → IsIn members e.to
 
 -- The sets before and after targets of a node were added. Each new node is one of the frontier, or all its edges lead into the set;
--- `first` isn't behind any new node of the frontier.
+-- `first` isn't after any new node of the frontier.
 pub record AddsTargets (p : Program) (filter : EdgeFilter) (from : Node) (members frontier members' frontier' : List ℕ) (first first' : ℕ) : Type 0 where
   pub kept : (n : Node) → IsIn members n → IsIn members' n
   pub waits_on : (n : Node) → IsIn frontier n → IsIn frontier' n

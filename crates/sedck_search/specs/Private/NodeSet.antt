@@ -2,7 +2,7 @@
 use Rattle.std.specs.Prelude.{◌≡◌, ◌≢◌, ◌⊎◌, ℕ, ◌/◌, ◌%◌, ◌<◌, ◌≤◌, ◌^◌, ◌==◌, Bool, true, false, List, length, slice_index, bit_or, All}
 use Rattle.std.specs.Int.{bit_at}
 
--- whether the set has the node; no node lies behind its words
+-- whether the set has the node; no node lies after its words
 unfoldable pub has : List ℕ → ℕ → Bool
 has words node = bit_at (slice_index words (node / 64)) (node % 64) == 1
 

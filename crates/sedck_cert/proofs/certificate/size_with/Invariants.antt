@@ -4,7 +4,7 @@ use Rattle.sedck_cert.specs.View.{names_of}
 use Rattle.sedck_cert.specs.Private.Reading.{AreNext, one_before}
 use Rattle.sedck_cert.proofs.certificate.size_with.Given as goal
 
--- all are names where those that are left are, behind the one before
+-- all are names where those that are left are, after the one before
 abbrev pub invariant-loop-name : goal.invariant-loop-name
 invariant-loop-name l =
     (AreNext [] (names_of l.names) l.fn.size ↔ AreNext (one_before l.before) (names_of (drop l.name-index l.names)) l.size)

@@ -4,7 +4,8 @@ use Rattle.std.specs.Option.{option_copied}
 use Rattle.sedck_script.specs.View.{verb_of, command_of}
 use Rattle.sedck_script.specs.Names.{AreIncreasing, sorted_names}
 use Rattle.sedck_script.specs.declared.script.Command.{Command}
-use Rattle.sedck_script.specs.Private.NameReading.{accessed, all_accessed, with_any}
+use Rattle.sedck_script.specs.Names.{accessed}
+use Rattle.sedck_script.specs.Private.NameReading.{all_accessed, with_any}
 use Rattle.sedck_script.proofs.SortedNames.{sorted_names-rise}
 use Rattle.sedck_script.proofs.NameLemmas.{names_from}
 use Rattle.sedck_script.proofs.name_lists.sorted_names.Goals as goal

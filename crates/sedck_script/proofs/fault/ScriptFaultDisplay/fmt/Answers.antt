@@ -3,7 +3,7 @@ use Rattle.sedck_bre.specs.FaultWords.{fault_words as expression_fault_words}
 use Rattle.sedck_script.specs.FaultWords.{fault_words}
 use Rattle.sedck_script.proofs.fault.ScriptFaultDisplay.fmt.Goals as goal
 
--- pieces that are written one behind another
+-- pieces that are written one after another
 regroup : (a b c d e f g h : List ℕ) → a ++ b ++ c ++ d ++ (e ++ f) ++ (g ++ h) ≡ a ++ (b ++ (c ++ (d ++ (e ++ (f ++ (g ++ h))))))
 regroup a b c d e f g h = simp append_assoc
 
