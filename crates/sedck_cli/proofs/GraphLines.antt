@@ -54,7 +54,7 @@ one_more p n index before mid after is upto adds = record {
       ∙ ap (λ t. before ++ t) (sym (edge_lines-append upto.edges adds.edges));
 }
 
--- behind the last node these are all edges
+-- after the last node these are all edges
 pub all_nodes : (p : Program) (index : ℕ) (before after : List ℕ) → node_count (length p.commands) ≤ index → (upto : IsGraphUpTo p index before after)
     → ListsEdges upto.edges (Flow p)
 all_nodes p index before after end upto = record {

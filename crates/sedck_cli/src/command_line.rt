@@ -73,7 +73,7 @@ impl Refusal {
     /// It takes no memory.
     pub fn report<E: Sink>(self, err: &mut E) -> u8
         ensures status { result ≡ status_of self }
-        // The line stands there, unless a write has failed.
+        // The line is written, unless a write has failed.
         ensures line { E.has_failed err.new ≡ false → Appends (E.taken err.old) (E.taken err.new) (refusal_line self) }
     {
         let _ = write_refusal(err, self);
@@ -97,7 +97,7 @@ enum Request<'a> {
 }
 
 /// The whole program for the words after its name, and its exit status: 0 for yes, 1 for no, 2 where the script or the
-/// certificate is refused, 3 for words of no known form, 4 where a stream fails or memory runs out.
+/// certificate is refused, 3 for invalid arguments, 4 where a stream fails or memory runs out.
 ///
 /// It is `program_over` the files of the system, of which nothing is known: reports and refusals are those of some bytes.
 pub fn program<R: Files + AllocGlobal, W: Sink, E: Sink>(
@@ -252,8 +252,8 @@ fn open<O: Opener>(files: &O, path: &str, input: Input) -> Result<O::File, Refus
     }
 }
 
-/// What the words ask for, read from the words themselves, so that no theorem rests on `clap`: it is asked about words of no known
-/// form alone. There are no options: any word that begins with a hyphen is refused.
+/// What the words ask for, read from the words themselves, so that no theorem rests on `clap`: it is asked about invalid
+/// arguments alone. There are no options: any word that begins with a hyphen is refused.
 fn read_request<'a>(alloc: Global, words: &'a [String]) -> Result<Request<'a>, Refusal>
     ensures asked { IfOk result (λ request. request_asks request ≡ asked words.now) }
     ensures refused { IfErr result IsOfWords }

@@ -4,8 +4,9 @@ ghost use Rattle.std.specs.Prelude.{◌≡◌, true, false, List, ℕ, Option, N
 ghost use Rattle.sedck_cli.specs.Opened.{Known, unknown};
 
 use sedck_cert::streams::{Failed, FromRead, Source};
-use std::fs;
 use std::fs::Files;
+use std::io::{ErrorKind, Read};
+use std::{fs, io};
 
 /// What opens the files that arguments name.
 pub trait Opener {
@@ -21,6 +22,12 @@ pub trait Opener {
         ensures opened { IfOk result (λ file. (known self.now).may_open path.now true) }
         ensures refused { OnErr result ((known self.now).may_open path.now false) }
         ensures failing { (file : Self.File) → IsTrue (Self.File.has_failed file) → (known self.now).may_fail };
+
+    /// Why the file at the path can't be read, in a few words, where that is known. It tries once more, since a failed read keeps
+    /// no reason.
+    fn why_unreadable(&self, _path: &str) -> Option<&'static str> {
+        None
+    }
 }
 
 /// The files of the system. Nothing is known of them.
@@ -45,5 +52,32 @@ impl<R: Files> Opener for FromFiles<'_, R> {
             Ok(file) => Ok(FromRead::new(file)),
             Err(_) => Err(Failed),
         }
+    }
+
+    fn why_unreadable(&self, path: &str) -> Option<&'static str> {
+        match first_byte(self.files, path) {
+            Ok(()) => None,
+            Err(error) => reason_of(error.kind()),
+        }
+    }
+}
+
+/// Opens the file at the path, and reads its first byte.
+fn first_byte<R: Files>(files: &R, path: &str) -> io::Result<()> {
+    let mut file = fs::open(files, path)?;
+    file.read(&mut [0])?;
+    Ok(())
+}
+
+/// The reason in words, for those that a user can mend.
+fn reason_of(kind: ErrorKind) -> Option<&'static str> {
+    match kind {
+        ErrorKind::NotFound => Some("no such file"),
+        ErrorKind::PermissionDenied => Some("permission denied"),
+        ErrorKind::IsADirectory => Some("it is a directory"),
+        ErrorKind::NotADirectory => Some("a part of the path is not a directory"),
+        ErrorKind::FilesystemLoop => Some("too many symbolic links"),
+        ErrorKind::InvalidFilename => Some("the name is too long"),
+        _ => None,
     }
 }

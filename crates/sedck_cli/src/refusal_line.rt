@@ -98,7 +98,7 @@ fn write_fault<E: Sink>(err: &mut E, number: u8, name: &str) -> Result<(), Faile
     write_all(err, name.as_bytes())
 }
 
-/// Writes the place behind the words that lead to it, where there is one.
+/// Writes the place after the words that lead to it, where there is one.
 fn write_place<E: Sink>(err: &mut E, words: &[u8], place: Option<usize>) -> Result<(), Failed>
     ensures written { OnOk result (Appends (E.taken err.old) (E.taken err.new) (place_behind words.now place)) }
     ensures failure { ReportsFailure result (E.has_failed err.old) (E.has_failed err.new) }

@@ -1,4 +1,4 @@
--- A place behind the words that lead to it.
+-- A place after the words that lead to it.
 use Rattle.std.specs.Prelude.{ℕ, List, [], ◌++◌, Option, Some, None, decimal}
 
 -- the words and the place, or nothing where there is no place

@@ -18,7 +18,7 @@ edge_on nodes kinds i node kind below_nodes below_kinds is_node is_kind =
     (drop-cons kinds i kind below_kinds ∙ ap (λ k. k ∷ drop (suc i) kinds) (sym is_kind))
     ∙ ap (λ k. line (node_words node ++ codes " " ++ kind_text kind) ++ walk_lines (drop k nodes) (drop k kinds)) (sym next)
 
--- behind the last edge the last node is left
+-- after the last edge the last node is left
 node_left : (nodes : List Node) (kinds : List Kind) (i : ℕ) (node : Node) → i ≡ length kinds → length nodes ≡ suc (length kinds) → node ≡ get_or nodes i node
     → walk_lines (drop i nodes) (drop i kinds) ≡ line (node_words node)
 node_left nodes kinds i node is long is_node =
