@@ -6,15 +6,14 @@ use Rattle.sedck_script.specs.declared.fault.ScriptFault.{ScriptFault}
 use Rattle.sedck_script.specs.declared.fault.ScriptFault.TheVariants as script
 use Rattle.sedck_cert.specs.Certificate.{Certificate}
 use Rattle.sedck_cert.specs.Versions.{SpellsCertificate, IsFaultIn}
-use Rattle.sedck_cert.specs.Headline.{SpellsOnly, IsTextOfOnly, IsScriptFaultOf}
+use Rattle.sedck_cert.specs.Headline.{SpellsOnly, IsScriptFaultOf}
 use Rattle.sedck_cert.specs.declared.reading.CertFault.{CertFault}
 use Rattle.sedck_cert.specs.declared.reading.CertFault.TheVariants as cert
-use Rattle.sedck_cert.specs.declared.verifying.Fault.{Fault}
 use Rattle.sedck_cert.specs.declared.verifying.Fault.TheVariants as below
 use Rattle.sedck_findings.specs.declared.answer.Answer.{Answer}
 use Rattle.sedck_findings.specs.declared.answer.Answer.TheVariants.{CertificateRefused, Accepted, Rejected, Endless}
 use Rattle.sedck_findings.specs.Answers.{IsAnswer}
-use Rattle.sedck_findings.specs.Private.Answering.{IsFoundAnswer, IsJudgedAnswer, IsAcceptedAnswer, refusal}
+use Rattle.sedck_findings.specs.Private.Answering.{IsFoundAnswer, IsJudgedAnswer, refusal}
 
 -- what holds of what is there holds of the value that is there
 pub of_some : {A : Type 0} (P : A → Type 0) (o : Option A) (x : A) → o ≡ Some x → IfSome o P → P x
@@ -32,14 +31,6 @@ pub certificate_refused : (p : Program) (bytes : List ℕ) (why : CertFault) (an
     → (why ≡ cert.OutOfMemory) ⊎ (((c : Certificate) → ¬ SpellsCertificate bytes c) × IsFaultIn bytes why) → IsJudgedAnswer p bytes answer
 certificate_refused p bytes why answer is refused =
     of_some (IsJudgedAnswer p bytes) (refusal (below.Certificate why)) answer is (certificate_refusal p bytes why refused)
-
--- a certificate that is accepted, whether it was found or read
-pub accepted_found : (p : Program) (c : Certificate) (answer : Answer) → IsAcceptedAnswer p c answer → IsFoundAnswer p answer
-accepted_found p c answer h = rw h.1 (h.2, h.3)
-
-pub accepted_judged : (p : Program) (bytes : List ℕ) (c : Certificate) (answer : Answer) → IsTextOfOnly bytes c → IsAcceptedAnswer p c answer
-    → IsJudgedAnswer p bytes answer
-accepted_judged p bytes c answer written h = rw h.1 (written, h.2, h.3)
 
 -- the answer for the script's text, where this script is read from it
 pub judged_answer : (text bytes : List ℕ) (p : Program) (answer : Answer) → SpellsOnly text p → IsJudgedAnswer p bytes answer → IsAnswer text (Some bytes) answer

@@ -98,6 +98,8 @@ explained_script text given denied p locations answer e spelled located is expla
   is_status = explains.is_status;
   keeps = subst (λ (a : Answer). Keeps text a e) (sym explains.is_answer) (keeps_script text given p locations answer e spelled located is kept);
   errors = explains.errors;
+  order = explains.order;
+  ends = explains.ends;
 }
 
 -- and of one that is refused
@@ -109,4 +111,6 @@ explained_refusal text given denied answer e refused is explains kept = record {
   is_status = explains.is_status;
   keeps = subst (λ (a : Answer). Keeps text a e) (sym explains.is_answer) (keeps_nothing text answer e refused kept);
   errors = explains.errors;
+  order = explains.order;
+  ends = explains.ends;
 }

@@ -1,8 +1,13 @@
 -- The findings of the level of errors, this project's own: which answers have one, and where in the script it is.
-use Rattle.std.specs.Prelude.{◌≡◌, ◌==◌, ◌≤◌, ℕ, Bool, true, false, not, List, [], ◌∷◌, length, Option, Some, None, slice_get}
+use Rattle.std.specs.Prelude.{◌≡◌, ◌==◌, ℕ, zero, suc, ◌+◌, Bool, true, false, not, List, [], ◌∷◌, Option, Some, None, slice_get}
 use Rattle.std.specs.List.{list_any}
 use Rattle.sedck_flow.specs.declared.graph.Node.{Node}
+use Rattle.sedck_bre.specs.FaultWords as expressions
+use Rattle.sedck_bre.specs.declared.fault.ReFault.{ReFault}
+use Rattle.sedck_script.specs.Parts.{DelimitedExpression}
+use Rattle.sedck_script.specs.Parts.DelimitedExpression.{ends, byte, escaped, pair}
 use Rattle.sedck_script.specs.FaultWords.{fault_place}
+use Rattle.sedck_script.specs.Faults.{IsRefusedExpression}
 use Rattle.sedck_script.specs.declared.fault.ScriptFault.{ScriptFault}
 use Rattle.sedck_script.specs.declared.fault.ScriptFault.TheVariants.{BadExpression}
 use Rattle.sedck_cert.specs.declared.checking.Rejection.{Rejection}
@@ -44,10 +49,24 @@ rejection_position positions (LeavesRanked edge) = node_position positions edge.
 rejection_position positions (NotLowered edge) = node_position positions edge.from
 rejection_position positions _ = None
 
--- The offset of a fault in the script's text. For a fault inside of an expression it is one from the expression's start on: which
--- byte it is where the expression has escaped delimiters isn't said.
+-- How many bytes of the text after the opening delimiter are before the byte with this index in the expression: an escaped delimiter
+-- is one byte of the expression and two of the text.
+abbrev pub bytes_before : {delimiter : ℕ} {text expression rest : List ℕ} → DelimitedExpression delimiter text expression rest → ℕ → ℕ
+bytes_before cut zero = 0
+bytes_before (ends is) (suc index) = 0
+bytes_before (byte other plain inside more) (suc index) = 1 + bytes_before more index
+bytes_before (escaped mark is allowed more) (suc index) = 2 + bytes_before more index
+bytes_before (pair mark other inside more) (suc zero) = 1
+bytes_before (pair mark other inside more) (suc (suc index)) = 2 + bytes_before more index
+
+-- the offset of an expression's byte in the text, where the expression begins at the place
+abbrev pub IsExpressionOffset : {text : List ℕ} {place : ℕ} {cause : ReFault} → IsRefusedExpression text place cause → ℕ → Type 0
+IsExpressionOffset {place = place} {cause = cause} refused offset =
+    (index : ℕ) × (expressions.fault_place cause ≡ Some index) × (offset ≡ place + bytes_before refused.written.cut index)
+
+-- The offset of a fault in the script's text. The place of a fault inside of an expression is one in the expression.
 abbrev pub IsFaultOffset : List ℕ → ScriptFault → ℕ → Type 0
-IsFaultOffset text (BadExpression place cause) offset = (place ≤ offset) × (offset ≤ length text)
+IsFaultOffset text (BadExpression place cause) offset = (refused : IsRefusedExpression text place cause) × IsExpressionOffset refused offset
 IsFaultOffset text why offset = fault_place why ≡ Some offset
 
 -- the position in the script's text of the error of an answer that isn't a yes

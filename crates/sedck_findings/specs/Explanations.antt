@@ -1,5 +1,6 @@
 -- What an explanation keeps of the script beside the answer, this project's own.
 use Rattle.std.specs.Prelude.{◌≡◌, ℕ, List, [], length, map, Option, Some, None}
+use Rattle.std.specs.List.{All}
 use Rattle.sedck_script.specs.Program.{Program}
 use Rattle.sedck_script.specs.Names.{reads, writes}
 use Rattle.sedck_script.specs.Items.{Item, Items}
@@ -9,6 +10,7 @@ use Rattle.sedck_findings.specs.Positions.{position_in}
 use Rattle.sedck_findings.specs.Answers.{IsAnswer}
 use Rattle.sedck_findings.specs.Denial.{has_warning, status_under}
 use Rattle.sedck_findings.specs.Errors.{HasErrors}
+use Rattle.sedck_findings.specs.Reported.{AreInOrder, HasRange}
 use Rattle.sedck_findings.specs.declared.answer.Answer.{Answer}
 use Rattle.sedck_findings.specs.declared.answer.Answer.TheVariants.{ScriptRefused}
 use Rattle.sedck_findings.specs.declared.denied.Denied.{Denied}
@@ -53,3 +55,5 @@ pub record IsExplanation (text : List ℕ) (given : Option (List ℕ)) (denied :
   pub is_status : e.status ≡ status_under denied (has_warning e.findings.items) e.answer
   pub keeps : Keeps text e.answer e
   pub errors : HasErrors text e
+  pub order : AreInOrder e.findings.items
+  pub ends : All (HasRange text) e.findings.items

@@ -20,7 +20,7 @@ shown_byte b = if is_printable b then b ∷ [] else codes "\\x" ++ (hexadecimal 
 abbrev pub shown_in_line : ℕ → List ℕ
 shown_in_line b = if b == tab then codes "    " else shown_byte b
 
--- in a name a backslash is two, so that the name can be read back, and no quote stands alone
+-- in a name a backslash is two, so that the name can be read back, and no quote is alone
 abbrev pub shown_in_name : ℕ → List ℕ
 shown_in_name b =
     if b == backslash then codes "\\\\" else if b == 34 then codes "\\\"" else if b == 96 then codes "\\x60" else shown_byte b

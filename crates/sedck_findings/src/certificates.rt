@@ -4,6 +4,7 @@ ghost use Rattle.std.specs.Prelude.{◌≡◌, None, IfOk};
 ghost use Rattle.sedck_findings.specs.Errors.{rejection_position as position_of_rejection};
 ghost use Rattle.sedck_findings.specs.declared.finding.Level.TheVariants.{Error};
 
+use crate::code::Code;
 use crate::finding::{Finding, Level, Step};
 use crate::places::Position;
 use crate::steps::{position_of, step, target_step};
@@ -18,20 +19,22 @@ pub(crate) fn certificate_refusal(alloc: Global, fault: CertFault) -> Result<Fin
     ensures position { IfOk result (λ finding. finding.position ≡ None) }
 {
     let wanted = match fault {
-        CertFault::BadHeader { .. } => "`sedck 2`, or `sedck 1` in a certificate of version 1",
+        CertFault::BadHeader { .. } => "`sedck 2`, or `sedck 1` for version 1",
         CertFault::BadCount { .. } => "`commands` and the number of commands",
-        CertFault::BadNode { .. } => "the next node with its two ranks",
-        CertFault::BadNames { .. } => "a list's count, or the next name in order",
-        CertFault::BadEnd { .. } => "`end`, or something follows it",
-        CertFault::OutOfMemory => "there: out of memory",
+        CertFault::BadNode { .. } => "the next node and its two ranks",
+        CertFault::BadNames { .. } => "the number of names in a list, or the next name in order",
+        CertFault::BadEnd { .. } => "`end`, and nothing after it",
+        CertFault::OutOfMemory => return Err(AllocError),
     };
     let line = fault.line().unwrap_or(0);
     Ok(Finding {
         level: Level::Error,
-        code: fault.name(),
+        code: Code::of_certificate_fault(fault)?,
         position: None,
-        message: format!(in alloc; "line {line} of the certificate isn't {wanted}")?,
-        hint: Some("certificates are written by `sedck rank` and `sedck upgrade`: make it again"),
+        end: None,
+        message: format!(in alloc; "line {line} of the certificate: expected {wanted}")?,
+        hint: Some("make the certificate again, with `sedck rank` or `sedck upgrade`"),
+        fix: None,
         steps: Vec::new(alloc),
     })
 }
@@ -58,7 +61,7 @@ pub(crate) fn rejection(
         Rejection::WrongCount => {
             let has = script.commands().len();
             let wanted = cert.commands();
-            format!(in alloc; "{words}: {has}, and not {wanted}")?
+            format!(in alloc; "{words}: {wanted}, and not {has}")?
         }
         _ => String::from_str(alloc, words)?,
     };
@@ -66,8 +69,10 @@ pub(crate) fn rejection(
         level: Level::Error,
         code,
         position: rejection_position(positions, why),
+        end: None,
         message,
         hint: Some(hint),
+        fix: None,
         steps,
     })
 }
@@ -84,38 +89,38 @@ fn rejection_position(positions: &[Position], why: Rejection) -> Option<Position
     }
 }
 
-/// The name of a rejection, what it says, and how to go on.
-fn rejection_words(why: Rejection) -> (&'static str, &'static str, &'static str) {
+/// The code of a rejection, its message and its hint.
+fn rejection_words(why: Rejection) -> (Code, &'static str, &'static str) {
     let changed = "if the script was changed, run `sedck rank` again and read what it prints";
     match why {
         Rejection::WrongCount => (
-            "wrong-count",
-            "the script has another number of commands than the certificate was made for",
+            Code::WrongCount,
+            "the certificate was made for another number of commands",
             changed,
         ),
         Rejection::StartUnranked => (
-            "start-unranked",
-            "a run may begin on the last line or before it, and the certificate has no ranks for one of these",
+            Code::StartUnranked,
+            "the certificate has no ranks for one of the two nodes where a run may begin",
             "give ranks to the nodes `0 0 0` and `0 0 1`",
         ),
         Rejection::LeavesRanked(_) => (
-            "leaves-ranked",
+            Code::LeavesRanked,
             "a step leads from a node with ranks to one without",
             changed,
         ),
         Rejection::NotLowered(_) => (
-            "not-lowered",
-            "a step that reads no line doesn't lower the ranks as it must: the first one where it may make the pattern space longer, the first or the second one where it doesn't",
-            "if the script was changed, run `sedck rank` again; where that finds a loop, no ranks are right",
+            Code::NotLowered,
+            "a step that reads no line must lower the first rank (if it may lengthen the pattern space) or either rank (if not), and doesn't",
+            "if the script was changed, run `sedck rank` again; if that finds a loop, no ranks will do",
         ),
         Rejection::ReadsDiffer => (
-            "reads-differ",
-            "the script reads other files than the certificate lists",
+            Code::ReadsDiffer,
+            "the files that the script reads aren't those that the certificate lists",
             "look at what `sedck files` lists before you make the certificate again",
         ),
         Rejection::WritesDiffer => (
-            "writes-differ",
-            "the script writes other files than the certificate lists",
+            Code::WritesDiffer,
+            "the files that the script writes aren't those that the certificate lists",
             "look at what `sedck files` lists before you make the certificate again",
         ),
     }

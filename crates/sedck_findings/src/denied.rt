@@ -4,6 +4,7 @@ ghost use Rattle.std.specs.Prelude.{◌≡◌, ◌&&◌, ◌||◌, not, true, fa
 ghost use Rattle.sedck_findings.specs.Denial.{has_warning, is_there, is_warning};
 ghost use Rattle.sedck_findings.specs.Errors.{has_error, is_error};
 
+use crate::code::Code;
 use crate::finding::{Finding, Level, NamedFile};
 use crate::places::Position;
 use crate::shown::shown_name;
@@ -54,7 +55,7 @@ pub(crate) fn has_writes(cert: &Cert) -> bool
     !cert.writes().is_empty()
 }
 
-/// The findings on an accepted script behind an error for each thing that is denied and there.
+/// The findings on an accepted script after an error for each thing that is denied and there.
 pub(crate) fn with_denials(
     alloc: Global,
     mut findings: Vec<Finding>,
@@ -70,10 +71,10 @@ pub(crate) fn with_denials(
 {
     let mut all = Vec::new(alloc);
     if denied.reads {
-        push_files(alloc, &mut all, reads, "denied-reads", "reads")?;
+        push_files(alloc, &mut all, reads, Code::DeniedReads, "reads")?;
     }
     if denied.writes {
-        push_files(alloc, &mut all, writes, "denied-writes", "writes")?;
+        push_files(alloc, &mut all, writes, Code::DeniedWrites, "writes")?;
     }
     if denied.unbounded && !is_bounded {
         all.push(unbounded_denial(alloc, &findings)?)?;
@@ -90,7 +91,7 @@ fn push_files(
     alloc: Global,
     findings: &mut Vec<Finding>,
     files: &[NamedFile],
-    code: &'static str,
+    code: Code,
     does: &'static str,
 ) -> Result<(), AllocError>
     ensures errors { OnOk result (has_error findings.new.items ≡ (has_error findings.old.items || is_there files.now)) }
@@ -98,7 +99,7 @@ fn push_files(
 {
     for file in files {
         let name = shown_name(alloc, file.name)?;
-        let message = format!(in alloc; "this {does} \"{name}\", which `--deny {does}` rules out")?;
+        let message = format!(in alloc; "this {does} \"{name}\", which `--deny {does}` forbids")?;
         findings.push(denial(alloc, code, file.positions.first().copied(), message))?;
     }
     Ok(())
@@ -115,11 +116,13 @@ fn push_warnings(
 {
     for finding in given {
         if finding.is_warning() {
-            let code = finding.code;
+            let code = finding.code.name();
             let message = format!(in alloc;
-                "the warning `{code}` is here, which `--deny warnings` rules out"
+                "this has the warning `{code}`, which `--deny warnings` forbids"
             )?;
-            findings.push(denial(alloc, "denied-warnings", finding.position, message))?;
+            let mut error = denial(alloc, Code::DeniedWarnings, finding.position, message);
+            error.end = finding.end;
+            findings.push(error)?;
         }
     }
     Ok(())
@@ -132,17 +135,17 @@ fn unbounded_denial(alloc: Global, findings: &[Finding]) -> Result<Finding, Allo
 {
     let position = findings
         .iter()
-        .find(|finding| finding.code == "no-bound")
+        .find(|finding| finding.code == Code::NoBound)
         .and_then(|finding| finding.position);
     let message = String::from_str(
         alloc,
-        "no limit on the steps is known, which `--deny unbounded` rules out",
+        "no limit on the steps is known, which `--deny unbounded` forbids",
     )?;
-    Ok(denial(alloc, "denied-unbounded", position, message))
+    Ok(denial(alloc, Code::DeniedUnbounded, position, message))
 }
 
 /// An error on something that is denied.
-fn denial(alloc: Global, code: &'static str, position: Option<Position>, message: String) -> Finding
+fn denial(alloc: Global, code: Code, position: Option<Position>, message: String) -> Finding
     ensures error { is_error result.level ≡ true }
     ensures warning { is_warning result.level ≡ false }
 {
@@ -150,8 +153,10 @@ fn denial(alloc: Global, code: &'static str, position: Option<Position>, message
         level: Level::Error,
         code,
         position,
+        end: None,
         message,
         hint: None,
+        fix: None,
         steps: Vec::new(alloc),
     }
 }

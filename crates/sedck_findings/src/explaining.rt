@@ -11,12 +11,14 @@ use crate::answer::{Answer, Answered, answer_of};
 use crate::certificates::{certificate_refusal, rejection};
 use crate::denied::{Denied, any_warning, with_denials};
 use crate::finding::{Explanation, Finding, NamedFile};
+use crate::ignored::{ignored_codes, ignoring_words, unknown_warnings};
 use crate::looks::look_warnings;
 use crate::loops::{loop_finding, unbounded};
-use crate::names::{Access, name_warnings, named_files};
+use crate::names::{name_warnings, named_files};
 use crate::places::{Position, positions};
 use crate::refusals::script_refusal;
-use sedck_script::{Located, Location, Script};
+use crate::reporting::reported;
+use sedck_script::{Access, Located, Location, Script};
 use std::alloc::{AllocError, Global};
 
 /// Explains what the engines answer of the script, alone or with a certificate: `judge`'s verdict, or what `search` finds. What is
@@ -54,9 +56,15 @@ fn explained<'a>(
     let script = &located.script;
     let reads = named_files(alloc, script.reads(), script, &positions, Access::Read)?;
     let writes = named_files(alloc, script.writes(), script, &positions, Access::Write)?;
-    let found = findings_of(alloc, text, &located, &positions, &answer, &reads, &writes)?;
-    let findings = denied_findings(alloc, found, denied, &answer, &reads, &writes)?;
-    let status = answer.status_under(denied, any_warning(&findings));
+    let words = ignoring_words(alloc, text, &located.locations)?;
+    let mut found = answer_findings(alloc, text, script, &positions, &answer)?;
+    look_warnings(alloc, &mut found, text, &located.locations)?;
+    name_warnings(alloc, &mut found, &reads, &writes)?;
+    unknown_warnings(alloc, &mut found, text, &words)?;
+    let all = denied_findings(alloc, found, denied, &answer, &reads, &writes)?;
+    let status = answer.status_under(denied, any_warning(&all));
+    let ignored = ignored_codes(alloc, &words, denied)?;
+    let findings = reported(alloc, text, &located.locations, all, &ignored)?;
     Ok(Explanation {
         text,
         answer,
@@ -81,8 +89,9 @@ fn refused<'a>(
     ensures keeps { IfOk result KeepsNothing }
     ensures few { IfOk result (λ e. e.status ≤ 2) }
 {
-    let findings = refusal_findings(alloc, text, &answer)?;
-    let status = answer.status_under(denied, any_warning(&findings));
+    let found = refusal_findings(alloc, text, &answer)?;
+    let status = answer.status_under(denied, any_warning(&found));
+    let findings = reported(alloc, text, &[], found, &[])?;
     Ok(Explanation {
         text,
         answer,
@@ -108,27 +117,7 @@ fn refusal_findings(alloc: Global, text: &[u8], answer: &Answer) -> Result<Vec<F
     Ok(findings)
 }
 
-/// What is reported before anything is denied: of the answer, of how the script looks, and of its names.
-fn findings_of(
-    alloc: Global,
-    text: &[u8],
-    located: &Located,
-    positions: &[Position],
-    answer: &Answer,
-    reads: &[NamedFile],
-    writes: &[NamedFile],
-) -> Result<Vec<Finding>, AllocError>
-    requires { CanBeReported text.now answer.now }
-    ensures { IfOk result (λ findings. AreFindingsOf text.now positions.now answer.now findings.items) }
-{
-    let mut findings = answer_findings(alloc, text, &located.script, positions, answer)?;
-    look_warnings(alloc, &mut findings, text, &located.locations)?;
-    name_warnings(alloc, &mut findings, reads, writes, Access::Read)?;
-    name_warnings(alloc, &mut findings, writes, reads, Access::Write)?;
-    Ok(findings)
-}
-
-/// The findings, behind an error for each thing that is denied where the script is accepted.
+/// The findings, after an error for each thing that is denied where the script is accepted.
 fn denied_findings(
     alloc: Global,
     findings: Vec<Finding>,

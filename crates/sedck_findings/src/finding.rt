@@ -2,8 +2,10 @@
 
 ghost use Rattle.std.specs.Prelude.{◌≡◌};
 ghost use Rattle.sedck_findings.specs.Denial.{is_warning};
+ghost use Rattle.sedck_findings.specs.Errors.{is_error};
 
 use crate::answer::Answer;
+use crate::code::Code;
 use crate::places::Position;
 use sedck_flow::{Kind, Node};
 use sedck_script::Script;
@@ -23,25 +25,44 @@ pub enum Level {
 #[derive(Drop)]
 pub struct Finding {
     pub level: Level,
-    /// A name in lower case with hyphens, such as `bad-flag`, `loop-idle`, `not-lowered` or `absolute-name`. It stays the same.
-    pub code: &'static str,
+    pub code: Code,
     /// Where in the script it is.
     pub position: Option<Position>,
+    /// The end of what is meant, which is no part of it, where it is known.
+    pub end: Option<Position>,
     /// A sentence without its full stop. Only printable ASCII.
     pub message: String,
     /// What to write instead, or how to go on.
     pub hint: Option<&'static str>,
+    /// A change of the script's text that mends it, where there is one.
+    pub fix: Option<Fix>,
     /// What belongs to it, in order: the steps of a loop, the two ends of an edge.
     pub steps: Vec<Step>,
 }
 
 impl Finding {
+    /// Whether it is an error.
+    pub fn is_error(&self) -> bool
+        ensures { result ≡ is_error self.now.level }
+    {
+        matches!(self.level, Level::Error)
+    }
+
     /// Whether it is a warning.
     pub fn is_warning(&self) -> bool
         ensures { result ≡ is_warning self.now.level }
     {
         matches!(self.level, Level::Warning)
     }
+}
+
+/// The text to write in place of a part of the script.
+#[derive(Clone, Copy, Debug, PartialEq, Eq)]
+pub struct Fix {
+    pub start: Position,
+    /// The first byte after the part.
+    pub end: Position,
+    pub text: &'static str,
 }
 
 /// A step of a loop or along an edge that is rejected.

@@ -7,20 +7,25 @@
 
 mod answer;
 mod certificates;
+mod code;
 mod denied;
+mod ends;
 mod explaining;
 mod finding;
+mod ignored;
 mod looks;
 mod loops;
 mod names;
 mod places;
 mod refusals;
+mod reporting;
 mod shown;
 mod steps;
 
 pub use answer::Answer;
+pub use code::Code;
 pub use denied::Denied;
 pub use explaining::explain;
-pub use finding::{Explanation, Finding, Level, NamedFile, Step};
+pub use finding::{Explanation, Finding, Fix, Level, NamedFile, Step};
 pub use places::{Position, line_at, position_at};
 pub use shown::{is_printable, shown_line, shown_name};

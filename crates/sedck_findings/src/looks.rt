@@ -4,13 +4,15 @@ ghost use Rattle.std.specs.Prelude.{◌≡◌, false, IfOk, OnOk};
 ghost use Rattle.sedck_findings.specs.Errors.{is_error};
 ghost use Rattle.sedck_findings.specs.Private.Errors.{AddsNoError};
 
-use crate::finding::{Finding, Level};
+use crate::code::Code;
+use crate::ends::end_behind;
+use crate::finding::{Finding, Fix, Level};
 use crate::places::{Position, position_at, positions};
 use sedck_hints::{Reading, behind_part, is_blank};
 use sedck_script::Location;
 use std::alloc::{AllocError, Global};
 
-/// Warns of options in the first line, of a `}` behind a label, and of the first expression that looks like an extended one.
+/// Warns of options in the first line, of a `}` after a label, and of the first expression that looks like an extended one.
 pub(crate) fn look_warnings(
     alloc: Global,
     findings: &mut Vec<Finding>,
@@ -20,13 +22,16 @@ pub(crate) fn look_warnings(
     ensures { OnOk result (AddsNoError findings.old.items findings.new.items) }
 {
     if has_options(text) {
-        findings.push(warning(
+        let start = position_at(text, 0);
+        let mut found = warning(
             alloc,
-            position_at(text, 0),
-            "options-in-first-line",
-            "this line gives sed other options than -n and -f, and nothing is said of runs with these",
-            "with `-E` the expressions mean something else, `-i` writes files, `-s` and `-z` cut the input in another way",
-        )?)?;
+            start,
+            Code::OptionsInFirstLine,
+            "this line gives sed options other than -n and -f, and nothing is known of runs with them",
+            "with `-E` the expressions mean something else, `-i` writes files, `-s` and `-z` divide the input differently",
+        )?;
+        found.end = Some(end_behind(text, start, text.len()));
+        findings.push(found)?;
     }
     brace_warnings(alloc, findings, text, locations)?;
     extended_warning(alloc, findings, text, locations)
@@ -42,15 +47,28 @@ fn brace_warnings(
     ensures { OnOk result (AddsNoError findings.old.items findings.new.items) }
 {
     for position in positions(alloc, text, &braces(alloc, text, locations)?)? {
-        findings.push(warning(
-            alloc,
-            position,
-            "brace-behind-label",
-            "BusyBox takes this for a part of the label, so that the block goes on",
-            "write a `;` or a newline before the `}`",
-        )?)?;
+        findings.push(brace_warning(alloc, position)?)?;
     }
     Ok(())
+}
+
+/// A warning of a `}` that follows a label.
+fn brace_warning(alloc: Global, position: Position) -> Result<Finding, AllocError>
+    ensures { IfOk result (λ finding. is_error finding.level ≡ false) }
+{
+    let mut finding = warning(
+        alloc,
+        position,
+        Code::BraceBehindLabel,
+        "BusyBox reads this as part of the label, so that the block isn't closed",
+        "write a `;` or a newline before the `}`",
+    )?;
+    finding.fix = Some(Fix {
+        start: position,
+        end: position,
+        text: ";",
+    });
+    Ok(finding)
 }
 
 /// A warning for the first expression that looks like an extended one.
@@ -67,9 +85,9 @@ fn extended_warning(
             findings.push(warning(
                 alloc,
                 position_at(text, offset),
-                "looks-extended",
-                "in a basic regular expression this is the byte itself: is the script for `sed -E`?",
-                "write `\\(` and `\\)` for a group, `\\{1,\\}` for `+` and `\\{0,1\\}` for `?`; there is no bar. If the byte is meant, put it into a list, as in `[+]`",
+                Code::LooksExtended,
+                "in a basic regular expression this is an ordinary character: is the script meant for `sed -E`?",
+                "write `\\(` and `\\)` for a group, `\\{1,\\}` for `+` and `\\{0,1\\}` for `?`; there is no `|`. If the character is meant, put it into a bracket list, as in `[+]`",
             )?)?;
             return Ok(());
         }
@@ -81,7 +99,7 @@ fn extended_warning(
 fn warning(
     alloc: Global,
     position: Position,
-    code: &'static str,
+    code: Code,
     message: &str,
     hint: &'static str,
 ) -> Result<Finding, AllocError>
@@ -91,8 +109,10 @@ fn warning(
         level: Level::Warning,
         code,
         position: Some(position),
+        end: None,
         message: String::from_str(alloc, message)?,
         hint: Some(hint),
+        fix: None,
         steps: Vec::new(alloc),
     })
 }
@@ -121,7 +141,7 @@ fn is_option(word: &[u8]) -> bool {
     }
 }
 
-/// Whether what is behind the branch is right behind its label, or behind blanks where there is none.
+/// Whether what is after the branch is right after its label, or after blanks where there is none.
 fn is_joined(branch: &[u8]) -> bool {
     match branch {
         [_, label @ ..] => !label.ends_with(b" ") && !label.ends_with(b"\t")
@@ -172,7 +192,7 @@ fn extended_in(text: &[u8], location: Location) -> Option<usize> {
     }
 }
 
-/// What follows the comma behind a first address, and its blanks.
+/// What follows the comma after a first address, and its blanks.
 fn second_address(behind: &[u8]) -> Option<&[u8]> {
     let comma = behind.iter().position(|byte| *byte == b',')?;
     let rest = behind.get(comma.checked_add(1)?..)?;
@@ -189,7 +209,7 @@ fn expression_at(text: &[u8], at: usize) -> Option<(usize, u8)> {
     }
 }
 
-/// The first sign of an extended expression in the one that begins there: `+`, `?` or an interval behind a list, a `)` or a `.`, or
+/// The first sign of an extended expression in the one that begins there: `+`, `?` or an interval after a list, a `)` or a `.`, or
 /// a bar between parentheses.
 fn extended_at(text: &[u8], start: usize, delimiter: u8) -> Option<usize> {
     let part = text.get(start..).unwrap_or(&[]);

@@ -4,6 +4,7 @@ ghost use Rattle.std.specs.Prelude.{◌≡◌, false, IfOk, IfSome};
 ghost use Rattle.sedck_findings.specs.Errors.{first_position, is_error};
 ghost use Rattle.sedck_findings.specs.declared.finding.Level.TheVariants.{Error};
 
+use crate::code::Code;
 use crate::finding::{Finding, Level, Step};
 use crate::places::Position;
 use crate::steps::{position_of, step, target_step};
@@ -25,12 +26,12 @@ pub(crate) fn loop_finding(
 {
     let (code, message) = match walk.form {
         Form::Idle => (
-            "loop-idle",
-            "this loop reads no line, and nothing in it makes the pattern space shorter: a run may go round it for ever",
+            Code::LoopIdle,
+            "this loop reads no line and never shortens the pattern space: it may run forever",
         ),
         Form::Growing => (
-            "loop-growing",
-            "this loop reads no line, and may make the pattern space longer in each round: a run may go round it for ever",
+            Code::LoopGrowing,
+            "this loop reads no line and may lengthen the pattern space each time: it may run forever",
         ),
     };
     let steps = loop_steps(alloc, script, positions, walk)?;
@@ -38,8 +39,10 @@ pub(crate) fn loop_finding(
         level: Level::Error,
         code,
         position: loop_position(positions, walk),
+        end: None,
         message: String::from_str(alloc, message)?,
         hint: Some(loop_hint(script, walk)),
+        fix: None,
         steps,
     })
 }
@@ -86,16 +89,16 @@ fn loop_steps(
 /// How loops of this shape are repaired.
 fn loop_hint(script: &Script, walk: &Walk) -> &'static str {
     if has_verb(script, walk, VerbForm::Reading) {
-        return "take the branch only where a line was read: put it into the block of the `N` or `n`, as in `/x/{`, `N`, `b a`, `}` on lines of their own";
+        return "branch only where a line was read: put the branch into a block with the `N` or `n`, as in `/x/{`, `N`, `b a`, `}` on lines of their own";
     }
     if has_verb(script, walk, VerbForm::Testing) {
         return test_hint(script, walk);
     }
     match walk.form {
         Form::Growing =>
-            "write the command as often as it may be needed, without the loop; or, where a replacement makes no new match, let one `s` with the flag `g` do all at once",
+            "repeat the command as often as it may be needed, without the loop; or, if no replacement makes a new match, use one `s` with the flag `g`",
         Form::Idle =>
-            "let each round read a line, by `n`, `N` or `d`, or make the pattern space shorter; or go round a fixed number of times by writing the commands as often",
+            "make each round read a line, with `n`, `N` or `d`, or shorten the pattern space; or write the commands out a fixed number of times",
     }
 }
 
@@ -103,16 +106,16 @@ fn loop_hint(script: &Script, walk: &Walk) -> &'static str {
 fn test_hint(script: &Script, walk: &Walk) -> &'static str {
     match walk.form {
         Form::Idle if has_verb(script, walk, VerbForm::MatchingNothing) => {
-            "an `s` that matches the empty text sets the flag all the same: let it match one byte at least, as `s/^xx*//` for `s/^x*//`"
+            "an `s` that matches the empty string sets the flag too: make it match at least one byte, as in `s/^xx*//` for `s/^x*//`"
         }
         Form::Idle if has_verb(script, walk, VerbForm::ReplacingAll) => {
-            "write the command as often as it may be needed, and then `t c` and `:c`, since the loop leaves the flag of `t` unset; or give it fuel, as docs/MENDING.md shows"
+            "repeat the command as often as it may be needed, and then write `t c` and `:c`, since the loop leaves the flag of `t` unset; or give the loop fuel, as docs/MENDING.md shows"
         }
         Form::Growing if has_verb(script, walk, VerbForm::ReplacingAll) => {
-            "write the command as often as it may be needed, and then `t c` and `:c`, since the loop leaves the flag of `t` unset"
+            "repeat the command as often as it may be needed, and then write `t c` and `:c`, since the loop leaves the flag of `t` unset"
         }
         _ =>
-            "where a replacement makes no new match, let one `s` with the flag `g` do all at once, else write the command as often as it may be needed; and then `t c` and `:c`, since the loop leaves the flag of `t` unset",
+            "if no replacement makes a new match, use one `s` with the flag `g`, else repeat the command as often as it may be needed; then write `t c` and `:c`, since the loop leaves the flag of `t` unset",
     }
 }
 
@@ -166,13 +169,15 @@ pub(crate) fn unbounded(
     steps.push(step(alloc, script, positions, edge)?)?;
     Ok(Some(Finding {
         level: Level::Note,
-        code: "no-bound",
+        code: Code::NoBound,
         position: position_of(positions, edge.from),
+        end: None,
         message: String::from_str(
             alloc,
-            "every run ends, but no limit on its steps is known, since the pattern space may get longer here",
+            "every run ends, but no limit on its steps is known, since this may lengthen the pattern space",
         )?,
         hint: None,
+        fix: None,
         steps,
     }))
 }

@@ -5,18 +5,12 @@ ghost use Rattle.sedck_findings.specs.Explanations.{names_of};
 ghost use Rattle.sedck_findings.specs.Errors.{is_error};
 ghost use Rattle.sedck_findings.specs.Private.Errors.{AddsNoError};
 
+use crate::code::Code;
 use crate::finding::{Finding, Level, NamedFile};
 use crate::places::Position;
 use crate::shown::{is_printable, shown_name};
-use sedck_script::{Command, Script, Verb};
+use sedck_script::{Access, Script, name_of};
 use std::alloc::{AllocError, Global};
-
-/// What a command does with the file that it names.
-#[derive(Clone, Copy, PartialEq, Eq)]
-pub(crate) enum Access {
-    Read,
-    Write,
-}
 
 /// The names in this order, each with the positions of the commands that name it. The names are sorted.
 pub(crate) fn named_files<'a>(
@@ -57,17 +51,21 @@ fn unplaced_files<'a>(alloc: Global, names: &[&'a [u8]]) -> Result<Vec<NamedFile
     Ok(files)
 }
 
-/// The file that the command reads or writes.
-fn name_of<'a>(command: &Command<'a>, access: Access) -> Option<&'a [u8]> {
-    match (&command.verb, access) {
-        (Verb::Read(name), Access::Read) | (Verb::Write(name), Access::Write) => Some(*name),
-        (Verb::Substitute(substitution), Access::Write) => substitution.file,
-        _ => None,
-    }
-}
-
 /// A warning for each name at which a reader should look twice, and each reason for it.
 pub(crate) fn name_warnings(
+    alloc: Global,
+    findings: &mut Vec<Finding>,
+    reads: &[NamedFile],
+    writes: &[NamedFile],
+) -> Result<(), AllocError>
+    ensures { OnOk result (AddsNoError findings.old.items findings.new.items) }
+{
+    side_warnings(alloc, findings, reads, writes, Access::Read)?;
+    side_warnings(alloc, findings, writes, reads, Access::Write)
+}
+
+/// The warnings for the names of one side.
+fn side_warnings(
     alloc: Global,
     findings: &mut Vec<Finding>,
     files: &[NamedFile],
@@ -111,7 +109,7 @@ fn file_warnings(
 /// Why a name should be looked at twice: the finding's code, and the reason.
 #[derive(Clone, Copy)]
 struct Doubt {
-    code: &'static str,
+    code: Code,
     reason: &'static str,
 }
 
@@ -134,8 +132,10 @@ fn warning(
         level: Level::Warning,
         code: doubt.code,
         position: file.positions.first().copied(),
+        end: None,
         message: format!(in alloc; "this {does} \"{name}\": {reason}")?,
         hint: None,
+        fix: None,
         steps: Vec::new(alloc),
     })
 }
@@ -143,8 +143,8 @@ fn warning(
 fn path_doubt(name: &[u8]) -> Option<Doubt> {
     if matches!(name, b"/dev/stdin" | b"/dev/stdout" | b"/dev/stderr") {
         return Some(Doubt {
-            code: "stream-name",
-            reason: "GNU sed takes it for a stream, other seds for a file",
+            code: Code::StreamName,
+            reason: "GNU sed reads it as a stream, other seds as a file",
         });
     }
     let is_device = name.starts_with(b"/dev/")
@@ -152,13 +152,13 @@ fn path_doubt(name: &[u8]) -> Option<Doubt> {
         || name.starts_with(b"/sys/");
     if is_device {
         return Some(Doubt {
-            code: "device-name",
-            reason: "it may be no plain file, so that reading or writing it need not end",
+            code: Code::DeviceName,
+            reason: "it may not be a regular file, so reading or writing it may never end",
         });
     }
     if name.starts_with(b"/") {
         return Some(Doubt {
-            code: "absolute-name",
+            code: Code::AbsoluteName,
             reason: "it is an absolute path",
         });
     }
@@ -173,8 +173,8 @@ fn upward_doubt(name: &[u8]) -> Option<Doubt> {
         return None;
     }
     Some(Doubt {
-        code: "upward-name",
-        reason: "it leads out of the folder in which the script is run",
+        code: Code::UpwardName,
+        reason: "it leads out of the directory where the script runs",
     })
 }
 
@@ -183,8 +183,8 @@ fn byte_doubt(name: &[u8]) -> Option<Doubt> {
         return None;
     }
     Some(Doubt {
-        code: "unprintable-name",
-        reason: "it has bytes that a terminal may not show",
+        code: Code::UnprintableName,
+        reason: "it contains bytes that a terminal may not show",
     })
 }
 
@@ -193,8 +193,8 @@ fn end_doubt(name: &[u8]) -> Option<Doubt> {
         return None;
     }
     Some(Doubt {
-        code: "blank-at-end",
-        reason: "it ends in a blank",
+        code: Code::BlankAtEnd,
+        reason: "it ends in a space",
     })
 }
 
@@ -203,8 +203,8 @@ fn command_doubt(name: &[u8]) -> Option<Doubt> {
         return None;
     }
     Some(Doubt {
-        code: "command-in-name",
-        reason: "a name goes on to the end of its line; was a command or a comment meant?",
+        code: Code::CommandInName,
+        reason: "a name goes on to the end of the line: was a command or a comment meant?",
     })
 }
 
@@ -220,7 +220,7 @@ fn both_doubt(file: &NamedFile, others: &[NamedFile], access: Access) -> Option<
         return None;
     }
     Some(Doubt {
-        code: "read-and-written",
+        code: Code::ReadAndWritten,
         reason: "the script reads it too",
     })
 }

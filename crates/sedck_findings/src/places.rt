@@ -1,6 +1,6 @@
 //! Lines and columns of a text.
 
-ghost use Rattle.std.specs.Prelude.{◌≡◌, ◌+◌, ◌^◌, ◌++◌, ◌∷◌, [], ◌<◌, ◌≤◌, IfOk, List, ℕ, ◌==◌, not, length, map};
+ghost use Rattle.std.specs.Prelude.{◌≡◌, ◌+◌, ◌^◌, ◌++◌, ◌∷◌, [], ◌<◌, ◌≤◌, IfOk, List, ℕ, ◌==◌, drop, not, length, map};
 ghost use Rattle.std.specs.List.{prefix_len};
 ghost use Rattle.sedck_bre.specs.Bytes.{newline};
 ghost use Rattle.sedck_findings.specs.Shown.{line_around};
@@ -103,9 +103,16 @@ pub fn line_at(text: &[u8], position: Position) -> &[u8]
 }
 
 /// How many bytes the text has before its first newline.
-fn line_len(text: &[u8]) -> usize
+pub(crate) fn line_len(text: &[u8]) -> usize
     ensures value { result ≡ prefix_len (λ b. not (b == newline)) text.now }
     ensures within { result ≤ length text.now }
 {
     memchr(b'\n', text).unwrap_or(text.len())
+}
+
+/// What follows this many bytes.
+pub(crate) fn skipped(rest: &[u8], count: usize) -> &[u8]
+    ensures { result.now ≡ drop count rest.now }
+{
+    rest.get(count..).unwrap_or(&[])
 }

@@ -73,16 +73,16 @@ fn verb_words(command: &Command, edge: Edge) -> &'static str {
         Verb::Test(_) => test_words(edge),
         Verb::Block(after) => block_words(edge, *after),
         Verb::Substitute(_) => substitute_words(edge),
-        Verb::Delete => reads_or(edge, "is passed by"),
+        Verb::Delete => reads_or(edge, "is skipped"),
         Verb::DeleteFirstLine => first_line_words(edge.kind),
-        Verb::Next | Verb::NextAppend => reads_or(edge, "is passed by, and reads nothing"),
+        Verb::Next | Verb::NextAppend => reads_or(edge, "is skipped, so no line is read"),
         Verb::Get | Verb::GetAppend | Verb::Exchange => hold_words(edge.kind),
         Verb::Change(_) => reads_or(
             edge,
-            "changes nothing yet: its range goes on, or it is passed by",
+            "does nothing yet: it is skipped, or its range goes on",
         ),
         Verb::Label(_) => "goes on",
-        _ => "goes on; reads nothing",
+        _ => "goes on; reads no line",
     }
 }
 
@@ -90,21 +90,21 @@ fn branch_words(edge: Edge, target: usize) -> &'static str {
     if usize::from(edge.to.at) == target {
         "branches"
     } else {
-        "is passed by"
+        "is skipped"
     }
 }
 
 fn test_words(edge: Edge) -> &'static str {
     match (edge.from.flag, edge.to.flag) {
         (true, false) => "branches, since something was replaced",
-        (true, true) => "is passed by",
-        (false, _) => "goes on, since nothing was replaced",
+        (true, true) => "is skipped",
+        (false, _) => "doesn't branch, since nothing was replaced",
     }
 }
 
 fn block_words(edge: Edge, after: usize) -> &'static str {
     if usize::from(edge.to.at) == after {
-        "the block is passed by"
+        "the block is skipped"
     } else {
         "the block is entered"
     }
@@ -112,26 +112,26 @@ fn block_words(edge: Edge, after: usize) -> &'static str {
 
 fn substitute_words(edge: Edge) -> &'static str {
     match (edge.kind, edge.from.flag, edge.to.flag) {
-        (Kind::Shorten, _, _) => "replaces a text by a shorter one",
-        (Kind::Grow, _, _) => "may replace a text by a longer one",
-        (_, false, true) => "replaces a text by one that isn't longer",
-        (_, true, _) => "replaces nothing, or a text by one that isn't longer",
+        (Kind::Shorten, _, _) => "replaces a match with a shorter text",
+        (Kind::Grow, _, _) => "may replace a match with a longer text",
+        (_, false, true) => "replaces a match with a text that isn't longer",
+        (_, true, _) => "replaces nothing, or a match with a text that isn't longer",
         _ => "replaces nothing",
     }
 }
 
 fn first_line_words(kind: Kind) -> &'static str {
     match kind {
-        Kind::Consume => "begins the next cycle with a new line",
-        Kind::Shorten => "deletes up to the first newline, and begins again without reading",
-        _ => "is passed by",
+        Kind::Consume => "starts the next cycle with a new line",
+        Kind::Shorten => "deletes up to the first newline, and starts again without reading a line",
+        _ => "is skipped",
     }
 }
 
 fn hold_words(kind: Kind) -> &'static str {
     match kind {
-        Kind::Grow => "may make the pattern space longer, by what the hold space has",
-        _ => "is passed by",
+        Kind::Grow => "may lengthen the pattern space with the contents of the hold space",
+        _ => "is skipped",
     }
 }
 
@@ -146,26 +146,25 @@ fn reads_or(edge: Edge, words: &'static str) -> &'static str {
 /// Why a replacement may be longer than what it replaces.
 fn growth(alloc: Global, substitution: &Substitution) -> Result<String, AllocError> {
     let literal = substitution.literal;
+    let unit = if literal == 1 { "byte" } else { "bytes" };
     match (&substitution.pattern, substitution.outside) {
         (Pattern::Expr(_), Some(outside)) if keeps_groups(&substitution.parts) => {
             format!(in alloc;
-                "it has {literal} bytes plus its groups, and a match may have only {outside} outside of them"
+                "it has {literal} {unit} plus its groups, and a match may have only {outside} outside of them"
             )
         }
         (Pattern::Expr(_), Some(outside)) => {
-            format!(in alloc; "it has {literal} bytes, and a match may have only {outside}")
+            format!(in alloc; "it has {literal} {unit}, and a match may have only {outside}")
         }
         (_, None) if has_whole(&substitution.parts) => {
-            format!(in alloc; "it has the whole match, `&`, and something more")
+            format!(in alloc; "it has the whole match, `&`, and more")
         }
         (Pattern::Previous, _) => {
             format!(in alloc;
-                "it has {literal} bytes, and the expression may be any of the script's"
+                "it has {literal} {unit}, and the expression may be any of the script's"
             )
         }
-        _ => format!(in alloc;
-            "it has a group twice, or one that is repeated or inside of another"
-        ),
+        _ => format!(in alloc; "it has a group twice, or one that is repeated or inside another"),
     }
 }
 

@@ -2,7 +2,7 @@
 
 use crate::spot::{Purpose, Spot};
 
-/// By the byte behind the backslash, and by what is around it.
+/// By the byte after the backslash, and by what is around it.
 pub fn escape_hint(spot: Spot) -> &'static str {
     if spot.reading().is_in_list() {
         return list_escape_hint(spot.rest);
@@ -19,8 +19,8 @@ pub fn escape_hint(spot: Spot) -> &'static str {
         [_, b'd', b'0'..=b'9', ..] | [_, b'x' | b'o' | b'c', ..] => { "write the byte itself" }
         [_, b'd', ..] => "if a digit is meant write `[[:digit:]]`",
         [_, b'r' | b'f' | b'v' | b'a', ..] =>
-            "GNU sed takes this for a byte with a name, as `\\a` for BEL: write that byte itself; or the letter, if it is meant",
-        _ => "write the byte without its backslash, or in a list, as in `[%]`",
+            "GNU sed reads this as a control character, as `\\a` for BEL: write that character itself, or the letter if that is meant",
+        _ => "write the character without the backslash, or in a bracket list, as in `[%]`",
     }
 }
 
@@ -30,12 +30,12 @@ fn list_escape_hint(rest: &[u8]) -> &'static str {
         [_, b'd', b'0'..=b'9', ..]
         | [_, b'o', b'0'..=b'7', ..]
         | [_, b'x', b'0'..=b'9' | b'a'..=b'f' | b'A'..=b'F', ..] => {
-            "GNU sed makes a byte of this before it reads the list: write that byte itself"
+            "GNU sed turns this into a byte before it reads the list: write that byte itself"
         }
         [_, b'd', ..] =>
-            "if a digit is meant write `[[:digit:]]`; GNU sed takes it for a `d`, and for a backslash and a `d` write `[\\\\d]`",
+            "if a digit is meant write `[[:digit:]]`; GNU sed reads this as a `d`; for a backslash and a `d` write `[\\\\d]`",
         _ =>
-            "GNU sed makes a byte of `\\c` and what follows it: for a backslash and the letter write two backslashes, as in `[\\\\c]`",
+            "GNU sed turns `\\c` and what follows into one byte: for a backslash and the letter write two backslashes, as in `[\\\\c]`",
     }
 }
 
@@ -44,7 +44,7 @@ fn repeat_hint(spot: Spot) -> &'static str {
     let is_comma = spot.delimiter() == b',';
     match spot.rest {
         _ if spot.begins() =>
-            "first in an expression or a group this is the byte for GNU sed: write it without its backslash",
+            "at the start of an expression or a group GNU sed reads this as a literal character: write it without the backslash",
         [_, b'+', ..] if is_comma =>
             "for `x\\+` write `xx*`, or `x\\{1\\,\\}`, since `,` is the delimiter",
         [_, b'+', ..] => "for `x\\+` write `x\\{1,\\}` or `xx*`",
@@ -56,13 +56,13 @@ fn repeat_hint(spot: Spot) -> &'static str {
 /// For `\|`.
 fn bar_hint(spot: Spot) -> &'static str {
     if spot.reading().is_in_group() {
-        return "write `\\([ab]\\)` for `\\(a\\|b\\)`, `\\(64\\)\\{0,1\\}` for `\\(\\|64\\)` and `\\(\\.[ch]\\)` for `\\(\\.c\\|\\.h\\)`; else one command for each alternative";
+        return "write `\\([ab]\\)` for `\\(a\\|b\\)`, `\\(64\\)\\{0,1\\}` for `\\(\\|64\\)` and `\\(\\.[ch]\\)` for `\\(\\.c\\|\\.h\\)`; otherwise write one command for each alternative";
     }
     match spot.purpose() {
         Purpose::ReplacesAll =>
-            "for `s/a\\|b/x/g` write `s/a/x/g` and `s/b/x/g`, where no match of one overlaps or makes a match of the other",
+            "for `s/a\\|b/x/g` write `s/a/x/g` and `s/b/x/g`, if no match of one overlaps or makes a match of the other",
         Purpose::Replaces =>
-            "for `s/a\\|b/x/` write `s/a/x/` and `s/b/x/`, where no line has both and `x` has no match of `b`",
+            "for `s/a\\|b/x/` write `s/a/x/` and `s/b/x/`, if no line matches both and `b` doesn't match in `x`",
         Purpose::Range =>
             "a range needs one expression, as `[ab]` for `a\\|b` or `xa\\{0,1\\}` for `x\\|xa`",
         Purpose::Unless =>
@@ -77,8 +77,8 @@ fn bar_hint(spot: Spot) -> &'static str {
 fn word_hint(spot: Spot) -> &'static str {
     match spot.purpose() {
         Purpose::Replaces | Purpose::ReplacesAll =>
-            "for `s/\\bWORD\\b/NEW/g` write `s/.*/\\n&\\n/`, twice `s/\\([^[:alnum:]_]\\)WORD\\([^[:alnum:]_]\\)/\\1NEW\\2/g`, and `s/^\\n\\(.*\\)\\n$/\\1/`; without `g` once; the first sets the flag that `t` tests",
+            "for `s/\\bWORD\\b/NEW/g` write `s/.*/\\n&\\n/`, twice `s/\\([^[:alnum:]_]\\)WORD\\([^[:alnum:]_]\\)/\\1NEW\\2/g`, and `s/^\\n\\(.*\\)\\n$/\\1/`; without `g` only once; the first `s` sets the flag that `t` tests",
         _ =>
-            "match what stands beside the word, with a command for each: `/^WORD$/`, `/^WORD[^[:alnum:]_]/`, `/[^[:alnum:]_]WORD$/` and `/[^[:alnum:]_]WORD[^[:alnum:]_]/`",
+            "match what is next to the word, with a command for each case: `/^WORD$/`, `/^WORD[^[:alnum:]_]/`, `/[^[:alnum:]_]WORD$/` and `/[^[:alnum:]_]WORD[^[:alnum:]_]/`",
     }
 }

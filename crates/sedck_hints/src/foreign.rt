@@ -10,7 +10,7 @@ pub struct Foreign {
 }
 
 const INSIDE: &str =
-    "scripts of sed inside of it are checked one by one: docs/RECIPES.md shows how they get to standard input";
+    "check each sed script inside it by itself: docs/RECIPES.md shows how to pass it to standard input";
 
 /// Words with which a line of a shell script begins, and no usual line of sed.
 const SHELL_WORDS: [&[u8]; 14] = [
@@ -26,7 +26,7 @@ pub fn other_kind(text: &[u8]) -> Option<Foreign> {
             None
         } else {
             Some(Foreign {
-                message: "the first line names another program than sed: this is no script of sed",
+                message: "the first line names a program other than sed: this isn't a sed script",
                 hint: INSIDE,
             })
         };
@@ -38,13 +38,13 @@ pub fn other_kind(text: &[u8]) -> Option<Foreign> {
     let second = lines.next().unwrap_or(&[]);
     if is_target(first) && second.starts_with(b"\t") {
         return Some(Foreign {
-            message: "this looks like a makefile, and is no script of sed",
+            message: "this looks like a makefile, not a sed script",
             hint: INSIDE,
         });
     }
     if is_assignment(first) || SHELL_WORDS.iter().any(|word| first.starts_with(*word)) {
         return Some(Foreign {
-            message: "this looks like a shell script or a makefile, and is no script of sed",
+            message: "this looks like a shell script or a makefile, not a sed script",
             hint: INSIDE,
         });
     }

@@ -30,12 +30,14 @@ pub fn script_hint(fault: ScriptFault, spot: Spot) -> Option<&'static str> {
 fn file_hint(rest: &[u8]) -> Option<&'static str> {
     match rest {
         [b'\r'] | [b'\r', b'\n', ..] => {
-            Some("the line ends in a carriage return: save the file with newlines alone")
+            Some("the line ends in a carriage return: save the file with Unix line endings")
         }
         [b'\r', ..] => Some(
-            "BusyBox ends a line at a carriage return: take it out, or save the file with newlines alone",
+            "BusyBox ends a line at a carriage return: remove it, or save the file with Unix line endings",
         ),
-        [0xef, 0xbb, 0xbf, ..] => Some("the file begins with a byte order mark: save it without"),
+        [0xef, 0xbb, 0xbf, ..] => Some(
+            "the file begins with a byte order mark: save it without one",
+        ),
         _ => None,
     }
 }
@@ -52,20 +54,18 @@ fn command_hint(spot: Spot) -> Option<&'static str> {
         [b'Q', ..] => Some("for `/x/Q` write `/x/,$d`"),
         [b'I', ..] => Some("for `/hello/I` write `/[hH][eE][lL][lL][oO]/`"),
         [b'~', behind @ ..] => Some(multiples_hint(behind)),
-        [b'e', ..] => Some(
-            "no command of POSIX sed runs another program: run it outside of the script",
-        ),
-        [b'v', ..] => Some("`v` asks for a version of GNU sed: leave it out"),
+        [b'e', ..] => Some("POSIX sed can't run other programs: do it outside the script"),
+        [b'v', ..] => Some("`v` requires a version of GNU sed: leave it out"),
         [b'F' | b'R' | b'W', ..] => Some(
-            "this is an extension of GNU sed that has no counterpart: do it outside of the script",
+            "this extension of GNU sed has no equivalent in POSIX: do it outside the script",
         ),
         [b'\\', b'!', ..] => Some("`!` needs no backslash here"),
         [b'"' | b'\'', ..] => Some("quotes belong to the shell: leave them out of the script"),
         [b'$', ..] if spot.previous() == Some(b'$') => Some(
-            "in a makefile `$$` is the `$` of sed: write one, or check what the shell gets",
+            "in a makefile `$$` becomes one `$`: write one, or check the script that the shell passes on",
         ),
         [b',', ..] => Some("a command has at most two addresses"),
-        [] | [b'\n' | b';' | b'}', ..] => Some("a command is missing behind the address"),
+        [] | [b'\n' | b';' | b'}', ..] => Some("a command is missing after the address"),
         _ => None,
     }
 }
@@ -79,7 +79,7 @@ fn multiples_hint(behind: &[u8]) -> &'static str {
     }
 }
 
-/// The byte behind digits and blanks.
+/// The byte after digits and blanks.
 fn verb_in(text: &[u8]) -> Option<u8> {
     text.iter()
         .find(|byte| !is_blank(**byte) && !matches!(**byte, b'0'..=b'9'))
@@ -108,7 +108,7 @@ fn first_match_hint(behind: &[u8]) -> &'static str {
             "for `0,/x/d` alone in a script write `/x/!d`, `$d`, `N`, `s/.*\\n//`, `:rest`, `n` and `b rest` on lines of their own",
         Some(b's' | b'p' | b'y' | b'=' | b'w' | b'a' | b'i' | b'r' | b'l') =>
             "for `0,/x/s/a/b/` alone in a script write `/x/{`, `s/a/b/`, `:rest`, `n`, `b rest`, `}` and once more `s/a/b/` on lines of their own, and so for `p`",
-        _ => "`1,/x/` is the same where the first line isn't matched",
+        _ => "`1,/x/` is the same if the first line doesn't match",
     }
 }
 
@@ -135,21 +135,21 @@ fn expression_hint(fault: ReFault, spot: Spot) -> Option<&'static str> {
         ReFault::BadBracket { .. } => Some(element_hint(spot.rest)),
         ReFault::BadInterval { .. } => Some(interval_hint(spot)),
         ReFault::NothingToRepeat { .. } => Some(
-            "for the byte write `{`; else put before it what is to be repeated",
+            "for a literal brace write `{`; else put what is to be repeated before it",
         ),
         ReFault::DoubleRepeat { .. } => Some(match (spot.previous(), spot.rest) {
             (Some(b'*'), [b'*', ..]) => "one `*` is enough",
             _ => "a group may be repeated again, as in `\\(a\\{2\\}\\)*`",
         }),
         ReFault::UnclosedGroup { .. } | ReFault::UnopenedGroup { .. } => {
-            Some("a group is `\\(` and `\\)`; the bytes alone are `(` and `)`")
+            Some("a group is written `\\(` and `\\)`; literal parentheses are `(` and `)`")
         }
         _ => None,
     }
 }
 
-/// Where a list isn't closed: the delimiter ends it, or it has the beginning of a class or a symbol.
-fn unclosed_hint(spot: Spot) -> &'static str {
+/// Whether a bracket list that isn't closed has a `]`, and the beginning of a class or a symbol, which isn't closed either.
+pub fn has_open_class(spot: Spot) -> bool {
     let behind = behind_part(spot.rest, spot.delimiter());
     let list = spot
         .rest
@@ -158,13 +158,18 @@ fn unclosed_hint(spot: Spot) -> &'static str {
     let begins = list
         .windows(2)
         .any(|pair| matches!(pair, [b'[', b'.' | b':' | b'=']));
-    if begins && list.contains(&b']') {
-        return "in a list `[.`, `[=` and `[:` begin a symbol or a class: put the `[` last, as in `[].*[]`";
-    }
-    "a delimiter in a bracket list ends the expression: take another one, as in `s,[/],x,` or `\\,[/],p`; in `[\\/]` some seds read the backslash too"
+    begins && list.contains(&b']')
 }
 
-/// By an element that is none.
+/// Where a list isn't closed: the delimiter ends it, or it has the beginning of a class or a symbol.
+fn unclosed_hint(spot: Spot) -> &'static str {
+    if has_open_class(spot) {
+        return "in a bracket list `[.`, `[=` and `[:` begin a symbol or a class: put the `[` last, as in `[].*[]`";
+    }
+    "a delimiter in a bracket list ends the expression: use another one, as in `s,[/],x,` or `\\,[/],p`; in `[\\/]` some seds keep the backslash"
+}
+
+/// By an invalid element.
 fn element_hint(rest: &[u8]) -> &'static str {
     match rest {
         [b'[', b'.' | b'=', byte, mark, b']', ..] if byte == mark => {
@@ -176,20 +181,20 @@ fn element_hint(rest: &[u8]) -> &'static str {
         | [_, _, _, _, _, b'-', b'[', b']' | b'^', ..] => {
             "BusyBox ends this list too early: put the `[`, or the range that ends in it, before the class, as in `[[[:alpha:]]`"
         }
-        _ => "put a `-` first or last in its list, and a class inside of it, as in `[[:digit:]]`",
+        _ => "put a `-` first or last in its list, and a class inside a list, as in `[[:digit:]]`",
     }
 }
 
 /// By the bytes of an interval.
 fn interval_hint(spot: Spot) -> &'static str {
     if spot.delimiter() == b',' && !ends_before(spot.rest, b",") {
-        return "the comma is the delimiter here: write `\\{1\\,2\\}`, or take another delimiter";
+        return "the comma is the delimiter here: write `\\{1\\,2\\}`, or use another delimiter";
     }
     match spot.rest {
         [_, _, b',', ..] => "for `x\\{,3\\}` write `x\\{0,3\\}`",
         rest if ends_before(rest, b"\n") =>
-            "a longer repetition is written as two, as in `a\\{255\\}a\\{45\\}`",
-        _ => "an interval ends in `\\}`; for the byte `{` write it without a backslash",
+            "write a longer repetition as two, as in `a\\{255\\}a\\{45\\}`",
+        _ => "an interval ends in `\\}`; write a literal `{` without a backslash",
     }
 }
 
@@ -209,32 +214,30 @@ fn replacement_hint(rest: &[u8]) -> Option<&'static str> {
     match rest {
         [_, b'0', ..] => Some("for `\\0` write `&`"),
         [_, b'U' | b'L' | b'u' | b'l' | b'E', ..] => {
-            Some("for whole lines write `y/abc../ABC../` with the whole alphabet")
+            Some("to change whole lines write `y/abc../ABC../` with the whole alphabet")
         }
         [_, b'1'..=b'9', ..] => Some(
-            "the expression has fewer groups: a group is `\\(` and `\\)`; is this for `sed -E`?",
+            "the expression has fewer groups: a group is written `\\(` and `\\)`; is the script meant for `sed -E`?",
         ),
         [_, b'x' | b'o' | b'c' | b'd', ..] => {
             Some("write the byte itself, `&` as `\\&` and a backslash as `\\\\`")
         }
         [_, b'r' | b'f' | b'v' | b'a', ..] => Some(
-            "GNU sed takes this for a byte with a name: write that byte itself; or the letter, if it is meant",
+            "GNU sed reads this as a control character: write that character itself, or the letter if that is meant",
         ),
-        _ => Some("write the byte without its backslash"),
+        _ => Some("write the character without the backslash"),
     }
 }
 
 fn flag_hint(rest: &[u8]) -> Option<&'static str> {
     match rest {
         [b'I' | b'i', ..] => Some("for `s/hello/x/I` write `s/[hH][eE][lL][lL][oO]/x/`"),
-        [b'e', ..] => Some(
-            "no flag of POSIX sed runs another program: run it outside of the script",
-        ),
+        [b'e', ..] => Some("POSIX sed can't run other programs: do it outside the script"),
         [b'm' | b'M', ..] => Some(
-            "`^` and `$` are the ends of the pattern space alone: match `\\n` itself",
+            "`^` and `$` match only at the ends of the pattern space: match `\\n` instead",
         ),
         [b'0', ..] => Some("matches are counted from 1"),
-        [b'1'..=b'9', ..] => Some("one number may stand among the flags, of at most 4,294,967,295"),
+        [b'1'..=b'9', ..] => Some("give only one number among the flags, of at most 4,294,967,295"),
         _ => Some("the flags are `g`, `p`, a number, and `w` with a file name, each once"),
     }
 }
@@ -243,12 +246,20 @@ fn flag_hint(rest: &[u8]) -> Option<&'static str> {
 fn list_hint(rest: &[u8]) -> Option<&'static str> {
     match rest {
         [b'\\', ..] => Some(
-            "write the byte itself; a backslash stands before a backslash, an `n` or the delimiter alone",
+            "write the character itself; a backslash may only precede a backslash, an `n` or the delimiter",
         ),
         [b'[', ..] => Some(
-            "BusyBox takes `[` for the beginning of a list here: write one byte more and a `]` behind it, in both lists, as in `y/[a]/(a]/` for `y/[/(/`",
+            "BusyBox reads `[` as the start of a bracket list here: add one character and a `]` after it to both lists, as in `y/[a]/(a]/` for `y/[/(/`",
         ),
-        _ => Some("give both lists equally many bytes"),
+        _ => Some("make both lists the same length"),
+    }
+}
+
+/// Whether the command with this verb has a text on the same line that begins with a backslash.
+pub fn has_escaped_text(rest: &[u8]) -> bool {
+    match without_blanks(rest.get(1..).unwrap_or(&[])) {
+        [b'\\', byte, ..] => *byte != b'\n',
+        _ => false,
     }
 }
 
@@ -257,14 +268,14 @@ fn text_hint(rest: &[u8]) -> &'static str {
     let behind = rest.get(1..).unwrap_or(&[]);
     match without_blanks(behind) {
         [b'\\'] | [b'\\', b'\n'] =>
-            "as `$a\\` this adds a last newline that is missing, in GNU sed alone: add it before sed; for a text write `a\\` and the text on the next line",
+            "`$a\\` adds a missing last newline, but only in GNU sed: add it before sed; for a text write `a\\` and the text on the next line",
         [b'\\', ..] =>
             "seds differ on a text that begins with a backslash: write `a\\`, a newline and the text",
         _ => "write `a\\` and the text on the next line",
     }
 }
 
-/// The text behind the blanks with which it begins.
+/// The text after the blanks with which it begins.
 fn without_blanks(text: &[u8]) -> &[u8] {
     let start = text
         .iter()
@@ -273,7 +284,7 @@ fn without_blanks(text: &[u8]) -> &[u8] {
     text.get(start..).unwrap_or(&[])
 }
 
-/// Whether braces are next, behind blanks or none, and a comment right behind them.
+/// Whether braces are next, after blanks or none, and a comment right after them.
 fn has_braced_comment(rest: &[u8]) -> bool {
     let braces = without_blanks(rest);
     braces.starts_with(b"}") && braces.iter().find(|byte| **byte != b'}') == Some(&b'#')
@@ -281,41 +292,42 @@ fn has_braced_comment(rest: &[u8]) -> bool {
 
 fn label_hint(rest: &[u8]) -> &'static str {
     match rest {
-        [b'#', ..] => "some seds take `#` for a label here: write the comment on a line of its own",
+        [b'#', ..] => "some seds read `#` as a label here: write the comment on a line of its own",
         _ if has_braced_comment(rest) =>
-            "BusyBox takes the `}` and the comment for a part of the label: write a `;` before the `}`",
+            "BusyBox reads the `}` and the comment as part of the label: write a `;` before the `}`",
         [b'}', ..] =>
-            "in a block inside of another one BusyBox takes the `}` for a part of the label: write a `;` before it",
-        _ => "a label is one or more letters, digits, `_`, `.` or `-`",
+            "in a nested block BusyBox reads the `}` as part of the label: write a `;` before it",
+        _ => "a label consists of letters, digits, `_`, `.` and `-`",
     }
 }
 
-/// Behind a command that should have ended.
+/// After a command that should have ended.
 fn end_hint(spot: Spot) -> &'static str {
     let line = current_line(spot.before);
     match (ended_command(line), spot.rest) {
         (_, [b'\\', b'\n', ..]) =>
-            "BusyBox joins this line with the next one: let the name or the comment end in another byte",
-        (_, [11 | 12, ..]) => "BusyBox skips this byte: let the name begin with another one",
+            "BusyBox joins this line with the next one: end the name or the comment with another character",
+        (_, [11 | 12, ..]) => "BusyBox skips this character: begin the name with another one",
         (
             Some(b's'),
             [
                 b'g' | b'p' | b'w' | b'0'..=b'9' | b'I' | b'i' | b'm' | b'M' | b'e',
                 ..
             ],
-        ) => "take out the blank before the flag: `s/a/b/p` for `s/a/b/ p`",
-        (Some(b'y'), [b'g', ..]) => "`y` has no flags, and replaces each byte: leave it out",
+        ) => "remove the blank before the flag: `s/a/b/p` for `s/a/b/ p`",
+        (Some(b'y'), [b'g', ..]) =>
+            "`y` takes no flags, and always replaces every character: leave it out",
         (Some(b':'), _) =>
-            "a label has no blanks: write `:two_words`, and the same behind `b` and `t`; a command follows a `;` or a newline",
+            "a label can't contain blanks: write `:two_words`, and the same after `b` and `t`; a command follows a `;` or a newline",
         (_, [b'0'..=b'9', ..]) if matches!(spot.previous(), Some(b'q' | b'l' | b'L')) => {
             "an exit status of `q` and a width of `l` are extensions of GNU sed: leave them out"
         }
-        _ => "end each command by a newline or a `;`",
+        _ => "end each command with a newline or a `;`",
     }
 }
 
 /// What precedes in the line, of which the last 512 bytes are looked at.
-fn current_line(before: &[u8]) -> &[u8] {
+pub(crate) fn current_line(before: &[u8]) -> &[u8] {
     let near = before
         .get(before.len().saturating_sub(512)..)
         .unwrap_or(&[]);
@@ -324,7 +336,7 @@ fn current_line(before: &[u8]) -> &[u8] {
 }
 
 /// Whether the line ends in `s`, `y` or `:` with all that it takes: the verb.
-fn ended_command(line: &[u8]) -> Option<u8> {
+pub(crate) fn ended_command(line: &[u8]) -> Option<u8> {
     for start in 0..line.len() {
         let ended = match line.get(start..).unwrap_or(&[]) {
             [b's', delimiter, part @ ..] => ends_in_flags(part, *delimiter, b"gpIiemM0123456789"),
@@ -363,8 +375,8 @@ fn is_of_label(byte: u8) -> bool {
 fn delimiter_hint(rest: &[u8]) -> &'static str {
     match rest {
         [b'\\', b'x', ..] =>
-            "GNU sed takes `\\x` for the beginning of a number: take another delimiter, one that the expression doesn't have",
-        _ => "take another delimiter, one that the expression doesn't have",
+            "GNU sed reads `\\x` as the start of a number: use a delimiter that isn't in the expression",
+        _ => "use a delimiter that isn't in the expression",
     }
 }
 
@@ -375,14 +387,14 @@ fn other_hint(fault: ScriptFault) -> Option<&'static str> {
         }
         ScriptFault::Unterminated { .. } => {
             Some(
-                "end each part with the delimiter, in the same line: `s/a/b/`; it is no newline and no backslash",
+                "end each part with the delimiter, on the same line: `s/a/b/`; a newline or a backslash can't be the delimiter",
             )
         }
         ScriptFault::MissingName { .. } => Some(
-            "the name follows after a blank, and goes on to the end of the line",
+            "write the name after a blank; it goes on to the end of the line",
         ),
         ScriptFault::UnclosedBlock { .. } => Some(
-            "write its `}` on a line of its own; after a file name or a text it is a part of these",
+            "write its `}` on a line of its own; after a file name or a text it would be part of that",
         ),
         ScriptFault::NoPreviousExpression { .. } => Some("write the expression"),
         _ => None,

@@ -7,9 +7,11 @@ mod escapes;
 mod foreign;
 mod hints;
 mod lists;
+mod mends;
 mod spot;
 
 pub use foreign::{Foreign, other_kind};
-pub use hints::script_hint;
+pub use hints::{has_escaped_text, has_open_class, script_hint};
 pub use lists::{Reading, is_blank};
+pub use mends::{Mend, script_mend};
 pub use spot::{Purpose, Spot, behind_part};

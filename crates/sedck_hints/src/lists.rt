@@ -4,16 +4,16 @@
 #[derive(Clone, Copy, PartialEq, Eq)]
 enum Place {
     Outside,
-    /// Behind a backslash that is outside of lists.
+    /// After a backslash that is outside of lists.
     Escape,
-    /// Behind the `[` that begins a list, or its `[^`, where a `]` is an element.
+    /// After the `[` that begins a list, or its `[^`, where a `]` is an element.
     First,
     List,
-    /// Behind a `[` that is in a list.
+    /// After a `[` that is in a list.
     Bracket,
     /// In a class or a symbol that begins with this byte.
     Symbol(u8),
-    /// Behind this byte in such a symbol, where a `]` ends it.
+    /// After this byte in such a symbol, where a `]` ends it.
     SymbolEnd(u8),
 }
 
@@ -56,7 +56,7 @@ impl Reading {
         self.groups > 0
     }
 
-    /// The reader behind this byte.
+    /// The reader after this byte.
     pub fn after(self, byte: u8) -> Reading {
         let groups = match (self.place, byte) {
             (Place::Escape, b'(') => self.groups.saturating_add(1),

@@ -1,5 +1,6 @@
 -- What functions promise each other of the findings.
-use Rattle.std.specs.Prelude.{◌≡◌, ◌≢◌, ℕ, false, List, Option, Some, None, IfSome}
+use Rattle.std.specs.Prelude.{◌≡◌, ◌≢◌, ◌==◌, ◌&&◌, ℕ, Bool, false, List, ◌∷◌, Option, Some, None, IfSome}
+use Rattle.sedck_script.specs.Cuts.{backslash}
 use Rattle.sedck_script.specs.Program.{Program}
 use Rattle.sedck_script.specs.Names.{reads, writes}
 use Rattle.sedck_script.specs.Faults.{IsPlaced}
@@ -12,7 +13,7 @@ use Rattle.sedck_findings.specs.declared.finding.Finding.{Finding}
 use Rattle.sedck_findings.specs.declared.finding.Level.TheVariants.{Error}
 use Rattle.sedck_findings.specs.declared.places.Position.{Position}
 
--- findings are added behind the others, and none of them is an error
+-- findings are added after the others, and none of them is an error
 pub record AddsNoError (old new : List Finding) : Type 0 where
   pub errors : has_error new ≡ has_error old
   pub first : (position : Option Position) → BeginsWithError position old → BeginsWithError position new
@@ -47,3 +48,12 @@ IsFindingOf text positions answer (Some finding) = (finding.level ≡ Error) × 
 abbrev pub AreFindingsOf : List ℕ → List Position → Answer → List Finding → Type 0
 AreFindingsOf text positions (Accepted cert bound) findings = has_error findings ≡ false
 AreFindingsOf text positions answer findings = BeginsWithAnswer text positions findings answer
+
+-- a backslash and this delimiter are first; a backslash and any other byte
+abbrev pub is_escaped : ℕ → List ℕ → Bool
+is_escaped delimiter (a ∷ b ∷ rest) = (a == backslash) && (b == delimiter)
+is_escaped delimiter _ = false
+
+abbrev pub is_pair : List ℕ → Bool
+is_pair (a ∷ b ∷ rest) = a == backslash
+is_pair _ = false

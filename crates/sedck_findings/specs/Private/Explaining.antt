@@ -1,11 +1,13 @@
 -- The steps to an explanation.
 use Rattle.std.specs.Prelude.{◌≡◌, ◌||◌, ℕ, List, Some, map}
+use Rattle.std.specs.List.{All}
 use Rattle.sedck_script.specs.Program.{Program}
 use Rattle.sedck_script.specs.Names.{reads, writes}
 use Rattle.sedck_script.specs.declared.location.Location.{Location}
 use Rattle.sedck_findings.specs.Positions.{position_in}
 use Rattle.sedck_findings.specs.Denial.{is_there, has_warning, is_denied, status_under}
 use Rattle.sedck_findings.specs.Errors.{has_error, HasErrors}
+use Rattle.sedck_findings.specs.Reported.{AreInOrder, HasRange}
 use Rattle.sedck_findings.specs.Explanations.{names_of}
 use Rattle.sedck_findings.specs.declared.answer.Answer.{Answer}
 use Rattle.sedck_findings.specs.declared.answer.Answer.TheVariants.{Accepted}
@@ -20,6 +22,8 @@ pub record Explains (text : List ℕ) (denied : Denied) (answer : Answer) (e : E
   pub is_answer : e.answer ≡ answer
   pub is_status : e.status ≡ status_under denied (has_warning e.findings.items) e.answer
   pub errors : HasErrors text e
+  pub order : AreInOrder e.findings.items
+  pub ends : All (HasRange text) e.findings.items
 
 -- the script is kept, with its names and with the positions of these locations
 pub record KeepsLocated (text : List ℕ) (script : Program) (locations : List Location) (e : Explanation) : Type 0 where

@@ -1,18 +1,21 @@
 use Rattle.std.proofs.Common.{◌≡◌, ◌∙◌, List, refl, ap, map, subst}
 use Rattle.sedck_findings.specs.Denial.{has_warning, status_under}
 use Rattle.sedck_findings.specs.Positions.{position_in}
-use Rattle.sedck_findings.specs.Private.Errors.{AreFindingsOf}
+use Rattle.sedck_findings.specs.Private.Errors.{AreFindingsOf, AddsNoError}
+use Rattle.sedck_findings.specs.Private.Reporting.{AreReported}
+use Rattle.sedck_findings.specs.declared.code.Code.{Code}
 use Rattle.sedck_findings.specs.declared.places.Position.{Position}
-use Rattle.sedck_findings.proofs.Errors.{errors_of}
+use Rattle.sedck_findings.proofs.Errors.{errors_of, findings_stay, no_error_trans}
 use Rattle.sedck_findings.proofs.Explanations.{can_be_reported, lists_of_script}
+use Rattle.sedck_findings.proofs.Kept.{errors_reported, status_reported}
 use Rattle.sedck_findings.proofs.explaining.explained.Goals as goal
 
-pub findings_of-requires : goal.findings_of-requires
-findings_of-requires c = can_be_reported c.args.text.now c.args.located.script c.args.answer c.requires
+pub answer_findings-requires : goal.answer_findings-requires
+answer_findings-requires c = can_be_reported c.args.text.now c.args.located.script c.args.answer c.requires
 
 pub denied_findings-requires : goal.denied_findings-requires
 denied_findings-requires c =
-    rw (c.deref-7.ensures.value, c.deref-8.ensures.value)
+    rw (c.deref-10.ensures.value, c.deref-11.ensures.value)
     (lists_of_script c.args.text.now c.args.located.script c.args.answer c.in_ok-reads.reads.items c.in_ok-writes.writes.items c.requires
     (c.in_ok-reads.ensures ∙ c.reads.ensures) (c.in_ok-writes.ensures ∙ c.writes.ensures))
 
@@ -20,15 +23,33 @@ pub returns-clause-explains : goal.returns-clause-explains
 returns-clause-explains c =
     let text = c.args.text.now in
     let answer = c.args.answer in
-    let findings = c.in_ok-findings.findings.items in
     let positions = c.in_ok-positions.positions.items in
-    let status : c.status_under-status.result ≡ status_under c.args.denied (has_warning findings) answer =
+    let looks = c.look_warnings.new.findings.items in
+    let found = c.unknown_warnings.new.findings.items in
+    let all = c.in_ok-all.all.items in
+    let findings = c.in_ok-findings.findings.items in
+    let ignored = c.in_ok-ignored.ignored.items in
+    let status : c.status_under-status.result ≡ status_under c.args.denied (has_warning all) answer =
     c.status_under-status.ensures.value
-    ∙ ap (λ warned. status_under c.args.denied warned answer) (c.any_warning.ensures ∙ ap has_warning c.deref-9.ensures.value) in
-    let found : AreFindingsOf text positions answer c.in_ok-found.found.items =
-    subst (λ (ps : List Position). AreFindingsOf text ps answer c.in_ok-found.found.items) c.deref-4.ensures.value c.in_ok-found.ensures in
-    let errors = errors_of text positions c.args.denied answer c.in_ok-found.found.items findings c.status_under-status.result found c.in_ok-findings.ensures status in
-    record { is_text = refl; is_answer = refl; is_status = status; errors = record { exactly = errors.0; first = errors.1 } }
+    ∙ ap (λ warned. status_under c.args.denied warned answer) (c.any_warning.ensures ∙ ap has_warning c.deref-12.ensures.value) in
+    let of_answer : AreFindingsOf text positions answer c.in_ok-found.found.items =
+    subst (λ (ps : List Position). AreFindingsOf text ps answer c.in_ok-found.found.items) c.deref-5.ensures.value c.in_ok-found.ensures in
+    let adds : AddsNoError c.in_ok-found.found.items found =
+    no_error_trans c.in_ok-found.found.items looks found c.in_ok-look_warnings.ensures
+    (no_error_trans looks c.name_warnings.new.findings.items found c.in_ok-name_warnings.ensures c.in_ok-unknown_warnings.ensures) in
+    let reported : AreReported text ignored all findings =
+    subst (λ (codes : List Code). AreReported text codes all findings) c.deref-15.ensures.value c.in_ok-findings.ensures in
+    let errors = errors_reported text positions answer ignored all findings c.status_under-status.result reported
+    (errors_of text positions c.args.denied answer found all c.status_under-status.result
+    (findings_stay text positions answer c.in_ok-found.found.items found adds of_answer) c.in_ok-all.ensures status) in
+    record {
+      is_text = refl;
+      is_answer = refl;
+      is_status = status_reported text c.args.denied answer ignored all findings c.status_under-status.result reported c.in_ok-ignored.ensures status;
+      errors = record { exactly = errors.0; first = errors.1 };
+      order = reported.order;
+      ends = reported.ends;
+    }
 
 pub returns-clause-keeps : goal.returns-clause-keeps
 returns-clause-keeps c = record {

@@ -1,24 +1,31 @@
-use Rattle.std.proofs.Common.{◌≡◌, ◌∙◌, refl, ap, sym, subst}
+use Rattle.std.proofs.Common.{◌≡◌, ◌∙◌, [], refl, ap, sym, subst}
 use Rattle.sedck_findings.specs.Denial.{has_warning, status_under}
 use Rattle.sedck_findings.specs.Errors.{BeginsWithAnswer}
+use Rattle.sedck_findings.specs.Private.Reporting.{AreReported}
 use Rattle.sedck_findings.proofs.Errors.{errors_of_refusal}
+use Rattle.sedck_findings.proofs.Kept.{errors_reported, status_reported}
 use Rattle.sedck_findings.proofs.explaining.refused.Goals as goal
 
 pub returns-clause-explains : goal.returns-clause-explains
 returns-clause-explains c =
     let text = c.args.text.now in
     let answer = c.args.answer in
-    let findings = c.in_ok-findings.findings.items in
-    let status : c.status_under-status.result ≡ status_under c.args.denied (has_warning findings) answer =
+    let found = c.in_ok-found.found.items in
+    let all = c.in_ok-findings.findings.items in
+    let status : c.status_under-status.result ≡ status_under c.args.denied (has_warning found) answer =
     c.status_under-status.ensures.value
     ∙ ap (λ warned. status_under c.args.denied warned answer) (c.any_warning.ensures ∙ ap has_warning c.deref.ensures.value) in
-    let errors = errors_of_refusal text c.args.denied answer findings c.status_under-status.result c.requires c.in_ok-findings.ensures status in
+    let reported : AreReported text [] found all = c.in_ok-findings.ensures in
+    let errors = errors_reported text [] answer [] found all c.status_under-status.result reported
+    (errors_of_refusal text c.args.denied answer found c.status_under-status.result c.requires c.in_ok-found.ensures status) in
     record {
       is_text = refl;
       is_answer = refl;
-      is_status = status;
+      is_status = status_reported text c.args.denied answer [] found all c.status_under-status.result reported (λ _. refl) status;
       errors = record {
         exactly = errors.0;
-        first = subst (λ positions. BeginsWithAnswer text positions findings answer) (sym c.new.ensures.items) errors.1;
+        first = subst (λ positions. BeginsWithAnswer text positions all answer) (sym c.new.ensures.items) errors.1;
       };
+      order = reported.order;
+      ends = reported.ends;
     }

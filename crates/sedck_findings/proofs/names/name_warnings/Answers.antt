@@ -1,5 +1,5 @@
-use Rattle.sedck_findings.proofs.Errors.{no_error_trans}
+use Rattle.sedck_findings.proofs.Errors.{ok_no_error}
 use Rattle.sedck_findings.proofs.names.name_warnings.Goals as goal
 
-pub loop-file-preserved : goal.loop-file-preserved
-loop-file-preserved c = no_error_trans _ _ _ c.loop-file.invariant c.in_ok-file_warnings.ensures
+pub returns : goal.returns
+returns c = ok_no_error _ _ _ c.side_warnings-2.result c.in_ok-side_warnings.ensures c.side_warnings-2.ensures

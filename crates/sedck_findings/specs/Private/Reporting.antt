@@ -1,0 +1,28 @@
+-- The steps from what is found to what is reported.
+use Rattle.std.specs.Prelude.{◌≡◌, ℕ, List, [], Option, map}
+use Rattle.std.specs.List.{All, filter}
+use Rattle.sedck_findings.specs.Denial.{has_warning}
+use Rattle.sedck_findings.specs.Errors.{is_error}
+use Rattle.sedck_findings.specs.Reported.{AreInOrder, HasRange}
+use Rattle.sedck_findings.specs.declared.code.Code.{Code}
+use Rattle.sedck_findings.specs.declared.finding.Finding.{Finding}
+use Rattle.sedck_findings.specs.declared.places.Position.{Position}
+
+-- what an error is about, and where
+abbrev pub head_of : Finding → Code × Option Position
+head_of finding = (finding.code, finding.position)
+
+-- the errors among findings
+abbrev pub errors_in : List Finding → List Finding
+errors_in findings = filter (λ finding. is_error finding.level) findings
+
+-- the same errors in the same order, whatever else there is
+abbrev pub KeepsErrors : List Finding → List Finding → Type 0
+KeepsErrors old new = map head_of (errors_in new) ≡ map head_of (errors_in old)
+
+-- these findings are reported of those that were found, where these codes are ignored
+pub record AreReported (text : List ℕ) (ignored : List Code) (found all : List Finding) : Type 0 where
+  pub errors : KeepsErrors found all
+  pub warnings : ignored ≡ [] → has_warning all ≡ has_warning found
+  pub order : AreInOrder all
+  pub ends : All (HasRange text) all
