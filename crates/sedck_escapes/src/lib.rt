@@ -1,8 +1,8 @@
-//! Text as formats take it, whatever it holds: as JSON in ASCII, and in HTML.
+//! Text as formats take it, whatever it holds: as JSON in printable ASCII, and in HTML.
 #![tactic(auto)]
 
 mod ascii;
 mod html;
 
-pub use ascii::push_ascii;
+pub use ascii::{ascii_line, push_ascii};
 pub use html::{push_html, push_text};

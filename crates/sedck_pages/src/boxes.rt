@@ -64,7 +64,7 @@ fn push_message(out: &mut Vec<u8>, finding: &Finding) -> Result<(), AllocError> 
     push_text(out, ": ")?;
     push_prose(out, finding.message.as_str())?;
     push_text(out, " <code class=\"soft\">[")?;
-    push_html(out, finding.code)?;
+    push_html(out, finding.code.name())?;
     push_text(out, "]</code></p>")
 }
 

@@ -5,6 +5,9 @@ use sedck_findings::Position;
 use sedck_flow::{Edge, Kind};
 use std::alloc::{AllocError, Global};
 
+/// How many lines apart the ends of a jump back are at least, where it has a label.
+const LONG: usize = 20;
+
 /// A jump from a command to another, or from a line to another. A number one above the last one stands for the script's end.
 #[derive(Clone, Copy, PartialEq, Eq, PartialOrd, Ord)]
 pub(crate) struct Jump {
@@ -75,6 +78,29 @@ pub(crate) fn line_jumps(
         })?;
     }
     merged(alloc, lines)
+}
+
+/// The jumps back over many lines, each pair of lines once, in order.
+pub(crate) fn long_returns(alloc: Global, jumps: &[Jump]) -> Result<Vec<Jump>, AllocError> {
+    let mut returns: Vec<Jump> = Vec::new(alloc);
+    for jump in jumps {
+        let is_known = match returns.last() {
+            Some(before) => before.from == jump.from && before.to == jump.to,
+            None => false,
+        };
+        if jump.to < jump.from && jump.span() >= LONG && !is_known {
+            returns.push(*jump)?;
+        }
+    }
+    Ok(returns)
+}
+
+/// The jumps that leave the line, of jumps in order.
+pub(crate) fn jumps_from(jumps: &[Jump], line: usize) -> &[Jump] {
+    let start = jumps.partition_point(|jump| jump.from < line);
+    let rest = jumps.get(start..).unwrap_or(&[]);
+    let count = rest.partition_point(|jump| jump.from == line);
+    rest.get(..count).unwrap_or(&[])
 }
 
 /// The line of the command, or of the script's end.

@@ -4,9 +4,12 @@
 //! taken from the script is shown in printable ASCII.
 #![tactic(auto)]
 
+mod arrows;
 mod boxes;
 mod dot;
+mod dot_nodes;
 mod flow;
+mod graph_parts;
 mod jumps;
 mod lanes;
 mod listing;
@@ -19,4 +22,5 @@ mod tables;
 mod top;
 
 pub use dot::dot_report;
+pub use dot_nodes::dot_nodes_report;
 pub use page::html_report;

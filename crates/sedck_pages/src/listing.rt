@@ -1,11 +1,11 @@
 //! The lines of a script in a page, with jumps and findings beside them.
 
 use crate::boxes::push_box;
-use crate::jumps::Jump;
+use crate::jumps::{Jump, jumps_from, line_jumps, long_returns};
 use crate::margin::{Margin, Spot, margin_of};
 use crate::strokes::{drawing_width, push_strokes};
 use sedck_escapes::{push_html, push_text};
-use sedck_findings::{Explanation, Finding, shown_line};
+use sedck_findings::{Explanation, Finding, Level, shown_line};
 use sedck_words::{Source, decimal, push_all, push_grouped, source_of};
 use std::alloc::{AllocError, Global};
 
@@ -32,6 +32,7 @@ pub(crate) fn push_listing(
     alloc: Global,
     out: &mut Vec<u8>,
     explanation: &Explanation,
+    least: Level,
     jumps: &[Jump],
 ) -> Result<(), AllocError> {
     let text = match explanation.text {
@@ -39,11 +40,14 @@ pub(crate) fn push_listing(
         text => text,
     };
     let end = line_count(text).saturating_add(1);
-    let mut margin = margin_of(alloc, explanation, jumps, end)?;
+    let lines = line_jumps(alloc, jumps, &explanation.positions, end)?;
+    let returns = long_returns(alloc, &lines)?;
+    let mut margin = margin_of(alloc, explanation, least, lines, end)?;
     push_legend(alloc, out, &margin)?;
     let beside = Beside {
         source: source_of(explanation),
         findings: &explanation.findings,
+        returns: &returns,
     };
     push_rows(alloc, out, beside, &mut margin, text)
 }
@@ -53,6 +57,8 @@ pub(crate) fn push_listing(
 struct Beside<'a> {
     source: Source<'a>,
     findings: &'a [Finding],
+    /// The long jumps back, in order.
+    returns: &'a [Jump],
 }
 
 /// Adds each line of the text, and its end.
@@ -107,12 +113,14 @@ fn push_left_out(alloc: Global, out: &mut Vec<u8>, left_out: usize) -> Result<()
     if left_out == 0 {
         return Ok(());
     }
-    push_text(
-        out,
-        "<p>The list of jumps has all; not drawn, for want of room: ",
-    )?;
+    let words = if left_out == 1 {
+        " jump isn't drawn for lack of space; the list of jumps has it.</p>\n"
+    } else {
+        " jumps aren't drawn for lack of space; the list of jumps has them.</p>\n"
+    };
+    push_text(out, "<p>")?;
     push_grouped(alloc, out, left_out as u64)?;
-    push_text(out, ".</p>\n")
+    push_text(out, words)
 }
 
 /// Adds a line with what is beside it. Without bytes it is the script's end.
@@ -134,8 +142,19 @@ fn push_row(
     if is_of_loop {
         push_text(out, "<span class=\"tag\">loop</span>")?;
     }
+    push_returns(alloc, out, jumps_from(beside.returns, line))?;
     push_boxes(alloc, out, beside, spots)?;
     push_text(out, "</li>\n")
+}
+
+/// Adds a link for each long jump back, whose other end may be out of sight.
+fn push_returns(alloc: Global, out: &mut Vec<u8>, jumps: &[Jump]) -> Result<(), AllocError> {
+    for jump in jumps {
+        let to = jump.to;
+        let link = format!(in alloc; "<a class=\"tag soft\" href=\"#L{to}\">&uarr; {to}</a>")?;
+        push_text(out, link.as_str())?;
+    }
+    Ok(())
 }
 
 /// Adds the number and the bytes of a line, or the word `end`.

@@ -1,8 +1,9 @@
 //! What is beside the lines of a script in a page: jumps, findings, and marks of a loop.
 
-use crate::jumps::{Jump, line_jumps, line_of};
+use crate::jumps::{Jump, line_of};
 use crate::lanes::{Drawing, drawing_of};
-use sedck_findings::{Answer, Explanation};
+use sedck_findings::{Answer, Explanation, Level};
+use sedck_words::is_listed;
 use std::alloc::{AllocError, Global};
 
 /// A finding's place in the lines.
@@ -47,27 +48,33 @@ impl Margin {
     }
 }
 
-/// What is beside the lines; `end` is the line of the script's end.
+/// What is beside the lines, between which these jumps are; `end` is the line of the script's end.
 pub(crate) fn margin_of(
     alloc: Global,
     explanation: &Explanation,
-    jumps: &[Jump],
+    least: Level,
+    jumps: Vec<Jump>,
     end: usize,
 ) -> Result<Margin, AllocError> {
-    let lines = line_jumps(alloc, jumps, &explanation.positions, end)?;
     Ok(Margin {
-        drawing: drawing_of(alloc, lines)?,
-        spots: spots_of(alloc, explanation)?,
+        drawing: drawing_of(alloc, jumps)?,
+        spots: spots_of(alloc, explanation, least)?,
         next: 0,
         of_loop: loop_lines(alloc, explanation, end)?,
     })
 }
 
-/// The places of the findings that have one, sorted.
-fn spots_of(alloc: Global, explanation: &Explanation) -> Result<Vec<Spot>, AllocError> {
+/// The places of the findings of at least this level that have one, sorted.
+fn spots_of(
+    alloc: Global,
+    explanation: &Explanation,
+    least: Level,
+) -> Result<Vec<Spot>, AllocError> {
     let mut spots = Vec::new(alloc);
     for (index, finding) in explanation.findings.iter().enumerate() {
-        if let Some(position) = finding.position {
+        if is_listed(finding, least)
+            && let Some(position) = finding.position
+        {
             spots.push(Spot {
                 line: position.line,
                 column: position.column,

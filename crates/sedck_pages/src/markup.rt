@@ -5,7 +5,7 @@ use sedck_findings::Position;
 use sedck_words::push_all;
 use std::alloc::{AllocError, Global};
 
-/// Adds a sentence, in which what stands between backticks is code.
+/// Adds a sentence, in which what is between backticks is code.
 pub(crate) fn push_prose(out: &mut Vec<u8>, words: &str) -> Result<(), AllocError> {
     let mut is_code = false;
     for part in words.split('`') {

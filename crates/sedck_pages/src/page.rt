@@ -7,8 +7,8 @@ use crate::page_style::STYLE;
 use crate::tables::{push_files, push_jumps, push_ranks};
 use crate::top::push_top;
 use sedck_escapes::{push_html, push_text};
-use sedck_findings::Explanation;
-use sedck_words::{answer_word, push_all};
+use sedck_findings::{Explanation, Level};
+use sedck_words::{VERSION, answer_word, push_all};
 use std::alloc::{AllocError, Global};
 
 /// What precedes the title: no script and nothing from elsewhere is loaded.
@@ -21,18 +21,24 @@ const HEAD: &str = "<!DOCTYPE html>
 ";
 
 /// A page that needs nothing else: the answer, the script's lines with the findings beside them and its jumps as arcs, its files,
-/// and the ranks of an accepted certificate. All that is taken from the script is shown in printable ASCII, and escaped.
+/// and the ranks of an accepted certificate. It has the findings of at least this level. All that is taken from the script is shown in
+/// printable ASCII, and escaped.
 pub fn html_report(
     alloc: Global,
     name: &str,
     explanation: &Explanation,
+    least: Level,
 ) -> Result<Vec<u8>, AllocError> {
     let mut out = Vec::new(alloc);
     push_head(&mut out, name, answer_word(explanation))?;
-    push_top(alloc, &mut out, explanation)?;
+    push_top(alloc, &mut out, explanation, least)?;
     push_text(&mut out, "</header>\n<main>\n")?;
-    push_main(alloc, &mut out, explanation)?;
-    push_text(&mut out, "</main>\n</body>\n</html>\n")?;
+    push_main(alloc, &mut out, explanation, least)?;
+    push_all(
+        &mut out,
+        &["</main>\n<footer class=\"soft\">sedck-explain ", VERSION],
+    )?;
+    push_text(&mut out, "</footer>\n</body>\n</html>\n")?;
     Ok(out)
 }
 
@@ -51,9 +57,10 @@ fn push_main(
     alloc: Global,
     out: &mut Vec<u8>,
     explanation: &Explanation,
+    least: Level,
 ) -> Result<(), AllocError> {
     let jumps = jumps_of(alloc, explanation)?;
-    push_listing(alloc, out, explanation, &jumps)?;
+    push_listing(alloc, out, explanation, least, &jumps)?;
     push_files(alloc, out, explanation)?;
     push_jumps(alloc, out, &explanation.positions, &jumps)?;
     push_ranks(alloc, out, explanation)

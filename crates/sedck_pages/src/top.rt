@@ -3,21 +3,33 @@
 use crate::boxes::push_box;
 use crate::markup::push_prose;
 use sedck_escapes::push_text;
-use sedck_findings::{Answer, Explanation, Finding, Position};
-use sedck_words::{Source, decimal, level_word, push_all, push_grouped, push_limit, source_of};
+use sedck_findings::{Answer, Explanation, Finding, Level, Position};
+use sedck_words::{
+    Source, decimal, is_listed, level_word, push_all, push_grouped, push_limit, source_of,
+};
 use std::alloc::{AllocError, Global};
+
+/// What precedes the list of the findings.
+const LIST: &str = "<h2>Findings</h2>\n<ul>\n";
 
 /// Adds the answer, the limit on steps, and a list of the findings, with links to those that are beside a line.
 pub(crate) fn push_top(
     alloc: Global,
     out: &mut Vec<u8>,
     explanation: &Explanation,
+    least: Level,
 ) -> Result<(), AllocError> {
     let (class, answer) = answer_words(explanation);
     push_all(out, &["<p class=\"answer ", class, "\">", answer, "</p>\n"])?;
     push_steps(alloc, out, &explanation.answer)?;
     push_counts(alloc, out, explanation)?;
-    push_findings(alloc, out, source_of(explanation), &explanation.findings)
+    push_findings(
+        alloc,
+        out,
+        source_of(explanation),
+        &explanation.findings,
+        least,
+    )
 }
 
 /// The class and the words of the answer.
@@ -77,16 +89,18 @@ fn push_findings(
     out: &mut Vec<u8>,
     source: Source,
     findings: &[Finding],
+    least: Level,
 ) -> Result<(), AllocError> {
-    if findings.is_empty() {
-        return Ok(());
-    }
-    push_text(out, "<h2>Findings</h2>\n<ul>\n")?;
+    let mut is_empty = true;
     for (index, finding) in findings.iter().enumerate() {
-        push_entry(alloc, out, finding, index)?;
+        if is_listed(finding, least) {
+            push_text(out, if is_empty { LIST } else { "" })?;
+            is_empty = false;
+            push_entry(alloc, out, finding, index)?;
+        }
     }
-    push_text(out, "</ul>\n")?;
-    push_whole(alloc, out, source, findings)
+    push_text(out, if is_empty { "" } else { "</ul>\n" })?;
+    push_whole(alloc, out, source, findings, least)
 }
 
 /// Adds a line for a finding: a link where it is beside a line.
@@ -124,9 +138,10 @@ fn push_whole(
     out: &mut Vec<u8>,
     source: Source,
     findings: &[Finding],
+    least: Level,
 ) -> Result<(), AllocError> {
     for (index, finding) in findings.iter().enumerate() {
-        if finding.position.is_none() {
+        if finding.position.is_none() && is_listed(finding, least) {
             push_box(alloc, out, source, finding, index)?;
         }
     }

@@ -2,111 +2,83 @@
 
 ghost use Rattle.std.specs.Prelude.{IfOk};
 ghost use Rattle.std.specs.Str.{IsAscii};
+ghost use Rattle.sedck_escapes.specs.Ascii.{IsPrintableLine};
 
+use crate::json_shape::{
+    JsonBound, JsonFile, JsonFinding, JsonFix, JsonPosition, JsonReport, JsonStep,
+};
 use sedck_cert::Bound;
-use sedck_escapes::push_ascii;
-use sedck_findings::{Answer, Explanation, Finding, NamedFile, Position, Step, shown_name};
-use sedck_words::{answer_word, kind_word, level_word};
-use serde::Serialize;
+use sedck_escapes::ascii_line;
+use sedck_findings::{
+    Answer, Explanation, Finding, Fix, Level, NamedFile, Position, Step, shown_name,
+};
+use sedck_words::{VERSION, answer_word, is_listed, kind_word, level_word, page_of};
 use std::alloc::{AllocError, Global};
 
-/// What is reported of a script. Fields stay, with their meaning; others may be added.
-#[derive(Drop, Serialize)]
-struct JsonReport<'a> {
-    /// The script's path, as it is printed.
-    file: &'a str,
-    /// The exit status for this script: 0 for accepted, 1 for rejected, a loop or denied, 2 for a refused text.
-    status: u8,
-    /// `accepted`, `denied`, `rejected`, `loop`, `script-refused` or `certificate-refused`.
-    answer: &'static str,
-    /// The limit on the steps of any run; null where there is none, or where the script isn't accepted.
-    bound: Option<JsonBound>,
-    /// The files that are read, sorted by name. Empty where the script is refused.
-    reads: Vec<JsonFile>,
-    /// The files that are written, sorted by name. Empty where the script is refused.
-    writes: Vec<JsonFile>,
-    /// Errors first, then warnings and notes.
-    findings: Vec<JsonFinding<'a>>,
-    /// Where the verb of each command is; a step's `command` counts in this list, from 0. Empty where the script is refused.
-    commands: Vec<JsonPosition>,
-}
+/// What explains that a script can't be read.
+const UNREADABLE_PAGE: &str = "FORMATS.md#the-formats-and-statuses-of-sedck-explain";
 
-/// No run has more than `per_byte` * bytes + `per_line` * lines + `fixed` steps, newlines not counted.
-#[derive(Drop, Serialize)]
-struct JsonBound {
-    per_byte: u64,
-    per_line: u64,
-    fixed: u64,
-}
-
-/// A file that the script names.
-#[derive(Drop, Serialize)]
-struct JsonFile {
-    /// The name: a backslash is `\\`, a double quote `\"`, and a backquote or a byte that isn't printable ASCII is `\x` and two digits.
-    name: String,
-    /// The commands that name it, in order.
-    positions: Vec<JsonPosition>,
-}
-
-/// A byte of the script, or its end.
-#[derive(Drop, Serialize)]
-struct JsonPosition {
-    /// In bytes, from 0.
-    offset: usize,
-    /// From 1.
-    line: usize,
-    /// In bytes, from 1.
-    column: usize,
-}
-
-/// A finding.
-#[derive(Drop, Serialize)]
-struct JsonFinding<'a> {
-    /// `error`, `warning` or `note`.
-    level: &'static str,
-    /// A name that stays the same, such as `bad-flag`.
-    code: &'static str,
-    message: &'a str,
-    /// What to write instead; null where there is none.
-    hint: Option<&'static str>,
-    /// Null where it is of the certificate, or of the script as a whole.
-    position: Option<JsonPosition>,
-    /// The steps of a loop, or the ends of an edge.
-    steps: Vec<JsonStep<'a>>,
-}
-
-/// A step of a loop or along an edge.
-#[derive(Drop, Serialize)]
-struct JsonStep<'a> {
-    /// The command's number, from 0; the number of commands for the script's end.
-    command: u16,
-    /// The flag that `t` tests.
-    flag: bool,
-    /// No line is left to read.
-    last: bool,
-    /// `consume`, `shorten`, `keep` or `grow`; null where the node is only reached.
-    kind: Option<&'static str>,
-    message: &'a str,
-    /// Null for the script's end.
-    position: Option<JsonPosition>,
-}
-
-/// The object on a line, in ASCII.
+/// The object on a line, in ASCII, with the findings of at least this level.
 pub fn json_report(
     alloc: Global,
     name: &str,
     explanation: &Explanation,
+    least: Level,
 ) -> Result<Vec<u8>, AllocError>
-    ensures { IfOk result (λ line. IsAscii line.items) }
+    ensures ascii { IfOk result (λ line. IsAscii line.items) }
+    ensures line { IfOk result (λ line. IsPrintableLine line.items) }
 {
-    let report = json_of(alloc, name, explanation)?;
-    let Ok(text) = serde_json::to_string(alloc, &report) else {
+    written(alloc, &json_of(alloc, name, explanation, least)?)
+}
+
+/// The object on a line, in ASCII, for a script that can't be read. The message says which file can't be, and why.
+pub fn json_unreadable(alloc: Global, name: &str, message: &str) -> Result<Vec<u8>, AllocError>
+    ensures ascii { IfOk result (λ line. IsAscii line.items) }
+    ensures line { IfOk result (λ line. IsPrintableLine line.items) }
+{
+    written(alloc, &unreadable(alloc, name, message)?)
+}
+
+/// The object as text on a line.
+fn written(alloc: Global, report: &JsonReport) -> Result<Vec<u8>, AllocError>
+    ensures ascii { IfOk result (λ line. IsAscii line.items) }
+    ensures line { IfOk result (λ line. IsPrintableLine line.items) }
+{
+    let Ok(text) = serde_json::to_string(alloc, report) else {
         return Err(AllocError);
     };
-    let mut out = Vec::new(alloc);
-    push_ascii(&mut out, text.as_str())?;
-    out.push(b'\n')?;
-    Ok(out)
+    ascii_line(alloc, text.as_str())
+}
+
+/// What is reported of a script that can't be read.
+fn unreadable<'a>(
+    alloc: Global,
+    file: &'a str,
+    message: &'a str,
+) -> Result<JsonReport<'a>, AllocError> {
+    let mut findings = Vec::new(alloc);
+    findings.push(JsonFinding {
+        level: level_word(Level::Error),
+        code: "unreadable",
+        message,
+        hint: None,
+        position: None,
+        steps: Vec::new(alloc),
+        page: UNREADABLE_PAGE,
+        end: None,
+        fix: None,
+    })?;
+    Ok(JsonReport {
+        file,
+        status: 4,
+        answer: "unreadable",
+        bound: None,
+        reads: Vec::new(alloc),
+        writes: Vec::new(alloc),
+        findings,
+        commands: Vec::new(alloc),
+        version: VERSION,
+    })
 }
 
 /// All that is reported.
@@ -114,6 +86,7 @@ fn json_of<'a>(
     alloc: Global,
     file: &'a str,
     explanation: &'a Explanation,
+    least: Level,
 ) -> Result<JsonReport<'a>, AllocError> {
     Ok(JsonReport {
         file,
@@ -122,8 +95,9 @@ fn json_of<'a>(
         bound: json_bound(&explanation.answer),
         reads: json_files(alloc, &explanation.reads)?,
         writes: json_files(alloc, &explanation.writes)?,
-        findings: json_findings(alloc, &explanation.findings)?,
+        findings: json_findings(alloc, &explanation.findings, least)?,
         commands: json_positions(alloc, &explanation.positions)?,
+        version: VERSION,
     })
 }
 
@@ -178,10 +152,13 @@ fn json_position(position: Position) -> JsonPosition {
 fn json_findings<'a>(
     alloc: Global,
     findings: &'a [Finding],
+    least: Level,
 ) -> Result<Vec<JsonFinding<'a>>, AllocError> {
     let mut out = Vec::new(alloc);
     for finding in findings {
-        out.push(json_finding(alloc, finding)?)?;
+        if is_listed(finding, least) {
+            out.push(json_finding(alloc, finding)?)?;
+        }
     }
     Ok(out)
 }
@@ -193,12 +170,24 @@ fn json_finding<'a>(alloc: Global, finding: &'a Finding) -> Result<JsonFinding<'
     }
     Ok(JsonFinding {
         level: level_word(finding.level),
-        code: finding.code,
+        code: finding.code.name(),
         message: finding.message.as_str(),
         hint: finding.hint,
         position: finding.position.map(json_position),
         steps,
+        page: page_of(finding.code),
+        end: finding.end.map(json_position),
+        fix: finding.fix.map(json_fix),
     })
+}
+
+fn json_fix(fix: Fix) -> JsonFix {
+    let Fix { start, end, text } = fix;
+    JsonFix {
+        start: json_position(start),
+        end: json_position(end),
+        text,
+    }
 }
 
 fn json_step(step: &Step) -> JsonStep<'_> {

@@ -1,16 +1,21 @@
-//! What is reported of a script, as bytes: for people at a terminal, for editors, and for programs.
+//! What is reported of a script, as bytes: for people at a terminal, for editors, for programs and for hosts of code.
 //!
-//! Each function takes the script's path as it is printed, and what is reported. The path has no control characters; all that is
-//! taken from the script is shown in printable ASCII.
+//! `text_report` and `gcc_report` take the script's path as it is printed, without control characters; the others take the path itself,
+//! and escape it. All that is taken from the script is shown in printable ASCII.
 #![tactic(auto)]
 
 mod columns;
 mod gcc;
 mod json_line;
+mod json_shape;
 mod parts;
+mod sarif;
+mod sarif_shape;
 mod summary;
 mod text;
+mod uri;
 
 pub use gcc::gcc_report;
-pub use json_line::json_report;
+pub use json_line::{json_report, json_unreadable};
+pub use sarif::sarif_report;
 pub use text::text_report;

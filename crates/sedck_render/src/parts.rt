@@ -1,7 +1,7 @@
 //! The parts of a report in text: where a finding is, and what it says.
 
 use sedck_findings::{Finding, Position};
-use sedck_words::{level_word, push_all};
+use sedck_words::{level_word, push_all, push_grouped};
 use std::alloc::{AllocError, Global};
 
 /// What precedes and what follows coloured words.
@@ -40,5 +40,22 @@ pub(crate) fn push_headline(
     push_all(out, &[place])?;
     push_all(out, &[ink.on, level_word(finding.level), ink.off, ": "])?;
     push_all(out, &[finding.message.as_str(), " ["])?;
-    push_all(out, &[finding.code, "]\n"])
+    push_all(out, &[finding.code.name(), "]\n"])
+}
+
+/// Adds how many steps aren't listed.
+pub(crate) fn push_left_out(
+    alloc: Global,
+    out: &mut Vec<u8>,
+    left_out: usize,
+) -> Result<(), AllocError> {
+    push_grouped(alloc, out, left_out as u64)?;
+    push_all(
+        out,
+        &[if left_out == 1 {
+            " step left out\n"
+        } else {
+            " steps left out\n"
+        }],
+    )
 }

@@ -1,7 +1,6 @@
-//! What an accepted script may do: its limit on steps, and its files.
+//! The answer, and what the script may do: its limit on steps, and its files.
 
-use crate::parts::Ink;
-use sedck_cert::Bound;
+use crate::parts::{Ink, NO_INK};
 use sedck_findings::{Answer, Explanation, NamedFile, Position, shown_name};
 use sedck_words::{place_words, push_all, push_limit};
 use std::alloc::{AllocError, Global};
@@ -9,35 +8,49 @@ use std::alloc::{AllocError, Global};
 /// The most positions of one file that are listed.
 const POSITIONS: usize = 8;
 
-/// Adds the summary of an accepted script, and nothing of any other.
+/// The colours of a yes and of a no.
+#[derive(Clone, Copy)]
+pub(crate) struct Inks {
+    pub yes: Ink,
+    pub no: Ink,
+}
+
+/// Adds the answer, the limit on steps and the files. Of what is refused it adds nothing.
 pub(crate) fn push_summary(
     alloc: Global,
     out: &mut Vec<u8>,
     name: &str,
     explanation: &Explanation,
-    ink: Ink,
+    inks: Inks,
 ) -> Result<(), AllocError> {
-    let Answer::Accepted { bound, .. } = &explanation.answer else {
-        return Ok(());
+    let Inks { yes, no } = inks;
+    let (ink, answer, rest) = match &explanation.answer {
+        Answer::Accepted { .. } if explanation.is_denied() => {
+            (NO_INK, "denied", ", though every run ends\n")
+        }
+        Answer::Accepted { .. } => (yes, "accepted", ": every run ends\n"),
+        Answer::Rejected { .. } => (no, "rejected", ": the certificate doesn't fit the script\n"),
+        Answer::Endless(_) => (no, "loop", ": a run may never end\n"),
+        Answer::ScriptRefused(_) | Answer::CertificateRefused(_) => return Ok(()),
     };
     push_all(out, &[name, ": "])?;
-    if explanation.is_denied() {
-        push_all(out, &["denied, though every run ends\n"])?;
-    } else {
-        push_all(out, &[ink.on, "accepted", ink.off, ": every run ends\n"])?;
-    }
-    push_steps(alloc, out, *bound)?;
+    push_all(out, &[ink.on, answer, ink.off, rest])?;
+    push_steps(alloc, out, &explanation.answer)?;
     push_files(alloc, out, "  reads: ", &explanation.reads)?;
     push_files(alloc, out, "  writes: ", &explanation.writes)
 }
 
 /// Adds the limit on steps, where there is one.
-fn push_steps(alloc: Global, out: &mut Vec<u8>, bound: Option<Bound>) -> Result<(), AllocError> {
-    let Some(bound) = bound else {
+fn push_steps(alloc: Global, out: &mut Vec<u8>, answer: &Answer) -> Result<(), AllocError> {
+    let Answer::Accepted {
+        bound: Some(bound),
+        ..
+    } = answer
+    else {
         return Ok(());
     };
     push_all(out, &["  steps: "])?;
-    push_limit(alloc, out, bound)?;
+    push_limit(alloc, out, *bound)?;
     push_all(out, &["\n"])
 }
 

@@ -1,10 +1,13 @@
 //! The report for people at a terminal: each finding with its line, and what an accepted script may do.
 
 use crate::columns::{push_aligned, push_padded, push_spaces};
-use crate::parts::{Ink, NO_INK, prefix, push_headline};
-use crate::summary::push_summary;
+use crate::parts::{Ink, NO_INK, prefix, push_headline, push_left_out};
+use crate::summary::{Inks, push_summary};
 use sedck_findings::{Explanation, Finding, Level, Position, Step};
-use sedck_words::{Source, command_line, decimal, excerpt, place_words, push_all, source_of};
+use sedck_words::{
+    ListedSteps, Source, command_line, decimal, excerpt, is_listed, listed_steps, place_words,
+    push_all, source_of,
+};
 use std::alloc::{AllocError, Global};
 
 /// The most characters of a line that are shown above a caret.
@@ -24,20 +27,27 @@ const GREEN: &str = "\x1b[1;32m";
 
 const PLAIN: &str = "\x1b[0m";
 
-/// Each finding with its line, a caret under the byte that is meant, its steps and its hint; then, for an accepted script, its
-/// limit on steps and its files. `colour` adds the colours of ANSI terminals.
+/// Each finding of at least this level with its line, a caret under the byte that is meant, its steps and its hint; then the answer
+/// with the limit on steps and the files, but for what is refused. `colour` adds the colours of ANSI terminals.
 pub fn text_report(
     alloc: Global,
     name: &str,
     explanation: &Explanation,
+    least: Level,
     colour: bool,
 ) -> Result<Vec<u8>, AllocError> {
     let mut out = Vec::new(alloc);
     let source = source_of(explanation);
     for finding in &explanation.findings {
-        push_finding(alloc, &mut out, name, source, finding, colour)?;
+        if is_listed(finding, least) {
+            push_finding(alloc, &mut out, name, source, finding, colour)?;
+        }
     }
-    push_summary(alloc, &mut out, name, explanation, ink_where(colour, GREEN))?;
+    let inks = Inks {
+        yes: ink_where(colour, GREEN),
+        no: ink_where(colour, RED),
+    };
+    push_summary(alloc, &mut out, name, explanation, inks)?;
     Ok(out)
 }
 
@@ -106,7 +116,7 @@ fn push_line(
     push_caret(out, gutter, shown.before, ink)
 }
 
-/// Adds a caret so many columns behind the bar.
+/// Adds a caret this many columns after the bar.
 fn push_caret(out: &mut Vec<u8>, gutter: usize, before: usize, ink: Ink) -> Result<(), AllocError> {
     push_spaces(out, gutter)?;
     push_all(out, &[" | "])?;
@@ -136,7 +146,7 @@ struct Row<'a> {
     message: &'a str,
 }
 
-/// Adds the steps, one a line.
+/// Adds the steps, one a line, and how many are left out.
 fn push_steps(
     alloc: Global,
     out: &mut Vec<u8>,
@@ -144,11 +154,25 @@ fn push_steps(
     steps: &[Step],
     gutter: usize,
 ) -> Result<(), AllocError> {
+    let ListedSteps {
+        first,
+        left_out,
+        last,
+    } = listed_steps(steps);
     let mut rows = Vec::new(alloc);
-    for step in steps {
+    for step in first.iter().chain(last.iter()) {
         rows.push(step_row(alloc, source, step)?)?;
     }
-    push_rows(out, &rows, gutter)
+    let columns = columns_of(&rows, gutter);
+    for (index, row) in rows.iter().enumerate() {
+        if left_out > 0 && index == first.len() {
+            push_spaces(out, gutter.saturating_add(3))?;
+            push_all(out, &["... "])?;
+            push_left_out(alloc, out, left_out)?;
+        }
+        push_row(out, row, columns)?;
+    }
+    Ok(())
 }
 
 /// The parts of a step's line.
@@ -165,20 +189,33 @@ fn step_row<'a>(alloc: Global, source: Source, step: &'a Step) -> Result<Row<'a>
     })
 }
 
-/// Adds the rows in columns.
-fn push_rows(out: &mut Vec<u8>, rows: &[Row], gutter: usize) -> Result<(), AllocError> {
-    let mut place_width = 0;
-    let mut source_width = 0;
+/// How many columns precede a row, and how wide its parts are.
+#[derive(Clone, Copy)]
+struct Columns {
+    before: usize,
+    place: usize,
+    source: usize,
+}
+
+/// The columns in which all rows fit.
+fn columns_of(rows: &[Row], gutter: usize) -> Columns {
+    let mut columns = Columns {
+        before: gutter.saturating_add(3),
+        place: 0,
+        source: 0,
+    };
     for row in rows {
-        place_width = place_width.max(row.place.len());
-        source_width = source_width.max(row.source.len());
+        columns.place = columns.place.max(row.place.len());
+        columns.source = columns.source.max(row.source.len());
     }
-    for row in rows {
-        push_spaces(out, gutter.saturating_add(3))?;
-        push_aligned(out, row.place.as_str(), place_width)?;
-        push_all(out, &["  "])?;
-        push_padded(out, row.source.as_str(), source_width)?;
-        push_all(out, &["  ", row.message, "\n"])?;
-    }
-    Ok(())
+    columns
+}
+
+/// Adds the row in its columns.
+fn push_row(out: &mut Vec<u8>, row: &Row, columns: Columns) -> Result<(), AllocError> {
+    push_spaces(out, columns.before)?;
+    push_aligned(out, row.place.as_str(), columns.place)?;
+    push_all(out, &["  "])?;
+    push_padded(out, row.source.as_str(), columns.source)?;
+    push_all(out, &["  ", row.message, "\n"])
 }

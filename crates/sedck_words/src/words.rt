@@ -4,6 +4,9 @@ use sedck_findings::{Answer, Explanation, Level, Position};
 use sedck_flow::Kind;
 use std::alloc::{AllocError, Global};
 
+/// The version of the program and of its formats.
+pub const VERSION: &str = "1.1.0";
+
 /// The word for a level.
 pub fn level_word(level: Level) -> &'static str {
     match level {
@@ -47,6 +50,29 @@ pub fn place_words(alloc: Global, position: Option<Position>) -> Result<String, 
         }
         None => String::from_str(alloc, "end"),
     }
+}
+
+/// A path as it is shown.
+pub fn shown_path(alloc: Global, path: &str) -> Result<String, AllocError> {
+    let mut shown = String::new(alloc);
+    for letter in path.chars() {
+        shown.push(shown_letter(letter))?;
+    }
+    Ok(shown)
+}
+
+/// `?` for a character that could move a terminal's cursor, end a line, or turn or hide what is around it; any other as it is.
+pub fn shown_letter(letter: char) -> char {
+    let is_hidden = letter.is_control()
+        || matches!(
+            letter,
+            '\u{61c}'
+                | '\u{200b}'..='\u{200f}'
+                | '\u{2028}'..='\u{202e}'
+                | '\u{2060}'..='\u{2069}'
+                | '\u{feff}'
+        );
+    if is_hidden { '?' } else { letter }
 }
 
 /// Adds the words, one after another.

@@ -1,0 +1,102 @@
+//! The objects of a report in JSON. Fields stay, with their meaning; others may be added.
+
+use serde::Serialize;
+
+/// What is reported of a script.
+#[derive(Drop, Serialize)]
+pub(crate) struct JsonReport<'a> {
+    /// The script's path. A byte that isn't a part of UTF-8 is `\0`, which no path has.
+    pub file: &'a str,
+    /// The exit status for this script: 0 for accepted, 1 for rejected, a loop or denied, 2 for a refused text, 4 for a script that
+    /// can't be read.
+    pub status: u8,
+    /// `accepted`, `denied`, `rejected`, `loop`, `script-refused`, `certificate-refused` or `unreadable`.
+    pub answer: &'static str,
+    /// The limit on the steps of any run; null where there is none, or where the script isn't accepted.
+    pub bound: Option<JsonBound>,
+    /// The files that are read, sorted by name. Empty where the script is refused.
+    pub reads: Vec<JsonFile>,
+    /// The files that are written, sorted by name. Empty where the script is refused.
+    pub writes: Vec<JsonFile>,
+    /// Those of the level that is asked for: errors first, then warnings and notes.
+    pub findings: Vec<JsonFinding<'a>>,
+    /// Where the verb of each command is; a step's `command` counts in this list, from 0. Empty where the script is refused.
+    pub commands: Vec<JsonPosition>,
+    /// The program's version.
+    pub version: &'static str,
+}
+
+/// No run has more than `per_byte` * bytes + `per_line` * lines + `fixed` steps, newlines not counted.
+#[derive(Drop, Serialize)]
+pub(crate) struct JsonBound {
+    pub per_byte: u64,
+    pub per_line: u64,
+    pub fixed: u64,
+}
+
+/// A file that the script names.
+#[derive(Drop, Serialize)]
+pub(crate) struct JsonFile {
+    /// The name: a backslash is `\\`, a double quote `\"`, and a backquote or a byte that isn't printable ASCII is `\x` and two digits.
+    pub name: String,
+    /// The commands that name it, in order.
+    pub positions: Vec<JsonPosition>,
+}
+
+/// A byte of the script, or its end.
+#[derive(Drop, Serialize)]
+pub(crate) struct JsonPosition {
+    /// In bytes, from 0.
+    pub offset: usize,
+    /// From 1.
+    pub line: usize,
+    /// In bytes, from 1.
+    pub column: usize,
+}
+
+/// A finding.
+#[derive(Drop, Serialize)]
+pub(crate) struct JsonFinding<'a> {
+    /// `error`, `warning` or `note`.
+    pub level: &'static str,
+    /// A name that stays the same, such as `bad-flag`.
+    pub code: &'static str,
+    pub message: &'a str,
+    /// What to write instead; null where there is none.
+    pub hint: Option<&'static str>,
+    /// Null where it is of the certificate, or of the script as a whole.
+    pub position: Option<JsonPosition>,
+    /// The steps of a loop, or the ends of an edge.
+    pub steps: Vec<JsonStep<'a>>,
+    /// The page that explains the code, and its heading: a link from the folder `docs`.
+    pub page: &'static str,
+    /// The first byte after what is meant; null where it isn't known.
+    pub end: Option<JsonPosition>,
+    /// A change of the script that mends it; null where there is none.
+    pub fix: Option<JsonFix>,
+}
+
+/// A step of a loop or along an edge.
+#[derive(Drop, Serialize)]
+pub(crate) struct JsonStep<'a> {
+    /// The command's number, from 0; the number of commands for the script's end.
+    pub command: u16,
+    /// The flag that `t` tests.
+    pub flag: bool,
+    /// No line is left to read.
+    pub last: bool,
+    /// `consume`, `shorten`, `keep` or `grow`; null where the node is only reached.
+    pub kind: Option<&'static str>,
+    pub message: &'a str,
+    /// Null for the script's end.
+    pub position: Option<JsonPosition>,
+}
+
+/// The text to write in place of a part of the script.
+#[derive(Drop, Serialize)]
+pub(crate) struct JsonFix {
+    pub start: JsonPosition,
+    /// The first byte after the part.
+    pub end: JsonPosition,
+    pub text: &'static str,
+}
