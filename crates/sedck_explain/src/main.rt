@@ -2,10 +2,10 @@
 #![tactic(auto)]
 
 use sedck_cli::FromWrite;
-use sedck_explain_cli::{flushed, out_of_memory, program, words_refused};
+use sedck_explain_cli::{arguments, flushed, out_of_memory, program};
 use std::env;
 use std::env::VarError;
-use std::io::{ErrorKind, IsTerminal};
+use std::io::IsTerminal;
 use std::process::ExitCode;
 use std::rt::Env;
 
@@ -13,15 +13,9 @@ fn main(rt: HostRuntime) -> ExitCode {
     let mut out = FromWrite::new(rt.stdout());
     let mut err = FromWrite::new(rt.stderr());
     let colour = wants_colour(&rt) && rt.stdout().is_terminal();
-    let status = match env::args(&rt) {
-        Ok(words) => match words.skip(1).collect::<Vec<String>>(rt.alloc()) {
-            Ok(words) => program(&rt, &words, colour, &mut out, &mut err),
-            Err(_) => out_of_memory(&mut err),
-        },
-        Err(error) => match error.kind() {
-            ErrorKind::OutOfMemory => out_of_memory(&mut err),
-            _ => words_refused(&mut err),
-        },
+    let status = match arguments(&rt) {
+        Ok(words) => program(&rt, &words, colour, &mut out, &mut err),
+        Err(_) => out_of_memory(&mut err),
     };
     ExitCode::from(flushed(status, out.into_inner(), &mut err))
 }

@@ -7,12 +7,14 @@ ghost use Rattle.sedck_explain_cli.specs.Explained.{error_line};
 ghost use Rattle.sedck_explain_cli.specs.Statuses.{certificate_of, scripts_of, HasStatus, StatusAt, IsGreatest};
 
 use crate::explaining::{explain_alone, explain_with};
-use crate::format::Style;
+use crate::format::{Format, Style};
 use crate::request::{Request, request_of};
+use crate::unread::unread_of;
 use clap::Error;
 use clap::error::ErrorKind;
 use sedck_cert::streams::{Failed, FromRead, Sink, Source, write_all};
 use sedck_cli::{FromFiles, Input as InputOf, Opener, RunFault};
+use sedck_render::json_unreadable;
 use std::alloc::{AllocError, Global};
 use std::fs::Files;
 use std::io::{Input, Write};
@@ -82,8 +84,7 @@ pub fn explain_all<O: Opener, R: Input, W: Sink, E: Sink>(
             Ok(one) => status = one.max(status),
             Err(fault) => {
                 status = 4;
-                report_fault(err, request, path, fault);
-                if !matches!(fault, RunFault::Read(_)) {
+                if !is_followed(alloc, files, request, path, fault, out, err) {
                     break;
                 }
             }
@@ -139,23 +140,16 @@ fn explain_source<O: Opener, S: Source + Drop, W: Sink>(
     let style = Style {
         format: request.format,
         colour,
+        least: request.least,
     };
-    let name = shown_name(alloc, name)?;
     let Some(certificate) = request.certificate else {
-        return explain_alone(
-            alloc,
-            &style,
-            name.as_str(),
-            request.denied,
-            &mut script,
-            out,
-        );
+        return explain_alone(alloc, &style, name, request.denied, &mut script, out);
     };
     match files.open(certificate) {
         Ok(mut certificate) => explain_with(
             alloc,
             &style,
-            name.as_str(),
+            name,
             request.denied,
             &mut script,
             &mut certificate,
@@ -165,22 +159,68 @@ fn explain_source<O: Opener, S: Source + Drop, W: Sink>(
     }
 }
 
-/// The name with `?` for each control character, which could move a terminal's cursor or end a line.
-fn shown_name(alloc: Global, name: &str) -> Result<String, AllocError> {
-    let mut shown = String::new(alloc);
-    for letter in name.chars() {
-        shown.push(if letter.is_control() { '?' } else { letter })?;
+/// Reports why a script couldn't be explained. Whether the next one follows: after a failed write, or where memory runs out, none does.
+fn is_followed<O: Opener, W: Sink, E: Sink>(
+    alloc: Global,
+    files: &O,
+    request: &Request,
+    path: &str,
+    fault: RunFault,
+    out: &mut W,
+    err: &mut E,
+) -> bool {
+    report_fault(files, err, request, path, fault);
+    let RunFault::Read(input) = fault else {
+        return false;
+    };
+    if request.format != Format::Json {
+        return true;
     }
-    Ok(shown)
+    match report_unread(alloc, files, request, path, input, out) {
+        Ok(()) => true,
+        Err(fault) => {
+            report_fault(files, err, request, path, fault);
+            false
+        }
+    }
+}
+
+/// Writes the object of a script that can't be read, so that programs find one for each script.
+fn report_unread<'a, O: Opener, W: Sink>(
+    alloc: Global,
+    files: &O,
+    request: &Request<'a>,
+    path: &'a str,
+    input: InputOf,
+    out: &mut W,
+) -> Result<(), RunFault> {
+    let message = unread_of(files, request, path, input).words(alloc)?;
+    let name = if path == "-" {
+        request.stdin_name
+    } else {
+        path
+    };
+    let report = json_unreadable(alloc, name, message.as_str())?;
+    match write_all(out, &report) {
+        Ok(()) => Ok(()),
+        Err(_) => Err(RunFault::Write),
+    }
 }
 
 /// Reports why a script couldn't be explained. It takes no memory.
-fn report_fault<E: Sink>(err: &mut E, request: &Request, path: &str, fault: RunFault) {
-    let _ = write_fault(err, request, path, fault);
+fn report_fault<O: Opener, E: Sink>(
+    files: &O,
+    err: &mut E,
+    request: &Request,
+    path: &str,
+    fault: RunFault,
+) {
+    let _ = write_fault(files, err, request, path, fault);
 }
 
 /// Writes the line of the fault.
-fn write_fault<E: Sink>(
+fn write_fault<O: Opener, E: Sink>(
+    files: &O,
     err: &mut E,
     request: &Request,
     path: &str,
@@ -188,28 +228,13 @@ fn write_fault<E: Sink>(
 ) -> Result<(), Failed> {
     write_all(err, NAME)?;
     match fault {
-        RunFault::Read(InputOf::Script) if path == "-" => write_unread(err, request.stdin_name),
-        RunFault::Read(InputOf::Script) => write_unread(err, path),
-        RunFault::Read(InputOf::Certificate) => write_unread(
-            err,
-            request.certificate.unwrap_or(path),
-        ),
+        RunFault::Read(input) => unread_of(files, request, path, input).write(err),
         RunFault::Write => write_all(err, b"cannot write\n"),
         // Texts that are refused are reported, so that memory is all that is left.
         RunFault::Script(_) | RunFault::Certificate(_) | RunFault::OutOfMemory => {
             write_all(err, b"out of memory\n")
         }
     }
-}
-
-/// Writes which file can't be read.
-fn write_unread<E: Sink>(err: &mut E, path: &str) -> Result<(), Failed> {
-    write_all(err, b"cannot read ")?;
-    for letter in path.chars() {
-        let shown = if letter.is_control() { '?' } else { letter };
-        write_all(err, shown.encode_utf8(&mut [0; 4]).as_bytes())?;
-    }
-    write_all(err, b"\n")
 }
 
 /// Writes why the program ends, and answers its exit status.
@@ -255,13 +280,6 @@ fn words_of(alloc: Global, error: &Error) -> Result<String, AllocError> {
         return Err(AllocError);
     }
     format!(in alloc; "{error}")
-}
-
-/// Reports that a word isn't UTF-8, and answers the exit status.
-pub fn words_refused<E: Sink>(err: &mut E) -> u8
-    ensures { result ≡ 3 }
-{
-    end(err, b"a word of the command line is not UTF-8\n", 3)
 }
 
 /// Reports that memory ran out, and answers the exit status.

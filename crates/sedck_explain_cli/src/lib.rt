@@ -10,10 +10,13 @@ mod explaining;
 mod format;
 mod reporter;
 mod request;
+mod unread;
+mod words;
 
-pub use command_line::{explain_all, flushed, out_of_memory, program, words_refused};
+pub use command_line::{explain_all, flushed, out_of_memory, program};
 pub use explaining::{explain_alone, explain_with};
 pub use format::{Format, Style};
 pub use reporter::Reporter;
 pub use request::Request;
-pub use sedck_findings::Denied;
+pub use sedck_findings::{Denied, Level};
+pub use words::arguments;

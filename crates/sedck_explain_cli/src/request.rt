@@ -2,16 +2,16 @@
 
 use crate::format::{Format, NAMES};
 use clap::{Arg, ArgAction, ArgMatches, Command, Error};
-use sedck_findings::Denied;
+use sedck_findings::{Denied, Level};
+use sedck_words::VERSION;
 use std::alloc::{AllocError, Global};
-
-/// The version of the program and of its formats.
-const VERSION: &str = "1.1.0";
 
 /// What is asked for.
 #[derive(Drop)]
 pub struct Request<'a> {
     pub format: Format,
+    /// The least level of findings that are reported.
+    pub least: Level,
     /// What a script may not have.
     pub denied: Denied,
     /// The certificate's path.
@@ -25,8 +25,10 @@ pub struct Request<'a> {
 /// What the arguments ask for, or why nothing, in words of `clap`.
 pub(crate) fn request_of<'a>(alloc: Global, words: &'a [String]) -> Result<Request<'a>, Error> {
     let matches = command(alloc)?.try_get_matches_from(words)?;
+    let format = format_of(&matches);
     Ok(Request {
-        format: format_of(&matches),
+        format,
+        least: level_of(&matches, format),
         denied: denied_of(&matches),
         certificate: matches.get_str("cert"),
         stdin_name: matches.get_str("stdin-filename").unwrap_or("-"),
@@ -39,6 +41,16 @@ fn format_of(matches: &ArgMatches) -> Format {
     match matches.get_str("format") {
         Some(name) => Format::named(name).unwrap_or(Format::Text),
         None => Format::Text,
+    }
+}
+
+/// The least level of findings that is asked for, or that of the format.
+fn level_of(matches: &ArgMatches, format: Format) -> Level {
+    match matches.get_str("level") {
+        Some("error") => Level::Error,
+        Some("warning") => Level::Warning,
+        Some(_) => Level::Note,
+        None => format.least(),
     }
 }
 
@@ -55,6 +67,9 @@ fn scripts_of<'a>(alloc: Global, matches: &ArgMatches<'a>) -> Result<Vec<&'a str
     }
     Ok(scripts)
 }
+
+/// The levels, by name.
+const LEVELS: [&str; 3] = ["error", "warning", "note"];
 
 /// What a script may be denied, by name.
 const DENIALS: [&str; 4] = ["reads", "writes", "warnings", "unbounded"];
@@ -86,6 +101,7 @@ fn has(words: &[&str], word: &str) -> bool {
 fn command<'a>(alloc: Global) -> Result<Command<'a>, AllocError> {
     described(alloc)
         .arg(format(alloc))?
+        .arg(level(alloc))?
         .arg(certificate(alloc))?
         .arg(deny(alloc))?
         .arg(stdin_name(alloc))?
@@ -111,6 +127,16 @@ fn format<'a>(alloc: Global) -> Arg<'a> {
         .value_name("FORMAT")
         .value_parser(NAMES.as_slice())
         .help("How the report is printed [default: text]")
+}
+
+fn level<'a>(alloc: Global) -> Arg<'a> {
+    Arg::new(alloc, "level")
+        .long("level")
+        .value_name("LEVEL")
+        .value_parser(LEVELS.as_slice())
+        .help(
+            "The least level of findings that are reported: error, warning or note [default: note; warning for gcc]; the exit status stays the same",
+        )
 }
 
 fn certificate<'a>(alloc: Global) -> Arg<'a> {

@@ -3,7 +3,7 @@ use Rattle.std.specs.Io.KnownBytes.{Keeps}
 use Rattle.sedck_explain_cli.specs.Statuses.{scripts_of, StatusAt, IsGreatest}
 use Rattle.sedck_explain_cli.proofs.Greatest.{greatest_item}
 use Rattle.sedck_explain_cli.proofs.command_line.explain_all.Goals as goal
-use Rattle.sedck_explain_cli.proofs.command_line.explain_all.Goals.{in-Ok, in-Err+else-not-matches}
+use Rattle.sedck_explain_cli.proofs.command_line.explain_all.Goals.{in-Ok, in-Err+else-not-is_followed}
 
 pub loop-path-preserved : goal.loop-path-preserved
 loop-path-preserved g c =
@@ -22,7 +22,7 @@ loop-path-preserved g c =
                 (before.greatest (omega (arith, is, small))) w.in-Ok.ensures.status);
             silent = λ small. subst (λ err. Keeps (g.E.Sink.taken c.args.err.now) (g.E.Sink.taken err)) (sym w.err-is) (before.silent (omega (arith, is, small)));
           }
-      | in-Err+else-not-matches w ↦ record {
+      | in-Err+else-not-is_followed w ↦ record {
         within = omega (arith, w.status-is);
         known = λ three. omega (arith, w.status-is, three);
         greatest = λ small. absurd (omega (arith, w.status-is, small));

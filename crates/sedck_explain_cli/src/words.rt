@@ -1,0 +1,49 @@
+//! The words of the command line.
+
+use bstr::ByteSlice;
+use std::alloc::{AllocError, AllocGlobal, Global};
+use std::env::FillError;
+use std::rt::Env;
+
+/// The words after the program's name. A byte that isn't a part of UTF-8 becomes NUL, which no word of a command line has: so a
+/// path with such a byte is refused by itself, and the other scripts are explained.
+pub fn arguments<R: Env + AllocGlobal>(rt: &R) -> Result<Vec<String>, AllocError> {
+    let mut words = Vec::new(rt.alloc());
+    for index in 1..usize::MAX {
+        let Some(bytes) = argument(rt, index)? else {
+            break;
+        };
+        words.push(decoded(rt.alloc(), &bytes)?)?;
+    }
+    Ok(words)
+}
+
+/// The bytes of a word, if there are so many words.
+fn argument<R: Env + AllocGlobal>(rt: &R, index: usize) -> Result<Option<Vec<u8>>, AllocError> {
+    let mut bytes = Vec::new(rt.alloc());
+    let mut room = 256usize;
+    for _ in 0..usize::BITS {
+        bytes.resize(room, 0u8)?;
+        match rt.arg(index, bytes.as_mut_slice()) {
+            Ok(length) => {
+                bytes.truncate(length);
+                return Ok(Some(bytes));
+            }
+            Err(FillError::NotPresent) => return Ok(None),
+            Err(FillError::TooLong) => room = room.saturating_add(room),
+        }
+    }
+    Err(AllocError)
+}
+
+/// The bytes as text, with NUL for each byte that isn't a part of UTF-8.
+fn decoded(alloc: Global, bytes: &[u8]) -> Result<String, AllocError> {
+    let mut word = String::new(alloc);
+    for chunk in bytes.utf8_chunks() {
+        word.push_str(chunk.valid())?;
+        for _ in chunk.invalid() {
+            word.push('\0')?;
+        }
+    }
+    Ok(word)
+}
