@@ -42,6 +42,7 @@ explain-tests: build
 	@echo "Testing the reports of sedck-explain ..."
 	python3 tests/explain.py build/sedck-explain build/sedck
 	python3 tests/hints.py build/sedck-explain build/sedck
+	python3 tests/fixes.py build/sedck-explain
 
 # `sedck_refusals` makes one call twice; the library refuses one request for memory of the program that it is loaded into.
 refusals: build refusals-program build/refuse.so

@@ -81,7 +81,7 @@ def forward_branches(draw):
 
 
 def substitutions_with_branches(draw):
-    """Labels, each followed by a substitution and by a branch that may be passed by, its target drawn among the labels after it."""
+    """Labels, each followed by a substitution and by a branch that may be skipped, its target drawn among the labels after it."""
     out = [b":l%d\ns/a/b/\n/x/b l%d\n" % (i, draw.randrange(i + 1, 1365)) for i in range(1364)]
     return b"".join(out) + b":l1364\n"
 

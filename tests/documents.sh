@@ -1,7 +1,7 @@
 #!/bin/sh
 # Checks the examples by what their README.md says: the answer in each row of its tables, each certificate as `rank`
 # writes it, what each command prints that the documents show, the answers in docs/FAULTS.md and docs/MENDING.md,
-# the tables of edges and faults, the picture, and docs/BELIEVED.md. Needs build/sedck, build/sedck-explain and Python 3; blocks that need
+# the tables of edges and faults, the picture, and docs/DEFINITIONS.md. Needs build/sedck, build/sedck-explain and Python 3; blocks that need
 # more, as a sed, are left out where it is missing. Says what was left out and what failed, and ends with status 1 on any failure.
 
 CDPATH= cd -- "$(dirname -- "$0")/.." || exit 1
@@ -140,9 +140,9 @@ version=$(awk '/^## [0-9]/ { print $2; exit }' "$documents/CHANGELOG.md")
 (cd "$documents" && python3 tests/edges.py build/sedck docs/DEFINITIONS.md) >&2 || fail "a row of the table in docs/DEFINITIONS.md isn't what sedck graph lists"
 (cd "$documents" && python3 tests/pages.py build/sedck docs/FAULTS.md docs/MENDING.md) >&2 || fail "a script of docs/FAULTS.md or docs/MENDING.md isn't answered as the page says"
 
-# The list of what must be believed is made from the contracts, and no exported contract reaches a private definition.
-python3 "$documents/tests/believed.py" >&2 || fail "tools/believed.py loses a line of a definition"
-python3 "$documents/tools/believed.py" --check >&2 || fail "docs/BELIEVED.md or a folder specs/Private isn't as it should be"
+# The page of the definitions is made from the contracts, and no exported contract reaches a private definition.
+python3 "$documents/tests/definitions.py" >&2 || fail "tools/definitions.py loses a line of a definition, or a word of its text"
+python3 "$documents/tools/definitions.py" --check >&2 || fail "docs/DEFINITIONS.md or a folder specs/Private isn't as it should be"
 
 [ $failures -eq 0 ] || exit 1
 echo "documents: all are answered as they should be"

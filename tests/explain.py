@@ -10,9 +10,12 @@ import sys
 import tempfile
 
 import explain_denied
+import explain_findings
 import explain_json
+import explain_listed
 import explain_pages
 import explain_refused
+import explain_sarif
 import explain_texts
 import explain_words
 from explain_tools import Tools
@@ -31,6 +34,9 @@ def main():
         explain_json.check(tools, asked.scripts)
         explain_words.check(tools)
         explain_denied.check(tools)
+        explain_findings.check(tools)
+        explain_listed.check(tools)
+        explain_sarif.check(tools, 100)
         has_graphviz = explain_pages.check(tools)
     for failure in tools.failures:
         print("FAILED: " + failure)

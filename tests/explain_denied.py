@@ -46,8 +46,8 @@ LOOKS = [
 
 # A refused text that is none of sed, and the beginning of its message.
 NONE = [
-    (b"#!/bin/sh\nset -e\n", "the first line names another program than sed"),
-    (b"#!/usr/bin/env python3\nprint(1)\n", "the first line names another program than sed"),
+    (b"#!/bin/sh\nset -e\n", "the first line names a program other than sed"),
+    (b"#!/usr/bin/env python3\nprint(1)\n", "the first line names a program other than sed"),
     (b"# a comment\n\nprefix=/usr\nsed s/a/b/ x\n", "this looks like a shell script or a makefile"),
     (b"set -e\n", "this looks like a shell script or a makefile"),
     (b"CC := cc\n", "this looks like a shell script or a makefile"),
@@ -86,7 +86,7 @@ def check_denials(tools):
 def check_texts(tools):
     """The report for people, for editors and for browsers, and words that deny nothing known."""
     tools.write("d.sed", b"p\nw out\n")
-    said = 'd.sed:2:1: error: this writes "out", which `--deny writes` rules out [denied-writes]\n'
+    said = 'd.sed:2:1: error: this writes "out", which `--deny writes` forbids [denied-writes]\n'
     tools.same("text of a denial", tools.explain("--deny", "writes", "d.sed"), (1, (said + (
         "   2 | w out\n     | ^\nd.sed: denied, though every run ends\n"
         "  steps: at most 4 a byte, plus 20 a line, plus 4; for 1,000 lines of 80 bytes at most 340,004\n"

@@ -4,14 +4,17 @@ The place of a command's verb is also that of fault 19: with 4,095 - k commands 
 4,096th, and the fault's offset less 2 * (4,095 - k) is that of its verb.
 """
 import concurrent.futures
+import functools
 import json
 import os
 import random
 import re
 import sys
+from pathlib import Path
 
 from explain_texts import PRINT, REFUSED_CERTIFICATES, WITH_CERTIFICATE
-from explain_tools import place, shown_name
+from explain_tools import VERSION, place, shown_name
+from links import anchors
 
 TOP = os.path.dirname(os.path.dirname(os.path.abspath(__file__)))
 sys.path.insert(0, os.path.join(TOP, "tests", "seds"))
@@ -19,7 +22,8 @@ from seds_draw import Draw  # noqa: E402
 
 WHOLE = 200
 COMMANDS = 4095
-FIELDS = ["file", "status", "answer", "bound", "reads", "writes", "findings", "commands"]
+FIELDS = ["file", "status", "answer", "bound", "reads", "writes", "findings", "commands", "version"]
+FINDING = ["level", "code", "message", "hint", "position", "steps", "page", "end", "fix"]
 ANSWERS = {0: ["accepted"], 1: ["rejected", "loop"], 2: ["script-refused", "certificate-refused"]}
 
 
@@ -48,7 +52,41 @@ def reports(tools, words):
     for one in parsed:
         tools.same("fields", list(one), FIELDS)
         tools.holds("answer %r" % one["answer"], one["answer"] in ANSWERS[one["status"]])
+        tools.same("version", one["version"], VERSION)
+        levels = [["error", "warning", "note"].index(finding["level"]) for finding in one["findings"]]
+        tools.same("levels in their order", levels, sorted(levels))
+        for finding in one["findings"]:
+            hold_finding(tools, one["file"], finding)
     return parsed
+
+
+def hold_finding(tools, what, finding):
+    """The fields of a finding; a page with a heading; an end and a fix that are no parts of the script before its position."""
+    tools.same("fields of a finding of %s" % what, list(finding), FINDING)
+    tools.holds("page %s" % finding["page"], finding["page"] in headings())
+    start, end = finding["position"], finding["end"]
+    tools.same("end in %s" % what, end is None, start is None)
+    if end:
+        tools.same("line of an end in %s" % what, (end["line"], end["column"] - start["column"]), (start["line"], end["offset"] - start["offset"]))
+        tools.holds("order of an end in %s" % what, start["offset"] <= end["offset"])
+    for fix in [finding["fix"]] * (finding["fix"] is not None):
+        tools.same("fields of a fix of %s" % what, list(fix), ["start", "end", "text"])
+        tools.holds("fix in %s" % what, fix["start"]["offset"] <= fix["end"]["offset"] and fix["text"].isascii())
+
+
+@functools.cache
+def headings():
+    """The pages in the folder `docs` with their headings, as a link names them."""
+    return {"%s#%s" % (page.name, head) for page in (Path(TOP) / "docs").glob("*.md") for head in anchors(page)}
+
+
+def check_headings(tools):
+    """Each page that a code has, whether it is printed here or not; how `Code` and the table fit is for the compiler."""
+    with open(os.path.join(TOP, "crates", "sedck_words", "src", "pages.rt")) as file:
+        pages = re.findall(r'"(\w+\.md#[^"]*)"', file.read())
+    tools.holds("pages", len(pages) > 30)
+    for page in pages:
+        tools.holds("page %s" % page, page in headings())
 
 
 def positions_in(value):
@@ -185,11 +223,13 @@ def check_certificates(tools):
 
 
 def check_paths(tools):
-    """Paths are printed as they are, but for control characters; in ASCII."""
+    """Paths are just what was given; in ASCII. Other formats have a `?` for each control character."""
     for name, shown in (("\u00e9\u2603\U0001f600.sed", None), ('"\\<b>&\'.sed', None), ("a\x1b[31m\n\u009b\x7f.sed", "a?[31m???.sed")):
-        tools.write(name, b"p\n")
+        tools.write(name, b"b z\n")
         report, = reports(tools, [name])
-        tools.same("path %r" % name, report["file"], shown or name)
+        tools.same("path %r" % name, report["file"], name)
+        for form in ("text", "gcc"):
+            tools.holds("path %r, %s" % (name, form), tools.explain("--format", form, name)[1].startswith((shown or name).encode() + b":1:3: "))
 
 
 def check(tools, count):
@@ -207,3 +247,4 @@ def check(tools, count):
             job.result()
     check_certificates(tools)
     check_paths(tools)
+    check_headings(tools)

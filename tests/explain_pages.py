@@ -8,7 +8,7 @@ import subprocess
 
 from explain_json import drawn_scripts, example_scripts, reports
 from explain_texts import REFUSED_CERTIFICATES, PRINT, WITH_CERTIFICATE
-from explain_tools import shown_line
+from explain_tools import VERSION, shown_line
 
 VOID = {"meta", "br", "hr", "link", "img", "input"}
 ADDRESSES = ("href", "src", "srcset", "action", "data", "poster", "xlink:href")
@@ -42,7 +42,7 @@ class Page(html.parser.HTMLParser):
     def __init__(self, text):
         super().__init__(convert_charrefs=True)
         self.open, self.faults, self.counts, self.ids, self.links = [], [], {}, [], []
-        self.lines, self.rows, self.cell, self.title = [], [], None, ""
+        self.lines, self.returns, self.rows, self.cell, self.title = [], [], [], None, ""
         self.feed(text)
         self.close()
         self.faults += ["open: %s" % name for name, _ in self.open]
@@ -60,6 +60,8 @@ class Page(html.parser.HTMLParser):
         if tag == "code" and self.parent()[0] == "li" and len(self.open) > 1 and self.open[-2] == ("ol", "script"):
             self.faults += ["two codes"] if self.lines[-1][1] is not None else []
             self.lines[-1][1] = ""
+        if tag == "a" and values.get("class") == "tag soft":
+            self.returns.append((self.lines[-1][0], values["href"]))
         if tag == "tr":
             self.rows.append([])
         if tag in ("td", "th"):
@@ -152,6 +154,14 @@ def jumps_due(tools, name, report):
     return sorted([place_words(report, at), place_words(report, to), kinds[kind] + ", part of the loop" * bold] for (at, to, kind), bold in jumps.items())
 
 
+def returns_due(tools, name, report, end):
+    """The labels of jumps back over twenty lines and more: the line that each leaves, and a link to the one that it leads to."""
+    lines = [command["line"] for command in report["commands"]] + [end]
+    _, edges = graph_of(tools, name)
+    jumps = {(lines[node[0]], lines[to[0]]) for node, to, _ in edges if to[0] != node[0] + 1}
+    return [("end" if line == end else str(line), "#L%d" % to) for line, to in sorted(jumps) if line - to >= 20]
+
+
 def ranks_due(tools, name, report):
     """The rows of ranks: a row for each place with its four nodes, as `sedck rank` has them."""
     status, text, _ = tools.sedck("rank", name)
@@ -200,12 +210,14 @@ def hold_page(tools, name, script, report):
     tools.same(what, (status, errors), (report["status"], b""))
     page = well_formed(tools, what, text)
     tools.same("%s: title" % what, page.title, "%s: %s" % (name, report["answer"]))
+    tools.holds("%s: version" % what, b">sedck-explain %s</footer>" % VERSION.encode() in text)
     tools.same("%s: lines" % what, [[number, code or ""] for number, code in page.lines], lines_due(script, report))
     tables = tables_of(page)
     files = [[row[0][1:-1], row[1], row[2].split()] for row in tables["File"]]
     tools.same("%s: files" % what, files, list(files_due(report)))
     jumps = [] if report["status"] == 2 else jumps_due(tools, name, report)
     tools.same("%s: jumps" % what, sorted(tables["From"]), jumps)
+    tools.same("%s: labels" % what, page.returns, returns_due(tools, name, report, len(page.lines)) if jumps else [])
     tools.same("%s: ranks" % what, tables["Command"], ranks_due(tools, name, report))
 
 
@@ -216,7 +228,7 @@ def check_certificates(tools):
         tools.write("s.sed", script)
         tools.write("s.cert", text.encode())
         status, _, _ = tools.sedck("check", "s.sed", "s.cert")
-        for form in ("html", "dot"):
+        for form in ("html", "dot", "dot-nodes"):
             seen, report, errors = tools.explain("--format", form, "--cert", "s.cert", "s.sed")
             tools.same("%s %r" % (form, text), (seen, errors), (status, b""))
             if form == "html":
@@ -257,9 +269,9 @@ def hold_nodes(tools, what, script, report, nodes):
 
 
 def hold_graph(tools, name, script, report, dot):
-    """A graph: just the nodes and edges that a run may reach, each once, and a bold loop."""
-    status, text, errors = tools.explain("--format", "dot", name)
-    what = "dot %r" % script[:60]
+    """A graph by nodes: just the nodes and edges that a run may reach, each once, and a bold loop."""
+    status, text, errors = tools.explain("--format", "dot-nodes", name)
+    what = "dot-nodes %r" % script[:60]
     tools.same(what, (status, errors), (report["status"], b""))
     hold_form(tools, what, text, dot)
     lines = text.decode().split("\n")
@@ -281,6 +293,46 @@ def hold_graph(tools, name, script, report, dot):
     hold_nodes(tools, what, script, report, nodes)
 
 
+COMMAND = re.compile(r'  n([0-9]+) \[label="((?:[^"\\]|\\.)*)"(, shape=oval)?\];')
+STEP = re.compile(r'  n([0-9]+) -> n([0-9]+) \[label="(consume|shorten|keep|grow)( \[t\])?( \[\$\])?", color="[#a-f0-9:whit]*", style=[a-z]+(, penwidth=4)?\];')
+
+
+def steps_due(edges, loop):
+    """Of each kind of step from a command to another: whether all of its edges have the flag, and the last line, and whether one of
+    them is of the loop."""
+    steps = {}
+    for node, to, kind in edges:
+        steps.setdefault((node[0], to[0], kind), []).append((node[1], node[2], (node, to, kind) in loop))
+    return {key: (all(flag for flag, _, _ in seen), all(last for _, last, _ in seen), any(bold for _, _, bold in seen)) for key, seen in steps.items()}
+
+
+def hold_commands(tools, name, script, report, dot):
+    """A graph by commands: a box for each one that a run may reach, with a part of its line, and the steps between them."""
+    status, text, errors = tools.explain("--format", "dot", name)
+    what = "dot %r" % script[:60]
+    tools.same(what, (status, errors), (report["status"], b""))
+    if report["status"] == 2:
+        tools.same("%s: refusal" % what, text, tools.explain("--format", "dot-nodes", name)[1])
+        return
+    hold_form(tools, what, text, dot)
+    lines = text.decode().split("\n")
+    reached, edges = graph_of(tools, name)
+    boxes = [match for match in map(COMMAND.fullmatch, lines) if match]
+    seen = [match for match in map(STEP.fullmatch, lines) if match]
+    tools.same("%s: commands" % what, [int(box[1]) for box in boxes], sorted({node[0] for node in reached}))
+    drawn = {(int(one[1]), int(one[2]), one[3]): (bool(one[4]), bool(one[5]), bool(one[6])) for one in seen}
+    tools.same("%s: steps" % what, (len(drawn), drawn), (len(seen), steps_due(edges, loop_of(tools, name))))
+    tools.same("%s: start" % what, lines[4:6], ["  start [shape=point];", "  start -> n0;"])
+    tools.same("%s: all lines" % what, len(lines), 4 + 2 + len(boxes) + len(seen) + 2)
+    for box in boxes:
+        at, (head, _, source) = int(box[1]), box[2].partition("\\n")
+        is_end = at == len(report["commands"])
+        line = "" if is_end else shown_line(script.split(b"\n")[report["commands"][at]["line"] - 1])
+        shown = unescaped(source).removeprefix("...").removesuffix("...")
+        tools.same("%s: place of n%d" % (what, at), (head, bool(box[3])), (place_words(report, at), is_end))
+        tools.holds("%s: line of n%d" % (what, at), shown in line and bool(shown) != is_end)
+
+
 def check(tools):
     """Compares pages and graphs of chosen scripts, of the examples and of drawn ones. Answers whether Graphviz read the graphs."""
     dot = shutil.which("dot")
@@ -290,6 +342,7 @@ def check(tools):
     with concurrent.futures.ThreadPoolExecutor(os.cpu_count()) as pool:
         jobs = [pool.submit(hold_page, tools, *case) for case in zip(names, scripts, found)]
         jobs += [pool.submit(hold_graph, tools, *case, dot) for case in zip(names, scripts, found)]
+        jobs += [pool.submit(hold_commands, tools, *case, dot) for case in zip(names, scripts, found)]
         for job in jobs:
             job.result()
     check_certificates(tools)

@@ -4,57 +4,57 @@ The places are those that docs/FORMATS.md has for each fault, counted by hand, a
 """
 from explain_tools import line_of, shown_line
 
-NO_VERB = "no verb of POSIX sed stands here"
-NO_ADDRESS = "no address of POSIX sed stands here"
-NO_FLAG = "no flag of POSIX sed stands here, or it is there twice"
-NO_PART = "the replacement has an escape that POSIX sed doesn't know, or a group that the expression lacks"
-NO_ESCAPE = "in a basic regular expression of POSIX this escape has no meaning that all seds share"
-MISSING = "a delimiter is missing, or can't be one"
-LISTS = "the lists of `y` differ in length, have an escape other than `\\\\`, `\\n` and the delimiter's, or a `[` in the first that is left open"
-INTERVAL = "an interval is \\{m\\}, \\{m,\\} or \\{m,n\\} with numbers of at most 255"
+NO_VERB = "expected a sed command"
+NO_ADDRESS = "expected an address"
+NO_FLAG = "unknown flag, or the same flag twice"
+NO_PART = "the replacement has an unknown escape, or a group that the expression doesn't have"
+NO_ESCAPE = "POSIX defines no such escape in a basic regular expression, and seds differ on it"
+MISSING = "a delimiter is missing or invalid"
+LISTS = "the lists of `y` differ in length, have an escape other than `\\\\`, `\\n` and that of the delimiter, or leave a `[` open in the first"
+INTERVAL = "an interval is \\{m\\}, \\{m,\\} or \\{m,n\\} with numbers up to 255"
 
 SPLIT = "split the script into several that run one after another"
-RETURN = "the line ends in a carriage return: save the file with newlines alone"
-MARK = "the file begins with a byte order mark: save it without"
+RETURN = "the line ends in a carriage return: save the file with Unix line endings"
+MARK = "the file begins with a byte order mark: save it without one"
 ANY_ADDRESS = "an address is a line number, `$`, or an expression between delimiters"
 ANY_FLAG = "the flags are `g`, `p`, a number, and `w` with a file name, each once"
 SKIPPED = "for `0~3d` write `n`, `n` and `d`; for `1~2d` write `$d`, `N` and `s/.*\\n//`; for `2~3d` put an `n` before these"
 STEPS = "for `0~3p` write `n`, `n` and `p`; for `2~5p` write `n`, `p`, `n`, `n` and `n`"
-GNU = "this is an extension of GNU sed that has no counterpart: do it outside of the script"
+GNU = "this extension of GNU sed has no equivalent in POSIX: do it outside the script"
 BYTE = "write the byte itself"
-WORD = ("match what stands beside the word, with a command for each: `/^WORD$/`, `/^WORD[^[:alnum:]_]/`, `/[^[:alnum:]_]WORD$/` and "
+WORD = ("match what is next to the word, with a command for each case: `/^WORD$/`, `/^WORD[^[:alnum:]_]/`, `/[^[:alnum:]_]WORD$/` and "
         "`/[^[:alnum:]_]WORD[^[:alnum:]_]/`")
 ENDS = "for the ends of the pattern space write `^` and `$`"
-OTHER_BYTE = "write the byte without its backslash, or in a list, as in `[%]`"
-BRACKET = ("a delimiter in a bracket list ends the expression: take another one, as in `s,[/],x,` or `\\,[/],p`; in `[\\/]` some seds read the "
-           "backslash too")
-DASH = "put a `-` first or last in its list, and a class inside of it, as in `[[:digit:]]`"
-LONGER = "a longer repetition is written as two, as in `a\\{255\\}a\\{45\\}`"
-GROUP = "a group is `\\(` and `\\)`; the bytes alone are `(` and `)`"
+OTHER_BYTE = "write the character without the backslash, or in a bracket list, as in `[%]`"
+BRACKET = ("a delimiter in a bracket list ends the expression: use another one, as in `s,[/],x,` or `\\,[/],p`; in `[\\/]` some seds keep the "
+           "backslash")
+DASH = "put a `-` first or last in its list, and a class inside a list, as in `[[:digit:]]`"
+LONGER = "write a longer repetition as two, as in `a\\{255\\}a\\{45\\}`"
+GROUP = "a group is written `\\(` and `\\)`; literal parentheses are `(` and `)`"
 EACH = "for `/a\\|b/p` write `/a/b do`, `/b/b do`, `b on`, `:do`, `p` and `:on` on lines of their own"
 AGAIN = "a group may be repeated again, as in `\\(a\\{2\\}\\)*`"
-DELIMITED = "end each part with the delimiter, in the same line: `s/a/b/`; it is no newline and no backslash"
-LETTERS = "for whole lines write `y/abc../ABC../` with the whole alphabet"
-NAME = "the name follows after a blank, and goes on to the end of the line"
-LABEL = "a label is one or more letters, digits, `_`, `.` or `-`"
-SEPARATED = "end each command by a newline or a `;`"
+DELIMITED = "end each part with the delimiter, on the same line: `s/a/b/`; a newline or a backslash can't be the delimiter"
+LETTERS = "to change whole lines write `y/abc../ABC../` with the whole alphabet"
+NAME = "write the name after a blank; it goes on to the end of the line"
+LABEL = "a label consists of letters, digits, `_`, `.` and `-`"
+SEPARATED = "end each command with a newline or a `;`"
 
 # the script; the line and the column; the code, the message, and the hint where there is one
 REFUSED = [
     (b"p\n" * 524288 + b"p", 524289, 1, "too-long", "the script is longer than 1,048,576 bytes", SPLIT),
-    (b"p\n\tp\0p\n", 2, 3, "nul-byte", "a script can't hold a byte 0", None),
+    (b"p\n\tp\0p\n", 2, 3, "nul-byte", "a script can't contain a NUL byte", None),
     (b"1~2p\n", 1, 2, "unknown-command", NO_VERB, STEPS),
     (b"p\nT end\n", 2, 1, "unknown-command", NO_VERB, 
      "for `T end` write `t go`, `b end` and `:go` on lines of their own; for `/x/T end` put the first two into a block, `/x/{` and `}`"),
     (b"$!z\n", 1, 3, "unknown-command", NO_VERB, "for `z` write `s/.*//`, which sets the flag that `t` tests"),
     (b"/x/Q", 1, 4, "unknown-command", NO_VERB, "for `/x/Q` write `/x/,$d`"),
-    (b"1e", 1, 2, "unknown-command", NO_VERB, "no command of POSIX sed runs another program: run it outside of the script"),
+    (b"1e", 1, 2, "unknown-command", NO_VERB, "POSIX sed can't run other programs: do it outside the script"),
     (b"F\n", 1, 1, "unknown-command", NO_VERB, GNU),
     (b"p;R x\n", 1, 3, "unknown-command", NO_VERB, GNU),
-    (b"p;v\n", 1, 3, "unknown-command", NO_VERB, "`v` asks for a version of GNU sed: leave it out"),
+    (b"p;v\n", 1, 3, "unknown-command", NO_VERB, "`v` requires a version of GNU sed: leave it out"),
     (b"W x\n", 1, 1, "unknown-command", NO_VERB, GNU),
     (b"k\n", 1, 1, "unknown-command", NO_VERB, None),
-    (b"p;1", 1, 4, "unknown-command", NO_VERB, "a command is missing behind the address"),
+    (b"p;1", 1, 4, "unknown-command", NO_VERB, "a command is missing after the address"),
     (b"\xef\xbb\xbfp\n", 1, 1, "unknown-command", NO_VERB, MARK),
     (b"1p\n/x/\r\n", 2, 4, "unknown-command", NO_VERB, RETURN),
     (b"1,+2p\n", 1, 3, "bad-address", NO_ADDRESS, "for `6,+2` write `6,8`"),
@@ -66,46 +66,53 @@ REFUSED = [
     (b"0p\n", 1, 1, "bad-address", NO_ADDRESS, "lines are counted from 1"),
     (b"p\n4294967296p\n", 2, 1, "bad-address", NO_ADDRESS, "a line number is at most 4,294,967,295"),
     (b"1,p\n", 1, 3, "bad-address", NO_ADDRESS, ANY_ADDRESS),
-    (b"1,2q\n", 1, 4, "too-many-addresses", "the verb takes fewer addresses, or no `!`", None),
+    (b"1,2q\n", 1, 4, "too-many-addresses", "this command takes fewer addresses, or no `!`", None),
     (b"s/a/b", 1, 1, "unterminated", MISSING, DELIMITED),
     (b"p\n /a\n", 2, 2, "unterminated", MISSING, DELIMITED),
-    (b"s/a/\\1/\n", 1, 5, "bad-replacement", NO_PART, "the expression has fewer groups: a group is `\\(` and `\\)`; is this for `sed -E`?"),
+    (b"s/a/\\1/\n", 1, 5, "bad-replacement", NO_PART, "the expression has fewer groups: a group is written `\\(` and `\\)`; is the script meant for `sed -E`?"),
     (b"s/a/\\0/\n", 1, 5, "bad-replacement", NO_PART, "for `\\0` write `&`"),
     (b"s/a/x\\U&/\n", 1, 6, "bad-replacement", NO_PART, LETTERS),
     (b"s/a/\\l&/\n", 1, 5, "bad-replacement", NO_PART, LETTERS),
     (b"s/a/\\x41/\n", 1, 5, "bad-replacement", NO_PART, "write the byte itself, `&` as `\\&` and a backslash as `\\\\`"),
-    (b"s/a/\\q/\n", 1, 5, "bad-replacement", NO_PART, "write the byte without its backslash"),
+    (b"s/a/\\q/\n", 1, 5, "bad-replacement", NO_PART, "write the character without the backslash"),
     (b"s/a/b/I\n", 1, 7, "bad-flag", NO_FLAG, "for `s/hello/x/I` write `s/[hH][eE][lL][lL][oO]/x/`"),
-    (b"s/a/b/e\n", 1, 7, "bad-flag", NO_FLAG, "no flag of POSIX sed runs another program: run it outside of the script"),
-    (b"s/a/b/gM\n", 1, 8, "bad-flag", NO_FLAG, "`^` and `$` are the ends of the pattern space alone: match `\\n` itself"),
+    (b"s/a/b/e\n", 1, 7, "bad-flag", NO_FLAG, "POSIX sed can't run other programs: do it outside the script"),
+    (b"s/a/b/gM\n", 1, 8, "bad-flag", NO_FLAG, "`^` and `$` match only at the ends of the pattern space: match `\\n` instead"),
     (b"s/a/b/0\n", 1, 7, "bad-flag", NO_FLAG, "matches are counted from 1"),
-    (b"s/a/b/4294967296\n", 1, 7, "bad-flag", NO_FLAG, "one number may stand among the flags, of at most 4,294,967,295"),
+    (b"s/a/b/4294967296\n", 1, 7, "bad-flag", NO_FLAG, "give only one number among the flags, of at most 4,294,967,295"),
     (b"s/a/b/gg\n", 1, 8, "bad-flag", NO_FLAG, ANY_FLAG),
     (b"s/a/b/\r\n", 1, 7, "bad-flag", NO_FLAG, RETURN),
-    (b"y/a/bc/\n", 1, 1, "bad-transliteration", LISTS, "give both lists equally many bytes"),
+    (b"y/a/bc/\n", 1, 1, "bad-transliteration", LISTS, "make both lists the same length"),
     (b"y/a\\t/bc/\n", 1, 4, "bad-transliteration", LISTS,
-     "write the byte itself; a backslash stands before a backslash, an `n` or the delimiter alone"),
-    (b"1a", 1, 2, "missing-text", "the command has no text, or one in its own line that begins with a backslash", "write `a\\` and the text on the next line"),
-    (b"$a\\", 1, 2, "missing-text", "the command has no text, or one in its own line that begins with a backslash",
-     "as `$a\\` this adds a last newline that is missing, in GNU sed alone: add it before sed; for a text write `a\\` and the text on the next line"),
+     "write the character itself; a backslash may only precede a backslash, an `n` or the delimiter"),
+    (b"1a\\\\t\n", 1, 2, "missing-text", "a text on the line of its command can't begin with a backslash",
+     "seds differ on a text that begins with a backslash: write `a\\`, a newline and the text"),
+    (b"s/[][.*^$]/x/\n", 1, 3, "unclosed-bracket", "a class or symbol that begins in the bracket list, with `[:`, `[.` or `[=`, isn't closed",
+     "in a bracket list `[.`, `[=` and `[:` begin a symbol or a class: put the `[` last, as in `[].*[]`"),
+    (b"1a", 1, 2, "missing-text", "the command has no text", "write `a\\` and the text on the next line"),
+    (b"$a\\", 1, 2, "missing-text", "the command has no text",
+     "`$a\\` adds a missing last newline, but only in GNU sed: add it before sed; for a text write `a\\` and the text on the next line"),
     (b"0rx\n", 1, 1, "bad-address", NO_ADDRESS, "`0r` is an extension of GNU sed: put the file before the input, as in `cat FILE - | sed ..`"),
     (b"1,2,3p\n", 1, 4, "unknown-command", NO_VERB, "a command has at most two addresses"),
     (b"s/a/b/w\n", 1, 7, "missing-name", "the file name is missing", NAME),
     (b"p;r\n", 1, 3, "missing-name", "the file name is missing", NAME),
-    (b":\n", 1, 2, "bad-label", "a label is missing, or holds a byte that no label may hold", LABEL),
-    (b":a\nb a,c\n", 2, 4, "bad-label", "a label is missing, or holds a byte that no label may hold", LABEL),
-    (b":a;:a\n", 1, 5, "duplicate-label", "this label is defined already", None),
-    (b"p\nb z\n", 2, 3, "unknown-label", "no `:` defines this label", None),
+    (b":\n", 1, 2, "bad-label", "a label is missing, or has a byte that a label can't have", LABEL),
+    (b":a\nb a,c\n", 2, 4, "bad-label", "a label is missing, or has a byte that a label can't have", LABEL),
+    (b":a;:a\n", 1, 5, "duplicate-label", "this label is already defined", None),
+    (b"p\nb z\n", 2, 3, "unknown-label", "this label isn't defined", None),
     (b"p;}\n", 1, 3, "unopened-block", "this `}` closes no block", None),
     (b"{p\n1{p\np}\n", 1, 1, "unclosed-block", "this block isn't closed",
-     "write its `}` on a line of its own; after a file name or a text it is a part of these"),
-    (b"{" * 65, 1, 65, "too-deep", "this block is inside of 64 others, which is the most", None),
+     "write its `}` on a line of its own; after a file name or a text it would be part of that"),
+    (b"{" * 65, 1, 65, "too-deep", "this block is inside 64 others, which is the limit", None),
     (b"p\n" * 4096, 4096, 1, "too-many-commands", "this is the 4,096th command, one more than a script may have", SPLIT),
-    (b"p\np p\n", 2, 3, "extra-text", "this may not follow a command", SEPARATED),
-    (b"p\r\n", 1, 2, "extra-text", "this may not follow a command", RETURN),
-    (b"s//x/\n", 1, 3, "no-previous-expression", "an empty expression stands for another one, and the script has none", "write the expression"),
-    (b"s|a\\|b|c|\n", 1, 4, "escaped-delimiter", "this delimiter can't be escaped: seds differ in what it means then",
-     "take another delimiter, one that the expression doesn't have"),
+    (b"p\np p\n", 2, 3, "extra-text", "unexpected text after a command", SEPARATED),
+    (b"p\r\n", 1, 2, "extra-text", "unexpected carriage return", RETURN),
+    (b"w out\\\np\n", 1, 6, "extra-text", "unexpected backslash at the end of the line",
+     "BusyBox joins this line with the next one: end the name or the comment with another character"),
+    (b"w \fout\n", 1, 3, "extra-text", "unexpected control character", "BusyBox skips this character: begin the name with another one"),
+    (b"s//x/\n", 1, 3, "no-previous-expression", "an empty expression repeats the one used last, and the script has none", "write the expression"),
+    (b"s|a\\|b|c|\n", 1, 4, "escaped-delimiter", "this delimiter can't be escaped: seds differ on what it then means",
+     "use a delimiter that isn't in the expression"),
     # expressions; the places behind escaped delimiters count these as the two bytes that they are in the script
     (b"p\n\ts/a\\+/b/\n", 2, 5, "bad-escape", NO_ESCAPE, "for `x\\+` write `x\\{1,\\}` or `xx*`"),
     (b"s/a\\/b\\/c\\+d/x/\n", 1, 10, "bad-escape", NO_ESCAPE, "for `x\\+` write `x\\{1,\\}` or `xx*`"),
@@ -125,17 +132,17 @@ REFUSED = [
     (b"/\\x41/p\n", 1, 2, "bad-escape", NO_ESCAPE, BYTE),
     (b"/\\q/p\n", 1, 2, "bad-escape", NO_ESCAPE, OTHER_BYTE),
     (b"s/[/]/x/\n", 1, 3, "unclosed-bracket", "the bracket list isn't closed before the delimiter", BRACKET),
-    (b"s/[z-a]/x/\n", 1, 4, "bad-bracket", "the bracket list has a range, a class or a hyphen that is none, or an element that seds read differently", DASH),
+    (b"s/[z-a]/x/\n", 1, 4, "bad-bracket", "invalid range, class or hyphen in a bracket list, or an element that seds read differently", DASH),
     (b"s/[^[:cntrl:]\x01-\xff]/x/\n", 1, 3, "empty-set", "the bracket list matches nothing", None),
     (b"s/\\(a/x/\n", 1, 3, "unclosed-group", "this group isn't closed", GROUP),
-    (b"s/a\\)/x/\n", 1, 4, "unopened-group", "this closes no group", GROUP),
-    (b"s/a\\{2/x/\n", 1, 4, "bad-interval", INTERVAL, "an interval ends in `\\}`; for the byte `{` write it without a backslash"),
+    (b"s/a\\)/x/\n", 1, 4, "unopened-group", "this `\\)` closes no group", GROUP),
+    (b"s/a\\{2/x/\n", 1, 4, "bad-interval", INTERVAL, "an interval ends in `\\}`; write a literal `{` without a backslash"),
     (b"s/a\\{256\\}/x/\n", 1, 4, "bad-interval", INTERVAL, LONGER),
-    (b"s/\\{2\\}/x/\n", 1, 3, "nothing-to-repeat", "nothing stands before this interval",
-     "for the byte write `{`; else put before it what is to be repeated"),
-    (b"s/a*\\{2\\}/x/\n", 1, 5, "double-repeat", "what is repeated already can't be repeated again", AGAIN),
-    (b"s/\\1/x/\n", 1, 3, "bad-reference", "no group with this number is closed before this", None),
-    (b"s/" + b"\\(" * 33 + b"\\)" * 33 + b"/x/\n", 1, 67, "too-deep", "this group is inside of 32 others, which is the most", None),
+    (b"s/\\{2\\}/x/\n", 1, 3, "nothing-to-repeat", "there is nothing before this interval to repeat",
+     "for a literal brace write `{`; else put what is to be repeated before it"),
+    (b"s/a*\\{2\\}/x/\n", 1, 5, "double-repeat", "this is already repeated, and can't be repeated again", AGAIN),
+    (b"s/\\1/x/\n", 1, 3, "bad-reference", "no group with this number is closed before this reference", None),
+    (b"s/" + b"\\(" * 33 + b"\\)" * 33 + b"/x/\n", 1, 67, "too-deep", "this group is inside 32 others, which is the limit", None),
     (b"s/" + b"\\(\\)" * 100 + b"/x/\n", 1, 399, "too-many-groups", "this is the hundredth group, one more than an expression may have", None),
 ]
 

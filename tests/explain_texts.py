@@ -3,36 +3,38 @@
 from explain_tools import line_of, place, shown_line, shown_name
 from refusals import both, certificate
 
-IDLE = "this loop reads no line, and nothing in it makes the pattern space shorter: a run may go round it for ever"
-GROWING = "this loop reads no line, and may make the pattern space longer in each round: a run may go round it for ever"
-ROUND = ("let each round read a line, by `n`, `N` or `d`, or make the pattern space shorter; or go round a fixed number of times by "
-         "writing the commands as often")
-ONCE = ("where a replacement makes no new match, let one `s` with the flag `g` do all at once, else write the command as often as it may be "
-        "needed; and then `t c` and `:c`, since the loop leaves the flag of `t` unset")
-OFTEN = ("write the command as often as it may be needed, without the loop; or, where a replacement makes no new match, let one `s` with the flag "
-         "`g` do all at once")
-TAKE = ("take the branch only where a line was read: put it into the block of the `N` or `n`, as in `/x/{`, `N`, `b a`, `}` on lines "
+IDLE = "this loop reads no line and never shortens the pattern space: it may run forever"
+GROWING = "this loop reads no line and may lengthen the pattern space each time: it may run forever"
+ROUND = ("make each round read a line, with `n`, `N` or `d`, or shorten the pattern space; or write the commands out a fixed number "
+         "of times")
+ONCE = ("if no replacement makes a new match, use one `s` with the flag `g`, else repeat the command as often as it may be needed; then "
+        "write `t c` and `:c`, since the loop leaves the flag of `t` unset")
+OFTEN = ("repeat the command as often as it may be needed, without the loop; or, if no replacement makes a new match, use one `s` with "
+         "the flag `g`")
+TAKE = ("branch only where a line was read: put the branch into a block with the `N` or `n`, as in `/x/{`, `N`, `b a`, `}` on lines "
         "of their own")
-UNKNOWN = "every run ends, but no limit on its steps is known, since the pattern space may get longer here"
+UNKNOWN = "every run ends, but no limit on its steps is known, since this may lengthen the pattern space"
 NO_FILES = "  reads: no file\n  writes: no file\n"
+LOOP = "s.sed: loop: a run may never end\n" + NO_FILES
+REJECTED = "s.sed: rejected: the certificate doesn't fit the script\n"
 
-# the script; the status, the report in text, and the one for editors
+# the script; the status, the report in text, and the one for editors with notes
 ALONE = [
     (b":a\np\nb a\n", 1, f"""\
 s.sed:1:1: error: {IDLE} [loop-idle]
    1 | :a
      | ^
        1:1  :a   goes on
-       2:1  p    goes on; reads nothing
+       2:1  p    goes on; reads no line
        3:1  b a  branches
        1:1  :a   and so on
      = hint: {ROUND}
-""", f"""\
+{LOOP}""", f"""\
 s.sed:1:1: error: {IDLE} [loop-idle]
-s.sed:1:1: note: goes on
-s.sed:2:1: note: goes on; reads nothing
-s.sed:3:1: note: branches
-s.sed:1:1: note: and so on
+s.sed:1:1: note: `:a` goes on
+s.sed:2:1: note: `p` goes on; reads no line
+s.sed:3:1: note: `b a` branches
+s.sed:1:1: note: `:a` and so on
 s.sed:1:1: note: hint: {ROUND}
 """),
     (b":a\ns/x/y/\n\tt a\n", 1, f"""\
@@ -40,16 +42,16 @@ s.sed:1:1: error: {IDLE} [loop-idle]
    1 | :a
      | ^
        1:1  :a      goes on
-       2:1  s/x/y/  replaces a text by one that isn't longer
+       2:1  s/x/y/  replaces a match with a text that isn't longer
        3:2  t a     branches, since something was replaced
        1:1  :a      and so on
      = hint: {ONCE}
-""", f"""\
+{LOOP}""", f"""\
 s.sed:1:1: error: {IDLE} [loop-idle]
-s.sed:1:1: note: goes on
-s.sed:2:1: note: replaces a text by one that isn't longer
-s.sed:3:2: note: branches, since something was replaced
-s.sed:1:1: note: and so on
+s.sed:1:1: note: `:a` goes on
+s.sed:2:1: note: `s/x/y/` replaces a match with a text that isn't longer
+s.sed:3:2: note: `t a` branches, since something was replaced
+s.sed:1:1: note: `:a` and so on
 s.sed:1:1: note: hint: {ONCE}
 """),
     # an address may select a line or not, so that the loop may pass by the `n`
@@ -58,36 +60,36 @@ s.sed:2:1: error: {IDLE} [loop-idle]
    2 | :a
      | ^
        2:1  :a   goes on
-       3:2  1{{   the block is passed by
+       3:2  1{{   the block is skipped
        6:1  b a  branches
        2:1  :a   and so on
      = hint: {ROUND}
-""", f"""\
+{LOOP}""", f"""\
 s.sed:2:1: error: {IDLE} [loop-idle]
-s.sed:2:1: note: goes on
-s.sed:3:2: note: the block is passed by
-s.sed:6:1: note: branches
-s.sed:2:1: note: and so on
+s.sed:2:1: note: `:a` goes on
+s.sed:3:2: note: `1{{` the block is skipped
+s.sed:6:1: note: `b a` branches
+s.sed:2:1: note: `:a` and so on
 s.sed:2:1: note: hint: {ROUND}
 """),
-    # `$!N` is passed by on the last line alone, and nothing else of the loop reads
+    # `$!N` is skipped on the last line alone, and nothing else of the loop reads
     (b":a\n$!N\ns/a/b/\nba\n", 1, f"""\
 s.sed:1:1: error: {IDLE} [loop-idle]
    1 | :a
      | ^
        1:1  :a      goes on (on the last line)
-       2:3  $!N     is passed by, and reads nothing (on the last line)
+       2:3  $!N     is skipped, so no line is read (on the last line)
        3:1  s/a/b/  replaces nothing (on the last line)
        4:1  ba      branches (on the last line)
        1:1  :a      and so on
      = hint: {TAKE}
-""", f"""\
+{LOOP}""", f"""\
 s.sed:1:1: error: {IDLE} [loop-idle]
-s.sed:1:1: note: goes on (on the last line)
-s.sed:2:3: note: is passed by, and reads nothing (on the last line)
-s.sed:3:1: note: replaces nothing (on the last line)
-s.sed:4:1: note: branches (on the last line)
-s.sed:1:1: note: and so on
+s.sed:1:1: note: `:a` goes on (on the last line)
+s.sed:2:3: note: `$!N` is skipped, so no line is read (on the last line)
+s.sed:3:1: note: `s/a/b/` replaces nothing (on the last line)
+s.sed:4:1: note: `ba` branches (on the last line)
+s.sed:1:1: note: `:a` and so on
 s.sed:1:1: note: hint: {TAKE}
 """),
     # one line for all commands: those behind the first are shown from their verbs on
@@ -95,17 +97,17 @@ s.sed:1:1: note: hint: {TAKE}
 s.sed:1:4: error: {GROWING} [loop-growing]
    1 | :a;s/x/xx/;ta
      |    ^
-        1:4  ...s/x/xx/;ta  may replace a text by a longer one: it has 2 bytes, and a match may have only 1
+        1:4  ...s/x/xx/;ta  may replace a match with a longer text: it has 2 bytes, and a match may have only 1
        1:12  ...ta          branches, since something was replaced
         1:1  :a;s/x/xx/;ta  goes on
         1:4  ...s/x/xx/;ta  and so on
      = hint: {ONCE}
-""", f"""\
+{LOOP}""", f"""\
 s.sed:1:4: error: {GROWING} [loop-growing]
-s.sed:1:4: note: may replace a text by a longer one: it has 2 bytes, and a match may have only 1
-s.sed:1:12: note: branches, since something was replaced
-s.sed:1:1: note: goes on
-s.sed:1:4: note: and so on
+s.sed:1:4: note: `...s/x/xx/;ta` may replace a match with a longer text: it has 2 bytes, and a match may have only 1
+s.sed:1:12: note: `...ta` branches, since something was replaced
+s.sed:1:1: note: `:a;s/x/xx/;ta` goes on
+s.sed:1:4: note: `...s/x/xx/;ta` and so on
 s.sed:1:4: note: hint: {ONCE}
 """),
     # the groups of a replacement are kept, and `\\(a\\)b` has one byte outside of them
@@ -113,32 +115,32 @@ s.sed:1:4: note: hint: {ONCE}
 s.sed:2:1: error: {GROWING} [loop-growing]
    2 | s/\\(a\\)b/\\1cc/
      | ^
-       2:1  s/\\(a\\)b/\\1cc/  may replace a text by a longer one: it has 2 bytes plus its groups, and a match may have only 1 outside of them
+       2:1  s/\\(a\\)b/\\1cc/  may replace a match with a longer text: it has 2 bytes plus its groups, and a match may have only 1 outside of them
        3:1  ta              branches, since something was replaced
        1:1  :a              goes on
        2:1  s/\\(a\\)b/\\1cc/  and so on
      = hint: {ONCE}
-""", f"""\
+{LOOP}""", f"""\
 s.sed:2:1: error: {GROWING} [loop-growing]
-s.sed:2:1: note: may replace a text by a longer one: it has 2 bytes plus its groups, and a match may have only 1 outside of them
-s.sed:3:1: note: branches, since something was replaced
-s.sed:1:1: note: goes on
-s.sed:2:1: note: and so on
+s.sed:2:1: note: `s/\\(a\\)b/\\1cc/` may replace a match with a longer text: it has 2 bytes plus its groups, and a match may have only 1 outside of them
+s.sed:3:1: note: `ta` branches, since something was replaced
+s.sed:1:1: note: `:a` goes on
+s.sed:2:1: note: `s/\\(a\\)b/\\1cc/` and so on
 s.sed:2:1: note: hint: {ONCE}
 """),
     (b"G\nD\n", 1, f"""\
 s.sed:1:1: error: {GROWING} [loop-growing]
    1 | G
      | ^
-       1:1  G  may make the pattern space longer, by what the hold space has
-       2:1  D  deletes up to the first newline, and begins again without reading
+       1:1  G  may lengthen the pattern space with the contents of the hold space
+       2:1  D  deletes up to the first newline, and starts again without reading a line
        1:1  G  and so on
      = hint: {OFTEN}
-""", f"""\
+{LOOP}""", f"""\
 s.sed:1:1: error: {GROWING} [loop-growing]
-s.sed:1:1: note: may make the pattern space longer, by what the hold space has
-s.sed:2:1: note: deletes up to the first newline, and begins again without reading
-s.sed:1:1: note: and so on
+s.sed:1:1: note: `G` may lengthen the pattern space with the contents of the hold space
+s.sed:2:1: note: `D` deletes up to the first newline, and starts again without reading a line
+s.sed:1:1: note: `G` and so on
 s.sed:1:1: note: hint: {OFTEN}
 """),
     # greatest ranks 1 and 1, so that the bound is 2, 2 * 3 and 2: 2 * 80,000 + 6 * 1,000 + 2
@@ -163,51 +165,51 @@ s.sed: accepted: every run ends
 s.sed:2:1: note: {UNKNOWN} [no-bound]
    2 | G
      | ^
-       2:1  G  may make the pattern space longer, by what the hold space has
+       2:1  G  may lengthen the pattern space with the contents of the hold space
 s.sed: accepted: every run ends
 {NO_FILES}""", f"""\
 s.sed:2:1: note: {UNKNOWN} [no-bound]
-s.sed:2:1: note: may make the pattern space longer, by what the hold space has
+s.sed:2:1: note: `G` may lengthen the pattern space with the contents of the hold space
 """),
     (b"$s/a/[&]/\n", 0, f"""\
 s.sed:1:2: note: {UNKNOWN} [no-bound]
    1 | $s/a/[&]/
      |  ^
-       1:2  $s/a/[&]/  may replace a text by a longer one: it has the whole match, `&`, and something more (on the last line)
+       1:2  $s/a/[&]/  may replace a match with a longer text: it has the whole match, `&`, and more (on the last line)
 s.sed: accepted: every run ends
 {NO_FILES}""", f"""\
 s.sed:1:2: note: {UNKNOWN} [no-bound]
-s.sed:1:2: note: may replace a text by a longer one: it has the whole match, `&`, and something more (on the last line)
+s.sed:1:2: note: `$s/a/[&]/` may replace a match with a longer text: it has the whole match, `&`, and more (on the last line)
 """),
     (b"s/\\(a\\)b/\\1\\1/\n", 0, f"""\
 s.sed:1:1: note: {UNKNOWN} [no-bound]
    1 | s/\\(a\\)b/\\1\\1/
      | ^
-       1:1  s/\\(a\\)b/\\1\\1/  may replace a text by a longer one: it has a group twice, or one that is repeated or inside of another
+       1:1  s/\\(a\\)b/\\1\\1/  may replace a match with a longer text: it has a group twice, or one that is repeated or inside another
 s.sed: accepted: every run ends
 {NO_FILES}""", f"""\
 s.sed:1:1: note: {UNKNOWN} [no-bound]
-s.sed:1:1: note: may replace a text by a longer one: it has a group twice, or one that is repeated or inside of another
+s.sed:1:1: note: `s/\\(a\\)b/\\1\\1/` may replace a match with a longer text: it has a group twice, or one that is repeated or inside another
 """),
     (b"/a/s//xy/\n", 0, f"""\
 s.sed:1:4: note: {UNKNOWN} [no-bound]
    1 | /a/s//xy/
      |    ^
-       1:4  /a/s//xy/  may replace a text by a longer one: it has 2 bytes, and the expression may be any of the script's
+       1:4  /a/s//xy/  may replace a match with a longer text: it has 2 bytes, and the expression may be any of the script's
 s.sed: accepted: every run ends
 {NO_FILES}""", f"""\
 s.sed:1:4: note: {UNKNOWN} [no-bound]
-s.sed:1:4: note: may replace a text by a longer one: it has 2 bytes, and the expression may be any of the script's
+s.sed:1:4: note: `/a/s//xy/` may replace a match with a longer text: it has 2 bytes, and the expression may be any of the script's
 """),
 ]
 
-MADE_AGAIN = "certificates are written by `sedck rank` and `sedck upgrade`: make it again"
+MADE_AGAIN = "make the certificate again, with `sedck rank` or `sedck upgrade`"
 LISTED = "look at what `sedck files` lists before you make the certificate again"
 CHANGED = "if the script was changed, run `sedck rank` again and read what it prints"
-LOWERED = ("a step that reads no line doesn't lower the ranks as it must: the first one where it may make the pattern space longer, the "
-           "first or the second one where it doesn't")
+LOWERED = ("a step that reads no line must lower the first rank (if it may lengthen the pattern space) or either rank (if not), and "
+           "doesn't")
 
-LOOP = b":a\np\nb a\n"
+LOOP_SCRIPT = b":a\np\nb a\n"
 PRINT = b"p\n"
 NEXT_LINE = b":a\nn\nb a\n"
 NEXT_LINE_TEXT = certificate(3, both({"0 0": "2 2", "1 0": "1 1", "2 0": "3 3"}))
@@ -231,30 +233,30 @@ s.sed: accepted: every run ends
 s.sed: accepted: every run ends
   steps: at most 65,536 a byte, plus 4,295,032,832 a line, plus 65,536; for 1,000 lines of 80 bytes at most 4,300,275,777,536
 {NO_FILES}""", ""),
-    (LOOP, certificate(3, both({"0 0": "3 3", "1 0": "2 2", "2 0": "1 1"})), 1, f"""\
+    (LOOP_SCRIPT, certificate(3, both({"0 0": "3 3", "1 0": "2 2", "2 0": "1 1"})), 1, f"""\
 s.sed:3:1: error: {LOWERED} [not-lowered]
    3 | b a
      | ^
        3:1  b a  branches; its ranks are 1 and 1
        1:1  :a   is reached; its ranks are 3 and 3
-     = hint: if the script was changed, run `sedck rank` again; where that finds a loop, no ranks are right
-""", f"""\
+     = hint: if the script was changed, run `sedck rank` again; if that finds a loop, no ranks will do
+{REJECTED}{NO_FILES}""", f"""\
 s.sed:3:1: error: {LOWERED} [not-lowered]
-s.sed:3:1: note: branches; its ranks are 1 and 1
-s.sed:1:1: note: is reached; its ranks are 3 and 3
-s.sed:3:1: note: hint: if the script was changed, run `sedck rank` again; where that finds a loop, no ranks are right
+s.sed:3:1: note: `b a` branches; its ranks are 1 and 1
+s.sed:1:1: note: `:a` is reached; its ranks are 3 and 3
+s.sed:3:1: note: hint: if the script was changed, run `sedck rank` again; if that finds a loop, no ranks will do
 """),
-    (LOOP, certificate(3, both({"0 0": "3 3", "1 0": "2 2"})), 1, f"""\
+    (LOOP_SCRIPT, certificate(3, both({"0 0": "3 3", "1 0": "2 2"})), 1, f"""\
 s.sed:2:1: error: a step leads from a node with ranks to one without [leaves-ranked]
    2 | p
      | ^
-       2:1  p    goes on; reads nothing; its ranks are 2 and 2
+       2:1  p    goes on; reads no line; its ranks are 2 and 2
        3:1  b a  is reached; it has no ranks
      = hint: {CHANGED}
-""", f"""\
+{REJECTED}{NO_FILES}""", f"""\
 s.sed:2:1: error: a step leads from a node with ranks to one without [leaves-ranked]
-s.sed:2:1: note: goes on; reads nothing; its ranks are 2 and 2
-s.sed:3:1: note: is reached; it has no ranks
+s.sed:2:1: note: `p` goes on; reads no line; its ranks are 2 and 2
+s.sed:3:1: note: `b a` is reached; it has no ranks
 s.sed:2:1: note: hint: {CHANGED}
 """),
     # the script's end has no line; the edges of `0 0 0` come before those of `0 0 1`
@@ -262,72 +264,76 @@ s.sed:2:1: note: hint: {CHANGED}
 s.sed:1:1: error: a step leads from a node with ranks to one without [leaves-ranked]
    1 | p
      | ^
-       1:1  p  goes on; reads nothing (on the last line); its ranks are 7 and 3
+       1:1  p  goes on; reads no line (on the last line); its ranks are 7 and 3
        end     is reached; it has no ranks
      = hint: {CHANGED}
-""", f"""\
+{REJECTED}{NO_FILES}""", f"""\
 s.sed:1:1: error: a step leads from a node with ranks to one without [leaves-ranked]
-s.sed:1:1: note: goes on; reads nothing (on the last line); its ranks are 7 and 3
-s.sed: note: is reached; it has no ranks
+s.sed:1:1: note: `p` goes on; reads no line (on the last line); its ranks are 7 and 3
+s.sed: note: the script's end is reached; it has no ranks
 s.sed:1:1: note: hint: {CHANGED}
 """),
     (PRINT, NEXT_LINE_TEXT, 1, f"""\
-s.sed: error: the script has another number of commands than the certificate was made for: 1, and not 3 [wrong-count]
+s.sed: error: the certificate was made for another number of commands: 3, and not 1 [wrong-count]
      = hint: {CHANGED}
-""", f"""\
-s.sed: error: the script has another number of commands than the certificate was made for: 1, and not 3 [wrong-count]
+{REJECTED}{NO_FILES}""", f"""\
+s.sed: error: the certificate was made for another number of commands: 3, and not 1 [wrong-count]
 s.sed: note: hint: {CHANGED}
 """),
-    (PRINT, certificate(1, {"0 0 0": "2 2", "1 0 0": "1 1", "1 0 1": "1 1"}), 1, """\
-s.sed: error: a run may begin on the last line or before it, and the certificate has no ranks for one of these [start-unranked]
+    (PRINT, certificate(1, {"0 0 0": "2 2", "1 0 0": "1 1", "1 0 1": "1 1"}), 1, f"""\
+s.sed: error: the certificate has no ranks for one of the two nodes where a run may begin [start-unranked]
      = hint: give ranks to the nodes `0 0 0` and `0 0 1`
-""", """\
-s.sed: error: a run may begin on the last line or before it, and the certificate has no ranks for one of these [start-unranked]
+{REJECTED}{NO_FILES}""", """\
+s.sed: error: the certificate has no ranks for one of the two nodes where a run may begin [start-unranked]
 s.sed: note: hint: give ranks to the nodes `0 0 0` and `0 0 1`
 """),
     (b"r x\n", PRINT_TEXT, 1, f"""\
-s.sed: error: the script reads other files than the certificate lists [reads-differ]
+s.sed: error: the files that the script reads aren't those that the certificate lists [reads-differ]
      = hint: {LISTED}
+{REJECTED}  reads: "x" (1:1)
+  writes: no file
 """, f"""\
-s.sed: error: the script reads other files than the certificate lists [reads-differ]
+s.sed: error: the files that the script reads aren't those that the certificate lists [reads-differ]
 s.sed: note: hint: {LISTED}
 """),
     (b"w x\n", PRINT_TEXT, 1, f"""\
-s.sed: error: the script writes other files than the certificate lists [writes-differ]
+s.sed: error: the files that the script writes aren't those that the certificate lists [writes-differ]
      = hint: {LISTED}
+{REJECTED}  reads: no file
+  writes: "x" (1:1)
 """, f"""\
-s.sed: error: the script writes other files than the certificate lists [writes-differ]
+s.sed: error: the files that the script writes aren't those that the certificate lists [writes-differ]
 s.sed: note: hint: {LISTED}
 """),
     # a refused script comes before a refused certificate
     (b"p\n b\tz", "sedck 3\n", 2, """\
-s.sed:2:4: error: no `:` defines this label [unknown-label]
+s.sed:2:4: error: this label isn't defined [unknown-label]
    2 |  b    z
      |       ^
 """, """\
-s.sed:2:4: error: no `:` defines this label [unknown-label]
+s.sed:2:4: error: this label isn't defined [unknown-label]
 """),
 ]
 
 # what is done to the certificate; the line, the code, and what that line isn't
 REFUSED_CERTIFICATES = [
-    (replaced(PRINT_TEXT, 1, "sedck 3"), 1, "bad-header", "`sedck 2`, or `sedck 1` in a certificate of version 1"),
-    ("", 1, "bad-header", "`sedck 2`, or `sedck 1` in a certificate of version 1"),
+    (replaced(PRINT_TEXT, 1, "sedck 3"), 1, "bad-header", "`sedck 2`, or `sedck 1` for version 1"),
+    ("", 1, "bad-header", "`sedck 2`, or `sedck 1` for version 1"),
     (replaced(PRINT_TEXT, 2, "commands 01"), 2, "bad-count", "`commands` and the number of commands"),
-    (replaced(PRINT_TEXT, 4, "0 0 1 65536 1"), 4, "bad-node", "the next node with its two ranks"),
-    (replaced(PRINT_TEXT, 12, "write 1"), 14, "bad-end", "`end`, or something follows it"),
-    (replaced(PRINT_TEXT, 11, "read -"), 11, "bad-names", "a list's count, or the next name in order"),
-    (PRINT_TEXT + "\n", 14, "bad-end", "`end`, or something follows it"),
+    (replaced(PRINT_TEXT, 4, "0 0 1 65536 1"), 4, "bad-node", "the next node and its two ranks"),
+    (replaced(PRINT_TEXT, 12, "write 1"), 14, "bad-end", "`end`, and nothing after it"),
+    (replaced(PRINT_TEXT, 11, "read -"), 11, "bad-names", "the number of names in a list, or the next name in order"),
+    (PRINT_TEXT + "\n", 14, "bad-end", "`end`, and nothing after it"),
 ]
 
 # a command; what it does, the name as it is shown, and the code and the reason of each warning
-STREAM = ("stream-name", "GNU sed takes it for a stream, other seds for a file")
-DEVICE = ("device-name", "it may be no plain file, so that reading or writing it need not end")
+STREAM = ("stream-name", "GNU sed reads it as a stream, other seds as a file")
+DEVICE = ("device-name", "it may not be a regular file, so reading or writing it may never end")
 ABSOLUTE = ("absolute-name", "it is an absolute path")
-UPWARD = ("upward-name", "it leads out of the folder in which the script is run")
-UNPRINTABLE = ("unprintable-name", "it has bytes that a terminal may not show")
-BLANK = ("blank-at-end", "it ends in a blank")
-COMMAND = ("command-in-name", "a name goes on to the end of its line; was a command or a comment meant?")
+UPWARD = ("upward-name", "it leads out of the directory where the script runs")
+UNPRINTABLE = ("unprintable-name", "it contains bytes that a terminal may not show")
+BLANK = ("blank-at-end", "it ends in a space")
+COMMAND = ("command-in-name", "a name goes on to the end of the line: was a command or a comment meant?")
 WARNED = [
     (b"r /dev/stdin", "reads", "/dev/stdin", [STREAM]),
     (b"w /dev/stdout", "writes", "/dev/stdout", [STREAM]),
@@ -407,7 +413,7 @@ def check_certificates(tools):
     tools.write("s.sed", PRINT)
     for text, line, code, wanted in REFUSED_CERTIFICATES:
         tools.write("s.cert", text.encode())
-        head = "s.sed: error: line %d of the certificate isn't %s [%s]\n" % (line, wanted, code)
+        head = "s.sed: error: line %d of the certificate: expected %s [%s]\n" % (line, wanted, code)
         for form, hint in (("text", "     = hint: "), ("gcc", "s.sed: note: hint: ")):
             due = head + hint + MADE_AGAIN + "\n"
             tools.same("%s %r" % (form, text), tools.explain("--format", form, "--cert", "s.cert", "s.sed"), (2, due.encode(), b""))
@@ -438,8 +444,11 @@ def check(tools):
         if text is not None:
             words = ["--cert", tools.write("s.cert", text.encode())]
         tools.write("s.sed", script)
-        for form, report in zip(("text", "gcc"), reports):
-            tools.same("%s %r %r" % (form, script, text), tools.explain("--format", form, *words, "s.sed"), (status, report.encode(), b""))
+        text_due, gcc_due = (report.encode() for report in reports)
+        what = "%r %r" % (script, text)
+        tools.same("text " + what, tools.explain(*words, "s.sed"), (status, text_due, b""))
+        tools.same("gcc with notes " + what, tools.explain("--format", "gcc", "--level", "note", *words, "s.sed"), (status, gcc_due, b""))
+        tools.same("gcc " + what, tools.explain("--format", "gcc", *words, "s.sed"), (status, gcc_due if status else b"", b""))
     check_names(tools)
     check_both(tools)
     check_certificates(tools)

@@ -1,6 +1,11 @@
 """What the tests of `sedck-explain` share: runs of both programs, comparisons, and the rules by which bytes are shown."""
 import os
+import re
 import subprocess
+
+TOP = os.path.dirname(os.path.dirname(os.path.abspath(__file__)))
+with open(os.path.join(TOP, "CHANGELOG.md")) as changes:
+    VERSION = re.search(r"^## (\d+\.\d+\.\d+)$", changes.read(), flags=re.M)[1]
 
 
 class Tools:

@@ -1,21 +1,25 @@
 """The command line of `sedck-explain`: its words, its files and standard input, statuses, standard error, and colours."""
+import json
 import os
 import pty
 import subprocess
 
 from explain_texts import NEXT_LINE, NEXT_LINE_TEXT
+from explain_tools import VERSION
 
 ACCEPTED = "%s: accepted: every run ends\n  steps: at most 4 a byte, plus 20 a line, plus 4; for 1,000 lines of 80 bytes at most 340,004\n  reads: no file\n  writes: no file\n"
-UNKNOWN = "%s:1:3: error: no `:` defines this label [unknown-label]\n   1 | b z\n     |   ^\n"
+UNKNOWN = "%s:1:3: error: this label isn't defined [unknown-label]\n   1 | b z\n     |   ^\n"
 ESCAPES = {"red": "\x1b[1;31m", "yellow": "\x1b[1;33m", "cyan": "\x1b[1;36m", "green": "\x1b[1;32m", "plain": "\x1b[0m"}
-FORMATS = ("text", "gcc", "json", "html", "dot")
+FORMATS = ("text", "gcc", "json", "sarif", "html", "dot", "dot-nodes")
 
 
 def check_refused_words(tools):
     """Invalid arguments: status 3, nothing on standard output, and a line on standard error that begins with the name."""
     for words in (["--wrong"], ["-x"], ["--format", "xml", "s.sed"], ["--format"], ["--format=", "s.sed"], ["--cert"],
                   ["--format", "text", "--format", "gcc", "s.sed"], ["--stdin-filename"], ["--cert", "s.cert", "s.sed", "s.sed"], ["--cert", "s.cert", "s.sed", "-"],
-                  ["--format", "html", "s.sed", "s.sed"], ["--format", "dot", "s.sed", "t.sed"], [b"\xff.sed"]):
+                  ["--format", "html", "s.sed", "s.sed"], ["--format", "dot", "s.sed", "t.sed"], ["--format", "dot-nodes", "s.sed", "t.sed"],
+                  ["--format", "sarif", "s.sed", "t.sed"], ["--level"], ["--level", "all", "s.sed"], ["--level", "", "s.sed"], ["--level", "Note", "s.sed"],
+                  ["--level", "note", "--level", "note", "s.sed"]):
         status, report, errors = tools.explain(*words, given=b"p\n")
         tools.same("status of %r" % words, (status, report), (3, b""))
         tools.holds("standard error of %r" % words, errors.startswith(b"sedck-explain: ") and errors.endswith(b"\n"))
@@ -25,11 +29,11 @@ def check_refused_words(tools):
 def check_help(tools):
     """The help, which names what can be given, and the version."""
     for words in (["--version"], ["-V"]):
-        tools.same("version", tools.explain(*words), (0, b"sedck-explain 1.1.0\n", b""))
+        tools.same("version", tools.explain(*words), (0, b"sedck-explain %s\n" % VERSION.encode(), b""))
     for words in (["--help"], ["-h"], ["--help", "s.sed"]):
         status, report, errors = tools.explain(*words)
         tools.same("help", (status, errors), (0, b""))
-        for part in (*FORMATS, "--format", "--cert", "--deny", "--stdin-filename", "--help", "--version", "SCRIPT", "standard input", "0 accepted", "4 a file"):
+        for part in (*FORMATS, "--format", "--level", "--cert", "--deny", "--stdin-filename", "--help", "--version", "SCRIPT", "standard input", "0 accepted", "4 a file"):
             tools.holds("help has %s" % part, part.encode() in report)
 
 
@@ -53,29 +57,57 @@ def check_scripts(tools):
     tools.same("greatest status 1", (status, report.count(b"[loop-idle]"), errors), (1, 1, b""))
     tools.same("greatest status 0", tools.explain("s.sed", "s.sed"), (0, one + one, b""))
     tools.same("a name with a hyphen", tools.explain("--", "-h.sed"), (0, (ACCEPTED % "-h.sed").encode(), b""))
-    unread = b"sedck-explain: cannot read gone.sed\n"
+    unread = b"sedck-explain: cannot read gone.sed: no such file\n"
     tools.same("no such file", tools.explain("gone.sed"), (4, b"", unread))
     tools.same("no such file among others", tools.explain("s.sed", "gone.sed", "t.sed"), (4, one + two, unread))
-    tools.same("a folder", tools.explain("folder"), (4, b"", b"sedck-explain: cannot read folder\n"))
-    tools.same("a folder among others", tools.explain("folder", "s.sed", "gone.sed"), (4, one, b"sedck-explain: cannot read folder\n" + unread))
-    tools.same("no such certificate", tools.explain("--cert", "gone.cert", "s.sed"), (4, b"", b"sedck-explain: cannot read gone.cert\n"))
-    tools.same("a folder as the certificate", tools.explain("--cert", "folder", "s.sed"), (4, b"", b"sedck-explain: cannot read folder\n"))
-    tools.same("control characters", tools.explain("a\x1b[31m\nb"), (4, b"", b"sedck-explain: cannot read a?[31m?b\n"))
-    tools.same("a control character of two bytes", tools.explain("a\u009bb"), (4, b"", b"sedck-explain: cannot read a?b\n"))
-    tools.same("an empty name", tools.explain(""), (4, b"", b"sedck-explain: cannot read \n"))
+    tools.same("a folder", tools.explain("folder"), (4, b"", b"sedck-explain: cannot read folder: it is a directory\n"))
+    tools.same("a folder among others", tools.explain("folder", "s.sed", "gone.sed"), (4, one, b"sedck-explain: cannot read folder: it is a directory\n" + unread))
+    tools.same("no such certificate", tools.explain("--cert", "gone.cert", "s.sed"), (4, b"", b"sedck-explain: cannot read gone.cert: no such file\n"))
+    tools.same("a folder as the certificate", tools.explain("--cert", "folder", "s.sed"), (4, b"", b"sedck-explain: cannot read folder: it is a directory\n"))
+    tools.same("control characters", tools.explain("a\x1b[31m\nb"), (4, b"", b"sedck-explain: cannot read a?[31m?b: no such file\n"))
+    tools.same("a control character of two bytes", tools.explain("a\u009bb"), (4, b"", b"sedck-explain: cannot read a?b: no such file\n"))
+    tools.same("a name that isn't UTF-8", tools.explain(b"u\xe9\xff.sed", "s.sed"), (4, one, b"sedck-explain: cannot read u??.sed: its name is not UTF-8\n"))
+    tools.same("an empty name", tools.explain(""), (4, b"", b"sedck-explain: cannot read : no such file\n"))
 
 
 def check_formats(tools):
     """The default format; each format on standard input; an accepted script has no line for editors."""
     tools.same("default", tools.explain("s.sed"), tools.explain("--format", "text", "s.sed"))
-    starts = {"text": b"-: accepted", "gcc": b"", "json": b'{"file":"-",', "html": b"<!DOCTYPE html>\n", "dot": b"digraph sedck {\n"}
+    graph = b"digraph sedck {\n"
+    starts = {"text": b"-: accepted", "gcc": b"", "json": b'{"file":"-",', "sarif": b'{"$schema":"https://', "html": b"<!DOCTYPE html>\n", "dot": graph,
+              "dot-nodes": graph}
     for name in FORMATS:
         status, report, errors = tools.explain("--format=" + name, given=NEXT_LINE)
         tools.same("format %s" % name, (status, report[:len(starts[name])], errors), (0, starts[name], b""))
+    named = {"text": b"a b:1:3: error: ", "gcc": b"a b:1:3: error: ", "json": b'{"file":"a b",', "sarif": b'"artifactLocation":{"uri":"a%20b"}',
+             "html": b"<title>a b: script-refused</title>", "dot": b'[label="a b: script-refused"', "dot-nodes": b'[label="a b: script-refused"'}
+    for name in FORMATS:
+        for words in ([], ["-"]):
+            status, report, errors = tools.explain("--format", name, "--stdin-filename", "a b", *words, given=b"b z\n")
+            tools.same("a name for standard input, %s" % name, (status, named[name] in report, b"-:1:3" in report, errors), (2, True, False, b""))
     tools.same("gcc of an accepted script", tools.explain("--format", "gcc", "s.sed"), (0, b"", b""))
     status, report, errors = tools.explain("--format", "json", "s.sed", "t.sed", "gone.sed", "l.sed")
-    tools.same("json of several", (status, report.count(b"\n"), report.count(b'{"file":')), (4, 3, 3))
-    tools.same("json of several", errors, b"sedck-explain: cannot read gone.sed\n")
+    tools.same("json of several", (status, report.count(b"\n"), report.count(b'{"file":')), (4, 4, 4))
+    tools.same("json of several", errors, b"sedck-explain: cannot read gone.sed: no such file\n")
+    check_unreadable(tools)
+
+
+def check_unreadable(tools):
+    """Scripts that can't be read have an object in json, and nothing in the other formats."""
+    page = "FORMATS.md#the-formats-and-statuses-of-sedck-explain"
+    for path, words, shown, reason in (
+            ("gone.sed", ["gone.sed"], "gone.sed", ": no such file"), ("folder", ["folder"], "folder", ": it is a directory"),
+            ("s.sed", ["--cert", "gone.cert", "s.sed"], "gone.cert", ": no such file"), ("a\nb", ["a\nb"], "a?b", ": no such file"),
+            ("u\0.sed", [b"u\xe9.sed"], "u?.sed", ": its name is not UTF-8"), ("\u202ex", ["\u202ex"], "?x", ": no such file")):
+        message = "cannot read " + shown + reason
+        status, report, errors = tools.explain("--format", "json", *words)
+        tools.same("unreadable %r" % path, (status, errors), (4, ("sedck-explain: %s\n" % message).encode()))
+        finding = {"level": "error", "code": "unreadable", "message": message, "hint": None, "position": None, "steps": [], "page": page, "end": None, "fix": None}
+        tools.same("unreadable %r" % path, json.loads(report),
+                   {"file": path, "status": 4, "answer": "unreadable", "bound": None, "reads": [], "writes": [], "findings": [finding], "commands": [],
+                    "version": json.loads(tools.explain("--format", "json", "s.sed")[1])["version"]})
+        for name in ("text", "gcc", "sarif", "html", "dot"):
+            tools.same("unreadable %r, %s" % (path, name), tools.explain("--format", name, *words)[:2], (4, b""))
 
 
 def at_terminal(tools, words, **changes):
@@ -107,12 +139,16 @@ def check_colours(tools):
     """Levels, carets, hints and the word of acceptance are coloured at a terminal alone, unless NO_COLOR says no; no other format is."""
     tools.write("c.sed", b"s/a\\+/b/\n")
     tools.write("w.sed", b"w /x\n$!N\nG\n")
-    error = "c.sed:1:4: {red}error{plain}: in a basic regular expression of POSIX this escape has no meaning that all seds share [bad-escape]\n"
+    error = "c.sed:1:4: {red}error{plain}: POSIX defines no such escape in a basic regular expression, and seds differ on it [bad-escape]\n"
     error += "   1 | s/a\\+/b/\n     |    {red}^{plain}\n     = {cyan}hint{plain}: for `x\\+` write `x\\{1,\\}` or `xx*`\n"
-    other = "w.sed:3:1: {cyan}note{plain}: every run ends, but no limit on its steps is known, since the pattern space may get longer here [no-bound]\n"
-    other += "   3 | G\n     | {cyan}^{plain}\n       3:1  G  may make the pattern space longer, by what the hold space has\n"
-    other += 'w.sed:1:1: {yellow}warning{plain}: this writes "/x": it is an absolute path [absolute-name]\n   1 | w /x\n     | {yellow}^{plain}\n'
+    other = 'w.sed:1:1: {yellow}warning{plain}: this writes "/x": it is an absolute path [absolute-name]\n   1 | w /x\n     | {yellow}^{plain}\n'
+    other += "w.sed:3:1: {cyan}note{plain}: every run ends, but no limit on its steps is known, since this may lengthen the pattern space [no-bound]\n"
+    other += "   3 | G\n     | {cyan}^{plain}\n       3:1  G  may lengthen the pattern space with the contents of the hold space\n"
     other += 'w.sed: {green}accepted{plain}: every run ends\n  reads: no file\n  writes: "/x" (1:1)\n'
+    tools.holds("terminal, loop", at_terminal(tools, ["l.sed"]).find(coloured("l.sed: {red}loop{plain}: a run may never end\n")) > 0)
+    tools.write("s.sed", b"r x\n")
+    tools.holds("terminal, rejected", at_terminal(tools, ["--cert", "s.cert", "s.sed"]).find(coloured("s.sed: {red}rejected{plain}: ")) > 0)
+    tools.write("s.sed", NEXT_LINE)
     for name, text in (("c.sed", error), ("w.sed", other)):
         plain = tools.explain(name)[1]
         tools.same("terminal %s" % name, at_terminal(tools, [name]), coloured(text))

@@ -3,8 +3,8 @@
 
 The faults and rejections that docs/FORMATS.md lists must be just those of man/sedck.5 and docs/FAULTS.md, by number and name, and
 each example in the tables of docs/FORMATS.md must get the fault of its row, at the offset that is said there. The findings of
-man/sedck-explain.1 must be these faults and rejections, by name, and the loops, warnings and notes of the code; it must name each
-field of the format for programs. The status is 0 only where all of this holds.
+man/sedck-explain.1 must be just the codes of `Code` in sedck_findings, by name, and all of these faults and rejections must be among
+them; it must name each field of the format for programs. The status is 0 only where all of this holds.
 """
 import json
 import os
@@ -19,7 +19,7 @@ HEADS = {"FAULTS OF SCRIPTS": "Faults of scripts", "FAULTS OF EXPRESSIONS": "Fau
          "FAULTS OF CERTIFICATES": "Faults of certificates", "REJECTIONS": "Rejections"}
 # A refused expression is a finding by its own fault, and lack of memory is none.
 NO_FINDINGS = {"bad-expression", "out-of-memory"}
-FINDERS = ["crates/sedck_findings/src/%s.rt" % name for name in ("denied", "looks", "loops", "names")]
+CODES = "crates/sedck_findings/src/code.rt"
 
 
 def section(text, head, mark):
@@ -49,13 +49,24 @@ def answer(sedck, script):
         return subprocess.run([sedck, "rank", file.name], capture_output=True, text=True).stderr
 
 
+def codes():
+    """The names of the variants of `Code`, as `Code::name` answers them."""
+    enum = section(read(CODES), "pub enum Code {", r"^}")
+    variants = re.findall(r"^    (\w+),$", enum, flags=re.M)
+    table = dict(re.findall(r'^ +Code::(\w+) => "([a-z-]+)",$', section(read(CODES), "        match self {", r"^        }"), flags=re.M))
+    names = [re.sub(r"\B([A-Z])", r"-\1", variant).lower() for variant in variants]
+    return set(names) if names and [table.get(variant) for variant in variants] == names else set()
+
+
 def findings_differ(names):
-    """How the findings of the manual page differ from those names and the ones that the code gives to loops and doubts."""
+    """How the findings of the manual page differ from the codes, and which of those names is no code."""
     page = section(read("man/sedck-explain.1").replace(r"\-", "-"), ".SH FINDINGS", r"^\.SH ")
-    found = set(re.findall(r"^\.TP\n\.B ([a-z-]+)$", page, flags=re.M))
-    given = {code for name in FINDERS for code in re.findall(r'(?:code: |^ +|, )"([a-z]+-[a-z-]+)",', read(name), flags=re.M)}
-    due = names - NO_FINDINGS | given
-    return "" if found == due and given else "it lacks %s, and has %s too many" % (sorted(due - found), sorted(found - due))
+    found, due = set(re.findall(r"^\.TP\n\.B ([a-z-]+)$", page, flags=re.M)), codes()
+    if not due:
+        return "%s: the variants of `Code` aren't named as `Code::name` names them" % CODES
+    if found == due and names - NO_FINDINGS <= due:
+        return ""
+    return "it lacks %s, and has %s too many; no codes: %s" % (sorted(due - found), sorted(found - due), sorted(names - NO_FINDINGS - due))
 
 
 def fields(value):

@@ -1,9 +1,10 @@
 #!/usr/bin/env python3
-"""Checks links, versions and edits in the documents: python3 tests/links.py, in any folder.
+"""Checks links, versions, edits and modules in the documents: python3 tests/links.py, in any folder.
 
-Each link to a file of the repository must lead to one, and to a heading of it where it names one; each page is linked from README.md;
-the manual pages have the version of the first entry of CHANGELOG.md; each edit in the table of wrong bodies of docs/PROVED.md is there.
-The status is 0 only where all of this holds.
+Each link to a file of the repository must lead to one, and to a heading of it where it names one, also those to pages of docs/ that
+the code has as texts; each page is linked from README.md; the manual pages have the version of the first entry of CHANGELOG.md; each
+edit in the table of wrong bodies of docs/PROVED.md is there; docs/MAP.md has each module of each crate. The status is 0 only where
+all of this holds.
 """
 import re
 import sys
@@ -45,6 +46,16 @@ def edits():
                 yield TOP / "crates" / crate / "must-fail" / (word + ".edit")
 
 
+def unmapped():
+    """The modules that docs/MAP.md doesn't have under the heading of their crate, and those that it has and that aren't there."""
+    sections = re.split(r"^## `(\w+)`$", (TOP / "docs" / "MAP.md").read_text(), flags=re.M)
+    found = dict(zip(sections[1::2], sections[2::2]))
+    for crate in sorted(path.parent.name for path in TOP.glob("crates/*/src")):
+        named = {name for words in re.findall(r"^- (`[^:]*`): ", found.get(crate, ""), flags=re.M) for name in re.findall(r"`(\w+)`", words)}
+        there = {file.stem for file in (TOP / "crates" / crate / "src").glob("*.rt")} - {"lib", "laws"}
+        yield from ("%s::%s" % (crate, name) for name in sorted(named ^ there))
+
+
 def faults():
     wrong_bodies = list(edits())
     if not wrong_bodies:
@@ -58,6 +69,13 @@ def faults():
                 yield "%s: no file %s" % (page.relative_to(TOP), target)
             elif head and head not in anchors(file):
                 yield "%s: no heading %s" % (page.relative_to(TOP), target)
+    for source in sorted(TOP.glob("crates/*/src/**/*.rt")):
+        for name, head in re.findall(r'"([A-Z]+\.md)#([^"\s]+)"', source.read_text()):
+            page = TOP / "docs" / name
+            if not page.exists() or head not in anchors(page):
+                yield "%s: no heading %s#%s" % (source.relative_to(TOP), name, head)
+    for module in unmapped():
+        yield "docs/MAP.md and the code differ in the module %s" % module
     linked = {file for _, file, _ in links(TOP / "README.md")}
     for page in PAGES[1:] + MANUAL:
         if page not in linked:

@@ -1,11 +1,12 @@
 #!/usr/bin/env python3
-"""Runs the Makefile, the hooks and the steps of docs/RECIPES.md in scratch folders:
+"""Runs the Makefile, the hooks and the steps of docs/RECIPES.md, and the script of docs/STRANGERS.md, in scratch folders:
 
     python3 tests/recipes.py build/sedck build/sedck-explain
 
-and the script of docs/STRANGERS.md. Each recipe is taken from the page, or from .pre-commit-hooks.yaml, and must pass what it should pass and refuse what it should
+Each recipe is taken from the page, or from .pre-commit-hooks.yaml, and must pass what it should pass and refuse what it should
 refuse. One that needs a program which this machine lacks is left out, which is said. The status is 0 only where none fails.
 """
+import json
 import os
 import re
 import shlex
@@ -36,6 +37,10 @@ def block(head, language, nth=0, page="docs/RECIPES.md"):
 
 class Failure(Exception):
     pass
+
+
+class LeftOut(Exception):
+    """What this machine, or this program, lacks."""
 
 
 class Scratch:
@@ -129,8 +134,7 @@ def inline_make(scratch):
 def stranger(scratch):
     """The script of docs/STRANGERS.md, for scripts that are run, that are denied, and that are longer than any script."""
     if not scratch.run(0, "sh", "-c", "sed --version 2> /dev/null || :").startswith("sed (GNU sed)"):
-        print("recipes: stranger is left out: sed isn't GNU sed")
-        return
+        raise LeftOut("sed isn't GNU sed")
     scratch.write("run-stranger.sh", block("Check a copy, and run the copy", "sh", page="docs/STRANGERS.md"))
     scratch.write("good.sed", "s/a/b/\n")
     scratch.write("mail", "a\nxa\n")
@@ -139,7 +143,9 @@ def stranger(scratch):
                          ("s/[0-9]+//\n", "denied-warnings"), ("#" * 1048576 + "\nw out\n", "too-long")):
         scratch.write("bad.sed", script)
         holds(code in scratch.run(125, "sh", "-c", "sh run-stranger.sh bad.sed < mail"), "%s isn't shown" % code)
-    holds(sorted(os.listdir(scratch.folder)) == ["bad.sed", "good.sed", "mail", "run-stranger.sh"], "a file is left over")
+    os.mkfifo(os.path.join(scratch.folder, "pipe"))
+    scratch.run(125, "sh", "-c", "sh run-stranger.sh pipe < mail")
+    holds(sorted(os.listdir(scratch.folder)) == ["bad.sed", "good.sed", "mail", "pipe", "run-stranger.sh"], "a file is left over")
 
 
 def vim(scratch):
@@ -157,7 +163,7 @@ def vim(scratch):
 
 def hook(scratch):
     scratch.run(0, "git", "init", "-q", ".")
-    scratch.write(".git/hooks/pre-commit", block("A hook before each commit", "sh"), 0o755)
+    scratch.write(".git/hooks/pre-commit", block("A hook with certificates", "sh"), 0o755)
     scratch.copy("odd-lines.sed")
     scratch.copy("odd-lines.cert")
     scratch.run(0, "git", "add", ".")
@@ -169,7 +175,98 @@ def hook(scratch):
     scratch.run(1, "git", "commit", "-qm", "what is staged counts")
     scratch.run(0, "git", "add", ".")
     scratch.run(0, "git", "rm", "-q", "--cached", "odd-lines.cert")
-    scratch.run(1, "git", "commit", "-qm", "a certificate is missing")
+    holds(scratch.run(1, "git", "commit", "-qm", "a certificate is missing") == "pre-commit: odd-lines.sed has no certificate\n", "a missing certificate isn't named")
+
+
+def hook_alone(scratch):
+    """The hook without certificates: what is staged counts, and names of any kind are taken."""
+    scratch.run(0, "git", "init", "-q", ".")
+    scratch.write(".git/hooks/pre-commit", block("A hook without certificates", "sh"), 0o755)
+    scratch.copy("odd-lines.sed", "in here/odd lines.sed")
+    scratch.write("notes.txt", "no script\n")
+    scratch.run(0, "git", "add", ".")
+    scratch.run(0, "git", "commit", "-qm", "a script")
+    scratch.write("in here/odd lines.sed", ENDLESS)
+    scratch.run(0, "git", "add", ".")
+    holds("in here/odd lines.sed:1:1: error: " in scratch.run(1, "git", "commit", "-qm", "a loop"), "the loop isn't shown")
+    scratch.copy("odd-lines.sed", "in here/odd lines.sed")
+    scratch.run(1, "git", "commit", "-qm", "what is staged counts")
+    scratch.run(0, "git", "rm", "-qf", "--cached", "in here/odd lines.sed")
+    scratch.run(0, "git", "commit", "-qm", "a script less")
+
+
+def without_explain(scratch, *words):
+    """What the command prints where sedck-explain isn't on the path; the status must be the first word."""
+    path = scratch.environment["PATH"]
+    scratch.environment["PATH"] = ":".join(folder for folder in path.split(":") if not os.path.exists(os.path.join(folder, "sedck-explain")))
+    try:
+        return scratch.run(*words)
+    finally:
+        scratch.environment["PATH"] = path
+
+
+def make_check(scratch):
+    head, test = "A test of `make check`", "tests/sed-scripts.test"
+    scratch.write(test, block(head, "sh"), 0o755)
+    scratch.write("Makefile", block(head, "make", 1))
+    holds(re.findall(r"^\w+ = (.*)$", block(head, "make"), flags=re.M) == [test, test], "automake is given another file")
+    scratch.copy("odd-lines.sed", "scripts/odd-lines.sed")
+    scratch.run(0, "sh", test)
+    scratch.run(0, "make", "-s", "check")
+    holds("skipped" in without_explain(scratch, 77, "sh", test), "that the test is skipped isn't said")
+    without_explain(scratch, 0, "make", "-s", "check")
+    scratch.write("scripts/loop.sed", ENDLESS)
+    holds("scripts/loop.sed:1:1: error: " in scratch.run(2, "make", "-s", "check"), "the loop isn't shown")
+    scratch.run(1, "env", "srcdir=" + scratch.folder, "sh", "-c", "cd / && sh %s" % os.path.join(scratch.folder, test))
+
+
+def autopkgtest(scratch):
+    control = dict(line.split(": ") for line in block("autopkgtest", "text").splitlines())
+    holds(control["Tests"] == "sed-scripts" and "skippable" in control["Restrictions"].split(", "), "another test, or one that may not be skipped")
+    scratch.write("test", block("autopkgtest", "sh").replace("/usr/share/PACKAGE", os.path.join(scratch.folder, "installed")))
+    scratch.copy("odd-lines.sed", "installed/odd-lines.sed")
+    scratch.run(0, "sh", "test")
+    without_explain(scratch, 77, "sh", "test")
+    scratch.write("installed/odd-lines.sed", ENDLESS)
+    holds("odd-lines.sed:1:1: error: " in scratch.run(1, "sh", "test"), "the loop isn't shown")
+
+
+def matcher(scratch):
+    """The lines that the problem matcher takes, and the step that names it."""
+    pattern = json.loads(block("Annotations on GitHub", "json"))["problemMatcher"][0]["pattern"][0]
+    step, = yaml.safe_load(block("Annotations on GitHub", "yaml"))
+    scratch.copy("join-all-loop.sed", "scripts/join-all-loop.sed")
+    lines = scratch.run(1, "bash", "-e", "-c", step["run"]).splitlines()
+    holds(lines[0] == "::add-matcher::.github/sedck-matcher.json", "the matcher isn't named")
+    found = [match for match in (re.search(pattern["regexp"], line) for line in lines[1:]) if match]
+    taken = [found[0][pattern[name]] for name in ("file", "line", "column", "severity", "code")] if found else []
+    holds(taken == ["scripts/join-all-loop.sed", "1", "1", "error", "loop-idle"], "the matcher takes %s" % taken)
+
+
+def sarif(scratch):
+    explaining = yaml.safe_load(block("SARIF", "yaml"))[0]["run"]
+    pairs(scratch)
+    if subprocess.run([scratch.explain, "--format", "sarif", os.path.join(scratch.folder, "scripts/new.sed")], capture_output=True).returncode == 3:
+        raise LeftOut("this sedck-explain has no format sarif")
+    scratch.run(0, "bash", "-e", "-c", explaining)
+    run, = json.loads(scratch.text("sedck.sarif"))["runs"]
+    codes = [result["ruleId"] for result in run["results"]]
+    holds({"loop-idle", "unknown-label"} <= set(codes), "the results are %s" % codes)
+    rules = [rule["id"] for rule in run["tool"]["driver"].get("rules", [])]
+    holds(not rules or set(codes) <= set(rules) and len(set(rules)) == len(rules), "the rules are %s" % rules)
+    scratch.run(1, "bash", "-e", "-c", "rm -r sarif scripts; " + explaining)
+
+
+def fewer(scratch):
+    """The comment that silences a warning, and where it doesn't."""
+    scratch.write("quiet.sed", block("Fewer findings", "sed"))
+    if subprocess.run([scratch.explain, "--level", "note", os.path.join(scratch.folder, "quiet.sed")], capture_output=True).returncode == 3:
+        raise LeftOut("this sedck-explain has no option --level")
+    holds(scratch.run(0, "sedck-explain", "--format", "gcc", "quiet.sed") == "", "the warning isn't silenced")
+    holds("denied-warnings" in scratch.run(1, "sedck-explain", "--format", "gcc", "--deny", "warnings", "quiet.sed"), "a script speaks for itself")
+    scratch.write("doubtful.sed", "w /var/log/changed\n")
+    holds("absolute-name" in scratch.run(0, "sedck-explain", "--format", "gcc", "doubtful.sed"), "the warning isn't shown")
+    holds(scratch.run(0, "sedck-explain", "--format", "gcc", "--level", "error", "doubtful.sed") == "", "a warning is shown as an error")
 
 
 def pairs(scratch):
@@ -256,6 +353,8 @@ def pre_commit(scratch):
     hooks = {hook["id"]: hook for hook in yaml.safe_load(read(".pre-commit-hooks.yaml"))}
     used = yaml.safe_load(block("A hook of pre-commit", "yaml"))["repos"][0]["hooks"]
     holds(all(hook["id"] in hooks for hook in used), "the page shows a hook that isn't there")
+    asked = [name for name in ("a.sed", "b.sin", "c.sed.in", "d.in", "sed.txt") if re.search(used[0]["files"], name)]
+    holds(asked == ["a.sed", "b.sin", "c.sed.in"], "the page asks of the files %s" % asked)
     pairs(scratch)
     names = sorted("scripts/" + name for name in os.listdir(os.path.join(scratch.folder, "scripts")))
     loops = (["endless-print", "lost-label"], ["new", "odd-lines"])
@@ -269,7 +368,8 @@ def pre_commit(scratch):
 
 
 # Each recipe with the programs that it needs.
-RECIPES = [(makefile, "make sed"), (in_place, "sed"), (inline, "sed"), (inline_make, "make sed"), (stranger, "sed"), (vim, "vim"), (hook, "git sed"), (step, ""), (lists, ""),
+RECIPES = [(makefile, "make sed"), (in_place, "sed"), (inline, "sed"), (inline_make, "make sed"), (stranger, "sed"), (vim, "vim"), (hook, "git sed"), (hook_alone, "git"), (step, ""), (lists, ""),
+           (make_check, "make"), (autopkgtest, ""), (matcher, "yaml bash"), (sarif, "yaml bash jq"), (fewer, ""),
            (github, "yaml bash curl tar sha256sum"), (gitlab, "yaml bash curl tar sha256sum"), (pre_commit, "yaml")]
 
 
@@ -280,10 +380,12 @@ def main():
         if lacks:
             print("recipes: %s is left out: this machine lacks %s" % (recipe.__name__, " ".join(lacks)))
             continue
-        run += 1
         with Scratch(*map(os.path.abspath, sys.argv[1:3])) as scratch:
             try:
                 recipe(scratch)
+                run += 1
+            except LeftOut as lack:
+                print("recipes: %s is left out: %s" % (recipe.__name__, lack))
             except Failure as failure:
                 failed += 1
                 print("recipes: %s: %s" % (recipe.__name__, failure))

@@ -57,7 +57,7 @@ each() {
 
 # Each report has at least a byte: that of an accepted script for editors is empty, and has nothing that can't be written.
 each_format() {
-    for format in text gcc json html dot; do
+    for format in text gcc json sarif html dot dot-nodes; do
         "$1" --format "$format" "$folder/loop"
         "$1" --format "$format" "$folder/refused"
         "$1" --format "$format" --cert "$folder/certificate" "$folder/loop"
@@ -99,7 +99,7 @@ echo $? > "$folder/status"
 wanted 0 "" "nothing for editors to a full device"
 "$explain" --format html "$folder/missing" > /dev/full 2> "$folder/errors"
 echo $? > "$folder/status"
-wanted 4 "sedck-explain: cannot read $folder/missing" "a script that can't be read to a full device"
+wanted 4 "sedck-explain: cannot read $folder/missing: no such file" "a script that can't be read to a full device"
 "$explain" --wrong > /dev/full 2> "$folder/errors"
 echo $? > "$folder/status"
 head -n 1 "$folder/errors" | cut -c 1-15 > "$folder/begin"

@@ -5,7 +5,7 @@ mod refused_one;
 mod upgraded;
 mod verified;
 
-// These are statics: a constant's bytes would stand in the proof of each function that names it.
+// These are statics: a constant's bytes would be in the proof of each function that names it.
 
 /// The certificate of an endless script of three commands.
 static ENDLESS: &'static [u8] =

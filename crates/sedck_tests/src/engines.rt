@@ -23,7 +23,7 @@ const LOOP_CERTIFICATE: &str =
 const OLD_LOOP_CERTIFICATE: &str =
     "sedck 1\ncommands 3\n0 0 2 2\n0 1 -\n1 0 1 1\n1 1 -\n2 0 3 3\n2 1 -\n3 0 -\n3 1 -\nread 0\nwrite 0\nend\n";
 
-/// Both for the code of functions: a constant's bytes would stand in the proof of each that names it.
+/// Both for the code of functions: a constant's bytes would be in the proof of each that names it.
 static LOOP_TEXT: &'static str = LOOP_CERTIFICATE;
 
 static OLD_LOOP_TEXT: &'static str = OLD_LOOP_CERTIFICATE;

@@ -1,4 +1,4 @@
-//! Scripts as tables: where commands stand, what is refused and where, what is read, the verbs, and the limits.
+//! Scripts as tables: where commands are, what is refused and where, what is read, the verbs, and the limits.
 mod located;
 mod read;
 mod refused;

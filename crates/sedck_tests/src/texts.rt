@@ -3,7 +3,7 @@ use sedck_script::Script;
 use std::alloc::Global;
 use std::process::Abort;
 
-/// A part of a text, and how many times it stands there.
+/// A part of a text, and how many times it is there.
 pub type Part = (&'static [u8], usize);
 
 /// The parts one after another, each this many times.

@@ -26,7 +26,7 @@ fn read(rt: &impl Abort, alloc: Global, text: &[u8]) -> Cert {
     cert
 }
 
-/// Whether the write behind each front of the text, which is the certificate's, is reported to have failed, and nothing
+/// Whether the write after each front of the text, which is the certificate's, is reported to have failed, and nothing
 /// more was written, where each write takes one byte. A failing write has an error of the kind, or takes none.
 fn fails_behind_each_front(
     rt: &impl Abort,

@@ -141,7 +141,7 @@ static CUTS: [Cut; 21] = [
     (174, 177, 5, 21),
 ];
 
-/// What stands before the lists where there is no command, and the line of the names that are read.
+/// What is before the lists where there is no command, and the line of the names that are read.
 const HEAD: &[u8] = b"sedck 2\ncommands 0\n0 0 0 1 1\n0 0 1 1 1\n0 1 0 -\n0 1 1 -\nread 1\n";
 
 /// The line of the names that are written.
@@ -149,7 +149,7 @@ const WRITE: &[u8] = b"\nwrite 1\n";
 
 const END: &[u8] = b"\nend\n";
 
-/// What stands before a name that is written, where none is read.
+/// What is before a name that is written, where none is read.
 const WRITES: &[u8] =
     b"sedck 2\ncommands 0\n0 0 0 1 1\n0 0 1 1 1\n0 1 0 -\n0 1 1 -\nread 0\nwrite 1\n";
 

@@ -66,7 +66,7 @@ fn upgrades(rt: HostRuntime) {
 
 #[test]
 fn nodes_of_the_other_version(rt: HostRuntime) {
-    // the nodes of one version behind the first line of the other
+    // the nodes of one version after the first line of the other
     require_joined_fault(&rt, rt.alloc(), b"sedck 1", &ENDLESS[7..]);
     require_joined_fault(&rt, rt.alloc(), b"sedck 2", &ENDLESS_ONE[7..]);
 }

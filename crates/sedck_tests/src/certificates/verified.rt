@@ -28,7 +28,7 @@ type Row = (&'static str, &'static str, &'static str);
 const EMPTY: &str =
     "sedck 2\ncommands 0\n0 0 0 0 0\n0 0 1 0 0\n0 1 0 -\n0 1 1 -\nread 0\nwrite 0\nend\n";
 
-/// One command that keeps the pattern space: the second rank is lowered behind it, on each side of the last line.
+/// One command that keeps the pattern space: the second rank is lowered after it, on each side of the last line.
 const KEEPS: &str =
     "sedck 2\ncommands 1\n0 0 0 0 1\n0 0 1 0 1\n0 1 0 -\n0 1 1 -\n1 0 0 0 0\n1 0 1 0 0\n1 1 0 -\n1 1 1 -\nread 0\nwrite 0\nend\n";
 
@@ -68,7 +68,7 @@ static ACCEPTED: [Row; 10] = [
         "sedck 2\ncommands 1\n0 0 0 0 1\n0 0 1 0 1\n0 1 0 -\n0 1 1 -\n1 0 0 0 0\n1 0 1 0 0\n1 1 0 -\n1 1 1 -\nread 0\nwrite 1\ng\nend\n",
         "accepted",
     ),
-    // the name behind `q` counts, and no edge leads there
+    // the name after `q` counts, and no edge leads there
     (
         "q\nw g",
         "sedck 2\ncommands 2\n0 0 0 0 0\n0 0 1 0 0\n0 1 0 -\n0 1 1 -\n1 0 0 -\n1 0 1 -\n1 1 0 -\n1 1 1 -\n2 0 0 -\n2 0 1 -\n2 1 0 -\n2 1 1 -\nread 0\nwrite 1\ng\nend\n",
@@ -101,7 +101,7 @@ static REJECTED: [Row; 16] = [
         "sedck 2\ncommands 1\n0 0 0 -\n0 0 1 -\n0 1 0 -\n0 1 1 -\n1 0 0 -\n1 0 1 -\n1 1 0 -\n1 1 1 -\nread 0\nwrite 0\nend\n",
         "start unranked",
     ),
-    // no ranks behind the command
+    // no ranks after the command
     (
         "p",
         "sedck 2\ncommands 1\n0 0 0 0 1\n0 0 1 0 1\n0 1 0 -\n0 1 1 -\n1 0 0 -\n1 0 1 0 0\n1 1 0 -\n1 1 1 -\nread 0\nwrite 0\nend\n",

@@ -197,7 +197,7 @@ fn answers(rt: HostRuntime) {
     are_answered(&rt, rt.alloc(), &Engine::Upgrade, &UPGRADES);
 }
 
-/// Certificates that stand beside a script that is refused.
+/// Certificates beside a script that is refused.
 static BESIDE: [&'static str; 3] = [LOOP_CERTIFICATE, "x", ""];
 
 #[test]
@@ -291,7 +291,7 @@ static OLD_CHANGED: [Row; 5] = [
     ),
 ];
 
-/// The first length that has this fault, the one behind the last, and what is reported.
+/// The first length that has this fault, the one after the last, and what is reported.
 type Cut = (usize, usize, &'static str);
 
 static CUT: [Cut; 21] = [

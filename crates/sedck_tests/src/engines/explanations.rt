@@ -3,7 +3,7 @@ use super::fakes::{Given, Kept, sink_with, source_of};
 use super::{AMPLE, LOOP, LOOP_TEXT};
 use crate::texts::{require, require_bytes, require_count};
 use sedck_cli::{Input, RunFault};
-use sedck_explain_cli::{Denied, Format, Style, explain_alone, explain_with};
+use sedck_explain_cli::{Denied, Format, Level, Style, explain_alone, explain_with};
 use std::alloc::Global;
 use std::process::Abort;
 
@@ -11,6 +11,7 @@ use std::process::Abort;
 const EDITORS: Style = Style {
     format: Format::Gcc,
     colour: false,
+    least: Level::Warning,
 };
 
 /// A script, the exit status and the report.
@@ -19,12 +20,12 @@ static ALONE: [(&'static str, u8, &'static str); 4] = [
     (
         "p;q9",
         2,
-        "f:1:4: error: this may not follow a command [extra-text]\nf:1:4: note: hint: an exit status of `q` and a width of `l` are extensions of GNU sed: leave them out\n",
+        "f:1:4: error: unexpected text after a command [extra-text]\nf:1:4: note: hint: an exit status of `q` and a width of `l` are extensions of GNU sed: leave them out\n",
     ),
     (
         "b z",
         2,
-        "f:1:3: error: no `:` defines this label [unknown-label]\n",
+        "f:1:3: error: this label isn't defined [unknown-label]\n",
     ),
     (
         "w /x",

@@ -1,8 +1,9 @@
 //! Streams that fail or never end, and texts that are too long.
-use super::fakes::{Endless, sink_with};
+use super::fakes::{Endless, Reader, sink_with, source_of};
 use super::runs::{Ends, Engine, is_answered, is_answered_over_std, outcome};
 use super::{ACCEPTED, AMPLE, LOOP, LOOP_CERTIFICATE, LOOP_TEXT};
 use crate::texts::{repeated, require_bytes, require_count};
+use sedck_cert::streams::FromRead;
 use std::alloc::Global;
 use std::io::ErrorKind;
 use std::process::Abort;
@@ -135,7 +136,29 @@ fn failing_sources(rt: HostRuntime) {
     }
 }
 
-/// Whether the write behind a prefix of a report is said to have failed, and nothing more went out.
+/// A source whose first read fails, and none after it.
+#[test]
+fn sources_that_failed_before(rt: HostRuntime) {
+    let mut script = FromRead::new(Reader {
+        source: source_of(LOOP.as_bytes(), AMPLE, 0),
+        kind: ErrorKind::Other,
+    });
+    let mut unused = source_of(b"", AMPLE, AMPLE);
+    let mut out = sink_with(rt.alloc(), AMPLE, AMPLE);
+    for wanted in ["cannot read script", "yes"] {
+        let found = outcome(
+            &rt,
+            rt.alloc(),
+            &Engine::Files,
+            &mut script,
+            &mut unused,
+            &mut out,
+        );
+        require_bytes(&rt, found.as_bytes(), wanted.as_bytes(), b"read twice");
+    }
+}
+
+/// Whether the write after a prefix of a report is said to have failed, and nothing more went out.
 fn fails_behind(rt: &impl Abort, alloc: Global, engine: &Engine, script: &str, front: &str) {
     let (texts, ends) = ((script, LOOP_TEXT), (AMPLE, AMPLE, front.len()));
     let answer = ("cannot write", front);
@@ -171,7 +194,7 @@ fn failing_sinks(rt: HostRuntime) {
 }
 
 /// The engine, whether the long text is the certificate's, how much is given of the script and of the certificate before reads fail,
-/// and what is reported: what lies behind the limit is never read.
+/// and what is reported: what lies after the limit is never read.
 static LIMITS: [(Engine, bool, usize, usize, &'static str); 7] = [
     (Engine::Check, false, 1_048_576, AMPLE, "cannot read script"),
     (

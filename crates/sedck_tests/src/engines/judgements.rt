@@ -88,13 +88,13 @@ static OLD_GIVEN: [Row; 13] = [
         NO_FILES,
         "bound 65536 4295032832 65536\n",
     ),
-    // the two greatest ranks differ, and stand in different lines
+    // the two greatest ranks differ, and are in different lines
     ("", 0, "0 0 7 0", NO_FILES, "bound 1 9 1\n"),
     ("", 0, "0 0 0 7", NO_FILES, "bound 8 16 8\n"),
     ("", 0, "0 0 0 0", NO_FILES, "bound 1 2 1\n"),
     ("", 0, "0 0 1 1, 0 1 9 4", NO_FILES, "bound 5 55 5\n"),
     ("p", 1, "0 0 5 3, 1 0 4 9", NO_FILES, "bound 10 70 10\n"),
-    // `x` stands where no node has ranks; then it has, with the flag reset and with it set
+    // `x` is where no node has ranks; then it has, with the flag reset and with it set
     ("q;x", 2, "0 0 1 1", NO_FILES, "bound 2 6 2\n"),
     ("q;x", 2, "0 0 1 1, 1 0 2 0, 2 0 1 1", NO_FILES, ""),
     ("q;x", 2, "0 0 1 1, 1 1 2 0, 2 1 1 1", NO_FILES, ""),
@@ -454,7 +454,7 @@ fn is_judged(
     text
 }
 
-/// Whether the row's certificate of version 1 is judged so, as it stands and upgraded.
+/// Whether the row's certificate of version 1 is judged so, as it is and upgraded.
 fn old_is_judged(
     rt: &(impl Files + AllocGlobal + Abort),
     folder: &str,

@@ -5,7 +5,7 @@ use std::process::Abort;
 use std::rt::Files;
 use std::{fs, process};
 
-/// A script, and what is printed, or what stands on standard error where it is refused.
+/// A script, and what is printed, or what is written to standard error where it is refused.
 type Row = (&'static str, &'static str);
 
 /// Loops that rule all certificates out.

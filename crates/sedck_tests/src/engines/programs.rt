@@ -44,7 +44,7 @@ pub fn folder(rt: &(impl Files + Env + AllocGlobal + Abort), id: u32, test: &str
     folder
 }
 
-/// The words, of which each behind `@` is a file of the folder.
+/// The words, of which each after `@` is a file of the folder.
 fn words_of(rt: &impl Abort, alloc: Global, folder: &str, words: &str) -> Vec<String> {
     let mut all = Vec::new(alloc);
     for word in words.split_whitespace() {
@@ -122,7 +122,7 @@ static WORDS: [&'static str; 30] = [
     "check @nowhere -",
 ];
 
-/// Words, the status, what is printed, and what stands on standard error.
+/// Words, the status, what is printed, and what is written to standard error.
 type Row = (&'static str, u8, &'static str, &'static str);
 
 static ROWS: [Row; 31] = [
@@ -265,7 +265,7 @@ impl Write for Unflushed {
     }
 }
 
-/// A status, the one that it becomes where the report can't be flushed, and what stands on standard error.
+/// A status, the one that it becomes where the report can't be flushed, and what is written to standard error.
 static FLUSHES: [(u8, u8, &'static str); 3] = [
     (0, 4, "sedck: cannot write\n"),
     (1, 4, "sedck: cannot write\n"),

@@ -140,10 +140,10 @@ fn means(rt: &impl Abort, alloc: Global, text: &[u8], byte: u8) {
     require(rt, is_byte(alloc, text, byte), text);
 }
 
-/// Bytes that mean themselves behind a backslash.
+/// Bytes that mean themselves after a backslash.
 static ESCAPED: [u8; 22] = *b".[\\*^$]/-\"&,;:!@#%=~_ ";
 
-/// Bytes that have a meaning behind a backslash.
+/// Bytes that have a meaning after a backslash.
 static KNOWN: [u8; 36] = *b".[\\*^$]/-\"&,;:!@#%=~_ nt(){123456789";
 
 /// Escapes of bytes that mean themselves, the refused ones, and bytes without meaning.

@@ -1,4 +1,4 @@
-//! Where the commands of scripts stand, counted by hand.
+//! Where the commands of scripts are, counted by hand.
 use crate::texts::{require, require_count};
 use sedck_script::{Location, locate};
 use std::process::Abort;

@@ -160,14 +160,14 @@ static BRACES: [Row; 20] = [
     (b":x\n{p;tx}", 0, 0),
 ];
 
-/// .. an escaped delimiter `x` that they read with the bytes behind it, beside a `[`, ..
+/// .. an escaped delimiter `x` that they read with the bytes after it, beside a `[`, ..
 static ESCAPES: [Row; 12] = [
     (b"sx[\\xa]xyx", 22, 3),
     (b"\\x[\\x5b]xp", 22, 3),
     (b"sxa\\x[b]xyx", 22, 3),
     (b"sxa\\x\\[xyx", 22, 3),
     (b"1,\\x[a]\\xxp", 22, 7),
-    // the first of them; behind the end of the part, and before its expression and the replacement
+    // the first of them; after the end of the part, and before its expression and the replacement
     (b"sx\\x[\\x\\x]xyx", 22, 2),
     (b"p;sx[a\\x\\xxyx", 22, 6),
     (b"sx\\x[b\\(xyx", 22, 2),
@@ -191,7 +191,7 @@ static BRACKETS: [Row; 16] = [
     (b"y/\\\\[/ab/", 10, 4),
     (b"yx[x]x", 10, 2),
     (b"y/[\\\\/ab/", 10, 2),
-    // behind the end of the first list, and before the second one
+    // after the end of the first list, and before the second one
     (b"y/[\\q/", 10, 3),
     (b"y/[", 7, 0),
     (b"y/[/\\q/", 10, 2),
@@ -354,7 +354,7 @@ static INNER: [InnerRow; 21] = [
     (&[(b"s/[^[:cntrl:]\x01-\xff]/b/", 1)], 2, 5, 0),
     (&[(b"s/\\(a/b/", 1)], 2, 6, 0),
     (&[(b"s/a\\)/b/", 1)], 2, 7, 1),
-    // behind other commands, and as the second address
+    // after other commands, and as the second address
     (&[(b"p\n", 4000), (b"1,/a\\{2/p", 1)], 8003, 8, 1),
     (&[(b"/a/,/b**/p", 1)], 5, 10, 2),
     // an escaped delimiter is one byte of the expression

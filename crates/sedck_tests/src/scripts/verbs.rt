@@ -59,7 +59,7 @@ static NAMES: [(&'static [u8], Words); 4] = [
 ];
 
 static BRANCHES: [(&'static [u8], Words); 15] = [
-    // the block leads behind its end, the branch to its label
+    // the block leads after its end, the branch to its label
     (
         b":a;$!{N;ba};s/\\n/ /g",
         &[
@@ -98,7 +98,7 @@ static BRANCHES: [(&'static [u8], Words); 15] = [
     (b"b;p", &[(b'b', b"", 2), (b'p', b"", 0)]),
     (b"{t}", &[(b'{', b"", 2), (b't', b"", 2)]),
     (b"b  ", &[(b'b', b"", 1)]),
-    // a comment behind a branch without a label needs a `;` or a newline before it
+    // a comment after a branch without a label needs a `;` or a newline before it
     (b"b;#c", &[(b'b', b"", 1)]),
     (b"t\n#a", &[(b't', b"", 1)]),
     (b":a;t a\t# x", &[(b':', b"a", 0), (b't', b"", 0)]),

@@ -50,7 +50,7 @@ fn counts_of_many_bits(rt: HostRuntime) {
     }
 }
 
-/// A number of words, and the one of them that has a bit: at the beginning or the end of a chunk, or behind the last one.
+/// A number of words, and the one of them that has a bit: at the beginning or the end of a chunk, or after the last one.
 static PLACES: [(usize, usize); 18] = [
     (1, 0),
     (7, 0),

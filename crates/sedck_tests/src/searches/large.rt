@@ -24,11 +24,11 @@ fn add_node(
     add_both(rt, ranks, &node, pair.0, pair.1);
 }
 
-/// The ranks of loops one behind the other, each of which ends, since it shortens the pattern space.
+/// The ranks of loops one after the other, each of which ends, since it shortens the pattern space.
 fn ranks_of_loops(rt: &impl Abort, alloc: Global) -> String {
     let mut ranks = String::new(alloc);
     for turn in 0u32..1300 {
-        // the nodes of a loop, and from its last one on those of the loops behind it and the end
+        // the nodes of a loop, and from its last one on those of the loops after it and the end
         let (firsts, seconds) = (4 * (1300 - turn) + 1, 3 * (1300 - turn) + 1);
         let (label, place, test) = (3 * turn, 3 * turn + 1, 3 * turn + 2);
         add_node(rt, alloc, &mut ranks, (label, 0), (firsts, seconds));
@@ -40,7 +40,7 @@ fn ranks_of_loops(rt: &impl Abort, alloc: Global) -> String {
     ranks
 }
 
-/// As many commands as a script may have, one behind the other, and more than a thousand loops that end.
+/// As many commands as a script may have, one after the other, and more than a thousand loops that end.
 #[test]
 fn ranks(rt: HostRuntime) {
     let text = numbered(&rt, rt.alloc(), "p\n", 0, 4095);
@@ -56,8 +56,8 @@ fn ranks(rt: HostRuntime) {
     is_told(&rt, rt.alloc(), text.as_bytes(), &ranks);
 }
 
-/// What stands before a piece, the piece, its copies, what follows them, and the loop that is reported: the first of
-/// many idle loops one behind the other, the first of many growing ones, and a loop through all commands.
+/// What is before a piece, the piece, its copies, what follows them, and the loop that is reported: the first of
+/// many idle loops one after the other, the first of many growing ones, and a loop through all commands.
 static LOOPS: [(&'static str, &'static str, u16, &'static str, &'static str); 3] = [
     (
         "p\ns/x//\n",

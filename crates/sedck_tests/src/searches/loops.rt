@@ -34,12 +34,12 @@ static LOOPS: [Row; 19] = [
         b":a;s/\\(x\\)/\\1\\1/;ta",
         "growing\n1 0 0 grow\n2 1 0 keep\n0 0 0 keep\n1 0 0\n",
     ),
-    // an idle loop behind a growing one
+    // an idle loop after a growing one
     (
         b":a;s/x/xx/;ta;:b;/y/bb",
         "idle\n3 0 0 keep\n4 0 0 keep\n3 0 0\n",
     ),
-    // a growing loop behind an edge that may grow and lies on no loop, and behind an idle loop that isn't reached
+    // a growing loop after an edge that may grow and lies on no loop, and after an idle loop that isn't reached
     (
         b"G;b c;:b;bb;:c;s/x/xx/;tc",
         "growing\n5 0 0 grow\n6 1 0 keep\n4 0 0 keep\n5 0 0\n",

@@ -1,12 +1,12 @@
 #!/usr/bin/env python3
-"""What must be believed: which definitions the exported contracts reach, file by file.
+"""Which definitions the exported contracts reach, file by file, with what they mean.
 
-    python3 tools/believed.py            prints docs/BELIEVED.md
-    python3 tools/believed.py --check    compares it with the file, and checks the shelves:
-                                        no exported contract reaches specs/Private, and
-                                        each word outside of specs/Private is reached
+    python3 tools/definitions.py            writes docs/DEFINITIONS.md, by the text of tools/definitions.txt
+    python3 tools/definitions.py --check    compares the page, and checks the definitions:
+                                            no exported contract reaches specs/Private, and
+                                            each word outside of specs/Private is reached
 
-A line of a file of definitions that belongs to nothing stops it. tests/believed.py tests it.
+A line of a file of definitions that belongs to nothing stops it. tests/definitions.py tests it.
 """
 import re, sys
 from pathlib import Path
@@ -365,48 +365,41 @@ script.Locations
 script.Faults bre.Faults cert.Faults
 script.FaultWords bre.FaultWords cert.FaultText cli.Lines
 cli.Reports cli.Engines cli.Statuses cli.Causes cli.Faults cert.Streams cli.Inputs cli.Opened
-findings.Answers findings.Denial findings.Explanations findings.Errors explain_cli.Explained explain_cli.Statuses findings.Positions findings.Shown escapes.Html
+findings.Answers findings.Denial findings.Explanations findings.Errors explain_cli.Explained explain_cli.Statuses findings.Positions findings.Shown findings.Codes findings.Reported escapes.Html escapes.Ascii
 bre.Lengths script.Shortest script.Invariant
 bre.View script.View script.ReplacementView cert.View
 bre.Laws bre.Examples script.Laws script.First script.Examples flow.Laws flow.Examples cert.Laws search.Laws
 """.split()
 
-# What is promised, in parts: a title, a sentence, and groups of the same with the contracts that they rest on.
+# What is promised, in parts, and these in groups with the contracts that they rest on. tools/definitions.txt has the texts.
 PARTS = [
-    ("To trust a yes", "What the clause `promise` of `judge` and `verify` says: an accepted script's runs end, and their files are listed. Of all definitions, whoever only trusts a yes has to believe these and no others: "
-     "what a run is, which script the bytes of a script spell, and which lists the bytes of a certificate have. The edges of the flow graph, and what they ask of ranks, are not among them. "
-     "That the program writes `accepted` only for such an answer is said by what \"Reports and statuses\" lists below.", [
-        ("The promise", "", [("sedck_cert", "judge", ("promise",)), ("sedck_cert", "verify", ("promise",))]),
-    ]),
-    ("Which certificates are accepted", "What the other clauses of `judge` and `verify`, and those of `check`, say: which answer comes exactly where. A mistake here could make the program reject too much "
-     "or give a wrong reason. It couldn't make a yes wrong.", [
-        ("Accepted, rejected or refused", "Each answer comes exactly where its condition holds.", [("sedck_cert", "judge", ("answer",)), ("sedck_cert", "verify", ("answer",)), ("sedck_cert", "check", ("accepted",))]),
-        ("Why a certificate is rejected", "A rejection names the first reason that holds.", [("sedck_cert", "verify", ("why",)), ("sedck_cert", "check", ("rejected",))]),
-        ("What was judged", "The script, the certificate, the verdict, and the limit on the steps of a run, where there is one.", [("sedck_cert", "judge", ("judged",))]),
-        ("The fault of a text that is refused", "What is reported of it, and where.", [("sedck_cert", "judge", ("reported",)), ("sedck_cert", "verify", ("reported",))]),
-    ]),
-    ("The rest", "What the other contracts say.", [
-        ("The bound", "The limit on the steps of a run, and why it is one.", [("sedck_cert", "bound", None), ("sedck_cert", "steady_runs_are_counted", None)]),
-        ("The search", "`search` finds a certificate, or a loop that rules out every certificate.", [("sedck_search", "search", None), ("sedck_search", "count_bits", None)]),
-        ("Readers and faults", "What each reader reports of a text that it refuses, and how it is printed.", [("sedck_bre", "parse", None), ("sedck_script", "parse", None),
-         ("sedck_cert", "read_cert", None), ("sedck_cert", "read_any", None), ("sedck_bre", "ReFault*", None), ("sedck_script", "ScriptFault*", None), ("sedck_cert", "CertFault*", None)]),
-        ("Where commands stand", "`locate` gives the offsets of each command in the text of a script.", [("sedck_script", "locate", ("count", "locations", "order"))]),
-        ("Reports and statuses", "What the program prints, and its status.", [("sedck_cli", "*", None), ("sedck_cert", "write_cert", None)]),
-        ("What is explained", "What `sedck-explain` answers of a script and with which status, where commands stand, and how lines, names and text in pages are shown.",
-         [("sedck_findings", "*", None), ("sedck_explain_cli", "*", None), ("sedck_escapes", "*", None)]),
-        ("Certificates of version 1", "They are read, accepted where they were, and upgraded.", [("sedck_cert", "read_cert_one", None), ("sedck_cert", "upgrade*", None), ("sedck_cert", "CertOne*", None),
+    [
+        ("The promise", [("sedck_cert", "judge", ("promise",)), ("sedck_cert", "verify", ("promise",))]),
+    ], [
+        ("Accepted, rejected or refused", [("sedck_cert", "judge", ("answer",)), ("sedck_cert", "verify", ("answer",)), ("sedck_cert", "check", ("accepted",))]),
+        ("Why a certificate is rejected", [("sedck_cert", "verify", ("why",)), ("sedck_cert", "check", ("rejected",))]),
+        ("What was judged", [("sedck_cert", "judge", ("judged",))]),
+        ("The fault of a text that is refused", [("sedck_cert", "judge", ("reported",)), ("sedck_cert", "verify", ("reported",))]),
+    ], [
+        ("The bound", [("sedck_cert", "bound", None), ("sedck_cert", "steady_runs_are_counted", None)]),
+        ("The search", [("sedck_search", "search", None), ("sedck_search", "count_bits", None)]),
+        ("Readers and faults", [("sedck_bre", "parse", None), ("sedck_script", "parse", None), ("sedck_cert", "read_cert", None), ("sedck_cert", "read_any", None),
+         ("sedck_bre", "ReFault*", None), ("sedck_script", "ScriptFault*", None), ("sedck_cert", "CertFault*", None)]),
+        ("Where commands are", [("sedck_script", "locate", ("count", "locations", "order"))]),
+        ("Reports and statuses", [("sedck_cli", "*", None), ("sedck_cert", "write_cert", None)]),
+        ("What is explained", [("sedck_findings", "*", None), ("sedck_explain_cli", "*", None), ("sedck_escapes", "*", None)]),
+        ("Certificates of version 1", [("sedck_cert", "read_cert_one", None), ("sedck_cert", "upgrade*", None), ("sedck_cert", "CertOne*", None),
          ("sedck_flow", "edges_were_there", None), ("sedck_flow", "kinds_agree", None), ("sedck_flow", "literal_kinds_stay", None), ("sedck_search", "obstacles_were_there", None)]),
-        ("The parts, and laws", "What the functions below promise those that call them, and what is proved of the definitions themselves.", [(crate, "*", None) for crate in CRATES]),
-        ("The first part of the language", "A grammar by which no code reads, and two laws: each text that it spells, the whole grammar spells as the same program, and it spells one program at most.",
-         [("sedck_script", "first_part*", None)]),
-    ]),
+        ("The parts, and laws", [(crate, "*", None) for crate in CRATES]),
+        ("The first part of the language", [("sedck_script", "first_part*", None)]),
+    ],
 ]
 
 # The words of the toolchain's library that the promise's definitions use, each in plain words.
 LIBRARY = {
     "ℕ": "the numbers 0, 1, 2 and so on, without a limit",
     "zero": "0",
-    "suc": "`suc n` is n + 1",
+    "suc": "`suc n`: n + 1",
     "◌+◌": "the sum",
     "◌-◌": "the difference, and 0 where it would be below 0",
     "◌*◌": "the product",
@@ -419,7 +412,7 @@ LIBRARY = {
     "nat_le": "whether one number is at most another",
     "nat_eq": "whether two numbers are equal",
     "◌==◌": "whether two numbers are equal",
-    "bit_at": "`bit_at n i` is the bit with the value 2 ^ i of n: 0 or 1",
+    "bit_at": "`bit_at n i`: the bit with the value 2 ^ i of n: 0 or 1",
     "Bool": "`true` or `false`",
     "true": "yes",
     "false": "no",
@@ -428,7 +421,7 @@ LIBRARY = {
     "◌||◌": "yes where one is, or both",
     "if◌then◌else◌": "the first of two values where a test says yes, else the second",
     "IsTrue": "it is `true`",
-    "MatchBool": "`MatchBool b P Q` is P where b is `true`, and Q where it is `false`",
+    "MatchBool": "`MatchBool b P Q`: P where b is `true`, and Q where it is `false`",
     "◌≡◌": "two values are the same",
     "◌≢◌": "two values aren't the same",
     "◌⊎◌": "one or the other holds, or both",
@@ -436,8 +429,8 @@ LIBRARY = {
     "Option": "`None`, or `Some` with a value",
     "None": "no value",
     "Some": "a value",
-    "MatchOption": "`MatchOption o P Q` is P where o is `None`, and `Q x` where it is `Some x`",
-    "IfSome": "`IfSome o P` is `P x` where o is `Some x`, and holds where it is `None`",
+    "MatchOption": "`MatchOption o P Q`: P where o is `None`, and `Q x` where it is `Some x`",
+    "IfSome": "`IfSome o P`: `P x` where o is `Some x`, and holds where it is `None`",
     "unwrap_or": "the value, or another one that is given where there is none",
     "option_to_list": "the list of the value alone, or the empty list",
     "Result": "`Ok` with a value, or `Err` with a fault",
@@ -448,8 +441,8 @@ LIBRARY = {
     "◌∷◌": "`x ∷ xs` is the list that begins with x and goes on with xs",
     "◌++◌": "one list and then another, as one list",
     "length": "how many elements a list has",
-    "slice_get": "`slice_get xs i` is the element at i, counted from 0, or `None` where there is none",
-    "slice_index": "`slice_index xs i` is the number at i, counted from 0, and 0 behind the end",
+    "slice_get": "`slice_get xs i`: the element at i, counted from 0, or `None` where there is none",
+    "slice_index": "`slice_index xs i`: the number at i, counted from 0, and 0 after the end",
     "Contains": "the list has this element",
     "All": "it holds of each element",
     "AllPairs": "it holds of each element and each later one",
@@ -462,9 +455,9 @@ LIBRARY = {
     "Less": "the answer of a comparison that the first is before the second",
     "nat_cmp": "the comparison of two numbers",
     "slice_cmp": "the comparison of two lists by their first difference; a list is before those that it begins",
-    "codes": "`codes \"..\"` is the list of the bytes between the quotes (ASCII)",
+    "codes": "`codes \"..\"`: the list of the bytes between the quotes (ASCII)",
     "decimal": "the decimal digits of a number as a text, without leading zeros",
-    "digits_value": "`digits_value 10 text` is the number that the decimal digits of the text write",
+    "digits_value": "`digits_value 10 text`: the number that the decimal digits of the text write",
     "IsAsciiDigit": "the byte is one of `0` to `9`",
 }
 
@@ -502,35 +495,70 @@ def place_in_order(module):
     return ORDER.index(short(module)) if short(module) in ORDER else len(ORDER)
 
 
+class Text:
+    """tools/definitions.txt: the page with a mark for each list, and below a line `%%` the words of each file with their meaning."""
+    def __init__(self, text):
+        self.page, _, rows = text.partition("\n%%\n")
+        self.entries, self.shown = {}, set()
+        for line in rows.splitlines():
+            words, colon, meaning = line.partition(": ")
+            if colon:
+                self.entries[file].append((tuple(words.split(", ")), meaning))
+            else:
+                file = line
+                self.entries.setdefault(file, [])
+
+    def meaning(self, module, blocks, first, head):
+        """What these definitions of a file mean: each entry of which they have the first word, or what the file is for, or their names."""
+        file, names = short(module), [name for block in blocks for name in block.names]
+        found = [entry for entry in self.entries.get(file, []) if entry[0][0] in names]
+        self.shown |= {(file, *entry) for entry in found}
+        if found:
+            return ". ".join(", ".join(f"`{word}`" for word in words) + ": " + meaning for words, meaning in found)
+        return head.rstrip(".") if first else ", ".join(f"`{name}`" for name in names[:3]) + (", .." if len(names) > 3 else "")
+
+    def faults(self, book):
+        """Words that no file has any more, and entries that no list shows."""
+        for file, entries in self.entries.items():
+            names = {name for module, blocks in book.all_blocks.items() if short(module) == file for block in blocks for name in block.names}
+            if not names:
+                yield f"tools/definitions.txt: {file} is no file of definitions"
+            for words, meaning in entries:
+                yield from (f"tools/definitions.txt: {file} doesn't define {word}" for word in words if word not in names)
+                if (file, words, meaning) not in self.shown:
+                    yield f"tools/definitions.txt: {file}: {words[0]} is in no list"
+
+
 class Seen:
-    """What the page has had so far: definitions, and types of the code."""
+    """What the page has had so far: definitions, files of them, and types of the code."""
     def __init__(self):
-        self.blocks, self.types = set(), set()
+        self.blocks, self.modules, self.types = set(), set(), set()
 
 
-def table(book, blocks):
-    """The files of these definitions, in reading order, each with its lines."""
-    rows = ["| file | lines | what it says |", "|---|---|---|"]
+def files(book, text, seen, blocks):
+    """The files of these definitions, in reading order, each with its lines and what they mean."""
+    rows = []
     for module in sorted({b.module for b in blocks}, key=place_in_order):
-        here = [b for b in blocks if b.module == module]
+        here = [b for b in book.all_blocks[module] if b in blocks]
         path = book.paths[module].relative_to(TOP)
-        rows.append(f"| [`{path.relative_to('crates')}`](../{path}) | {size(here)} | {sentence(book.heads[module])} |")
+        meaning = text.meaning(module, here, module not in seen.modules, sentence(book.heads[module]))
+        seen.modules.add(module)
+        rows.append(f"- [`{path.relative_to('crates')}`](../{path}) ({size(here)}): {meaning}")
     return "\n".join(rows)
 
 
-def group_text(book, seen, what, contracts_of):
-    """The text of a group, and the definitions that it adds."""
+def group(book, text, seen, contracts_of):
+    """The list of the definitions that a group adds, with types of the code, and how many lines they have."""
     reached, types = book.reach({r for root in contracts_of for r in roots(book, *root)})
     new = reached - seen.blocks
     seen.blocks |= reached
-    text = what + "\n\n" if what else ""
-    text += table(book, new) if new else "It adds no definition."
+    shown = f"{size(new):,} lines:\n\n" + files(book, text, seen, new) if new else "It adds no definition."
     new_types = sorted((t for t in types - seen.types if t in book.types), key=lambda t: (CRATES.index(t[0].split(".")[1]), t[1]))
     seen.types |= types
     if new_types:
         names = ", ".join(f"`{module.split('.')[1]}::{name}` ({len(book.types[(module, name)][1].splitlines())})" for module, name in new_types)
-        text += f"\n\nTypes of the code that these take, with their lines: {names}."
-    return text, new
+        shown += f"\n\nTypes of the code: {names}."
+    return shown, size(new)
 
 
 def library_words(blocks):
@@ -539,43 +567,32 @@ def library_words(blocks):
 
 
 def library_text():
-    rows = ["| word | what it is |", "|---|---|"]
-    for word, meaning in LIBRARY.items():
-        shown = "`" + word.replace("◌", " _ ").strip().replace("  ", " ") + "`" if "◌" in word else f"`{word}`"
-        rows.append(f"| {shown} | {meaning} |".replace("`_ || _`", "`_ \\|\\| _`"))
-    return "\n".join(rows)
+    def shown(word):
+        return word.replace("◌", " _ ").strip().replace("  ", " ")
+    # A meaning that begins with the word and its arguments shows them in place of the word.
+    return "\n".join(f"- {meaning}" if meaning.startswith(f"`{word} ") else f"- `{shown(word)}`: {meaning}" for word, meaning in LIBRARY.items())
 
 
-def page(book):
-    """The text of docs/BELIEVED.md."""
-    seen, parts, totals = Seen(), [], []
-    for title, what, groups in PARTS:
-        texts, total = [], 0
-        for name, why, contracts_of in groups:
-            text, new = group_text(book, seen, why, contracts_of)
-            total += size(new)
-            texts.append(text if len(groups) == 1 else f"### {name}: {size(new):,} lines\n\n{text}")
-        totals.append(total)
-        parts.append(f"## {title}: {total:,} lines\n\n{what}\n\n" + "\n\n".join(texts))
-        if len(parts) == 1:
-            parts[0] += f"""
-
-### Words of the toolchain's library
-
-These definitions are written with {len(LIBRARY)} words of the library. Beside them they use the language's own: `→` "implies" or "for each", `×` "and", `(x : A) × P` "there is an x with P", `λ` for a function, `¬` "not", `⊥` "never", `Unit` "always", and `record` and `data` for types.
-
-{library_text()}"""
-    return f"""# What must be believed
-
-What the contracts say is proved; what their words mean is for a reader to judge. This page lists the definitions that the contracts of exported functions reach, in the order in which an expert of sed may read them. It tells three things apart: what one must believe to trust a yes, {totals[0]:,} lines; what says exactly which certificates are accepted, {totals[1]:,} more; and the rest, {totals[2]:,} more. Lines are those of the definitions with their comments, blank lines and imports left out. In a file that serves several promises the lines are those that the promise adds.
-
-`python3 tools/believed.py` writes this page from the contracts and definitions, and `make docs` compares it; it stops at a line of a definition that it can't place, and `tests/believed.py` counts the lines in another way. It also checks that no contract of an exported function reaches a definition in a folder `specs/Private`, and that each definition outside of these folders is reached: what stands in `specs/Private` is what functions inside a crate promise each other and what proofs use, and needn't be believed. How a value of a type with private fields represents its value (its `view` and `invariant`) is checked in the same way, and isn't listed. `docs/DEFINITIONS.md` explains the definitions.
-
-""" + "\n\n".join(parts) + "\n"
+def page(book, text):
+    """The text of docs/DEFINITIONS.md."""
+    seen, marks = Seen(), {"library": str(len(LIBRARY)), "words": library_text()}
+    for number, groups in enumerate(PARTS, 1):
+        total = 0
+        for name, contracts_of in groups:
+            marks[f"list {name}"], lines = group(book, text, seen, contracts_of)
+            total += lines
+            if len(groups) == 1:
+                marks[f"list {name}"] = marks[f"list {name}"].partition("\n\n")[2]
+        marks[f"lines {number}"] = f"{total:,}"
+    unused = set(marks) - set(re.findall(r"\{([^{}\n`]+)\}", text.page))
+    if unused:
+        raise Unplaced(f"tools/definitions.txt has no {{{sorted(unused)[0]}}}")
+    # The braces of a sed script stay: a mark is one of those above.
+    return re.sub(r"\{([^{}\n`]+)\}", lambda mark: marks.get(mark[1], mark[0]), text.page).rstrip("\n") + "\n"
 
 
 def faults(book):
-    """What stands on the wrong shelf."""
+    """What is in the wrong folder, and what the library's table lacks."""
     wrong = []
     reached, types = book.reach({r for c in book.contracts for refs in c.clauses.values() for r in refs})
     for contract in book.contracts:
@@ -583,32 +600,32 @@ def faults(book):
             for block in book.reach(refs)[0]:
                 if is_private(block.module):
                     wrong.append(f"{contract.crate}::{contract.name}, {label}: reaches {block.names[0]} of {short(block.module)}")
-    used = library_words(book.reach({r for root in PARTS[0][2][0][2] for r in roots(book, *root)})[0])
-    wrong += [f"tools/believed.py says nothing of the library's word {word}, which the promise uses" for word in sorted(used - set(LIBRARY))]
-    wrong += [f"tools/believed.py explains the library's word {word}, which the promise doesn't use" for word in sorted(set(LIBRARY) - used)]
+    used = library_words(book.reach({r for root in PARTS[0][0][1] for r in roots(book, *root)})[0])
+    wrong += [f"tools/definitions.py says nothing of the library's word {word}, which the promise uses" for word in sorted(used - set(LIBRARY))]
+    wrong += [f"tools/definitions.py explains the library's word {word}, which the promise doesn't use" for word in sorted(set(LIBRARY) - used)]
     for module, blocks in book.all_blocks.items():
         for block in blocks:
             if not is_private(module) and block not in reached:
                 wrong.append(f"{short(module)}: no exported contract reaches {block.names[0] if block.names else block.rest[0]}")
         if not is_private(module) and short(module) not in ORDER:
-            wrong.append(f"{short(module)}: not in the reading order of tools/believed.py")
+            wrong.append(f"{short(module)}: not in the reading order of tools/definitions.py")
         if not is_private(module) and not book.heads[module]:
             wrong.append(f"{short(module)}: has no head")
     return wrong
 
 
 def main(words):
+    kept = TOP / "docs" / "DEFINITIONS.md"
     try:
-        book = Book()
+        book, text = Book(), Text((TOP / "tools" / "definitions.txt").read_text())
+        due = page(book, text)
     except Unplaced as line:
         sys.exit(f"{line}")
+    wrong = faults(book) + list(text.faults(book))
     if "--check" not in words:
-        sys.stdout.write(page(book))
-        return
-    wrong = faults(book)
-    kept = TOP / "docs" / "BELIEVED.md"
-    if not kept.exists() or kept.read_text() != page(book):
-        wrong.append("docs/BELIEVED.md isn't what `python3 tools/believed.py` prints")
+        kept.write_text(due)
+    elif not kept.exists() or kept.read_text() != due:
+        wrong.append("docs/DEFINITIONS.md isn't what `python3 tools/definitions.py` writes")
     for line in wrong:
         print(line)
     sys.exit(1 if wrong else 0)

@@ -1,8 +1,8 @@
 #!/usr/bin/env python3
-"""Tests tools/believed.py: that it keeps every line of every definition.
+"""Tests tools/definitions.py: that it keeps every line of every definition, and every word of its text.
 
-    python3 tests/believed.py              tests tools/believed.py
-    python3 tests/believed.py SCRIPT       tests another version of it
+    python3 tests/definitions.py              tests tools/definitions.py
+    python3 tests/definitions.py SCRIPT       tests another version of it
 
 Small files that are made here are read, and must give the names, the lines and the words that are
 written beside them. And the lines of each file of specs/ are counted here in another way, without
@@ -112,30 +112,30 @@ def script(path):
     return module
 
 
-def read(believed, text):
+def read(tool, text):
     """The blocks that the script finds in a file with this text."""
     with tempfile.TemporaryDirectory() as room:
         path = Path(room) / "Made.antt"
         path.write_text(text, encoding="utf-8")
-        return believed.definitions(path, "Rattle.made.specs.Made")[0]
+        return tool.definitions(path, "Rattle.made.specs.Made")[0]
 
 
-def faults_of_read(believed, title, text, wanted):
-    found = read(believed, text)
+def faults_of_read(tool, title, text, wanted):
+    found = read(tool, text)
     if [block.names for block in found] != [names for names, _, _ in wanted]:
         yield f"{title}: it has the definitions {[block.names for block in found]}, and not {[names for names, _, _ in wanted]}"
         return
     for block, (names, lines, words) in zip(found, wanted):
-        if believed.size([block]) != lines:
-            yield f"{title}: {names[0]} has {believed.size([block])} lines, and not {lines}"
-        cited = set(believed.tokens("\n".join(block.rest)))
+        if tool.size([block]) != lines:
+            yield f"{title}: {names[0]} has {tool.size([block])} lines, and not {lines}"
+        cited = set(tool.tokens("\n".join(block.rest)))
         if not words <= cited:
             yield f"{title}: {names[0]} cites {', '.join(sorted(words - cited))}, which is lost"
 
 
-def faults_of_refused(believed, title, text, line):
+def faults_of_refused(tool, title, text, line):
     try:
-        read(believed, text)
+        read(tool, text)
     except Exception as refusal:
         if f":{line}:" not in str(refusal):
             yield f"{title}: it is refused, but not at line {line}: {refusal}"
@@ -151,25 +151,48 @@ def lines_of(path):
     return len(re.findall(r"^(?!-- ----|pub mod ).*\S", text, flags=re.M))
 
 
-def faults_of_specs(believed):
-    book = believed.Book()
+def faults_of_specs(tool):
+    book = tool.Book()
     for path in sorted(TOP.glob("crates/*/specs/**/*.antt")):
         if path.name in ("Lib.antt",) or path.name == "Private.antt" and path.parent.name == "specs":
             continue
         modules = [module for module, there in book.paths.items() if there == path]
-        kept = sum(believed.size(book.all_blocks[module]) for module in modules)
+        kept = sum(tool.size(book.all_blocks[module]) for module in modules)
         if kept != lines_of(path):
             yield f"{path.relative_to(TOP)}: {lines_of(path)} lines are of definitions, and {kept} are kept"
 
 
+def faults_of_text(tool):
+    """The text must show each entry once, and be refused where a word or a list is missing."""
+    book = tool.Book()
+    kept = (TOP / "tools" / "definitions.txt").read_text(encoding="utf-8")
+    text = tool.Text(kept)
+    page = tool.page(book, text)
+    for entries in text.entries.values():
+        for words, meaning in entries:
+            if page.count(f"{', '.join(f'`{word}`' for word in words)}: {meaning}") < 1:
+                yield f"the page doesn't say what {words[0]} is"
+    for wrong in ("cert.Headline\nNoWord, RunsEnd: what", "cert.Headline\nRunsEnd, NoWord: what", "cert.NoFile\nRunsEnd: what", "cert.Headline\nRunsEnd what"):
+        made = tool.Text(kept + wrong + "\n")
+        tool.page(book, made)
+        if not list(made.faults(book)):
+            yield f"{wrong!r} names what isn't there, and isn't missed"
+    try:
+        tool.page(book, tool.Text(kept.replace("{list The search}\n", "")))
+        yield "a list that the text leaves out isn't missed"
+    except tool.Unplaced:
+        pass
+
+
 def main(words):
-    believed = script(Path(words[0]) if words else TOP / "tools" / "believed.py")
+    tool = script(Path(words[0]) if words else TOP / "tools" / "definitions.py")
     wrong = []
     for title, (text, wanted) in READ.items():
-        wrong += faults_of_read(believed, title, text, wanted)
+        wrong += faults_of_read(tool, title, text, wanted)
     for title, (text, line) in REFUSED.items():
-        wrong += faults_of_refused(believed, title, text, line)
-    wrong += faults_of_specs(believed)
+        wrong += faults_of_refused(tool, title, text, line)
+    wrong += faults_of_specs(tool)
+    wrong += faults_of_text(tool)
     for line in wrong:
         print(line)
     sys.exit(1 if wrong else 0)

@@ -1,0 +1,141 @@
+"""Where findings end, in which order they are, and comments in a script that ignore warnings and notes."""
+import json
+
+# A script, and what each of its findings is about: the code, and the bytes from the position to the end.
+RANGES = [
+    (b"k\n", [("unknown-command", b"k")]),
+    (b"1~2p\n", [("unknown-command", b"~")]),
+    (b"1", [("unknown-command", b"")]),
+    (b"1\np\n", [("unknown-command", b"")]),
+    (b"4294967296p\n", [("bad-address", b"4294967296")]),
+    (b"1,+2p\n", [("bad-address", b"+")]),
+    (b"1,2q\n", [("too-many-addresses", b"q")]),
+    (b"p\n s/a/b  \np\n", [("unterminated", b"s/a/b")]),
+    (b"s/a/\\1/\n", [("bad-replacement", b"\\1")]),
+    (b"s/a/\\q/\n", [("bad-replacement", b"\\q")]),
+    (b"s/a/b/I\n", [("bad-flag", b"I")]),
+    (b"y/a\\t/bc/\n", [("bad-transliteration", b"\\t")]),
+    (b"y/a/bc/\n", [("bad-transliteration", b"y")]),
+    (b"1a\n", [("missing-text", b"a")]),
+    (b"s/a/b/w\n", [("missing-name", b"w")]),
+    (b":a;:a\n", [("duplicate-label", b"a")]),
+    (b":two\nb\n:two\n", [("duplicate-label", b"two")]),
+    (b"b end;p\n", [("unknown-label", b"end")]),
+    (b"{b end}\n", [("unknown-label", b"end")]),
+    (b"p\n}\n", [("unopened-block", b"}")]),
+    (b"1{\np\n", [("unclosed-block", b"{")]),
+    (b"{" * 65 + b"}" * 65, [("too-deep", b"{")]),
+    (b"p p\n", [("extra-text", b"p")]),
+    (b"s//x/\n", [("no-previous-expression", b"/")]),
+    (b"s.a\\.b.c.\n", [("escaped-delimiter", b"\\.")]),
+    (b"s/a\\+b/x/\n", [("bad-escape", b"\\+")]),
+    (b"/\\sx/p\n", [("bad-escape", b"\\s")]),
+    (b"s/[/]/x/\n", [("unclosed-bracket", b"[")]),
+    (b"s/a[b[:alpha]c/x/\n", [("unclosed-bracket", b"[b[:alpha]c")]),
+    (b"s/[z-a]/x/\n", [("bad-bracket", b"z-a")]),
+    (b"s/[a[:letter:]]/x/\n", [("bad-bracket", b"[:letter:]")]),
+    (b"s/a[^[:cntrl:]\x01-\xff]b/x/\n", [("empty-set", b"[^[:cntrl:]\x01-\xff]")]),
+    (b"s/\\(a/x/\n", [("unclosed-group", b"\\(")]),
+    (b"s/a\\)/x/\n", [("unopened-group", b"\\)")]),
+    (b"s/a\\{256\\}b/x/\n", [("bad-interval", b"\\{256\\}")]),
+    (b"s/a\\{2/x/\n", [("bad-interval", b"\\{")]),
+    (b"s/\\{2\\}/x/\n", [("nothing-to-repeat", b"\\{2\\}")]),
+    (b"s/a*\\{2\\}b/x/\n", [("double-repeat", b"\\{2\\}")]),
+    (b"s/a**/x/\n", [("double-repeat", b"*")]),
+    (b"s/\\1/x/\n", [("bad-reference", b"\\1")]),
+    # the whole command, but no blanks behind it and no second line
+    (b":a\n  1!b a ;p\n", [("loop-idle", b":a")]),
+    (b"p\n:a;s/x/xx/g ;ta\n", [("loop-growing", b"s/x/xx/g")]),
+    (b"G\nx\n", [("no-bound", b"G")]),
+    (b"p;w /x\ny/a/b/\n", [("absolute-name", b"w /x")]),
+    (b"s/a/b\\\nc/w ../x y\n", [("upward-name", b"s/a/b\\"), ("no-bound", b"s/a/b\\")]),
+    (b"s/[0-9]+/x/\n", [("looks-extended", b"+")]),
+    (b"#!/bin/sed -Ef\np\n", [("options-in-first-line", b"#!/bin/sed -Ef")]),
+    (b":a\n$!{N;ba}\n", [("brace-behind-label", b"}")]),
+    (b"# sedck: ignore no-such, bad-flag\np\n", [("unknown-code", b"no-such"), ("unknown-code", b"bad-flag")]),
+]
+
+# A script with findings of several levels, in the order of the report.
+ORDERED = [
+    (b"G\nw /x\n", ["absolute-name", "no-bound"]),
+    (b"s/[0-9]+/xx/\nr /a\nw ../b\n", ["looks-extended", "absolute-name", "upward-name"]),
+    (b":a\nw /x\nba\n", ["loop-idle", "absolute-name"]),
+    (b"# sedck: ignore x\n:a\nba\n", ["loop-idle", "unknown-code"]),
+]
+
+# A script; the codes that are reported, and those where warnings are denied as well, without the errors of the denial.
+IGNORED = [
+    (b"# sedck: ignore absolute-name\nw /x\n", [], ["absolute-name"]),
+    (b"w /x\n \t#sedck:ignore\tabsolute-name\n", [], ["absolute-name"]),
+    (b"w /x\nG\n# sedck: ignore no-bound,absolute-name", [], ["absolute-name", "no-bound"]),
+    (b"# sedck: ignore no-bound , upward-name\nw /../x\nG\n", ["absolute-name"], ["absolute-name", "upward-name", "no-bound"]),
+    (b"# sedck: ignore absolute-name absolute-name\nr /y\nw /x\n", [], ["absolute-name", "absolute-name"]),
+    (b"{\n# sedck: ignore absolute-name\nw /x\n}\n", [], ["absolute-name"]),
+    (b"1{;p;}\n# sedck: ignore absolute-name\nw /x\n", [], ["absolute-name"]),
+    # what is no such comment
+    (b"#sedck: absolute-name\nw /x\n", ["absolute-name"], ["absolute-name"]),
+    (b"# sedck: ignored absolute-name\nw /x\n", ["absolute-name"], ["absolute-name"]),
+    (b"# sedck: ignore\nw /x\n", ["absolute-name"], ["absolute-name"]),
+    (b"p # sedck: ignore absolute-name\nw /x\n", ["absolute-name"], ["absolute-name"]),
+    (b"p;# sedck: ignore absolute-name\nw /x\n", ["absolute-name"], ["absolute-name"]),
+    (b"a\\\n# sedck: ignore absolute-name\nw /x\n", ["absolute-name"], ["absolute-name"]),
+    (b"s/a/\\\n# sedck: ignore absolute-name/\nw /x\n", ["absolute-name", "no-bound"], ["absolute-name", "no-bound"]),
+    (b"w /x # sedck: ignore absolute-name\n", ["absolute-name", "command-in-name"], ["absolute-name", "command-in-name"]),
+    # codes that can't be ignored
+    (b"# sedck: ignore loop-idle\n:a\nba\n", ["loop-idle", "unknown-code"], ["loop-idle", "unknown-code"]),
+    (b"# sedck: ignore Absolute-Name\nw /x\n", ["absolute-name", "unknown-code"], ["absolute-name", "unknown-code"]),
+    (b"# sedck: ignore typo unknown-code\np\n", [], ["unknown-code"]),
+]
+
+
+def report(tools, words):
+    """The object of a report on one script."""
+    return json.loads(tools.explain("--format", "json", *words)[1])
+
+
+def check_ranges(tools):
+    """The bytes that each finding is about."""
+    for script, due in RANGES:
+        tools.write("f.sed", script)
+        found = []
+        for finding in report(tools, ["f.sed"])["findings"]:
+            start, end = finding["position"], finding["end"]
+            found.append((finding["code"], script[start["offset"]:end["offset"]]))
+            tools.same("line and column of an end in %r" % script, (end["line"], end["column"] - start["column"]),
+                       (start["line"], end["offset"] - start["offset"]))
+        tools.same("ranges in %r" % script, found, due)
+
+
+def check_order(tools):
+    """Errors, then warnings, then notes."""
+    for script, due in ORDERED:
+        tools.write("f.sed", script)
+        tools.same("order in %r" % script, [finding["code"] for finding in report(tools, ["f.sed"])["findings"]], due)
+
+
+def check_ignored(tools):
+    """What a comment ignores changes no status, and nothing where warnings are denied."""
+    for script, due, denied in IGNORED:
+        tools.write("f.sed", script)
+        plain = report(tools, ["f.sed"])
+        tools.same("ignored in %r" % script, [finding["code"] for finding in plain["findings"]], due)
+        tools.same("status of %r" % script, plain["status"], 1 if "loop-idle" in due else 0)
+        strict = report(tools, ["--deny", "warnings", "f.sed"])
+        tools.same("denied in %r" % script, [finding["code"] for finding in strict["findings"] if finding["code"] != "denied-warnings"], denied)
+        tools.same("status of %r with a denial" % script, strict["status"], 1)
+
+
+def check_numbers(tools):
+    """One byte is a byte."""
+    for script, due in ((b"s/x*/y/\n", "it has 1 byte, and a match may have only 0"), (b"s/x*/yy/\n", "it has 2 bytes, and a match may have only 0")):
+        tools.write("f.sed", script)
+        (finding,) = report(tools, ["f.sed"])["findings"]
+        tools.same("bytes of %r" % script, finding["steps"][0]["message"].split(": ")[-1], due)
+
+
+def check(tools):
+    """Compares ranges, orders, and what is left of findings."""
+    check_numbers(tools)
+    check_ranges(tools)
+    check_order(tools)
+    check_ignored(tools)

@@ -1,0 +1,100 @@
+"""Logs in SARIF 2.1.0: the fields that its schema wants, and the same findings as in JSON."""
+import concurrent.futures
+import json
+import os
+import urllib.parse
+
+from explain_json import drawn_scripts, example_scripts, reports
+from explain_pages import SCRIPTS
+from explain_texts import WITH_CERTIFICATE
+from explain_tools import VERSION
+
+SCHEMA = "https://json.schemastore.org/sarif-2.1.0.json"
+REGION = ["startLine", "startColumn", "endLine", "endColumn", "byteOffset", "byteLength"]
+
+
+def region_due(script, start, end):
+    """The region between the positions; without an end it is the byte at the start, if there is one in its line."""
+    length = end["offset"] - start["offset"] if end else int(script[start["offset"]:start["offset"] + 1] not in (b"", b"\n"))
+    last = end or {"line": start["line"], "column": start["column"] + length}
+    return dict(zip(REGION, (start["line"], start["column"], last["line"], last["column"], start["offset"], length)))
+
+
+def location_due(script, uri, start, end):
+    """A physical location; without a position it is the script as a whole."""
+    region = {"region": region_due(script, start, end)} if start else {}
+    return {"artifactLocation": {"uri": uri}, **region}
+
+
+def result_due(script, uri, rules, finding):
+    """The result for a finding in JSON."""
+    message = finding["message"] + ("; hint: " + finding["hint"] if finding["hint"] else "")
+    due = {"ruleId": finding["code"], "ruleIndex": rules.index(finding["code"]), "level": finding["level"], "message": {"text": message},
+           "locations": [{"physicalLocation": location_due(script, uri, finding["position"], finding["end"])}]}
+    if finding["steps"]:
+        steps = [{"location": {"physicalLocation": location_due(script, uri, step["position"], None), "message": {"text": step["message"]}}}
+                 for step in finding["steps"]]
+        due["codeFlows"] = [{"threadFlows": [{"locations": steps}]}]
+    if finding["fix"]:
+        fix = finding["fix"]
+        change = {"deletedRegion": region_due(script, fix["start"], fix["end"]), "insertedContent": {"text": fix["text"]}}
+        due["fixes"] = [{"artifactChanges": [{"artifactLocation": {"uri": uri}, "replacements": [change]}]}]
+    return due
+
+
+def hold_log(tools, what, script, log, report, uri):
+    """A log against the report in JSON."""
+    rules = list(dict.fromkeys(finding["code"] for finding in report["findings"]))
+    pages = {finding["code"]: finding["page"] for finding in report["findings"]}
+    tools.same("version %s" % what, (log["$schema"], log["version"], len(log["runs"])), (SCHEMA, "2.1.0", 1))
+    run, = log["runs"]
+    driver = run["tool"]["driver"]
+    tools.same("driver %s" % what, (driver["name"], driver["version"]), ("sedck-explain", VERSION))
+    tools.same("rules %s" % what, driver["rules"], [{"id": code, "help": {"text": "See docs/" + pages[code]}} for code in rules])
+    tools.same("results %s" % what, run["results"], [result_due(script, uri, rules, finding) for finding in report["findings"]])
+
+
+def log_of(tools, what, words, status):
+    """The log, which is one line in ASCII."""
+    seen, text, errors = tools.explain("--format", "sarif", *words)
+    tools.same("sarif %s" % what, (seen, errors), (status, b""))
+    tools.holds("ASCII alone %s" % what, all(32 <= byte < 127 for byte in text[:-1]) and text[-1:] == b"\n")
+    return json.loads(text)
+
+
+def hold_script(tools, name, script, report):
+    hold_log(tools, name, script, log_of(tools, name, [name], report["status"]), report, name)
+
+
+def check_certificates(tools):
+    """Findings without a position, and the edges that are rejected."""
+    for script, text, *_ in WITH_CERTIFICATE:
+        tools.write("s.sed", script)
+        tools.write("s.cert", text.encode())
+        words = ["--cert", "s.cert", "s.sed"]
+        report, = reports(tools, words)
+        hold_log(tools, "%r" % text, script, log_of(tools, "%r" % text, words, report["status"]), report, "s.sed")
+
+
+def check_addresses(tools):
+    """Paths are escaped as addresses want it; one that begins with a slash has the scheme `file`."""
+    for name in ("a b.sed", "\u00e9%41.sed", "x:1#?&+,;=@[]^`{|}'\".sed", "a\x1b\n\x7f.sed", "-_.~Az09.sed"):
+        tools.write(name, b"b z\n")
+        report, = reports(tools, ["--", name])
+        uri = urllib.parse.quote(name, safe="-._~/")
+        hold_log(tools, repr(name), b"b z\n", log_of(tools, repr(name), ["--", name], 2), report, uri)
+    path = tools.path("a b.sed")
+    report, = reports(tools, [path])
+    hold_log(tools, path, b"b z\n", log_of(tools, path, [path], 2), report, "file://" + urllib.parse.quote(path))
+
+
+def check(tools, count):
+    """Compares the logs of chosen scripts, of the examples and of drawn ones."""
+    scripts = SCRIPTS + list(example_scripts()) + drawn_scripts(count)
+    names = [tools.write("sarif-%d.sed" % at, script) for at, script in enumerate(scripts)]
+    found = reports(tools, names)
+    with concurrent.futures.ThreadPoolExecutor(os.cpu_count()) as pool:
+        for job in [pool.submit(hold_script, tools, *case) for case in zip(names, scripts, found)]:
+            job.result()
+    check_certificates(tools)
+    check_addresses(tools)
