@@ -1,4 +1,4 @@
-//! The program `sedck`: its words, its standard streams and its exit status. All else stands in `sedck_cli`.
+//! The program `sedck`: its words, its standard streams and its exit status. All else is in `sedck_cli`.
 #![tactic(auto)]
 
 use sedck_cli::{FromWrite, Refusal, RunFault, flushed, program};
