@@ -1,19 +1,24 @@
 //! The program `sedck-explain` for its arguments.
 
-ghost use Rattle.std.specs.Prelude.{◌≡◌, ◌≢◌, ◌⊎◌, ◌<◌, ◌≤◌, ◌++◌, false, codes, IfOk, OnOk};
+ghost use Rattle.std.specs.Prelude.{◌≡◌, ◌≢◌, ◌⊎◌, ◌<◌, ◌≤◌, ◌++◌, false, codes, map, IfOk, OnOk};
 ghost use Rattle.std.specs.Io.KnownBytes.{Keeps, Appends};
 ghost use Rattle.sedck_cert.specs.Streams.{ReportsFailure};
+ghost use Rattle.sedck_called.specs.Called.{IsAcceptedCall};
 ghost use Rattle.sedck_explain_cli.specs.Explained.{error_line};
 ghost use Rattle.sedck_explain_cli.specs.Statuses.{certificate_of, scripts_of, HasStatus, StatusAt, IsGreatest};
 
+use crate::calls::explain_words;
 use crate::explaining::{explain_alone, explain_with};
 use crate::format::{Format, Style};
 use crate::request::{Request, request_of};
-use crate::unread::unread_of;
+use crate::unread::{unread_of, unread_part};
+use crate::words::Words;
 use clap::Error;
 use clap::error::ErrorKind;
+use sedck_called::Unexplained;
 use sedck_cert::streams::{Failed, FromRead, Sink, Source, write_all};
 use sedck_cli::{FromFiles, Input as InputOf, Opener, RunFault};
+use sedck_findings::Denied;
 use sedck_render::json_unreadable;
 use std::alloc::{AllocError, Global};
 use std::fs::Files;
@@ -29,7 +34,7 @@ const NAME: &[u8] = b"sedck-explain: ";
 /// A script that can't be read is reported, and the next one follows. After a failed write, or where memory runs out, none does.
 pub fn program<R: Files + Input + AllocGlobal, W: Sink, E: Sink>(
     rt: &R,
-    words: &[String],
+    words: &Words,
     colour: bool,
     out: &mut W,
     err: &mut E,
@@ -39,10 +44,13 @@ pub fn program<R: Files + Input + AllocGlobal, W: Sink, E: Sink>(
     ensures refused { result ≡ 3 → Keeps (W.taken out.old) (W.taken out.new) }
     ensures silent { result < 3 → Keeps (E.taken err.old) (E.taken err.new) }
 {
-    let request = match request_of(rt.alloc(), words) {
+    let request = match request_of(rt.alloc(), &words.own) {
         Ok(request) => request,
         Err(error) => return refuse_words(rt.alloc(), error, out, err),
     };
+    if request.sed {
+        return explain_given(rt, &request, words, colour, out, err);
+    }
     if request.scripts.len() > 1 {
         if request.certificate.is_some() {
             return end(err, b"--cert is for one script\n", 3);
@@ -60,6 +68,132 @@ pub fn program<R: Files + Input + AllocGlobal, W: Sink, E: Sink>(
         out,
         err,
     )
+}
+
+/// Explains the call of sed that is given, if one is.
+fn explain_given<R: Files + Input + AllocGlobal, W: Sink, E: Sink>(
+    rt: &R,
+    request: &Request,
+    words: &Words,
+    colour: bool,
+    out: &mut W,
+    err: &mut E,
+) -> u8
+    ensures within { result ≤ 4 }
+    ensures refused { result ≡ 3 → Keeps (W.taken out.old) (W.taken out.new) }
+    ensures silent { result < 3 → Keeps (E.taken err.old) (E.taken err.new) }
+{
+    if request.certificate.is_some() {
+        return end(err, b"--cert is for a script\n", 3);
+    }
+    if !request.scripts.is_empty() {
+        return end(err, b"--sed is for no script\n", 3);
+    }
+    let Some(call) = &words.call else {
+        return end(err, b"--sed is followed by -- and the words of a call\n", 3);
+    };
+    explain_call(
+        rt.alloc(),
+        &FromFiles::new(rt),
+        rt,
+        &request.style(colour),
+        request.denied,
+        call,
+        out,
+        err,
+    )
+}
+
+/// Explains the call of sed with these words after its name, and answers the exit status: 4 where a file of its script can't be read,
+/// a write fails, or memory runs out.
+pub fn explain_call<O: Opener, R: Input, W: Sink, E: Sink>(
+    alloc: Global,
+    files: &O,
+    input: &R,
+    style: &Style,
+    denied: Denied,
+    call: &[Vec<u8>],
+    out: &mut W,
+    err: &mut E,
+) -> u8
+    ensures within { result ≤ 4 }
+    ensures known { result ≢ 3 }
+    ensures yes { result ≡ 0 → IsAcceptedCall (O.known files.now) denied (map (λ word. word.items) call.now) }
+    ensures silent { result < 3 → Keeps (E.taken err.old) (E.taken err.new) }
+{
+    let Ok(words) = slices_of(alloc, call) else {
+        return out_of_memory(err);
+    };
+    match explain_words(alloc, files, input, style, denied, &words, out) {
+        Ok(status) => status,
+        Err(fault) => {
+            report_unexplained(alloc, files, style, &words, fault, out, err);
+            4
+        }
+    }
+}
+
+/// The words as slices.
+fn slices_of<'a>(alloc: Global, words: &'a [Vec<u8>]) -> Result<Vec<&'a [u8]>, AllocError>
+    ensures { IfOk result (λ slices. map (λ word. word.now) slices.items ≡ map (λ word. word.items) words.now) }
+{
+    let mut slices = Vec::new(alloc);
+    for word in words {
+        slices.push(word.as_slice())?;
+    }
+    Ok(slices)
+}
+
+/// Reports why a call isn't explained.
+fn report_unexplained<O: Opener, W: Sink, E: Sink>(
+    alloc: Global,
+    files: &O,
+    style: &Style,
+    words: &[&[u8]],
+    fault: Unexplained,
+    out: &mut W,
+    err: &mut E,
+) {
+    let _ = write_unexplained(files, err, words, fault);
+    let Unexplained::Unread(origin) = fault else {
+        return;
+    };
+    if style.format != Format::Json {
+        return;
+    }
+    if let Err(fault) = write_unread_part(alloc, files, origin.text(words), out) {
+        let _ = write_unexplained(files, err, words, fault);
+    }
+}
+
+/// Writes the object of a call of which a file can't be read, so that programs find one for each call.
+fn write_unread_part<O: Opener, W: Sink>(
+    alloc: Global,
+    files: &O,
+    path: &[u8],
+    out: &mut W,
+) -> Result<(), Unexplained> {
+    let message = unread_part(files, path).words(alloc)?;
+    let report = json_unreadable(alloc, "sed", message.as_str())?;
+    match write_all(out, &report) {
+        Ok(()) => Ok(()),
+        Err(_) => Err(Unexplained::Write),
+    }
+}
+
+/// Writes why a call isn't explained.
+fn write_unexplained<O: Opener, E: Sink>(
+    files: &O,
+    err: &mut E,
+    words: &[&[u8]],
+    fault: Unexplained,
+) -> Result<(), Failed> {
+    write_all(err, NAME)?;
+    match fault {
+        Unexplained::Unread(origin) => unread_part(files, origin.text(words)).write(err),
+        Unexplained::Write => write_all(err, b"cannot write\n"),
+        Unexplained::OutOfMemory => write_all(err, b"out of memory\n"),
+    }
 }
 
 /// Explains each script of the request, in the order in which they are given, and answers the exit status: the greatest of theirs,
@@ -137,11 +271,7 @@ fn explain_source<O: Opener, S: Source + Drop, W: Sink>(
     ensures few { IfOk result (λ status. status ≤ 2) }
     ensures status { IfOk result (HasStatus (O.known files.now) request.now.denied (certificate_of request.now) (S.left script)) }
 {
-    let style = Style {
-        format: request.format,
-        colour,
-        least: request.least,
-    };
+    let style = request.style(colour);
     let Some(certificate) = request.certificate else {
         return explain_alone(alloc, &style, name, request.denied, &mut script, out);
     };

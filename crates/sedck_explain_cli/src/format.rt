@@ -6,7 +6,7 @@ use crate::reporter::Reporter;
 use sedck_findings::{Explanation, Level};
 use sedck_pages::{dot_nodes_report, dot_report, html_report};
 use sedck_render::{gcc_report, json_report, sarif_report, text_report};
-use sedck_words::shown_path;
+use sedck_words::{Names, PartName, shown_path};
 use std::alloc::{AllocError, Global};
 
 /// How a report is printed.
@@ -84,12 +84,44 @@ impl Reporter for Style {
         explanation: &Explanation,
     ) -> Result<Vec<u8>, AllocError> {
         let shown = shown_path(alloc, name)?;
-        let shown = shown.as_str();
+        let exact = Names::of_file(name);
+        self.rendered(alloc, exact, Names::of_file(shown.as_str()), explanation)
+    }
+}
+
+impl Style {
+    /// The path as this format has it: JSON and SARIF have the exact one.
+    pub(crate) fn shown(&self, alloc: Global, path: &str) -> Result<String, AllocError> {
+        match self.format {
+            Format::Json | Format::Sarif => String::from_str(alloc, path),
+            _ => shown_path(alloc, path),
+        }
+    }
+
+    /// The report on a call of sed, whose script has these parts.
+    pub(crate) fn call_report(
+        &self,
+        alloc: Global,
+        parts: &[PartName],
+        explanation: &Explanation,
+    ) -> Result<Vec<u8>, AllocError> {
+        let names = Names::of_call("sed", parts);
+        self.rendered(alloc, names, names, explanation)
+    }
+
+    /// The report in the format, with the exact names and those that can be shown.
+    fn rendered(
+        &self,
+        alloc: Global,
+        exact: Names,
+        shown: Names,
+        explanation: &Explanation,
+    ) -> Result<Vec<u8>, AllocError> {
         match self.format {
             Format::Text => text_report(alloc, shown, explanation, self.least, self.colour),
             Format::Gcc => gcc_report(alloc, shown, explanation, self.least),
-            Format::Json => json_report(alloc, name, explanation, self.least),
-            Format::Sarif => sarif_report(alloc, name, explanation, self.least),
+            Format::Json => json_report(alloc, exact, explanation, self.least),
+            Format::Sarif => sarif_report(alloc, exact, explanation, self.least),
             Format::Html => html_report(alloc, shown, explanation, self.least),
             Format::Dot => dot_report(alloc, shown, explanation),
             Format::DotNodes => dot_nodes_report(alloc, shown, explanation),

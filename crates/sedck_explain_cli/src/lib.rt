@@ -5,18 +5,21 @@
 //! for the arguments of a command line.
 #![tactic(auto)]
 
+mod calls;
 mod command_line;
 mod explaining;
 mod format;
+mod part_names;
 mod reporter;
 mod request;
 mod unread;
 mod words;
 
-pub use command_line::{explain_all, flushed, out_of_memory, program};
+pub use calls::explain_words;
+pub use command_line::{explain_all, explain_call, flushed, out_of_memory, program};
 pub use explaining::{explain_alone, explain_with};
 pub use format::{Format, Style};
 pub use reporter::Reporter;
 pub use request::Request;
 pub use sedck_findings::{Denied, Level};
-pub use words::arguments;
+pub use words::{Words, arguments};

@@ -1,6 +1,6 @@
 //! What the arguments ask for.
 
-use crate::format::{Format, NAMES};
+use crate::format::{Format, NAMES, Style};
 use clap::{Arg, ArgAction, ArgMatches, Command, Error};
 use sedck_findings::{Denied, Level};
 use sedck_words::VERSION;
@@ -18,8 +18,21 @@ pub struct Request<'a> {
     pub certificate: Option<&'a str>,
     /// The name of standard input in reports.
     pub stdin_name: &'a str,
-    /// The scripts' paths, at least one; `-` is standard input.
+    /// Whether the words of a call of sed follow.
+    pub sed: bool,
+    /// The scripts' paths, at least one; `-` is standard input. Where the words of a call follow, those that were given.
     pub scripts: Vec<&'a str>,
+}
+
+impl Request<'_> {
+    /// How reports look.
+    pub fn style(&self, colour: bool) -> Style {
+        Style {
+            format: self.format,
+            colour,
+            least: self.least,
+        }
+    }
 }
 
 /// What the arguments ask for, or why nothing, in words of `clap`.
@@ -32,6 +45,7 @@ pub(crate) fn request_of<'a>(alloc: Global, words: &'a [String]) -> Result<Reque
         denied: denied_of(&matches),
         certificate: matches.get_str("cert"),
         stdin_name: matches.get_str("stdin-filename").unwrap_or("-"),
+        sed: matches.get_flag("sed"),
         scripts: scripts_of(alloc, &matches)?,
     })
 }
@@ -62,7 +76,7 @@ fn scripts_of<'a>(alloc: Global, matches: &ArgMatches<'a>) -> Result<Vec<&'a str
             scripts.push(*path)?;
         }
     }
-    if scripts.is_empty() {
+    if scripts.is_empty() && !matches.get_flag("sed") {
         scripts.push("-")?;
     }
     Ok(scripts)
@@ -105,6 +119,7 @@ fn command<'a>(alloc: Global) -> Result<Command<'a>, AllocError> {
         .arg(certificate(alloc))?
         .arg(deny(alloc))?
         .arg(stdin_name(alloc))?
+        .arg(sed(alloc))?
         .arg(scripts(alloc))
 }
 
@@ -161,6 +176,13 @@ fn stdin_name<'a>(alloc: Global) -> Arg<'a> {
         .long("stdin-filename")
         .value_name("NAME")
         .help("The name of standard input in reports [default: -]")
+}
+
+fn sed<'a>(alloc: Global) -> Arg<'a> {
+    Arg::new(alloc, "sed")
+        .long("sed")
+        .action(ArgAction::SetTrue)
+        .help("Explain a call of sed: the words after `--` are those after its name")
 }
 
 fn scripts<'a>(alloc: Global) -> Arg<'a> {

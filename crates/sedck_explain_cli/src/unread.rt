@@ -31,6 +31,21 @@ pub(crate) fn unread_of<'a, O: Opener>(
     }
 }
 
+/// Why a file of a call's script can't be read.
+pub(crate) fn unread_part<'a, O: Opener>(files: &O, path: &'a [u8]) -> Unread<'a> {
+    match str::from_utf8(path) {
+        Ok("-") => Unread {
+            name: "-",
+            reason: None,
+        },
+        Ok(path) => unread_file(files, path),
+        Err(_) => Unread {
+            name: "?",
+            reason: Some("its name is not UTF-8"),
+        },
+    }
+}
+
 /// Why the file at the path can't be read. An argument has NUL where it isn't UTF-8.
 fn unread_file<'a, O: Opener>(files: &O, path: &'a str) -> Unread<'a> {
     let reason = if path.contains('\0') {

@@ -5,15 +5,45 @@ use std::alloc::{AllocError, AllocGlobal, Global};
 use std::env::FillError;
 use std::rt::Env;
 
-/// The words after the program's name. A byte that isn't a part of UTF-8 becomes NUL, which no word of a command line has: so a
-/// path with such a byte is refused by itself, and the other scripts are explained.
-pub fn arguments<R: Env + AllocGlobal>(rt: &R) -> Result<Vec<String>, AllocError> {
-    let mut words = Vec::new(rt.alloc());
+/// The words after the program's name.
+#[derive(Drop)]
+pub struct Words {
+    /// Those of the program itself. A byte that isn't a part of UTF-8 becomes NUL, which no word of a command line has: so a path with
+    /// such a byte is refused by itself, and the other scripts are explained.
+    pub own: Vec<String>,
+    /// Those of a call of sed: they follow the first `--` after `--sed`.
+    pub call: Option<Vec<Vec<u8>>>,
+}
+
+/// The words after the program's name.
+pub fn arguments<R: Env + AllocGlobal>(rt: &R) -> Result<Words, AllocError> {
+    let mut own = Vec::new(rt.alloc());
+    let mut is_call = false;
     for index in 1..usize::MAX {
         let Some(bytes) = argument(rt, index)? else {
             break;
         };
-        words.push(decoded(rt.alloc(), &bytes)?)?;
+        if is_call && bytes.as_slice() == b"--".as_slice() {
+            let call = Some(arguments_after(rt, index)?);
+            return Ok(Words { own, call });
+        }
+        is_call = is_call || bytes.as_slice() == b"--sed".as_slice();
+        own.push(decoded(rt.alloc(), &bytes)?)?;
+    }
+    Ok(Words { own, call: None })
+}
+
+/// The words after that of this number, as they are.
+fn arguments_after<R: Env + AllocGlobal>(
+    rt: &R,
+    number: usize,
+) -> Result<Vec<Vec<u8>>, AllocError> {
+    let mut words = Vec::new(rt.alloc());
+    for index in number.saturating_add(1)..usize::MAX {
+        let Some(bytes) = argument(rt, index)? else {
+            break;
+        };
+        words.push(bytes)?;
     }
     Ok(words)
 }

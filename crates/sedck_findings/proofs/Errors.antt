@@ -6,7 +6,7 @@ use Rattle.sedck_findings.specs.Errors.{is_error, has_error, BeginsWithError, Be
 use Rattle.sedck_findings.specs.Private.Errors.{AddsNoError, IsRefused, AreFindingsOf, IsFindingOf}
 use Rattle.sedck_findings.specs.Private.Explaining.{AreDeniedFindings}
 use Rattle.sedck_findings.specs.declared.answer.Answer.{Answer}
-use Rattle.sedck_findings.specs.declared.answer.Answer.TheVariants.{ScriptRefused, CertificateRefused, Accepted, Rejected, Endless}
+use Rattle.sedck_findings.specs.declared.answer.Answer.TheVariants.{ScriptRefused, CertificateRefused, Accepted, Rejected, Endless, NotJudged}
 use Rattle.sedck_findings.specs.declared.denied.Denied.{Denied}
 use Rattle.sedck_findings.specs.declared.finding.Finding.{Finding}
 use Rattle.sedck_findings.specs.declared.places.Position.{Position}
@@ -24,11 +24,22 @@ or-false : (a b : Bool) → b ≡ false → (a || (b || false)) ≡ a
 or-false true b is = refl
 or-false false b is = rw is refl
 
+or_none : (a : Bool) → (a || false) ≡ a
+or_none true = refl
+or_none false = refl
+
 -- a finding that is no error
 pub no_error_push : (old new : List Finding) (f : Finding) → new ≡ old ++ (f ∷ []) → is_error f.level ≡ false → AddsNoError old new
 no_error_push old new f is none = record {
   errors = ap has_error is ∙ list_any-append (λ finding. is_error finding.level) old (f ∷ []) ∙ or-false (has_error old) (is_error f.level) none;
   first = λ position begins. subst (BeginsWithError position) (sym is) (begins-append position old (f ∷ []) begins);
+}
+
+-- several findings, none of which is an error
+pub no_error_append : (old new more : List Finding) → new ≡ old ++ more → has_error more ≡ false → AddsNoError old new
+no_error_append old new more is none = record {
+  errors = ap has_error is ∙ list_any-append (λ finding. is_error finding.level) old more ∙ ap (λ b. has_error old || b) none ∙ or_none (has_error old);
+  first = λ position begins. subst (BeginsWithError position) (sym is) (begins-append position old more begins);
 }
 
 pub no_error_trans : (a b c : List Finding) → AddsNoError a b → AddsNoError b c → AddsNoError a c
@@ -52,6 +63,7 @@ findings_stay text positions (ScriptRefused why) old new adds found = (found.0, 
 findings_stay text positions (CertificateRefused why) old new adds found = (found.0, found.1, adds.first found.0 found.2)
 findings_stay text positions (Rejected cert why) old new adds found = (found.0, found.1, adds.first found.0 found.2)
 findings_stay text positions (Endless walk) old new adds found = (found.0, found.1, adds.first found.0 found.2)
+findings_stay text positions NotJudged old new adds found = (found.0, found.1, adds.first found.0 found.2)
 
 -- one finding
 pub finding_alone : (text : List ℕ) (positions : List Position) (answer : Answer) (f : Finding) → IsFindingOf text positions answer (Some f)
@@ -61,6 +73,7 @@ finding_alone text positions (ScriptRefused why) f is = (f.position, is.1, (is.0
 finding_alone text positions (CertificateRefused why) f is = (f.position, is.1, (is.0, refl))
 finding_alone text positions (Rejected cert why) f is = (f.position, is.1, (is.0, refl))
 finding_alone text positions (Endless walk) f is = (f.position, is.1, (is.0, refl))
+finding_alone text positions NotJudged f is = (f.position, is.1, (is.0, refl))
 
 -- no finding
 pub finding_none : (text : List ℕ) (positions : List Position) (answer : Answer) → IsFindingOf text positions answer None
@@ -70,6 +83,7 @@ finding_none text positions (ScriptRefused why) is = absurd is
 finding_none text positions (CertificateRefused why) is = absurd is
 finding_none text positions (Rejected cert why) is = absurd is
 finding_none text positions (Endless walk) is = absurd is
+finding_none text positions NotJudged is = absurd is
 
 -- ---- The errors of an explanation
 
@@ -95,6 +109,8 @@ errors_of text positions denied (CertificateRefused why) before all status found
 errors_of text positions denied (Rejected cert why) before all status found denials is =
     rw denials ((rw is (begins_is_error found.0 before found.2)), found)
 errors_of text positions denied (Endless walk) before all status found denials is =
+    rw denials ((rw is (begins_is_error found.0 before found.2)), found)
+errors_of text positions denied NotJudged before all status found denials is =
     rw denials ((rw is (begins_is_error found.0 before found.2)), found)
 
 -- the same of a script that is refused, where nothing is denied

@@ -18,7 +18,7 @@ use Rattle.sedck_findings.specs.Explanations.{Keeps, KeepsNothing, IsExplanation
 use Rattle.sedck_findings.specs.Private.Errors.{IsOfScript, IsRefused, CanBeReported}
 use Rattle.sedck_findings.specs.Private.Explaining.{Explains, KeepsLocated, HasLists}
 use Rattle.sedck_findings.specs.declared.answer.Answer.{Answer}
-use Rattle.sedck_findings.specs.declared.answer.Answer.TheVariants.{ScriptRefused, CertificateRefused, Accepted, Rejected, Endless}
+use Rattle.sedck_findings.specs.declared.answer.Answer.TheVariants.{ScriptRefused, CertificateRefused, Accepted, Rejected, Endless, NotJudged}
 use Rattle.sedck_findings.specs.declared.denied.Denied.{Denied}
 use Rattle.sedck_findings.specs.declared.finding.Explanation.{Explanation}
 use Rattle.sedck_findings.specs.declared.finding.NamedFile.{NamedFile}
@@ -46,6 +46,7 @@ of_script text None p (Accepted cert bound) spelled is = accepted_names p is.0 c
 of_script text given p (CertificateRefused why) spelled is = tt
 of_script text given p (Rejected cert why) spelled is = tt
 of_script text given p (Endless walk) spelled is = tt
+of_script text given p NotJudged spelled is = absurd is
 
 -- the fault of such an answer can be reported
 pub can_be_reported : (text : List ℕ) (p : Program) (answer : Answer) → IsOfScript text p answer → CanBeReported text answer
@@ -54,6 +55,7 @@ can_be_reported text p (CertificateRefused why) is = tt
 can_be_reported text p (Accepted cert bound) is = tt
 can_be_reported text p (Rejected cert why) is = tt
 can_be_reported text p (Endless walk) is = tt
+can_be_reported text p NotJudged is = absurd is
 
 -- lists with the same names both have something, or neither has
 there_by_names : (files : List NamedFile) (names : List (List ℕ)) → names_of files ≡ names → is_there names ≡ is_there files
@@ -68,12 +70,14 @@ lists_of_script text p (ScriptRefused why) read written is are_read are_written 
 lists_of_script text p (CertificateRefused why) read written is are_read are_written = tt
 lists_of_script text p (Rejected cert why) read written is are_read are_written = tt
 lists_of_script text p (Endless walk) read written is are_read are_written = tt
+lists_of_script text p NotJudged read written is are_read are_written = tt
 
 -- a script that is read is kept
 pub keeps_script : (text : List ℕ) (given : Option (List ℕ)) (p : Program) (locations : List Location) (answer : Answer) (e : Explanation)
     → SpellsOnly text p → ((items : List Item) (spelled : Items text items) → locations ≡ locations_of (length text) spelled)
     → IsAnswer text given answer → KeepsLocated text p locations e → Keeps text answer e
 keeps_script text given p locations (ScriptRefused why) e spelled located is kept = absurd (is.1 p spelled.spells)
+keeps_script text given p locations NotJudged e spelled located is kept = absurd is
 keeps_script text given p locations _ e spelled located is kept = record {
   script = p;
   is_kept = kept.is_kept;

@@ -7,7 +7,7 @@ use Rattle.sedck_findings.specs.Errors.{is_error, has_error, BeginsWithError, Be
 use Rattle.sedck_findings.specs.Reported.{AreOf, AreInOrder}
 use Rattle.sedck_findings.specs.Private.Reporting.{head_of, errors_in, KeepsErrors, AreReported}
 use Rattle.sedck_findings.specs.declared.answer.Answer.{Answer}
-use Rattle.sedck_findings.specs.declared.answer.Answer.TheVariants.{ScriptRefused, CertificateRefused, Accepted, Rejected, Endless}
+use Rattle.sedck_findings.specs.declared.answer.Answer.TheVariants.{ScriptRefused, CertificateRefused, Accepted, Rejected, Endless, NotJudged}
 use Rattle.sedck_findings.specs.declared.code.Code.{Code}
 use Rattle.sedck_findings.specs.declared.denied.Denied.{Denied}
 use Rattle.sedck_findings.specs.declared.finding.Finding.{Finding}
@@ -59,6 +59,7 @@ answer_kept text positions (ScriptRefused why) found all keeps order begins = (b
 answer_kept text positions (CertificateRefused why) found all keeps order begins = (begins.0, begins.1, first_kept begins.0 found all keeps order begins.2)
 answer_kept text positions (Rejected cert why) found all keeps order begins = (begins.0, begins.1, first_kept begins.0 found all keeps order begins.2)
 answer_kept text positions (Endless walk) found all keeps order begins = (begins.0, begins.1, first_kept begins.0 found all keeps order begins.2)
+answer_kept text positions NotJudged found all keeps order begins = (begins.0, begins.1, first_kept begins.0 found all keeps order begins.2)
 
 warned_same : (counts was now : Bool) → (counts ≡ true → now ≡ was) → (counts && was) ≡ (counts && now)
 warned_same true was now same = sym (same refl)
@@ -72,6 +73,7 @@ status_kept denied (ScriptRefused why) was now same = refl
 status_kept denied (CertificateRefused why) was now same = refl
 status_kept denied (Rejected cert why) was now same = refl
 status_kept denied (Endless walk) was now same = refl
+status_kept denied NotJudged was now same = refl
 
 -- what holds of the errors that were found holds of those that are reported
 pub errors_reported : (text : List ℕ) (positions : List Position) (answer : Answer) (ignored : List Code) (found all : List Finding) (status : ℕ)

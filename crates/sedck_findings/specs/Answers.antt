@@ -11,7 +11,7 @@ use Rattle.sedck_cert.specs.Rejections.{IsRejection}
 use Rattle.sedck_cert.specs.Headline.{SpellsOnly, SpellBoth, IsLimit, IsScriptFaultOf}
 use Rattle.sedck_search.specs.Found.{IsLoop}
 use Rattle.sedck_findings.specs.declared.answer.Answer.{Answer}
-use Rattle.sedck_findings.specs.declared.answer.Answer.TheVariants.{ScriptRefused, CertificateRefused, Accepted, Rejected, Endless}
+use Rattle.sedck_findings.specs.declared.answer.Answer.TheVariants.{ScriptRefused, CertificateRefused, Accepted, Rejected, Endless, NotJudged}
 
 -- the text spells one script alone, for which this holds
 abbrev pub SpellsOneWith : List ℕ → (Program → Type 0) → Type 0
@@ -29,11 +29,14 @@ IsAnswer text (Some bytes) (Rejected cert why) = SpellBoth text bytes (λ p c. (
 IsAnswer text None (Rejected cert why) = ⊥
 IsAnswer text (Some bytes) (Endless walk) = ⊥
 IsAnswer text None (Endless walk) = SpellsOneWith text (λ p. IsLoop p walk)
+IsAnswer text given NotJudged = ⊥
 
--- the exit status: 0 for accepted, 1 for a rejection or a loop, 2 for a text that is refused
+-- the exit status: 0 for accepted, 1 for a rejection or a loop, 2 for a text that is refused and for
+-- one that is not judged
 abbrev pub status_of : Answer → ℕ
 status_of (Accepted cert bound) = 0
 status_of (Rejected cert why) = 1
 status_of (Endless walk) = 1
 status_of (ScriptRefused why) = 2
 status_of (CertificateRefused why) = 2
+status_of NotJudged = 2

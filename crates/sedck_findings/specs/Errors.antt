@@ -14,7 +14,7 @@ use Rattle.sedck_cert.specs.declared.checking.Rejection.{Rejection}
 use Rattle.sedck_cert.specs.declared.checking.Rejection.TheVariants.{LeavesRanked, NotLowered}
 use Rattle.sedck_findings.specs.Positions.{position_in}
 use Rattle.sedck_findings.specs.declared.answer.Answer.{Answer}
-use Rattle.sedck_findings.specs.declared.answer.Answer.TheVariants.{ScriptRefused, CertificateRefused, Accepted, Rejected, Endless}
+use Rattle.sedck_findings.specs.declared.answer.Answer.TheVariants.{ScriptRefused, CertificateRefused, Accepted, Rejected, Endless, NotJudged}
 use Rattle.sedck_findings.specs.declared.finding.Explanation.{Explanation}
 use Rattle.sedck_findings.specs.declared.finding.Finding.{Finding}
 use Rattle.sedck_findings.specs.declared.finding.Level.{Level}
@@ -76,6 +76,7 @@ IsErrorPosition text positions (ScriptRefused why) position =
 IsErrorPosition text positions (CertificateRefused why) position = position ≡ None
 IsErrorPosition text positions (Rejected cert why) position = position ≡ rejection_position positions why
 IsErrorPosition text positions (Endless walk) position = position ≡ first_position positions walk.nodes.items
+IsErrorPosition text positions NotJudged position = position ≡ None
 IsErrorPosition text positions (Accepted cert bound) position = ⊥
 
 -- the first finding is the error of an answer that isn't a yes

@@ -12,7 +12,7 @@ use Rattle.sedck_findings.specs.Denial.{has_warning, status_under}
 use Rattle.sedck_findings.specs.Errors.{HasErrors}
 use Rattle.sedck_findings.specs.Reported.{AreInOrder, HasRange}
 use Rattle.sedck_findings.specs.declared.answer.Answer.{Answer}
-use Rattle.sedck_findings.specs.declared.answer.Answer.TheVariants.{ScriptRefused}
+use Rattle.sedck_findings.specs.declared.answer.Answer.TheVariants.{ScriptRefused, NotJudged}
 use Rattle.sedck_findings.specs.declared.denied.Denied.{Denied}
 use Rattle.sedck_findings.specs.declared.finding.Explanation.{Explanation}
 use Rattle.sedck_findings.specs.declared.finding.NamedFile.{NamedFile}
@@ -43,9 +43,10 @@ pub record KeepsNothing (e : Explanation) : Type 0 where
   pub writes : e.writes.items ≡ []
   pub positions : e.positions.items ≡ []
 
--- the script is kept but where it is refused
+-- the script is kept but where it is refused or not judged
 abbrev pub Keeps : List ℕ → Answer → Explanation → Type 0
 Keeps text (ScriptRefused why) e = KeepsNothing e
+Keeps text NotJudged e = KeepsNothing e
 Keeps text _ e = KeepsScript text e
 
 -- the explanation of a script's text, and of a certificate's where there is one, to a caller who denies this

@@ -38,17 +38,19 @@ pub enum Answer {
     },
     /// A loop rules all certificates out.
     Endless(Walk),
+    /// The words of a call of sed are refused, or one of its options changes what the script means.
+    NotJudged,
 }
 
 impl Answer {
-    /// The exit status: 0 for accepted, 1 for rejected or a loop, 2 for a refused text.
+    /// The exit status: 0 for accepted, 1 for rejected or a loop, 2 for a refused text and for one that is not judged.
     pub fn status(&self) -> u8
         ensures { result ≡ status_of self.now }
     {
         match self {
             Answer::Accepted { .. } => 0,
             Answer::Rejected { .. } | Answer::Endless(_) => 1,
-            Answer::ScriptRefused(_) | Answer::CertificateRefused(_) => 2,
+            Answer::ScriptRefused(_) | Answer::CertificateRefused(_) | Answer::NotJudged => 2,
         }
     }
 

@@ -92,6 +92,14 @@ pub enum Code {
     // Warnings of comments.
     UnknownCode,
 
+    // A call of sed.
+    /// Options by which sed reads another language, or other lines, than what is judged.
+    OtherLanguage,
+    /// Words that no sed takes.
+    BadCall,
+    /// The operands are overwritten.
+    InPlace,
+
     // Notes.
     NoBound,
 }
@@ -167,12 +175,15 @@ impl Code {
             Code::CommandInName => "command-in-name",
             Code::ReadAndWritten => "read-and-written",
             Code::UnknownCode => "unknown-code",
+            Code::OtherLanguage => "other-language",
+            Code::BadCall => "bad-call",
+            Code::InPlace => "in-place",
             Code::NoBound => "no-bound",
         }
     }
 
     /// The codes of warnings and notes, which a comment in the script may silence.
-    pub const IGNORABLE: [Code; 13] = [
+    pub const IGNORABLE: [Code; 14] = [
         Code::OptionsInFirstLine,
         Code::BraceBehindLabel,
         Code::LooksExtended,
@@ -185,6 +196,7 @@ impl Code {
         Code::CommandInName,
         Code::ReadAndWritten,
         Code::UnknownCode,
+        Code::InPlace,
         Code::NoBound,
     ];
 

@@ -1,8 +1,9 @@
 //! All that is reported of a script.
 
-ghost use Rattle.std.specs.Prelude.{◌≡◌, ◌≤◌, [], IfOk, map};
+ghost use Rattle.std.specs.Prelude.{◌≡◌, ◌≤◌, false, None, [], IfOk, map};
 ghost use Rattle.std.specs.Option.{option_map};
 ghost use Rattle.sedck_findings.specs.Explanations.{IsExplanation, KeepsNothing};
+ghost use Rattle.sedck_findings.specs.Errors.{has_error};
 ghost use Rattle.sedck_findings.specs.Positions.{position_in};
 ghost use Rattle.sedck_findings.specs.Private.Errors.{IsOfScript, IsRefused, CanBeReported, AreFindingsOf, IsFindingOf};
 ghost use Rattle.sedck_findings.specs.Private.Explaining.{Explains, KeepsLocated, HasLists, AreDeniedFindings};
@@ -32,10 +33,40 @@ pub fn explain<'a>(
     ensures explanation { IfOk result (IsExplanation text.now (option_map (λ bytes. bytes.now) certificate.entry) denied) }
     ensures few { IfOk result (λ e. e.status ≤ 2) }
 {
+    explained_with(alloc, text, certificate, Vec::new(alloc), denied)
+}
+
+/// Explains the script of a call of sed, as `explain` does without a certificate. What is warned of the call is reported with the
+/// script's own warnings, and is denied with them.
+pub fn explain_call<'a>(
+    alloc: Global,
+    text: &'a [u8],
+    warnings: Vec<Finding>,
+    denied: Denied,
+) -> Result<Explanation<'a>, AllocError>
+    requires { has_error warnings.items ≡ false }
+    ensures explanation { IfOk result (IsExplanation text.now None denied) }
+    ensures few { IfOk result (λ e. e.status ≤ 2) }
+{
+    explained_with(alloc, text, None, warnings, denied)
+}
+
+/// Explains a script, with these warnings beside its own.
+fn explained_with<'a>(
+    alloc: Global,
+    text: &'a [u8],
+    certificate: Option<&[u8]>,
+    warnings: Vec<Finding>,
+    denied: Denied,
+) -> Result<Explanation<'a>, AllocError>
+    requires { has_error warnings.items ≡ false }
+    ensures explanation { IfOk result (IsExplanation text.now (option_map (λ bytes. bytes.now) certificate.entry) denied) }
+    ensures few { IfOk result (λ e. e.status ≤ 2) }
+{
     let Answered { answer, located } = answer_of(alloc, text, certificate)?;
     match located {
-        Some(located) => explained(alloc, text, answer, located, denied),
-        None => refused(alloc, text, answer, denied),
+        Some(located) => explained(alloc, text, answer, located, warnings, denied),
+        None => refused(alloc, text, answer, warnings, denied),
     }
 }
 
@@ -45,9 +76,11 @@ fn explained<'a>(
     text: &'a [u8],
     answer: Answer,
     located: Located<'a>,
+    mut warnings: Vec<Finding>,
     denied: Denied,
 ) -> Result<Explanation<'a>, AllocError>
-    requires { IsOfScript text.now located.script answer }
+    requires script { IsOfScript text.now located.script answer }
+    requires warned { has_error warnings.items ≡ false }
     ensures explains { IfOk result (Explains text.now denied answer) }
     ensures keeps { IfOk result (KeepsLocated text.now located.entry.script located.entry.locations.items) }
     ensures few { IfOk result (λ e. e.status ≤ 2) }
@@ -58,6 +91,7 @@ fn explained<'a>(
     let writes = named_files(alloc, script.writes(), script, &positions, Access::Write)?;
     let words = ignoring_words(alloc, text, &located.locations)?;
     let mut found = answer_findings(alloc, text, script, &positions, &answer)?;
+    found.append(&mut warnings)?;
     look_warnings(alloc, &mut found, text, &located.locations)?;
     name_warnings(alloc, &mut found, &reads, &writes)?;
     unknown_warnings(alloc, &mut found, text, &words)?;
@@ -82,14 +116,17 @@ fn refused<'a>(
     alloc: Global,
     text: &'a [u8],
     answer: Answer,
+    mut warnings: Vec<Finding>,
     denied: Denied,
 ) -> Result<Explanation<'a>, AllocError>
-    requires { IsRefused text.now answer }
+    requires refusal { IsRefused text.now answer }
+    requires warned { has_error warnings.items ≡ false }
     ensures explains { IfOk result (Explains text.now denied answer) }
     ensures keeps { IfOk result KeepsNothing }
     ensures few { IfOk result (λ e. e.status ≤ 2) }
 {
-    let found = refusal_findings(alloc, text, &answer)?;
+    let mut found = refusal_findings(alloc, text, &answer)?;
+    found.append(&mut warnings)?;
     let status = answer.status_under(denied, any_warning(&found));
     let findings = reported(alloc, text, &[], found, &[])?;
     Ok(Explanation {
@@ -190,6 +227,6 @@ fn answer_finding(
         }
         Answer::Endless(walk) => Ok(Some(loop_finding(alloc, script, positions, walk)?)),
         Answer::Accepted { cert, bound: None } => unbounded(alloc, script, positions, cert),
-        Answer::Accepted { .. } => Ok(None),
+        Answer::Accepted { .. } | Answer::NotJudged => Ok(None),
     }
 }

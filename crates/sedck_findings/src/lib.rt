@@ -6,6 +6,7 @@
 #![tactic(auto)]
 
 mod answer;
+mod calls;
 mod certificates;
 mod code;
 mod denied;
@@ -23,9 +24,10 @@ mod shown;
 mod steps;
 
 pub use answer::Answer;
+pub use calls::{call_finding, not_judged};
 pub use code::Code;
 pub use denied::Denied;
-pub use explaining::explain;
+pub use explaining::{explain, explain_call};
 pub use finding::{Explanation, Finding, Fix, Level, NamedFile, Step};
 pub use places::{Position, line_at, position_at};
 pub use shown::{is_printable, shown_line, shown_name};

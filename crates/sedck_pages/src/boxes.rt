@@ -3,7 +3,7 @@
 use crate::markup::{push_element, push_place, push_prose};
 use sedck_escapes::{push_html, push_text};
 use sedck_findings::{Finding, Position, Step};
-use sedck_words::{Source, command_line, decimal, level_word, push_all};
+use sedck_words::{Names, Source, command_line, decimal, level_word, push_all};
 use std::alloc::{AllocError, Global};
 
 /// The most characters of a line that are shown beside a step.
@@ -13,6 +13,7 @@ const STEP_WIDTH: usize = 60;
 pub(crate) fn push_box(
     alloc: Global,
     out: &mut Vec<u8>,
+    names: Names,
     source: Source,
     finding: &Finding,
     index: usize,
@@ -20,7 +21,7 @@ pub(crate) fn push_box(
     push_level(alloc, out, level_word(finding.level), index)?;
     push_column(alloc, out, finding.position)?;
     push_message(out, finding)?;
-    push_steps(alloc, out, source, &finding.steps)?;
+    push_steps(alloc, out, names, source, &finding.steps)?;
     push_hint(out, finding.hint)?;
     push_text(out, "</div>")
 }
@@ -82,6 +83,7 @@ fn push_hint(out: &mut Vec<u8>, hint: Option<&'static str>) -> Result<(), AllocE
 fn push_steps(
     alloc: Global,
     out: &mut Vec<u8>,
+    names: Names,
     source: Source,
     steps: &[Step],
 ) -> Result<(), AllocError> {
@@ -90,7 +92,7 @@ fn push_steps(
     }
     push_text(out, "<ol>")?;
     for step in steps {
-        push_step(alloc, out, source, step)?;
+        push_step(alloc, out, names, source, step)?;
     }
     push_text(out, "</ol>")
 }
@@ -99,11 +101,12 @@ fn push_steps(
 fn push_step(
     alloc: Global,
     out: &mut Vec<u8>,
+    names: Names,
     source: Source,
     step: &Step,
 ) -> Result<(), AllocError> {
     push_text(out, "<li>")?;
-    push_place(alloc, out, step.position)?;
+    push_place(alloc, out, names, step.position)?;
     push_text(out, " ")?;
     push_command(alloc, out, source, step)?;
     push_prose(out, step.message.as_str())?;

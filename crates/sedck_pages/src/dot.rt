@@ -2,27 +2,28 @@
 
 use crate::arrows::{Arrow, arrows_of};
 use crate::flow::{Reached, loop_edges, reached_part};
-use crate::graph_parts::{push_head, push_refusal, push_source, style};
+use crate::graph_parts::{push_head, push_opening, push_refusal, push_source, style};
 use sedck_findings::{Answer, Explanation};
 use sedck_flow::Node;
 use sedck_script::Script;
-use sedck_words::{Source, kind_word, place_words, push_all, source_of};
+use sedck_words::{Names, Source, kind_word, push_all, source_of};
 use std::alloc::{AllocError, Global};
 
 /// The commands that a run may reach, and the steps between them. A box has the place of a command and its line. Kinds of steps
 /// differ in their label, style and colour; the label has `[t]` where the step is taken with the flag that `t` tests alone, and
-/// `[$]` where it is taken on the last line alone. A loop is drawn bold. Of a refused script the graph has one box, which says why.
+/// `[$]` where it is taken on the last line alone. A loop is drawn bold. Of a script that is refused or not judged the graph has one box,
+/// which says why.
 pub fn dot_report(
     alloc: Global,
-    name: &str,
+    names: Names,
     explanation: &Explanation,
 ) -> Result<Vec<u8>, AllocError> {
     let mut out = Vec::new(alloc);
-    push_head(&mut out, name, explanation)?;
+    push_head(&mut out, names.whole(), explanation)?;
     match &explanation.script {
         Some(script) => {
             let source = source_of(explanation);
-            push_graph(alloc, &mut out, script, source, &explanation.answer)?;
+            push_graph(alloc, &mut out, names, script, source, &explanation.answer)?;
         }
         None => push_refusal(&mut out, &explanation.findings)?,
     }
@@ -34,6 +35,7 @@ pub fn dot_report(
 fn push_graph(
     alloc: Global,
     out: &mut Vec<u8>,
+    names: Names,
     script: &Script,
     source: Source,
     answer: &Answer,
@@ -41,7 +43,7 @@ fn push_graph(
     let bold = loop_edges(alloc, answer)?;
     let Reached { nodes, edges } = reached_part(alloc, script)?;
     push_all(out, &["  start [shape=point];\n  start -> n0;\n"])?;
-    push_boxes(alloc, out, source, &nodes)?;
+    push_boxes(alloc, out, names, source, &nodes)?;
     for arrow in &arrows_of(alloc, &edges, &bold)? {
         push_arrow(alloc, out, *arrow)?;
     }
@@ -52,13 +54,14 @@ fn push_graph(
 fn push_boxes(
     alloc: Global,
     out: &mut Vec<u8>,
+    names: Names,
     source: Source,
     nodes: &[Node],
 ) -> Result<(), AllocError> {
     let mut before = None;
     for node in nodes {
         if before != Some(node.at) {
-            push_box(alloc, out, source, node.at)?;
+            push_box(alloc, out, names, source, node.at)?;
         }
         before = Some(node.at);
     }
@@ -69,14 +72,12 @@ fn push_boxes(
 fn push_box(
     alloc: Global,
     out: &mut Vec<u8>,
+    names: Names,
     source: Source,
     command: u16,
 ) -> Result<(), AllocError> {
     let position = source.positions.get(usize::from(command)).copied();
-    let place = place_words(alloc, position)?;
-    let place = place.as_str();
-    let opening = format!(in alloc; "  n{command} [label=\"{place}")?;
-    push_all(out, &[opening.as_str()])?;
+    push_opening(alloc, out, names, usize::from(command), position)?;
     match position {
         Some(position) => push_source(alloc, out, source, command, position),
         None => push_all(out, &["\", shape=oval];\n"]),

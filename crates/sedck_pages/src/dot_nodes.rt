@@ -1,27 +1,28 @@
 //! The flow graph for Graphviz, node by node.
 
 use crate::flow::{Reached, is_of_loop, loop_edges, reached_part};
-use crate::graph_parts::{push_head, push_refusal, push_source, style};
+use crate::graph_parts::{push_head, push_opening, push_refusal, push_source, style};
 use sedck_findings::{Answer, Explanation};
 use sedck_flow::{Edge, Node};
 use sedck_script::Script;
-use sedck_words::{Source, decimal, kind_word, place_words, push_all, source_of};
+use sedck_words::{Names, Source, kind_word, push_all, source_of};
 use std::alloc::{AllocError, Global};
 
 /// The nodes of the flow graph that a run may reach, and its edges. A box has the place of a command and its line, `[t]` where the
 /// flag that `t` tests is set, and `[$]` where no line is left to read. Kinds of edges differ in their label, style and colour,
-/// and a loop is drawn bold. Of a refused script the graph has one box, which says why.
+/// and a loop is drawn bold. Of a script that is refused or not judged the graph has one box,
+/// which says why.
 pub fn dot_nodes_report(
     alloc: Global,
-    name: &str,
+    names: Names,
     explanation: &Explanation,
 ) -> Result<Vec<u8>, AllocError> {
     let mut out = Vec::new(alloc);
-    push_head(&mut out, name, explanation)?;
+    push_head(&mut out, names.whole(), explanation)?;
     match &explanation.script {
         Some(script) => {
             let source = source_of(explanation);
-            push_graph(alloc, &mut out, script, source, &explanation.answer)?;
+            push_graph(alloc, &mut out, names, script, source, &explanation.answer)?;
         }
         None => push_refusal(&mut out, &explanation.findings)?,
     }
@@ -33,6 +34,7 @@ pub fn dot_nodes_report(
 fn push_graph(
     alloc: Global,
     out: &mut Vec<u8>,
+    names: Names,
     script: &Script,
     source: Source,
     answer: &Answer,
@@ -44,7 +46,7 @@ fn push_graph(
         &["  start [shape=point];\n  start -> n0;\n  start -> n1;\n"],
     )?;
     for node in &nodes {
-        push_node(alloc, out, source, *node)?;
+        push_node(alloc, out, names, source, *node)?;
     }
     for edge in &edges {
         push_edge(alloc, out, *edge, is_of_loop(&bold, *edge))?;
@@ -56,13 +58,12 @@ fn push_graph(
 fn push_node(
     alloc: Global,
     out: &mut Vec<u8>,
+    names: Names,
     source: Source,
     node: Node,
 ) -> Result<(), AllocError> {
-    let index = decimal(alloc, node.index())?;
     let position = source.positions.get(usize::from(node.at)).copied();
-    let place = place_words(alloc, position)?;
-    push_all(out, &["  n", index.as_str(), " [label=\"", place.as_str()])?;
+    push_opening(alloc, out, names, node.index(), position)?;
     push_all(out, &[flags_of(node)])?;
     match position {
         Some(position) => push_source(alloc, out, source, node.at, position),

@@ -2,7 +2,7 @@
 
 use sedck_findings::{Explanation, Finding, Position};
 use sedck_flow::Kind;
-use sedck_words::{Source, answer_word, command_line, push_all};
+use sedck_words::{Names, Source, answer_word, command_line, place_words, push_all};
 use std::alloc::{AllocError, Global};
 
 /// The most characters of a line that are shown in a box.
@@ -25,7 +25,19 @@ pub(crate) fn push_head(
     push_all(out, &[": ", answer_word(explanation), HEAD])
 }
 
-/// Adds a box that says why the script is refused.
+/// Adds the start of a box or an oval: its name, and the place of its command.
+pub(crate) fn push_opening(
+    alloc: Global,
+    out: &mut Vec<u8>,
+    names: Names,
+    node: usize,
+    position: Option<Position>,
+) -> Result<(), AllocError> {
+    push_all(out, &[format!(in alloc; "  n{node} [label=\"")?.as_str()])?;
+    push_escaped(out, place_words(alloc, names, position)?.as_str())
+}
+
+/// Adds a box that says why the script is refused or not judged.
 pub(crate) fn push_refusal(out: &mut Vec<u8>, findings: &[Finding]) -> Result<(), AllocError> {
     push_all(out, &["  refused [label=\""])?;
     if let Some(finding) = findings.first() {

@@ -6,7 +6,7 @@ use crate::margin::{Margin, Spot, margin_of};
 use crate::strokes::{drawing_width, push_strokes};
 use sedck_escapes::{push_html, push_text};
 use sedck_findings::{Explanation, Finding, Level, shown_line};
-use sedck_words::{Source, decimal, push_all, push_grouped, source_of};
+use sedck_words::{Names, Source, decimal, push_all, push_grouped, source_of};
 use std::alloc::{AllocError, Global};
 
 /// What the kinds of jumps look like.
@@ -31,6 +31,7 @@ bold: part of the loop</li>
 pub(crate) fn push_listing(
     alloc: Global,
     out: &mut Vec<u8>,
+    names: Names,
     explanation: &Explanation,
     least: Level,
     jumps: &[Jump],
@@ -45,6 +46,7 @@ pub(crate) fn push_listing(
     let mut margin = margin_of(alloc, explanation, least, lines, end)?;
     push_legend(alloc, out, &margin)?;
     let beside = Beside {
+        names,
         source: source_of(explanation),
         findings: &explanation.findings,
         returns: &returns,
@@ -55,6 +57,7 @@ pub(crate) fn push_listing(
 /// What the boxes beside lines show.
 #[derive(Clone, Copy)]
 struct Beside<'a> {
+    names: Names<'a>,
     source: Source<'a>,
     findings: &'a [Finding],
     /// The long jumps back, in order.
@@ -195,7 +198,14 @@ fn push_boxes(
 ) -> Result<(), AllocError> {
     for spot in spots {
         if let Some(finding) = beside.findings.get(spot.finding) {
-            push_box(alloc, out, beside.source, finding, spot.finding)?;
+            push_box(
+                alloc,
+                out,
+                beside.names,
+                beside.source,
+                finding,
+                spot.finding,
+            )?;
         }
     }
     Ok(())

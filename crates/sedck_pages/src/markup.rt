@@ -2,7 +2,7 @@
 
 use sedck_escapes::{push_html, push_text};
 use sedck_findings::Position;
-use sedck_words::push_all;
+use sedck_words::{Names, place_words, push_all};
 use std::alloc::{AllocError, Global};
 
 /// Adds a sentence, in which what is between backticks is code.
@@ -26,17 +26,18 @@ pub(crate) fn push_element(out: &mut Vec<u8>, tag: &str, words: &str) -> Result<
     push_all(out, &["</", tag, ">"])
 }
 
-/// Adds `LINE:COLUMN` as a link to the line. Without a position it is a link to the script's end.
+/// Adds the position in words as a link to its line in the listing. Without a position it is a link to the script's end.
 pub(crate) fn push_place(
     alloc: Global,
     out: &mut Vec<u8>,
+    names: Names,
     position: Option<Position>,
 ) -> Result<(), AllocError> {
     let Some(position) = position else {
         return push_text(out, "<a href=\"#end\">end</a>");
     };
     let line = position.line;
-    let column = position.column;
-    let link = format!(in alloc; "<a href=\"#L{line}\">{line}:{column}</a>")?;
-    push_text(out, link.as_str())
+    push_text(out, format!(in alloc; "<a href=\"#L{line}\">")?.as_str())?;
+    push_html(out, place_words(alloc, names, Some(position))?.as_str())?;
+    push_text(out, "</a>")
 }

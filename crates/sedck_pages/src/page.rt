@@ -8,7 +8,7 @@ use crate::tables::{push_files, push_jumps, push_ranks};
 use crate::top::push_top;
 use sedck_escapes::{push_html, push_text};
 use sedck_findings::{Explanation, Level};
-use sedck_words::{VERSION, answer_word, push_all};
+use sedck_words::{Names, VERSION, answer_word, push_all};
 use std::alloc::{AllocError, Global};
 
 /// What precedes the title: no script and nothing from elsewhere is loaded.
@@ -25,15 +25,15 @@ const HEAD: &str = "<!DOCTYPE html>
 /// printable ASCII, and escaped.
 pub fn html_report(
     alloc: Global,
-    name: &str,
+    names: Names,
     explanation: &Explanation,
     least: Level,
 ) -> Result<Vec<u8>, AllocError> {
     let mut out = Vec::new(alloc);
-    push_head(&mut out, name, answer_word(explanation))?;
-    push_top(alloc, &mut out, explanation, least)?;
+    push_head(&mut out, names.whole(), answer_word(explanation))?;
+    push_top(alloc, &mut out, names, explanation, least)?;
     push_text(&mut out, "</header>\n<main>\n")?;
-    push_main(alloc, &mut out, explanation, least)?;
+    push_main(alloc, &mut out, names, explanation, least)?;
     push_all(
         &mut out,
         &["</main>\n<footer class=\"soft\">sedck-explain ", VERSION],
@@ -56,14 +56,15 @@ fn push_head(out: &mut Vec<u8>, name: &str, answer: &str) -> Result<(), AllocErr
 fn push_main(
     alloc: Global,
     out: &mut Vec<u8>,
+    names: Names,
     explanation: &Explanation,
     least: Level,
 ) -> Result<(), AllocError> {
     let jumps = jumps_of(alloc, explanation)?;
-    push_listing(alloc, out, explanation, least, &jumps)?;
-    push_files(alloc, out, explanation)?;
-    push_jumps(alloc, out, &explanation.positions, &jumps)?;
-    push_ranks(alloc, out, explanation)
+    push_listing(alloc, out, names, explanation, least, &jumps)?;
+    push_files(alloc, out, names, explanation)?;
+    push_jumps(alloc, out, names, &explanation.positions, &jumps)?;
+    push_ranks(alloc, out, names, explanation)
 }
 
 /// The jumps between commands; none where the script is refused.

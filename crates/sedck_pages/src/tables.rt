@@ -4,7 +4,7 @@ use crate::jumps::Jump;
 use crate::markup::push_place;
 use sedck_escapes::{push_html, push_text};
 use sedck_findings::{Answer, Explanation, NamedFile, Position, shown_name};
-use sedck_words::{kind_word, push_all};
+use sedck_words::{Names, kind_word, push_all};
 use std::alloc::{AllocError, Global};
 
 /// What precedes the rows of files.
@@ -52,19 +52,21 @@ const DETAILS_END: &str = "</tbody></table></div>
 pub(crate) fn push_files(
     alloc: Global,
     out: &mut Vec<u8>,
+    names: Names,
     explanation: &Explanation,
 ) -> Result<(), AllocError> {
     if explanation.script.is_none() {
         return Ok(());
     }
     push_text(out, "<h2 id=\"files\">Files</h2>\n")?;
-    push_uses(alloc, out, &explanation.reads, &explanation.writes)
+    push_uses(alloc, out, names, &explanation.reads, &explanation.writes)
 }
 
 /// Adds the table of the files, or that there are none.
 fn push_uses(
     alloc: Global,
     out: &mut Vec<u8>,
+    names: Names,
     reads: &[NamedFile],
     writes: &[NamedFile],
 ) -> Result<(), AllocError> {
@@ -72,8 +74,8 @@ fn push_uses(
         return push_text(out, "<p>No command reads or writes a file.</p>\n");
     }
     push_text(out, FILES_HEAD)?;
-    push_rows(alloc, out, reads, "read")?;
-    push_rows(alloc, out, writes, "written")?;
+    push_rows(alloc, out, names, reads, "read")?;
+    push_rows(alloc, out, names, writes, "written")?;
     push_text(out, "</tbody></table></div>\n")
 }
 
@@ -81,6 +83,7 @@ fn push_uses(
 fn push_rows(
     alloc: Global,
     out: &mut Vec<u8>,
+    names: Names,
     files: &[NamedFile],
     what: &str,
 ) -> Result<(), AllocError> {
@@ -89,16 +92,21 @@ fn push_rows(
         push_text(out, "<tr><td><code>&quot;")?;
         push_html(out, name.as_str())?;
         push_all(out, &["&quot;</code></td><td>", what, "</td><td>"])?;
-        push_places(alloc, out, &file.positions)?;
+        push_places(alloc, out, names, &file.positions)?;
         push_text(out, "</td></tr>\n")?;
     }
     Ok(())
 }
 
 /// Adds a link for each position.
-fn push_places(alloc: Global, out: &mut Vec<u8>, positions: &[Position]) -> Result<(), AllocError> {
+fn push_places(
+    alloc: Global,
+    out: &mut Vec<u8>,
+    names: Names,
+    positions: &[Position],
+) -> Result<(), AllocError> {
     for position in positions {
-        push_place(alloc, out, Some(*position))?;
+        push_place(alloc, out, names, Some(*position))?;
         push_text(out, " ")?;
     }
     Ok(())
@@ -108,6 +116,7 @@ fn push_places(alloc: Global, out: &mut Vec<u8>, positions: &[Position]) -> Resu
 pub(crate) fn push_jumps(
     alloc: Global,
     out: &mut Vec<u8>,
+    names: Names,
     positions: &[Position],
     jumps: &[Jump],
 ) -> Result<(), AllocError> {
@@ -116,7 +125,7 @@ pub(crate) fn push_jumps(
     }
     push_text(out, JUMPS_HEAD)?;
     for jump in jumps {
-        push_jump(alloc, out, positions, *jump)?;
+        push_jump(alloc, out, names, positions, *jump)?;
     }
     push_text(out, DETAILS_END)
 }
@@ -125,13 +134,14 @@ pub(crate) fn push_jumps(
 fn push_jump(
     alloc: Global,
     out: &mut Vec<u8>,
+    names: Names,
     positions: &[Position],
     jump: Jump,
 ) -> Result<(), AllocError> {
     push_text(out, "<tr><td>")?;
-    push_place(alloc, out, positions.get(jump.from).copied())?;
+    push_place(alloc, out, names, positions.get(jump.from).copied())?;
     push_text(out, "</td><td>")?;
-    push_place(alloc, out, positions.get(jump.to).copied())?;
+    push_place(alloc, out, names, positions.get(jump.to).copied())?;
     let part = if jump.is_bold {
         ", part of the loop"
     } else {
@@ -147,11 +157,12 @@ fn push_jump(
 pub(crate) fn push_ranks(
     alloc: Global,
     out: &mut Vec<u8>,
+    names: Names,
     explanation: &Explanation,
 ) -> Result<(), AllocError> {
     match &explanation.answer {
         Answer::Accepted { cert, .. } => {
-            push_table(alloc, out, cert.ranks(), &explanation.positions)
+            push_table(alloc, out, names, cert.ranks(), &explanation.positions)
         }
         _ => Ok(()),
     }
@@ -161,13 +172,14 @@ pub(crate) fn push_ranks(
 fn push_table(
     alloc: Global,
     out: &mut Vec<u8>,
+    names: Names,
     ranks: &[Option<(u16, u16)>],
     positions: &[Position],
 ) -> Result<(), AllocError> {
     push_text(out, RANKS_HEAD)?;
     for (index, row) in ranks.chunks(4).enumerate() {
         push_text(out, "<tr><th scope=\"row\">")?;
-        push_place(alloc, out, positions.get(index).copied())?;
+        push_place(alloc, out, names, positions.get(index).copied())?;
         push_text(out, "</th>")?;
         push_pairs(alloc, out, row)?;
         push_text(out, "</tr>\n")?;

@@ -2,10 +2,11 @@
 
 use crate::boxes::push_box;
 use crate::markup::push_prose;
-use sedck_escapes::push_text;
+use sedck_escapes::{push_html, push_text};
 use sedck_findings::{Answer, Explanation, Finding, Level, Position};
 use sedck_words::{
-    Source, decimal, is_listed, level_word, push_all, push_grouped, push_limit, source_of,
+    Names, Source, decimal, is_listed, level_word, place_words, push_all, push_grouped, push_limit,
+    source_of,
 };
 use std::alloc::{AllocError, Global};
 
@@ -16,6 +17,7 @@ const LIST: &str = "<h2>Findings</h2>\n<ul>\n";
 pub(crate) fn push_top(
     alloc: Global,
     out: &mut Vec<u8>,
+    names: Names,
     explanation: &Explanation,
     least: Level,
 ) -> Result<(), AllocError> {
@@ -26,6 +28,7 @@ pub(crate) fn push_top(
     push_findings(
         alloc,
         out,
+        names,
         source_of(explanation),
         &explanation.findings,
         least,
@@ -43,6 +46,7 @@ fn answer_words(explanation: &Explanation) -> (&'static str, &'static str) {
         Answer::Endless(_) => ("error", "A loop rules out every certificate."),
         Answer::ScriptRefused(_) => ("error", "The script is refused."),
         Answer::CertificateRefused(_) => ("error", "The certificate is refused."),
+        Answer::NotJudged => ("error", "The script is not judged."),
     }
 }
 
@@ -87,6 +91,7 @@ fn push_counts(
 fn push_findings(
     alloc: Global,
     out: &mut Vec<u8>,
+    names: Names,
     source: Source,
     findings: &[Finding],
     least: Level,
@@ -96,53 +101,55 @@ fn push_findings(
         if is_listed(finding, least) {
             push_text(out, if is_empty { LIST } else { "" })?;
             is_empty = false;
-            push_entry(alloc, out, finding, index)?;
+            push_entry(alloc, out, names, finding, index)?;
         }
     }
     push_text(out, if is_empty { "" } else { "</ul>\n" })?;
-    push_whole(alloc, out, source, findings, least)
+    push_whole(alloc, out, names, source, findings, least)
 }
 
 /// Adds a line for a finding: a link where it is beside a line.
 fn push_entry(
     alloc: Global,
     out: &mut Vec<u8>,
+    names: Names,
     finding: &Finding,
     index: usize,
 ) -> Result<(), AllocError> {
     let index = decimal(alloc, index)?;
     push_all(out, &["<li><a href=\"#F", index.as_str(), "\">"])?;
-    push_position(alloc, out, finding.position)?;
+    push_position(alloc, out, names, finding.position)?;
     push_all(out, &[level_word(finding.level), "</a>: "])?;
     push_prose(out, finding.message.as_str())?;
     push_text(out, "</li>\n")
 }
 
-/// Adds the line and the column, if there are any.
+/// Adds the position in words, if there is one.
 fn push_position(
     alloc: Global,
     out: &mut Vec<u8>,
+    names: Names,
     position: Option<Position>,
 ) -> Result<(), AllocError> {
-    let Some(position) = position else {
+    if position.is_none() {
         return Ok(());
-    };
-    let line = position.line;
-    let column = position.column;
-    push_text(out, format!(in alloc; "{line}:{column} ")?.as_str())
+    }
+    push_html(out, place_words(alloc, names, position)?.as_str())?;
+    push_text(out, " ")
 }
 
 /// Adds the findings that are beside no line.
 fn push_whole(
     alloc: Global,
     out: &mut Vec<u8>,
+    names: Names,
     source: Source,
     findings: &[Finding],
     least: Level,
 ) -> Result<(), AllocError> {
     for (index, finding) in findings.iter().enumerate() {
         if finding.position.is_none() && is_listed(finding, least) {
-            push_box(alloc, out, source, finding, index)?;
+            push_box(alloc, out, names, source, finding, index)?;
         }
     }
     Ok(())

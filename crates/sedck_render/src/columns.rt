@@ -19,6 +19,11 @@ pub(crate) fn push_padded(out: &mut Vec<u8>, words: &str, width: usize) -> Resul
 
 /// Adds spaces up to the width, and the words.
 pub(crate) fn push_aligned(out: &mut Vec<u8>, words: &str, width: usize) -> Result<(), AllocError> {
-    push_spaces(out, width.saturating_sub(words.len()))?;
+    push_spaces(out, width.saturating_sub(width_of(words)))?;
     push_all(out, &[words])
+}
+
+/// How many characters the words have.
+pub(crate) fn width_of(words: &str) -> usize {
+    words.chars().count()
 }

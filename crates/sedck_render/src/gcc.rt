@@ -3,7 +3,7 @@
 use crate::parts::{NO_INK, prefix, push_headline, push_left_out};
 use sedck_findings::{Explanation, Finding, Level, Step};
 use sedck_words::{
-    ListedSteps, Source, command_line, is_listed, listed_steps, push_all, source_of,
+    ListedSteps, Names, Source, command_line, is_listed, listed_steps, push_all, source_of,
 };
 use std::alloc::{AllocError, Global};
 
@@ -14,7 +14,7 @@ const NOTE_WIDTH: usize = 40;
 /// hint. A finding without a position has none. Nothing is printed where nothing was found.
 pub fn gcc_report(
     alloc: Global,
-    name: &str,
+    names: Names,
     explanation: &Explanation,
     least: Level,
 ) -> Result<Vec<u8>, AllocError> {
@@ -22,7 +22,7 @@ pub fn gcc_report(
     let source = source_of(explanation);
     for finding in &explanation.findings {
         if is_listed(finding, least) {
-            push_finding(alloc, &mut out, name, source, finding)?;
+            push_finding(alloc, &mut out, names, source, finding)?;
         }
     }
     Ok(out)
@@ -32,23 +32,23 @@ pub fn gcc_report(
 fn push_finding(
     alloc: Global,
     out: &mut Vec<u8>,
-    name: &str,
+    names: Names,
     source: Source,
     finding: &Finding,
 ) -> Result<(), AllocError> {
-    let place = prefix(alloc, name, finding.position)?;
+    let place = prefix(alloc, names, finding.position)?;
     push_headline(out, place.as_str(), NO_INK, finding)?;
     let ListedSteps {
         first,
         left_out,
         last,
     } = listed_steps(&finding.steps);
-    push_steps(alloc, out, name, source, first)?;
+    push_steps(alloc, out, names, source, first)?;
     if left_out > 0 {
         push_all(out, &[place.as_str(), "note: "])?;
         push_left_out(alloc, out, left_out)?;
     }
-    push_steps(alloc, out, name, source, last)?;
+    push_steps(alloc, out, names, source, last)?;
     match finding.hint {
         Some(hint) => push_all(out, &[place.as_str(), "note: hint: ", hint, "\n"]),
         None => Ok(()),
@@ -59,12 +59,12 @@ fn push_finding(
 fn push_steps(
     alloc: Global,
     out: &mut Vec<u8>,
-    name: &str,
+    names: Names,
     source: Source,
     steps: &[Step],
 ) -> Result<(), AllocError> {
     for step in steps {
-        let place = prefix(alloc, name, step.position)?;
+        let place = prefix(alloc, names, step.position)?;
         let command = command_words(alloc, source, step)?;
         let words = [
             place.as_str(),

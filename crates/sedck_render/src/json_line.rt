@@ -12,7 +12,7 @@ use sedck_escapes::ascii_line;
 use sedck_findings::{
     Answer, Explanation, Finding, Fix, Level, NamedFile, Position, Step, shown_name,
 };
-use sedck_words::{VERSION, answer_word, is_listed, kind_word, level_word, page_of};
+use sedck_words::{Names, Place, VERSION, answer_word, is_listed, kind_word, level_word, page_of};
 use std::alloc::{AllocError, Global};
 
 /// What explains that a script can't be read.
@@ -21,14 +21,14 @@ const UNREADABLE_PAGE: &str = "FORMATS.md#the-formats-and-statuses-of-sedck-expl
 /// The object on a line, in ASCII, with the findings of at least this level.
 pub fn json_report(
     alloc: Global,
-    name: &str,
+    names: Names,
     explanation: &Explanation,
     least: Level,
 ) -> Result<Vec<u8>, AllocError>
     ensures ascii { IfOk result (λ line. IsAscii line.items) }
     ensures line { IfOk result (λ line. IsPrintableLine line.items) }
 {
-    written(alloc, &json_of(alloc, name, explanation, least)?)
+    written(alloc, &json_of(alloc, names, explanation, least)?)
 }
 
 /// The object on a line, in ASCII, for a script that can't be read. The message says which file can't be, and why.
@@ -84,19 +84,19 @@ fn unreadable<'a>(
 /// All that is reported.
 fn json_of<'a>(
     alloc: Global,
-    file: &'a str,
+    names: Names<'a>,
     explanation: &'a Explanation,
     least: Level,
 ) -> Result<JsonReport<'a>, AllocError> {
     Ok(JsonReport {
-        file,
+        file: names.whole(),
         status: explanation.status,
         answer: answer_word(explanation),
         bound: json_bound(&explanation.answer),
-        reads: json_files(alloc, &explanation.reads)?,
-        writes: json_files(alloc, &explanation.writes)?,
-        findings: json_findings(alloc, &explanation.findings, least)?,
-        commands: json_positions(alloc, &explanation.positions)?,
+        reads: json_files(alloc, names, &explanation.reads)?,
+        writes: json_files(alloc, names, &explanation.writes)?,
+        findings: json_findings(alloc, names, &explanation.findings, least)?,
+        commands: json_positions(alloc, names, &explanation.positions)?,
         version: VERSION,
     })
 }
@@ -117,86 +117,105 @@ fn json_bound(answer: &Answer) -> Option<JsonBound> {
     })
 }
 
-fn json_files(alloc: Global, files: &[NamedFile]) -> Result<Vec<JsonFile>, AllocError> {
+fn json_files<'a>(
+    alloc: Global,
+    names: Names<'a>,
+    files: &[NamedFile],
+) -> Result<Vec<JsonFile<'a>>, AllocError> {
     let mut out = Vec::new(alloc);
     for file in files {
         out.push(JsonFile {
             name: shown_name(alloc, file.name)?,
-            positions: json_positions(alloc, &file.positions)?,
+            positions: json_positions(alloc, names, &file.positions)?,
         })?;
     }
     Ok(out)
 }
 
-fn json_positions(alloc: Global, positions: &[Position]) -> Result<Vec<JsonPosition>, AllocError> {
+fn json_positions<'a>(
+    alloc: Global,
+    names: Names<'a>,
+    positions: &[Position],
+) -> Result<Vec<JsonPosition<'a>>, AllocError> {
     let mut out = Vec::new(alloc);
     for position in positions {
-        out.push(json_position(*position))?;
+        out.push(json_position(names, *position))?;
     }
     Ok(out)
 }
 
-fn json_position(position: Position) -> JsonPosition {
-    let Position {
-        offset,
-        line,
-        column,
-    } = position;
+fn json_position<'a>(names: Names<'a>, position: Position) -> JsonPosition<'a> {
+    let Place { name, line, column } = names.place_of(position);
     JsonPosition {
-        offset,
+        offset: position.offset,
         line,
         column,
+        part: if names.part_count() > 0 {
+            Some(name)
+        } else {
+            None
+        },
     }
+}
+
+/// The position, if there is one.
+fn json_place<'a>(names: Names<'a>, position: Option<Position>) -> Option<JsonPosition<'a>> {
+    Some(json_position(names, position?))
 }
 
 fn json_findings<'a>(
     alloc: Global,
+    names: Names<'a>,
     findings: &'a [Finding],
     least: Level,
 ) -> Result<Vec<JsonFinding<'a>>, AllocError> {
     let mut out = Vec::new(alloc);
     for finding in findings {
         if is_listed(finding, least) {
-            out.push(json_finding(alloc, finding)?)?;
+            out.push(json_finding(alloc, names, finding)?)?;
         }
     }
     Ok(out)
 }
 
-fn json_finding<'a>(alloc: Global, finding: &'a Finding) -> Result<JsonFinding<'a>, AllocError> {
+fn json_finding<'a>(
+    alloc: Global,
+    names: Names<'a>,
+    finding: &'a Finding,
+) -> Result<JsonFinding<'a>, AllocError> {
     let mut steps = Vec::new(alloc);
     for step in &finding.steps {
-        steps.push(json_step(step))?;
+        steps.push(json_step(names, step))?;
     }
     Ok(JsonFinding {
         level: level_word(finding.level),
         code: finding.code.name(),
         message: finding.message.as_str(),
         hint: finding.hint,
-        position: finding.position.map(json_position),
+        position: json_place(names, finding.position),
         steps,
         page: page_of(finding.code),
-        end: finding.end.map(json_position),
-        fix: finding.fix.map(json_fix),
+        end: json_place(names, finding.end),
+        fix: json_fix(names, finding.fix),
     })
 }
 
-fn json_fix(fix: Fix) -> JsonFix {
-    let Fix { start, end, text } = fix;
-    JsonFix {
-        start: json_position(start),
-        end: json_position(end),
+fn json_fix<'a>(names: Names<'a>, fix: Option<Fix>) -> Option<JsonFix<'a>> {
+    let Fix { start, end, text } = fix?;
+    Some(JsonFix {
+        start: json_position(names, start),
+        end: json_position(names, end),
         text,
-    }
+    })
 }
 
-fn json_step(step: &Step) -> JsonStep<'_> {
+fn json_step<'a>(names: Names<'a>, step: &'a Step) -> JsonStep<'a> {
     JsonStep {
         command: step.node.at,
         flag: step.node.flag,
         last: step.node.last,
         kind: step.kind.map(kind_word),
         message: step.message.as_str(),
-        position: step.position.map(json_position),
+        position: json_place(names, step.position),
     }
 }

@@ -5,23 +5,24 @@ use serde::Serialize;
 /// What is reported of a script.
 #[derive(Drop, Serialize)]
 pub(crate) struct JsonReport<'a> {
-    /// The script's path. A byte that isn't a part of UTF-8 is `\0`, which no path has.
+    /// The script's path, or the name of the call. A byte that isn't a part of UTF-8 is `\0`, which no path has.
     pub file: &'a str,
-    /// The exit status for this script: 0 for accepted, 1 for rejected, a loop or denied, 2 for a refused text, 4 for a script that
+    /// The exit status for this script: 0 for accepted, 1 for rejected, a loop or denied, 2 for a refused text or a script that
+    /// isn't judged, 4 for a script that
     /// can't be read.
     pub status: u8,
-    /// `accepted`, `denied`, `rejected`, `loop`, `script-refused`, `certificate-refused` or `unreadable`.
+    /// `accepted`, `denied`, `rejected`, `loop`, `script-refused`, `certificate-refused`, `not-judged` or `unreadable`.
     pub answer: &'static str,
     /// The limit on the steps of any run; null where there is none, or where the script isn't accepted.
     pub bound: Option<JsonBound>,
     /// The files that are read, sorted by name. Empty where the script is refused.
-    pub reads: Vec<JsonFile>,
+    pub reads: Vec<JsonFile<'a>>,
     /// The files that are written, sorted by name. Empty where the script is refused.
-    pub writes: Vec<JsonFile>,
+    pub writes: Vec<JsonFile<'a>>,
     /// Those of the level that is asked for: errors first, then warnings and notes.
     pub findings: Vec<JsonFinding<'a>>,
     /// Where the verb of each command is; a step's `command` counts in this list, from 0. Empty where the script is refused.
-    pub commands: Vec<JsonPosition>,
+    pub commands: Vec<JsonPosition<'a>>,
     /// The program's version.
     pub version: &'static str,
 }
@@ -36,22 +37,24 @@ pub(crate) struct JsonBound {
 
 /// A file that the script names.
 #[derive(Drop, Serialize)]
-pub(crate) struct JsonFile {
+pub(crate) struct JsonFile<'a> {
     /// The name: a backslash is `\\`, a double quote `\"`, and a backquote or a byte that isn't printable ASCII is `\x` and two digits.
     pub name: String,
     /// The commands that name it, in order.
-    pub positions: Vec<JsonPosition>,
+    pub positions: Vec<JsonPosition<'a>>,
 }
 
 /// A byte of the script, or its end.
 #[derive(Drop, Serialize)]
-pub(crate) struct JsonPosition {
-    /// In bytes, from 0.
+pub(crate) struct JsonPosition<'a> {
+    /// In bytes, from 0, in the whole script.
     pub offset: usize,
-    /// From 1.
+    /// From 1, in the part.
     pub line: usize,
     /// In bytes, from 1.
     pub column: usize,
+    /// The part of a call's script in which it is; null where the script is a file.
+    pub part: Option<&'a str>,
 }
 
 /// A finding.
@@ -65,15 +68,15 @@ pub(crate) struct JsonFinding<'a> {
     /// What to write instead; null where there is none.
     pub hint: Option<&'static str>,
     /// Null where it is of the certificate, or of the script as a whole.
-    pub position: Option<JsonPosition>,
+    pub position: Option<JsonPosition<'a>>,
     /// The steps of a loop, or the ends of an edge.
     pub steps: Vec<JsonStep<'a>>,
     /// The page that explains the code, and its heading: a link from the folder `docs`.
     pub page: &'static str,
     /// The first byte after what is meant; null where it isn't known.
-    pub end: Option<JsonPosition>,
+    pub end: Option<JsonPosition<'a>>,
     /// A change of the script that mends it; null where there is none.
-    pub fix: Option<JsonFix>,
+    pub fix: Option<JsonFix<'a>>,
 }
 
 /// A step of a loop or along an edge.
@@ -89,14 +92,14 @@ pub(crate) struct JsonStep<'a> {
     pub kind: Option<&'static str>,
     pub message: &'a str,
     /// Null for the script's end.
-    pub position: Option<JsonPosition>,
+    pub position: Option<JsonPosition<'a>>,
 }
 
 /// The text to write in place of a part of the script.
 #[derive(Drop, Serialize)]
-pub(crate) struct JsonFix {
-    pub start: JsonPosition,
-    /// The first byte after the part.
-    pub end: JsonPosition,
+pub(crate) struct JsonFix<'a> {
+    pub start: JsonPosition<'a>,
+    /// The first byte after what is replaced.
+    pub end: JsonPosition<'a>,
     pub text: &'static str,
 }

@@ -1,7 +1,7 @@
 //! What is reported of a script, as bytes: for people at a terminal, for editors, for programs and for hosts of code.
 //!
-//! `text_report` and `gcc_report` take the script's path as it is printed, without control characters; the others take the path itself,
-//! and escape it. All that is taken from the script is shown in printable ASCII.
+//! `text_report` and `gcc_report` take names as they are printed, without control characters; the others take the names themselves,
+//! and escape them. All that is taken from the script is shown in printable ASCII.
 #![tactic(auto)]
 
 mod columns;

@@ -1,7 +1,7 @@
 //! The parts of a report in text: where a finding is, and what it says.
 
 use sedck_findings::{Finding, Position};
-use sedck_words::{level_word, push_all, push_grouped};
+use sedck_words::{Names, Place, level_word, push_all, push_grouped};
 use std::alloc::{AllocError, Global};
 
 /// What precedes and what follows coloured words.
@@ -14,19 +14,21 @@ pub(crate) struct Ink {
 /// No colour.
 pub(crate) const NO_INK: Ink = Ink { on: "", off: "" };
 
-/// `FILE:LINE:COLUMN: `, or `FILE: ` without a position.
+/// `FILE:LINE:COLUMN: ` with the name of the part, or `FILE: ` without a position.
 pub(crate) fn prefix(
     alloc: Global,
-    name: &str,
+    names: Names,
     position: Option<Position>,
 ) -> Result<String, AllocError> {
     match position {
         Some(position) => {
-            let line = position.line;
-            let column = position.column;
+            let Place { name, line, column } = names.place_of(position);
             format!(in alloc; "{name}:{line}:{column}: ")
         }
-        None => format!(in alloc; "{name}: "),
+        None => {
+            let name = names.whole();
+            format!(in alloc; "{name}: ")
+        }
     }
 }
 

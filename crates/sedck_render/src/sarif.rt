@@ -12,7 +12,7 @@ use crate::sarif_shape::{
 use crate::uri::uri_of;
 use sedck_escapes::ascii_line;
 use sedck_findings::{Code, Explanation, Finding, Fix, Level, Position, Step};
-use sedck_words::{VERSION, is_listed, level_word, page_of};
+use sedck_words::{Names, Place, VERSION, is_listed, level_word, page_of};
 use std::alloc::{AllocError, Global};
 
 /// Where the schema of the format is.
@@ -21,16 +21,15 @@ const SCHEMA: &str = "https://json.schemastore.org/sarif-2.1.0.json";
 /// The log on a line, in ASCII, with the findings of at least this level.
 pub fn sarif_report(
     alloc: Global,
-    name: &str,
+    names: Names,
     explanation: &Explanation,
     least: Level,
 ) -> Result<Vec<u8>, AllocError>
     ensures ascii { IfOk result (λ line. IsAscii line.items) }
     ensures line { IfOk result (λ line. IsPrintableLine line.items) }
 {
-    let uri = uri_of(alloc, name)?;
     let script = Script {
-        uri: uri.as_str(),
+        names,
         text: explanation.text,
     };
     let log = log_of(alloc, script, &explanation.findings, least)?;
@@ -40,36 +39,64 @@ pub fn sarif_report(
     ascii_line(alloc, text.as_str())
 }
 
-/// The script's address and its text.
+/// The script's names and its text.
 #[derive(Clone, Copy)]
 struct Script<'a> {
-    uri: &'a str,
+    names: Names<'a>,
     text: &'a [u8],
 }
 
 impl<'a> Script<'a> {
-    fn artifact(self) -> SarifArtifact<'a> {
-        SarifArtifact { uri: self.uri }
+    /// The part in which the position is, or the script as a whole. A part that is no file, as `-e 2`, has a relative address as well,
+    /// `-e%202`.
+    fn artifact(
+        self,
+        alloc: Global,
+        position: Option<Position>,
+    ) -> Result<SarifArtifact, AllocError> {
+        let name = match position {
+            Some(position) => self.names.place_of(position).name,
+            None => self.names.whole(),
+        };
+        Ok(SarifArtifact {
+            uri: uri_of(alloc, name)?,
+        })
     }
 
-    /// The place, or the script as a whole.
-    fn at(self, region: Option<SarifRegion>) -> SarifPhysicalLocation<'a> {
-        SarifPhysicalLocation {
-            artifact_location: self.artifact(),
-            region,
-        }
+    /// What is between the positions, or the script as a whole.
+    fn at(
+        self,
+        alloc: Global,
+        start: Option<Position>,
+        end: Option<Position>,
+    ) -> Result<SarifPhysicalLocation, AllocError> {
+        Ok(SarifPhysicalLocation {
+            artifact_location: self.artifact(alloc, start)?,
+            region: match start {
+                Some(start) => Some(self.region(start, end)),
+                None => None,
+            },
+        })
     }
 
     /// What is between the positions; without an end the byte at the start, if there is one in its line.
     fn region(self, start: Position, end: Option<Position>) -> SarifRegion {
         let end = end.unwrap_or(self.behind(start));
+        let Place { line, column, .. } = self.names.place_of(start);
+        // Offsets are those of the whole script, and so mean nothing in a part.
+        let has_offsets = self.names.part_count() == 0;
+        let length = end.offset.saturating_sub(start.offset);
         SarifRegion {
-            start_line: start.line,
-            start_column: start.column,
-            end_line: end.line,
+            start_line: line,
+            start_column: column,
+            end_line: line.saturating_add(end.line.saturating_sub(start.line)),
             end_column: end.column,
-            byte_offset: start.offset,
-            byte_length: end.offset.saturating_sub(start.offset),
+            byte_offset: if has_offsets {
+                Some(start.offset)
+            } else {
+                None
+            },
+            byte_length: if has_offsets { Some(length) } else { None },
         }
     }
 
@@ -160,12 +187,8 @@ fn result_of<'a>(
         Some(hint) => format!(in alloc; "{message}; hint: {hint}")?,
         None => String::from_str(alloc, message)?,
     };
-    let region = match finding.position {
-        Some(start) => Some(script.region(start, finding.end)),
-        None => None,
-    };
     let location = SarifLocation {
-        physical_location: script.at(region),
+        physical_location: script.at(alloc, finding.position, finding.end)?,
         message: None,
     };
     Ok(SarifResult {
@@ -190,7 +213,7 @@ fn code_flows<'a>(
     }
     let mut locations = Vec::new(alloc);
     for step in steps {
-        let location = step_location(script, step);
+        let location = step_location(alloc, script, step)?;
         locations.push(SarifStep { location })?;
     }
     let thread_flows = one(alloc, SarifThreadFlow { locations })?;
@@ -198,26 +221,26 @@ fn code_flows<'a>(
 }
 
 /// Where a step is, and what it does.
-fn step_location<'a>(script: Script<'a>, step: &'a Step) -> SarifLocation<'a> {
-    let region = match step.position {
-        Some(start) => Some(script.region(start, None)),
-        None => None,
-    };
+fn step_location<'a>(
+    alloc: Global,
+    script: Script<'a>,
+    step: &'a Step,
+) -> Result<SarifLocation<'a>, AllocError> {
     let message = SarifText {
         text: step.message.as_str(),
     };
-    SarifLocation {
-        physical_location: script.at(region),
+    Ok(SarifLocation {
+        physical_location: script.at(alloc, step.position, None)?,
         message: Some(message),
-    }
+    })
 }
 
 /// The change of the script, if there is one.
-fn fixes<'a>(
+fn fixes(
     alloc: Global,
-    script: Script<'a>,
+    script: Script,
     fix: Option<Fix>,
-) -> Result<Option<Vec<SarifFix<'a>>>, AllocError> {
+) -> Result<Option<Vec<SarifFix>>, AllocError> {
     let Some(Fix { start, end, text }) = fix else {
         return Ok(None);
     };
@@ -225,7 +248,7 @@ fn fixes<'a>(
         deleted_region: script.region(start, Some(end)),
         inserted_content: SarifText { text },
     };
-    let artifact_location = script.artifact();
+    let artifact_location = script.artifact(alloc, Some(start))?;
     let change = SarifChange {
         artifact_location,
         replacements: one(alloc, replacement)?,

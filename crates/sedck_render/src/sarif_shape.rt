@@ -55,29 +55,29 @@ pub(crate) struct SarifResult<'a> {
     #[serde(skip_serializing_if = "Option::is_none")]
     pub code_flows: Option<Vec<SarifCodeFlow<'a>>>,
     #[serde(skip_serializing_if = "Option::is_none")]
-    pub fixes: Option<Vec<SarifFix<'a>>>,
+    pub fixes: Option<Vec<SarifFix>>,
 }
 
 /// A place in the script, or the script as a whole.
 #[derive(Drop, Serialize)]
 #[serde(rename_all = "camelCase")]
 pub(crate) struct SarifLocation<'a> {
-    pub physical_location: SarifPhysicalLocation<'a>,
+    pub physical_location: SarifPhysicalLocation,
     #[serde(skip_serializing_if = "Option::is_none")]
     pub message: Option<SarifText<&'a str>>,
 }
 
 #[derive(Drop, Serialize)]
 #[serde(rename_all = "camelCase")]
-pub(crate) struct SarifPhysicalLocation<'a> {
-    pub artifact_location: SarifArtifact<'a>,
+pub(crate) struct SarifPhysicalLocation {
+    pub artifact_location: SarifArtifact,
     #[serde(skip_serializing_if = "Option::is_none")]
     pub region: Option<SarifRegion>,
 }
 
-#[derive(Clone, Copy, Drop, Serialize)]
-pub(crate) struct SarifArtifact<'a> {
-    pub uri: &'a str,
+#[derive(Drop, Serialize)]
+pub(crate) struct SarifArtifact {
+    pub uri: String,
 }
 
 /// A part of the script. Its end is the first byte after it.
@@ -88,8 +88,10 @@ pub(crate) struct SarifRegion {
     pub start_column: usize,
     pub end_line: usize,
     pub end_column: usize,
-    pub byte_offset: usize,
-    pub byte_length: usize,
+    #[serde(skip_serializing_if = "Option::is_none")]
+    pub byte_offset: Option<usize>,
+    #[serde(skip_serializing_if = "Option::is_none")]
+    pub byte_length: Option<usize>,
 }
 
 /// The steps of a finding.
@@ -112,14 +114,14 @@ pub(crate) struct SarifStep<'a> {
 /// A change of the script that mends it.
 #[derive(Drop, Serialize)]
 #[serde(rename_all = "camelCase")]
-pub(crate) struct SarifFix<'a> {
-    pub artifact_changes: Vec<SarifChange<'a>>,
+pub(crate) struct SarifFix {
+    pub artifact_changes: Vec<SarifChange>,
 }
 
 #[derive(Drop, Serialize)]
 #[serde(rename_all = "camelCase")]
-pub(crate) struct SarifChange<'a> {
-    pub artifact_location: SarifArtifact<'a>,
+pub(crate) struct SarifChange {
+    pub artifact_location: SarifArtifact,
     pub replacements: Vec<SarifReplacement>,
 }
 

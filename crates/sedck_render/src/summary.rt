@@ -2,7 +2,7 @@
 
 use crate::parts::{Ink, NO_INK};
 use sedck_findings::{Answer, Explanation, NamedFile, Position, shown_name};
-use sedck_words::{place_words, push_all, push_limit};
+use sedck_words::{Names, place_words, push_all, push_limit};
 use std::alloc::{AllocError, Global};
 
 /// The most positions of one file that are listed.
@@ -15,11 +15,11 @@ pub(crate) struct Inks {
     pub no: Ink,
 }
 
-/// Adds the answer, the limit on steps and the files. Of what is refused it adds nothing.
+/// Adds the answer, the limit on steps and the files. Of what is refused it adds nothing, and of what isn't judged no files.
 pub(crate) fn push_summary(
     alloc: Global,
     out: &mut Vec<u8>,
-    name: &str,
+    names: Names,
     explanation: &Explanation,
     inks: Inks,
 ) -> Result<(), AllocError> {
@@ -31,13 +31,14 @@ pub(crate) fn push_summary(
         Answer::Accepted { .. } => (yes, "accepted", ": every run ends\n"),
         Answer::Rejected { .. } => (no, "rejected", ": the certificate doesn't fit the script\n"),
         Answer::Endless(_) => (no, "loop", ": a run may never end\n"),
+        Answer::NotJudged => return push_all(out, &[names.whole(), ": not judged\n"]),
         Answer::ScriptRefused(_) | Answer::CertificateRefused(_) => return Ok(()),
     };
-    push_all(out, &[name, ": "])?;
+    push_all(out, &[names.whole(), ": "])?;
     push_all(out, &[ink.on, answer, ink.off, rest])?;
     push_steps(alloc, out, &explanation.answer)?;
-    push_files(alloc, out, "  reads: ", &explanation.reads)?;
-    push_files(alloc, out, "  writes: ", &explanation.writes)
+    push_files(alloc, out, names, "  reads: ", &explanation.reads)?;
+    push_files(alloc, out, names, "  writes: ", &explanation.writes)
 }
 
 /// Adds the limit on steps, where there is one.
@@ -58,6 +59,7 @@ fn push_steps(alloc: Global, out: &mut Vec<u8>, answer: &Answer) -> Result<(), A
 fn push_files(
     alloc: Global,
     out: &mut Vec<u8>,
+    names: Names,
     what: &str,
     files: &[NamedFile],
 ) -> Result<(), AllocError> {
@@ -67,7 +69,7 @@ fn push_files(
     for file in files {
         let name = shown_name(alloc, file.name)?;
         push_all(out, &[what, "\"", name.as_str(), "\" ("])?;
-        push_positions(alloc, out, &file.positions)?;
+        push_positions(alloc, out, names, &file.positions)?;
         push_all(out, &[")\n"])?;
     }
     Ok(())
@@ -77,6 +79,7 @@ fn push_files(
 fn push_positions(
     alloc: Global,
     out: &mut Vec<u8>,
+    names: Names,
     positions: &[Position],
 ) -> Result<(), AllocError> {
     let listed = positions.get(..POSITIONS).unwrap_or(positions);
@@ -84,7 +87,7 @@ fn push_positions(
         if index > 0 {
             push_all(out, &[", "])?;
         }
-        push_all(out, &[place_words(alloc, Some(*position))?.as_str()])?;
+        push_all(out, &[place_words(alloc, names, Some(*position))?.as_str()])?;
     }
     let more = positions.len().saturating_sub(POSITIONS);
     if more == 0 {

@@ -1,12 +1,12 @@
 //! The report for people at a terminal: each finding with its line, and what an accepted script may do.
 
-use crate::columns::{push_aligned, push_padded, push_spaces};
+use crate::columns::{push_aligned, push_padded, push_spaces, width_of};
 use crate::parts::{Ink, NO_INK, prefix, push_headline, push_left_out};
 use crate::summary::{Inks, push_summary};
 use sedck_findings::{Explanation, Finding, Level, Position, Step};
 use sedck_words::{
-    ListedSteps, Source, command_line, decimal, excerpt, is_listed, listed_steps, place_words,
-    push_all, source_of,
+    ListedSteps, Names, Source, command_line, decimal, excerpt, is_listed, listed_steps,
+    place_words, push_all, source_of,
 };
 use std::alloc::{AllocError, Global};
 
@@ -28,10 +28,10 @@ const GREEN: &str = "\x1b[1;32m";
 const PLAIN: &str = "\x1b[0m";
 
 /// Each finding of at least this level with its line, a caret under the byte that is meant, its steps and its hint; then the answer
-/// with the limit on steps and the files, but for what is refused. `colour` adds the colours of ANSI terminals.
+/// with the limit on steps and the files, but for what is refused or not judged. `colour` adds the colours of ANSI terminals.
 pub fn text_report(
     alloc: Global,
-    name: &str,
+    names: Names,
     explanation: &Explanation,
     least: Level,
     colour: bool,
@@ -40,14 +40,14 @@ pub fn text_report(
     let source = source_of(explanation);
     for finding in &explanation.findings {
         if is_listed(finding, least) {
-            push_finding(alloc, &mut out, name, source, finding, colour)?;
+            push_finding(alloc, &mut out, names, source, finding, colour)?;
         }
     }
     let inks = Inks {
         yes: ink_where(colour, GREEN),
         no: ink_where(colour, RED),
     };
-    push_summary(alloc, &mut out, name, explanation, inks)?;
+    push_summary(alloc, &mut out, names, explanation, inks)?;
     Ok(out)
 }
 
@@ -73,34 +73,26 @@ fn level_ink(colour: bool, level: Level) -> Ink {
 fn push_finding(
     alloc: Global,
     out: &mut Vec<u8>,
-    name: &str,
+    names: Names,
     source: Source,
     finding: &Finding,
     colour: bool,
 ) -> Result<(), AllocError> {
     let ink = level_ink(colour, finding.level);
-    let place = prefix(alloc, name, finding.position)?;
+    let place = prefix(alloc, names, finding.position)?;
     push_headline(out, place.as_str(), ink, finding)?;
-    let gutter = gutter_width(alloc, finding.position)?;
+    let mut gutter = 4;
     if let Some(position) = finding.position {
+        let number = decimal(alloc, names.place_of(position).line)?;
+        gutter = number.len().saturating_add(2).max(4);
+        push_aligned(out, number.as_str(), gutter)?;
         push_line(alloc, out, source.text, position, gutter, ink)?;
     }
-    push_steps(alloc, out, source, &finding.steps, gutter)?;
+    push_steps(alloc, out, names, source, &finding.steps, gutter)?;
     push_hint(out, finding.hint, gutter, ink_where(colour, CYAN))
 }
 
-/// How many columns precede the bar beside a finding's line.
-fn gutter_width(alloc: Global, position: Option<Position>) -> Result<usize, AllocError> {
-    match position {
-        Some(position) => {
-            let digits = decimal(alloc, position.line)?;
-            Ok(digits.len().saturating_add(2).max(4))
-        }
-        None => Ok(4),
-    }
-}
-
-/// Adds the line in which the position is, and a caret under the byte.
+/// Adds the line in which the position is, behind its number, and a caret under the byte.
 fn push_line(
     alloc: Global,
     out: &mut Vec<u8>,
@@ -110,8 +102,6 @@ fn push_line(
     ink: Ink,
 ) -> Result<(), AllocError> {
     let shown = excerpt(alloc, text, position, LINE_WIDTH)?;
-    let number = decimal(alloc, position.line)?;
-    push_aligned(out, number.as_str(), gutter)?;
     push_all(out, &[" | ", shown.shown.as_str(), "\n"])?;
     push_caret(out, gutter, shown.before, ink)
 }
@@ -150,6 +140,7 @@ struct Row<'a> {
 fn push_steps(
     alloc: Global,
     out: &mut Vec<u8>,
+    names: Names,
     source: Source,
     steps: &[Step],
     gutter: usize,
@@ -161,7 +152,7 @@ fn push_steps(
     } = listed_steps(steps);
     let mut rows = Vec::new(alloc);
     for step in first.iter().chain(last.iter()) {
-        rows.push(step_row(alloc, source, step)?)?;
+        rows.push(step_row(alloc, names, source, step)?)?;
     }
     let columns = columns_of(&rows, gutter);
     for (index, row) in rows.iter().enumerate() {
@@ -176,8 +167,13 @@ fn push_steps(
 }
 
 /// The parts of a step's line.
-fn step_row<'a>(alloc: Global, source: Source, step: &'a Step) -> Result<Row<'a>, AllocError> {
-    let place = place_words(alloc, step.position)?;
+fn step_row<'a>(
+    alloc: Global,
+    names: Names,
+    source: Source,
+    step: &'a Step,
+) -> Result<Row<'a>, AllocError> {
+    let place = place_words(alloc, names, step.position)?;
     let source = match step.position {
         Some(position) => command_line(alloc, source, step.node.at, position, STEP_WIDTH)?,
         None => String::new(alloc),
@@ -205,7 +201,7 @@ fn columns_of(rows: &[Row], gutter: usize) -> Columns {
         source: 0,
     };
     for row in rows {
-        columns.place = columns.place.max(row.place.len());
+        columns.place = columns.place.max(width_of(row.place.as_str()));
         columns.source = columns.source.max(row.source.len());
     }
     columns

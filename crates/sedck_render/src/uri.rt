@@ -1,4 +1,4 @@
-//! The address of a script.
+//! The address of a script, or of a part of one.
 
 use percent_encoding::{AsciiSet, NON_ALPHANUMERIC, ascii_set, utf8_percent_encode};
 use std::alloc::{AllocError, Global};

@@ -63,5 +63,8 @@ pub fn page_of(code: Code) -> &'static str {
         | Code::ReadAndWritten => "TRUST.md#names",
         Code::NoBound => "FORMATS.md#the-line-of-the-bound",
         Code::UnknownCode => "RECIPES.md#fewer-findings",
+        Code::OtherLanguage => "CALLS.md#other-languages",
+        Code::BadCall => "CALLS.md#words-that-are-refused",
+        Code::InPlace => "CALLS.md#in-place",
     }
 }

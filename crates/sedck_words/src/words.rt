@@ -1,5 +1,6 @@
 //! Words and numbers that several formats share.
 
+use crate::names::{Names, Place};
 use sedck_findings::{Answer, Explanation, Level, Position};
 use sedck_flow::Kind;
 use std::alloc::{AllocError, Global};
@@ -27,6 +28,7 @@ pub fn answer_word(explanation: &Explanation) -> &'static str {
         Answer::Endless(_) => "loop",
         Answer::ScriptRefused(_) => "script-refused",
         Answer::CertificateRefused(_) => "certificate-refused",
+        Answer::NotJudged => "not-judged",
     }
 }
 
@@ -40,16 +42,20 @@ pub fn kind_word(kind: Kind) -> &'static str {
     }
 }
 
-/// `LINE:COLUMN`, or `end` for the script's end.
-pub fn place_words(alloc: Global, position: Option<Position>) -> Result<String, AllocError> {
-    match position {
-        Some(position) => {
-            let line = position.line;
-            let column = position.column;
-            format!(in alloc; "{line}:{column}")
-        }
-        None => String::from_str(alloc, "end"),
+/// `LINE:COLUMN`, or `end` for the script's end. Where the script has several parts, the part's name precedes it.
+pub fn place_words(
+    alloc: Global,
+    names: Names,
+    position: Option<Position>,
+) -> Result<String, AllocError> {
+    let Some(position) = position else {
+        return String::from_str(alloc, "end");
+    };
+    let Place { name, line, column } = names.place_of(position);
+    if names.part_count() > 1 {
+        return format!(in alloc; "{name}:{line}:{column}");
     }
+    format!(in alloc; "{line}:{column}")
 }
 
 /// A path as it is shown.

@@ -8,7 +8,7 @@ use Rattle.sedck_script.specs.declared.fault.ScriptFault.{ScriptFault}
 use Rattle.sedck_script.specs.declared.fault.ScriptFault.TheVariants.{OutOfMemory}
 use Rattle.sedck_findings.specs.Errors.{is_error, has_error, BeginsWithError, IsErrorPosition, BeginsWithAnswer}
 use Rattle.sedck_findings.specs.declared.answer.Answer.{Answer}
-use Rattle.sedck_findings.specs.declared.answer.Answer.TheVariants.{ScriptRefused, Accepted}
+use Rattle.sedck_findings.specs.declared.answer.Answer.TheVariants.{ScriptRefused, Accepted, NotJudged}
 use Rattle.sedck_findings.specs.declared.finding.Finding.{Finding}
 use Rattle.sedck_findings.specs.declared.finding.Level.TheVariants.{Error}
 use Rattle.sedck_findings.specs.declared.places.Position.{Position}
@@ -26,6 +26,7 @@ IsReportable text why = (why ≢ OutOfMemory) × IsPlaced text why
 abbrev pub IsOfScript : List ℕ → Program → Answer → Type 0
 IsOfScript text p (ScriptRefused why) = IsReportable text why
 IsOfScript text p (Accepted cert bound) = (cert.reads ≡ reads p) × (cert.writes ≡ writes p)
+IsOfScript text p NotJudged = ⊥
 IsOfScript text p _ = Unit {0}
 
 -- the script is refused, and its fault can be reported
@@ -33,9 +34,10 @@ abbrev pub IsRefused : List ℕ → Answer → Type 0
 IsRefused text (ScriptRefused why) = IsReportable text why
 IsRefused text _ = ⊥
 
--- a refused script's fault can be reported
+-- the script is judged, and the fault of one that is refused can be reported
 abbrev pub CanBeReported : List ℕ → Answer → Type 0
 CanBeReported text (ScriptRefused why) = IsReportable text why
+CanBeReported text NotJudged = ⊥
 CanBeReported text _ = Unit {0}
 
 -- the finding of an answer: an error where it isn't a yes

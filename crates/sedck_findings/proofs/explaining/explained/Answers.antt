@@ -5,18 +5,18 @@ use Rattle.sedck_findings.specs.Private.Errors.{AreFindingsOf, AddsNoError}
 use Rattle.sedck_findings.specs.Private.Reporting.{AreReported}
 use Rattle.sedck_findings.specs.declared.code.Code.{Code}
 use Rattle.sedck_findings.specs.declared.places.Position.{Position}
-use Rattle.sedck_findings.proofs.Errors.{errors_of, findings_stay, no_error_trans}
+use Rattle.sedck_findings.proofs.Errors.{errors_of, findings_stay, no_error_append, no_error_trans}
 use Rattle.sedck_findings.proofs.Explanations.{can_be_reported, lists_of_script}
 use Rattle.sedck_findings.proofs.Kept.{errors_reported, status_reported}
 use Rattle.sedck_findings.proofs.explaining.explained.Goals as goal
 
 pub answer_findings-requires : goal.answer_findings-requires
-answer_findings-requires c = can_be_reported c.args.text.now c.args.located.script c.args.answer c.requires
+answer_findings-requires c = can_be_reported c.args.text.now c.args.located.script c.args.answer c.requires.script
 
 pub denied_findings-requires : goal.denied_findings-requires
 denied_findings-requires c =
     rw (c.deref-10.ensures.value, c.deref-11.ensures.value)
-    (lists_of_script c.args.text.now c.args.located.script c.args.answer c.in_ok-reads.reads.items c.in_ok-writes.writes.items c.requires
+    (lists_of_script c.args.text.now c.args.located.script c.args.answer c.in_ok-reads.reads.items c.in_ok-writes.writes.items c.requires.script
     (c.in_ok-reads.ensures ∙ c.reads.ensures) (c.in_ok-writes.ensures ∙ c.writes.ensures))
 
 pub returns-clause-explains : goal.returns-clause-explains
@@ -24,6 +24,7 @@ returns-clause-explains c =
     let text = c.args.text.now in
     let answer = c.args.answer in
     let positions = c.in_ok-positions.positions.items in
+    let given = c.append.new.self.items in
     let looks = c.look_warnings.new.findings.items in
     let found = c.unknown_warnings.new.findings.items in
     let all = c.in_ok-all.all.items in
@@ -35,8 +36,10 @@ returns-clause-explains c =
     let of_answer : AreFindingsOf text positions answer c.in_ok-found.found.items =
     subst (λ (ps : List Position). AreFindingsOf text ps answer c.in_ok-found.found.items) c.deref-5.ensures.value c.in_ok-found.ensures in
     let adds : AddsNoError c.in_ok-found.found.items found =
-    no_error_trans c.in_ok-found.found.items looks found c.in_ok-look_warnings.ensures
-    (no_error_trans looks c.name_warnings.new.findings.items found c.in_ok-name_warnings.ensures c.in_ok-unknown_warnings.ensures) in
+    no_error_trans c.in_ok-found.found.items given found
+    (no_error_append c.in_ok-found.found.items given c.args.warnings.items c.in_ok-append.ensures.items c.requires.warned)
+    (no_error_trans given looks found c.in_ok-look_warnings.ensures
+    (no_error_trans looks c.name_warnings.new.findings.items found c.in_ok-name_warnings.ensures c.in_ok-unknown_warnings.ensures)) in
     let reported : AreReported text ignored all findings =
     subst (λ (codes : List Code). AreReported text codes all findings) c.deref-15.ensures.value c.in_ok-findings.ensures in
     let errors = errors_reported text positions answer ignored all findings c.status_under-status.result reported

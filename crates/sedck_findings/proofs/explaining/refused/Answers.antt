@@ -1,8 +1,9 @@
 use Rattle.std.proofs.Common.{◌≡◌, ◌∙◌, [], refl, ap, sym, subst}
 use Rattle.sedck_findings.specs.Denial.{has_warning, status_under}
 use Rattle.sedck_findings.specs.Errors.{BeginsWithAnswer}
+use Rattle.sedck_findings.specs.Private.Errors.{AreFindingsOf}
 use Rattle.sedck_findings.specs.Private.Reporting.{AreReported}
-use Rattle.sedck_findings.proofs.Errors.{errors_of_refusal}
+use Rattle.sedck_findings.proofs.Errors.{errors_of_refusal, findings_stay, no_error_append}
 use Rattle.sedck_findings.proofs.Kept.{errors_reported, status_reported}
 use Rattle.sedck_findings.proofs.explaining.refused.Goals as goal
 
@@ -10,14 +11,17 @@ pub returns-clause-explains : goal.returns-clause-explains
 returns-clause-explains c =
     let text = c.args.text.now in
     let answer = c.args.answer in
-    let found = c.in_ok-found.found.items in
+    let begun = c.in_ok-found.found.items in
+    let found = c.append.new.self.items in
     let all = c.in_ok-findings.findings.items in
     let status : c.status_under-status.result ≡ status_under c.args.denied (has_warning found) answer =
     c.status_under-status.ensures.value
     ∙ ap (λ warned. status_under c.args.denied warned answer) (c.any_warning.ensures ∙ ap has_warning c.deref.ensures.value) in
+    let of_answer : AreFindingsOf text [] answer found =
+    findings_stay text [] answer begun found (no_error_append begun found c.args.warnings.items c.in_ok-append.ensures.items c.requires.warned) c.in_ok-found.ensures in
     let reported : AreReported text [] found all = c.in_ok-findings.ensures in
     let errors = errors_reported text [] answer [] found all c.status_under-status.result reported
-    (errors_of_refusal text c.args.denied answer found c.status_under-status.result c.requires c.in_ok-found.ensures status) in
+    (errors_of_refusal text c.args.denied answer found c.status_under-status.result c.requires.refusal of_answer status) in
     record {
       is_text = refl;
       is_answer = refl;

@@ -7,10 +7,10 @@ use Rattle.sedck_findings.specs.Explanations.{IsExplanation, KeepsNothing}
 use Rattle.sedck_findings.specs.Private.Explaining.{Explains, KeepsLocated}
 use Rattle.sedck_findings.proofs.Answering.{of_some}
 use Rattle.sedck_findings.proofs.Explanations.{on_both, of_script, explained_script, explained_refusal}
-use Rattle.sedck_findings.proofs.explaining.explain.Goals as goal
+use Rattle.sedck_findings.proofs.explaining.explained_with.Goals as goal
 
-pub explained-requires : goal.explained-requires
-explained-requires c =
+pub explained-requires-clause-script : goal.explained-requires-clause-script
+explained-requires-clause-script c =
     of_script c.args.text.now _ c.in-Some.located.script c.in_ok-answer.field-0.answer
     (of_some (λ (located : Located). SpellsOnly c.args.text.now located.script) c.in_ok-answer.field-0.located c.in-Some.located c.in-Some.is c.in_ok-answer.ensures.script)
     c.in_ok-answer.ensures.answer

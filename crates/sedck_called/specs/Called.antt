@@ -1,0 +1,62 @@
+-- The script of a call of sed, and when a call is accepted, this project's own.
+use Rattle.std.specs.Prelude.{◌≡◌, ℕ, Bool, true, false, List, [], ◌∷◌, Option, None, codes, if◌then◌else◌}
+use Rattle.std.specs.Str.{bytes_eq}
+use Rattle.std.specs.List.{list_any}
+use Rattle.sedck_calls.specs.Calls.{IsCall}
+use Rattle.sedck_calls.specs.Scripts.{joined_texts}
+use Rattle.sedck_calls.specs.Origins.{end_of_word}
+use Rattle.sedck_calls.specs.declared.option.CallOption.{CallOption}
+use Rattle.sedck_calls.specs.declared.option.CallOption.TheVariants as option
+use Rattle.sedck_calls.specs.declared.given.Given.{Given}
+use Rattle.sedck_calls.specs.declared.given.Given.TheVariants.{Alone, With, Operand}
+use Rattle.sedck_calls.specs.declared.call.Piece.{Piece}
+use Rattle.sedck_calls.specs.declared.call.Piece.TheVariants.{Text, File}
+use Rattle.sedck_calls.specs.declared.call.Call.{Call}
+use Rattle.sedck_cli.specs.Inputs.{IsRead}
+use Rattle.sedck_cli.specs.Opened.{Known}
+use Rattle.sedck_findings.specs.Explanations.{IsExplanation}
+use Rattle.sedck_findings.specs.declared.denied.Denied.{Denied}
+use Rattle.sedck_findings.specs.declared.finding.Explanation.{Explanation}
+
+-- An option that makes sed read another language (extended expressions), or other lines (up to a byte 0, or of each operand by itself),
+-- than those of the model
+abbrev pub changes_language : CallOption → Bool
+changes_language option.Extended = true
+changes_language option.NullData = true
+changes_language option.Separate = true
+changes_language _ = false
+
+abbrev pub is_foreign : Given → Bool
+is_foreign (Alone o n) = changes_language o
+is_foreign (With o at) = changes_language o
+is_foreign (Operand n) = false
+
+-- one of the options does
+abbrev pub has_foreign : List Given → Bool
+has_foreign given = list_any is_foreign given
+
+-- the bytes that the file at the path has, where they are known: `-` is standard input, of which nothing is
+abbrev pub part_bytes : Known → List ℕ → Option (List ℕ)
+part_bytes k path = if bytes_eq path (codes "-") then None else k.bytes_at path
+
+-- a part of the script: the end of a word, or what was read of the file whose path that is
+abbrev pub IsPart : Known → List (List ℕ) → Piece → List ℕ → Type 0
+IsPart k words (Text at) part = part ≡ end_of_word words at
+IsPart k words (File at) part = IsRead 1048577 (part_bytes k (end_of_word words at)) part
+
+-- one for each piece
+abbrev pub AreParts : Known → List (List ℕ) → List Piece → List (List ℕ) → Type 0
+AreParts k words [] parts = parts ≡ []
+AreParts k words (piece ∷ pieces) parts =
+    (part : List ℕ) × (others : List (List ℕ)) × (parts ≡ part ∷ others) × IsPart k words piece part × AreParts k words pieces others
+
+-- The call with these words is accepted: no option changes the language, and the script, its parts joined, is explained with the status 0.
+pub record IsAcceptedCall (k : Known) (denied : Denied) (words : List (List ℕ)) : Type 0 where
+  pub call : Call
+  pub is_call : IsCall words call
+  pub is_judged : has_foreign call.given.items ≡ false
+  pub parts : List (List ℕ)
+  pub are_parts : AreParts k words call.pieces.items parts
+  pub explanation : Explanation
+  pub is_explanation : IsExplanation (joined_texts parts) None denied explanation
+  pub is_yes : explanation.status ≡ 0

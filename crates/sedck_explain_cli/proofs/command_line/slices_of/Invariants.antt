@@ -1,0 +1,6 @@
+use Rattle.std.proofs.Common.{◌≡◌, take, map}
+use Rattle.sedck_explain_cli.proofs.command_line.slices_of.Given as goal
+
+-- the words so far
+abbrev pub invariant-loop-word : goal.invariant-loop-word
+invariant-loop-word l = map (λ word. word.now) l.slices.items ≡ map (λ word. word.items) (take l.word-index l.words)
