@@ -1,8 +1,8 @@
 #!/usr/bin/env python3
 """Packs build/sedck-VERSION-KIT.tar.gz: python3 tools/dist.py [RT]
 
-It holds both programs of build/, their manual pages, README.md, the pages on trust, loops and faults, and SHA256SUMS, for
-`sha256sum -c` in its folder. VERSION is that of CHANGELOG.md, KIT the first word of `rt version`. The same files give the same
+It holds both programs of build/, those of wrapper/, their manual pages, README.md, the pages on trust, loops, faults and calls, and
+SHA256SUMS, for `sha256sum -c` in its folder. VERSION is that of CHANGELOG.md, KIT the first word of `rt version`. The same files give the same
 archive: names are sorted, and owners and times are fixed.
 """
 import gzip
@@ -16,9 +16,11 @@ import tarfile
 from pathlib import Path
 
 TOP = Path(__file__).resolve().parent.parent
-PACKED = {"bin/sedck": "build/sedck", "bin/sedck-explain": "build/sedck-explain"}
-PACKED.update({name: name for name in ["README.md", "docs/TRUST.md", "docs/MENDING.md", "docs/FAULTS.md",
-                                       "man/sedck.1", "man/sedck-explain.1", "man/sedck.5"]})
+PACKED = {"bin/sedck": "build/sedck", "bin/sedck-explain": "build/sedck-explain", "bin/sedck-sed": "wrapper/sedck-sed",
+          "libexec/sedck/sed": "wrapper/sed"}
+PROGRAMS = tuple(PACKED)
+PACKED.update({name: name for name in ["README.md", "docs/TRUST.md", "docs/MENDING.md", "docs/FAULTS.md", "docs/CALLS.md",
+                                       "man/sedck.1", "man/sedck-explain.1", "man/sedck-sed.1", "man/sedck.5"]})
 
 
 def name_of(rt):
@@ -35,7 +37,7 @@ def packed(name, files):
             tarfile.open(fileobj=zipped, mode="w", format=tarfile.USTAR_FORMAT) as archive:
         for path in sorted(files):
             entry = tarfile.TarInfo("%s/%s" % (name, path))
-            entry.size, entry.mode = len(files[path]), 0o755 if path.startswith("bin/") else 0o644
+            entry.size, entry.mode = len(files[path]), 0o755 if path in PROGRAMS else 0o644
             archive.addfile(entry, io.BytesIO(files[path]))
     return whole.getvalue()
 

@@ -1,0 +1,349 @@
+#!/usr/bin/env python3
+"""Tests wrapper/sed and wrapper/sedck-sed: python3 tests/wrapper.py build/sedck-explain, in the folder of the repository.
+
+They are installed in a scratch folder as `make install` does it, with the program, or with a stand-in for it where what it does is
+to be known: that one prints the report and the status that the test gives. What is due comes from the real sed and from the words of
+the call. Each test runs with each shell of SHELLS that the machine has. The status is 0 only where everything is as expected.
+"""
+import json
+import os
+import shutil
+import subprocess
+import sys
+import tempfile
+import threading
+from pathlib import Path
+
+TOP = Path(__file__).resolve().parent.parent
+SHELLS = ("dash", "bash", "busybox sh")
+REPORT = '{"file":"sed","status":%d,"answer":"%s","reads":[%s],"writes":[%s],"findings":[%s]}'
+# Reads all its input, notes its words, appends what it reads of a copy to the file `checked`, and changes the file that CHANGES names.
+STAND_IN = """#!/bin/sh
+cat > /dev/null
+printf '%s\\n' "$*" >> "$NOTES/asked"
+for word do case $word in */dev/fd/*) cat "/dev/fd/${word##*/}" >> "$NOTES/checked" ;; esac; done
+[ -z "$CHANGES" ] || printf 's/^/changed/\\n' > "$CHANGES"
+case $2 in json) printf '%s\\n' "$REPORT" ;; *) echo "/dev/fd/9:1:1: error: what it finds [code]" ;; esac
+exit "$STATUS"
+"""
+# A sed that says what it is and how it was called.
+SPEAKING_SED = """#!/bin/sh
+[ "$*" != '--sandbox --version' ] || { echo '%s'; exit; }
+printf '<%%s>' "$@"
+"""
+failures = []
+
+
+def expect(is_so, what):
+    if not is_so:
+        failures.append(what)
+
+
+def report(status=0, answer="accepted", reads="", writes="", findings=""):
+    return REPORT % (status, answer, reads, writes, findings)
+
+
+def named(name):
+    return '{"name":%s,"positions":[]}' % json.dumps(name)
+
+
+class Place:
+    """A folder with the wrapper installed, the folder `here` to work in, and a log."""
+    def __init__(self, folder, shell, explain=None):
+        self.top, self.here, self.log = Path(folder), Path(folder) / "here", Path(folder) / "log"
+        self.shell = shell
+        for name in ("bin", "libexec/sedck", "here", "real", "once", "temporary"):
+            (self.top / name).mkdir(parents=True)
+        self.install(self.top / "libexec/sedck/sed", (TOP / "wrapper/sed").read_text())
+        self.install(self.top / "bin/sedck-sed", (TOP / "wrapper/sedck-sed").read_text())
+        if explain:
+            shutil.copy(explain, self.top / "bin/sedck-explain")
+        else:
+            self.install(self.top / "bin/sedck-explain", STAND_IN)
+        self.first = subprocess.run([str(self.top / "bin/sedck-sed"), "--dir"], stdout=subprocess.PIPE, encoding="utf-8").stdout[:-1]
+        self.path = self.first + ":" + os.environ["PATH"]
+
+    def install(self, path, text):
+        if text.startswith("#!/bin/sh") and self.shell:
+            text = "#!/usr/bin/env -S %s\n" % self.shell + text.partition("\n")[2]
+        path.write_text(text)
+        path.chmod(0o755)
+
+    def call(self, *words, mode="log", given=b"", program="sed", shown=None, **variables):
+        """The status, and the bytes on both streams. Variables whose name is `SHORT` are named SEDCK_SHORT, others as they are."""
+        words = [word if isinstance(word, bytes) else word.encode() for word in words]
+        environment = {**os.environ, "PATH": self.path, "NOTES": str(self.top), "CHANGES": "", "STATUS": "0", "REPORT": report(),
+                       "TMPDIR": str(self.top / "temporary"), "SEDCK_MODE": mode, "SEDCK_LOG": str(self.log)}
+        environment.update({name if name in environment else "SEDCK_" + name: str(value) for name, value in variables.items()})
+        # What `env` finds on the path, as a shell does.
+        done = subprocess.run([b"/usr/bin/env", program.encode(), *words], cwd=self.here, env=environment, input=given, stdout=shown or subprocess.PIPE,
+                              stderr=subprocess.PIPE, timeout=60)
+        return done.returncode, done.stdout, done.stderr
+
+    def lines(self):
+        """The objects of the log, which is emptied."""
+        text = self.log.read_text(encoding="ascii") if self.log.exists() else ""
+        self.log.unlink(missing_ok=True)
+        return [json.loads(line) for line in text.splitlines()]
+
+    def note(self, name):
+        path = self.top / name
+        text = path.read_bytes() if path.exists() else b""
+        path.unlink(missing_ok=True)
+        return text
+
+
+def real(*words, given=b"", here=None):
+    done = subprocess.run(["/usr/bin/env", "sed", *words], input=given, cwd=here, capture_output=True)
+    return done.returncode, done.stdout, done.stderr
+
+
+def check_answers(place):
+    """With the program: what is accepted, refused and shown in each mode, and that sed is as it was."""
+    noise = bytes(range(256)) * 400
+    for words in (["s/a/b/"], ["-n", "$p"], ["-e", "s/x/y/", "-e", "2d"], ["p", "missing"], ["--version"]):
+        due = real(*words, given=noise, here=place.here)
+        for mode in ("log", "warn", "refuse"):
+            found = place.call(*words, mode=mode, given=noise)
+            expect(found[:2] == due[:2], "%s, %s: %s" % (mode, words, found[2]))
+            expect(bool(found[2]) == bool(due[2]), "%s, %s: says %s" % (mode, words, found[2]))
+    lines = place.lines()
+    expect(len(lines) == 15 and all(line["answer"] == "accepted" and line["accepted"] for line in lines), "log: %s" % lines)
+    for words, code in (([":a;ba"], "loop-idle"), (["s/[/x/"], "unclosed-bracket"), (["-E", "s/(a)/b/"], "other-language"), (["-n"], "bad-call")):
+        status, out, said = place.call(*words, mode="refuse", given=b"a\n")
+        expect(status == 120 and out == b"" and b"[%s]\n" % code.encode() in said, "refuse, %s: %d, %s" % (words, status, said))
+        expect([line["accepted"] for line in place.lines()] == [False], "refuse, %s: the log says something else" % words)
+    status, out, said = place.call("-E", "s/(a)/<\\1>/", mode="warn", given=b"a\n")
+    expect((status, out) == (0, b"<a>\n") and b"[other-language]\n" in said, "warn: %d, %s, %s" % (status, out, said))
+    status, out, said = place.call("-E", "s/(a)/<\\1>/", given=b"a\n")
+    expect((status, out, said) == (0, b"<a>\n", b""), "log: %d, %s, %s" % (status, out, said))
+    answers = [(line["mode"], line["report"]["status"]) for line in place.lines()]
+    expect(answers == [("warn", 2), ("log", 2)], "log: %s" % answers)
+    (place.here / "x.sed").write_text("s/a/b/\ns/c/\n")
+    status, _, said = place.call("-f", "x.sed", mode="refuse")
+    expect(status == 120 and said.startswith(b"x.sed:2:1: error: "), "refuse: the file isn't named: %s" % said)
+    status, _, said = place.call("-f", "none.sed", mode="refuse")
+    expect(status == 120 and b"none.sed" in said, "refuse: the file that can't be read isn't named: %s" % said)
+
+
+def check_words(place):
+    """Words of any bytes are handed on, and are in the log, where a byte is the character with its number."""
+    place.lines()
+    hostile = ["", "a b", "$(touch touched)", "`touch touched`", "x\ny\n", "\n", "\t'\"\\\\", "--", "-n", "*", bytes(range(1, 256)), "é", "\\" * 50, "a\"b\\c\nd" * 900]
+    place.install(place.top / "real/sed", SPEAKING_SED % "")
+    status, out, said = place.call("-e", "p", *hostile, SED=place.top / "real/sed")
+    encoded = [word if isinstance(word, bytes) else word.encode() for word in ("-e", "p", *hostile)]
+    expect((status, said) == (0, b"") and out == b"".join(b"<%s>" % word for word in encoded), "words: %d, %s, %s" % (status, out, said))
+    line, = place.lines()
+    expect([word.encode("latin-1") for word in line["words"]] == encoded, "words: the log has %s" % line["words"])
+    expect(line["folder"] == str(place.here), "words: the folder is %s" % line["folder"])
+    expect(not list(place.here.glob("touched")), "words: a word is run")
+
+
+def check_files(place):
+    """What runs are the bytes that were checked, whatever the name and the option; and there is no copy left."""
+    names = ["x.sed", "a b.sed", "$HOME.sed", "$(touch touched)", "x\ny", "-e", "'\"\\", "--file", "é"]
+    for name in names:
+        forms = [["-f", name], ["-nf" + name], ["--file=" + name], ["--fi", name], ["-n", "-f", name, "-e", "p"], ["-l", "5", "-f", name]]
+        for words in forms if name == "x.sed" else forms[:3]:
+            script = place.here / name
+            script.write_text("s/^/checked/p\n")
+            due = real(*words, given=b"a\n", here=place.here)
+            found = place.call(*words, mode="refuse", given=b"a\n", CHANGES=name, GNU=0)
+            expect(found == due and b"checkeda" in found[1], "files, %r: %s" % (words, found))
+            expect(script.read_text() == "s/^/changed/\n", "files, %r: the file didn't change" % words)
+            expect(place.note("checked") == b"s/^/checked/p\n", "files, %r: something else was checked" % words)
+            copies = place.lines()[0]["copies"]
+            expect([text.encode("latin-1").decode() for text in copies.values()] == [name], "files, %r: the log has the copies %s" % (words, copies))
+            script.unlink()
+    for number in range(9):
+        (place.here / ("%d.sed" % number)).write_text("s/^/%d/\n" % number)
+    words = [word for number in range(7) for word in ("-f", "%d.sed" % number)]
+    found = place.call(*words, mode="refuse", given=b"\n", CHANGES="3.sed")
+    expect(found[:2] == (0, b"6543210\n"), "files: of seven %s" % (found,))
+    found = place.call(*words, "-f", "7.sed", "-f", "8.sed", mode="refuse", given=b"\n")
+    expect(found[:2] == (120, b"") and b"[not-copied]" in found[2], "files: of nine %s" % (found,))
+    expect(place.call("-f", "7.sed", "-f", "none.sed", given=b"\n")[0] == real("-f", "none.sed")[0], "files: a missing one")
+    for words, due in ((["-e", "p", "in", "-e", "d"], 120), (["p", "in", "--", "d"], 120), (["-e", "p", "--", "in", "-e"], 0), (["-e", "p", "in", "-"], 0)):
+        found = place.call("POSIXLY_CORRECT=1", "sed", *words, mode="refuse", program="env", SED="/bin/true")
+        expect(found[0] == due and (b"[option-after-operand]" in found[2]) == bool(due), "files, %s: %s" % (words, found))
+    expect(not list(place.here.glob("touched")) and not os.listdir(place.top / "temporary"), "files: something is left")
+    (place.here / "p").write_text("d\n")
+    (place.here / "edited").write_text("a\n")
+    found = place.call("-i.f", "p", "edited", mode="refuse", GNU=0)
+    expect(found == (0, b"", b"") and (place.here / "edited").read_text() == "a\na\n", "files: the end of -i is taken for an option: %s" % (found,))
+    expect(place.call("--", "p", "-f", "edited", mode="refuse")[0] == 2 and place.lines()[-1]["copies"] == {}, "files: an operand is taken for an option")
+
+
+def check_streams(place):
+    """A script that can be read only once, and one that only sed can read."""
+    place.lines()
+    place.note("checked")
+    pipe = place.here / "pipe"
+    for mode in ("log", "warn", "refuse"):
+        os.mkfifo(pipe)
+        writer = threading.Thread(target=lambda: pipe.write_text("s/a/b/\n"))
+        writer.start()
+        found = place.call("-f", "pipe", mode=mode, given=b"a\n")
+        writer.join()
+        pipe.unlink()
+        expect(found == (0, b"b\n", b"") and place.note("checked") == b"s/a/b/\n", "streams, %s: %s" % (mode, found))
+    place.note("asked")
+    for name in ("-", "/dev/stdin"):
+        found = place.call("-f", name, "0.sed", given=b"s/^/x/\n")
+        expect(found == real("-f", name, "0.sed", given=b"s/^/x/\n", here=place.here), "streams, %s: %s" % (name, found))
+        found = place.call("-f", name, "0.sed", mode="refuse", given=b"s/^/x/\n")
+        expect(found[:2] == (120, b"") and b"[script-from-input]" in found[2], "streams, %s: %s" % (name, found))
+    expect([line["answer"] for line in place.lines()[3:]] == ["unchecked"] * 4 and place.note("asked") == b"", "streams: something is checked")
+
+
+def check_failing(place):
+    """A wrapper that can't do its work refuses in one mode, and loses nothing in the others."""
+    program = place.top / "bin/sedck-explain"
+    for what in ("status 3", "status 4", "no report", "two lines", "missing"):
+        given = {"STATUS": what[-1] if what.startswith("status") else 0, "REPORT": {"two lines": report() + "\n" + report()}.get(what, "")}
+        if what == "missing":
+            program.unlink()
+            given["EXPLAIN"] = program
+        expect(place.call("p", given=b"a\n", **given) == (0, b"a\na\n", b""), "failing, %s: the sed is lost" % what)
+        line, = place.lines()
+        expect(line["report"] is None and line["problems"] and not line["accepted"], "failing, %s: %s" % (what, line))
+        found = place.call("p", mode="warn", given=b"a\n", **given)
+        is_said = found[2].endswith(b"[no-report]\n") and (what != "missing" or found[2].count(b"\n") == 1)
+        expect(found[:2] == (0, b"a\na\n") and is_said, "failing, %s: %s" % (what, found))
+        found = place.call("p", mode="refuse", given=b"a\n", **given)
+        expect(found[:2] == (120, b"") and b"[no-report]" in found[2], "failing, %s: %s" % (what, found))
+        place.lines()
+    expect(place.call("p", given=b"a\n", LOG=place.top / "none" / "log", EXPLAIN="/bin/true") == (0, b"a\na\n", b""), "failing: no log")
+    place.install(program, STAND_IN)
+    place.note("asked")
+    expect(place.call("p", given=b"a\n", LOG="") == (0, b"a\na\n", b"") and place.note("asked") == b"", "failing: the program is asked for no log")
+    expect(place.call("p", mode="refse")[0] == 120, "failing: an unknown mode")
+
+
+def check_recursion(place):
+    """The wrapper never finds itself, and another one only once."""
+    for name in ("link", "other", "back", "loop"):
+        (place.top / name).mkdir()
+    (place.top / "link/sed").symlink_to(place.first + "/sed")
+    shutil.copy(place.first + "/sed", place.top / "other/sed")
+    place.install(place.top / "back/sed", "#!/bin/sh\nsed \"$@\"\n")
+    place.install(place.top / "loop/sed", "#!/bin/sh\nexec '%s/sed' \"$@\"\n" % place.first)
+    own, system = place.first, os.environ["PATH"]
+    link, other, back, loop = (str(place.top / name) for name in ("link", "other", "back", "loop"))
+    settings = {"EXPLAIN": place.top / "bin/sedck-explain"}
+    for path in ([own, own, system], [own + "/", own, system], [link, own, system], [own, link, system], [own, other, own, link, other, system]):
+        expect(place.call("p", given=b"a\n", PATH=":".join(path), **settings) == (0, b"a\na\n", b""), "recursion: %s" % path)
+    for name in (own + "/sed", link + "/sed", back + "/sed"):
+        expect(place.call("p", given=b"a\n", SED=name, **settings) == (0, b"a\na\n", b""), "recursion: %s" % name)
+    expect(place.call("p", given=b"a\n", program=own + "/sed", PATH=system, **settings) == (0, b"a\na\n", b""), "recursion: by its whole name")
+    os.symlink(shutil.which(place.shell.split()[0] if place.shell else "sh"), place.top / "loop" / (place.shell.split()[0] if place.shell else "sh"))
+    expect(place.call("p", program=own + "/sed", PATH=loop, **settings)[0] == 127, "recursion: a sed that leads back")
+    for path in (own, own + ":" + other):
+        status, out, said = place.call("p", given=b"a\n", program=own + "/sed", PATH=path + ":" + str(shell_alone(place)), **settings)
+        expect((status, out) == (127, b"") and b"no other sed" in said, "recursion: no sed: %d, %s" % (status, said))
+
+
+def shell_alone(place):
+    """A folder with the shell, and nothing else."""
+    folder = place.top / "alone"
+    folder.mkdir(exist_ok=True)
+    for name in {"env", "sh", (place.shell or "sh").split()[0]}:
+        if not (folder / name).exists():
+            os.symlink(shutil.which(name), folder / name)
+    return folder
+
+
+def check_log(place):
+    """Lines of calls at the same time don't mix, and a script is known again by its bytes."""
+    place.lines()
+
+    def at_once(count, **given):
+        calls = [threading.Thread(target=place.call, args=("-n", ("s/x/%s%d/" % ("y\t" * 6000, k if "ONCE" not in given else 0)), "f%d" % k), kwargs=given) for k in range(count)]
+        for call in calls:
+            call.start()
+        for call in calls:
+            call.join()
+
+    at_once(24)
+    lines = place.lines()
+    expect(sorted(line["words"][2] for line in lines) == sorted("f%d" % k for k in range(24)), "log: %d lines" % len(lines))
+    at_once(16, ONCE=place.top / "once")
+    expect(len(place.lines()) == 1, "once: a script comes more than once")
+    for name in ("one.sed", "two.sed", "three.sed"):
+        (place.here / name).write_text("s/a/%d/\n" % (name == "three.sed"))
+    calls = (["s/a/b/"], ["s/a/b/", "0.sed"], ["s/a/b/", "1.sed"], ["s/a/b/;p"], ["-n", "s/a/b/"], ["-f", "one.sed"], ["-f", "two.sed", "0.sed"], ["-f", "three.sed"])
+    for words in calls:
+        expect(place.call(*words, given=b"a\n", ONCE=place.top / "once") == real(*words, given=b"a\n", here=place.here), "once: %s" % words)
+    found = [line["words"] for line in place.lines()]
+    expect(found == [calls[0], calls[3], calls[4], calls[5], calls[7]], "once: the log has %s" % found)
+
+
+def check_places(place):
+    """Files that the script names and that are also files of the call."""
+    place.lines()
+    for name in ("in", "out", "free"):
+        (place.here / name).write_text("a\n")
+    for name, target in (("to-out", "out"), ("to-in", "in"), ("to-null", "/dev/null"), ("to-zero", "/dev/zero")):
+        (place.here / name).symlink_to(target)
+    rows = [("out", "r", "same-file"), ("to-out", "w", "same-file"), ("in", "w", "same-file"), ("to-in", "r", "same-file"), ("free", "w", ""), ("new", "w", ""),
+            ("to-zero", "r", "device"), ("/dev/zero", "r", "device"), ("/dev/null", "w", ""), ("/dev/stdout", "w", ""), ("a\"b", "w", "not-compared"), (str(place.here / "in"), "w", "same-file")]
+    for name, verb, code in rows:
+        lists = {"reads" if verb == "r" else "writes": named("other") + "," + named(name)}
+        with open(place.here / "out", "ab") as out:
+            status, _, said = place.call("p", "in", mode="refuse", shown=out, REPORT=report(**lists), SED="/bin/true")
+        expect(status == (120 if code else 0) and b"[%s]" % code.encode() in said + b"[]", "places, %s %s: %d, %s" % (verb, name, status, said))
+        found = place.lines()[0]
+        expect(bool(found["problems"]) == bool(code), "places, %s %s: %s" % (verb, name, found["problems"]))
+    expect(place.call("-c", "sed p < out >> out", mode="refuse", program="sh")[0] == 120, "places: standard input and output")
+    for words, code in ((["p", "in"], 0), (["p", "out"], 120), (["p", "to-out"], 120)):
+        with open(place.here / "out", "ab") as out:
+            expect(place.call(*words, mode="refuse", shown=out, SED="/bin/true")[0] == code, "places: %s" % words)
+
+
+def check_sandbox(place):
+    """--sandbox comes where GNU sed runs an accepted call without names, and only in the mode `refuse`."""
+    name = named("x")
+    rows = [("sed (GNU sed) 4.9", {}, True), ("This is not GNU sed version 4.0", {}, False), ("", {"GNU": 1}, True), ("sed (GNU sed) 4.9", {"GNU": 0}, False),
+            ("", {"GNU": 1, "REPORT": report(reads=name)}, False), ("", {"GNU": 1, "REPORT": report(writes=name)}, False), ("", {"GNU": 1, "mode": "warn"}, False),
+            ("", {"GNU": 1, "mode": "log"}, False)]
+    for says, given, is_added in rows:
+        place.install(place.top / "real/sed", SPEAKING_SED % says)
+        found = place.call("-n", "p", **{"mode": "refuse", "SED": place.top / "real/sed", **given})
+        expect(found == (0, b"<--sandbox>" * is_added + b"<-n><p>", b""), "sandbox, %s, %s: %s" % (says, given, found))
+
+
+    (place.here / "gnu").mkdir()
+    if real("--sandbox", "p", here=place.here)[0] == 0:
+        found = place.call("w gnu/x", mode="refuse", given=b"a\n")
+        expect(found[0] == 1 and not list(place.here.glob("gnu/*")), "sandbox: the real sed writes a file: %s" % (found,))
+
+
+def check_own(place):
+    """What sedck-sed prints."""
+    expect(place.first == str((place.top / "libexec/sedck").resolve()), "sedck-sed: %s" % place.first)
+    expect(place.call("--help", program=str(place.top / "bin/sedck-sed"))[0] == 0, "sedck-sed --help")
+    expect(place.call(program=str(place.top / "bin/sedck-sed"))[0] == 3, "sedck-sed without words")
+    shutil.rmtree(place.top / "libexec")
+    expect(place.call("--dir", program=str(place.top / "bin/sedck-sed"))[0] == 4, "sedck-sed without its folder")
+
+
+def main():
+    shells = [shell for shell in SHELLS if shutil.which(shell.split()[0])]
+    for shell in shells:
+        before = len(failures)
+        with tempfile.TemporaryDirectory(prefix="sedck-wrapper-") as folder:
+            check_answers(Place(os.path.join(folder, "a"), shell, os.path.abspath(sys.argv[1])))
+            place = Place(os.path.join(folder, "b"), shell)
+            for check in (check_words, check_files, check_streams, check_failing, check_recursion, check_log, check_places, check_sandbox, check_own):
+                check(place)
+        failures[before:] = ["%s: %s" % (shell, failure) for failure in failures[before:]]
+    for failure in failures:
+        print("FAILED: " + failure)
+    if not failures:
+        print("wrapper: it does what it should, with %s" % ", ".join(shells))
+    return 1 if failures or not shells else 0
+
+
+if __name__ == "__main__":
+    sys.exit(main())
