@@ -4,7 +4,7 @@
 RT ?= rt
 PREFIX ?= /usr/local
 
-.PHONY: all build demo test docs examples explain-tests refusals refusals-program streams tools-tests bench seds install dist clean
+.PHONY: all build demo test docs examples explain-tests refusals refusals-program streams tools-tests calls-tests wrapper-tests bench seds install dist clean
 
 # One target after the other, also under `make -j`: proofs want all processors and much memory, and tests have limits of time.
 .NOTPARALLEL:
@@ -32,7 +32,7 @@ test: build/refuse.so
 	@echo "Running the gate: every proof from nothing, the must-fail edits, the tests and the program (60 to 120 processor minutes) ..."
 	$(RT) ci
 	@$(COPY)
-	@$(MAKE) --no-print-directory -o build -o refusals-program docs explain-tests refusals streams tools-tests
+	@$(MAKE) --no-print-directory -o build -o refusals-program docs explain-tests refusals streams tools-tests calls-tests wrapper-tests
 
 docs examples: build
 	@echo "Checking the documents: the examples and their certificates, and each command that the pages show ..."
@@ -64,6 +64,14 @@ tools-tests:
 	@echo "Testing make build, make demo and make dist with a stand-in for rt ..."
 	python3 tests/tools.py
 
+calls-tests: build
+	@echo "Comparing what is made of the words of a call with two other readers ..."
+	python3 tests/calls.py build/sedck-explain
+
+wrapper-tests: build
+	@echo "Testing the sed that has its calls judged ..."
+	python3 tests/wrapper.py build/sedck-explain
+
 bench: build
 	@echo "Measuring build/sedck and build/sedck-explain (bench/run.py prints the tables of docs/BENCH.md) ..."
 	python3 bench/run.py build/sedck
@@ -75,18 +83,22 @@ seds: build
 	python3 tests/seds/seds.py build/sedck $(SEDS)
 
 install: build
-	@echo "Installing sedck, sedck-explain, their manual pages and the pages on loops and faults under $(PREFIX) ..."
-	install -d $(DESTDIR)$(PREFIX)/bin $(DESTDIR)$(PREFIX)/share/man/man1 $(DESTDIR)$(PREFIX)/share/man/man5 $(DESTDIR)$(PREFIX)/share/doc/sedck
+	@echo "Installing sedck, sedck-explain, sedck-sed, their manual pages and the pages on loops, faults and calls under $(PREFIX) ..."
+	install -d $(DESTDIR)$(PREFIX)/bin $(DESTDIR)$(PREFIX)/libexec/sedck $(DESTDIR)$(PREFIX)/share/man/man1 $(DESTDIR)$(PREFIX)/share/man/man5 $(DESTDIR)$(PREFIX)/share/doc/sedck
 	install -m 755 build/sedck $(DESTDIR)$(PREFIX)/bin/sedck
 	install -m 755 build/sedck-explain $(DESTDIR)$(PREFIX)/bin/sedck-explain
+	install -m 755 wrapper/sedck-sed $(DESTDIR)$(PREFIX)/bin/sedck-sed
+	install -m 755 wrapper/sed $(DESTDIR)$(PREFIX)/libexec/sedck/sed
 	install -m 644 man/sedck.1 $(DESTDIR)$(PREFIX)/share/man/man1/sedck.1
 	install -m 644 man/sedck-explain.1 $(DESTDIR)$(PREFIX)/share/man/man1/sedck-explain.1
+	install -m 644 man/sedck-sed.1 $(DESTDIR)$(PREFIX)/share/man/man1/sedck-sed.1
 	install -m 644 man/sedck.5 $(DESTDIR)$(PREFIX)/share/man/man5/sedck.5
 	install -m 644 docs/MENDING.md $(DESTDIR)$(PREFIX)/share/doc/sedck/MENDING.md
 	install -m 644 docs/FAULTS.md $(DESTDIR)$(PREFIX)/share/doc/sedck/FAULTS.md
+	install -m 644 docs/CALLS.md $(DESTDIR)$(PREFIX)/share/doc/sedck/CALLS.md
 
 dist: build
-	@echo "Packing both programs, their manual pages and four pages of the documents, with their check sums ..."
+	@echo "Packing the programs, their manual pages and five pages of the documents, with their check sums ..."
 	@python3 tools/dist.py "$(RT)"
 
 clean:

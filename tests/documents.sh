@@ -12,7 +12,8 @@ scratch=${TMPDIR:-/tmp}/sedck-documents.$$
 mkdir "$scratch" || exit 1
 trap 'rm -rf "$scratch"' EXIT
 trap 'exit 1' HUP INT PIPE TERM
-mkdir "$scratch/build" && cp build/sedck build/sedck-explain "$scratch/build" && cp -R examples "$scratch" || exit 1
+mkdir -p "$scratch/build" "$scratch/libexec/sedck" && cp build/sedck build/sedck-explain wrapper/sedck-sed "$scratch/build" &&
+    cp wrapper/sed "$scratch/libexec/sedck" && cp -R examples "$scratch" || exit 1
 documents=$PWD
 cd "$scratch/examples" || exit 1
 failures=0
@@ -97,7 +98,7 @@ blocks_that_run() {
 # Each command of the console blocks, with all that it prints. After ```console come the words for `has` that a block needs.
 cd .. || exit 1
 PATH=$scratch/build:$PATH
-for document in README.md examples/README.md docs/RECIPES.md docs/TRUST.md docs/STRANGERS.md; do
+for document in README.md examples/README.md docs/RECIPES.md docs/TRUST.md docs/STRANGERS.md docs/CALLS.md; do
     awk 'sub(/^```console/, "needs") { on = 1 } /^```/ { on = 0 } on' "$documents/$document" > blocks
     blocks_that_run "$document" > shown
     run_shown "$document"
@@ -105,7 +106,7 @@ done
 
 # Those of the manual pages, in the folder of the examples as it was: a command that goes on in a line with `> ` is one line.
 cd examples || exit 1
-for document in man/sedck.1 man/sedck-explain.1 man/sedck.5; do
+for document in man/sedck.1 man/sedck-explain.1 man/sedck-sed.1 man/sedck.5; do
     cp "$documents"/examples/* . || exit 1
     awk -v quote="'" '/^\.SH/ { page = ($2 == "EXAMPLES") }
         /^\.\\" needs / { needs = substr($0, 10) }

@@ -44,7 +44,7 @@ class LeftOut(Exception):
 
 
 class Scratch:
-    """A folder with the programs sedck and sedck-explain on the path."""
+    """A folder with the programs sedck, sedck-explain and sedck-sed on the path."""
     def __init__(self, sedck, explain):
         self.sedck, self.explain = sedck, explain
 
@@ -55,6 +55,9 @@ class Scratch:
         os.makedirs(self.folder)
         shutil.copy(self.sedck, os.path.join(self.whole.name, "bin", "sedck"))
         shutil.copy(self.explain, os.path.join(self.whole.name, "bin", "sedck-explain"))
+        os.makedirs(os.path.join(self.whole.name, "libexec", "sedck"))
+        shutil.copy(os.path.join(TOP, "wrapper", "sedck-sed"), os.path.join(self.whole.name, "bin"))
+        shutil.copy(os.path.join(TOP, "wrapper", "sed"), os.path.join(self.whole.name, "libexec", "sedck"))
         self.environment = {"PATH": os.path.join(self.whole.name, "bin") + ":" + os.environ["PATH"], "HOME": self.whole.name, "LC_ALL": "C",
                             "GIT_AUTHOR_NAME": "a", "GIT_AUTHOR_EMAIL": "a@b", "GIT_COMMITTER_NAME": "a", "GIT_COMMITTER_EMAIL": "a@b"}
         return self
@@ -129,6 +132,19 @@ def inline_make(scratch):
     os.remove(os.path.join(scratch.folder, "notes"))
     scratch.write("Makefile", text.replace("s/^  *//", ":a\ns/^ / /\nta"))
     holds("loop-idle" in scratch.run(2, "make", "notes") and not scratch.has("notes"), "a script with a loop is run")
+
+
+def calls(scratch):
+    makefile_text = "all:\n\t@echo a | sed s/a/b/\n\t@echo a | sed s/a/b/\n"
+    scratch.write("Makefile", makefile_text)
+    scratch.write("check-calls.sh", block("The calls of sed in a build", "sh"))
+    holds(scratch.run(0, "sh", "check-calls.sh") == "b\nb\n", "the calls aren't run")
+    holds(scratch.text("sed-calls").count("\n") == 1, "a script isn't noted once")
+    scratch.run(1, "sh", "check-calls.sh")
+    shutil.rmtree(os.path.join(scratch.folder, "sed-scripts"))
+    scratch.write("Makefile", makefile_text + "\t@echo a | sed -E 's/(a)/c/'\n")
+    says = scratch.run(1, "sh", "check-calls.sh").splitlines()
+    holds(says[:3] == ["b", "b", "c"] and [json.loads(line)["words"] for line in says[3:]] == [["-E", "s/(a)/c/"]], "the call isn't shown: %s" % says)
 
 
 def stranger(scratch):
@@ -368,7 +384,7 @@ def pre_commit(scratch):
 
 
 # Each recipe with the programs that it needs.
-RECIPES = [(makefile, "make sed"), (in_place, "sed"), (inline, "sed"), (inline_make, "make sed"), (stranger, "sed"), (vim, "vim"), (hook, "git sed"), (hook_alone, "git"), (step, ""), (lists, ""),
+RECIPES = [(makefile, "make sed"), (in_place, "sed"), (inline, "sed"), (inline_make, "make sed"), (calls, "make sed"), (stranger, "sed"), (vim, "vim"), (hook, "git sed"), (hook_alone, "git"), (step, ""), (lists, ""),
            (make_check, "make"), (autopkgtest, ""), (matcher, "yaml bash"), (sarif, "yaml bash jq"), (fewer, ""),
            (github, "yaml bash curl tar sha256sum"), (gitlab, "yaml bash curl tar sha256sum"), (pre_commit, "yaml")]
 

@@ -312,6 +312,12 @@ EXPLAINED = [
     ([], {}, 0),
     (["--wrong"], {}, 3),
     (["--help"], {}, 0),
+    (["--sed", "--", "-ne", "$!N", "-f", "script", "-i", "x"], {"script": "p"}, 0),
+    (["--sed", "--", "-Ez", "p"], {}, 2),
+    (["--sed", "--", "--nonsense"], {}, 2),
+    (["--sed", "--", "-f", "script"], {}, 4),
+    (["--deny", "writes", "--sed", "--", "-i", "p", "x"], {}, 1),
+    (["--sed"], {}, 3),
 ]
 SEVERAL = {"one": NEXT_LINE, "two": IDLE, "three": "b z"}
 

@@ -1,0 +1,174 @@
+#!/usr/bin/env python3
+"""Calls of sed by their words: python3 tests/calls.py SEDCK_EXPLAIN [NUMBER]
+
+Two other readers of words judge `sedck-explain --sed`: Python's `getopt`, which gives the script, and the sed of this machine, where
+it is GNU's, which says whether it takes the words. What is said of the script of a call has to be what is said of the same text in a
+file, at the same offsets. A table has what `getopt` can't read: `-i`, `-I` and options of other languages.
+"""
+import getopt
+import json
+import random
+import subprocess
+import sys
+import tempfile
+from pathlib import Path
+
+SHORT = "nEre:f:szul:ba"
+LONG = ["expression=", "file=", "regexp-extended", "quiet", "silent", "separate", "null-data", "zero-terminated", "unbuffered",
+        "line-length=", "binary", "posix", "sandbox", "debug", "follow-symlinks", "help", "version"]
+TEXTS = ["p", "s/a/b/", "s/a/b", ":a;N;ba", ":a;ba", "$!N", "w out", "/x/{p", "}", "a\\", "text", "", "#n", "y/ab/ba/", "b end", ":end"]
+FILES = {"one.sed": "s/x/y/\n", "two.sed": "N\nP\nD\n", "three.sed": ":a\nba", "-dash": "p\n"}
+FOREIGN = {"-E", "-r", "-s", "-z", "--regexp-extended", "--separate", "--null-data", "--zero-terminated"}
+# Words that `getopt` doesn't know, the status that is due, and the codes of the findings.
+ROWS = [
+    (["-i", "p", "f"], 0, ["in-place"]), (["-i.bak", "p", "f"], 0, ["in-place"]), (["-i", "p"], 0, []),
+    (["-I", ".bak", "p", "f"], 0, ["in-place"]), (["-I.bak", "p", "f"], 0, ["in-place"]), (["-I"], 2, ["bad-call"]),
+    (["-ni", "p", "f"], 0, ["in-place"]), (["-in", "p", "f"], 0, ["in-place"]), (["--in-place=.bak", "p", "f"], 0, ["in-place"]),
+    (["--in-place", "p", "f"], 0, ["in-place"]), (["--i", "p", "f"], 0, ["in-place"]), (["p", "f", "-i"], 0, ["in-place"]),
+    (["p", "--", "-i"], 0, []), (["-i", "-E", "p", "f"], 2, ["other-language"]), (["-Ei", "p", "f"], 2, ["other-language"]),
+    (["-zs", "p"], 2, ["other-language", "other-language"]), (["-k", "p"], 2, ["bad-call"]), (["--quiet=x", "p"], 2, ["bad-call"]),
+    (["-e", ":a;ba", "-i", "f"], 1, ["loop-idle", "in-place"]),
+]
+# The same with what is denied before.
+DENIED = [
+    ("writes", ["-i", "p", "f"], 1, ["denied-writes", "in-place"]), ("writes", ["p", "f"], 0, []), ("writes", ["-i", "p"], 0, []),
+    ("writes", ["w out", "f"], 1, ["denied-writes"]), ("reads", ["-i", "p", "f"], 0, ["in-place"]),
+    ("warnings", ["-i", "p", "f"], 1, ["denied-warnings", "in-place"]), ("warnings", ["p", "f"], 0, []),
+    ("writes", ["-iE", "p", "f"], 1, ["denied-writes", "in-place"]), ("writes", ["-E", "p", "f"], 2, ["other-language"]),
+]
+
+
+def explained(program, words, folder, before=()):
+    """The status and the object of a call, or of a script where `before` says so."""
+    ran = subprocess.run([program, "--format", "json", *before, *words], cwd=folder, stdin=subprocess.DEVNULL, capture_output=True,
+                         timeout=60)
+    return ran.returncode, json.loads(ran.stdout) if ran.stdout else None
+
+
+def offsets(report):
+    """What is said of a script, by offsets alone."""
+    found = [(f["code"], f["position"] and f["position"]["offset"], f["end"] and f["end"]["offset"]) for f in report["findings"]
+             if f["code"] not in ("in-place", "other-language", "bad-call")]
+    return (report["answer"], report["bound"], [c["offset"] for c in report["commands"]], found,
+            [(f["name"], [p["offset"] for p in f["positions"]]) for f in report["reads"] + report["writes"]])
+
+
+def script_of(words):
+    """The script's parts as `getopt` reads the words, each with its name, or None, and whether an option changes the language."""
+    try:
+        options, operands = getopt.gnu_getopt(words, SHORT, LONG)
+    except getopt.GetoptError:
+        return None, False
+    parts = [(name, value) for name, value in options if name in ("-e", "--expression", "-f", "--file")]
+    idle = any(name in ("--help", "--version") for name, _ in options)
+    if not parts and operands:
+        parts = [("-e", operands[0])]
+    elif not parts and not idle:
+        return None, False
+    named = []
+    for name, value in parts:
+        is_text = name in ("-e", "--expression")
+        count = sum(1 for other, _ in named if other.startswith("-e ")) + 1
+        named.append(("-e %d" % count, value) if is_text else (value, FILES[value]))
+    return named, any(name in FOREIGN for name, _ in options)
+
+
+def places(report):
+    """Each position in a report of a call: its offset, its part, and its line and column there."""
+    found = report["commands"] + [f[end] for f in report["findings"] for end in ("position", "end") if f[end]]
+    found += [step["position"] for f in report["findings"] for step in f["steps"] if step["position"]]
+    return [(p["offset"], p["part"], p["line"], p["column"]) for p in found]
+
+
+def place_of(named, offset):
+    """The part in which an offset of the script is, with the line and the column there; a newline between two parts ends the first."""
+    for name, text in named:
+        if offset <= len(text):
+            before = text[:offset]
+            return name, before.count("\n") + 1, offset - (before.rfind("\n") + 1) + 1
+        offset -= len(text) + 1
+    return None
+
+
+def prefixes(program, words, folder):
+    """Where each finding is, as compilers print it."""
+    ran = subprocess.run([program, "--format", "gcc", "--level", "note", "--sed", "--", *words], cwd=folder, stdin=subprocess.DEVNULL,
+                         capture_output=True, timeout=60, encoding="ascii")
+    return [line.split(": ")[0] for line in ran.stdout.splitlines() if " [" in line and ": note: hint" not in line]
+
+
+def drawn(draw):
+    """Words of a call."""
+    words = []
+    for _ in range(draw.randrange(1, 6)):
+        text = draw.choice(TEXTS)
+        name = draw.choice(sorted(FILES))
+        words += draw.choice([
+            ["-e", text], ["-e" + text] if text else ["-e", ""], ["--expression=" + text], ["--expr", text], ["-ne", text], ["-f", name],
+            ["-f" + name], ["--file=" + name], ["--fi", name], ["-n"], ["-nu"], ["--posix"], ["--q"], ["--sand"], ["-l", "9"], ["-l9"],
+            ["--line-length=9"], [text], ["in"], ["--"], ["-E"], ["-nz"], ["--s"], ["--nonsense"], ["--posix=x"], ["-e"], ["-"], ["-ub"],
+            ["--debug"], ["--follow"], ["--version"]])
+    return words
+
+
+def differs(words, folder, refused):
+    """Whether GNU's sed, with its usage, says the other thing of the words. It may also stop at a text before it comes to such a word."""
+    ran = subprocess.run(["sed", "--sandbox", *words], cwd=folder, stdin=subprocess.DEVNULL, capture_output=True, timeout=60)
+    if b"Usage:" in ran.stderr:
+        return not refused
+    return refused and ran.returncode == 0
+
+
+def compared(program, words, folder, gnu):
+    """What is wrong with the answer for the words, or None."""
+    named, foreign = script_of(words)
+    status, report = explained(program, words, folder, ["--sed", "--"])
+    codes = [finding["code"] for finding in report["findings"]] if report else []
+    if gnu and "--version" not in words and differs(words, folder, "bad-call" in codes):
+        return "GNU sed differs"
+    if named is None:
+        return None if status == 2 and codes == ["bad-call"] else "no refusal"
+    if foreign:
+        return None if status == 2 and set(codes) == {"other-language"} else "no other language"
+    for offset, *place in places(report):
+        if tuple(place) != place_of(named, offset):
+            return "place %s of offset %d" % (place, offset)
+    due = ["%s:%d:%d" % place_of(named, f["position"]["offset"]) if f["position"] else "sed" for f in report["findings"]]
+    if [prefix for prefix in prefixes(program, words, folder) if prefix in due] != due:
+        return "other places for compilers"
+    (folder / "script").write_text("\n".join(text for _, text in named))
+    due, other = explained(program, ["script"], folder)
+    if status != due:
+        return "status %s, of the file %s" % (status, due)
+    return None if offsets(report) == offsets(other) else "another report"
+
+
+def main():
+    program = str(Path(sys.argv[1]).resolve())
+    number = int(sys.argv[2]) if len(sys.argv) > 2 else 1500
+    draw = random.Random(7)
+    failures = checks = 0
+    gnu = b"GNU sed" in subprocess.run(["sed", "--version"], capture_output=True).stdout
+    with tempfile.TemporaryDirectory() as name:
+        folder = Path(name)
+        for path, text in FILES.items():
+            (folder / path).write_text(text)
+        for what, words, due, codes in [("", *row) for row in ROWS] + DENIED:
+            status, report = explained(program, words, folder, [*(["--deny", what] if what else []), "--sed", "--"])
+            checks += 1
+            if (status, [finding["code"] for finding in report["findings"] if finding["code"] != "no-bound"]) != (due, codes):
+                failures += 1
+                print("calls:", words, status, report["findings"])
+        for _ in range(number):
+            words = drawn(draw)
+            wrong = compared(program, words, folder, gnu)
+            checks += 1
+            if wrong:
+                failures += 1
+                print("calls:", words, wrong)
+    print("%d calls, %d failures%s" % (checks, failures, "" if gnu else ", without GNU sed"))
+    return 1 if failures else 0
+
+
+if __name__ == "__main__":
+    sys.exit(main())
