@@ -1,0 +1,143 @@
+//! What encloses a byte of shell text.
+
+use crate::command::ShellWord;
+use std::alloc::Global;
+
+/// The quoting of a byte (XCU 2.2).
+#[derive(Clone, Copy, Debug, PartialEq, Eq)]
+pub(crate) enum Quote {
+    None,
+    Single,
+    Double,
+    /// Between `$'` and `'`.
+    Dollar,
+    /// It is in a comment.
+    Comment,
+    /// It is in a here-document whose delimiter isn't quoted.
+    Body,
+    /// It is in a here-document whose delimiter is quoted.
+    Verbatim,
+}
+
+/// What encloses a byte.
+#[derive(Clone, Copy, Debug, PartialEq, Eq)]
+pub(crate) enum Enclosure {
+    /// The text itself.
+    Text,
+    /// `$( )`, and `<( )` and `>( )`.
+    Substitution,
+    /// `( )`, also behind a word.
+    Group,
+    /// `name=( )`, and `@( )` of a pattern.
+    Array,
+    /// `${ }`.
+    Parameter,
+    /// `$(( ))`, and `(( ))`.
+    Arithmetic,
+}
+
+/// How much had been read at a place.
+#[derive(Clone, Copy)]
+pub(crate) struct Mark {
+    pub commands: usize,
+    pub jobs: usize,
+}
+
+/// What the next word is.
+#[derive(Clone, Copy, Debug, PartialEq, Eq)]
+pub(crate) enum Awaited {
+    /// A word of the command.
+    Word,
+    /// Where its output goes.
+    Target,
+    /// Another word of a redirection.
+    Skipped,
+    /// The delimiter of a here-document.
+    Delimiter {
+        /// Whether leading tabs are taken off.
+        is_stripped: bool,
+        /// Whether it is for descriptor 0.
+        is_input: bool,
+    },
+}
+
+/// A command of which words may follow.
+#[derive(Drop)]
+pub(crate) struct Draft {
+    pub words: Vec<ShellWord>,
+    /// The number of the here-document that is its input.
+    pub here: Option<usize>,
+    pub target: Option<ShellWord>,
+}
+
+/// What is being read within what encloses it.
+#[derive(Drop)]
+pub(crate) struct Frame {
+    pub enclosure: Enclosure,
+    /// Whether it is a hole of the word around it.
+    pub is_hole: bool,
+    /// Whether it is in nothing but groups, so that its commands stand if it isn't closed.
+    pub is_plain: bool,
+    /// The offset in the file where it begins.
+    pub opened: usize,
+    /// Whether a single quote in it is itself, since double quotes are around it.
+    pub is_in_double: bool,
+    /// How many brackets of M4 are around it, and around the last quote in it.
+    pub brackets: usize,
+    pub floor: usize,
+    pub quote: Quote,
+    pub command: Draft,
+    pub word: ShellWord,
+    pub has_word: bool,
+    pub awaited: Awaited,
+    /// How many commands `case` aren't ended.
+    pub cases: usize,
+    /// Whether a pattern of the last one is read.
+    pub is_pattern: bool,
+    /// Whether the command is `[[`, and not ended by `]]`.
+    pub is_test: bool,
+    /// How many parentheses of an arithmetic expression or of a pattern are open.
+    pub parentheses: usize,
+}
+
+impl Draft {
+    pub fn new(alloc: Global) -> Draft {
+        Draft {
+            words: Vec::new(alloc),
+            here: None,
+            target: None,
+        }
+    }
+}
+
+impl Frame {
+    /// The frame around a text.
+    pub fn new(alloc: Global, quote: Quote) -> Frame {
+        Frame {
+            enclosure: Enclosure::Text,
+            is_hole: false,
+            is_plain: true,
+            opened: 0,
+            is_in_double: false,
+            brackets: 0,
+            floor: 0,
+            quote,
+            command: Draft::new(alloc),
+            word: ShellWord::new(alloc),
+            has_word: false,
+            awaited: Awaited::Word,
+            cases: 0,
+            is_pattern: false,
+            is_test: false,
+            parentheses: 0,
+        }
+    }
+
+    /// Whether what is in it are commands.
+    pub fn has_commands(&self) -> bool {
+        matches!(
+            self.enclosure,
+            Enclosure::Text | Enclosure::Substitution | Enclosure::Group
+        )
+    }
+}
