@@ -1,0 +1,132 @@
+//! The parts of a Dockerfile's instructions.
+
+use crate::kind::{Kind, program_kind};
+use crate::parts::{Part, between, bytes_of, is_ended, name_end};
+use sedck_traced::Unit;
+
+/// A here-document of an instruction.
+#[derive(Clone, Copy)]
+pub(crate) struct Here {
+    pub delimiter: Part,
+    /// Whether tabs before a line are taken off.
+    pub is_stripped: bool,
+    /// Whether it is the text that the shell reads, since nothing else stands in the instruction.
+    pub is_script: bool,
+}
+
+/// The units without the word that begins them, and without the blanks behind it.
+pub(crate) fn after_first(units: &[Unit]) -> &[Unit] {
+    let mut is_word = true;
+    for (index, unit) in units.iter().enumerate() {
+        let is_blank = matches!(*unit, Unit::Byte(b' ' | b'\t', _));
+        if is_blank {
+            is_word = false;
+        } else if !is_word {
+            return units.get(index..).unwrap_or(&[]);
+        }
+    }
+    &[]
+}
+
+/// The units without the options before a command.
+pub(crate) fn after_options(units: &[Unit]) -> &[Unit] {
+    let mut rest = units;
+    for _ in 0..32 {
+        if !matches!(rest, [Unit::Byte(b'-', _), Unit::Byte(b'-', _), ..]) {
+            break;
+        }
+        rest = after_first(rest);
+    }
+    rest
+}
+
+/// Whether the units are a list of JSON's, and no command of a shell.
+pub(crate) fn is_list(units: &[Unit]) -> bool {
+    let [Unit::Byte(b'[', _), inner @ ..] = units else {
+        return false;
+    };
+    for unit in inner {
+        match *unit {
+            Unit::Byte(b' ' | b'\t', _) => {}
+            Unit::Byte(b'"' | b']', _) => return true,
+            _ => return false,
+        }
+    }
+    true
+}
+
+/// Whether the words of `SHELL` name another shell than one of POSIX's.
+pub(crate) fn is_foreign(words: &[u8]) -> bool {
+    let mut from = 0usize;
+    let mut quotes = 0usize;
+    for (index, byte) in words.iter().enumerate() {
+        if *byte == b'"' || *byte == b'/' {
+            quotes = quotes.saturating_add(usize::from(*byte == b'"'));
+            if quotes > 1 {
+                let name = words.get(from..index).unwrap_or(&[]);
+                return program_kind(name) != Some(Kind::Shell);
+            }
+            from = index.saturating_add(1);
+        }
+    }
+    true
+}
+
+/// The first here-document of an instruction. It is shell text by itself if nothing else stands in the instruction.
+pub(crate) fn here_of(file: &[u8], units: &[Unit], end: usize) -> Option<Here> {
+    let mut before = b' ';
+    for (index, unit) in units.iter().enumerate() {
+        let Unit::Byte(byte, offset) = *unit else {
+            continue;
+        };
+        if byte == b'<' && before != b'<' {
+            let found = here_at(file, between(offset, end), index == 0);
+            if found.is_some() {
+                return found;
+            }
+        }
+        before = byte;
+    }
+    None
+}
+
+/// The here-document whose redirection begins the part: `<<`, perhaps `-`, and a name, perhaps quoted.
+fn here_at(file: &[u8], whole: Part, is_first: bool) -> Option<Here> {
+    let (is_stripped, length) = match bytes_of(file, whole) {
+        [b'<', b'<', b'-', b'"' | b'\'', ..] => (true, 4usize),
+        [b'<', b'<', b'-', ..] => (true, 3),
+        [b'<', b'<', b'"' | b'\'', ..] => (false, 3),
+        [b'<', b'<', ..] => (false, 2),
+        _ => return None,
+    };
+    let start = whole.start.saturating_add(length);
+    let end = name_end(file, between(start, whole.end));
+    if end == start {
+        return None;
+    }
+    let is_quoted = matches!(file.get(end), Some(b'"' | b'\''));
+    let behind = end.saturating_add(usize::from(is_quoted));
+    Some(Here {
+        delimiter: between(start, end),
+        is_stripped,
+        is_script: is_first && is_ended(file, between(behind, whole.end)),
+    })
+}
+
+/// The line without the backslash at its end that continues it, and whether there is one: blanks may follow it.
+pub(crate) fn uncontinued(file: &[u8], line: Part) -> (Part, bool) {
+    let mut end = line.end;
+    for byte in bytes_of(file, line).iter().rev() {
+        end = end.saturating_sub(1);
+        if !matches!(*byte, b' ' | b'\t') {
+            break;
+        }
+    }
+    let before = end.saturating_sub(1);
+    let is_quoted = end > line.start && file.get(before) == Some(&b'\\');
+    if end >= line.start && file.get(end) == Some(&b'\\') && end < line.end && !is_quoted {
+        (between(line.start, end), true)
+    } else {
+        (line, false)
+    }
+}

@@ -1,0 +1,134 @@
+//! The parts of a makefile's lines.
+
+use crate::parts::{Part, after_blanks, between, bytes_of, name_end};
+
+/// Words that begin a line which is neither a rule nor an assignment.
+pub(crate) const DIRECTIVES: [&[u8]; 15] = [
+    b"ifeq",
+    b"ifneq",
+    b"ifdef",
+    b"ifndef",
+    b"if",
+    b"else",
+    b"endif",
+    b"include",
+    b"-include",
+    b"sinclude",
+    b"load",
+    b"vpath",
+    b"undefine",
+    b"unexport",
+    b"endef",
+];
+
+/// How an assignment sets its name.
+#[derive(Clone, Copy, Debug, PartialEq, Eq)]
+pub(crate) enum Operator {
+    /// To the value, as `=`, `:=`, `::=`, `:::=` and `?=` do.
+    Set,
+    /// `+=`.
+    Append,
+    /// `!=`: to what the shell writes.
+    Shell,
+}
+
+/// An assignment of a line.
+#[derive(Clone, Copy)]
+pub(crate) struct Definition {
+    pub name: Part,
+    pub operator: Operator,
+    /// Where the value begins, which goes to the line's end.
+    pub value: usize,
+}
+
+/// The assignment that the part is, if it is one: a name, blanks, and an operator.
+pub(crate) fn definition_at(file: &[u8], whole: Part) -> Option<Definition> {
+    let mut end = first_of(file, whole, b" \t=:;#");
+    let before = end.saturating_sub(1);
+    if file.get(end) == Some(&b'=') && matches!(file.get(before), Some(b'?' | b'+' | b'!')) {
+        end = before;
+    }
+    if end <= whole.start {
+        return None;
+    }
+    let at = after_blanks(file, between(end, whole.end));
+    let (operator, length) = operator_of(bytes_of(file, between(at, whole.end)))?;
+    let value = between(at.saturating_add(length), whole.end);
+    Some(Definition {
+        name: between(whole.start, end),
+        operator,
+        value: after_blanks(file, value),
+    })
+}
+
+/// The operator that begins the bytes, and its length.
+fn operator_of(bytes: &[u8]) -> Option<(Operator, usize)> {
+    match bytes {
+        [b'=', ..] => Some((Operator::Set, 1)),
+        [b':' | b'?', b'=', ..] => Some((Operator::Set, 2)),
+        [b':', b':', b'=', ..] => Some((Operator::Set, 3)),
+        [b':', b':', b':', b'=', ..] => Some((Operator::Set, 4)),
+        [b'+', b'=', ..] => Some((Operator::Append, 2)),
+        [b'!', b'=', ..] => Some((Operator::Shell, 2)),
+        _ => None,
+    }
+}
+
+/// Where the first of these bytes is that stands outside of references and behind no backslash; the end of the part if there is none.
+pub(crate) fn first_of(file: &[u8], part: Part, wanted: &[u8]) -> usize {
+    let mut resume = part.start;
+    for index in part.start..part.end {
+        if index < resume {
+            continue;
+        }
+        match file.get(index) {
+            Some(b'$') => resume = reference_end(file, index, part.end),
+            Some(b'\\') => resume = index.saturating_add(2),
+            Some(byte) if wanted.contains(byte) => return index,
+            _ => {}
+        }
+    }
+    part.end
+}
+
+/// Where the reference ends that begins with the byte at this offset, and has brackets or a single letter; the end of the part if it
+/// isn't closed.
+pub(crate) fn reference_end(file: &[u8], index: usize, end: usize) -> usize {
+    let from = index.saturating_add(2);
+    let (opener, closer) = match file.get(index.saturating_add(1)) {
+        Some(b'(') => (b'(', b')'),
+        Some(b'{') => (b'{', b'}'),
+        _ => return from,
+    };
+    let mut count = 0usize;
+    for index in from..end {
+        let byte = file.get(index).copied().unwrap_or(b' ');
+        if byte == opener {
+            count = count.saturating_add(1);
+        } else if byte == closer {
+            if count == 0 {
+                return index.saturating_add(1);
+            }
+            count = count.saturating_sub(1);
+        }
+    }
+    end
+}
+
+/// Where the command of a recipe's line begins: after blanks, `@`, `-` and `+`, but before a name with `@` around it.
+pub(crate) fn recipe_start(file: &[u8], whole: Part) -> usize {
+    for index in whole.start..whole.end {
+        let next = index.saturating_add(1);
+        match file.get(index) {
+            Some(b' ' | b'\t' | b'-' | b'+') => {}
+            Some(b'@') => {
+                let end = name_end(file, between(next, whole.end));
+                if end > next && file.get(end) == Some(&b'@') {
+                    return index;
+                }
+            }
+            _ => return index,
+        }
+    }
+    whole.end
+}

@@ -1,0 +1,136 @@
+//! Parts of a file, and its lines.
+
+use sedck_traced::Unit;
+use std::alloc::{AllocError, Global};
+
+/// A part of a file: from the first offset on to before the second one.
+#[derive(Clone, Copy)]
+pub(crate) struct Part {
+    pub start: usize,
+    pub end: usize,
+}
+
+/// The part from the first offset on to before the second one.
+pub(crate) fn between(start: usize, end: usize) -> Part {
+    Part { start, end }
+}
+
+/// The bytes of the part.
+pub(crate) fn bytes_of(file: &[u8], part: Part) -> &[u8] {
+    file.get(part.start..part.end).unwrap_or(&[])
+}
+
+/// The lines without their newlines and carriage returns; or the lines with those that continue them, where a backslash before a newline
+/// joins two.
+pub(crate) fn lines_of(
+    alloc: Global,
+    file: &[u8],
+    is_joined: bool,
+) -> Result<Vec<Part>, AllocError> {
+    let mut lines = Vec::new(alloc);
+    let mut start = 0usize;
+    let mut before = b'\n';
+    let mut is_quoted = false;
+    for (index, byte) in file.iter().enumerate() {
+        if *byte == b'\n' && !is_quoted {
+            let end = if before == b'\r' {
+                index.saturating_sub(1)
+            } else {
+                index
+            };
+            lines.push(between(start, end))?;
+            start = index.saturating_add(1);
+        }
+        is_quoted = is_joined && *byte == b'\\' && !is_quoted;
+        before = *byte;
+    }
+    if start < file.len() {
+        lines.push(between(start, file.len()))?;
+    }
+    Ok(lines)
+}
+
+/// Where the first byte of the part is that is none of these.
+pub(crate) fn after_any(file: &[u8], part: Part, skipped: &[u8]) -> usize {
+    for index in part.start..part.end {
+        match file.get(index) {
+            Some(byte) if skipped.contains(byte) => {}
+            _ => return index,
+        }
+    }
+    part.end
+}
+
+/// Where the first byte of the part is that is no blank.
+pub(crate) fn after_blanks(file: &[u8], part: Part) -> usize {
+    after_any(file, part, b" \t")
+}
+
+/// The word that begins the part and ends at a blank, and the part behind it and its blanks.
+pub(crate) fn split_word(file: &[u8], whole: Part) -> (&[u8], Part) {
+    let mut end = whole.end;
+    for index in whole.start..whole.end {
+        if matches!(file.get(index), Some(b' ' | b'\t')) {
+            end = index;
+            break;
+        }
+    }
+    let rest = between(after_blanks(file, between(end, whole.end)), whole.end);
+    (bytes_of(file, between(whole.start, end)), rest)
+}
+
+/// Whether the word is one of these.
+pub(crate) fn is_one_of(word: &[u8], words: &[&[u8]]) -> bool {
+    for other in words {
+        if *other == word {
+            return true;
+        }
+    }
+    false
+}
+
+/// Where the name ends that begins the part: its letters, digits and underscores.
+pub(crate) fn name_end(file: &[u8], part: Part) -> usize {
+    for index in part.start..part.end {
+        match file.get(index) {
+            Some(byte) if is_name_byte(*byte) => {}
+            _ => return index,
+        }
+    }
+    part.end
+}
+
+pub(crate) fn is_name_byte(byte: u8) -> bool {
+    byte.is_ascii_alphanumeric() || byte == b'_'
+}
+
+/// Whether only blanks and a comment are in the part.
+pub(crate) fn is_ended(file: &[u8], part: Part) -> bool {
+    let start = after_blanks(file, part);
+    start >= part.end || file.get(start) == Some(&b'#')
+}
+
+/// Adds the bytes of the part.
+pub(crate) fn push_part(units: &mut Vec<Unit>, file: &[u8], part: Part) -> Result<(), AllocError> {
+    for index in part.start..part.end {
+        if let Some(byte) = file.get(index) {
+            units.push(Unit::Byte(*byte, index))?;
+        }
+    }
+    Ok(())
+}
+
+/// Adds the newline that ends the line, if the file has one.
+pub(crate) fn push_newline(
+    units: &mut Vec<Unit>,
+    file: &[u8],
+    line: Part,
+) -> Result<(), AllocError> {
+    let next = line.end.saturating_add(1);
+    if file.get(line.end) == Some(&b'\n') {
+        units.push(Unit::Byte(b'\n', line.end))?;
+    } else if file.get(next) == Some(&b'\n') {
+        units.push(Unit::Byte(b'\n', next))?;
+    }
+    Ok(())
+}

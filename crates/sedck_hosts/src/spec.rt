@@ -1,0 +1,320 @@
+//! Spec files of RPM: the sections that are shell text, where macros are holes.
+
+use crate::host::Host;
+use crate::make_lines::reference_end;
+use crate::parts::{
+    Part, between, bytes_of, is_name_byte, is_one_of, lines_of, push_newline, split_word,
+};
+use sedck_traced::Unit;
+use std::alloc::{AllocError, Global};
+
+/// A macro that isn't closed.
+#[derive(Clone, Copy)]
+struct Open {
+    /// The offset of its percent sign.
+    start: usize,
+    opener: u8,
+    closer: u8,
+    /// How many more pairs are open within it.
+    count: usize,
+}
+
+/// What a line is by the word that begins it.
+#[derive(Clone, Copy, Debug, PartialEq, Eq)]
+enum Sort {
+    /// It begins a section of shell text.
+    Script,
+    /// It begins another section.
+    Section,
+    /// It is left out of a section's text.
+    Directive,
+    Text,
+}
+
+/// Words that begin a section of shell text.
+const SCRIPTS: [&[u8]; 27] = [
+    b"%prep",
+    b"%conf",
+    b"%build",
+    b"%install",
+    b"%check",
+    b"%clean",
+    b"%generate_buildrequires",
+    b"%pre",
+    b"%post",
+    b"%preun",
+    b"%postun",
+    b"%pretrans",
+    b"%posttrans",
+    b"%preuntrans",
+    b"%postuntrans",
+    b"%verifyscript",
+    b"%trigger",
+    b"%triggerin",
+    b"%triggerprein",
+    b"%triggerun",
+    b"%triggerpostun",
+    b"%filetriggerin",
+    b"%filetriggerun",
+    b"%filetriggerpostun",
+    b"%transfiletriggerin",
+    b"%transfiletriggerun",
+    b"%transfiletriggerpostun",
+];
+
+/// Words that begin another section.
+const SECTIONS: [&[u8]; 7] = [
+    b"%files",
+    b"%description",
+    b"%changelog",
+    b"%package",
+    b"%sourcelist",
+    b"%patchlist",
+    b"%sepolicy",
+];
+
+/// Words that begin a line which is left out of a section's text.
+const DIRECTIVES: [&[u8]; 15] = [
+    b"%if",
+    b"%ifarch",
+    b"%ifnarch",
+    b"%ifos",
+    b"%ifnos",
+    b"%else",
+    b"%elif",
+    b"%elifarch",
+    b"%elifos",
+    b"%endif",
+    b"%define",
+    b"%global",
+    b"%undefine",
+    b"%include",
+    b"%dnl",
+];
+
+/// The state of reading a spec file.
+#[derive(Drop)]
+struct Spec<'a> {
+    alloc: Global,
+    file: &'a [u8],
+    host: Host,
+    /// The text of the section.
+    units: Vec<Unit>,
+    /// Whether the section is shell text.
+    is_shell: bool,
+    /// Whether the line is left out.
+    is_left_out: bool,
+    /// Whether the next one is left out with it.
+    is_continued: bool,
+    open: Option<Open>,
+    /// The offset with which reading goes on.
+    resume: usize,
+}
+
+/// The shell text of a spec file.
+pub(crate) fn host_of_spec(alloc: Global, file: &[u8]) -> Result<Host, AllocError> {
+    let mut spec = Spec {
+        alloc,
+        file,
+        host: Host::new(alloc),
+        units: Vec::new(alloc),
+        is_shell: false,
+        is_left_out: false,
+        is_continued: false,
+        open: None,
+        resume: 0,
+    };
+    let lines = lines_of(alloc, file, false)?;
+    for line in &lines {
+        spec.read_line(*line)?;
+    }
+    spec.end_section()?;
+    Ok(spec.host)
+}
+
+impl Spec<'_> {
+    /// Reads a line.
+    fn read_line(&mut self, line: Part) -> Result<(), AllocError> {
+        let (word, rest) = split_word(self.file, line);
+        let sort = sort_of(word);
+        if matches!(sort, Sort::Script | Sort::Section) {
+            self.end_section()?;
+            self.is_shell = sort == Sort::Script && has_shell(self.file, rest);
+            return Ok(());
+        }
+        self.is_left_out = self.is_continued || sort == Sort::Directive;
+        self.is_continued = self.is_left_out && bytes_of(self.file, line).ends_with(b"\\");
+        for index in line.start..line.end {
+            if index < self.resume {
+                continue;
+            }
+            if let Some(byte) = self.file.get(index) {
+                self.read(line.end, index, *byte)?;
+            }
+        }
+        if self.is_text() {
+            push_newline(&mut self.units, self.file, line)?;
+        }
+        Ok(())
+    }
+
+    /// Ends the section, and what is open in it.
+    fn end_section(&mut self) -> Result<(), AllocError> {
+        let units = std::mem::replace(&mut self.units, Vec::new(self.alloc));
+        self.host.add(units)?;
+        self.is_continued = false;
+        self.open = None;
+        Ok(())
+    }
+
+    /// Whether what is read is shell text: outside of macros in a section of it.
+    fn is_text(&self) -> bool {
+        self.is_shell && !self.is_left_out && self.open.is_none()
+    }
+
+    /// Adds a unit, if it is shell text.
+    fn add(&mut self, unit: Unit) -> Result<(), AllocError> {
+        if self.is_text() {
+            self.units.push(unit)?;
+        }
+        Ok(())
+    }
+
+    /// Reads the byte at this offset of a line with this end.
+    fn read(&mut self, end: usize, index: usize, byte: u8) -> Result<(), AllocError> {
+        if let Some(open) = self.open {
+            return self.read_in_macro(open, index, byte);
+        }
+        if byte != b'%' {
+            return self.add(Unit::Byte(byte, index));
+        }
+        let next = index.saturating_add(1);
+        let rest = between(next, end);
+        match bytes_of(self.file, rest) {
+            [b'%', ..] => {
+                self.resume = next.saturating_add(1);
+                self.add(Unit::Byte(b'%', next))
+            }
+            [opener, ..] if matches!(*opener, b'{' | b'(' | b'[') => {
+                self.resume = next.saturating_add(1);
+                self.open = Some(Open {
+                    start: index,
+                    opener: *opener,
+                    closer: match *opener {
+                        b'{' => b'}',
+                        b'(' => b')',
+                        _ => b']',
+                    },
+                    count: 0,
+                });
+                Ok(())
+            }
+            _ => {
+                let after = macro_end(self.file, rest);
+                if after <= index {
+                    return self.add(Unit::Byte(b'%', index));
+                }
+                self.resume = after;
+                self.add(Unit::Hole(index, after))
+            }
+        }
+    }
+
+    /// Reads a byte of a macro with brackets, which may close it. What is in `%(..)` is read by the shell when it is replaced.
+    fn read_in_macro(&mut self, open: Open, index: usize, byte: u8) -> Result<(), AllocError> {
+        let mut count = open.count;
+        if byte == open.closer && count == 0 {
+            self.open = None;
+            if byte == b')' {
+                let inner = between(open.start.saturating_add(2), index);
+                self.host.add(command_units(self.alloc, self.file, inner)?)?;
+            }
+            return self.add(Unit::Hole(open.start, index.saturating_add(1)));
+        }
+        if byte == open.opener {
+            count = count.saturating_add(1);
+        } else if byte == open.closer {
+            count = count.saturating_sub(1);
+        }
+        self.open = Some(Open { count, ..open });
+        Ok(())
+    }
+}
+
+/// The units of what is in `%(..)`: macros in it are holes.
+fn command_units(alloc: Global, file: &[u8], whole: Part) -> Result<Vec<Unit>, AllocError> {
+    let mut units = Vec::new(alloc);
+    let mut resume = whole.start;
+    for index in whole.start..whole.end {
+        if index < resume {
+            continue;
+        }
+        let next = index.saturating_add(1);
+        match bytes_of(file, between(index, whole.end)) {
+            [b'%', b'%', ..] => {
+                resume = next.saturating_add(1);
+                units.push(Unit::Byte(b'%', next))?;
+            }
+            [b'%', b'{' | b'(', ..] => {
+                resume = reference_end(file, index, whole.end);
+                units.push(Unit::Hole(index, resume))?;
+            }
+            [b'%', ..] if macro_end(file, between(next, whole.end)) > index => {
+                resume = macro_end(file, between(next, whole.end));
+                units.push(Unit::Hole(index, resume))?;
+            }
+            [byte, ..] => units.push(Unit::Byte(*byte, index))?,
+            [] => {}
+        }
+    }
+    Ok(units)
+}
+
+/// Where the macro's name ends that begins the part, after `?` and `!`; 0 if none does. A name begins with no digit and has three letters
+/// at least.
+fn macro_end(file: &[u8], whole: Part) -> usize {
+    let mut name = whole.start;
+    let mut end = whole.end;
+    for index in whole.start..whole.end {
+        match file.get(index) {
+            Some(b'?' | b'!') if index == name => name = index.saturating_add(1),
+            Some(byte) if byte.is_ascii_digit() && index == name => return 0,
+            Some(byte) if is_name_byte(*byte) => {}
+            _ => {
+                end = index;
+                break;
+            }
+        }
+    }
+    if end.saturating_sub(name) < 3 {
+        return 0;
+    }
+    end
+}
+
+/// What a line is by the word that begins it.
+fn sort_of(word: &[u8]) -> Sort {
+    if is_one_of(word, &SCRIPTS) {
+        Sort::Script
+    } else if is_one_of(word, &SECTIONS) {
+        Sort::Section
+    } else if is_one_of(word, &DIRECTIVES) {
+        Sort::Directive
+    } else {
+        Sort::Text
+    }
+}
+
+/// Whether a section with these options is run by a shell: with no option `-p`, or one with a shell's path.
+fn has_shell(file: &[u8], options: Part) -> bool {
+    let mut rest = options;
+    for _ in 0..8 {
+        let (word, next) = split_word(file, rest);
+        if matches!(word, b"-p") {
+            let (program, _) = split_word(file, next);
+            return program.ends_with(b"sh") && !program.ends_with(b"csh");
+        }
+        rest = next;
+    }
+    true
+}
