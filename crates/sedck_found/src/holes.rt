@@ -1,0 +1,159 @@
+//! The holes of a script, with letters in their places that fit their roles.
+
+use crate::found::{OpenHole, Role};
+use crate::roles::{Place, Places};
+use crate::words::{CallWord, add, empty};
+use sedck_calls::{Call, Piece};
+use sedck_traced::{Origin, Traced};
+use std::alloc::{AllocError, Global};
+
+/// The state of giving holes their roles.
+#[derive(Drop)]
+struct Roles {
+    places: Places,
+    text: Traced,
+    holes: Vec<OpenHole>,
+    /// Whether a hole has no role, so that the script isn't known.
+    is_unknown: bool,
+    /// Whether a hole of an expression or a list ends here.
+    follows_hole: bool,
+    /// Whether a hyphen ends here that may make a range of a list.
+    follows_hyphen: bool,
+    is_split: bool,
+}
+
+/// The text of the script of a call with letters in place of the holes, and the holes; none if a hole has no role.
+pub(crate) fn roles_of(
+    alloc: Global,
+    call: &Call,
+    words: &[CallWord],
+    here: Option<&CallWord>,
+) -> Result<Option<(Traced, Vec<OpenHole>)>, AllocError> {
+    let mut roles = Roles {
+        places: Places {
+            place: Place::Command,
+            delimiter: b'/',
+            command: b'/',
+            is_first: false,
+        },
+        text: empty(alloc),
+        holes: Vec::new(alloc),
+        is_unknown: false,
+        follows_hole: false,
+        follows_hyphen: false,
+        is_split: false,
+    };
+    for (index, piece) in call.pieces.iter().enumerate() {
+        if index > 0 {
+            roles.read(b'\n', Origin::Between)?;
+        }
+        let (word, from) = match *piece {
+            Piece::File(_) => (here, 0),
+            Piece::Text(origin) => (words.get(origin.word), origin.from),
+        };
+        if let Some(word) = word {
+            roles.read_part(word, from)?;
+        }
+    }
+    let Roles {
+        places: _,
+        text,
+        holes,
+        is_unknown,
+        follows_hole: _,
+        follows_hyphen: _,
+        is_split: _,
+    } = roles;
+    if is_unknown {
+        return Ok(None);
+    }
+    Ok(Some((text, holes)))
+}
+
+impl Roles {
+    /// Reads a word from this byte on.
+    fn read_part(&mut self, word: &CallWord, from: usize) -> Result<(), AllocError> {
+        self.is_split = word.is_split;
+        let bytes = word.traced.bytes.get(from..).unwrap_or(&[]);
+        let origins = word.traced.origins.get(from..).unwrap_or(&[]);
+        for (byte, origin) in bytes.iter().zip(origins.iter()) {
+            self.read(*byte, *origin)?;
+        }
+        Ok(())
+    }
+
+    /// Reads a byte, or a hole.
+    fn read(&mut self, byte: u8, origin: Origin) -> Result<(), AllocError> {
+        if let Origin::Hole(start, end) = origin {
+            return self.read_hole(start, end);
+        }
+        if self.follows_hole && self.changes_hole(byte) {
+            self.is_unknown = true;
+        }
+        let place = self.places.place;
+        self.places.pass(byte);
+        let is_escape = self.places.place == Place::ExpressionEscape;
+        self.follows_hole = self.follows_hole && is_escape;
+        self.follows_hyphen = byte == b'-' && place == Place::List;
+        add(&mut self.text, byte, origin)
+    }
+
+    /// Whether the byte says how often what is before it is matched, or makes a range of it.
+    fn changes_hole(&self, byte: u8) -> bool {
+        match self.places.place {
+            Place::Expression => byte == b'*',
+            Place::ExpressionEscape => matches!(byte, b'{' | b'+' | b'?'),
+            Place::List => byte == b'-',
+            _ => false,
+        }
+    }
+
+    /// Reads a hole.
+    fn read_hole(&mut self, start: usize, end: usize) -> Result<(), AllocError> {
+        let origin = Origin::Hole(start, end);
+        match self.places.place {
+            Place::Expression => self.fill(origin, Role::Expression, b"x*")?,
+            Place::List | Place::ListBegin | Place::ListNegated => {
+                if self.follows_hyphen {
+                    self.is_unknown = true;
+                }
+                self.places.place = Place::List;
+                self.fill(origin, Role::List, b"x")?;
+            }
+            Place::Replacement => self.fill(origin, Role::Replacement, b"&x")?,
+            Place::Text | Place::TextBegin => {
+                self.places.place = Place::Text;
+                self.places.delimiter = 0;
+                self.fill(origin, Role::Text, b"x")?;
+            }
+            // A newline in the value would end the comment.
+            Place::Comment => self.fill(origin, Role::Text, b"x")?,
+            _ => self.is_unknown = true,
+        }
+        Ok(())
+    }
+
+    /// Puts the letters in place of a hole that has this role.
+    fn fill(&mut self, origin: Origin, role: Role, letters: &[u8]) -> Result<(), AllocError> {
+        let Origin::Hole(start, end) = origin else {
+            return Ok(());
+        };
+        let delimiter = self.places.delimiter;
+        if letters.contains(&delimiter) {
+            self.is_unknown = true;
+        }
+        for letter in letters {
+            add(&mut self.text, *letter, origin)?;
+        }
+        self.holes.push(OpenHole {
+            start,
+            end,
+            role,
+            delimiter,
+            is_split: self.is_split,
+        })?;
+        self.follows_hole = true;
+        self.follows_hyphen = false;
+        Ok(())
+    }
+}

@@ -1,0 +1,22 @@
+//! Calls of sed in a file that has shell text, and their scripts.
+//!
+//! Each text of the file is read as shell text, and so is what it hands to another shell. Then it is known how often each variable is set,
+//! and the calls are put together. Nothing is promised of what is found: it is compared with the file before it is judged.
+#![tactic(auto)]
+
+mod assigning;
+mod calls;
+mod found;
+mod holes;
+mod names;
+mod parts;
+mod programs;
+mod roles;
+mod script;
+mod seds;
+mod texts;
+mod units;
+mod words;
+
+pub use calls::{calls_in, dialect_of};
+pub use found::{Assumed, Found, FoundCall, FoundScript, OpenHole, Role, Unknown};

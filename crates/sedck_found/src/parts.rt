@@ -1,0 +1,179 @@
+//! The commands in the words of a command, which may run others.
+
+use crate::assigning::is_assignment;
+use crate::names::{Names, Scope};
+use crate::programs::{Before, Program, Wrapper, before_command, program_of};
+use crate::units::{bytes_of, is_among, is_text};
+use sedck_shell::ShellWord;
+use std::alloc::{AllocError, Global};
+
+/// The most commands that run one another.
+const WRAPPED: usize = 8;
+
+/// A command in the words of a command.
+#[derive(Clone, Copy)]
+pub(crate) struct Part {
+    pub program: Program,
+    /// The number of the word that is its name.
+    pub name: usize,
+    /// Its last word is before the one of this number.
+    pub end: usize,
+}
+
+/// What the next word is.
+#[derive(Clone, Copy)]
+enum State {
+    /// The name of a command.
+    Name,
+    /// An option of a wrapper, or what follows.
+    Option(Wrapper),
+    /// The argument of an option of a wrapper.
+    Argument(Wrapper),
+    /// One of so many operands of a wrapper, and then the name of a command.
+    Operand(usize),
+    /// A word of `find`.
+    Find,
+    /// A word of this command.
+    Word(Part),
+    /// A word of another command.
+    Other,
+}
+
+/// The state of looking for commands.
+#[derive(Drop)]
+struct Finder<'a> {
+    names: &'a Names<'a>,
+    scope: Scope,
+    parts: Vec<Part>,
+    state: State,
+    /// Whether the command is run by `find`.
+    is_found: bool,
+    /// How many commands run the next one.
+    wrappers: usize,
+    /// Whether the word before is `{}`.
+    follows_braces: bool,
+}
+
+/// The commands in these words of a command.
+pub(crate) fn parts_of(
+    alloc: Global,
+    names: &Names<'_>,
+    words: &[ShellWord],
+    scope: Scope,
+) -> Result<Vec<Part>, AllocError> {
+    let mut finder = Finder {
+        names,
+        scope,
+        parts: Vec::new(alloc),
+        state: State::Name,
+        is_found: false,
+        wrappers: 0,
+        follows_braces: false,
+    };
+    for (index, word) in words.iter().enumerate() {
+        finder.read(index, word)?;
+        finder.follows_braces = is_text(&word.units, b"{}");
+        if !finder.is_found && matches!(finder.state, State::Word(_) | State::Other) {
+            break;
+        }
+    }
+    finder.end(words.len())?;
+    Ok(finder.parts)
+}
+
+impl Finder<'_> {
+    /// Reads the word of this number.
+    fn read(&mut self, index: usize, word: &ShellWord) -> Result<(), AllocError> {
+        match self.state {
+            State::Name => self.read_name(index, word),
+            State::Option(wrapper) => self.read_option(index, word, wrapper),
+            State::Argument(wrapper) => {
+                self.state = State::Option(wrapper);
+                Ok(())
+            }
+            State::Operand(0) => self.read_name(index, word),
+            State::Operand(count) => {
+                self.state = State::Operand(count.saturating_sub(1));
+                Ok(())
+            }
+            State::Find => self.read_primary(word),
+            State::Word(_) | State::Other => self.read_word(index, word),
+        }
+    }
+
+    /// Reads the name of a command, or an assignment before it.
+    fn read_name(&mut self, index: usize, word: &ShellWord) -> Result<(), AllocError> {
+        self.state = State::Name;
+        let is_time = index == 0 && is_text(&word.units, b"-p");
+        if is_time || is_assignment(&word.units) {
+            return Ok(());
+        }
+        let program = program_of(self.names, word, self.scope)?;
+        self.state = match program {
+            Program::Wrapper(wrapper) if self.wrappers < WRAPPED => State::Option(wrapper),
+            Program::Wrapper(_) | Program::Other => State::Other,
+            Program::Find => State::Find,
+            _ => State::Word(Part {
+                program,
+                name: index,
+                end: index,
+            }),
+        };
+        self.wrappers = self.wrappers.saturating_add(1);
+        Ok(())
+    }
+
+    /// Reads a word behind the name of a wrapper.
+    fn read_option(
+        &mut self,
+        index: usize,
+        word: &ShellWord,
+        wrapper: Wrapper,
+    ) -> Result<(), AllocError> {
+        let before = match bytes_of(self.names.alloc, &word.units)? {
+            Some(bytes) => before_command(wrapper, &bytes),
+            None => Before::Word,
+        };
+        match before {
+            Before::Option => {}
+            Before::Awaiting => self.state = State::Argument(wrapper),
+            Before::Stop => self.state = State::Other,
+            Before::End => self.state = State::Operand(wrapper.operands),
+            Before::Word if wrapper.operands == 0 => return self.read_name(index, word),
+            Before::Word => self.state = State::Operand(wrapper.operands.saturating_sub(1)),
+        }
+        Ok(())
+    }
+
+    /// Reads a word of `find`.
+    fn read_primary(&mut self, word: &ShellWord) -> Result<(), AllocError> {
+        let Some(bytes) = bytes_of(self.names.alloc, &word.units)? else {
+            return Ok(());
+        };
+        if is_among(&bytes, &[b"-exec", b"-execdir", b"-ok", b"-okdir"]) {
+            self.state = State::Name;
+            self.is_found = true;
+            self.wrappers = 0;
+        }
+        Ok(())
+    }
+
+    /// Reads a word of a command, which ends it if `find` runs it.
+    fn read_word(&mut self, index: usize, word: &ShellWord) -> Result<(), AllocError> {
+        let is_end = is_text(&word.units, b";")
+            || (self.follows_braces && is_text(&word.units, b"+"));
+        if self.is_found && is_end {
+            self.end(index)?;
+            self.state = State::Find;
+        }
+        Ok(())
+    }
+
+    /// Ends the command before the word of this number.
+    fn end(&mut self, end: usize) -> Result<(), AllocError> {
+        if let State::Word(part) = self.state {
+            self.parts.push(Part { end, ..part })?;
+        }
+        Ok(())
+    }
+}

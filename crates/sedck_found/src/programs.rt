@@ -1,0 +1,185 @@
+//! What the name of a command calls.
+
+use crate::names::{Names, Scope};
+use crate::seds::{Called, called_by, is_sed_path};
+use crate::units::{bytes_of, is_among, last_part};
+use sedck_shell::ShellWord;
+use sedck_traced::Unit;
+use std::alloc::AllocError;
+
+/// What a command calls.
+#[derive(Clone, Copy)]
+pub(crate) enum Program {
+    Sed,
+    /// A shell.
+    Shell,
+    /// `su`, whose option `-c` takes text for a shell.
+    User,
+    /// `eval` or `trap`, whose first operand is text for the same shell.
+    Again,
+    Find,
+    /// A command that runs the one which its words name.
+    Wrapper(Wrapper),
+    Other,
+}
+
+/// A command that runs another one.
+#[derive(Clone, Copy)]
+pub(crate) struct Wrapper {
+    /// The letters of the options that take an argument.
+    letters: &'static [u8],
+    /// The letters of the options with which no command runs that is known.
+    stops: &'static [u8],
+    /// How many operands precede the command.
+    pub operands: usize,
+}
+
+/// The commands that run another one: their names, and what `Wrapper` says of them.
+const WRAPPERS: [(&[u8], &[u8], &[u8], usize); 17] = [
+    (b"env", b"uC", b"S", 0),
+    (b"exec", b"a", b"", 0),
+    (b"command", b"", b"vV", 0),
+    (b"xargs", b"adEILnPsJ", b"", 0),
+    (b"sudo", b"ugpChrtTUDRac", b"el", 0),
+    (b"doas", b"uCa", b"", 0),
+    (b"nice", b"n", b"", 0),
+    (b"ionice", b"cn", b"pPu", 0),
+    (b"nohup", b"", b"", 0),
+    (b"time", b"fo", b"", 0),
+    (b"timeout", b"ks", b"", 1),
+    (b"gtimeout", b"ks", b"", 1),
+    (b"stdbuf", b"ioe", b"", 0),
+    (b"setsid", b"", b"", 0),
+    (b"chroot", b"", b"", 1),
+    (b"fakeroot", b"lisb", b"", 0),
+    (b"busybox", b"", b"", 0),
+];
+
+/// A command that comes before the one which it runs.
+const PREFIX: Wrapper = Wrapper {
+    letters: b"",
+    stops: b"",
+    operands: 0,
+};
+
+/// Long options that take the next word.
+const LONG: [&[u8]; 17] = [
+    b"--arg-file",
+    b"--delimiter",
+    b"--max-args",
+    b"--max-chars",
+    b"--max-procs",
+    b"--process-slot-var",
+    b"--user",
+    b"--group",
+    b"--unset",
+    b"--chdir",
+    b"--signal",
+    b"--kill-after",
+    b"--adjustment",
+    b"--input",
+    b"--output",
+    b"--error",
+    b"--class",
+];
+
+/// The shells.
+const SHELLS: [&[u8]; 8] = [
+    b"sh", b"bash", b"dash", b"ksh", b"zsh", b"ash", b"mksh", b"ksh93",
+];
+
+/// What a word of a wrapper is.
+#[derive(Clone, Copy, Debug, PartialEq, Eq)]
+pub(crate) enum Before {
+    /// An option, alone or with its argument.
+    Option,
+    /// An option whose argument is the next word.
+    Awaiting,
+    /// An option with which no command runs.
+    Stop,
+    /// The end of the options.
+    End,
+    /// The first word behind the options.
+    Word,
+}
+
+/// What the word with these bytes is, where options of the wrapper may stand.
+pub(crate) fn before_command(wrapper: Wrapper, word: &[u8]) -> Before {
+    match word {
+        [b'-', b'-'] => Before::End,
+        [b'-', b'-', ..] if is_among(word, &LONG) => Before::Awaiting,
+        [b'-', b'-', ..] => Before::Option,
+        [b'-', letters @ ..] => wrapper.letters_before(letters),
+        _ => Before::Word,
+    }
+}
+
+impl Wrapper {
+    /// What a word of option letters is.
+    fn letters_before(self, letters: &[u8]) -> Before {
+        for (index, letter) in letters.iter().enumerate() {
+            if self.stops.contains(letter) {
+                return Before::Stop;
+            }
+            if self.letters.contains(letter) {
+                let is_last = index.saturating_add(1) == letters.len();
+                return if is_last {
+                    Before::Awaiting
+                } else {
+                    Before::Option
+                };
+            }
+        }
+        Before::Option
+    }
+}
+
+/// What a command with this name calls.
+pub(crate) fn program_of(
+    names: &Names<'_>,
+    word: &ShellWord,
+    scope: Scope,
+) -> Result<Program, AllocError> {
+    if let [Unit::Hole(start, end)] = *word.units.as_slice() {
+        let called = called_by(names, word, start, end, scope)?;
+        return Ok(match called {
+            Called::Sed => Program::Sed,
+            Called::Shell => Program::Shell,
+            Called::Sudo => Program::Wrapper(PREFIX),
+            Called::Other => Program::Other,
+        });
+    }
+    match bytes_of(names.alloc, last_part(&word.units))? {
+        Some(name) => Ok(named_program(&name)),
+        None => Ok(Program::Other),
+    }
+}
+
+/// What is called by a name that is written.
+fn named_program(name: &[u8]) -> Program {
+    if is_sed_path(name) {
+        return Program::Sed;
+    }
+    if is_among(name, &SHELLS) {
+        return Program::Shell;
+    }
+    if is_among(name, &[b"eval", b"trap"]) {
+        return Program::Again;
+    }
+    if is_among(name, &[b"su", b"runuser"]) {
+        return Program::User;
+    }
+    if is_among(name, &[b"find"]) {
+        return Program::Find;
+    }
+    for (wrapper, letters, stops, operands) in WRAPPERS {
+        if wrapper == name {
+            return Program::Wrapper(Wrapper {
+                letters,
+                stops,
+                operands,
+            });
+        }
+    }
+    Program::Other
+}

@@ -1,0 +1,174 @@
+//! The script of a call.
+
+use crate::found::{FoundScript, Unknown};
+use crate::holes::roles_of;
+use crate::units::is_among;
+use crate::words::CallWord;
+use sedck_calls::{Call, CallFault, CallOption, Given, Piece, call_of};
+use sedck_shell::Dialect;
+use sedck_traced::{Origin, has_hole};
+use std::alloc::{AllocError, Global};
+
+/// The script of a call with these words, and with this text as its standard input.
+pub(crate) fn script_of(
+    alloc: Global,
+    file: &[u8],
+    words: &[CallWord],
+    here: Option<&CallWord>,
+    dialect: Dialect,
+) -> Result<FoundScript, AllocError> {
+    let mut slices = Vec::new(alloc);
+    let mut length = 0usize;
+    let mut is_open = false;
+    for word in words {
+        slices.push(word.traced.bytes.as_slice())?;
+        length = length.saturating_add(word.traced.bytes.len());
+        is_open = is_open || has_hole(&word.traced.origins);
+    }
+    if length > LONGEST {
+        return Ok(FoundScript::Unknown(Unknown::Words));
+    }
+    let call = match call_of(alloc, &slices) {
+        Ok(call) => call,
+        Err(CallFault::OutOfMemory) => return Err(AllocError),
+        Err(_) if is_open => return Ok(FoundScript::Unknown(Unknown::Words)),
+        // A bracket of M4 may end a command.
+        Err(_) if dialect == Dialect::Macros => return Ok(FoundScript::Unknown(Unknown::Macro)),
+        Err(fault) => return Ok(FoundScript::Refused(fault)),
+    };
+    if has_foreign(&call.given) {
+        return Ok(FoundScript::Foreign(call));
+    }
+    if let Some(unknown) = unknown_words(&call, words, here) {
+        return Ok(FoundScript::Unknown(unknown));
+    }
+    let Some((text, holes)) = roles_of(alloc, &call, words, here)? else {
+        return Ok(FoundScript::Unknown(Unknown::Part));
+    };
+    let is_macro = dialect == Dialect::Macros
+        && (has_macro_name(&text.bytes) || has_macro_hole(file, &text.origins));
+    if is_macro {
+        return Ok(FoundScript::Unknown(Unknown::Macro));
+    }
+    Ok(FoundScript::Text { call, text, holes })
+}
+
+/// The most bytes that the words of a call have.
+const LONGEST: usize = 1_048_576;
+
+/// Whether an option changes the language or the lines.
+fn has_foreign(given: &[Given]) -> bool {
+    for item in given {
+        if let Given::Alone(option, _) = *item {
+            let is_foreign = matches!(
+                option,
+                CallOption::Extended | CallOption::NullData | CallOption::Separate
+            );
+            if is_foreign {
+                return true;
+            }
+        }
+    }
+    false
+}
+
+/// Why the script isn't known, if its words say so.
+fn unknown_words(call: &Call, words: &[CallWord], here: Option<&CallWord>) -> Option<Unknown> {
+    let first = match call.pieces.first() {
+        Some(Piece::Text(origin) | Piece::File(origin)) => origin.word,
+        None => return None,
+    };
+    if has_open_word(&call.given, words, first) {
+        return Some(Unknown::Words);
+    }
+    for piece in &call.pieces {
+        if let Some(unknown) = unknown_piece(*piece, words, here) {
+            return Some(unknown);
+        }
+    }
+    None
+}
+
+/// Whether a word before the script begins with a hole, so that it may be another option, and isn't what an option takes.
+fn has_open_word(given: &[Given], words: &[CallWord], first: usize) -> bool {
+    for word in words.iter().take(first) {
+        if word.is_split && word.is_hole(0) {
+            return true;
+        }
+    }
+    for item in given {
+        if let Given::Operand(number) = *item {
+            let is_open = match words.get(number) {
+                Some(word) => number < first && word.is_hole(0),
+                None => false,
+            };
+            if is_open {
+                return true;
+            }
+        }
+    }
+    false
+}
+
+/// Why the piece isn't known.
+fn unknown_piece(piece: Piece, words: &[CallWord], here: Option<&CallWord>) -> Option<Unknown> {
+    match piece {
+        Piece::File(origin) => {
+            let path = match words.get(origin.word) {
+                Some(word) => word.traced.bytes.get(origin.from..).unwrap_or(&[]),
+                None => &[],
+            };
+            let is_known = here.is_some() && is_among(path, &[b"-", b"/dev/stdin"]);
+            if is_known { None } else { Some(Unknown::File) }
+        }
+        Piece::Text(origin) => {
+            let word = words.get(origin.word)?;
+            if word.is_hole_from(origin.from) {
+                Some(Unknown::Words)
+            } else if word.is_hole(origin.from) {
+                Some(Unknown::Part)
+            } else {
+                None
+            }
+        }
+    }
+}
+
+/// Whether a bracket is in the text, or a word begins like the name of a macro.
+fn has_macro_name(text: &[u8]) -> bool {
+    let mut is_inside = false;
+    for (index, byte) in text.iter().enumerate() {
+        if matches!(*byte, b'[' | b']') {
+            return true;
+        }
+        if !is_inside && is_macro_name(text.get(index..).unwrap_or(&[])) {
+            return true;
+        }
+        is_inside = byte.is_ascii_alphanumeric() || *byte == b'_';
+    }
+    false
+}
+
+/// Whether the text begins like the name of a macro of Autoconf, Automake, Libtool or M4, or is a parameter of one.
+fn is_macro_name(text: &[u8]) -> bool {
+    match text {
+        [b'_', b'A', b'A'..=b'Z', b'_', ..] | [b'A', b'A'..=b'Z', b'_', ..] => true,
+        [b'm', b'4', b'_', ..] | [b'L', b'T', b'_', ..] | [b'P', b'K', b'G', b'_', ..] => true,
+        [b'd', b'n', b'l'] => true,
+        [b'd', b'n', b'l', next, ..] => !next.is_ascii_alphanumeric() && *next != b'_',
+        _ => false,
+    }
+}
+
+/// Whether a hole is a quadrigraph of Autoconf, or a parameter of a macro.
+fn has_macro_hole(file: &[u8], origins: &[Origin]) -> bool {
+    for origin in origins {
+        if let Origin::Hole(start, end) = *origin {
+            match file.get(start..end) {
+                Some([b'@', ..] | [b'$', b'0'..=b'9' | b'@' | b'*' | b'#']) => return true,
+                _ => {}
+            }
+        }
+    }
+    false
+}
