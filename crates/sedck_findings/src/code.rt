@@ -100,6 +100,12 @@ pub enum Code {
     /// The operands are overwritten.
     InPlace,
 
+    // A call of sed in a file.
+    /// A part of the script isn't known before a run.
+    OpenHole,
+    /// So much of the script isn't known that it can't be judged.
+    Unknowable,
+
     // Notes.
     NoBound,
 }
@@ -178,11 +184,13 @@ impl Code {
             Code::OtherLanguage => "other-language",
             Code::BadCall => "bad-call",
             Code::InPlace => "in-place",
+            Code::OpenHole => "open-hole",
+            Code::Unknowable => "unknowable",
             Code::NoBound => "no-bound",
         }
     }
 
-    /// The codes of warnings and notes, which a comment in the script may silence.
+    /// The codes of warnings and notes that a comment in the script may silence: all but those of what isn't known.
     pub const IGNORABLE: [Code; 14] = [
         Code::OptionsInFirstLine,
         Code::BraceBehindLabel,

@@ -101,7 +101,7 @@ fn json_of<'a>(
     })
 }
 
-fn json_bound(answer: &Answer) -> Option<JsonBound> {
+pub(crate) fn json_bound(answer: &Answer) -> Option<JsonBound> {
     let Answer::Accepted { bound, .. } = answer else {
         return None;
     };
@@ -117,7 +117,7 @@ fn json_bound(answer: &Answer) -> Option<JsonBound> {
     })
 }
 
-fn json_files<'a>(
+pub(crate) fn json_files<'a>(
     alloc: Global,
     names: Names<'a>,
     files: &[NamedFile],
@@ -132,7 +132,7 @@ fn json_files<'a>(
     Ok(out)
 }
 
-fn json_positions<'a>(
+pub(crate) fn json_positions<'a>(
     alloc: Global,
     names: Names<'a>,
     positions: &[Position],
@@ -144,7 +144,7 @@ fn json_positions<'a>(
     Ok(out)
 }
 
-fn json_position<'a>(names: Names<'a>, position: Position) -> JsonPosition<'a> {
+pub(crate) fn json_position<'a>(names: Names<'a>, position: Position) -> JsonPosition<'a> {
     let Place { name, line, column } = names.place_of(position);
     JsonPosition {
         offset: position.offset,
@@ -163,7 +163,7 @@ fn json_place<'a>(names: Names<'a>, position: Option<Position>) -> Option<JsonPo
     Some(json_position(names, position?))
 }
 
-fn json_findings<'a>(
+pub(crate) fn json_findings<'a>(
     alloc: Global,
     names: Names<'a>,
     findings: &'a [Finding],

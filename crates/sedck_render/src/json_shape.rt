@@ -27,6 +27,49 @@ pub(crate) struct JsonReport<'a> {
     pub version: &'static str,
 }
 
+/// What is reported of a call of sed in a file. Positions are those of the file.
+#[derive(Drop, Serialize)]
+pub(crate) struct JsonCall<'a> {
+    /// The file's path.
+    pub file: &'a str,
+    /// Where the command's name is.
+    pub call: JsonPosition<'a>,
+    /// The words after the name, in the form of a file's name; what isn't known is `x`.
+    pub words: Vec<String>,
+    /// 0 for accepted, 1 for a loop or denied, 2 for a refused script or one that isn't judged, 5 for what isn't known before a run.
+    pub status: u8,
+    /// As of a script, or `accepted-if` or `unknown`.
+    pub answer: &'static str,
+    pub bound: Option<JsonBound>,
+    pub reads: Vec<JsonFile<'a>>,
+    pub writes: Vec<JsonFile<'a>>,
+    pub findings: Vec<JsonFinding<'a>>,
+    pub commands: Vec<JsonPosition<'a>>,
+    pub version: &'static str,
+}
+
+/// How many calls were found, by their answers.
+#[derive(Drop, Serialize)]
+pub(crate) struct JsonCounts {
+    pub calls: usize,
+    /// Files in which calls were looked for.
+    pub files: usize,
+    pub accepted: usize,
+    pub accepted_if: usize,
+    pub denied: usize,
+    pub loops: usize,
+    pub refused: usize,
+    pub not_judged: usize,
+    pub unknown: usize,
+    /// Places where a file wasn't understood, and reading went on at a next line.
+    pub unread: usize,
+    /// Files and folders that can't be read.
+    pub unreadable: usize,
+    /// The exit status.
+    pub status: u8,
+    pub version: &'static str,
+}
+
 /// No run has more than `per_byte` * bytes + `per_line` * lines + `fixed` steps, newlines not counted.
 #[derive(Drop, Serialize)]
 pub(crate) struct JsonBound {

@@ -4,8 +4,11 @@
 //! and escape them. All that is taken from the script is shown in printable ASCII.
 #![tactic(auto)]
 
+mod call_words;
 mod columns;
+mod counts;
 mod gcc;
+mod json_calls;
 mod json_line;
 mod json_shape;
 mod parts;
@@ -15,7 +18,10 @@ mod summary;
 mod text;
 mod uri;
 
+pub use call_words::{CallAnswer, CallAt, text_answer};
+pub use counts::Counts;
 pub use gcc::gcc_report;
+pub use json_calls::{json_call, json_counts};
 pub use json_line::{json_report, json_unreadable};
 pub use sarif::sarif_report;
-pub use text::text_report;
+pub use text::{text_findings, text_report};

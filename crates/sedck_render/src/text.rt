@@ -36,6 +36,23 @@ pub fn text_report(
     least: Level,
     colour: bool,
 ) -> Result<Vec<u8>, AllocError> {
+    let mut out = text_findings(alloc, names, explanation, least, colour)?;
+    let inks = Inks {
+        yes: ink_where(colour, GREEN),
+        no: ink_where(colour, RED),
+    };
+    push_summary(alloc, &mut out, names, explanation, inks)?;
+    Ok(out)
+}
+
+/// Each finding of at least this level with its line, a caret under the byte that is meant, its steps and its hint.
+pub fn text_findings(
+    alloc: Global,
+    names: Names,
+    explanation: &Explanation,
+    least: Level,
+    colour: bool,
+) -> Result<Vec<u8>, AllocError> {
     let mut out = Vec::new(alloc);
     let source = source_of(explanation);
     for finding in &explanation.findings {
@@ -43,11 +60,6 @@ pub fn text_report(
             push_finding(alloc, &mut out, names, source, finding, colour)?;
         }
     }
-    let inks = Inks {
-        yes: ink_where(colour, GREEN),
-        no: ink_where(colour, RED),
-    };
-    push_summary(alloc, &mut out, names, explanation, inks)?;
     Ok(out)
 }
 
