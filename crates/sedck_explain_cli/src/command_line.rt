@@ -11,6 +11,7 @@ use crate::calls::explain_words;
 use crate::explaining::{explain_alone, explain_with};
 use crate::format::{Format, Style};
 use crate::request::{Request, request_of};
+use crate::scanning::explain_files;
 use crate::unread::{unread_of, unread_part};
 use crate::words::Words;
 use clap::Error;
@@ -29,17 +30,17 @@ const NAME: &[u8] = b"sedck-explain: ";
 
 /// The whole program for the arguments after its name, and its exit status: of the scripts' statuses the greatest, which are 0 for
 /// accepted, 1 for a rejection, a loop or what is denied, and 2 for a refused text; 3 for invalid arguments, 4 where a stream fails or memory
-/// runs out.
+/// runs out, 5 where something of a call in a file isn't known before a run.
 ///
 /// A script that can't be read is reported, and the next one follows. After a failed write, or where memory runs out, none does.
-pub fn program<R: Files + Input + AllocGlobal, W: Sink, E: Sink>(
+pub fn program<R: Files + Input + AllocGlobal + Clone + Drop, W: Sink, E: Sink>(
     rt: &R,
     words: &Words,
     colour: bool,
     out: &mut W,
     err: &mut E,
 ) -> u8
-    ensures within { result ≤ 4 }
+    ensures within { result ≤ 5 }
     // Invalid arguments write nothing to the output.
     ensures refused { result ≡ 3 → Keeps (W.taken out.old) (W.taken out.new) }
     ensures silent { result < 3 → Keeps (E.taken err.old) (E.taken err.new) }
@@ -48,6 +49,12 @@ pub fn program<R: Files + Input + AllocGlobal, W: Sink, E: Sink>(
         Ok(request) => request,
         Err(error) => return refuse_words(rt.alloc(), error, out, err),
     };
+    if request.calls {
+        return explain_files(rt, &request, colour, out, err);
+    }
+    if request.kind.is_some() || !request.assumed.is_empty() {
+        return end(err, b"--as and --assume are for --calls\n", 3);
+    }
     if request.sed {
         return explain_given(rt, &request, words, colour, out, err);
     }
@@ -368,7 +375,7 @@ fn write_fault<O: Opener, E: Sink>(
 }
 
 /// Writes why the program ends, and answers its exit status.
-fn end<E: Sink>(err: &mut E, words: &[u8], status: u8) -> u8
+pub(crate) fn end<E: Sink>(err: &mut E, words: &[u8], status: u8) -> u8
     ensures status { result ≡ status }
     ensures line { E.has_failed err.new ≡ false → Appends (E.taken err.old) (E.taken err.new) (codes "sedck-explain: " ++ words.now) }
 {

@@ -12,6 +12,7 @@ mod format;
 mod part_names;
 mod reporter;
 mod request;
+mod scanning;
 mod unread;
 mod words;
 

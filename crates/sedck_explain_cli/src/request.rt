@@ -3,6 +3,8 @@
 use crate::format::{Format, NAMES, Style};
 use clap::{Arg, ArgAction, ArgMatches, Command, Error};
 use sedck_findings::{Denied, Level};
+use sedck_found::Assumed;
+use sedck_hosts::Kind;
 use sedck_words::VERSION;
 use std::alloc::{AllocError, Global};
 
@@ -20,7 +22,14 @@ pub struct Request<'a> {
     pub stdin_name: &'a str,
     /// Whether the words of a call of sed follow.
     pub sed: bool,
-    /// The scripts' paths, at least one; `-` is standard input. Where the words of a call follow, those that were given.
+    /// Whether calls of sed in files and folders are explained, and not scripts.
+    pub calls: bool,
+    /// What those files are taken for.
+    pub kind: Option<Kind>,
+    /// Values of variables in them.
+    pub assumed: Vec<Assumed<'a>>,
+    /// The scripts' paths, at least one; `-` is standard input. Where the words of a call follow, or calls in files are explained, those
+    /// that were given.
     pub scripts: Vec<&'a str>,
 }
 
@@ -46,6 +55,9 @@ pub(crate) fn request_of<'a>(alloc: Global, words: &'a [String]) -> Result<Reque
         certificate: matches.get_str("cert"),
         stdin_name: matches.get_str("stdin-filename").unwrap_or("-"),
         sed: matches.get_flag("sed"),
+        calls: matches.get_flag("calls"),
+        kind: kind_of(&matches),
+        assumed: assumed_of(alloc, &matches)?,
         scripts: scripts_of(alloc, &matches)?,
     })
 }
@@ -76,11 +88,34 @@ fn scripts_of<'a>(alloc: Global, matches: &ArgMatches<'a>) -> Result<Vec<&'a str
             scripts.push(*path)?;
         }
     }
-    if scripts.is_empty() && !matches.get_flag("sed") {
+    if scripts.is_empty() && !matches.get_flag("sed") && !matches.get_flag("calls") {
         scripts.push("-")?;
     }
     Ok(scripts)
 }
+
+/// What files are taken for, or none.
+fn kind_of(matches: &ArgMatches) -> Option<Kind> {
+    Kind::named(matches.get_str("as")?)
+}
+
+/// The values of variables. What has no `=` is a name with an empty value.
+fn assumed_of<'a>(alloc: Global, matches: &ArgMatches<'a>) -> Result<Vec<Assumed<'a>>, AllocError> {
+    let mut assumed = Vec::new(alloc);
+    if let Some(words) = matches.get_strs("assume") {
+        for word in words {
+            let (name, value) = word.split_once('=').unwrap_or((*word, ""));
+            assumed.push(Assumed {
+                name: name.as_bytes(),
+                value: value.as_bytes(),
+            })?;
+        }
+    }
+    Ok(assumed)
+}
+
+/// The kinds of files, by name.
+const KINDS: [&str; 6] = ["sh", "make", "docker", "yaml", "spec", "m4"];
 
 /// The levels, by name.
 const LEVELS: [&str; 3] = ["error", "warning", "note"];
@@ -120,6 +155,9 @@ fn command<'a>(alloc: Global) -> Result<Command<'a>, AllocError> {
         .arg(deny(alloc))?
         .arg(stdin_name(alloc))?
         .arg(sed(alloc))?
+        .arg(calls(alloc))?
+        .arg(kind(alloc))?
+        .arg(assume(alloc))?
         .arg(scripts(alloc))
 }
 
@@ -132,7 +170,7 @@ fn described<'a>(alloc: Global) -> Command<'a> {
             "Says where and why a sed script is refused or may run for ever, which files it touches, and what to write instead",
         )
         .after_help(
-            "Exit status: 0 accepted, 1 rejected, a loop or what `--deny` names, 2 a script or certificate that is refused, 3 a wrong command line, 4 a file that can't be read or a report that can't be written; of several scripts the greatest.",
+            "Exit status: 0 accepted, 1 rejected, a loop or what `--deny` names, 2 a script or certificate that is refused, 3 a wrong command line, 4 a file that can't be read or a report that can't be written, 5 a call in a file of which something isn't known before a run; of several scripts the greatest.",
         )
 }
 
@@ -185,10 +223,35 @@ fn sed<'a>(alloc: Global) -> Arg<'a> {
         .help("Explain a call of sed: the words after `--` are those after its name")
 }
 
+fn calls<'a>(alloc: Global) -> Arg<'a> {
+    Arg::new(alloc, "calls")
+        .long("calls")
+        .action(ArgAction::SetTrue)
+        .help(
+            "Explain the calls of sed in shell scripts, makefiles and other files, and below folders",
+        )
+}
+
+fn kind<'a>(alloc: Global) -> Arg<'a> {
+    Arg::new(alloc, "as")
+        .long("as")
+        .value_name("KIND")
+        .value_parser(KINDS.as_slice())
+        .help("What the files of --calls are, where their names don't say")
+}
+
+fn assume<'a>(alloc: Global) -> Arg<'a> {
+    Arg::new(alloc, "assume")
+        .long("assume")
+        .value_name("NAME=VALUE")
+        .action(ArgAction::Append)
+        .help("The value of a variable in the files of --calls")
+}
+
 fn scripts<'a>(alloc: Global) -> Arg<'a> {
     Arg::new(alloc, "script")
         .value_name("SCRIPT")
         .action(ArgAction::Append)
         .num_args(0..)
-        .help("Scripts of sed; none or `-` is standard input")
+        .help("Scripts of sed, or with --calls files and folders; none or `-` is standard input")
 }
