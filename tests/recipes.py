@@ -365,6 +365,24 @@ def gitlab(scratch):
     scratch.run(0, "bash", "-e", "-c", "\n".join(lines))
 
 
+def calls_of_tree(scratch):
+    """The step over a tree, and the hook: a loop and a refused script fail, an open hole passes, and each is named."""
+    step = block("The calls of sed in a tree", "sh")
+    entry = shlex.split({hook["id"]: hook for hook in yaml.safe_load(read(".pre-commit-hooks.yaml"))}["sedck-calls"]["entry"])
+    rows = [("a.sh", "sed s/a/b/ f\n", True, ""), ("b.sh", 'sed "s/$a/b/" f\n', True, "b.sh:1:8: warning: "), ("Makefile", "a:\n\tsed ':x;bx' f\n", False, "Makefile:2:7: error: "),
+            ("d/e.sh", "sed 's/a' f\n", False, "e.sh:1:6: error: ")]
+    for name, text, passes, said in rows:
+        scratch.write(name, text)
+        for words in (["sh", "-c", step], [*entry, name]):
+            says = scratch.run(0 if passes else 1, *words)
+            holds(said in says if said else says == "", "of %s this is said:\n%s" % (name, says))
+        os.remove(os.path.join(scratch.folder, name))
+    files = {hook["id"]: hook for hook in yaml.safe_load(read(".pre-commit-hooks.yaml"))}["sedck-calls"]["files"]
+    names = ["a.sh", "Makefile", "x/Makefile.in", "debian/rules", "debian/sedck.postinst", "ci.yml", "Dockerfile", "configure", "configure.ac", "a.c", "README", "rules"]
+    asked = [name for name in names if re.search(files, name)]
+    holds(asked == names[:-3], "the hook is asked of %s" % asked)
+
+
 def pre_commit(scratch):
     hooks = {hook["id"]: hook for hook in yaml.safe_load(read(".pre-commit-hooks.yaml"))}
     used = yaml.safe_load(block("A hook of pre-commit", "yaml"))["repos"][0]["hooks"]
@@ -384,7 +402,7 @@ def pre_commit(scratch):
 
 
 # Each recipe with the programs that it needs.
-RECIPES = [(makefile, "make sed"), (in_place, "sed"), (inline, "sed"), (inline_make, "make sed"), (calls, "make sed"), (stranger, "sed"), (vim, "vim"), (hook, "git sed"), (hook_alone, "git"), (step, ""), (lists, ""),
+RECIPES = [(makefile, "make sed"), (in_place, "sed"), (inline, "sed"), (inline_make, "make sed"), (calls, "make sed"), (calls_of_tree, "yaml"), (stranger, "sed"), (vim, "vim"), (hook, "git sed"), (hook_alone, "git"), (step, ""), (lists, ""),
            (make_check, "make"), (autopkgtest, ""), (matcher, "yaml bash"), (sarif, "yaml bash jq"), (fewer, ""),
            (github, "yaml bash curl tar sha256sum"), (gitlab, "yaml bash curl tar sha256sum"), (pre_commit, "yaml")]
 

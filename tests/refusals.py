@@ -319,6 +319,17 @@ EXPLAINED = [
     (["--deny", "writes", "--sed", "--", "-i", "p", "x"], {}, 1),
     (["--sed"], {}, 3),
 ]
+CALLS = "#!/bin/sh\nSED='sed -n'\n$SED 's/a/b/w out' f; sed \"s/$a/[$b]/\" | xargs sed ':x;bx'\nsed -f f `sed -E p`; sh -c 'sed s/a'\ncat <<E | sed -f -\n$(sed --x)\nE\n"
+IN_FILES = [
+    (["--calls", "run"], {"run": CALLS}, 2),
+    (["--deny", "writes", "--calls", "Makefile"], {"Makefile": "S = s/a/b/\nall: a\n\t@sed '$(S)' $< | \\\n\t  sed 'w out'\nX := $(shell sed p f)\n"}, 1),
+    (["--assume", "a=b", "--calls", "."], {"a.sh": "sed \"s/$a/c/\"\n", "b.yml": "- run: |\n    sed 's/a/b/' f\n", "c": "sed p\n"}, 0),
+    (["--as", "docker", "--calls", "x"], {"x": "RUN sed p \\\n  f\n"}, 0),
+    (["--as", "spec", "--calls", "x"], {"x": "%prep\nsed 's/%%/b/' %{name}\n"}, 0),
+    (["--as", "m4", "--calls", "x"], {"x": "dnl a\nx=`sed p f`\n"}, 0),
+    (["--calls", "none"], {}, 4),
+    (["--calls"], {}, 3),
+]
 SEVERAL = {"one": NEXT_LINE, "two": IDLE, "three": "b z"}
 
 
@@ -328,6 +339,8 @@ def explained():
         for words, files, status in EXPLAINED:
             yield ["--format", form, *words], files, status, []
         if form in ("text", "gcc", "json"):
+            for words, files, status in IN_FILES:
+                yield ["--format", form, *words], files, status, []
             yield ["--format", form, *SEVERAL], SEVERAL, 2, list(SEVERAL)
 
 
@@ -434,7 +447,9 @@ def explain_in_turn(explain, shim, words, files, status, scripts):
             seen = run(explain, shim, words, request, folder, subprocess.PIPE)
             is_refused = REFUSED in seen[2]
             seen = (*seen[:2], seen[2].replace(REFUSED, "", 1))
-            if is_refused and seen[0] == 4 and seen[1] in wholes and seen[2] in endings:
+            # Of calls in files those before are reported.
+            whole = seen[1] in wholes or "--calls" in words and expected[1].startswith(seen[1]) and seen[1].endswith("\n")
+            if is_refused and seen[0] == 4 and whole and seen[2] in endings:
                 answered += 1
             elif seen != expected:
                 raise Wrong(f"request {request}: status {seen[0]}, report {seen[1]!r}, standard error {seen[2]!r}")

@@ -13,6 +13,7 @@ trap 'rm -rf "$folder"' EXIT
 printf ':a\nn\nb a\n' > "$folder/script"
 printf ':a\nb a\n' > "$folder/loop"
 printf 'b z' > "$folder/refused"
+printf 'sed ":x;bx"\nsed p\n' > "$folder/calls"
 "$program" rank "$folder/script" > "$folder/certificate" || exit 1
 failures=0
 
@@ -65,6 +66,9 @@ each_format() {
     done
     # No script follows after a failed write, so that there is one line on standard error.
     "$1" "$folder/loop" "$folder/missing" "$folder/refused"
+    for format in text gcc json; do
+        "$1" --format "$format" --calls "$folder/calls" "$folder/missing"
+    done
     "$1" --help
     "$1" --version
 }

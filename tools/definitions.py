@@ -366,7 +366,7 @@ script.Faults bre.Faults cert.Faults
 script.FaultWords bre.FaultWords cert.FaultText cli.Lines
 cli.Reports cli.Engines cli.Statuses cli.Causes cli.Faults cert.Streams cli.Inputs cli.Opened
 findings.Answers findings.Denial findings.Explanations findings.Errors explain_cli.Explained explain_cli.Statuses findings.Positions findings.Shown findings.Codes findings.Reported escapes.Html escapes.Ascii
-called.Called calls.Words calls.Options calls.Calls calls.Origins calls.Scripts
+called.Called scan.Scanned traced.Traced traced.Texts calls.Words calls.Options calls.Calls calls.Origins calls.Scripts
 words.Names
 bre.Lengths script.Shortest script.Invariant
 bre.View script.View script.ReplacementView cert.View
@@ -390,7 +390,7 @@ PARTS = [
         ("Where commands are", [("sedck_script", "locate", ("count", "locations", "order"))]),
         ("Reports and statuses", [("sedck_cli", "*", None), ("sedck_cert", "write_cert", None)]),
         ("What is explained", [("sedck_findings", "*", None), ("sedck_explain_cli", "*", None), ("sedck_escapes", "*", None),
-         ("sedck_words", "*", None)]),
+         ("sedck_words", "*", None), ("sedck_scan", "*", None)]),
         ("Certificates of version 1", [("sedck_cert", "read_cert_one", None), ("sedck_cert", "upgrade*", None), ("sedck_cert", "CertOne*", None),
          ("sedck_flow", "edges_were_there", None), ("sedck_flow", "kinds_agree", None), ("sedck_flow", "literal_kinds_stay", None), ("sedck_search", "obstacles_were_there", None)]),
         ("The parts, and laws", [(crate, "*", None) for crate in CRATES]),

@@ -1,0 +1,350 @@
+#!/usr/bin/env python3
+"""Tests `sedck-explain --calls`: python3 tests/calls_in_files.py build/sedck-explain
+
+A table of files with the calls that are in them, by hand; folders and what can't be read; the literal calls in the shell scripts of
+this machine, whose words the shell itself is asked for; long and hostile texts, and many files, with a limit of time. Needs a shell
+(`sh`). The status is 0 only where all is as it should be.
+"""
+import json, os, re, subprocess, sys, tempfile, time
+from pathlib import Path
+
+PROGRAM = os.path.abspath(sys.argv[1])
+failures = []
+
+
+def fail(words):
+    failures.append(words)
+    print("calls in files: " + words)
+
+
+def run(folder, *words, limit=120):
+    done = subprocess.run([PROGRAM, *words], cwd=folder, stdin=subprocess.DEVNULL, capture_output=True, timeout=limit)
+    return done.returncode, done.stdout, done.stderr
+
+
+def bytes_of(shown):
+    """The bytes of a word as it is shown."""
+    plain = re.sub(r'\\(x[0-9a-f]{2}|\\|")', lambda found: found[1] if len(found[1]) == 1 else chr(int(found[1][1:], 16)), shown)
+    return plain.encode("latin-1")
+
+
+
+def explained(text, name, *options, limit=120):
+    """What is said of one file with this text: the status, the calls and the counts."""
+    with tempfile.TemporaryDirectory() as folder:
+        path = os.path.join(folder, name)
+        os.makedirs(os.path.dirname(path), exist_ok=True)
+        Path(path).write_bytes(text if isinstance(text, bytes) else text.encode())
+        status, out, err = run(folder, "--format", "json", *options, "--calls", name, limit=limit)
+        if err:
+            fail("%s: %s" % (name, err.decode()))
+        lines = [json.loads(line) for line in out.decode().splitlines()]
+        return status, lines[:-1], lines[-1]
+
+
+# The name of a file, options, its text, the status, and for each call its line and column, its answer and its words.
+A, IF, LOOP, REFUSED, NOT, UNKNOWN = "accepted", "accepted-if", "loop", "script-refused", "not-judged", "unknown"
+ROWS = [
+    # Quoting.
+    ("a.sh", [], "sed s/a/b/ f\n", 0, [("1:1", A, ["s/a/b/", "f"])]),
+    ("a.sh", [], "sed 's/a b/$c/' \"f g\"\n", 0, [("1:1", A, ["s/a b/$c/", "f g"])]),
+    ("a.sh", [], "sed s/a\\ b/c/ 'it'\\''s'\n", 0, [("1:1", A, ["s/a b/c/", "it's"])]),
+    ("a.sh", [], "sed \"s/\\\\/\\$x/;s/\\a/b/\"\n", 2, [("1:1", REFUSED, ["s/\\/$x/;s/\\a/b/"])]),
+    ("a.sh", [], "sed $'s/a\\tb/c\\'d/'\n", 0, [("1:1", A, ["s/a\tb/c'd/"])]),
+    ("a.sh", [], "sed -e 's/a/b/' \\\n  -e 's/c/d/'\n", 0, [("1:1", A, ["-e", "s/a/b/", "-e", "s/c/d/"])]),
+    ("a.sh", [], "sed '\n  s/a/b/\n  p\n' f\n", 0, [("1:1", A, ["\n  s/a/b/\n  p\n", "f"])]),
+    ("a.sh", [], "sed \"s/a/b/;\\\np\"\n", 0, [("1:1", A, ["s/a/b/;p"])]),
+    # Where commands are.
+    ("a.sh", [], "if sed -n p f; then x=`sed 1d g`; else y=$(sed 2d h); fi\n", 0, [("1:4", A, ["-n", "p", "f"]), ("1:24", A, ["1d", "g"]), ("1:44", A, ["2d", "h"])]),
+    ("a.sh", [], "cat f | sed p > out 2>&1 && ! sed d\n", 0, [("1:9", A, ["p"]), ("1:31", A, ["d"])]),
+    ("a.sh", [], "f() { sed p; }; (sed d); { sed = ; }\n", 0, [("1:7", A, ["p"]), ("1:18", A, ["d"]), ("1:28", A, ["="])]),
+    ("a.sh", [], "case $x in a|b) sed p;; (c) sed d;; *) sed =;; esac\nsed x\n", 0, [("1:17", A, ["p"]), ("1:29", A, ["d"]), ("1:40", A, ["="]), ("2:1", A, ["x"])]),
+    ("a.sh", [], "for f in sed b; do sed p $f; done\nwhile read l; do sed d; done\n", 0, [("1:20", A, ["p", "x"]), ("2:18", A, ["d"])]),
+    ("a.sh", [], "# sed p\necho sed p # sed d\necho 'sed p' \"sed d\"\nsedation p\n", 0, []),
+    ("a.sh", [], "cat <<EOF\nsed p\nEOF\nsed d <<'E'\nsed x\nE\nsh <<E\nsed =\nE\n", 0, [("4:1", A, ["d"]), ("8:1", A, ["="])]),
+    ("a.sh", [], "cat <<EOF\n$(sed p)\nEOF\n", 0, [("2:3", A, ["p"])]),
+    ("a.sh", [], "x=\"$(sed \"s/a/b/\" \"$f\")\"\n", 0, [("1:6", A, ["s/a/b/", "x"])]),
+    ("a.sh", [], "sh -c 'sed p; sed \"s/a b/c/\"'\neval 'sed d'\n", 0, [("1:8", A, ["p"]), ("1:15", A, ["s/a b/c/"]), ("2:7", A, ["d"])]),
+    # Names.
+    ("a.sh", [], "/usr/bin/sed p; gsed d; $SED x; ${SED-sed} =; \"$SED\" g; busybox sed h\n", 0, [("1:1", A, ["p"]), ("1:17", A, ["d"]), ("1:25", A, ["x"]), ("1:33", A, ["="]), ("1:47", A, ["g"]), ("1:65", A, ["h"])]),
+    ("a.sh", [], "LC_ALL=C sed p; env A=b sed d; exec sed x; command sed =; sudo -u me sed g\n", 0, [("1:10", A, ["p"]), ("1:25", A, ["d"]), ("1:37", A, ["x"]), ("1:52", A, ["="]), ("1:70", A, ["g"])]),
+    ("a.sh", [], "xargs -0 -n 1 sed -n p; find . -name '*.c' -exec sed -n '1p' {} + -o -exec sed d {} \\;\n", 0, [("1:15", A, ["-n", "p"]), ("1:50", A, ["-n", "1p", "{}"]), ("1:76", A, ["d", "{}"])]),
+    ("a.sh", [], "time -p sed p; timeout 5 sed d; nice -n 3 sed x; nohup sed =\n", 0, [("1:9", A, ["p"]), ("1:26", A, ["d"]), ("1:43", A, ["x"]), ("1:56", A, ["="])]),
+    ("a.sh", [], "command -v sed p; which sed; type sed\n", 0, []),
+    # What isn't known.
+    ("a.sh", [], 'sed "s/$a/b/"\n', 5, [("1:1", IF, ["s/x/b/"])]),
+    ("a.sh", [], 'sed "s/a/${b}c/"\n', 5, [("1:1", IF, None)]),
+    ("a.sh", [], 'sed "s/[$a]/b/; a\\\\\n$t"\n', 5, [("1:1", IF, None)]),
+    ("a.sh", [], 'sed "${n}d"\n', 5, [("1:1", UNKNOWN, None)]),
+    ("a.sh", [], 'sed "$s" f\n', 5, [("1:1", UNKNOWN, None)]),
+    ("a.sh", [], 'sed $o p f\n', 5, [("1:1", UNKNOWN, None)]),
+    ("a.sh", [], 'sed "s/a/b/w $f"\n', 5, [("1:1", UNKNOWN, None)]),
+    ("a.sh", [], 'sed "b $l"\n', 5, [("1:1", UNKNOWN, None)]),
+    ("a.sh", [], 'sed "s/a/b/$f"\n', 5, [("1:1", UNKNOWN, None)]),
+    ("a.sh", [], "sed -f x.sed f\n", 5, [("1:1", UNKNOWN, ["-f", "x.sed", "f"])]),
+    ("a.sh", [], 'sed -n p "$f" $g\n', 0, [("1:1", A, None)]),
+    ("a.sh", [], 'sed ":x;s/$a/b/;bx"\n', 1, [("1:1", LOOP, None)]),
+    ("a.sh", [], 'sed "# $x\np"\n', 5, [("1:1", IF, None)]),
+    # Values.
+    ("a.sh", [], 'a=u\nsed "s/$a/b/"\n', 0, [("2:1", A, ["s/u/b/"])]),
+    ("a.sh", [], 'a=u\na=v\nsed "s/$a/b/"\n', 5, [("3:1", IF, None)]),
+    ("a.sh", [], 'a=u\nread a\nsed "s/$a/b/"\n', 5, [("3:1", IF, None)]),
+    ("a.sh", [], "a=u; bash -c 'sed \"s/$a/b/\"'\n", 5, [("1:15", IF, None)]),
+    ("a.sh", ["--assume", "a=u"], 'sed "s/$a/b/"\n', 0, [("1:1", A, ["s/u/b/"])]),
+    ("a.sh", ["--assume", "a=u/"], 'sed "s/$a/b/"\n', 2, [("1:1", REFUSED, ["s/u//b/"])]),
+    ("a.sh", [], "SED='sed -n'\n$SED p\n", 0, [("2:1", A, ["-n", "p"])]),
+    # What is refused, rejected or not judged.
+    ("a.sh", [], "sed 's/a' f\n", 2, [("1:1", REFUSED, ["s/a", "f"])]),
+    ("a.sh", [], "sed ':x;bx' f\n", 1, [("1:1", LOOP, [":x;bx", "f"])]),
+    ("a.sh", [], "sed -E 's/(a)/b/' f\n", 2, [("1:1", NOT, ["-E", "s/(a)/b/", "f"])]),
+    ("a.sh", [], "sed --what p\n", 2, [("1:1", NOT, ["--what", "p"])]),
+    ("a.sh", ["--deny", "writes"], "sed 'w out' f\n", 1, [("1:1", "denied", ["w out", "f"])]),
+    # Makefiles.
+    ("Makefile", [], "all:\n\t@sed 's/a$$/b/' $< > $@\n\t-sed -n \\\n\t  p f\nX = $(shell sed 1d f)\n", 0, [("2:3", A, ["s/a$/b/", "x"]), ("3:3", A, ["-n", "p", "f"]), ("5:13", A, ["1d", "f"])]),
+    ("Makefile", [], "SED = sed\nP = u\nall: ; $(SED) 's/$(P)/$(Q)/'\n", 5, [("3:8", IF, None)]),
+    ("x.mk", [], "ifdef A\nall:\n\tif sed p; then \\\n\t  sed d; fi\nendif\n", 0, [("3:5", A, ["p"]), ("4:4", A, ["d"])]),
+    ("Makefile.in", [], "all:\n\t@SED@ 's/@a@/b/'\n", 5, [("2:2", IF, None)]),
+    # Dockerfiles, files of continuous integration, spec files, sources of Autoconf.
+    ("Dockerfile", [], "FROM a\nRUN a && \\\n    # b\n    sed -i 's/a/b/' f\nRUN [\"sed\", \"p\"]\n", 0, [("4:5", A, ["-i", "s/a/b/", "f"])]),
+    ("ci.yml", [], "jobs:\n  a:\n    steps:\n      - run: sed p f\n      - name: x\n        run: |\n          sed 's/a/b/' f\n          sed d\n", 0, [("4:14", A, ["p", "f"]), ("7:11", A, ["s/a/b/", "f"]), ("8:11", A, ["d"])]),
+    ("ci.yml", [], "a:\n  script:\n    - sed p f\n    - \"sed \\\"s/a/b/\\\"\"\n    - 'sed ''s/c/d/'''\n", 0, [("3:7", A, ["p", "f"]), ("4:8", A, ["s/a/b/"]), ("5:8", A, ["s/c/d/"])]),
+    ("a.spec", [], "Name: a\n%prep\nsed -i 's/%%a/b/' f\n%build\nsed p\n%files\nsed\n", 0, [("3:1", A, ["-i", "s/%a/b/", "f"]), ("5:1", A, ["p"])]),
+    ("configure.ac", [], "AC_INIT([a])\ndnl sed d\nx=`sed -n p f`\ny=`sed -n ['p'] f`\nAC_OUTPUT\n", 5, [("3:4", A, ["-n", "p", "f"]), ("4:4", UNKNOWN, None)]),
+    # Names of files.
+    ("debian/rules", [], "#!/usr/bin/make -f\nall:\n\tsed p\n", 0, [("3:2", A, ["p"])]),
+    ("a.postinst", [], "sed p\n", 0, [("1:1", A, ["p"])]),
+    ("run", [], "#! /bin/sh -e\nsed p\n", 0, [("2:1", A, ["p"])]),
+    ("run", ["--as", "make"], "a:\n\tsed p\n", 0, [("2:2", A, ["p"])]),
+]
+
+
+def table():
+    for name, options, text, status, due in ROWS:
+        shown = "%s %s %r" % (name, " ".join(options), text)
+        got_status, calls, counts = explained(text, name, *options)
+        got = [("%d:%d" % (call["call"]["line"], call["call"]["column"]), call["answer"], [bytes_of(word).decode() for word in call["words"]]) for call in calls]
+        same = len(got) == len(due) and all(g[:2] == d[:2] and d[2] in (None, g[2]) for g, d in zip(got, due))
+        if not same or got_status != status:
+            fail("%s: status %d, %s" % (shown, got_status, got))
+        if counts["calls"] != len(calls) or counts["status"] != got_status or counts["files"] != 1:
+            fail("%s: counts %s" % (shown, counts))
+        answers = {A: "accepted", IF: "accepted_if", LOOP: "loops", REFUSED: "refused", NOT: "not_judged", UNKNOWN: "unknown", "denied": "denied"}
+        for answer, field in answers.items():
+            if counts[field] != sum(call["answer"] == answer for call in calls):
+                fail("%s: %s of %s" % (shown, counts[field], answer))
+        lines = text.split("\n")
+        for call in calls:
+            for finding in call["findings"]:
+                at = finding["position"]
+                if at["line"] > len(lines) or at["column"] > len(lines[at["line"] - 1].encode()) + 1 or at["offset"] != sum(len(line.encode()) + 1 for line in lines[:at["line"] - 1]) + at["column"] - 1:
+                    fail("%s: a finding at %s" % (shown, at))
+
+
+# Findings at their places in the file: the text, and `LINE:COLUMN code` of each finding.
+PLACES = [
+    ("sed 's/a/b/' f\nsed 's/\\(a/b/' f\n", ["2:8 unclosed-group"]),
+    ("x\nsed -n '\n  :a\n  p\n  b a\n'\n", ["3:3 loop-idle"]),
+    ("sed 'w /etc/x' f\n", ["1:6 absolute-name"]),
+    ("sed \"s/a/$b/;s/$c/d/\"\n", ["1:10 open-hole", "1:16 open-hole", "1:6 no-bound"]),
+    ("sed -e p -e \"$x\"\n", ["1:1 unknowable"]),
+    ("a='s/x'\nsed \"$a\"\n", ["1:4 unterminated"]),
+    ("sed -i p f\n", ["1:1 in-place"]),
+]
+
+
+def places():
+    for text, due in PLACES:
+        _, calls, _ = explained(text, "a.sh")
+        got = ["%d:%d %s" % (finding["position"]["line"], finding["position"]["column"], finding["code"]) for call in calls for finding in call["findings"]]
+        if got != due:
+            fail("%r: findings %s" % (text, got))
+    with tempfile.TemporaryDirectory() as folder:
+        Path(folder, "a.sh").write_text("x\nsed ':x;bx' f\nsed p\n")
+        status, out, _ = run(folder, "--format", "gcc", "--calls", "a.sh")
+        if status != 1 or not out.startswith(b"a.sh:2:6: error: ") or b"a.sh:3" in out:
+            fail("gcc: %d %r" % (status, out))
+        status, out, _ = run(folder, "--calls", "a.sh")
+        lines = out.decode().splitlines()
+        if not ("   2 | sed ':x;bx' f" in lines and "a.sh:2:1: loop, no file" in lines and "a.sh:3:1: accepted, no file" in lines
+                and lines[-1] == "2 calls of sed in 1 file: 1 accepted, 1 with a loop"):
+            fail("text: %r" % out)
+
+
+def refused_words():
+    with tempfile.TemporaryDirectory() as folder:
+        Path(folder, "a.sh").write_text("sed p\n")
+        for words in (["--calls"], ["--calls", "--format", "html", "a.sh"], ["--calls", "--cert", "a", "a.sh"], ["--as", "sh", "a.sh"], ["--assume", "a=b", "a.sh"],
+                      ["--calls", "--as", "perl", "a.sh"], ["--calls", "--sed", "a.sh"]):
+            status, out, err = run(folder, *words)
+            if status != 3 or out or not err.startswith(b"sedck-explain: "):
+                fail("%s: %d %r %r" % (words, status, out, err))
+
+
+def folders():
+    with tempfile.TemporaryDirectory() as folder:
+        for name, text in (("b/x.sh", b"sed p\n"), ("a.sh", b"sed d\n"), ("b/c/Makefile", b"a:\n\tsed x\n"), ("b/text", b"sed p\n"), (".git/a.sh", b"sed p\n"),
+                           ("bin.sh", b"sed p\n\0"), ("run", b"#!/bin/sh\nsed =\n")):
+            path = Path(folder, name)
+            path.parent.mkdir(parents=True, exist_ok=True)
+            path.write_bytes(text)
+        os.symlink("/etc", Path(folder, "b/link"))
+        os.symlink("x.sh", Path(folder, "b/y.sh"))
+        status, out, err = run(folder, "--format", "json", "--calls", ".")
+        lines = [json.loads(line) for line in out.decode().splitlines()]
+        got = [line["file"] for line in lines[:-1]]
+        if status != 0 or got != ["./a.sh", "./b/c/Makefile", "./b/x.sh", "./run"] or lines[-1]["files"] != 4:
+            fail("a folder: %d %s %s" % (status, got, lines[-1]))
+        status, out, err = run(folder, "--format", "json", "--calls", "none.sh", "b", "a.sh")
+        lines = [json.loads(line) for line in out.decode().splitlines()]
+        got = [line["file"] for line in lines[:-1]]
+        if status != 4 or got != ["none.sh", "b/c/Makefile", "b/x.sh", "a.sh"] or err != b"sedck-explain: cannot read none.sh: no such file\n" or lines[-1]["unreadable"] != 1 or lines[0]["answer"] != "unreadable":
+            fail("a file that isn't there: %d %s %r" % (status, got, err))
+        Path(os.fsdecode(os.fsencode(folder) + b"/b/\xff.sh")).write_text("sed p\n")
+        status, out, err = run(folder, "--format", "gcc", "--calls", "b")
+        if status != 4 or b"not all of its names can be read" not in err:
+            fail("a name that isn't UTF-8: %d %r" % (status, err))
+        done = subprocess.run([PROGRAM, "--format", "json", "--calls", "-"], input=b"sed p\n", capture_output=True)
+        if done.returncode != 0 or json.loads(done.stdout.splitlines()[0])["words"] != ["p"]:
+            fail("standard input: %d %r" % (done.returncode, done.stdout))
+
+
+# A literal call: words of single quotes, of double ones without expansions, and of bytes that mean nothing to the shell.
+WORD = rb"(?:'[^']*'|\"(?:[^\"$`\\]|\\[^$`\"\\\n])*\"|[A-Za-z0-9_./=,:@%+^-])+"
+LITERAL = re.compile(rb"(?:sed)(?:[ \t]+" + WORD + rb")+(?=[ \t]*(?:[|;)&\n`]|[0-9]*[<>]|$))")
+BEFORE = re.compile(rb"(?:^|[|;(`&]|\bthen|\bdo|\belse|\bif|[^\w]!)[ \t]*$")
+
+
+def asked(text, scratch):
+    """The words that the shell gives to sed."""
+    done = subprocess.run(["/bin/sh", "-c", text], cwd=scratch, env={"PATH": scratch}, capture_output=True)
+    return done.stdout.split(b"\0")[:-1]
+
+
+def is_command(text, start):
+    """Whether the shell reads a command at this offset: it is where a parenthesis that closes nothing is a fault, which it isn't in a quoted
+    text or a here-document. None where the shell doesn't read the text."""
+    for shell in ("/bin/sh", "bash"):
+        if subprocess.run([shell, "-n"], input=text, capture_output=True).returncode == 0:
+            return subprocess.run([shell, "-n"], input=text[:start] + b")" + text[start:], capture_output=True).returncode != 0
+    return None
+
+
+def scripts_of_machine():
+    folders = ["/usr/bin", "/usr/sbin", "/usr/lib", "/usr/share", "/etc", "/var/lib/dpkg/info", "/bin", "/sbin"]
+    seen = set()
+    for top in folders:
+        for folder, inner, files in os.walk(top):
+            inner[:] = sorted(name for name in inner if not os.path.islink(os.path.join(folder, name)))
+            for name in sorted(files):
+                path = os.path.join(folder, name)
+                try:
+                    if os.path.islink(path) or os.path.getsize(path) > 1000000:
+                        continue
+                    with open(path, "rb") as file:
+                        head = file.read(64)
+                        if not re.match(rb"#! ?(/usr)?/bin/(env )?(ba|da|k)?sh\b", head):
+                            continue
+                        text = head + file.read()
+                except OSError:
+                    continue
+                if text not in seen and b"sed" in text and b"\0" not in text:
+                    seen.add(text)
+                    yield path, text
+        if len(seen) >= 400:
+            return
+
+
+def judged_by_the_shell():
+    """The words of each literal call, as the shell gives them; and how many literal calls are found."""
+    files = compared = found = others = 0
+    names = []
+    with tempfile.TemporaryDirectory() as scratch:
+        fake = Path(scratch, "sed")
+        fake.write_text("#!/bin/sh\nprintf '%s\\0' \"$@\"\n")
+        fake.chmod(0o755)
+        for path, text in scripts_of_machine():
+            files += 1
+            status, out, err = run(scratch, "--format", "json", "--as", "sh", "--calls", path)
+            calls = {call["call"]["offset"]: call for call in map(json.loads, out.decode().splitlines()) if "call" in call}
+            for literal in LITERAL.finditer(text):
+                line = text[text.rfind(b"\n", 0, literal.start()) + 1:literal.start()]
+                is_descriptor = re.search(rb"[ \t][0-9]+$", literal[0]) and text[literal.end():literal.end() + 1] in (b"<", b">")
+                if not BEFORE.search(line) or b"#" in line or b"'" in line or b'"' in line or is_descriptor:
+                    continue
+                if literal.start() not in calls:
+                    others += 1
+                    if is_command(text, literal.start()) is not False:
+                        names.append("%s at %d: %r" % (path, literal.start(), literal[0][:60]))
+                    continue
+                found += 1
+                words = [bytes_of(word) for word in calls[literal.start()]["words"]]
+                due = asked(literal[0], scratch)
+                # Between backquotes the shell takes off some backslashes before it reads the command.
+                if words != due and words != asked(b"exec 3>&1; x=`" + literal[0] + b" >&3`", scratch):
+                    fail("%s at %d: %s, and for the shell %s" % (path, literal.start(), words, due))
+                else:
+                    compared += 1
+    if names:
+        fail("%d literal calls aren't found:\n%s" % (len(names), "\n".join(names)))
+    print("calls in files: in %d scripts of this machine %d literal calls have the words that the shell gives; %d that look like one are none for the shell either" % (files, compared, others - len(names)))
+
+
+M = 1000000
+HOSTILE = [
+    ("a.sh", "quotes", "'\n" * (M // 2) + "'"), ("a.sh", "double quotes", "sed \"" + "a" * M), ("a.sh", "nested substitutions", "$(" * (M // 2)),
+    ("a.sh", "substitutions in quotes", "\"$(" * (M // 3)), ("a.sh", "backquotes", "`" * M + "x`\\`" * 1000), ("a.sh", "parameters", "${" * (M // 2)),
+    ("a.sh", "here-documents", "cat <<A\n" * (M // 8)), ("a.sh", "here-documents on a line", "cat " + "<<A " * (M // 4) + "\n"), ("a.sh", "arithmetic", "$((" * (M // 3)),
+    ("a.sh", "groups", "(" * M), ("a.sh", "cases", "case x in " * (M // 10)), ("a.sh", "calls", "sed p\n" * (M // 6)), ("a.sh", "calls with holes", "sed \"s/$a/$b/\"\n" * (M // 15)),
+    ("a.sh", "assignments", "".join("a%d=u\n" % index for index in range(M // 10)) + "sed \"s/$a1/b/\"\n" * 1000), ("a.sh", "a long value", "SED='sed " + "-n " * 100000 + "'\n" + "$SED p\n" * 10000),
+    ("a.sh", "a long script", "sed '" + "p;" * 2000 + "'\n"), ("a.sh", "texts of shells", "sh -c '" * (M // 7)), ("a.sh", "eval", "eval 'sed p'\n" * (M // 13)),
+    ("Makefile", "references", "a:\n\t" + "$(" * (M // 2)), ("Makefile", "recipes", "a:\n" + "\tsed p\n" * (M // 7)), ("Makefile", "shell", "X=" + "$(shell " * (M // 8)),
+    ("Makefile", "names of sed", "a:\n\t" + "$(SED) " * (M // 7)), ("Makefile", "continued lines", "a:\n\tsed \\\n" + "\tp \\\n" * (M // 5)),
+    ("Dockerfile", "continued lines", "RUN a \\\n" * (M // 8)), ("Dockerfile", "here-documents", "RUN <<A\n" * (M // 8)), ("a.yml", "blocks", "- run: |\n" * (M // 9)), ("a.yml", "depth", "".join(" " * index + "run:\n" for index in range(1400))),
+    ("a.spec", "macros", "%build\n" + "%{" * (M // 2)), ("a.spec", "sections", "%build\nsed p\n" * (M // 13)), ("configure.ac", "brackets", "[" * M), ("configure.ac", "quotes", "AC_X([']" * (M // 8)),
+]
+
+
+def hostile():
+    slowest = (0, "")
+    for name, words, text in HOSTILE:
+        begun = time.monotonic()
+        try:
+            status, calls, counts = explained(text, name, limit=60)
+        except subprocess.TimeoutExpired:
+            fail("%s, %s: more than 60 seconds" % (name, words))
+            continue
+        took = time.monotonic() - begun
+        slowest = max(slowest, (took, "%s, %s" % (name, words)))
+        if status not in (0, 1, 2, 5):
+            fail("%s, %s: status %d" % (name, words, status))
+        if words == "calls" and counts["accepted"] != len(text) // 6:
+            fail("%s, %s: counts %s" % (name, words, counts))
+    print("calls in files: %d texts of up to a megabyte, the slowest (%s) in %.1f s" % (len(HOSTILE), slowest[1], slowest[0]))
+
+
+def many():
+    """Ten thousand files."""
+    with tempfile.TemporaryDirectory() as folder:
+        text = "#!/bin/sh\necho a | sed -n 's/a/b/p' && echo \"$x\"\n" + "for f in *; do test -f \"$f\" && cat \"$f\"; done\n" * 100 + "sed -e 's/a/b/' -e '/c/d' f\n"
+        for index in range(10000):
+            path = Path(folder, "d%d" % (index // 100), "f%d.sh" % index)
+            path.parent.mkdir(exist_ok=True)
+            path.write_text(text)
+        begun = time.monotonic()
+        status, out, err = run(folder, "--format", "gcc", "--calls", ".", limit=300)
+        took = time.monotonic() - begun
+        if status != 0 or out or err:
+            fail("10,000 files: %d %r %r" % (status, out[:200], err[:200]))
+        print("calls in files: 10,000 files of five kilobytes with two calls each in %.1f s" % took)
+
+
+def main():
+    for part in (table, places, refused_words, folders, judged_by_the_shell, hostile, many):
+        part()
+    if not failures:
+        print("calls in files: %d rows are as they should be" % (len(ROWS) + len(PLACES)))
+    return 1 if failures else 0
+
+
+if __name__ == "__main__":
+    sys.exit(main())
