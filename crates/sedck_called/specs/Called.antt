@@ -1,5 +1,5 @@
 -- The script of a call of sed, and when a call is accepted, this project's own.
-use Rattle.std.specs.Prelude.{◌≡◌, ℕ, Bool, true, false, List, [], ◌∷◌, Option, None, codes, if◌then◌else◌}
+use Rattle.std.specs.Prelude.{◌≡◌, ℕ, ◌==◌, ◌&&◌, Bool, true, false, MatchBool, List, [], ◌∷◌, Option, None, codes, if◌then◌else◌}
 use Rattle.std.specs.Str.{bytes_eq}
 use Rattle.std.specs.List.{list_any}
 use Rattle.sedck_calls.specs.Calls.{IsCall}
@@ -14,7 +14,9 @@ use Rattle.sedck_calls.specs.declared.call.Piece.TheVariants.{Text, File}
 use Rattle.sedck_calls.specs.declared.call.Call.{Call}
 use Rattle.sedck_cli.specs.Inputs.{IsRead}
 use Rattle.sedck_cli.specs.Opened.{Known}
-use Rattle.sedck_findings.specs.Explanations.{IsExplanation}
+use Rattle.sedck_findings.specs.Denial.{is_there, has_warning}
+use Rattle.sedck_findings.specs.Errors.{has_error}
+use Rattle.sedck_findings.specs.Explanations.{IsExplanation, Keeps}
 use Rattle.sedck_findings.specs.declared.denied.Denied.{Denied}
 use Rattle.sedck_findings.specs.declared.finding.Explanation.{Explanation}
 
@@ -34,6 +36,41 @@ is_foreign (Operand n) = false
 -- one of the options does
 abbrev pub has_foreign : List Given → Bool
 has_foreign given = list_any is_foreign given
+
+-- `-i`, or `-I` of the BSDs: sed overwrites its operands
+abbrev pub overwrites : CallOption → Bool
+overwrites option.InPlace = true
+overwrites option.InPlaceSuffix = true
+overwrites _ = false
+
+abbrev pub is_overwriting : Given → Bool
+is_overwriting (Alone o n) = overwrites o
+is_overwriting (With o at) = overwrites o
+is_overwriting (Operand n) = false
+
+-- the call overwrites an operand
+abbrev pub is_in_place : Call → Bool
+is_in_place call = is_there call.inputs.items && list_any is_overwriting call.given.items
+
+-- the script is accepted, but the call overwrites an operand, and writing is denied
+abbrev pub is_denied_call : Denied → Call → ℕ → Bool
+is_denied_call denied call status = status == 0 && (denied.writes && is_in_place call)
+
+-- the same with the status 1 and an error
+pub record IsDenied (text : List ℕ) (judged e : Explanation) : Type 0 where
+  pub is_text : e.text.now ≡ text
+  pub answer : e.answer ≡ judged.answer
+  pub status : e.status ≡ 1
+  pub errors : has_error e.findings.items ≡ true
+  pub keeps : Keeps text e.answer e
+
+-- What is said of a call whose script is this text: what is said of the text, but where that is denied for an operand that is
+-- overwritten. This is a warning too, which no comment of the script ignores where warnings are denied.
+pub record IsCalled (text : List ℕ) (denied : Denied) (call : Call) (e : Explanation) : Type 0 where
+  pub judged : Explanation
+  pub is_explanation : IsExplanation text None denied judged
+  pub warned : denied.warnings ≡ true → is_in_place call ≡ true → has_warning judged.findings.items ≡ true
+  pub said : MatchBool (is_denied_call denied call judged.status) (IsDenied text judged e) (e ≡ judged)
 
 -- the bytes that the file at the path has, where they are known: `-` is standard input, of which nothing is
 abbrev pub part_bytes : Known → List ℕ → Option (List ℕ)

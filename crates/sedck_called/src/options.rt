@@ -1,8 +1,11 @@
 //! What is said of the options of a call, and of words that no sed takes.
 
-ghost use Rattle.std.specs.Prelude.{◌≡◌, false, IfOk};
-ghost use Rattle.sedck_findings.specs.Errors.{has_error};
+ghost use Rattle.std.specs.Prelude.{◌≡◌, true, false, IfOk};
+ghost use Rattle.std.specs.List.{list_any};
+ghost use Rattle.sedck_findings.specs.Denial.{has_warning};
+ghost use Rattle.sedck_findings.specs.Errors.{is_error, has_error};
 ghost use Rattle.sedck_called.specs.Called.{changes_language as is_language_option, is_foreign as is_foreign_option, has_foreign as has_foreign_option};
+ghost use Rattle.sedck_called.specs.Called.{is_overwriting as is_overwriting_option, is_in_place as is_in_place_call};
 
 use sedck_calls::{Call, CallFault, CallOption, Given, Origin};
 use sedck_findings::{Code, Finding, Level, call_finding, shown_name};
@@ -105,7 +108,8 @@ pub(crate) fn call_warnings(
     words: &[&[u8]],
     call: &Call,
 ) -> Result<Vec<Finding>, AllocError>
-    ensures { IfOk result (λ findings. has_error findings.items ≡ false) }
+    ensures errors { IfOk result (λ findings. has_error findings.items ≡ false) }
+    ensures warnings { IfOk result (λ findings. has_warning findings.items ≡ is_in_place_call call.now) }
 {
     let mut findings = Vec::new(alloc);
     if is_in_place(call) {
@@ -120,22 +124,43 @@ pub(crate) fn denied_overwriting(
     alloc: Global,
     words: &[&[u8]],
     call: &Call,
-) -> Result<Finding, AllocError> {
+) -> Result<Finding, AllocError>
+    ensures { IfOk result (λ finding. is_error finding.level ≡ true) }
+{
     let message = overwritten(alloc, words, call)?;
     Ok(call_finding(alloc, Level::Error, Code::DeniedWrites, message, None))
 }
 
 /// Whether the call overwrites an operand.
-pub(crate) fn is_in_place(call: &Call) -> bool {
-    !call.inputs.is_empty() && call.given.iter().any(|item| is_in_place_option(*item))
+pub(crate) fn is_in_place(call: &Call) -> bool
+    ensures { result ≡ is_in_place_call call.now }
+{
+    !call.inputs.is_empty() && has_overwriting(&call.given)
+}
+
+/// Whether one of the options makes sed overwrite its operands.
+fn has_overwriting(given: &[Given]) -> bool
+    ensures { result ≡ list_any is_overwriting_option given.now }
+{
+    for item in given {
+        if is_overwriting(*item) {
+            return true;
+        }
+    }
+    false
 }
 
 /// Whether it is `-i`, or `-I` of the BSDs.
-fn is_in_place_option(given: Given) -> bool {
-    matches!(
-        option_of(given),
-        Some((CallOption::InPlace | CallOption::InPlaceSuffix, _))
-    )
+fn is_overwriting(given: Given) -> bool
+    ensures { result ≡ is_overwriting_option given }
+{
+    match given {
+        Given::Alone(option, _) | Given::With(option, _) => matches!(
+            option,
+            CallOption::InPlace | CallOption::InPlaceSuffix
+        ),
+        Given::Operand(_) => false,
+    }
 }
 
 /// Which operands are overwritten, in words.

@@ -1,5 +1,5 @@
 -- What an explanation keeps of the script beside the answer, this project's own.
-use Rattle.std.specs.Prelude.{◌≡◌, ℕ, List, [], length, map, Option, Some, None}
+use Rattle.std.specs.Prelude.{◌≡◌, ℕ, true, List, [], length, map, Option, Some, None}
 use Rattle.std.specs.List.{All}
 use Rattle.sedck_script.specs.Program.{Program}
 use Rattle.sedck_script.specs.Names.{reads, writes}
@@ -15,6 +15,7 @@ use Rattle.sedck_findings.specs.declared.answer.Answer.{Answer}
 use Rattle.sedck_findings.specs.declared.answer.Answer.TheVariants.{ScriptRefused, NotJudged}
 use Rattle.sedck_findings.specs.declared.denied.Denied.{Denied}
 use Rattle.sedck_findings.specs.declared.finding.Explanation.{Explanation}
+use Rattle.sedck_findings.specs.declared.finding.Finding.{Finding}
 use Rattle.sedck_findings.specs.declared.finding.NamedFile.{NamedFile}
 use Rattle.sedck_findings.specs.declared.places.Position.{Position}
 
@@ -58,3 +59,7 @@ pub record IsExplanation (text : List ℕ) (given : Option (List ℕ)) (denied :
   pub errors : HasErrors text e
   pub order : AreInOrder e.findings.items
   pub ends : All (HasRange text) e.findings.items
+
+-- where warnings are denied, those that are given beside the script's own are reported; else a comment of the script may ignore them
+abbrev pub WarnedWith : Denied → List Finding → Explanation → Type 0
+WarnedWith denied given e = denied.warnings ≡ true → has_warning given ≡ true → has_warning e.findings.items ≡ true

@@ -1,6 +1,6 @@
 //! What is said of a call of sed: findings on its words, and calls whose script isn't judged.
 
-ghost use Rattle.std.specs.Prelude.{◌≡◌, None};
+ghost use Rattle.std.specs.Prelude.{◌≡◌, [], None};
 ghost use Rattle.sedck_findings.specs.Explanations.{KeepsNothing};
 ghost use Rattle.sedck_findings.specs.declared.answer.Answer.TheVariants.{NotJudged};
 
@@ -43,6 +43,7 @@ pub fn call_finding(
     ensures code { result.code ≡ code }
     ensures position { result.position ≡ None }
     ensures end { result.end ≡ None }
+    ensures steps { result.steps.items ≡ [] }
 {
     Finding {
         level,

@@ -105,6 +105,8 @@ pub enum Code {
     OpenHole,
     /// So much of the script isn't known that it can't be judged.
     Unknowable,
+    /// The value of a variable is known: the file sets it, or it was given with the call of this program.
+    KnownValue,
 
     // Notes.
     NoBound,
@@ -186,6 +188,7 @@ impl Code {
             Code::InPlace => "in-place",
             Code::OpenHole => "open-hole",
             Code::Unknowable => "unknowable",
+            Code::KnownValue => "known-value",
             Code::NoBound => "no-bound",
         }
     }

@@ -2,7 +2,8 @@
 
 ghost use Rattle.std.specs.Prelude.{◌≡◌, ◌≤◌, false, None, [], IfOk, map};
 ghost use Rattle.std.specs.Option.{option_map};
-ghost use Rattle.sedck_findings.specs.Explanations.{IsExplanation, KeepsNothing};
+ghost use Rattle.sedck_findings.specs.Explanations.{IsExplanation, KeepsNothing, WarnedWith};
+ghost use Rattle.sedck_findings.specs.Denial.{has_warning};
 ghost use Rattle.sedck_findings.specs.Errors.{has_error};
 ghost use Rattle.sedck_findings.specs.Positions.{position_in};
 ghost use Rattle.sedck_findings.specs.Private.Errors.{IsOfScript, IsRefused, CanBeReported, AreFindingsOf, IsFindingOf};
@@ -47,6 +48,7 @@ pub fn explain_call<'a>(
     requires { has_error warnings.items ≡ false }
     ensures explanation { IfOk result (IsExplanation text.now None denied) }
     ensures few { IfOk result (λ e. e.status ≤ 2) }
+    ensures warned { IfOk result (WarnedWith denied warnings.items) }
 {
     explained_with(alloc, text, None, warnings, denied)
 }
@@ -62,6 +64,7 @@ fn explained_with<'a>(
     requires { has_error warnings.items ≡ false }
     ensures explanation { IfOk result (IsExplanation text.now (option_map (λ bytes. bytes.now) certificate.entry) denied) }
     ensures few { IfOk result (λ e. e.status ≤ 2) }
+    ensures warned { IfOk result (WarnedWith denied warnings.items) }
 {
     let Answered { answer, located } = answer_of(alloc, text, certificate)?;
     match located {
@@ -84,6 +87,7 @@ fn explained<'a>(
     ensures explains { IfOk result (Explains text.now denied answer) }
     ensures keeps { IfOk result (KeepsLocated text.now located.entry.script located.entry.locations.items) }
     ensures few { IfOk result (λ e. e.status ≤ 2) }
+    ensures warned { IfOk result (WarnedWith denied warnings.items) }
 {
     let positions = verb_positions(alloc, text, &located.locations)?;
     let script = &located.script;
@@ -124,6 +128,7 @@ fn refused<'a>(
     ensures explains { IfOk result (Explains text.now denied answer) }
     ensures keeps { IfOk result KeepsNothing }
     ensures few { IfOk result (λ e. e.status ≤ 2) }
+    ensures warned { IfOk result (WarnedWith denied warnings.items) }
 {
     let mut found = refusal_findings(alloc, text, &answer)?;
     found.append(&mut warnings)?;
@@ -164,7 +169,8 @@ fn denied_findings(
     writes: &[NamedFile],
 ) -> Result<Vec<Finding>, AllocError>
     requires { HasLists reads.now writes.now answer.now }
-    ensures { IfOk result (λ all. AreDeniedFindings denied findings.items all.items answer.now) }
+    ensures errors { IfOk result (λ all. AreDeniedFindings denied findings.items all.items answer.now) }
+    ensures warnings { IfOk result (λ all. has_warning all.items ≡ has_warning findings.items) }
 {
     match answer {
         Answer::Accepted { bound, .. } => {

@@ -29,5 +29,5 @@ pub use code::Code;
 pub use denied::Denied;
 pub use explaining::{explain, explain_call};
 pub use finding::{Explanation, Finding, Fix, Level, NamedFile, Step};
-pub use places::{Position, line_at, position_at};
+pub use places::{Position, line_at, position_at, position_from};
 pub use shown::{is_printable, shown_line, shown_name};

@@ -32,7 +32,7 @@ pub fn positions(alloc: Global, text: &[u8], offsets: &[usize]) -> Result<Vec<Po
         if *offset < from.offset {
             from = FIRST;
         }
-        from = moved_on(text, from, *offset);
+        from = position_from(text, from, *offset);
         positions.push(from)?;
     }
     Ok(positions)
@@ -40,9 +40,10 @@ pub fn positions(alloc: Global, text: &[u8], offsets: &[usize]) -> Result<Vec<Po
 
 /// The position of the offset. An offset after the text's end counts as the end.
 pub fn position_at(text: &[u8], offset: usize) -> Position
-    ensures { result ≡ position_in text.now offset }
+    ensures position { result ≡ position_in text.now offset }
+    ensures own { result ≡ position_in text.now result.offset }
 {
-    moved_on(text, FIRST, offset)
+    position_from(text, FIRST, offset)
 }
 
 /// The position of a text's first byte.
@@ -52,11 +53,14 @@ const FIRST: Position = Position {
     column: 1,
 };
 
-/// The position of the offset, from one that isn't after it.
-fn moved_on(text: &[u8], from: Position, offset: usize) -> Position
+/// The position of the offset, from one that isn't after it. An offset after the text's end counts as the end.
+///
+/// The time is linear in the bytes between them.
+pub fn position_from(text: &[u8], from: Position, offset: usize) -> Position
     requires from { from ≡ position_in text.now from.offset }
     requires order { from.offset ≤ offset }
-    ensures { result ≡ position_in text.now offset }
+    ensures position { result ≡ position_in text.now offset }
+    ensures own { result ≡ position_in text.now result.offset }
 {
     let mut position = from;
     for index in from.offset..offset.min(text.len()) {

@@ -63,6 +63,7 @@ pub fn calls_in(
     let mut filler = Filler {
         names: &reading.names,
         left: file.len().saturating_mul(2).saturating_add(SPARE),
+        followed: Vec::new(alloc),
     };
     for held in &reading.held {
         add_calls(&mut calls, &mut filler, &reading.names, held, dialect)?;
@@ -108,6 +109,7 @@ fn add_calls(
 ) -> Result<(), AllocError> {
     let command = &held.command;
     let parts = parts_of(names.alloc, names, &command.words, held.scope)?;
+    filler.followed.clear();
     let here = match &command.here {
         Some(units) if parts.len() == 1 => Some(filler.filled(units, held.scope, false, false)?),
         _ => None,
@@ -167,6 +169,7 @@ fn found_call(
         start: name.start,
         words: traced,
         script,
+        followed: filler.take_followed(),
     }))
 }
 

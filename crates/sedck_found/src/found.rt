@@ -18,6 +18,29 @@ pub struct FoundCall {
     /// The words after the name.
     pub words: Vec<Traced>,
     pub script: FoundScript,
+    /// The variables that are replaced by their values.
+    pub followed: Vec<Followed>,
+}
+
+/// A variable that is replaced by its value.
+#[derive(Clone, Copy, Debug, PartialEq, Eq)]
+pub struct Followed {
+    /// The file has what is replaced from this offset on ..
+    pub start: usize,
+    /// .. to before this one.
+    pub end: usize,
+    pub value: KnownValue,
+}
+
+/// Where a value comes from.
+#[derive(Clone, Copy, Debug, PartialEq, Eq)]
+pub enum KnownValue {
+    /// The file sets it to what is at this offset.
+    At(usize),
+    /// The file sets it to nothing.
+    Empty,
+    /// It was given with the call of this program.
+    Given,
 }
 
 /// The script of a call.

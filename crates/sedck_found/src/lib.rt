@@ -19,4 +19,6 @@ mod units;
 mod words;
 
 pub use calls::{calls_in, dialect_of};
-pub use found::{Assumed, Found, FoundCall, FoundScript, OpenHole, Role, Unknown};
+pub use found::{
+    Assumed, Followed, Found, FoundCall, FoundScript, KnownValue, OpenHole, Role, Unknown,
+};

@@ -1,6 +1,6 @@
 //! What is known of the values of variables.
 
-use crate::found::Assumed;
+use crate::found::{Assumed, KnownValue};
 use crate::units::is_name_byte;
 use sedck_hosts::Kind;
 use sedck_traced::{Origin, Unit, hole_name};
@@ -177,6 +177,17 @@ impl Value<'_> {
         match self {
             Value::Given(bytes) => bytes.len(),
             Value::Written(units) => units.len(),
+        }
+    }
+
+    /// Where it comes from.
+    pub fn source(self) -> KnownValue {
+        match self {
+            Value::Given(_) => KnownValue::Given,
+            Value::Written(units) => match units.first() {
+                Some(Unit::Byte(_, offset)) => KnownValue::At(*offset),
+                _ => KnownValue::Empty,
+            },
         }
     }
 

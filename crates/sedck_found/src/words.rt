@@ -1,5 +1,6 @@
 //! The words of a call, each byte with its place in the file.
 
+use crate::found::Followed;
 use crate::names::{Filling, Names, Scope, Value, is_blank};
 use sedck_traced::{Origin, Traced, Unit};
 use std::alloc::{AllocError, Global};
@@ -53,6 +54,8 @@ pub(crate) struct Filler<'a> {
     pub names: &'a Names<'a>,
     /// How many bytes of values may be put in yet, so that the time stays linear.
     pub left: usize,
+    /// The variables that were replaced since this was taken.
+    pub followed: Vec<Followed>,
 }
 
 impl Filler<'_> {
@@ -88,6 +91,7 @@ impl Filler<'_> {
             Unit::Hole(start, end) => {
                 let is_known = match self.names.filling_of(start, end, scope) {
                     Some(filling) if self.fits(filling, is_split, is_alone) => {
+                        self.follow(start, end, filling.value)?;
                         for index in 0..filling.value.len() {
                             if let Some((byte, origin)) = filling.value.get(index) {
                                 add(traced, byte, origin)?;
@@ -115,6 +119,17 @@ impl Filler<'_> {
         filling.is_kept(is_split)
     }
 
+    /// Notes that what the file has between these offsets is replaced by the value.
+    fn follow(&mut self, start: usize, end: usize, value: Value<'_>) -> Result<(), AllocError> {
+        let value = value.source();
+        Ok(self.followed.push(Followed { start, end, value })?)
+    }
+
+    /// The variables that were replaced since this was called.
+    pub fn take_followed(&mut self) -> Vec<Followed> {
+        std::mem::replace(&mut self.followed, Vec::new(self.names.alloc))
+    }
+
     /// Whether a value of so many bytes may be put in yet.
     fn spend(&mut self, length: usize) -> bool {
         let fits = length <= self.left;
@@ -135,7 +150,11 @@ impl Filler<'_> {
             return Ok(options);
         };
         if self.spend(filling.value.len().saturating_mul(WORD)) {
-            return split_words(alloc, filling.value);
+            let words = split_words(alloc, filling.value)?;
+            if !words.is_empty() {
+                self.follow(start, end, filling.value)?;
+            }
+            return Ok(words);
         }
         let mut traced = empty(alloc);
         add(&mut traced, b'x', Origin::Hole(start, end))?;

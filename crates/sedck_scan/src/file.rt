@@ -1,17 +1,22 @@
 //! The calls of a file, explained one after another.
 
+ghost use Rattle.std.specs.Prelude.{◌≡◌, IfOk};
+ghost use Rattle.sedck_findings.specs.Positions.{position_in};
+ghost use Rattle.sedck_scan.specs.Scanned.{IsWorst, worse, rank as rank_of};
+
 use crate::answers::call_report;
 use crate::judging::explain_found;
-use crate::places::{FIRST, position_from};
 use crate::request::Scan;
 use sedck_called::Unexplained;
 use sedck_cert::streams::{Sink, write_all};
-use sedck_found::{calls_in, dialect_of};
+use sedck_findings::{Position, position_at, position_from};
+use sedck_found::{FoundCall, calls_in, dialect_of};
 use sedck_hosts::Kind;
 use sedck_render::{CallAnswer, Counts};
 use std::alloc::Global;
 
-/// Explains each call in the text of the file with this path, writes the reports, counts the answers, and answers the greatest status.
+/// Explains each call in the text of the file with this path, writes the reports, counts the answers, and answers the status that tells
+/// most.
 pub fn explain_text<W: Sink>(
     alloc: Global,
     scan: &Scan,
@@ -24,13 +29,26 @@ pub fn explain_text<W: Sink>(
     let found = calls_in(alloc, kind, dialect_of(kind, path), text, scan.assumed)?;
     counts.files = counts.files.saturating_add(1);
     counts.unread = counts.unread.saturating_add(found.unread);
+    explain_calls(alloc, scan, path, text, &found.calls, counts, out)
+}
+
+/// Explains each of the calls, which were found in the text of the file with this path, writes the reports, counts the answers, and
+/// answers the status that tells most.
+pub fn explain_calls<W: Sink>(
+    alloc: Global,
+    scan: &Scan,
+    path: &str,
+    text: &[u8],
+    calls: &[FoundCall],
+    counts: &mut Counts,
+    out: &mut W,
+) -> Result<u8, Unexplained>
+    ensures { IfOk result (IsWorst text.now scan.now.denied 0 calls.now) }
+{
     let mut status = 0;
-    let mut position = FIRST;
-    for call in &found.calls {
-        if call.start < position.offset {
-            position = FIRST;
-        }
-        position = position_from(text, position, call.start);
+    let mut position = position_at(text, 0);
+    for call in calls {
+        position = call_position(text, position, call.start);
         let explanation = explain_found(alloc, text, position, call, scan.denied)?;
         counts.add(CallAnswer::of(&explanation));
         status = greater(status, explanation.status);
@@ -42,13 +60,28 @@ pub fn explain_text<W: Sink>(
     Ok(status)
 }
 
+/// The position of the offset, by one that mostly isn't after it.
+fn call_position(text: &[u8], known: Position, offset: usize) -> Position
+    requires { known ≡ position_in text.now known.offset }
+    ensures { result ≡ position_in text.now result.offset }
+{
+    if offset < known.offset {
+        return position_at(text, offset);
+    }
+    position_from(text, known, offset)
+}
+
 /// The status that tells more: 4, 2, 1, 5, 0 in this order.
-pub(crate) fn greater(one: u8, other: u8) -> u8 {
+pub(crate) fn greater(one: u8, other: u8) -> u8
+    ensures { result ≡ worse one other }
+{
     if rank(one) >= rank(other) { one } else { other }
 }
 
 /// How much a status tells.
-fn rank(status: u8) -> u8 {
+fn rank(status: u8) -> u8
+    ensures { result ≡ rank_of status }
+{
     match status {
         0 => 0,
         5 => 1,

@@ -1,8 +1,13 @@
 //! What is said of what isn't known before a run.
 
+ghost use Rattle.std.specs.Prelude.{◌≡◌, IfOk};
+ghost use Rattle.std.specs.List.{All};
+ghost use Rattle.sedck_findings.specs.Positions.{position_in};
+ghost use Rattle.sedck_scan.specs.Placed.{IsFindingIn};
+
 use crate::places::Places;
 use sedck_findings::{Code, Finding, Level, Position, call_finding, shown_name};
-use sedck_found::{OpenHole, Role, Unknown};
+use sedck_found::{Followed, KnownValue, OpenHole, Role, Unknown};
 use sedck_traced::{Origin, Traced};
 use std::alloc::{AllocError, Global};
 
@@ -19,16 +24,88 @@ pub(crate) fn open_warnings(
     file: &[u8],
     places: &mut Places,
     holes: &[OpenHole],
-) -> Result<Vec<Finding>, AllocError> {
+) -> Result<Vec<Finding>, AllocError>
+    requires { places.old.file.now ≡ file.now }
+    ensures { IfOk result (λ findings. All (IsFindingIn file.now) findings.items) }
+{
     let mut findings = Vec::new(alloc);
     for hole in holes {
-        let message = condition(alloc, file, *hole)?;
-        let mut finding = call_finding(alloc, Level::Warning, Code::OpenHole, message, Some(CASE));
-        finding.position = Some(places.place_offset(hole.start));
-        finding.end = Some(places.place_offset(hole.end));
-        findings.push(finding)?;
+        findings.push(open_warning(alloc, file, places, *hole)?)?;
     }
     Ok(findings)
+}
+
+/// The warning for one hole.
+fn open_warning(
+    alloc: Global,
+    file: &[u8],
+    places: &mut Places,
+    hole: OpenHole,
+) -> Result<Finding, AllocError>
+    requires { places.old.file.now ≡ file.now }
+    ensures file { places.new.file ≡ places.old.file }
+    ensures finding { IfOk result (IsFindingIn file.now) }
+{
+    let message = condition(alloc, file, hole)?;
+    let mut finding = call_finding(alloc, Level::Warning, Code::OpenHole, message, Some(CASE));
+    finding.position = Some(places.place_offset(hole.start));
+    finding.end = Some(places.place_offset(hole.end));
+    Ok(finding)
+}
+
+/// A note for each variable that is replaced by its value.
+pub(crate) fn value_notes(
+    alloc: Global,
+    file: &[u8],
+    places: &mut Places,
+    followed: &[Followed],
+) -> Result<Vec<Finding>, AllocError>
+    requires { places.old.file.now ≡ file.now }
+    ensures { IfOk result (λ findings. All (IsFindingIn file.now) findings.items) }
+{
+    let mut findings = Vec::new(alloc);
+    for one in followed {
+        findings.push(value_note(alloc, file, places, *one)?)?;
+    }
+    Ok(findings)
+}
+
+/// The note for one variable.
+fn value_note(
+    alloc: Global,
+    file: &[u8],
+    places: &mut Places,
+    followed: Followed,
+) -> Result<Finding, AllocError>
+    requires { places.old.file.now ≡ file.now }
+    ensures file { places.new.file ≡ places.old.file }
+    ensures finding { IfOk result (IsFindingIn file.now) }
+{
+    let written = shown_part(alloc, file, followed.start, followed.end)?;
+    let message = value_words(alloc, places, written.as_str(), followed.value)?;
+    let mut finding = call_finding(alloc, Level::Note, Code::KnownValue, message, None);
+    finding.position = Some(places.place_offset(followed.start));
+    finding.end = Some(places.place_offset(followed.end));
+    Ok(finding)
+}
+
+/// Where the value of what is written comes from, in words.
+fn value_words(
+    alloc: Global,
+    places: &mut Places,
+    written: &str,
+    value: KnownValue,
+) -> Result<String, AllocError>
+    ensures { places.new.file ≡ places.old.file }
+{
+    match value {
+        KnownValue::At(offset) => {
+            let line = places.place_offset(offset).line;
+            format!(in alloc; "\"{written}\" has the value that line {line} sets")
+        }
+        KnownValue::Empty => format!(in alloc; "\"{written}\" is empty: so the file sets it"),
+        KnownValue::Given => format!(in alloc; "\"{written}\" has the value that is assumed"),
+    }
 }
 
 /// For which values of the hole the answer holds, in words. An empty list would go on behind its bracket.
@@ -97,9 +174,13 @@ fn written_word(alloc: Global, file: &[u8], word: &Traced) -> Result<Vec<u8>, Al
 /// The warning of a script that isn't known.
 pub(crate) fn unknown_warning(
     alloc: Global,
+    file: &[u8],
     position: Position,
     why: Unknown,
-) -> Result<Vec<Finding>, AllocError> {
+) -> Result<Vec<Finding>, AllocError>
+    requires { position ≡ position_in file.now position.offset }
+    ensures { IfOk result (λ findings. All (IsFindingIn file.now) findings.items) }
+{
     let (words, hint) = match why {
         Unknown::Words => (
             "a variable or a command gives the script or options of this call, so it is not judged",

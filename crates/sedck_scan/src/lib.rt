@@ -1,7 +1,7 @@
 //! The calls of sed in files and folders: what is found in them is traced, explained and reported.
 //!
-//! `explain_found` is proved to accept a call only where each byte of its script is in the file, nothing of it is unknown, and it is
-//! accepted as a script. What else is reported, as positions and words, is tested.
+//! What is read of a call isn't trusted: `explain_found` compares it with the file, and its answer and the lines and columns of its
+//! findings are proved. Which calls are found, and what is written, is tested.
 #![tactic(auto)]
 
 mod answers;
@@ -12,9 +12,10 @@ mod placed;
 mod places;
 mod reading;
 mod request;
+mod tracing;
 mod walk;
 
-pub use file::explain_text;
+pub use file::{explain_calls, explain_text};
 pub use judging::explain_found;
 pub use request::{Look, Scan};
 pub use walk::scan_files;

@@ -1,6 +1,10 @@
 //! Positions of a script as positions of its file.
 
-use sedck_findings::Position;
+ghost use Rattle.std.specs.Prelude.{◌≡◌, IfOk};
+ghost use Rattle.sedck_findings.specs.Positions.{position_in};
+ghost use Rattle.sedck_scan.specs.Placed.{IsIn};
+
+use sedck_findings::{Position, position_at, position_from};
 use sedck_traced::Origin;
 use std::alloc::{AllocError, Global};
 
@@ -12,16 +16,11 @@ pub(crate) struct Places<'a> {
     call: Position,
     /// The offset in the file of each byte of the script, and of its end.
     offsets: Vec<usize>,
-    /// The last position that was asked for: the next one is mostly behind it.
+    /// The last position that was asked for: the next one is mostly after it.
     last: Position,
+    ghost call_in_file: { call ≡ position_in file.now call.offset },
+    ghost last_in_file: { last ≡ position_in file.now last.offset },
 }
-
-/// The position of a file's first byte.
-pub(crate) const FIRST: Position = Position {
-    offset: 0,
-    line: 1,
-    column: 1,
-};
 
 impl<'a> Places<'a> {
     /// The places of a script of the call at this position, by the origins of its bytes.
@@ -30,7 +29,10 @@ impl<'a> Places<'a> {
         file: &'a [u8],
         call: Position,
         origins: &[Origin],
-    ) -> Result<Places<'a>, AllocError> {
+    ) -> Result<Places<'a>, AllocError>
+        requires { call ≡ position_in file.now call.offset }
+        ensures { IfOk result (λ places. places.file.now ≡ file.now) }
+    {
         Ok(Places {
             file,
             call,
@@ -40,18 +42,26 @@ impl<'a> Places<'a> {
     }
 
     /// The position of the call.
-    pub fn call(&self) -> Position {
+    pub fn call(&self) -> Position
+        ensures { IsIn self.now.file.now result }
+    {
         self.call
     }
 
     /// The position in the file of the byte at this position of the script.
-    pub fn place(&mut self, position: Position) -> Position {
+    pub fn place(&mut self, position: Position) -> Position
+        ensures file { self.new.file ≡ self.old.file }
+        ensures place { IsIn self.old.file.now result }
+    {
         let offset = self.offset_of(position.offset);
         self.place_offset(offset)
     }
 
     /// The position of the first byte after the part of the script that ends with this position and begins with another.
-    pub fn end(&mut self, start: Position, end: Position) -> Position {
+    pub fn end(&mut self, start: Position, end: Position) -> Position
+        ensures file { self.new.file ≡ self.old.file }
+        ensures place { IsIn self.old.file.now result }
+    {
         if end.offset <= start.offset {
             return self.place(start);
         }
@@ -60,13 +70,16 @@ impl<'a> Places<'a> {
     }
 
     /// The position of an offset of the file.
-    pub fn place_offset(&mut self, offset: usize) -> Position {
+    pub fn place_offset(&mut self, offset: usize) -> Position
+        ensures file { self.new.file ≡ self.old.file }
+        ensures place { IsIn self.old.file.now result }
+    {
         let known = if self.last.offset <= offset {
             self.last
         } else if self.call.offset <= offset {
             self.call
         } else {
-            FIRST
+            position_at(self.file, 0)
         };
         self.last = position_from(self.file, known, offset);
         self.last
@@ -81,35 +94,20 @@ impl<'a> Places<'a> {
     }
 }
 
-/// The position of the offset, from one that isn't after it.
-pub(crate) fn position_from(file: &[u8], known: Position, offset: usize) -> Position {
-    let mut position = known;
-    for byte in file.get(known.offset..offset).unwrap_or(&[]) {
-        position.offset = position.offset.saturating_add(1);
-        if *byte == b'\n' {
-            position.line = position.line.saturating_add(1);
-            position.column = 1;
-        } else {
-            position.column = position.column.saturating_add(1);
-        }
-    }
-    position
-}
-
-/// The offset in the file of each byte, and of their end. What isn't in the file has the offset behind what precedes it.
+/// The offset in the file of each byte, and of their end. What isn't in the file has the offset after what precedes it.
 fn offsets_of(alloc: Global, call: usize, origins: &[Origin]) -> Result<Vec<usize>, AllocError> {
     let mut offsets = Vec::new(alloc);
-    let mut behind = call;
+    let mut next = call;
     for origin in origins {
         let (start, end) = match *origin {
             Origin::At(offset) | Origin::Value(offset) => (offset, offset.saturating_add(1)),
             Origin::Escape(offset) => (offset, offset.saturating_add(2)),
             Origin::Hole(start, end) => (start, end),
-            Origin::Given | Origin::Between => (behind, behind),
+            Origin::Given | Origin::Between => (next, next),
         };
         offsets.push(start)?;
-        behind = end;
+        next = end;
     }
-    offsets.push(behind)?;
+    offsets.push(next)?;
     Ok(offsets)
 }

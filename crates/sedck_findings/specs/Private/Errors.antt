@@ -1,11 +1,12 @@
 -- What functions promise each other of the findings.
-use Rattle.std.specs.Prelude.{◌≡◌, ◌≢◌, ◌==◌, ◌&&◌, ℕ, Bool, false, List, ◌∷◌, Option, Some, None, IfSome}
+use Rattle.std.specs.Prelude.{◌≡◌, ◌≢◌, ◌==◌, ◌&&◌, ℕ, Bool, true, false, List, ◌∷◌, Option, Some, None, IfSome}
 use Rattle.sedck_script.specs.Cuts.{backslash}
 use Rattle.sedck_script.specs.Program.{Program}
 use Rattle.sedck_script.specs.Names.{reads, writes}
 use Rattle.sedck_script.specs.Faults.{IsPlaced}
 use Rattle.sedck_script.specs.declared.fault.ScriptFault.{ScriptFault}
 use Rattle.sedck_script.specs.declared.fault.ScriptFault.TheVariants.{OutOfMemory}
+use Rattle.sedck_findings.specs.Denial.{has_warning}
 use Rattle.sedck_findings.specs.Errors.{is_error, has_error, BeginsWithError, IsErrorPosition, BeginsWithAnswer}
 use Rattle.sedck_findings.specs.declared.answer.Answer.{Answer}
 use Rattle.sedck_findings.specs.declared.answer.Answer.TheVariants.{ScriptRefused, Accepted, NotJudged}
@@ -16,6 +17,7 @@ use Rattle.sedck_findings.specs.declared.places.Position.{Position}
 -- findings are added after the others, and none of them is an error
 pub record AddsNoError (old new : List Finding) : Type 0 where
   pub errors : has_error new ≡ has_error old
+  pub warned : has_warning old ≡ true → has_warning new ≡ true
   pub first : (position : Option Position) → BeginsWithError position old → BeginsWithError position new
 
 -- a fault that is reported has a place in the text

@@ -5,7 +5,7 @@ use Rattle.sedck_findings.specs.Private.Errors.{AreFindingsOf, AddsNoError}
 use Rattle.sedck_findings.specs.Private.Reporting.{AreReported}
 use Rattle.sedck_findings.specs.declared.code.Code.{Code}
 use Rattle.sedck_findings.specs.declared.places.Position.{Position}
-use Rattle.sedck_findings.proofs.Errors.{errors_of, findings_stay, no_error_append, no_error_trans}
+use Rattle.sedck_findings.proofs.Errors.{errors_of, findings_stay, no_error_append, no_error_trans, warned_behind}
 use Rattle.sedck_findings.proofs.Explanations.{can_be_reported, lists_of_script}
 use Rattle.sedck_findings.proofs.Kept.{errors_reported, status_reported}
 use Rattle.sedck_findings.proofs.explaining.explained.Goals as goal
@@ -44,7 +44,7 @@ returns-clause-explains c =
     subst (λ (codes : List Code). AreReported text codes all findings) c.deref-15.ensures.value c.in_ok-findings.ensures in
     let errors = errors_reported text positions answer ignored all findings c.status_under-status.result reported
     (errors_of text positions c.args.denied answer found all c.status_under-status.result
-    (findings_stay text positions answer c.in_ok-found.found.items found adds of_answer) c.in_ok-all.ensures status) in
+    (findings_stay text positions answer c.in_ok-found.found.items found adds of_answer) c.in_ok-all.ensures.errors status) in
     record {
       is_text = refl;
       is_answer = refl;
@@ -61,3 +61,22 @@ returns-clause-keeps c = record {
   writes = c.in_ok-writes.ensures ∙ c.writes.ensures;
   positions = c.in_ok-positions.ensures ∙ ap (map (λ location. position_in c.args.text.now location.verb)) c.deref.ensures.value;
 }
+
+-- a warning that was given is among those that were found, and none of these is ignored
+pub returns-clause-warned : goal.returns-clause-warned
+returns-clause-warned c = λ denied warned.
+    let text = c.args.text.now in
+    let begun = c.in_ok-found.found.items in
+    let given = c.append.new.self.items in
+    let looks = c.look_warnings.new.findings.items in
+    let found = c.unknown_warnings.new.findings.items in
+    let all = c.in_ok-all.all.items in
+    let findings = c.in_ok-findings.findings.items in
+    let ignored = c.in_ok-ignored.ignored.items in
+    let reported : AreReported text ignored all findings =
+    subst (λ (codes : List Code). AreReported text codes all findings) c.deref-15.ensures.value c.in_ok-findings.ensures in
+    let adds : AddsNoError given found =
+    no_error_trans given looks found c.in_ok-look_warnings.ensures
+    (no_error_trans looks c.name_warnings.new.findings.items found c.in_ok-name_warnings.ensures c.in_ok-unknown_warnings.ensures) in
+    reported.warnings (c.in_ok-ignored.ensures denied) ∙ c.in_ok-all.ensures.warnings
+    ∙ adds.warned (warned_behind begun given c.args.warnings.items c.in_ok-append.ensures.items warned)

@@ -3,7 +3,7 @@ use Rattle.sedck_findings.specs.Denial.{has_warning, status_under}
 use Rattle.sedck_findings.specs.Errors.{BeginsWithAnswer}
 use Rattle.sedck_findings.specs.Private.Errors.{AreFindingsOf}
 use Rattle.sedck_findings.specs.Private.Reporting.{AreReported}
-use Rattle.sedck_findings.proofs.Errors.{errors_of_refusal, findings_stay, no_error_append}
+use Rattle.sedck_findings.proofs.Errors.{errors_of_refusal, findings_stay, no_error_append, warned_behind}
 use Rattle.sedck_findings.proofs.Kept.{errors_reported, status_reported}
 use Rattle.sedck_findings.proofs.explaining.refused.Goals as goal
 
@@ -33,3 +33,10 @@ returns-clause-explains c =
       order = reported.order;
       ends = reported.ends;
     }
+
+pub returns-clause-warned : goal.returns-clause-warned
+returns-clause-warned c = λ denied warned.
+    let begun = c.in_ok-found.found.items in
+    let given = c.append.new.self.items in
+    let reported : AreReported c.args.text.now [] given c.in_ok-findings.findings.items = c.in_ok-findings.ensures in
+    reported.warnings refl ∙ warned_behind begun given c.args.warnings.items c.in_ok-append.ensures.items warned

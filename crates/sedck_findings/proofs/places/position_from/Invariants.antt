@@ -1,6 +1,6 @@
 use Rattle.std.proofs.Common.{◌≡◌}
 use Rattle.sedck_findings.specs.Positions.{position_in}
-use Rattle.sedck_findings.proofs.places.moved_on.Given as goal
+use Rattle.sedck_findings.proofs.places.position_from.Given as goal
 
 abbrev pub invariant-loop-index : goal.invariant-loop-index
 invariant-loop-index l = l.position ≡ position_in l.text l.index

@@ -1,0 +1,5 @@
+mod Calls
+mod Lists
+mod Worst
+mod Yes
+mod Said
