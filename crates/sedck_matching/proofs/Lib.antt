@@ -1,0 +1,10 @@
+pub mod ListLemmas
+pub mod SameSpots
+pub mod LedLemmas
+pub mod GroupLemmas
+pub mod SingleLemmas
+pub mod ViewLemmas
+pub mod StepsLemmas
+pub mod LeadsLemmas
+pub mod FollowLemmas
+pub mod EndLemmas

@@ -1,0 +1,20 @@
+-- The tree of each form that has no parts.
+use Rattle.std.proofs.Common.{◌≡◌, ℕ, sym, ap, ◌∙◌}
+use Rattle.sedck_bre.specs.Tree.{Tree}
+use Rattle.sedck_bre.specs.View.{tree, node_tree}
+use Rattle.sedck_bre.specs.Tree as spec
+use Rattle.sedck_bre.specs.declared.tree.ByteSet.{ByteSet}
+use Rattle.sedck_bre.specs.declared.tree.Bre.{Bre-F, fold-roll-Bre}
+use Rattle.sedck_bre.specs.declared.tree.Bre.TheVariants.{Byte, Set, Maybe, Ref, rolls-Byte, rolls-Set, rolls-Maybe, rolls-Ref}
+
+pub tree-Byte : (b : ℕ) → tree (Byte b) ≡ spec.Byte b
+tree-Byte b = ap tree (sym (rolls-Byte b)) ∙ fold-roll-Bre Tree node_tree (Bre-F.Byte b)
+
+pub tree-Set : (set : ByteSet) → tree (Set set) ≡ spec.Set set.0
+tree-Set set = ap tree (sym (rolls-Set set)) ∙ fold-roll-Bre Tree node_tree (Bre-F.Set set)
+
+pub tree-Maybe : (b : ℕ) → tree (Maybe b) ≡ spec.Maybe b
+tree-Maybe b = ap tree (sym (rolls-Maybe b)) ∙ fold-roll-Bre Tree node_tree (Bre-F.Maybe b)
+
+pub tree-Ref : (k : ℕ) → tree (Ref k) ≡ spec.Ref k
+tree-Ref k = ap tree (sym (rolls-Ref k)) ∙ fold-roll-Bre Tree node_tree (Bre-F.Ref k)

@@ -1,0 +1,33 @@
+//! Where matches end.
+
+ghost use Rattle.std.specs.Prelude.{◌≡◌, ◌≤◌, length, IfOk};
+ghost use Rattle.std.specs.List.{All};
+ghost use Rattle.sedck_bre.specs.View.{tree};
+ghost use Rattle.sedck_matching.specs.Spots.{beginning, AreEnds};
+
+use crate::following::follow;
+use crate::spending::{Budget, Undecided};
+use crate::spots::Spot;
+use sedck_bre::Bre;
+use std::alloc::Global;
+
+/// Where the matches of the tree that begin at the offset end, each with the texts of the groups; no group has a text at the beginning.
+pub fn ends(
+    alloc: Global,
+    expression: &Bre,
+    text: &[u8],
+    from: usize,
+    budget: &mut Budget,
+) -> Result<Vec<Spot>, Undecided>
+    requires { from ≤ length text.now }
+    ensures ends { IfOk result (λ spots. AreEnds text.now (tree expression.now) (beginning text.now from) spots.items) }
+    ensures places { IfOk result (λ spots. All (λ s. (from ≤ s.at) × (s.at ≤ length text.now)) spots.items) }
+    ensures used { result ≡ Err Undecided.OutOfBudget → budget.new.left ≡ 0 }
+    ensures spent { budget.new.left ≤ budget.old.left }
+{
+    let start = Spot {
+        at: from,
+        groups: [None; 256],
+    };
+    follow(alloc, expression, text, &[start], budget)
+}
