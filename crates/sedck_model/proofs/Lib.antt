@@ -1,0 +1,7 @@
+mod Contained
+mod Replacing
+mod TextLemmas
+mod TransliterateLemmas
+mod SelectLemmas
+mod StepLemmas
+mod RunLemmas

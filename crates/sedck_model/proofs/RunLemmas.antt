@@ -1,0 +1,52 @@
+-- Runs, step by step.
+use Rattle.std.proofs.Common.{◌≡◌, ℕ, ◌+◌, ◌<◌, List, [], ◌∷◌, ◌++◌, map, length, get_or, take, refl, sym, ap, ◌∙◌, subst, arith}
+use Rattle.std.proofs.lemmas.List.{length-map, get_or-map, take_more}
+use Rattle.std.proofs.lemmas.Option.{slice_get_read}
+use Rattle.sedck_script.specs.Program.{Program}
+use Rattle.sedck_flow.specs.Run.{Event, State, Start, Step, Steps, Run, state_after}
+use Rattle.sedck_model.specs.States.{event_of, state_of, move_of, IsFirstWrong}
+use Rattle.sedck_model.specs.declared.states.Move.{Move}
+
+steps_push : (p : Program) (s : State) (steps : List (Event × State)) (next : Event × State) → Steps p s steps
+    → Step p (state_after s steps) next.0 next.1 → Steps p s (steps ++ next ∷ [])
+steps_push p s [] next all one = (one, tt)
+steps_push p s (step ∷ more) next all one = (all.0, steps_push p step.1 more next all.1 one)
+
+state_after-push : (s : State) (steps : List (Event × State)) (next : Event × State) → state_after s (steps ++ next ∷ []) ≡ next.1
+state_after-push s [] next = refl
+state_after-push s (step ∷ more) next = state_after-push step.1 more next
+
+one_more : (steps : List Move) (i : ℕ) (d : Move) → i < length steps
+    → take (i + 1) (map move_of steps) ≡ take i (map move_of steps) ++ move_of (get_or steps i d) ∷ []
+one_more steps i d below =
+    let long : length (map move_of steps) ≡ length steps = length-map steps move_of in
+    take_more (map move_of steps) i (move_of d) (omega (arith, below, long))
+    ∙ ap (λ (m : Event × State). take i (map move_of steps) ++ m ∷ []) (get_or-map move_of steps i d (move_of d) below)
+
+-- one step more
+pub run_more : (p : Program) (lines : List (List ℕ)) (steps : List Move) (i : ℕ) (d : Move) (s : State) → i < length steps
+    → Run p lines (take i (map move_of steps)) → s ≡ state_after (Start lines) (take i (map move_of steps))
+    → Step p s (event_of (get_or steps i d).event) (state_of (get_or steps i d).after) → Run p lines (take (i + 1) (map move_of steps))
+run_more p lines steps i d s below run here step =
+    rw (one_more steps i d below)
+    (steps_push p (Start lines) (take i (map move_of steps)) (move_of (get_or steps i d)) run
+    (subst (λ (t : State). Step p t (event_of (get_or steps i d).event) (state_of (get_or steps i d).after)) here step))
+
+pub here_after : (lines : List (List ℕ)) (steps : List Move) (i : ℕ) (d : Move) → i < length steps
+    → state_of (get_or steps i d).after ≡ state_after (Start lines) (take (i + 1) (map move_of steps))
+here_after lines steps i d below =
+    rw (one_more steps i d below) (sym (state_after-push (Start lines) (take i (map move_of steps)) (move_of (get_or steps i d))))
+
+-- the first step that is none
+pub first_wrong : (p : Program) (lines : List (List ℕ)) (steps : List Move) (i : ℕ) (d : Move) (s : State) → i < length steps
+    → Run p lines (take i (map move_of steps)) → s ≡ state_after (Start lines) (take i (map move_of steps))
+    → (Step p s (event_of (get_or steps i d).event) (state_of (get_or steps i d).after) → ⊥) → IsFirstWrong p lines (map move_of steps) i
+first_wrong p lines steps i d s below run here never =
+    let long : length (map move_of steps) ≡ length steps = length-map steps move_of in
+    record {
+      run = run;
+      wrong = move_of (get_or steps i d);
+      is_wrong = slice_get_read (map move_of steps) (length (map move_of steps)) i (move_of (get_or steps i d)) refl (omega (arith, below, long))
+          (sym (get_or-map move_of steps i d (move_of (get_or steps i d)) below));
+      no_step = λ step. never (subst (λ (t : State). Step p t (event_of (get_or steps i d).event) (state_of (get_or steps i d).after)) (sym here) step);
+    }

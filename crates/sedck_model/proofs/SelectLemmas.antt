@@ -1,0 +1,32 @@
+-- Expressions of which none matches a part of a text.
+use Rattle.std.proofs.Common.{◌≡◌, ◌↔◌, ℕ, ◌+◌, ◌<◌, ◌≤◌, List, [], ◌∷◌, ◌++◌, length, get_or, take, Contains, sym, ap, ◌∙◌, subst}
+use Rattle.std.specs.Borrow.{Bor}
+use Rattle.std.specs.List.{All}
+use Rattle.std.proofs.lemmas.List.{map_more, take_all}
+use Rattle.std.proofs.lemmas.List.Elements.{All-push, All-contains}
+use Rattle.sedck_bre.specs.Tree.{Tree}
+use Rattle.sedck_bre.specs.View.{tree}
+use Rattle.sedck_bre.specs.declared.tree.Bre.{Bre}
+use Rattle.sedck_script.specs.Program.{Program, Pattern}
+use Rattle.sedck_flow.specs.Patterns.{StandsFor, HasMatch}
+use Rattle.sedck_matching.specs.Spots.{HasPartIn}
+use Rattle.sedck_model.specs.Private.Candidates.{trees_in}
+
+abbrev pub HasNone : List ℕ → List Tree → Type 0
+HasNone text trees = All (λ t. HasPartIn t text → ⊥) trees
+
+-- one expression more
+pub none_more : (text : List ℕ) (found : List (Bor Bre)) (i : ℕ) (e : Bor Bre) → i < length found → e ≡ get_or found i e
+    → HasNone text (trees_in (take i found)) → (HasPartIn (tree e.now) text → ⊥) → HasNone text (trees_in (take (i + 1) found))
+none_more text found i e below is before here =
+    let more : trees_in (take (i + 1) found) ≡ trees_in (take i found) ++ tree e.now ∷ [] =
+    map_more (λ (b : Bor Bre). tree b.now) found i e below ∙ ap (λ (b : Bor Bre). trees_in (take i found) ++ tree b.now ∷ []) (sym is) in
+    subst (λ trees. HasNone text trees) (sym more) (All-push (λ t. HasPartIn t text → ⊥) (trees_in (take i found)) (tree e.now) before here)
+
+-- all expressions that a pattern stands for
+pub none_has : (p : Program) (pattern : Pattern) (text : List ℕ) (found : List (Bor Bre)) (n : ℕ)
+    → ((t : Tree) → Contains (trees_in found) t ↔ StandsFor p pattern t) → length found ≤ n → HasNone text (trees_in (take n found))
+    → HasMatch p pattern text → ⊥
+none_has p pattern text found n each all none (before, middle, after, is, stands) =
+    let here = subst (λ (es : List (Bor Bre)). HasNone text (trees_in es)) (take_all n found all) none in
+    All-contains (λ t. HasPartIn t text → ⊥) (trees_in found) stands.0 here ((each stands.0).1 stands.1) (before, middle, after, is, stands.2)

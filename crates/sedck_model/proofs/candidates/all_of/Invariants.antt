@@ -1,0 +1,9 @@
+use Rattle.std.proofs.Common.{◌≡◌, map, take}
+use Rattle.sedck_script.specs.Program.{expressions}
+use Rattle.sedck_script.specs.View.{command_of}
+use Rattle.sedck_model.specs.Private.Candidates.{trees_in}
+use Rattle.sedck_model.proofs.candidates.all_of.Given as goal
+
+-- what was found so far are the expressions of the commands so far
+abbrev pub invariant-loop-command : goal.invariant-loop-command
+invariant-loop-command l = trees_in l.found.items ≡ expressions (map command_of (take l.command-index l.commands))

@@ -1,0 +1,12 @@
+use Rattle.std.proofs.Common.{◌≤◌, ◌<◌, ℕ, drop}
+use Rattle.sedck_bre.specs.View.{tree}
+use Rattle.sedck_script.specs.View.{substitution_of}
+use Rattle.sedck_model.specs.Private.Replacing.{Replaces}
+use Rattle.sedck_model.proofs.substituting.replaces_in.Given as goal
+
+-- no match begins so far
+abbrev pub invariant-loop-length : goal.invariant-loop-length
+invariant-loop-length l = record {
+  none : (k : ℕ) → k < l.length → Replaces (tree l.expression) (substitution_of l.substitution) (drop k l.old_text) (drop k l.new_text) → ⊥;
+  spent : l.budget.left ≤ l.fn.budget.left;
+}

@@ -1,0 +1,7 @@
+use Rattle.std.proofs.Common.{◌≡◌, ℕ, ◌<◌, Some}
+use Rattle.std.specs.List.{slice_get}
+use Rattle.sedck_model.proofs.transliterating.is_partner.Given as goal
+
+-- no place so far has the two
+abbrev pub invariant-loop-i : goal.invariant-loop-i
+invariant-loop-i l = (k : ℕ) → k < l.i → slice_get l.from k ≡ Some l.byte → slice_get l.to k ≡ Some l.partner → ⊥

@@ -1,0 +1,4 @@
+-- What the public contracts cite, in reading order.
+pub mod States
+-- What functions inside the crate promise each other.
+pub mod Private

@@ -1,0 +1,28 @@
+//! The model of sed, decided: whether a substitution, a step or a run is one of the model's.
+//!
+//! - `substitutes`: whether `s` may make one text of another one.
+//! - `step`: whether a step may lead from one state to another, with its event.
+//! - `follows`: whether steps are a run on given lines, or the first that is none.
+//!
+//! Each answer is exact, by the definitions `Substitutes`, `Step` and `Run` of `sedck_flow`, which say what sed is. Matching can take
+//! exponentially many steps, so each call spends from a `Budget`, and may answer that the budget was used up.
+#![tactic(auto)]
+
+mod applying;
+mod arriving;
+mod candidates;
+mod changing;
+mod events;
+mod following;
+mod reading;
+mod selecting;
+mod states;
+mod stepping;
+mod substituting;
+mod texts;
+mod transliterating;
+
+pub use following::follows;
+pub use states::{Event, Machine, Move, State};
+pub use stepping::step;
+pub use substituting::substitutes;
