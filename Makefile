@@ -4,7 +4,7 @@
 RT ?= rt
 PREFIX ?= /usr/local
 
-.PHONY: all build demo test docs examples explain-tests refusals refusals-program streams tools-tests calls-tests wrapper-tests bench seds install dist clean
+.PHONY: all build demo test docs examples explain-tests refusals refusals-program streams tools-tests calls-tests wrapper-tests bench seds states runs-program install dist clean
 
 # One target after the other, also under `make -j`: proofs want all processors and much memory, and tests have limits of time.
 .NOTPARALLEL:
@@ -82,6 +82,14 @@ bench: build
 seds: build
 	@echo "Running every sed that is found beside build/sedck (20,000 scripts take up to ten processor minutes) ..."
 	python3 tests/seds/seds.py build/sedck $(SEDS)
+
+# More arguments in STATES, such as `--steps 1000000`, `--folder DIR` or `--sed NAME=COMMAND`.
+states: runs-program
+	@echo "Holding every step of every sed that is found against the model (100,000 steps take a few minutes) ..."
+	python3 tests/seds/seds_states.py crates/sedck_runs/out/sedck_runs $(STATES)
+
+runs-program:
+	cd crates/sedck_runs && $(RT) run -- --places ../../examples/end-mark.sed > /dev/null
 
 install: build
 	@echo "Installing sedck, sedck-explain, sedck-sed, their manual pages and the pages on loops, faults and calls under $(PREFIX) ..."

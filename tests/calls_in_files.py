@@ -147,7 +147,8 @@ PLACES = [
     ("sed 'w /etc/x' f\n", ["1:6 absolute-name"]),
     ("sed \"s/a/$b/;s/$c/d/\"\n", ["1:10 open-hole", "1:16 open-hole", "1:6 no-bound"]),
     ("sed -e p -e \"$x\"\n", ["1:1 unknowable"]),
-    ("a='s/x'\nsed \"$a\"\n", ["1:4 unterminated"]),
+    ("a='s/x'\nsed \"$a\"\n", ["1:4 unterminated", "2:6 known-value"]),
+    ("a=u\nb=\nsed \"s/$a/$b/\" f\nsed p\n", ["3:8 known-value", "3:11 known-value"]),
     ("sed -i p f\n", ["1:1 in-place"]),
 ]
 
@@ -168,6 +169,14 @@ def places():
         if not ("   2 | sed ':x;bx' f" in lines and "a.sh:2:1: loop, no file" in lines and "a.sh:3:1: accepted, no file" in lines
                 and lines[-1] == "2 calls of sed in 1 file: 1 accepted, 1 with a loop"):
             fail("text: %r" % out)
+
+
+def values():
+    """Each variable that is followed is listed, with where its value comes from."""
+    _, calls, _ = explained("a=u\nb=\nsed \"s/$a/$c$b/\" f\n", "a.sh", "--assume", "c=v")
+    got = [finding["message"] for finding in calls[0]["findings"] if finding["level"] == "note"]
+    if got != ['"$a" has the value that line 1 sets', '"$c" has the value that is assumed', '"$b" is empty: so the file sets it']:
+        fail("values: %s" % got)
 
 
 def refused_words():
@@ -339,7 +348,7 @@ def many():
 
 
 def main():
-    for part in (table, places, refused_words, folders, judged_by_the_shell, hostile, many):
+    for part in (table, places, values, refused_words, folders, judged_by_the_shell, hostile, many):
         part()
     if not failures:
         print("calls in files: %d rows are as they should be" % (len(ROWS) + len(PLACES)))

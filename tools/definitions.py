@@ -360,13 +360,14 @@ cert.Ranked flow.Flow flow.Nodes script.References bre.Rests
 cert.Certificate cert.Text cert.Versions cert.VersionOne flow.Words flow.VersionOne flow.LiteralKinds
 cert.Rejections
 cert.Bounds cert.StepLimit flow.Spaces
+matching.Spots model.States
 search.Found search.Obstacle search.Rows search.NodeSet search.VersionOne
 script.Locations
 script.Faults bre.Faults cert.Faults
 script.FaultWords bre.FaultWords cert.FaultText cli.Lines
 cli.Reports cli.Engines cli.Statuses cli.Causes cli.Faults cert.Streams cli.Inputs cli.Opened
 findings.Answers findings.Denial findings.Explanations findings.Errors explain_cli.Explained explain_cli.Statuses findings.Positions findings.Shown findings.Codes findings.Reported escapes.Html escapes.Ascii
-called.Called scan.Scanned traced.Traced traced.Texts calls.Words calls.Options calls.Calls calls.Origins calls.Scripts
+called.Called scan.Scanned scan.Placed traced.Traced traced.Texts calls.Words calls.Options calls.Calls calls.Origins calls.Scripts
 words.Names
 bre.Lengths script.Shortest script.Invariant
 bre.View script.View script.ReplacementView cert.View
@@ -391,6 +392,7 @@ PARTS = [
         ("Reports and statuses", [("sedck_cli", "*", None), ("sedck_cert", "write_cert", None)]),
         ("What is explained", [("sedck_findings", "*", None), ("sedck_explain_cli", "*", None), ("sedck_escapes", "*", None),
          ("sedck_words", "*", None), ("sedck_scan", "*", None)]),
+        ("The model, decided", [("sedck_matching", "*", None), ("sedck_model", "*", None)]),
         ("Certificates of version 1", [("sedck_cert", "read_cert_one", None), ("sedck_cert", "upgrade*", None), ("sedck_cert", "CertOne*", None),
          ("sedck_flow", "edges_were_there", None), ("sedck_flow", "kinds_agree", None), ("sedck_flow", "literal_kinds_stay", None), ("sedck_search", "obstacles_were_there", None)]),
         ("The parts, and laws", [(crate, "*", None) for crate in CRATES]),

@@ -80,7 +80,12 @@ impl Counts {
         push_part(alloc, out, self.refused, " refused")?;
         push_part(alloc, out, self.not_judged, " not judged")?;
         push_part(alloc, out, self.unknown, " unknown")?;
-        push_part(alloc, out, self.unread, " places not understood")?;
+        let places = if self.unread == 1 {
+            " place not understood"
+        } else {
+            " places not understood"
+        };
+        push_part(alloc, out, self.unread, places)?;
         push_part(alloc, out, self.unreadable, " not readable")
     }
 }

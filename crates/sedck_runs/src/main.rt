@@ -1,0 +1,96 @@
+//! Holds runs of real seds against the model: `sedck_runs SCRIPT` reads what was seen of runs of this script from standard input, and
+//! says of each whether it is a run of the model. It isn't installed.
+//!
+//! Words are separated by single spaces; texts are in hexadecimal, the empty one is `-`:
+//!
+//! - `run NAME` begins a run, and `input TEXT` is a line of its input;
+//! - `state PLACE READ PATTERN HOLD` is what was seen before a command, or after the last one (the place of a command is its number,
+//!   from 0): how many lines had been read, and the two spaces;
+//! - `done` says that the run had ended then; a run without it was cut off.
+//!
+//! The flag that `t` tests can't be seen, nor what a step does to a file: the run is one of the model's where some choice of these makes
+//! it one. Each step is decided by `step`, and the whole run by `follows`. The status is 0 where no step is refused, else 1; it is 2 for
+//! a script or a line that can't be read, and 4 where a file can't be read or written, or memory ran out.
+//!
+//! `sedck_runs --places SCRIPT` says where each command begins in the script and where it ends, in bytes; which ones are labels, and which
+//! ones branch to the end of the script.
+#![tactic(auto)]
+
+mod choosing;
+mod report;
+mod seen;
+#[cfg(test)]
+mod tests;
+
+use report::Counts;
+use sedck_script::{Located, Script, Verb, locate};
+use seen::Trace;
+use std::io::{BufRead, BufReader};
+use std::process::ExitCode;
+use std::rt::{Env, Files};
+use std::{env, fs, io};
+
+fn main(rt: HostRuntime) -> ExitCode {
+    match answer(&rt) {
+        Ok(status) => ExitCode::from(status),
+        Err(_) => ExitCode::from(4),
+    }
+}
+
+/// Reads the script and the runs, and reports on each.
+fn answer(rt: &HostRuntime) -> io::Result<u8> {
+    let words: Vec<String> = env::args(rt)?.skip(1).collect(rt.alloc())?;
+    let (path, is_places) = match words.as_slice() {
+        [path] => (path, false),
+        [option, path] if option.as_str() == "--places" => (path, true),
+        _ => {
+            println!(rt; "usage: sedck_runs [--places] SCRIPT < RUNS")?;
+            return Ok(2);
+        }
+    };
+    let text = fs::read(rt, path.as_str())?;
+    match locate(rt.alloc(), &text) {
+        Ok(located) if is_places => places(rt, &located),
+        Ok(located) => answer_all(rt, &located.script),
+        Err(fault) => {
+            println!(rt; "{fault}")?;
+            Ok(2)
+        }
+    }
+}
+
+/// Says where the commands are.
+fn places(rt: &HostRuntime, located: &Located) -> io::Result<u8> {
+    let count = located.script.commands().len();
+    for (location, command) in located.locations.iter().zip(located.script.commands()) {
+        let (start, end) = (location.start, location.end);
+        match command.verb {
+            Verb::Label(_) => println!(rt; "{start} {end} label")?,
+            Verb::Branch(target) | Verb::Test(target) if target == count => {
+                println!(rt; "{start} {end} leaves")?;
+            }
+            _ => println!(rt; "{start} {end} command")?,
+        }
+    }
+    Ok(0)
+}
+
+/// Reads the runs line by line.
+fn answer_all(rt: &HostRuntime, script: &Script) -> io::Result<u8> {
+    let mut counts = Counts::default();
+    let mut trace = Trace::new(rt.alloc());
+    let lines = BufReader::new(rt.alloc(), rt.reader())?.lines(rt.alloc());
+    for line in lines {
+        let line = line?;
+        if line.starts_with("run ") {
+            counts.report(rt, script, &trace)?;
+            trace = Trace::new(rt.alloc());
+        }
+        if !trace.add(rt.alloc(), line.as_str())? {
+            println!(rt; "not understood: {line}")?;
+            return Ok(2);
+        }
+    }
+    counts.report(rt, script, &trace)?;
+    counts.summary(rt)
+}
