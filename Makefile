@@ -4,7 +4,8 @@
 RT ?= rt
 PREFIX ?= /usr/local
 
-.PHONY: all build demo test docs examples explain-tests refusals refusals-program streams tools-tests calls-tests wrapper-tests bench seds states runs-program install dist clean
+.PHONY: all build demo test docs examples explain-tests refusals refusals-program streams tools-tests calls-tests wrapper-tests bench planted seds states \
+	changes runs-program install dist clean
 
 # One target after the other, also under `make -j`: proofs want all processors and much memory, and tests have limits of time.
 .NOTPARALLEL:
@@ -84,9 +85,18 @@ seds: build
 	python3 tests/seds/seds.py build/sedck $(SEDS)
 
 # More arguments in STATES, such as `--steps 1000000`, `--folder DIR` or `--sed NAME=COMMAND`.
+# Wrong bodies for a longer run than the gate.
+planted:
+	@echo "Trying the wrong bodies that the gate leaves out (half an hour or more) ..."
+	python3 tools/planted.py "$(RT)" $(PLANTED)
+
 states: runs-program
 	@echo "Holding every step of every sed that is found against the model (100,000 steps take a few minutes) ..."
 	python3 tests/seds/seds_states.py crates/sedck_runs/out/sedck_runs $(STATES)
+
+changes: runs-program
+	@echo "Holding real seds against changed models (a minute for each change) ..."
+	python3 tests/seds/seds_changes.py crates/sedck_runs/out/sedck_runs --rt "$(RT)"
 
 runs-program:
 	cd crates/sedck_runs && $(RT) run -- --places ../../examples/end-mark.sed > /dev/null
