@@ -14,6 +14,9 @@ mod candidates;
 mod changing;
 mod events;
 mod following;
+mod made;
+mod making;
+mod reached;
 mod reading;
 mod selecting;
 mod states;
@@ -23,6 +26,8 @@ mod texts;
 mod transliterating;
 
 pub use following::follows;
+pub use making::substitutions;
+pub use reached::{Reached, ReachedMachine, Successor};
 pub use states::{Event, Machine, Move, State};
 pub use stepping::step;
 pub use substituting::substitutes;
