@@ -1,6 +1,6 @@
 -- Lists to which something is added, step by step.
 use Rattle.std.proofs.Common.{◌≡◌, ◌↔◌, ◌⊎◌, inl, inr, ℕ, ◌+◌, ◌-◌, ◌<◌, Bool, false, List, [], ◌∷◌, ◌++◌, length, take, drop, get_or, map, Contains, refl, sym, ap, subst, arith, ◌∙◌, below_more, add-one}
-use Rattle.std.proofs.lemmas.List.{map-append, take_all}
+use Rattle.std.proofs.lemmas.List.{map-append, map_more, take_all}
 use Rattle.std.specs.Borrow.{Bor}
 use Rattle.std.proofs.lemmas.List.Elements.{Contains-append_left, Contains-push, Contains-push_cases}
 use Rattle.std.proofs.lemmas.Result.{on_ok_weaker}
@@ -8,7 +8,7 @@ use Rattle.std.specs.Prelude.{Vec, Result, OnOk}
 use Rattle.std.specs.declared.alloc.Global.{Global}
 use Rattle.sedck_flow.specs.Run.{Machine, Event, Silent, State, At, KeptOrReset, TakesLine, next_cycle}
 use Rattle.sedck_model.specs.States.{lines_of}
-use Rattle.sedck_model.specs.Successors.{successor_of, text_of}
+use Rattle.sedck_model.specs.Successors.{successor_of, text_of, texts_of}
 use Rattle.sedck_model.specs.declared.reached.Successor.{Successor}
 use Rattle.sedck_model.specs.Private.Adding.{Adds, AddsSteps, AddsTexts}
 
@@ -164,6 +164,17 @@ pub guarded : {T E : Type 0} (P : Type 0) (e : Event) (s : State) (r : Result T 
 guarded P e s r xs ys holds adds =
     like_ok successor_of (λ y. (y.0 ≡ e) × (y.1 ≡ s)) (λ y. P × (y.0 ≡ e) × (y.1 ≡ s)) r xs ys (λ y step. (holds, step.0, step.1)) (λ y step. (step.1, step.2)) adds
 
+pub guarded_all : {T E : Type 0} (P : Type 0) (made : Event → State → Type 0) (r : Result T E) (xs ys : List Successor) → P
+    → OnOk r (AddsSteps made xs ys) → OnOk r (AddsSteps (λ event state. P × made event state) xs ys)
+guarded_all P made r xs ys holds adds =
+    like_ok successor_of (λ y. made y.0 y.1) (λ y. P × made y.0 y.1) r xs ys (λ y step. (holds, step)) (λ y step. step.1) adds
+
+-- some steps, and then others
+pub both_ok : {T E : Type 0} (first second : Event → State → Type 0) (r : Result T E) (xs ys zs : List Successor) → AddsSteps first xs ys
+    → OnOk r (AddsSteps second ys zs) → OnOk r (AddsSteps (λ event state. first event state ⊎ second event state) xs zs)
+both_ok first second r xs ys zs before after =
+    then_ok successor_of (λ y. first y.0 y.1) (λ y. second y.0 y.1) (λ y. first y.0 y.1 ⊎ second y.0 y.1) r xs ys zs (λ y h. h) (λ y h. h) before after
+
 -- one state, and then another one
 pub either_state : {T E : Type 0} (e : Event) (s t : State) (r : Result T E) (xs ys zs : List Successor)
     → AddsSteps (λ event state. (event ≡ e) × (state ≡ s)) xs ys → OnOk r (AddsSteps (λ event state. (event ≡ e) × (state ≡ t)) ys zs)
@@ -249,3 +260,20 @@ taken_line f m (line ∷ lines) d pattern r xs ys some is adds =
     subst (λ (at : ℕ). Taken at lines (f line.now)) (add-one m.at)
     (subst (λ (ls : List (Bor (List ℕ))). Taken (m.at + 1) ls (f line.now)) left
     (subst (λ (text : List ℕ). Taken (m.at + 1) (take (length (line ∷ lines) - 1) lines) text) is adds))
+
+-- ---- Steps to each of some texts
+
+pub one_more_text : (xs : List (Vec ℕ Global)) (i : ℕ) (x : Vec ℕ Global) → i < length xs → x ≡ get_or xs i x
+    → texts_of (take (i + 1) xs) ≡ texts_of (take i xs) ++ x.items ∷ []
+one_more_text xs i x below is = map_more text_of xs i x below ∙ ap (λ (y : Vec ℕ Global). texts_of (take i xs) ++ y.items ∷ []) (sym is)
+
+pub each_text : (e : Event) (to : List ℕ → State) (made : List ℕ → Type 0) (texts taken : List (List ℕ)) (xs ys : List Successor) → taken ≡ texts
+    → ((new : List ℕ) → Contains texts new ↔ made new)
+    → AddsSteps (λ event state. (new : List ℕ) × Contains taken new × ((event ≡ e) × (state ≡ to new))) xs ys
+    → AddsSteps (λ event state. (event ≡ e) × (new : List ℕ) × made new × (state ≡ to new)) xs ys
+each_text e to made texts taken xs ys is all adds =
+    adds_like successor_of (λ y. (new : List ℕ) × Contains taken new × ((y.0 ≡ e) × (y.1 ≡ to new)))
+    (λ y. (y.0 ≡ e) × (new : List ℕ) × made new × (y.1 ≡ to new)) xs ys
+    (λ y h. (h.2.0, h.0, (all h.0).0 (subst (λ (some : List (List ℕ)). Contains some h.0) is h.1), h.2.1))
+    (λ y h. (h.1, subst (λ (some : List (List ℕ)). Contains some h.1) (sym is) ((all h.1).1 h.2), (h.0, h.3)))
+    adds
