@@ -2,7 +2,7 @@
 
 use crate::showing::{add_source, add_text};
 use sedck_matching::{Budget, Undecided};
-use sedck_model::{Reached, ReachedMachine, State, successors};
+use sedck_model::{Reached, ReachedMachine, State, Successor, successors};
 use sedck_script::{Located, Verb};
 use std::alloc::{AllocError, Global};
 use std::io;
@@ -28,12 +28,7 @@ pub struct Input<'a> {
 pub fn show_one<'a>(rt: &(impl Print + AllocGlobal), input: Input<'a>) -> io::Result<u8> {
     let mut before: Option<Reached<'a>> = None;
     for number in 0..MOST_STEPS {
-        let state = match &before {
-            None => State::Start(input.lines),
-            Some(reached) => reached.state(),
-        };
-        let mut budget = Budget { left: STEP_BUDGET };
-        let found = match successors(rt.alloc(), &input.located.script, &state, &mut budget) {
+        let found = match steps_from(rt.alloc(), input, &before) {
             Ok(found) => found,
             Err(Undecided::OutOfBudget) => {
                 println!(rt; "cut off after {number} steps: the budget was used up")?;
@@ -50,6 +45,20 @@ pub fn show_one<'a>(rt: &(impl Print + AllocGlobal), input: Input<'a>) -> io::Re
     }
     println!(rt; "cut off after {MOST_STEPS} steps")?;
     Ok(0)
+}
+
+/// All steps from the state, or from before the first line.
+fn steps_from<'a>(
+    alloc: Global,
+    input: Input<'a>,
+    before: &Option<Reached<'a>>,
+) -> Result<Vec<Successor<'a>>, Undecided> {
+    let script = &input.located.script;
+    let mut budget = Budget { left: STEP_BUDGET };
+    match before {
+        None => successors(alloc, script, &State::Start(input.lines), &mut budget),
+        Some(reached) => successors(alloc, script, &reached.state(), &mut budget),
+    }
 }
 
 /// Prints the command of a step, and what has changed.

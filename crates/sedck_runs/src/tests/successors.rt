@@ -3,7 +3,7 @@
 use crate::showing::shown;
 use sedck_matching::{Budget, Undecided};
 use sedck_model::{Machine, State, step, successors};
-use sedck_script::parse;
+use sedck_script::{Script, parse};
 use std::alloc::Global;
 use std::process::Abort;
 use std::test::Fail;
@@ -19,33 +19,42 @@ fn machine<'a>(pattern: &'a [u8]) -> Machine<'a, 'a> {
     }
 }
 
-/// The steps from the machine, each of which is one of the model's.
-fn steps_from(
+/// The steps from the state, each of which is one of the model's.
+fn shown_from<'a>(
     rt: &impl Abort,
     alloc: Global,
-    text: &[u8],
-    before: Machine,
+    script: &'a Script<'a>,
+    before: &State<'a, '_>,
 ) -> Result<Vec<String>, Fail> {
-    let script = parse(alloc, text)?;
-    let before = State::At(before);
     let mut budget = Budget { left: 10_000 };
     let mut lines = Vec::new(alloc);
-    for next in &successors(alloc, &script, &before, &mut budget)? {
+    for next in &successors(alloc, script, before, &mut budget)? {
         let after = next.after.state();
         let mut budget = Budget { left: 10_000 };
-        let is_step = step(alloc, &script, &before, &next.event, &after, &mut budget)?;
+        let is_step = step(alloc, script, before, &next.event, &after, &mut budget)?;
         assert!(rt; is_step);
         lines.push(shown(alloc, next)?)?;
     }
     Ok(lines)
 }
 
-/// Whether these are the steps, in this order.
-fn expect(
+/// The same from the machine, by the script's text.
+fn steps_from<'a>(
     rt: &impl Abort,
     alloc: Global,
-    text: &[u8],
-    before: Machine,
+    text: &'a [u8],
+    before: Machine<'a, '_>,
+) -> Result<Vec<String>, Fail> {
+    let script = parse(alloc, text)?;
+    shown_from(rt, alloc, &script, &State::At(before))
+}
+
+/// Whether these are the steps, in this order.
+fn expect<'a>(
+    rt: &impl Abort,
+    alloc: Global,
+    text: &'a [u8],
+    before: Machine<'a, '_>,
     wanted: &[&str],
 ) -> Result<(), Fail> {
     let found = steps_from(rt, alloc, text, before)?;
@@ -136,24 +145,27 @@ fn commands_are_applied_and_skipped(rt: HostRuntime) -> Result<(), Fail> {
 fn runs_begin_and_end(rt: HostRuntime) -> Result<(), Fail> {
     let script = parse(rt.alloc(), b"p")?;
     let lines: [&[u8]; 1] = [b"a"];
-    let mut budget = Budget { left: 10 };
-    let found = successors(rt.alloc(), &script, &State::Start(&lines), &mut budget)?;
+    let found = shown_from(&rt, rt.alloc(), &script, &State::Start(&lines))?;
     assert_eq!(rt; found.len(), 1);
-    assert_eq!(rt; shown(rt.alloc(), &found[0])?.as_str(), "0 \"a\"");
-    let found = successors(rt.alloc(), &script, &State::Done, &mut budget)?;
-    assert_eq!(rt; found.len(), 0);
+    assert_eq!(rt; found[0].as_str(), "0 \"a\"");
+    let found = shown_from(&rt, rt.alloc(), &script, &State::Done)?;
+    assert!(rt; found.is_empty());
     Ok(())
+}
+
+/// Whether so small a budget is used up.
+fn is_used_up<'a>(alloc: Global, script: &'a Script<'a>, left: u64) -> bool {
+    let mut budget = Budget { left };
+    let before = State::At(machine(b"baaac"));
+    let found = successors(alloc, script, &before, &mut budget);
+    matches!(found, Err(Undecided::OutOfBudget)) && budget.left == 0
 }
 
 #[test]
 fn budgets_of_steps_are_used_up(rt: HostRuntime) -> Result<(), Fail> {
     let script = parse(rt.alloc(), b"s/a*/x/g")?;
     for left in [0, 1, 10, 50] {
-        let mut budget = Budget { left };
-        let before = State::At(machine(b"baaac"));
-        let found = successors(rt.alloc(), &script, &before, &mut budget);
-        assert!(rt; matches!(found, Err(Undecided::OutOfBudget)));
-        assert_eq!(rt; budget.left, 0);
+        assert!(rt; is_used_up(rt.alloc(), &script, left));
     }
     Ok(())
 }
