@@ -43,7 +43,9 @@ pub fn show_one<'a>(rt: &(impl Print + AllocGlobal), input: Input<'a>) -> io::Re
         show_step(rt, input, &before, &step.after)?;
         before = Some(step.after);
     }
-    println!(rt; "cut off after {MOST_STEPS} steps")?;
+    let is_over = matches!(before, Some(Reached::Done));
+    let end = if is_over { "ended" } else { "cut off" };
+    println!(rt; "{end} after {MOST_STEPS} steps")?;
     Ok(0)
 }
 

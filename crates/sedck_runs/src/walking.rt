@@ -60,7 +60,7 @@ pub fn walk<'a>(
             }
         }
     }
-    summary(rt, &counts, true)
+    summary(rt, &counts, !begun.is_empty())
 }
 
 /// Puts the run with each of these next steps on the stack, so that the first one is taken off first; false where the budget was used up.

@@ -38,23 +38,33 @@ fn shown_from<'a>(
     Ok(lines)
 }
 
-/// The same from the machine, by the script's text.
-fn steps_from<'a>(
+/// The same, where the script lives for less long than the state.
+fn shown_by(
     rt: &impl Abort,
     alloc: Global,
-    text: &'a [u8],
-    before: Machine<'a, '_>,
+    script: &Script,
+    before: &State,
 ) -> Result<Vec<String>, Fail> {
-    let script = parse(alloc, text)?;
-    shown_from(rt, alloc, &script, &State::At(before))
+    shown_from(rt, alloc, &*script, &*before)
 }
 
-/// Whether these are the steps, in this order.
-fn expect<'a>(
+/// The same by the script's text.
+fn steps_from(
     rt: &impl Abort,
     alloc: Global,
-    text: &'a [u8],
-    before: Machine<'a, '_>,
+    text: &[u8],
+    before: &State,
+) -> Result<Vec<String>, Fail> {
+    let script = parse(alloc, text)?;
+    shown_by(rt, alloc, &script, before)
+}
+
+/// Whether these are the steps from the state, in this order.
+fn expect_from(
+    rt: &impl Abort,
+    alloc: Global,
+    text: &[u8],
+    before: &State,
     wanted: &[&str],
 ) -> Result<(), Fail> {
     let found = steps_from(rt, alloc, text, before)?;
@@ -65,9 +75,21 @@ fn expect<'a>(
     Ok(())
 }
 
+/// Whether these are the steps from the machine.
+fn expect(
+    rt: &impl Abort,
+    alloc: Global,
+    text: &[u8],
+    before: Machine,
+    wanted: &[&str],
+) -> Result<(), Fail> {
+    expect_from(rt, alloc, text, &State::At(before), wanted)
+}
+
 #[test]
 fn substitutions_are_found(rt: HostRuntime) -> Result<(), Fail> {
-    let found = steps_from(&rt, rt.alloc(), b"s/a*/x/g", machine(b"baaac"))?;
+    let before = State::At(machine(b"baaac"));
+    let found = steps_from(&rt, rt.alloc(), b"s/a*/x/g", &before)?;
     assert!(rt; found.iter().any(|line| line.as_str() == "1t \"xbxcx\""));
     assert!(rt; found.iter().all(|line| line.as_str() != "1t \"xxbxc\""));
     let wanted = [
@@ -80,7 +102,7 @@ fn substitutions_are_found(rt: HostRuntime) -> Result<(), Fail> {
     ];
     expect(&rt, rt.alloc(), b"s/a*/x/g", machine(b"a"), &wanted)?;
     let wanted = [
-        "writes \"f\" 1t \"xb\"",
+        "writes \"f\" 1t \"xab\"",
         "writes \"f\" 1t \"axb\"",
         "writes \"f\" 1t \"abx\"",
         "1 \"ab\"",
@@ -143,29 +165,33 @@ fn commands_are_applied_and_skipped(rt: HostRuntime) -> Result<(), Fail> {
 
 #[test]
 fn runs_begin_and_end(rt: HostRuntime) -> Result<(), Fail> {
-    let script = parse(rt.alloc(), b"p")?;
     let lines: [&[u8]; 1] = [b"a"];
-    let found = shown_from(&rt, rt.alloc(), &script, &State::Start(&lines))?;
-    assert_eq!(rt; found.len(), 1);
-    assert_eq!(rt; found[0].as_str(), "0 \"a\"");
-    let found = shown_from(&rt, rt.alloc(), &script, &State::Done)?;
-    assert!(rt; found.is_empty());
-    Ok(())
+    let start = State::Start(&lines);
+    expect_from(&rt, rt.alloc(), b"p", &start, &["0 \"a\""])?;
+    expect_from(&rt, rt.alloc(), b"p", &State::Done, &[])
 }
 
-/// Whether so small a budget is used up.
-fn is_used_up<'a>(alloc: Global, script: &'a Script<'a>, left: u64) -> bool {
+/// What comes of so small a budget.
+fn outcome_of<'a>(alloc: Global, script: &'a Script<'a>, left: u64) -> Option<Undecided> {
     let mut budget = Budget { left };
     let before = State::At(machine(b"baaac"));
-    let found = successors(alloc, script, &before, &mut budget);
-    matches!(found, Err(Undecided::OutOfBudget)) && budget.left == 0
+    match successors(alloc, script, &before, &mut budget) {
+        Ok(_) => None,
+        Err(error) => Some(error),
+    }
+}
+
+/// The same, by the script's text.
+fn outcome(alloc: Global, script: &Script, left: u64) -> Option<Undecided> {
+    outcome_of(alloc, &*script, left)
 }
 
 #[test]
 fn budgets_of_steps_are_used_up(rt: HostRuntime) -> Result<(), Fail> {
     let script = parse(rt.alloc(), b"s/a*/x/g")?;
     for left in [0, 1, 10, 50] {
-        assert!(rt; is_used_up(rt.alloc(), &script, left));
+        let outcome = outcome(rt.alloc(), &script, left);
+        assert_eq!(rt; outcome, Some(Undecided::OutOfBudget));
     }
     Ok(())
 }
