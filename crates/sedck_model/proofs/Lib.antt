@@ -1,5 +1,7 @@
 mod Contained
+mod AddLemmas
 mod Replacing
+mod MakeLemmas
 mod TextLemmas
 mod TransliterateLemmas
 mod SelectLemmas

@@ -1,11 +1,11 @@
 -- A substitution is its first match, what is after that, and the rest.
-use Rattle.std.proofs.Common.{◌≡◌, ◌≢◌, ◌∙◌, ◌⊎◌, inl, inr, ◌==◌, ℕ, zero, suc, ◌+◌, ◌-◌, ◌<◌, ◌≤◌, Bool, true, false, List, [], ◌∷◌, ◌++◌, length, take, drop, refl, sym, ap, subst, arith, append_assoc, length-append, length-take, length-drop, map, get_or, All, Contains}
+use Rattle.std.proofs.Common.{◌≡◌, ◌∙◌, ◌⊎◌, inl, inr, ℕ, ◌+◌, ◌-◌, ◌<◌, ◌≤◌, Bool, true, false, List, [], ◌∷◌, ◌++◌, length, take, drop, refl, sym, ap, subst, arith, append_assoc, length-append, length-take, length-drop, map, get_or, All, Contains}
 use Rattle.std.proofs.lemmas.List.{append_cancel_right, take-append-drop, append-nil, take_all, take-take, take_more, get_or-take, map-append}
 use Rattle.std.proofs.lemmas.List.Elements.{All-contains}
 use Rattle.std.proofs.Math.Seq.{take-append_seam, drop-append_seam}
 use Rattle.sedck_model.proofs.Contained.{contains_mapped, mapped_contains}
 use Rattle.sedck_bre.specs.Tree.{Tree}
-use Rattle.sedck_bre.specs.Match.{Groups, no_groups, text_of, Match}
+use Rattle.sedck_bre.specs.Match.{Groups, no_groups, Match}
 use Rattle.sedck_script.specs.Program.{Part, Text, Newline, Tab, Whole, Group, Substitution, Program}
 use Rattle.sedck_script.specs.View.{part_of}
 use Rattle.sedck_script.specs.declared.script.Part as code

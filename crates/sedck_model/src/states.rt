@@ -1,27 +1,27 @@
 //! States of a run, and what its steps do to files.
 
-/// A run between its first line and its end.
+/// A run between its first line and its end. The lines that are left may outlive the spaces.
 #[derive(Debug, Clone, Copy)]
-pub struct Machine<'a> {
+pub struct Machine<'lines, 'spaces> {
     /// The place of the next command, or the number of commands.
     pub at: usize,
     /// Whether a substitution was made that no `t` has taken up yet.
     pub flag: bool,
     /// The lines that are left to read.
-    pub unread: &'a [&'a [u8]],
+    pub unread: &'lines [&'lines [u8]],
     /// The pattern space.
-    pub pattern: &'a [u8],
+    pub pattern: &'spaces [u8],
     /// The hold space.
-    pub hold: &'a [u8],
+    pub hold: &'spaces [u8],
 }
 
 /// A state of a run.
 #[derive(Debug, Clone, Copy)]
-pub enum State<'a> {
+pub enum State<'lines, 'spaces> {
     /// Before the first line is read; all lines.
-    Start(&'a [&'a [u8]]),
+    Start(&'lines [&'lines [u8]]),
     /// Before a command, or after the last one.
-    At(Machine<'a>),
+    At(Machine<'lines, 'spaces>),
     /// The run has ended.
     Done,
 }
@@ -40,5 +40,5 @@ pub enum Event<'a> {
 #[derive(Debug, Clone, Copy)]
 pub struct Move<'a> {
     pub event: Event<'a>,
-    pub after: State<'a>,
+    pub after: State<'a, 'a>,
 }

@@ -181,7 +181,7 @@ fn shared_length(one: &[u8], other: &[u8]) -> usize
 }
 
 /// What takes the place of the match that ends at the spot.
-fn replacement_text(
+pub(crate) fn replacement_text(
     alloc: Global,
     parts: &[Part],
     text: &[u8],

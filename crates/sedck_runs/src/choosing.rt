@@ -80,7 +80,12 @@ const START: Links<'static> = [
 ];
 
 /// The state with this number: 0 is before the first line, then come those that were seen, and then the end.
-fn state_at<'a>(lines: &'a [&'a [u8]], trace: &'a Trace, number: usize, flag: bool) -> State<'a> {
+fn state_at<'a>(
+    lines: &'a [&'a [u8]],
+    trace: &'a Trace,
+    number: usize,
+    flag: bool,
+) -> State<'a, 'a> {
     if number == 0 {
         return State::Start(lines);
     }
@@ -90,7 +95,7 @@ fn state_at<'a>(lines: &'a [&'a [u8]], trace: &'a Trace, number: usize, flag: bo
     }
 }
 
-fn machine<'a>(lines: &'a [&'a [u8]], seen: &'a Seen, flag: bool) -> Machine<'a> {
+fn machine<'a>(lines: &'a [&'a [u8]], seen: &'a Seen, flag: bool) -> Machine<'a, 'a> {
     Machine {
         at: seen.place,
         flag,

@@ -14,21 +14,36 @@
 //!
 //! `sedck_runs --places SCRIPT` says where each command begins in the script and where it ends, in bytes; which ones are labels, and which
 //! ones branch to the end of the script.
+//!
+//! `sedck_runs --one SCRIPT INPUT` prints one run of the model on the lines of the file INPUT, in the layout of the option `--debug` of GNU
+//! sed: at each state the first of its steps is taken. It says at the end whether the run ended or was cut off.
+//!
+//! `sedck_runs --all N SCRIPT INPUT` prints every run of at most N steps, each in a line with its states: the place, with a `t` where the
+//! flag is set, the pattern space, and the hold space where it isn't empty; what a step does to a file is before the state that it leads
+//! to. A run that isn't over after N steps ends with `..`. Then it says how many runs ended, and how many were cut off.
+//!
+//! The status of these two is 0, or 3 where the budget was used up.
 #![tactic(auto)]
 
 mod choosing;
+mod one;
 mod report;
 mod seen;
+mod showing;
 #[cfg(test)]
 mod tests;
+mod walking;
 
+use one::{Input, show_one};
 use report::Counts;
 use sedck_script::{Located, Script, Verb, locate};
 use seen::Trace;
+use std::alloc::{AllocError, Global};
 use std::io::{BufRead, BufReader};
 use std::process::ExitCode;
 use std::rt::{Env, Files};
 use std::{env, fs, io};
+use walking::walk;
 
 fn main(rt: HostRuntime) -> ExitCode {
     match answer(&rt) {
@@ -37,26 +52,89 @@ fn main(rt: HostRuntime) -> ExitCode {
     }
 }
 
-/// Reads the script and the runs, and reports on each.
+const USAGE: &str = "usage: sedck_runs SCRIPT < RUNS
+       sedck_runs --places SCRIPT
+       sedck_runs --one SCRIPT INPUT
+       sedck_runs --all N SCRIPT INPUT";
+
+/// What is asked for.
+#[derive(Clone, Copy)]
+enum Task<'a> {
+    /// Whether the runs that are read are runs of the model.
+    Runs,
+    /// Where the commands are.
+    Places,
+    /// One run on this input.
+    One(&'a str),
+    /// All runs of at most so many steps on this input.
+    All(usize, &'a str),
+}
+
+/// Reads the script, and does what is asked for.
 fn answer(rt: &HostRuntime) -> io::Result<u8> {
     let words: Vec<String> = env::args(rt)?.skip(1).collect(rt.alloc())?;
-    let (path, is_places) = match words.as_slice() {
-        [path] => (path, false),
-        [option, path] if option.as_str() == "--places" => (path, true),
-        _ => {
-            println!(rt; "usage: sedck_runs [--places] SCRIPT < RUNS")?;
-            return Ok(2);
-        }
+    let words: Vec<&str> = words.iter().map(|word| word.as_str()).collect(rt.alloc())?;
+    let Some((task, path)) = task_of(words.as_slice()) else {
+        println!(rt; "{USAGE}")?;
+        return Ok(2);
     };
-    let text = fs::read(rt, path.as_str())?;
+    let text = fs::read(rt, path)?;
     match locate(rt.alloc(), &text) {
-        Ok(located) if is_places => places(rt, &located),
-        Ok(located) => answer_all(rt, &located.script),
+        Ok(located) => do_task(rt, task, &text, &located),
         Err(fault) => {
             println!(rt; "{fault}")?;
             Ok(2)
         }
     }
+}
+
+/// What the arguments ask for, and the file with the script.
+fn task_of<'a>(words: &[&'a str]) -> Option<(Task<'a>, &'a str)> {
+    match words {
+        ["--places", path] => Some((Task::Places, path)),
+        ["--one", path, input] => Some((Task::One(input), path)),
+        ["--all", most, path, input] => match most.parse::<usize>() {
+            Ok(most) => Some((Task::All(most, input), path)),
+            Err(_) => None,
+        },
+        [path] => Some((Task::Runs, path)),
+        _ => None,
+    }
+}
+
+fn do_task(rt: &HostRuntime, task: Task, text: &[u8], located: &Located) -> io::Result<u8> {
+    match task {
+        Task::Runs => answer_all(rt, &located.script),
+        Task::Places => places(rt, located),
+        Task::One(name) => {
+            let input = fs::read(rt, name)?;
+            let lines = lines_of(rt.alloc(), &input)?;
+            let lines = lines.as_slice();
+            show_one(
+                rt,
+                Input {
+                    name,
+                    lines,
+                    text,
+                    located,
+                },
+            )
+        }
+        Task::All(most, name) => {
+            let input = fs::read(rt, name)?;
+            let lines = lines_of(rt.alloc(), &input)?;
+            walk(rt, &located.script, &lines, most)
+        }
+    }
+}
+
+/// The lines of the text; the last one may have no newline.
+fn lines_of<'a>(alloc: Global, text: &'a [u8]) -> Result<Vec<&'a [u8]>, AllocError> {
+    let mut lines = Vec::new(alloc);
+    for line in text.split_inclusive(|byte| *byte == b'\n') {
+        lines.push(line.strip_suffix(b"\n").unwrap_or(line))?;
+    }
+    Ok(lines)
 }
 
 /// Says where the commands are.

@@ -7,7 +7,7 @@ use std::alloc::Global;
 use std::test::Fail;
 
 /// Before the command at this place, with nothing but a pattern space.
-fn machine<'a>(at: usize, pattern: &'a [u8]) -> Machine<'a> {
+fn machine<'a>(at: usize, pattern: &'a [u8]) -> Machine<'a, 'a> {
     Machine {
         at,
         flag: false,
@@ -18,7 +18,7 @@ fn machine<'a>(at: usize, pattern: &'a [u8]) -> Machine<'a> {
 }
 
 /// A step without an event to this machine.
-fn to<'a>(after: Machine<'a>) -> Move<'a> {
+fn to<'a>(after: Machine<'a, 'a>) -> Move<'a> {
     Move {
         event: Event::Silent,
         after: State::At(after),

@@ -1,4 +1,4 @@
-use Rattle.std.proofs.Common.{◌≡◌, ◌≤◌, ◌<◌, ◌+◌, ◌-◌, ◌*◌, ℕ, length, take, drop, Contains}
+use Rattle.std.proofs.Common.{◌≤◌, ◌<◌, ◌+◌, ◌-◌, ◌*◌, ℕ, length, take, drop, Contains}
 use Rattle.sedck_bre.specs.View.{tree}
 use Rattle.sedck_script.specs.View.{substitution_of}
 use Rattle.sedck_matching.specs.declared.spots.Spot.{Spot}

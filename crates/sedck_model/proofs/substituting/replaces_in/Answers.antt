@@ -1,4 +1,4 @@
-use Rattle.std.proofs.Common.{◌≡◌, ◌≤◌, ◌-◌, length, take, drop, refl, subst, arith}
+use Rattle.std.proofs.Common.{◌≤◌, ◌-◌, length, take, drop, refl, subst, arith}
 use Rattle.sedck_bre.specs.View.{tree}
 use Rattle.sedck_script.specs.View.{substitution_of}
 use Rattle.sedck_model.specs.Private.Replacing.{Replaces}

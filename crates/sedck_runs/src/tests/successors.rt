@@ -1,0 +1,197 @@
+//! All steps from a state, as they are expected by hand.
+
+use crate::showing::shown;
+use sedck_matching::{Budget, Undecided};
+use sedck_model::{Machine, State, step, successors};
+use sedck_script::{Script, parse};
+use std::alloc::Global;
+use std::process::Abort;
+use std::test::Fail;
+
+/// Before the first command, with nothing but a pattern space.
+fn machine<'a>(pattern: &'a [u8]) -> Machine<'a, 'a> {
+    Machine {
+        at: 0,
+        flag: false,
+        unread: &[],
+        pattern,
+        hold: &[],
+    }
+}
+
+/// The steps from the state, each of which is one of the model's.
+fn shown_from<'a>(
+    rt: &impl Abort,
+    alloc: Global,
+    script: &'a Script<'a>,
+    before: &State<'a, '_>,
+) -> Result<Vec<String>, Fail> {
+    let mut budget = Budget { left: 10_000 };
+    let mut lines = Vec::new(alloc);
+    for next in &successors(alloc, script, before, &mut budget)? {
+        let after = next.after.state();
+        let mut budget = Budget { left: 10_000 };
+        let is_step = step(alloc, script, before, &next.event, &after, &mut budget)?;
+        assert!(rt; is_step);
+        lines.push(shown(alloc, next)?)?;
+    }
+    Ok(lines)
+}
+
+/// The same, where the script lives for less long than the state.
+fn shown_by(
+    rt: &impl Abort,
+    alloc: Global,
+    script: &Script,
+    before: &State,
+) -> Result<Vec<String>, Fail> {
+    shown_from(rt, alloc, &*script, &*before)
+}
+
+/// The same by the script's text.
+fn steps_from(
+    rt: &impl Abort,
+    alloc: Global,
+    text: &[u8],
+    before: &State,
+) -> Result<Vec<String>, Fail> {
+    let script = parse(alloc, text)?;
+    shown_by(rt, alloc, &script, before)
+}
+
+/// Whether these are the steps from the state, in this order.
+fn expect_from(
+    rt: &impl Abort,
+    alloc: Global,
+    text: &[u8],
+    before: &State,
+    wanted: &[&str],
+) -> Result<(), Fail> {
+    let found = steps_from(rt, alloc, text, before)?;
+    assert_eq!(rt; found.len(), wanted.len(), "{text:?}: {found:?}");
+    for (line, wanted) in found.iter().zip(wanted) {
+        assert_eq!(rt; line.as_str(), *wanted, "{text:?}");
+    }
+    Ok(())
+}
+
+/// Whether these are the steps from the machine.
+fn expect(
+    rt: &impl Abort,
+    alloc: Global,
+    text: &[u8],
+    before: Machine,
+    wanted: &[&str],
+) -> Result<(), Fail> {
+    expect_from(rt, alloc, text, &State::At(before), wanted)
+}
+
+#[test]
+fn substitutions_are_found(rt: HostRuntime) -> Result<(), Fail> {
+    let before = State::At(machine(b"baaac"));
+    let found = steps_from(&rt, rt.alloc(), b"s/a*/x/g", &before)?;
+    assert!(rt; found.iter().any(|line| line.as_str() == "1t \"xbxcx\""));
+    assert!(rt; found.iter().all(|line| line.as_str() != "1t \"xxbxc\""));
+    let wanted = [
+        "1t \"xx\"",
+        "1t \"x\"",
+        "1t \"xax\"",
+        "1t \"xa\"",
+        "1t \"ax\"",
+        "1 \"a\"",
+    ];
+    expect(&rt, rt.alloc(), b"s/a*/x/g", machine(b"a"), &wanted)?;
+    let wanted = [
+        "writes \"f\" 1t \"xab\"",
+        "writes \"f\" 1t \"axb\"",
+        "writes \"f\" 1t \"abx\"",
+        "1 \"ab\"",
+    ];
+    expect(&rt, rt.alloc(), b"s/c*/x/w f", machine(b"ab"), &wanted)
+}
+
+#[test]
+fn flags_are_kept_and_reset(rt: HostRuntime) -> Result<(), Fail> {
+    let unread: [&[u8]; 1] = [b"b"];
+    let before = Machine {
+        flag: true,
+        unread: &unread,
+        ..machine(b"a")
+    };
+    let wanted = ["1t \"a\\nb\"", "1 \"a\\nb\""];
+    expect(&rt, rt.alloc(), b"N;D", before, &wanted)?;
+    expect(&rt, rt.alloc(), b"N;D", machine(b"a"), &["end"])?;
+    let before = Machine {
+        at: 1,
+        flag: true,
+        ..machine(b"a\nb")
+    };
+    expect(&rt, rt.alloc(), b"N;D", before, &["0t \"b\"", "0 \"b\""])?;
+    expect(&rt, rt.alloc(), b"t", before, &["end"])?;
+    expect(&rt, rt.alloc(), b"p;t", before, &["2 \"a\\nb\""])
+}
+
+#[test]
+fn commands_are_applied_and_skipped(rt: HostRuntime) -> Result<(), Fail> {
+    let before = machine(b"a");
+    expect(&rt, rt.alloc(), b"2,3d", before, &["end", "1 \"a\""])?;
+    expect(
+        &rt,
+        rt.alloc(),
+        b"2,3c\\\nx",
+        before,
+        &["end", "1 \"\"", "1 \"a\""],
+    )?;
+    expect(&rt, rt.alloc(), b"/b/d", before, &["1 \"a\""])?;
+    expect(&rt, rt.alloc(), b"$d", before, &["end"])?;
+    expect(&rt, rt.alloc(), b"$!d", before, &["1 \"a\""])?;
+    expect(&rt, rt.alloc(), b"1{p;p}", before, &["1 \"a\"", "3 \"a\""])?;
+    expect(
+        &rt,
+        rt.alloc(),
+        b"y/ab/bc/",
+        machine(b"abd"),
+        &["1 \"bcd\""],
+    )?;
+    expect(
+        &rt,
+        rt.alloc(),
+        b"y/aa/bc/",
+        machine(b"aa"),
+        &["1 \"bb\"", "1 \"bc\"", "1 \"cb\"", "1 \"cc\""],
+    )?;
+    expect(&rt, rt.alloc(), b"H", before, &["1 \"a\" hold \"\\na\""])
+}
+
+#[test]
+fn runs_begin_and_end(rt: HostRuntime) -> Result<(), Fail> {
+    let lines: [&[u8]; 1] = [b"a"];
+    let start = State::Start(&lines);
+    expect_from(&rt, rt.alloc(), b"p", &start, &["0 \"a\""])?;
+    expect_from(&rt, rt.alloc(), b"p", &State::Done, &[])
+}
+
+/// What comes of so small a budget.
+fn outcome_of<'a>(alloc: Global, script: &'a Script<'a>, left: u64) -> Option<Undecided> {
+    let mut budget = Budget { left };
+    let before = State::At(machine(b"baaac"));
+    match successors(alloc, script, &before, &mut budget) {
+        Ok(_) => None,
+        Err(error) => Some(error),
+    }
+}
+
+/// The same, by the script's text.
+fn outcome(alloc: Global, script: &Script, left: u64) -> Option<Undecided> {
+    outcome_of(alloc, &*script, left)
+}
+
+#[test]
+fn budgets_of_steps_are_used_up(rt: HostRuntime) -> Result<(), Fail> {
+    let script = parse(rt.alloc(), b"s/a*/x/g")?;
+    for left in [0, 1, 10, 50] {
+        let outcome = outcome(rt.alloc(), &script, left);
+        assert_eq!(rt; outcome, Some(Undecided::OutOfBudget));
+    }
+    Ok(())
+}
