@@ -360,7 +360,7 @@ cert.Ranked flow.Flow flow.Nodes script.References bre.Rests
 cert.Certificate cert.Text cert.Versions cert.VersionOne flow.Words flow.VersionOne flow.LiteralKinds
 cert.Rejections
 cert.Bounds cert.StepLimit flow.Spaces
-matching.Spots model.States
+matching.Spots model.States model.Successors
 search.Found search.Obstacle search.Rows search.NodeSet search.VersionOne
 script.Locations
 script.Faults bre.Faults cert.Faults

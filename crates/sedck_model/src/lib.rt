@@ -7,8 +7,8 @@
 //! - `follows`: whether steps are a run on given lines, or the first that is none.
 //!
 //! Each answer is exact, by the definitions `Substitutes`, `Step` and `Run` of `sedck_flow`, which say what sed is. Matching can take
-//! exponentially many steps, and so can there be texts and steps, so each call spends from a `Budget`, and may answer that the budget was
-//! used up.
+//! exponentially many steps, and there can be as many texts and steps to give, so each call spends from a `Budget`, and may answer that the
+//! budget was used up.
 #![tactic(auto)]
 
 mod applying;
