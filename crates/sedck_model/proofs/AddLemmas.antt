@@ -15,10 +15,6 @@ use Rattle.sedck_model.specs.Private.Adding.{Adds, AddsSteps, AddsTexts}
 pub none_contained : {X : Type 0} (x : X) → Contains [] x → ⊥
 none_contained x (k, below, _) = omega arith
 
--- nothing is added
-pub adds_none : {X Y : Type 0} (view : X → Y) (made : Y → Type 0) (xs : List X) → ((y : Y) → made y → ⊥) → Adds view made xs xs
-adds_none view made xs never = record { all = λ y. (λ h. inl h, λ h. elim h [ inl old ↦ old | inr new ↦ absurd (never y new) ]) }
-
 -- one thing is added
 pub adds_push : {X Y : Type 0} (view : X → Y) (xs : List X) (x : X) → Adds view (λ y. y ≡ view x) xs (xs ++ x ∷ [])
 adds_push view xs x = record {
@@ -68,10 +64,7 @@ adds_all view made xs adds y = (
 
 -- ---- Loops
 
--- in a loop over numbers nothing is added before the first one
-pub below_none : {X Y : Type 0} (view : X → Y) (each : ℕ → Y → Type 0) (xs : List X) → Adds view (λ y. (k : ℕ) × (k < 0) × each k y) xs xs
-below_none view each xs = adds_none view (λ y. (k : ℕ) × (k < 0) × each k y) xs (λ y h. let never : h.0 < 0 = h.1 in absurd (omega arith))
-
+-- in a loop over numbers, what one more adds
 pub below_more_added : {X Y : Type 0} (view : X → Y) (each : ℕ → Y → Type 0) (n : ℕ) (xs ys zs : List X)
     → Adds view (λ y. (k : ℕ) × (k < n) × each k y) xs ys → Adds view (each n) ys zs → Adds view (λ y. (k : ℕ) × (k < n + 1) × each k y) xs zs
 below_more_added view each n xs ys zs before after = record {
@@ -91,10 +84,7 @@ below_more_added view each n xs ys zs before after = record {
   );
 }
 
--- in a loop over a list nothing is added before the first one
-pub among_none : {X Y Z : Type 0} (view : X → Y) (each : Z → Y → Type 0) (xs : List X) → Adds view (λ y. (z : Z) × Contains [] z × each z y) xs xs
-among_none view each xs = adds_none view (λ y. (z : _) × Contains [] z × each z y) xs (λ y h. none_contained h.0 h.1)
-
+-- in a loop over a list, what one more item adds
 pub among_more : {X Y Z : Type 0} (view : X → Y) (each : Z → Y → Type 0) (some more : List Z) (z : Z) (xs ys zs : List X) → more ≡ some ++ z ∷ []
     → Adds view (λ y. (z : Z) × Contains some z × each z y) xs ys → Adds view (each z) ys zs → Adds view (λ y. (z : Z) × Contains more z × each z y) xs zs
 among_more view each some more z xs ys zs is before after = record {

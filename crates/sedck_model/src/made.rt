@@ -1,6 +1,6 @@
 //! Texts that are made.
 
-ghost use Rattle.std.specs.Prelude.{◌≡◌, ◌≤◌, ◌↔◌, ◌++◌, ◌∷◌, List, IfOk, OnOk, Contains};
+ghost use Rattle.std.specs.Prelude.{◌≡◌, ◌≤◌, ◌↔◌, ◌++◌, ◌∷◌, IfOk, OnOk, Contains};
 ghost use Rattle.sedck_bre.specs.Bytes.{newline};
 ghost use Rattle.sedck_matching.specs.declared.spots.Spot.{Spot};
 ghost use Rattle.sedck_model.specs.Private.Adding.{AddsTexts};

@@ -1,7 +1,6 @@
 //! All texts that a substitution may make of a text.
 
-ghost use Rattle.std.specs.Prelude.{◌≡◌, ◌≤◌, ◌-◌, ◌↔◌, ◌++◌, ℕ, List, IfOk, OnOk, length, Contains};
-ghost use Rattle.std.specs.List.{All};
+ghost use Rattle.std.specs.Prelude.{◌≡◌, ◌≤◌, ◌↔◌, ℕ, List, IfOk, OnOk, length, Contains};
 ghost use Rattle.sedck_bre.specs.View.{tree};
 ghost use Rattle.sedck_script.specs.View.{substitution_of};
 ghost use Rattle.sedck_flow.specs.Substitutes.{Substitutes};

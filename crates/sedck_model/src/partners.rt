@@ -1,6 +1,6 @@
 //! All texts that `y` may make of a text.
 
-ghost use Rattle.std.specs.Prelude.{◌≡◌, ◌≤◌, ◌↔◌, ◌++◌, ◌∷◌, ℕ, List, [], IfOk, OnOk, Contains};
+ghost use Rattle.std.specs.Prelude.{◌≡◌, ◌≤◌, ◌↔◌, ℕ, List, IfOk, OnOk, Contains};
 ghost use Rattle.sedck_flow.specs.Run.{IsPartner, MayBecome, Transliterates};
 ghost use Rattle.sedck_model.specs.Successors.{texts_of};
 ghost use Rattle.sedck_model.specs.Private.Adding.{AddsTexts};

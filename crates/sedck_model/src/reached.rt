@@ -1,7 +1,6 @@
 //! Steps that were found, each with the state that it leads to.
 
 ghost use Rattle.std.specs.Prelude.{◌≡◌};
-ghost use Rattle.sedck_flow.specs.Run as model;
 ghost use Rattle.sedck_model.specs.States.{machine_of, state_of};
 ghost use Rattle.sedck_model.specs.Successors.{reached_machine_of, reached_of};
 

@@ -3,7 +3,7 @@
 ghost use Rattle.std.specs.Prelude.{◌≡◌, ◌≤◌, ◌<◌, ◌+◌, ◌^◌, ◌↔◌, map, Contains, IfOk, OnOk};
 ghost use Rattle.sedck_script.specs.View.{address_of, command_of, verb_of};
 ghost use Rattle.sedck_flow.specs.Run as model;
-ghost use Rattle.sedck_flow.specs.Run.{Does, Step, StepAt, StepBehind, skip};
+ghost use Rattle.sedck_flow.specs.Run.{Does, Step, StepBehind, skip};
 ghost use Rattle.sedck_model.specs.States.{machine_of, state_of};
 ghost use Rattle.sedck_model.specs.Successors.{successor_of};
 ghost use Rattle.sedck_model.specs.Private.Adding.{AddsSteps};

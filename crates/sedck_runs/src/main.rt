@@ -94,8 +94,8 @@ fn task_of<'a>(words: &[&'a str]) -> Option<(Task<'a>, &'a str)> {
         ["--places", path] => Some((Task::Places, path)),
         ["--one", path, input] => Some((Task::One(input), path)),
         ["--all", most, path, input] => match most.parse::<usize>() {
-            Ok(most) => Some((Task::All(most, input), path)),
-            Err(_) => None,
+            Ok(most) if most > 0 => Some((Task::All(most, input), path)),
+            _ => None,
         },
         [path] => Some((Task::Runs, path)),
         _ => None,
