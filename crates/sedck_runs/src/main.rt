@@ -30,8 +30,6 @@ mod one;
 mod report;
 mod seen;
 mod showing;
-#[cfg(test)]
-mod tests;
 mod walking;
 
 use one::{Input, show_one};

@@ -1,10 +1,9 @@
 //! All steps from a state, as they are expected by hand.
 
-use crate::showing::shown;
 use sedck_matching::{Budget, Undecided};
-use sedck_model::{Machine, State, step, successors};
+use sedck_model::{Event, Machine, Reached, State, Successor, step, successors};
 use sedck_script::{Script, parse};
-use std::alloc::Global;
+use std::alloc::{AllocError, Global};
 use std::process::Abort;
 use std::test::Fail;
 
@@ -17,6 +16,42 @@ fn machine<'a>(pattern: &'a [u8]) -> Machine<'a, 'a> {
         pattern,
         hold: &[],
     }
+}
+
+/// Adds the text in quotes.
+fn add_quoted(line: &mut String, text: &[u8]) -> Result<(), AllocError> {
+    line.push('"')?;
+    for byte in text {
+        if *byte == b'\n' {
+            line.push_str("\\n")?;
+        } else {
+            line.push(char::from(*byte))?;
+        }
+    }
+    line.push('"')?;
+    Ok(())
+}
+
+/// The step: what it does to a file, and the place, the flag as a `t`, and the spaces that it leads to.
+fn shown(alloc: Global, step: &Successor) -> Result<String, AllocError> {
+    let mut line = String::new(alloc);
+    if let Event::Writes(file) = step.event {
+        line.push_str("writes ")?;
+        add_quoted(&mut line, file)?;
+        line.push(' ')?;
+    }
+    let Reached::At(machine) = &step.after else {
+        line.push_str("end")?;
+        return Ok(line);
+    };
+    line.push_str(&format!(in alloc; "{}", machine.at)?)?;
+    line.push_str(if machine.flag { "t " } else { " " })?;
+    add_quoted(&mut line, &machine.pattern)?;
+    if !machine.hold.is_empty() {
+        line.push_str(" hold ")?;
+        add_quoted(&mut line, &machine.hold)?;
+    }
+    Ok(line)
 }
 
 /// The steps from the state, each of which is one of the model's.

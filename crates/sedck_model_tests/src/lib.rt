@@ -1,0 +1,9 @@
+//! Tests of what no clause of `sedck_matching` and `sedck_model` says: that the functions answer, and within which budget.
+#![tactic(auto)]
+
+#[cfg(test)]
+mod matching;
+#[cfg(test)]
+mod steps;
+#[cfg(test)]
+mod successors;
