@@ -93,7 +93,7 @@ fn show_step(
     }
 }
 
-/// Prints the line that was read, and the spaces.
+/// Prints the number of the line that was read, and the pattern space.
 fn show_cycle(
     rt: &(impl Print + AllocGlobal),
     input: Input,
@@ -101,11 +101,7 @@ fn show_cycle(
 ) -> io::Result<()> {
     let number = input.lines.len().saturating_sub(machine.unread.len());
     println!(rt; "INPUT:   '{}' line {number}", input.name)?;
-    show_space(rt, "PATTERN: ", &machine.pattern)?;
-    if machine.hold.is_empty() {
-        return Ok(());
-    }
-    show_space(rt, "HOLD:    ", &machine.hold)
+    show_space(rt, "PATTERN: ", &machine.pattern)
 }
 
 /// Whether the step began a cycle by reading a line.
