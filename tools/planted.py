@@ -9,6 +9,7 @@ each one is refused.
 import os
 import shlex
 import shutil
+import signal
 import subprocess
 import sys
 import tempfile
@@ -42,6 +43,9 @@ def main():
     if unknown:
         print("planted: no wrong bodies are planted in %s" % ", ".join(unknown))
         return 1
+    # The copy is removed also where this is stopped: the gate refuses code outside of the crates.
+    for number in (signal.SIGTERM, signal.SIGHUP):
+        signal.signal(number, lambda number, _: sys.exit(128 + number))
     # Beside the crates, so that what was proved can be shared and not copied.
     (TOP / "build").mkdir(exist_ok=True)
     with tempfile.TemporaryDirectory(prefix="planted-", dir=TOP / "build") as folder:
