@@ -18,7 +18,7 @@ COPY = mkdir -p build && cp crates/sedck/out/sedck build/sedck.new && mv build/s
 
 # `rt run` proves and builds a program, and the crates that it uses, where they have changed; the script has it done crate by crate.
 build:
-	@echo "Proving and building sedck and sedck-explain (a first build proves everything: 30 to 50 processor minutes) ..."
+	@echo "Proving and building sedck and sedck-explain (a first build proves everything: 50 to 150 processor minutes) ..."
 	@python3 tools/prove.py "$(RT)"
 	@$(COPY)
 	@echo "The programs are build/sedck and build/sedck-explain."
@@ -30,10 +30,11 @@ demo:
 # The gate proves everything and builds the programs; the tests are then those that stand alone, with `build` and `refusals-program` as
 # they are, so that nothing is proved or built again. A C compiler that is missing is missed before the gate.
 test: build/refuse.so
-	@echo "Running the gate: every proof from nothing, the must-fail edits, the tests and the program (60 to 120 processor minutes) ..."
-	$(RT) ci
+	@echo "Running the gate: every proof from nothing, the must-fail edits, the tests and the program (100 to 300 processor minutes) ..."
+	$(RT) ci && times > build/gate-times
 	@$(COPY)
 	@$(MAKE) --no-print-directory -o build -o refusals-program docs explain-tests refusals streams tools-tests calls-tests wrapper-tests
+	@echo "Processor time of the gate, user and system: $$(tail -n 1 build/gate-times)"
 
 docs examples: build
 	@echo "Checking the documents: the examples and their certificates, and each command that the pages show ..."
