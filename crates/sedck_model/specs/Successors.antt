@@ -1,4 +1,4 @@
--- States that own their spaces, and steps to them, by those of the model; and lists to which things are added.
+-- States that own their spaces, steps to them, and texts, by those of the model.
 use Rattle.std.specs.Prelude.{ℕ, List, map, Vec}
 use Rattle.std.specs.declared.alloc.Global.{Global}
 use Rattle.sedck_flow.specs.Run as model
