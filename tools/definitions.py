@@ -355,12 +355,12 @@ flow.Run flow.Substitutes flow.Patterns
 bre.Match bre.Tree
 script.Program script.Names
 script.Spelling script.Items script.Resolution script.Parts script.BracketLists script.Cuts
-bre.Shape bre.Brackets bre.WellFormed bre.Text bre.Bytes
+bre.Shape bre.Brackets bre.WellFormed text.Classes text.Runs text.Text text.Bytes
 cert.Ranked flow.Flow flow.Nodes script.References bre.Rests
 cert.Certificate cert.Text cert.Versions cert.VersionOne flow.Words flow.VersionOne flow.LiteralKinds
 cert.Rejections
 cert.Bounds cert.StepLimit flow.Spaces
-matching.Spots model.States model.Successors
+text.Cursors matching.Spots model.States model.Successors
 search.Found search.Obstacle search.Rows search.NodeSet search.VersionOne
 script.Locations
 script.Faults bre.Faults cert.Faults

@@ -3,7 +3,7 @@ use Rattle.std.proofs.Common.{◌≡◌, ℕ, ◌≤◌, Bool, true, false, cond
 use Rattle.std.specs.Prelude.{◌==◌, ◌&&◌, ◌||◌, ◌⊎◌, not, nat_le, codes, IsTrue, if◌then◌else◌}
 use Rattle.std.proofs.lemmas.Bool.{false≢true, eqb-true, not-true}
 use Rattle.std.proofs.lemmas.Bool.Decides.{nat_tests}
-use Rattle.sedck_bre.specs.Text.{begins}
+use Rattle.sedck_text.specs.Text.{begins}
 use Rattle.sedck_bre.specs.Brackets.{Class, upper, lower, alpha, digit, alnum, xdigit, space, blank, punct, graph, print, cntrl, class_name, Element, One, Range, Members, is_bare, WritesByte, begins_range, WritesElement}
 use Rattle.sedck_bre.specs.Private.Reading.{◌>>=◌}
 use Rattle.sedck_bre.specs.Private.BracketReading.{symbol_at, byte_at, ranges, no_range, class_from, classes, one, range_to, range_or_one, element_at}

@@ -2,7 +2,7 @@
 use Rattle.std.proofs.Common.{◌≡◌, ◌≢◌, ℕ, suc, zero, ◌+◌, ◌<◌, Bool, true, false, cond, List, [], ◌∷◌, ◌++◌, length, drop, Option, Some, None, IfSome, refl, sym, ap, ◌∙◌, arith, append_assoc, length-append, add-one}
 use Rattle.std.specs.Prelude.{◌&&◌, not, codes}
 use Rattle.std.proofs.lemmas.List.{append-nil, length-drop}
-use Rattle.sedck_bre.specs.Text.{begins}
+use Rattle.sedck_text.specs.Text.{begins}
 use Rattle.sedck_bre.specs.Brackets.{Class, class_name, Element, One, Range, Members}
 use Rattle.sedck_bre.specs.Private.Reading.{◌>>=◌}
 use Rattle.sedck_bre.specs.Private.BracketReading.{symbol_at, byte_at, ranges, no_range, classes, class_from, one, range_to, range_end_at, range_or_one, byte_or_range_at, whole_class_at, equivalents_at, last_dash_at, element_at, before_elements, others, elements_at, clear_of, set_of, inside_at}

@@ -3,7 +3,7 @@ use Rattle.std.proofs.Common.{◌≡◌, ◌≢◌, eq-eqb, ℕ, Bool, true, fal
 use Rattle.std.specs.Prelude.{◌==◌, ◌&&◌, ◌||◌, not, codes}
 use Rattle.std.proofs.lemmas.Bool.{false≢true, eqb-true}
 use Prim.Native.String.{String}
-use Rattle.sedck_bre.specs.Text.{is_in, one_of, begins}
+use Rattle.sedck_text.specs.Text.{is_in, one_of, begins}
 use Rattle.sedck_bre.specs.Brackets.{is_bare, begins_range}
 use Rattle.sedck_bre.specs.Private.BracketReading.{ranges}
 

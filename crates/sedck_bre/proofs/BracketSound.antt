@@ -4,7 +4,7 @@ use Rattle.std.specs.Prelude.{◌==◌, ◌&&◌, ◌||◌, ◌⊎◌, not, nat_
 use Rattle.std.specs.List.{starts_with}
 use Rattle.std.proofs.lemmas.Bool.{false≢true, eqb-true}
 use Prim.Native.String.{String}
-use Rattle.sedck_bre.specs.Text.{begins}
+use Rattle.sedck_text.specs.Text.{begins}
 use Rattle.sedck_bre.specs.Brackets.{Class, class_name, Element, One, Range, Members, is_bare, WritesByte, begins_range, IsInPlace, WritesElement, WritesElements}
 use Rattle.sedck_bre.specs.Private.Reading.{◌>>=◌}
 use Rattle.sedck_bre.specs.Private.BracketReading.{symbol_at, byte_at, ranges, no_range, class_from, classes, one, range_to, range_or_one, element_at, before_elements, others, elements_at}

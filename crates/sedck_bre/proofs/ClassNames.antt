@@ -6,7 +6,7 @@ use Rattle.sedck_bre.specs.Brackets as brackets
 use Rattle.sedck_bre.specs.Brackets.{class_name, Members}
 use Rattle.sedck_bre.specs.Private.BracketReading.{class_from}
 use Rattle.sedck_bre.specs.Private.BracketCode.{class_of, closed_name, behind_name}
-use Rattle.sedck_bre.specs.declared.element.Class.{Class}
+use Rattle.sedck_bre.specs.declared.brackets.elements.Class.{Class}
 
 abbrev class_or : brackets.Class → Option (brackets.Element × List ℕ) → Option (List ℕ) → Option (brackets.Element × List ℕ)
 class_or class others None = others

@@ -1,8 +1,8 @@
 -- The worked examples of expressions hold.
-use Rattle.std.proofs.Common.{◌≡◌, ℕ, ◌≤◌, min, List, [], ◌∷◌, ◌++◌, length, Option, Some, None, refl, sym, arith, inl, inr, ◌⊎◌}
-use Rattle.std.specs.Prelude.{codes, map}
+use Rattle.std.proofs.Common.{◌≡◌, ℕ, ◌≤◌, List, [], ◌∷◌, ◌++◌, length, Option, Some, None, refl, sym, arith, inl, inr, ◌⊎◌}
+use Rattle.std.specs.Prelude.{codes}
 use Rattle.std.proofs.lemmas.List.{append-nil}
-use Rattle.sedck_bre.specs.Tree.{Tree, Trees, Byte, Any, Set, Start, End, Maybe, Group, Ref, Seq, Repeat, Nil, Then, trees}
+use Rattle.sedck_bre.specs.Tree.{Tree, Trees, Byte, Group, Ref, Repeat, Nil, Then}
 use Rattle.sedck_bre.specs.Match.{Groups, no_groups, text_of, unset, IsWithin, Match, MatchAll, Language, with_text}
 use Rattle.std.specs.Prelude.{All}
 use Rattle.std.proofs.lemmas.List.Elements.{All-nil, All-cons}

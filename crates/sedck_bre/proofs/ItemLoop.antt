@@ -1,5 +1,5 @@
 -- The loop over the items of a list: what has been read, before what is left to read.
-use Rattle.std.proofs.Common.{◌≡◌, ℕ, ◌+◌, ◌-◌, ◌<◌, ◌≤◌, Bool, true, false, List, [], ◌∷◌, ◌++◌, length, take, drop, Option, Some, None, refl, sym, ap, ◌∙◌, append_assoc, get_or, arith}
+use Rattle.std.proofs.Common.{◌≡◌, ℕ, ◌+◌, ◌<◌, ◌≤◌, Bool, true, false, List, [], ◌∷◌, ◌++◌, length, Option, Some, None, refl, sym, ap, ◌∙◌, append_assoc, get_or}
 use Rattle.std.specs.Prelude.{◌==◌, ◌||◌}
 use Rattle.std.proofs.Math.ListN.{set}
 use Rattle.std.proofs.Common.{get_or-set_same, get_or-set_other}
@@ -7,18 +7,17 @@ use Rattle.std.proofs.lemmas.Bool.{false≢true, eqb-true, eq-eqb}
 use Rattle.sedck_bre.specs.Private.Gives.{ClosedIs}
 use Rattle.sedck_bre.proofs.LeastLemmas.{is_in-append}
 use Rattle.std.proofs.lemmas.List.{append-nil}
-use Rattle.sedck_bre.specs.Tree.{Tree, Trees, Any, Nil, Then, trees, groups_in, is_in}
+use Rattle.sedck_bre.specs.Tree.{Tree, Trees, Nil, Then, trees, groups_in, is_in}
 use Rattle.sedck_bre.specs.View.{tree}
 use Rattle.sedck_bre.specs.Private.Sequence.{sequence}
 use Rattle.sedck_bre.specs.Shape.{Level, Inside, Position, First, behind}
-use Rattle.sedck_bre.specs.Private.Reading.{◌>>=◌, begins_pair, at_end, atom, group_at, with_sign, before_all, more, items_of}
+use Rattle.sedck_bre.specs.Private.Reading.{◌>>=◌, at_end, atom, with_sign, before_all, more, items_of}
 use Rattle.sedck_bre.specs.Private.FullReading.{full}
 use Rattle.sedck_bre.specs.declared.tree.Bre.{Bre}
-use Rattle.sedck_bre.proofs.ReadLemmas.{Takes, Reads, and_left}
-use Rattle.sedck_bre.proofs.Intervals.{interval_takes, interval_again}
+use Rattle.sedck_bre.proofs.ReadLemmas.{Takes, Reads}
+use Rattle.sedck_bre.proofs.IntervalLemmas.{interval_takes, interval_again}
 use Rattle.sedck_bre.proofs.WholeBracket.{bracket_takes, bracket_again}
 use Rattle.sedck_bre.proofs.ReadingFuel.{items_step}
-use Rattle.sedck_bre.proofs.OffsetLemmas.{rest_is}
 
 pub full_takes : Takes full
 full_takes = record { bracket = bracket_takes; interval = interval_takes }
@@ -86,33 +85,6 @@ module _ (level : Level) (place : Position) (deep opened : ℕ) (closed text : L
   loop_fails_at bare sign e a s = ap (with_front front)
       (opens e ∙ (ap (λ o. o >>= with_sign full >>= more (items_of full) level place deep opened closed) a
       ∙ ap (λ o. o >>= more (items_of full) level place deep opened closed) s))
-
--- a dot is read
-pub any_read : (inner : List ℕ → Option (Trees × List ℕ)) (level : Level) (place : Position) (deep opened : ℕ) (closed text : List ℕ) → 0 < length text
-    → get_or text 0 0 ≡ 46
-    → atom full inner level place deep opened closed text ≡ Some (Any, take (length text - 1) (drop 1 text))
-any_read inner level place deep opened closed [] l h = absurd (omega arith)
-any_read inner level place deep opened closed (b ∷ text) l h =
-    ap (λ x. atom full inner level place deep opened closed (x ∷ text)) h ∙ ap (λ r. Some (Any, r)) (sym (rest_is (b ∷ text) 1))
-
--- after a backslash is no opening of a group
-pub no_group : (text : List ℕ) → get_or text 0 0 ≡ 92 → begins_pair 40 text ≡ false → begins_pair 40 (92 ∷ take (length text - 1) (drop 1 text)) ≡ false
-no_group text h e = ap (λ t. begins_pair 40 (92 ∷ t)) (rest_is text 1) ∙ go text h e
-  where
-    go : (text : List ℕ) → get_or text 0 0 ≡ 92 → begins_pair 40 text ≡ false → begins_pair 40 (92 ∷ drop 1 text) ≡ false
-    go [] h e = refl
-    go (b ∷ []) h e = refl
-    go (b ∷ d ∷ text) h e = rw h at e
-
--- a group is read
-pub group_read : (inner : List ℕ → Option (Trees × List ℕ)) (level : Level) (place : Position) (deep opened : ℕ) (closed text : List ℕ)
-    → begins_pair 40 text ≡ true
-    → atom full inner level place deep opened closed text ≡ group_at inner deep opened (drop 2 text)
-group_read inner level place deep opened closed [] e = absurd (false≢true e)
-group_read inner level place deep opened closed (b ∷ []) e = absurd (false≢true e)
-group_read inner level place deep opened closed (b ∷ d ∷ text) e =
-    let both = and_left (b == 92) (d == 40) e in
-    rw (both.0, both.1) refl
 
 -- the same reading, from equal parts
 pub same_read : (level : Level) (deep : ℕ) (after : List ℕ) (f g : List Tree) (p q : Position) (m n : ℕ) (c d : List ℕ) → f ≡ g → p ≡ q → m ≡ n → c ≡ d

@@ -13,7 +13,7 @@ pub mod ReadingComplete
 pub mod ReadingFuel
 pub mod ItemLoop
 pub mod WholeReading
-pub mod Intervals
+pub mod IntervalLemmas
 pub mod BracketLemmas
 pub mod BracketSound
 pub mod BracketComplete
@@ -30,4 +30,3 @@ pub mod NamedSums
 pub mod LeastRest
 pub mod DifferentGroups
 pub mod TopGroup
-mod Flaws

@@ -49,10 +49,6 @@ digits_length (c ∷ text) = go (is_from 48 57 c) (digits_length text)
     go true h = omega arith
     go false h = omega arith
 
-empty_length : (u : List ℕ) → length u ≡ 0 → is_empty u ≡ true
-empty_length [] h = refl
-empty_length (c ∷ u) h = absurd (omega arith)
-
 some_length : (u : List ℕ) → 0 < length u → is_empty u ≡ false
 some_length [] h = absurd (omega arith)
 some_length (c ∷ u) h = refl
@@ -80,11 +76,6 @@ module _ (text : List ℕ) (value : ℕ) (rest : List ℕ) (is : capped_from 0 t
 
   rest_is : (digits_at text).1 ≡ rest
   rest_is = ap (λ x. x.1) whole
-
-  pub number_none : length rest ≡ length text → number_at text ≡ None
-  number_none h =
-      let none : is_empty (digits_at text).0 ≡ true = empty_length (digits_at text).0 (omega (arith, digits_length text, ap length rest_is)) in
-      rw none refl
 
   pub number_large : 255 < value → number_at text ≡ None
   number_large h =

@@ -1,7 +1,7 @@
 -- The bound on the depth of calls does not matter: a list of items is an item with its sign, and the items after it.
 use Rattle.std.proofs.Common.{◌≡◌, ℕ, zero, suc, ◌+◌, ◌-◌, ◌<◌, ◌≤◌, Bool, true, false, cond, List, [], ◌∷◌, ◌++◌, length, Option, Some, None, refl, ap, ◌∙◌, arith, IfSome, length-append, add-one}
 use Rattle.std.specs.Prelude.{◌==◌, nat_lt, nat_le, ◌&&◌}
-use Rattle.sedck_bre.specs.Text.{one_of}
+use Rattle.sedck_text.specs.Text.{one_of}
 use Rattle.sedck_bre.specs.Tree.{Trees, Byte, Any, Ref, Nil, groups_in, is_in}
 use Rattle.sedck_bre.specs.Shape.{Level, Inside, Position, First, behind}
 use Rattle.sedck_bre.specs.Private.Reading.{◌>>=◌, Readers, at_end, plain, closed_by, escaped, backslash, set_before, tree_before, atom, with_sign, before_all, Lister, more, some_items, items, items_of}

@@ -3,7 +3,7 @@ use Rattle.std.proofs.Common.{◌≡◌, ◌≢◌, ℕ, suc, zero, ◌+◌, ◌
 use Rattle.std.specs.Prelude.{◌==◌, ◌&&◌, ◌||◌, not, codes}
 use Rattle.std.proofs.Math.Seq.{take-append_seam}
 use Rattle.std.proofs.lemmas.Bool.{false≢true, eqb-true}
-use Rattle.sedck_bre.specs.Text.{begins}
+use Rattle.sedck_text.specs.Text.{begins}
 use Rattle.sedck_bre.specs.WellFormed.{HasMember}
 use Rattle.sedck_bre.specs.Brackets.{class_name, Element, One, Range, Members, WritesByte, WritesElement, WritesElements, opening, is_mistakable, is_listed, IsBracketList}
 use Rattle.sedck_bre.specs.Shape.{is_empty}

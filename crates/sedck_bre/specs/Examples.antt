@@ -1,6 +1,6 @@
 -- Worked examples of expressions: which texts spell which trees, which spell none, and what some of them match.
 use Rattle.std.specs.Prelude.{ℕ, ◌≤◌, List, [], ◌∷◌, length, map, All, Some, None, codes}
-use Rattle.sedck_bre.specs.Bytes.{dollar, caret, letter_a, letter_b, letter_c}
+use Rattle.sedck_text.specs.Bytes.{caret, letter_a, letter_b, letter_c}
 use Rattle.sedck_bre.specs.Tree.{Tree, Byte, Any, Set, Start, End, Maybe, Group, Ref, Seq, Repeat, trees}
 use Rattle.sedck_bre.specs.Match.{Language}
 use Rattle.sedck_bre.specs.Shape.{Shape}

@@ -1,6 +1,4 @@
 -- What the public contracts cite, in reading order.
-pub mod Bytes
-pub mod Text
 pub mod Tree
 pub mod View
 pub mod Match

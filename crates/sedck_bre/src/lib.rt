@@ -10,19 +10,15 @@
 //! `Language`, is said in `specs/Match.antt`: no text is matched here.
 #![tactic(auto)]
 
-mod bracket;
-mod element;
+mod brackets;
 mod fault;
-mod interval;
-mod item;
+mod groups;
+mod intervals;
+mod items;
 pub mod laws;
 mod least;
 mod outside;
 mod parser;
-mod reader;
-mod sets;
-mod symbol;
-mod text;
 mod tree;
 
 pub use fault::ReFault;

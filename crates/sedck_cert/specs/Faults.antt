@@ -1,6 +1,6 @@
 -- Which fault a text that is no certificate's gets, by the rules of each version: that of the first line that isn't what is due there, after the lines before it.
 use Rattle.std.specs.Prelude.{◌≡◌, ℕ, zero, suc, ◌+◌, ◌-◌, ◌<◌, ◌≤◌, List, [], ◌∷◌, ◌++◌, length, Option, Some, None, ◌==◌, count_by, decimal, codes}
-use Rattle.sedck_bre.specs.Bytes.{newline}
+use Rattle.sedck_text.specs.Bytes.{newline}
 use Rattle.sedck_script.specs.Names.{IsName, IsBefore}
 use Rattle.sedck_cert.specs.Certificate.{nodes_in, AreWithin}
 use Rattle.sedck_cert.specs.Text.{line, header, node_text, IsOneLine}

@@ -4,7 +4,7 @@ use Rattle.std.specs.Prelude.{cond, reverse, suc}
 use Rattle.std.specs.List.{take_while, filter, prefix_len}
 use Rattle.std.proofs.lemmas.List.{length-append, reverse-append}
 use Rattle.std.proofs.lemmas.List.Elements.{filter-append}
-use Rattle.sedck_bre.specs.Bytes.{newline}
+use Rattle.sedck_text.specs.Bytes.{newline}
 use Rattle.sedck_findings.specs.Positions.{line_after, column_after, position_after}
 use Rattle.sedck_findings.specs.declared.places.Position.{Position}
 

@@ -2,7 +2,7 @@
 use Rattle.std.proofs.Common.{◌≡◌, ◌∙◌, ◌==◌, ◌+◌, ◌≤◌, ℕ, List, length, take, ap, sym, arith}
 use Rattle.std.proofs.lemmas.List.{length-take, take_min}
 use Rattle.std.proofs.lemmas.List.Sums.{length-filter, count_by-le-length}
-use Rattle.sedck_bre.specs.Bytes.{newline}
+use Rattle.sedck_text.specs.Bytes.{newline}
 use Rattle.sedck_findings.specs.Positions.{line_after, position_after, position_in}
 use Rattle.sedck_findings.specs.declared.places.Position.{Position}
 

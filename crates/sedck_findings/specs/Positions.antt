@@ -2,7 +2,7 @@
 -- ends (POSIX.1-2024 XBD 3.185, Line).
 use Rattle.std.specs.Prelude.{◌==◌, ℕ, not, List, length, take, reverse, suc}
 use Rattle.std.specs.List.{take_while, filter}
-use Rattle.sedck_bre.specs.Bytes.{newline}
+use Rattle.sedck_text.specs.Bytes.{newline}
 use Rattle.sedck_findings.specs.declared.places.Position.{Position}
 
 -- the number of the line that follows a text

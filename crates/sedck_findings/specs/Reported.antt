@@ -1,7 +1,7 @@
 -- How findings are reported, this project's own: where each ends, and in which order they are.
 use Rattle.std.specs.Prelude.{◌≡◌, ◌==◌, ◌+◌, ◌≤◌, ℕ, not, List, ◌++◌, drop, Option, Some, None}
 use Rattle.std.specs.List.{All, prefix_len}
-use Rattle.sedck_bre.specs.Bytes.{newline}
+use Rattle.sedck_text.specs.Bytes.{newline}
 use Rattle.sedck_findings.specs.declared.finding.Finding.{Finding}
 use Rattle.sedck_findings.specs.declared.finding.Level.{Level}
 use Rattle.sedck_findings.specs.declared.finding.Level.TheVariants.{Error, Warning, Note}

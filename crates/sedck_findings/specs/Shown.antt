@@ -1,7 +1,7 @@
 -- Bytes as they are shown, this project's own.
 use Rattle.std.specs.Prelude.{◌==◌, ◌+◌, ◌-◌, ◌/◌, ◌%◌, ℕ, Bool, not, List, [], ◌∷◌, ◌++◌, take, drop, nat_lt, codes, if◌then◌else◌}
 use Rattle.std.specs.List.{prefix_len}
-use Rattle.sedck_bre.specs.Bytes.{newline, tab, backslash}
+use Rattle.sedck_text.specs.Bytes.{newline, tab, backslash}
 use Rattle.sedck_findings.specs.declared.places.Position.{Position}
 
 -- printable ASCII, a blank too

@@ -2,7 +2,7 @@
 
 ghost use Rattle.std.specs.Prelude.{◌≡◌, ◌+◌, ◌^◌, ◌++◌, ◌∷◌, [], ◌<◌, ◌≤◌, IfOk, List, ℕ, ◌==◌, drop, not, length, map};
 ghost use Rattle.std.specs.List.{prefix_len};
-ghost use Rattle.sedck_bre.specs.Bytes.{newline};
+ghost use Rattle.sedck_text.specs.Bytes.{newline};
 ghost use Rattle.sedck_findings.specs.Shown.{line_around};
 ghost use Rattle.sedck_findings.specs.Positions.{position_after, position_in};
 

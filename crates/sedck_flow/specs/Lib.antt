@@ -1,4 +1,4 @@
-pub use Rattle.sedck_bre.specs.Bytes
+pub use Rattle.sedck_text.specs.Bytes
 pub use Rattle.sedck_bre.specs.Tree
 pub use Rattle.sedck_bre.specs.Match
 pub use Rattle.sedck_bre.specs.Lengths

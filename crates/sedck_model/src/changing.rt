@@ -1,7 +1,7 @@
 //! Verbs that change the spaces: `c`, `g`, `G`, `h`, `H`, `x` and `y`.
 
 ghost use Rattle.std.specs.Prelude.{◌≡◌, ◌↔◌, ◌+◌, ◌<◌, ◌^◌, ◌++◌, ◌∷◌, suc, ℕ, List, IsTrue};
-ghost use Rattle.sedck_bre.specs.Bytes.{newline};
+ghost use Rattle.sedck_text.specs.Bytes.{newline};
 ghost use Rattle.sedck_script.specs.View.{address_of};
 ghost use Rattle.sedck_flow.specs.Run as model;
 ghost use Rattle.sedck_flow.specs.Run.{ChangesText, Transliterates, onward_with};

@@ -1,7 +1,7 @@
 //! Texts that are made.
 
 ghost use Rattle.std.specs.Prelude.{◌≡◌, ◌≤◌, ◌↔◌, ◌++◌, ◌∷◌, IfOk, OnOk, Contains};
-ghost use Rattle.sedck_bre.specs.Bytes.{newline};
+ghost use Rattle.sedck_text.specs.Bytes.{newline};
 ghost use Rattle.sedck_matching.specs.declared.spots.Spot.{Spot};
 ghost use Rattle.sedck_model.specs.Private.Adding.{AddsTexts};
 

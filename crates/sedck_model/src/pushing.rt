@@ -1,7 +1,7 @@
 //! The steps of each verb that does more than to go on.
 
 ghost use Rattle.std.specs.Prelude.{◌≡◌, ◌≤◌, ◌<◌, ◌+◌, ◌^◌, ◌++◌, ◌∷◌, false, if◌then◌else◌, suc, ℕ, List, OnOk};
-ghost use Rattle.sedck_bre.specs.Bytes.{newline};
+ghost use Rattle.sedck_text.specs.Bytes.{newline};
 ghost use Rattle.sedck_script.specs.View.{address_of, substitution_of};
 ghost use Rattle.std.specs.Option.{option_copied};
 ghost use Rattle.sedck_flow.specs.Run as model;

@@ -1,7 +1,7 @@
 //! Verbs that read lines: `n`, `N` and `D`.
 
 ghost use Rattle.std.specs.Prelude.{◌↔◌, ◌+◌, ◌<◌, ◌^◌, ◌++◌, ◌∷◌, IsTrue};
-ghost use Rattle.sedck_bre.specs.Bytes.{newline};
+ghost use Rattle.sedck_text.specs.Bytes.{newline};
 ghost use Rattle.sedck_flow.specs.Run.{TakesLine, DropsFirstLine, behind_newline as rest_of};
 ghost use Rattle.sedck_model.specs.States.{lines_of, machine_of, state_of};
 

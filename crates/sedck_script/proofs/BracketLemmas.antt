@@ -8,11 +8,13 @@ use Rattle.sedck_script.specs.Parts.{DelimitedList, FirstList}
 use Rattle.sedck_script.specs.Parts as p
 use Rattle.sedck_script.specs.Faults.{StandsAt, IsOpenBracket}
 use Rattle.sedck_script.specs.Private.Reading.{EndsIn}
-use Rattle.sedck_script.proofs.LongestRuns.{longest_one}
+use Rattle.sedck_text.proofs.Runs.{longest_one}
 use Rattle.sedck_script.proofs.FirstBytes.{tails}
-use Rattle.sedck_script.proofs.OffsetLemmas.{tail_cut, tail_tail, tail_behind, tail_cons, tail_length, stands_at_tail, take_front}
+use Rattle.sedck_script.proofs.OffsetLemmas.{tail_cut, tail_tail, tail_behind, tail_cons, take_front}
 use Rattle.sedck_script.proofs.UniqueParts.{list_one}
-use Rattle.sedck_script.proofs.PlaceLemmas.{cut_at}
+use Rattle.sedck_text.specs.Cursors.{unread, Follows}
+use Rattle.sedck_text.specs.declared.cursor.Cursor.{Cursor}
+use Rattle.sedck_text.proofs.Cursors.{read_unread, unread_length}
 
 -- ---- One bracket list
 
@@ -110,29 +112,60 @@ list_cut (p.backslashes {a = a} {b = c} f g x) = let more = list_cut x in (a ∷
 list_cut (p.line {a = a} {b = c} f g h x) = let more = list_cut x in (a ∷ c ∷ more.0, ap (λ t. a ∷ c ∷ t) more.1)
 
 -- the list and the delimiter that ends it are there
-pub list_shorter : {d : ℕ} {text bytes rest : List ℕ} → DelimitedList d text bytes rest → length rest < length text
-list_shorter {d} {rest = rest} x = let cut = list_cut x in omega (arith, ap length cut.1, length-append cut.0 (d ∷ rest))
-
-pub written_cut : {d : ℕ} {text bytes rest : List ℕ} (n : ℕ) (written : List ℕ) → DelimitedList d text bytes rest → n ≡ length text - length rest - 1
-    → written ≡ take n text → text ≡ written ++ d ∷ rest
-written_cut {d} {rest = rest} n written x e f =
+pub list_shorter : (text rest : Cursor) {d : ℕ} {bytes : List ℕ} → DelimitedList d (unread text) bytes (unread rest) → rest.whole ≡ text.whole → text.at < rest.at
+list_shorter text rest {d} x same =
     let cut = list_cut x in
-    let at : n ≡ length cut.0 = omega (arith, e, ap length cut.1, length-append cut.0 (d ∷ rest)) in
-    cut.1 ∙ ap (λ t. t ++ d ∷ rest) (sym (f ∙ ap (take n) cut.1 ∙ (take_front cut.0 (d ∷ rest) n at).0))
-
--- the open bracket list and what follows it are there
-pub open_within : {whole text written more : List ℕ} (rest : List ℕ) (d : ℕ) → EndsIn whole text → text ≡ written ++ d ∷ rest → BracketsClose written (91 ∷ more)
-    → length more + length rest + 2 ≤ length whole
-open_within {written = written} {more = more} rest d h cut closed =
-    let front = closed_tail closed in
     omega (
       arith,
-      tail_length h,
-      ap length cut,
-      length-append written (d ∷ rest),
-      ap length front.1,
-      length-append front.0 (91 ∷ more),
+      ap length cut.1,
+      length-append cut.0 (d ∷ unread rest),
+      unread_length text,
+      unread_length rest,
+      ap (λ w. length w.now) same,
     )
+
+-- what is written between two cursors
+pub written_cut : (text rest : Cursor) {d from to : ℕ} {bytes written : List ℕ} → DelimitedList d (unread text) bytes (unread rest)
+    → rest.whole ≡ text.whole → to ≡ rest.at → from ≡ text.at → written ≡ unread text → unread text ≡ take (to - from - 1) written ++ d ∷ unread rest
+written_cut text rest {d} {from} {to} x same e f g =
+    let cut = list_cut x in
+    let at : to - from - 1 ≡ length cut.0 =
+    omega (
+      arith,
+      e,
+      f,
+      ap length cut.1,
+      length-append cut.0 (d ∷ unread rest),
+      unread_length text,
+      unread_length rest,
+      ap (λ w. length w.now) same,
+    ) in
+    cut.1 ∙ ap (λ t. t ++ d ∷ unread rest) (sym (ap (take (to - from - 1)) (g ∙ cut.1) ∙ (take_front cut.0 (d ∷ unread rest) _ at).0))
+
+-- where an open bracket list begins
+pub open_at : (text rest : Cursor) (d : ℕ) {written more : List ℕ} → unread text ≡ written ++ d ∷ unread rest → BracketsClose written (91 ∷ more)
+    → rest.whole ≡ text.whole
+    → (length more + 2 ≤ rest.at) × (drop (rest.at - length more - 2) text.whole.now ≡ 91 ∷ (more ++ d ∷ unread rest))
+open_at text rest d {written} {more} cut closed same =
+    let front = closed_tail closed in
+    let begins = 91 ∷ (more ++ d ∷ unread rest) in
+    let before = take text.at text.whole.now ++ front.0 in
+    let whole : text.whole.now ≡ before ++ begins =
+    sym (read_unread text)
+    ∙ ap (λ t. take text.at text.whole.now ++ t)
+    (cut ∙ ap (λ t. t ++ d ∷ unread rest) front.1 ∙ append_assoc front.0 (91 ∷ more) (d ∷ unread rest))
+    ∙ sym (append_assoc (take text.at text.whole.now) front.0 begins) in
+    let long : length before + (length more + (length (unread rest) + 2)) ≡ rest.at + length (unread rest) =
+    omega (
+      arith,
+      unread_length rest,
+      ap (λ w. length w.now) same,
+      ap length whole,
+      length-append before begins,
+      length-append more (d ∷ unread rest),
+    ) in
+    let at : rest.at - length more - 2 ≡ length before = omega (arith, long) in
+    (omega (arith, long), ap (drop (rest.at - length more - 2)) whole ∙ (take_front before begins _ at).1)
 
 -- a list in which a bracket list is open is no first one
 pub no_first_list : {d : ℕ} {text bytes rest written more other end : List ℕ} → d ≢ 92 → DelimitedList d text bytes rest → text ≡ written ++ d ∷ rest
@@ -142,32 +175,22 @@ no_first_list {d} {rest = rest} {written = written} k x cut closed none l =
     let front : l.written ≡ written = append_cancel_right l.written written (d ∷ rest) (ap (λ t. l.written ++ d ∷ t) (sym same) ∙ sym l.cut ∙ cut) in
     closed_or_open (subst (λ t. BracketsClose t []) front l.closed) closed none
 
-pub open_place : {whole text bytes rest written more : List ℕ} {d : ℕ} (place : ℕ) → EndsIn whole (121 ∷ d ∷ text) → DelimitedList d text bytes rest
-    → text ≡ written ++ d ∷ rest → BracketsClose written (91 ∷ more) → ((behind : List ℕ) → BracketList more behind → ⊥)
-    → place ≡ length whole - length rest - length more - 2 → IsOpenBracket whole place
-open_place {whole} {text} {bytes} {rest} {written} {more} {d} place h x cut closed none e =
-    let front = closed_tail closed in
-    let opened = tail_behind h refl in
-    let tail = tail_behind opened refl in
-    let begins = 91 ∷ (more ++ d ∷ rest) in
-    let all : text ≡ front.0 ++ begins = cut ∙ ap (λ t. t ++ d ∷ rest) front.1 ∙ append_assoc front.0 (91 ∷ more) (d ∷ rest) in
-    let here = tail_tail tail (front.0, all) in
-    let long = tail_length h in
-    let at : length whole - length begins ≡ place = omega (arith, e, length-append more (d ∷ rest)) in
-    let same = (cut_at tail).1 in
-    record {
-      start = length whole - length text;
-      delimiter = d;
-      behind = omega (arith, long);
-      verb = subst (λ n. StandsAt whole n 121) (omega (arith, long)) (stands_at_tail h refl);
-      opened = subst (λ n. StandsAt whole n d) (omega (arith, long)) (stands_at_tail opened refl);
-      bytes = bytes;
-      rest = rest;
-      list = subst (λ t. DelimitedList d t bytes rest) (sym same) x;
-      written = written;
-      cut = same ∙ cut;
-      more = more;
-      closed = closed;
-      unclosed = none;
-      here = subst (λ n. drop n whole ≡ begins) at (cut_at here).1;
-    }
+pub open_place : (text rest : Cursor) {d : ℕ} {bytes written more : List ℕ} → Follows text d → (1 < text.at) × StandsAt text.whole.now (text.at - 2) 121
+    → DelimitedList d (unread text) bytes (unread rest) → unread text ≡ written ++ d ∷ unread rest → BracketsClose written (91 ∷ more)
+    → ((behind : List ℕ) → BracketList more behind → ⊥) → rest.whole ≡ text.whole → IsOpenBracket text.whole.now (rest.at - length more - 2)
+open_place text rest {d} {bytes} {written} {more} f verb x cut closed none same = record {
+  start = text.at;
+  delimiter = d;
+  behind = verb.0;
+  verb = verb.1;
+  opened = f.1;
+  bytes = bytes;
+  rest = unread rest;
+  list = x;
+  written = written;
+  cut = cut;
+  more = more;
+  closed = closed;
+  unclosed = none;
+  here = (open_at text rest d cut closed same).1;
+}

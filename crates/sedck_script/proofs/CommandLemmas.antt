@@ -1,5 +1,5 @@
 -- A command is its addresses, its marks and its verb.
-use Rattle.std.proofs.Common.{◌≡◌, ℕ, Bool, ◌||◌, eqb, List, [], ◌∷◌, ◌++◌, Option, Some, None, refl, ap, ◌∙◌, subst₂}
+use Rattle.std.proofs.Common.{◌≡◌, ℕ, Bool, ◌||◌, eqb, List, [], ◌∷◌, ◌++◌, Option, Some, None, length, refl, ap, ◌∙◌, subst₂, arith}
 use Rattle.std.specs.List.{list_any}
 use Rattle.std.specs.Option.{option_or}
 use Rattle.sedck_script.specs.Cuts.{Longest}
@@ -9,15 +9,20 @@ use Rattle.sedck_script.specs.Parts as p
 use Rattle.sedck_script.specs.Items.{WrittenVerb, VerbText, Takes, CommandText}
 use Rattle.sedck_script.specs.Private.Reading.{EndsIn}
 use Rattle.sedck_script.specs.Private.AddressReading.{is_mark, has_previous, IsEmptyAt, IsOnlyAddress}
-use Rattle.sedck_script.proofs.LongestRuns.{longest_one}
-use Rattle.sedck_script.proofs.OffsetLemmas.{tail_tail}
+use Rattle.sedck_script.specs.Locations.{location_of}
+use Rattle.sedck_script.specs.declared.location.Location.{Location}
+use Rattle.sedck_text.specs.Cursors.{unread}
+use Rattle.sedck_text.specs.declared.cursor.Cursor.{Cursor}
+use Rattle.sedck_text.proofs.Cursors.{unread_length}
+use Rattle.sedck_text.proofs.Runs.{longest_one}
+use Rattle.sedck_script.proofs.OffsetLemmas.{tail_cut, tail_tail, tail_cons}
 use Rattle.sedck_script.proofs.UniqueItems.{longest_along, verb_along}
-use Rattle.sedck_script.proofs.UniqueAddresses.{place_tail, second_tail}
+use Rattle.sedck_script.proofs.UniqueAddresses.{place_tail}
 
 pub address_tail : {text rest : List ℕ} {a : Address} → AddressText text a rest → EndsIn text rest
 address_tail p.none = ([], refl)
 address_tail (p.one x) = place_tail x
-address_tail (p.two x l e m y) = tail_tail (second_tail ([], refl) x l refl m) (place_tail y)
+address_tail (p.two {b = b} x l e m y) = tail_tail (place_tail x) (tail_tail (tail_cut l) (tail_cons b (tail_tail (tail_cut m) (place_tail y))))
 
 -- the parts of a command, where its addresses are the only ones
 pub record AreParts (a : Address) (marks begins : List ℕ) (b : Address) (n : Bool) (v : WrittenVerb) (rest : List ℕ) : Type 0 where
@@ -40,6 +45,24 @@ command_begins {b = b} {v = v} only l c =
 
 pub takes_along : {a b : Address} {m n : Bool} (v : WrittenVerb) → a ≡ b → m ≡ n → Takes v a m → Takes v b n
 takes_along v e f h = subst₂ (λ x y. Takes v x y) e f h
+
+-- ---- Locations
+
+abbrev location_at : ℕ → ℕ → ℕ → Location
+location_at start verb end = record { start = start; verb = verb; end = end }
+
+location_same : {a b c x y z : ℕ} → a ≡ x → b ≡ y → c ≡ z → location_at a b c ≡ location_at x y z
+location_same e f g = rw (e, f, g) refl
+
+-- the offsets of a command are where it is in its text
+pub location_here : {address : Address} {negated : Bool} {verb : WrittenVerb} {left : List ℕ} {x y z : ℕ} (start begins rest : Cursor)
+    → begins.whole ≡ start.whole → rest.whole ≡ start.whole → (command : CommandText (unread start) address negated verb left)
+    → command.begins ≡ unread begins → left ≡ unread rest → x ≡ start.at → y ≡ begins.at → z ≡ rest.at
+    → location_at x y z ≡ location_of (length start.whole.now) command
+location_here start begins rest same all command e f h k m = location_same
+    (omega (arith, unread_length start, h))
+    (omega (arith, unread_length begins, ap (λ w. length w.now) same, ap length e, k))
+    (omega (arith, unread_length rest, ap (λ w. length w.now) all, ap length f, m))
 
 -- ---- Empty expressions
 

@@ -1,13 +1,14 @@
 -- Where carriage returns are in a comment.
-use Rattle.std.proofs.Common.{◌≡◌, ℕ, suc, ◌+◌, ◌-◌, ◌<◌, ◌≤◌, true, inl, inr, Option, Some, None, List, [], ◌∷◌, ◌++◌, length, take, drop, get_or, refl, ap, ◌∙◌, length-append, arith}
+use Rattle.std.proofs.Common.{◌≡◌, ℕ, suc, ◌+◌, ◌<◌, ◌≤◌, true, inl, inr, Option, Some, None, List, [], ◌∷◌, ◌++◌, length, take, drop, get_or, refl, ap, ◌∙◌, length-append, arith}
 use Rattle.std.proofs.Math.Seq.{split_at, get_or-append_seam}
 use Rattle.std.proofs.lemmas.List.{nil_from_length, length-drop}
 use Rattle.std.proofs.lemmas.Bool.{eqb-true, eq-eqb, cases_order}
 use Rattle.memchr.specs.Find.{IsFirstByte, is_byte}
 use Rattle.sedck_script.specs.Items.{HasNoInnerReturn}
 use Rattle.sedck_script.specs.Faults.{StandsWhere, is_extra}
-use Rattle.sedck_script.specs.Private.Reading.{EndsIn}
-use Rattle.sedck_script.proofs.LineBytes.{line_byte}
+use Rattle.sedck_text.specs.Cursors.{unread}
+use Rattle.sedck_text.specs.declared.cursor.Cursor.{Cursor}
+use Rattle.sedck_script.proofs.CursorPlaces.{line_byte}
 
 -- where the first one, if there is one, is the last byte
 pub no_inner_return : (line : List ℕ) (first : Option ℕ) → IsFirstByte (is_byte 13) line first → ((at : ℕ) → first ≡ Some at → length line ≤ suc at)
@@ -39,6 +40,6 @@ inner_return line at is more none =
     omega (arith, more, ap length (none _ _ (return_cut line at is (omega (arith, more)))), length-drop (suc at) line)
 
 -- a carriage return of the line is there in the whole
-pub return_stands : {whole text : List ℕ} (line rest : List ℕ) (at : ℕ) → EndsIn whole text → text ≡ line ++ rest → is_byte 13 (get_or line at 0) ≡ true
-    → at < length line → StandsWhere is_extra whole (length whole - length text + at)
-return_stands line rest at tail cut is within = (13, line_byte 13 line rest at tail cut (eqb-true _ 13 is) within, refl)
+pub return_stands : (text : Cursor) (line rest : List ℕ) (at : ℕ) → unread text ≡ line ++ rest → is_byte 13 (get_or line at 0) ≡ true → at < length line
+    → StandsWhere is_extra text.whole.now (text.at + at)
+return_stands text line rest at cut is within = (13, line_byte text 13 line rest at cut (eqb-true _ 13 is) within, refl)

@@ -1,18 +1,19 @@
 -- The escaped delimiters of an expression.
-use Rattle.std.proofs.Common.{◌≡◌, ◌≢◌, ℕ, ◌-◌, true, false, Some, Option, List, [], ◌∷◌, ◌++◌, length, drop, refl, ap, sym, ◌∙◌, subst, subst₂, append_assoc, arith}
+use Rattle.std.proofs.Common.{◌≡◌, ◌≢◌, ℕ, true, false, Some, Option, List, [], ◌∷◌, ◌++◌, drop, refl, ap, sym, ◌∙◌, subst, subst₂, append_assoc}
 use Rattle.std.specs.Prelude.{IsTrue}
 use Rattle.std.specs.Option.{option_or}
 use Rattle.std.proofs.lemmas.List.{append_cancel_left}
 use Rattle.std.proofs.lemmas.Bool.{and_from}
 use Rattle.sedck_script.specs.Parts.{DelimitedExpression, is_misread, ExpressionText}
 use Rattle.sedck_script.specs.Cuts.{can_be_escaped, is_delimiter}
-use Rattle.sedck_script.specs.Faults.{StandsAt, IsForbiddenEscape, IsMisreadEscape}
-use Rattle.sedck_script.specs.Private.Reading.{EndsIn}
+use Rattle.sedck_script.specs.Faults.{IsForbiddenEscape, IsMisreadEscape}
+use Rattle.std.specs.Borrow.{Bor}
+use Rattle.sedck_text.specs.Cursors.{unread, Follows}
+use Rattle.sedck_text.specs.declared.cursor.Cursor.{Cursor}
 use Rattle.sedck_script.specs.Private.PieceReading.{IsFirstEscape, as_written, escaped}
 use Rattle.sedck_script.proofs.FirstBytes.{heads}
-use Rattle.sedck_script.proofs.OffsetLemmas.{tail_behind, tail_length, stands_at_tail}
+use Rattle.sedck_script.proofs.CursorPlaces.{stands_here, stands_ahead}
 use Rattle.sedck_script.proofs.UniqueParts.{expression_one}
-use Rattle.sedck_script.proofs.PlaceLemmas.{cut_at, opened_before}
 
 -- ---- Escaped delimiters
 
@@ -25,12 +26,12 @@ escape_more {d} front all e f (escaped before after more h g k) =
     escaped before after (more ++ front) h (e ∙ ap (λ t. t ++ front) g ∙ append_assoc before (d ∷ more) front) k
 
 -- one more escaped delimiter, which may be the first
-pub escape_noted : {d : ℕ} {whole text bytes rest behind : List ℕ} {escape noted : Option ℕ} (all : List ℕ) → all ≡ bytes ++ d ∷ [] → rest ≡ 92 ∷ d ∷ behind
-    → noted ≡ option_or escape (Some (length whole - length rest)) → EndsIn whole rest → IsFirstEscape d whole text bytes rest escape
-    → IsFirstEscape d whole text all behind noted
-escape_noted {bytes = bytes} {behind = behind} all e f n t (as_written h) =
-    rw n (escaped bytes behind [] (h ∙ ap (λ r. bytes ++ r) f) e ((cut_at t).1 ∙ f))
-escape_noted {d} all e f n t (escaped before after more h g k) =
+pub escape_noted : {d : ℕ} {text bytes behind : List ℕ} {escape noted : Option ℕ} (rest : Cursor) (all : List ℕ) {whole : Bor (List ℕ)} → all ≡ bytes ++ d ∷ []
+    → unread rest ≡ 92 ∷ d ∷ behind → noted ≡ option_or escape (Some rest.at) → rest.whole ≡ whole
+    → IsFirstEscape d whole.now text bytes (unread rest) escape → IsFirstEscape d whole.now text all behind noted
+escape_noted {bytes = bytes} {behind = behind} rest all e f n same (as_written h) =
+    rw n (escaped bytes behind [] (h ∙ ap (λ r. bytes ++ r) f) e (ap (λ w. drop rest.at w.now) (sym same) ∙ f))
+escape_noted {d} rest all e f n same (escaped before after more h g k) =
     rw n (escaped before after (more ++ d ∷ []) h (e ∙ ap (λ r. r ++ d ∷ []) g ∙ append_assoc before (d ∷ more) (d ∷ [])) k)
 
 -- ---- Expressions as they may be written
@@ -52,41 +53,31 @@ no_written_expression {d} {text = text} {bytes = bytes} {rest = rest} n x (escap
     append_cancel_left before _ _ (sym h ∙ plain ∙ ap (λ t. t ++ d ∷ rest) g ∙ append_assoc before (d ∷ more) (d ∷ rest)) in
     n (sym (heads same))
 
-pub escape_place : {whole text bytes rest : List ℕ} {d : ℕ} {escape : Option ℕ} → EndsIn whole (d ∷ text) → DelimitedExpression d text bytes rest
-    → IsFirstEscape d whole text bytes (d ∷ rest) escape → (place : ℕ) → escape ≡ Some place → IsTrue (is_misread d bytes)
-    → IsMisreadEscape whole place
-escape_place t x (as_written h) place some misread = absurd (cc some)
-escape_place {whole} {text} {bytes} {rest} {d} t x (escaped {place = found} before after more h g k) place some misread =
+pub escape_place : (text : Cursor) {bytes rest : List ℕ} {d : ℕ} {escape : Option ℕ} → Follows text d → DelimitedExpression d (unread text) bytes rest
+    → IsFirstEscape d text.whole.now (unread text) bytes (d ∷ rest) escape → (place : ℕ) → escape ≡ Some place → IsTrue (is_misread d bytes)
+    → IsMisreadEscape text.whole.now place
+escape_place text f x (as_written h) place some misread = absurd (cc some)
+escape_place text {bytes} {rest} {d} f x (escaped {place = found} before after more h g k) place some misread =
     let at : found ≡ place = cc some in
-    let opened = opened_before t in
-    let same = (cut_at (tail_behind t refl)).1 in
     record {
-      start = length whole - length text;
-      behind = opened.0;
+      start = text.at;
+      behind = f.0;
       delimiter = d;
-      opened = opened.1;
+      opened = f.1;
       expression = bytes;
       rest = rest;
-      cut = subst (λ u. DelimitedExpression d u bytes rest) (sym same) x;
+      cut = x;
       misread = misread;
       front = before;
       after = after;
       more = more;
-      written = same ∙ h;
+      written = h;
       replaced = g;
-      here = ap (λ n. drop n whole) (sym at) ∙ k;
+      here = ap (λ n. drop n text.whole.now) (sym at) ∙ k;
     }
 
 -- a backslash and a delimiter that it can't escape
-pub forbidden_place : {whole text : List ℕ} (d : ℕ) (after : List ℕ) → EndsIn whole text → text ≡ 92 ∷ d ∷ after → IsTrue (is_delimiter d)
-    → can_be_escaped d ≡ false → IsForbiddenEscape whole (length whole - length text)
-forbidden_place {whole} {text} d after h e allowed none =
-    let long = tail_length h in
-    let short = ap length e in (
-      stands_at_tail h e,
-      (
-        d,
-        subst (λ n. StandsAt whole n d) (omega (arith, long, short)) (stands_at_tail (tail_behind h e) refl),
-        rw none (and_from (is_delimiter d) true allowed refl),
-      ),
-    )
+pub forbidden_place : (text : Cursor) (d : ℕ) (after : List ℕ) → unread text ≡ 92 ∷ d ∷ after → IsTrue (is_delimiter d) → can_be_escaped d ≡ false
+    → IsForbiddenEscape text.whole.now text.at
+forbidden_place text d after e allowed none =
+    (stands_here text e, (d, stands_ahead text (92 ∷ []) after d e, rw none (and_from (is_delimiter d) true allowed refl)))

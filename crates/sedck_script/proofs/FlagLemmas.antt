@@ -6,9 +6,16 @@ use Rattle.sedck_script.specs.Cuts.{is_blank, is_digit, is_ending}
 use Rattle.sedck_script.specs.Program.{Pattern, Part, Substitution}
 use Rattle.sedck_script.specs.Parts.{Ends, EndsFlags, Number, Name, Flags}
 use Rattle.sedck_script.specs.Parts as p
-use Rattle.sedck_script.specs.Private.Reading.{EndsIn}
-use Rattle.sedck_script.proofs.OffsetLemmas.{number_tail, tail_tail, tail_behind}
-use Rattle.sedck_script.proofs.UniqueParts.{no_end, ends_no_number, ends_first, number_no_byte, digit_no_end, number_one}
+use Rattle.sedck_text.specs.Cursors.{unread}
+use Rattle.sedck_text.specs.declared.cursor.Cursor.{Cursor}
+use Rattle.sedck_script.specs.Faults.{StandsWhere, is_extra}
+use Rattle.sedck_script.proofs.CursorPlaces.{stands_here}
+use Rattle.sedck_script.proofs.PlaceLemmas.{extra_digit}
+use Rattle.sedck_script.proofs.UniqueParts.{number_first, no_end, ends_no_number, ends_first, number_no_byte, digit_no_end, number_one}
+
+-- a number where no flag may be
+pub extra_number : (text : Cursor) {rest : List ℕ} {n : ℕ} → Number (unread text) n rest → StandsWhere is_extra text.whole.now text.at
+extra_number text a = let f = number_first a in (f.0, stands_here text f.2, extra_digit f.0 f.3)
 
 -- no flag begins with this byte
 pub no_flag_by : {q : Pattern} {ps : List Part} {b : ℕ} {text r : List ℕ} {s : Substitution} → b ≢ 103 → b ≢ 112 → b ≢ 119 → is_digit b ≡ false
@@ -78,8 +85,7 @@ abbrev pub joined : Bool → Bool → Option ℕ → Substitution → Substituti
 joined global print nth others = record others { global = global || others.global; print = print || others.print; nth = joined_nth nth others.nth }
 
 -- These flags have been read, and rest is left.
-pub record FlagsPassed (whole text : List ℕ) (global print : Bool) (nth : Option ℕ) (rest : List ℕ) : Type 0 where
-  pub tail : EndsIn whole rest
+pub record FlagsPassed (text : List ℕ) (global print : Bool) (nth : Option ℕ) (rest : List ℕ) : Type 0 where
   pub sound : (q : Pattern) (ps : List Part) (others : Substitution) (r : List ℕ) → Flags q ps rest others r → Fits global print nth others
       → Flags q ps text (joined global print nth others) r
   pub only : (q : Pattern) (ps : List Part) (s : Substitution) (r : List ℕ) → Flags q ps text s r
@@ -133,10 +139,9 @@ nth_inside {q} {ps} {r = r} a (p.number {others = o} b x y) =
 along : {q : Pattern} {ps : List Part} {text behind r : List ℕ} {s : Substitution} → text ≡ behind → Flags q ps text s r → Flags q ps behind s r
 along {q} {ps} {r = r} {s = s} e x = subst (λ t. Flags q ps t s r) e x
 
-pub flags_global : {whole text rest behind : List ℕ} {print : Bool} {nth : Option ℕ} → FlagsPassed whole text false print nth rest
-    → rest ≡ 103 ∷ behind → FlagsPassed whole text true print nth behind
+pub flags_global : {text rest behind : List ℕ} {print : Bool} {nth : Option ℕ} → FlagsPassed text false print nth rest
+    → rest ≡ 103 ∷ behind → FlagsPassed text true print nth behind
 flags_global {print = print} {nth = nth} h e = record {
-  tail = tail_behind h.tail e;
   sound = λ q ps o r x f.
       h.sound q ps (record o { global = true }) r (along (sym e) (p.global refl x (f.globals refl)))
       (record { globals = λ g. absurd (false≢true g); prints = f.prints; numbers = f.numbers });
@@ -153,10 +158,9 @@ flags_global {print = print} {nth = nth} h e = record {
       );
 }
 
-pub flags_print : {whole text rest behind : List ℕ} {global : Bool} {nth : Option ℕ} → FlagsPassed whole text global false nth rest
-    → rest ≡ 112 ∷ behind → FlagsPassed whole text global true nth behind
+pub flags_print : {text rest behind : List ℕ} {global : Bool} {nth : Option ℕ} → FlagsPassed text global false nth rest
+    → rest ≡ 112 ∷ behind → FlagsPassed text global true nth behind
 flags_print {global = global} {nth = nth} h e = record {
-  tail = tail_behind h.tail e;
   sound = λ q ps o r x f.
       h.sound q ps (record o { print = true }) r (along (sym e) (p.print refl x (f.prints refl)))
       (record { globals = f.globals; prints = λ g. absurd (false≢true g); numbers = f.numbers });
@@ -173,10 +177,9 @@ flags_print {global = global} {nth = nth} h e = record {
       );
 }
 
-pub flags_nth : {whole text rest behind : List ℕ} {global print : Bool} {n : ℕ} → FlagsPassed whole text global print None rest → Number rest n behind
-    → FlagsPassed whole text global print (Some n) behind
+pub flags_nth : {text rest behind : List ℕ} {global print : Bool} {n : ℕ} → FlagsPassed text global print None rest → Number rest n behind
+    → FlagsPassed text global print (Some n) behind
 flags_nth {global = global} {print = print} {n = n} h a = record {
-  tail = tail_tail h.tail (number_tail a);
   sound = λ q ps o r x f.
       h.sound q ps (record o { nth = Some n }) r (p.number a x (f.numbers n refl))
       (record { globals = f.globals; prints = f.prints; numbers = λ k g. absurd (cc g) });
@@ -202,21 +205,21 @@ none_of (Some k) h = absurd (false≢true (sym h))
 none_of None h = refl
 
 -- a flag that has been seen
-pub global_twice : {whole text rest behind : List ℕ} {global print : Bool} {nth : Option ℕ} → FlagsPassed whole text global print nth rest
+pub global_twice : {text rest behind : List ℕ} {global print : Bool} {nth : Option ℕ} → FlagsPassed text global print nth rest
     → global ≡ true → rest ≡ 103 ∷ behind → (q : Pattern) (ps : List Part) (s : Substitution) (r : List ℕ) → Flags q ps text s r → ⊥
 global_twice h g e q ps s r x =
     let one = h.only q ps s r x in
     let two = global_inside refl (along e one.1) in
     false≢true (sym (one.2.globals g) ∙ ap (λ t. t.global) two.is)
 
-pub print_twice : {whole text rest behind : List ℕ} {global print : Bool} {nth : Option ℕ} → FlagsPassed whole text global print nth rest
+pub print_twice : {text rest behind : List ℕ} {global print : Bool} {nth : Option ℕ} → FlagsPassed text global print nth rest
     → print ≡ true → rest ≡ 112 ∷ behind → (q : Pattern) (ps : List Part) (s : Substitution) (r : List ℕ) → Flags q ps text s r → ⊥
 print_twice h g e q ps s r x =
     let one = h.only q ps s r x in
     let two = print_inside refl (along e one.1) in
     false≢true (sym (one.2.prints g) ∙ ap (λ t. t.print) two.is)
 
-pub nth_twice : {whole text rest behind : List ℕ} {global print : Bool} {nth : Option ℕ} {n : ℕ} → FlagsPassed whole text global print nth rest
+pub nth_twice : {text rest behind : List ℕ} {global print : Bool} {nth : Option ℕ} {n : ℕ} → FlagsPassed text global print nth rest
     → is_some nth ≡ true → Number rest n behind → (q : Pattern) (ps : List Part) (s : Substitution) (r : List ℕ) → Flags q ps text s r → ⊥
 nth_twice {nth = nth} h g a q ps s r x =
     let one = h.only q ps s r x in
@@ -231,15 +234,15 @@ nth_none (Some n) = refl
 nth_none None = refl
 
 -- at the end of the flags
-pub flags_end : {whole text rest behind : List ℕ} {global print : Bool} {nth : Option ℕ} → FlagsPassed whole text global print nth rest
+pub flags_end : {text rest behind : List ℕ} {global print : Bool} {nth : Option ℕ} → FlagsPassed text global print nth rest
     → EndsFlags rest behind → (q : Pattern) (ps : List Part)
     → Flags q ps text (record { pattern = q; parts = ps; global = global; print = print; nth = nth; file = None }) behind
 flags_end {text = text} {behind = behind} {global = global} {print = print} {nth = nth} h e q ps =
     let x = h.sound q ps _ behind (p.none e) (record { globals = λ g. refl; prints = λ g. refl; numbers = λ n g. refl }) in
     rw (or-false global, or-false print, nth_none nth) at x
 
-pub flags_file : {whole text rest behind after : List ℕ} {global print : Bool} {nth : Option ℕ} (name : List ℕ)
-    → FlagsPassed whole text global print nth rest → rest ≡ 119 ∷ behind → Name behind name after → (q : Pattern) (ps : List Part)
+pub flags_file : {text rest behind after : List ℕ} {global print : Bool} {nth : Option ℕ} (name : List ℕ)
+    → FlagsPassed text global print nth rest → rest ≡ 119 ∷ behind → Name behind name after → (q : Pattern) (ps : List Part)
     → Flags q ps text (record { pattern = q; parts = ps; global = global; print = print; nth = nth; file = Some name }) after
 flags_file {text = text} {after = after} {global = global} {print = print} {nth = nth} name h e m q ps =
     let x = h.sound q ps _ after (along (sym e) (p.file refl m)) (record { globals = λ g. refl; prints = λ g. refl; numbers = λ n g. refl }) in

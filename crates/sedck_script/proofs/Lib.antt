@@ -1,5 +1,5 @@
+pub mod CursorPlaces
 pub mod LineBytes
-pub mod LongestRuns
 pub mod FirstBytes
 pub mod FirstUnique
 pub mod UniqueCommands

@@ -1,30 +1,19 @@
 -- Where a byte of a line is in the whole text.
-use Rattle.std.proofs.Common.{◌≡◌, ℕ, Bool, true, false, cond, suc, ◌+◌, ◌-◌, ◌<◌, ◌≤◌, ◌⊎◌, inl, inr, append_assoc, Some, List, [], ◌∷◌, ◌++◌, length, take, drop, get_or, refl, ap, sym, ◌∙◌, subst, length-append, arith}
-use Rattle.std.proofs.Math.Seq.{split_at, get_or-append_seam}
-use Rattle.std.proofs.lemmas.List.{length-drop}
+use Rattle.std.proofs.Common.{◌≡◌, ℕ, Bool, true, false, cond, not, eqb, None, Option, ◌+◌, ◌-◌, ◌<◌, ◌≤◌, ◌⊎◌, inl, inr, Some, List, [], ◌∷◌, ◌++◌, length, get_or, refl, ap, sym, ◌∙◌, subst, length-append, arith}
+use Rattle.std.proofs.Math.Seq.{get_or-append_seam}
 use Rattle.std.proofs.lemmas.Bool.{false≢true, eqb-true, and_parts, cases_order}
-use Rattle.std.specs.Prelude.{◌==◌, IsTrue, nat_le, slice_get}
+use Rattle.std.specs.Prelude.{◌==◌, IsTrue, nat_le, MatchOption}
+use Rattle.std.specs.Option.{option_eq}
+use Rattle.sedck_text.specs.Text.{begins}
 use Rattle.sedck_bre.proofs.ReadLemmas.{nat_le_of}
 use Rattle.sedck_script.specs.Cuts.{is_continued}
 use Rattle.sedck_script.specs.Parts.{is_skipped}
-use Rattle.sedck_script.specs.Faults.{StandsWhere, is_extra, IsPlaced}
+use Rattle.sedck_script.specs.Faults.{StandsAt, StandsWhere, is_extra, IsPlaced}
 use Rattle.sedck_script.specs.declared.fault.ScriptFault.{ScriptFault}
 use Rattle.sedck_script.specs.declared.fault.ScriptFault.TheVariants.{MissingName}
-use Rattle.sedck_script.specs.Private.Reading.{EndsIn}
-use Rattle.sedck_script.proofs.OffsetLemmas.{tail_tail, tail_length, stands_at_tail}
-
-pub line_byte : {whole text : List ℕ} (b : ℕ) (line rest : List ℕ) (at : ℕ) → EndsIn whole text → text ≡ line ++ rest → get_or line at 0 ≡ b → at < length line
-    → slice_get whole (length whole - length text + at) ≡ Some b
-line_byte {whole} {text} b line rest at tail cut is within =
-    let begins = b ∷ (drop (suc at) line ++ rest) in
-    let line_cut : line ≡ take at line ++ b ∷ drop (suc at) line = split_at line at 0 within ∙ ap (λ x. take at line ++ x ∷ drop (suc at) line) is in
-    let all : text ≡ take at line ++ begins =
-    cut ∙ ap (λ t. t ++ rest) line_cut ∙ append_assoc (take at line) (b ∷ drop (suc at) line) rest in
-    let long : length text ≡ length line + length rest = ap length cut ∙ length-append line rest in
-    let left = length-append (drop (suc at) line) rest in
-    let place : length whole - length begins ≡ length whole - length text + at =
-    omega (arith, within, long, left, length-drop (suc at) line, tail_length tail) in
-    subst (λ p. slice_get whole p ≡ Some b) place (stands_at_tail (tail_tail tail (take at line, all)) refl)
+use Rattle.sedck_text.specs.Cursors.{unread, IsAhead}
+use Rattle.sedck_text.specs.declared.cursor.Cursor.{Cursor}
+use Rattle.sedck_script.proofs.CursorPlaces.{line_byte}
 
 -- ---- Bytes that may not be in a name
 
@@ -38,16 +27,16 @@ skipped_cases b h =
 pub skipped_extra : (b : ℕ) → is_skipped b ≡ true → IsTrue (is_extra b)
 skipped_extra b h = elim (skipped_cases b h) [ inl e ↦ rw e refl | inr (inl e) ↦ rw e refl | inr (inr e) ↦ rw e refl ]
 
-pub skipped_stands : {whole begins : List ℕ} (name rest : List ℕ) → EndsIn whole begins → begins ≡ name ++ rest → 0 < length name
-    → is_skipped (get_or name 0 0) ≡ true → StandsWhere is_extra whole (length whole - length begins)
-skipped_stands {whole} {begins} name rest tail cut some h =
+pub skipped_stands : (begins : Cursor) (name rest : List ℕ) → unread begins ≡ name ++ rest → 0 < length name → is_skipped (get_or name 0 0) ≡ true
+    → StandsWhere is_extra begins.whole.now begins.at
+skipped_stands begins name rest cut some h =
     let b = get_or name 0 0 in
-    let place : length whole - length begins + 0 ≡ length whole - length begins = omega arith in
-    (b, subst (λ p. slice_get whole p ≡ Some b) place (line_byte b name rest 0 tail cut refl some), skipped_extra b h)
+    let place : begins.at + 0 ≡ begins.at = omega arith in
+    (b, subst (λ p. StandsAt begins.whole.now p b) place (line_byte begins b name rest 0 cut refl some), skipped_extra b h)
 
-pub last_stands : {whole begins : List ℕ} (line rest : List ℕ) → EndsIn whole begins → begins ≡ line ++ rest → 0 < length line
-    → get_or line (length line - 1) 0 ≡ 92 → StandsWhere is_extra whole (length whole - length begins + (length line - 1))
-last_stands line rest tail cut some h = (92, line_byte 92 line rest (length line - 1) tail cut h (omega (arith, some)), refl)
+pub last_stands : (begins : Cursor) (line rest : List ℕ) → unread begins ≡ line ++ rest → 0 < length line → get_or line (length line - 1) 0 ≡ 92
+    → StandsWhere is_extra begins.whole.now (begins.at + (length line - 1))
+last_stands begins line rest cut some h = (92, line_byte begins 92 line rest (length line - 1) cut h (omega (arith, some)), refl)
 
 -- a fault that is either placed or the one that is known to be
 pub name_placed : (whole : List ℕ) (place : ℕ) {fault : ScriptFault} → (fault ≡ MissingName place) ⊎ IsPlaced whole fault → IsPlaced whole (MissingName place)
@@ -71,13 +60,24 @@ continued_cut (b ∷ c ∷ line) h = go (b == 92) refl (λ k. continued_cut line
     go true e pair one = let k = pair (under true e) in (b ∷ c ∷ k.0, ap (λ t. b ∷ c ∷ t) k.1)
     go false e pair one = let k = one (under false e) in (b ∷ k.0, ap (λ t. b ∷ t) k.1)
 
-pub continued_stands : {whole text : List ℕ} (line rest : List ℕ) → EndsIn whole text → text ≡ line ++ rest → is_continued line ≡ true
-    → StandsWhere is_extra whole (length whole - length rest - 1)
-continued_stands {whole} {text} line rest tail cut h =
+-- a text that a test of its first byte finds to begin with a `#`
+pub begins_hash : (text : List ℕ) (first : Option ℕ) → MatchOption first (text ≡ []) (λ b. (more : List ℕ) × (text ≡ b ∷ more))
+    → not (option_eq eqb first (Some 35)) ≡ false → IsTrue (begins "#" text)
+begins_hash text None h e = absurd (false≢true (sym e))
+begins_hash text (Some b) h e =
+    let same : b ≡ 35 = eqb-true b 35 (ne_false (eqb b 35) e) in
+    subst (λ t. IsTrue (begins "#" t)) (sym (h.1 ∙ ap (λ a. a ∷ h.0) same)) refl
+  where
+    ne_false : (x : Bool) → not x ≡ false → x ≡ true
+    ne_false true e = refl
+    ne_false false e = absurd (false≢true (sym e))
+
+pub continued_stands : (text behind : Cursor) (line : List ℕ) → unread text ≡ line ++ unread behind → IsAhead text (length line) behind
+    → is_continued line ≡ true → StandsWhere is_extra text.whole.now (behind.at - 1)
+continued_stands text behind line cut ahead h =
     let k = continued_cut line h in
     let size : length line ≡ length k.0 + 1 = ap length k.1 ∙ length-append k.0 (92 ∷ []) in
     let last : get_or line (length line - 1) 0 ≡ 92 =
     ap (λ t. get_or t (length line - 1) 0) k.1 ∙ ap (λ n. get_or (k.0 ++ 92 ∷ []) n 0) (omega (arith, size)) ∙ get_or-append_seam k.0 92 [] 0 in
-    let long : length text ≡ length line + length rest = ap length cut ∙ length-append line rest in
-    let place : length whole - length text + (length line - 1) ≡ length whole - length rest - 1 = omega (arith, long, size, tail_length tail) in
-    subst (StandsWhere is_extra whole) place (last_stands line rest tail cut (omega (arith, size)) last)
+    let place : text.at + (length line - 1) ≡ behind.at - 1 = omega (arith, size, ahead.at) in
+    subst (StandsWhere is_extra text.whole.now) place (last_stands text line (unread behind) cut (omega (arith, size)) last)

@@ -10,7 +10,7 @@ use Rattle.sedck_script.specs.Private.Locating.{IsOnlyLocation, AreFirstLocation
 use Rattle.sedck_script.specs.Private.Progress.{BeginsCommand}
 use Rattle.sedck_script.specs.Private.ItemReading.{commands_among}
 use Rattle.sedck_script.specs.declared.location.Location.{Location}
-use Rattle.sedck_script.proofs.LongestRuns.{longest_one}
+use Rattle.sedck_text.proofs.Runs.{longest_one}
 use Rattle.sedck_script.proofs.FirstBytes.{tails, heads}
 use Rattle.sedck_script.proofs.OffsetLemmas.{tail_cut, tail_length, ends_tail, verb_text_shorter}
 use Rattle.sedck_script.proofs.CommandLemmas.{address_tail}

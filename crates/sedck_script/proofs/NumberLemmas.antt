@@ -7,7 +7,7 @@ use Rattle.std.proofs.lemmas.Int.Digits.{digits_value_more}
 use Rattle.std.proofs.lemmas.Bool.{and_parts}
 use Rattle.sedck_script.specs.Cuts.{is_digit, Longest}
 use Rattle.sedck_script.specs.Parts.{Number}
-use Rattle.sedck_script.proofs.LongestRuns.{longest_one}
+use Rattle.sedck_text.proofs.Runs.{longest_one}
 
 value_of_digit : (b : ℕ) → is_digit b ≡ true → digit_value b ≡ b - 48
 value_of_digit b h = grind (arith, h)

@@ -1,5 +1,5 @@
 -- What each part leaves is an end of its text.
-use Rattle.std.proofs.Common.{◌≡◌, ℕ, Bool, List, [], ◌∷◌, ◌++◌, length, take, drop, ◌-◌, ◌<◌, ◌≤◌, refl, ap, sym, ◌∙◌, subst, subst₂, length-append, arith, Some, append_assoc}
+use Rattle.std.proofs.Common.{◌≡◌, ℕ, Bool, List, [], ◌∷◌, ◌++◌, length, take, drop, ◌-◌, ◌<◌, ◌≤◌, refl, ap, sym, ◌∙◌, subst, length-append, arith, Some, append_assoc}
 use Rattle.std.proofs.lemmas.List.{take-append-drop}
 use Rattle.sedck_script.specs.Cuts.{Longest}
 use Rattle.std.specs.Prelude.{slice_get}
@@ -124,10 +124,12 @@ take_front [] rest n e = rw e (refl, refl)
 take_front (b ∷ front) rest n e = let t = take_front front rest (length front) refl in rw e (ap (λ u. b ∷ u) t.0, t.1)
 
 -- a text split after its lines
-pub lines_parts : {text bytes rest : List ℕ} (f r : List ℕ) (n : ℕ) → Lines text bytes rest → n ≡ length text - length rest → f ≡ take n text
-    → r ≡ drop n text → Lines text f r
-lines_parts {text} {bytes} {rest} f r n x e g h =
+pub lines_parts : {text bytes rest : List ℕ} (whole f r : List ℕ) (n : ℕ) → Lines text bytes rest → text ≡ whole → n ≡ length text - length rest
+    → f ≡ take n text → r ≡ drop n whole → Lines whole f r
+lines_parts {text} {bytes} {rest} whole f r n x same e g h =
     let cut = lines_cut x in
     let at : n ≡ length bytes = omega (arith, e, ap length cut, length-append bytes rest) in
     let parts = take_front bytes rest n at in
-    subst₂ (λ y z. Lines text y z) (sym parts.0 ∙ ap (take n) (sym cut) ∙ sym g) (sym parts.1 ∙ ap (drop n) (sym cut) ∙ sym h) x
+    let front : bytes ≡ f = sym parts.0 ∙ ap (take n) (sym cut) ∙ sym g in
+    let behind : rest ≡ r = sym parts.1 ∙ ap (drop n) (sym cut ∙ same) ∙ sym h in
+    rw (sym same, sym front, sym behind) x

@@ -3,7 +3,7 @@ use Rattle.std.proofs.Common.{◌≡◌, ◌≢◌, ℕ, Bool, true, false, ◌<
 use Rattle.sedck_script.specs.Cuts.{is_newline, is_blank, is_continued, IsEmptyOr, Longest}
 use Rattle.sedck_script.specs.Parts.{is_skipped, Name, Lines, GivenText, BeginsPlainly}
 use Rattle.sedck_script.specs.Parts as p
-use Rattle.sedck_script.proofs.LongestRuns.{longest_one}
+use Rattle.sedck_text.proofs.Runs.{longest_one}
 use Rattle.sedck_script.proofs.FirstBytes.{heads}
 use Rattle.std.proofs.lemmas.List.{nil_from_length}
 use Rattle.std.proofs.lemmas.Bool.{false≢true}
@@ -79,6 +79,25 @@ no_given_by g n l h k (p.below i j y) = n _ _ refl j
 no_given_by g n l h (inl k) (p.behind i j y) = j.4 (sym (same_first l h j.3) ∙ k)
 no_given_by g n l h (inr k) (p.behind i j y) = j.5 (sym (same_first l h j.3) ∙ k)
 no_given_by g n l h k (p.at_once i j y) = j g
+
+no_given_blank_by : {behind blanks bytes rest : List ℕ} {a : ℕ} → a ≡ 92 → ((c : ℕ) (t : List ℕ) → behind ≡ c ∷ t → c ≡ 10 → ⊥)
+    → Longest is_blank behind blanks [] → GivenText (a ∷ behind) bytes rest → ⊥
+no_given_blank_by g n l (p.below i j y) = n _ _ refl j
+no_given_blank_by g n l (p.behind i j y) = let none = (longest_one l j.3).1 in absurd (cc none)
+no_given_blank_by g n l (p.at_once i j y) = j g
+
+-- after the backslash is nothing
+pub no_given_end : {text behind bytes rest : List ℕ} {a : ℕ} → text ≡ a ∷ behind → a ≡ 92 → behind ≡ [] → GivenText text bytes rest → ⊥
+no_given_end {bytes = bytes} {rest = rest} {a = a} e g none x =
+    no_given_blank_by {blanks = []} g (λ c t i j. absurd (cc i)) (record { cut = refl; passes = refl; stops = tt })
+    (subst (λ t. GivenText t bytes rest) (e ∙ ap (λ t. a ∷ t) none) x)
+
+-- after the backslash are only blanks
+pub no_given_blank : {text behind blanks begins below bytes rest : List ℕ} {a c : ℕ} → text ≡ a ∷ behind → a ≡ 92 → behind ≡ c ∷ below → c ≢ 10
+    → Longest is_blank behind blanks begins → begins ≡ [] → GivenText text bytes rest → ⊥
+no_given_blank {behind = behind} {blanks = blanks} {bytes = bytes} {rest = rest} e g f n l none x =
+    no_given_blank_by g (λ d t i j. n (heads (sym f ∙ i) ∙ j)) (subst (λ t. Longest is_blank behind blanks t) none l)
+    (subst (λ t. GivenText t bytes rest) e x)
 
 -- after the backslash is neither a newline nor a byte that begins a text
 pub no_given : {text behind blanks begins more below bytes rest : List ℕ} {a b c : ℕ} → text ≡ a ∷ behind → a ≡ 92 → behind ≡ c ∷ below → c ≢ 10

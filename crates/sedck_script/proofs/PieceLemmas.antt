@@ -2,7 +2,6 @@
 use Rattle.std.proofs.Common.{◌≡◌, ◌≢◌, ℕ, ◌<◌, eqb, cond, Some, None, inl, inr, ◌⊎◌, List, [], ◌∷◌, ◌++◌, length, refl, ap, sym, ◌∙◌, subst, append_assoc, append-nil, arith}
 use Rattle.sedck_script.specs.Parts.{DelimitedExpression, ExpressionText, DelimitedList}
 use Rattle.sedck_script.specs.Parts as p
-use Rattle.sedck_script.specs.Private.Reading.{EndsIn}
 use Rattle.sedck_script.specs.declared.delimited.Piece.{Piece}
 use Rattle.sedck_script.specs.declared.delimited.Piece.TheVariants as piece
 use Rattle.std.proofs.lemmas.Bool.{eqb-true, cond_both}
@@ -12,14 +11,7 @@ use Rattle.sedck_script.specs.Program.{Pattern, Previous, Expression}
 use Rattle.sedck_script.specs.Parts.{IsPattern, previous, expression}
 use Rattle.sedck_script.specs.Private.PieceReading.{IsPiece, list_escape, PatternText}
 use Rattle.sedck_script.proofs.UniqueParts.{expression_one}
-use Rattle.sedck_script.proofs.OffsetLemmas.{tail_tail}
 use Rattle.std.proofs.lemmas.List.{nil_from_length}
-
-pub piece_tail : (d : ℕ) (text rest : List ℕ) (x : Piece) → IsPiece d text x rest → EndsIn text rest
-piece_tail d text rest piece.End h = (d ∷ [], h)
-piece_tail d text rest (piece.Byte b) h = (b ∷ [], h.0)
-piece_tail d text rest piece.Escaped h = (92 ∷ d ∷ [], h.0)
-piece_tail d text rest (piece.Pair b) h = (92 ∷ b ∷ [], h.0)
 
 -- an expression begins with some piece
 pub record SomePiece (d : ℕ) (text : List ℕ) : Type 0 where
@@ -41,8 +33,7 @@ list_piece n (p.backslashes {b = b} {text = rest} f g x) = record { kind = piece
 list_piece n (p.line {b = b} {text = rest} f g h x) = record { kind = piece.Pair b; rest = rest; is = (ap (λ a. a ∷ b ∷ rest) f, g) }
 
 -- These bytes of an expression have been read, and rest is left.
-pub record ExpressionPassed (d : ℕ) (whole text bytes rest : List ℕ) : Type 0 where
-  pub tail : EndsIn whole rest
+pub record ExpressionPassed (d : ℕ) (text bytes rest : List ℕ) : Type 0 where
   pub sound : (e r : List ℕ) → DelimitedExpression d rest e r → DelimitedExpression d text (bytes ++ e) r
   pub only : (e r : List ℕ) → DelimitedExpression d text e r → (f : List ℕ) × DelimitedExpression d rest f r
 
@@ -51,10 +42,9 @@ pub record ExpressionStep (d : ℕ) (text front behind : List ℕ) : Type 0 wher
   pub sound : (e r : List ℕ) → DelimitedExpression d behind e r → DelimitedExpression d text (front ++ e) r
   pub only : (e r : List ℕ) → DelimitedExpression d text e r → (f : List ℕ) × DelimitedExpression d behind f r
 
-pub expression_more : {d : ℕ} {whole text bytes rest front behind : List ℕ} (all : List ℕ) → all ≡ bytes ++ front
-    → ExpressionPassed d whole text bytes rest → EndsIn rest behind → ExpressionStep d rest front behind → ExpressionPassed d whole text all behind
-expression_more {bytes = bytes} {front = front} all g h t s = record {
-  tail = tail_tail h.tail t;
+pub expression_more : {d : ℕ} {text bytes rest front behind : List ℕ} (all : List ℕ) → all ≡ bytes ++ front
+    → ExpressionPassed d text bytes rest → ExpressionStep d rest front behind → ExpressionPassed d text all behind
+expression_more {bytes = bytes} {front = front} all g h s = record {
   sound = λ e r x. rw (g, append_assoc) (h.sound (front ++ e) r (s.sound e r x));
   only = λ e r x. let one = h.only e r x in s.only one.0 r one.1;
 }
@@ -89,12 +79,12 @@ expression_pair {d} {b} n m h = record {
   only = λ e r x. only_two n refl (subst (λ t. DelimitedExpression d t e r) h.0 x);
 }
 
-pub expression_end : {d : ℕ} {whole text bytes rest behind : List ℕ} → ExpressionPassed d whole text bytes rest → IsPiece d rest piece.End behind
+pub expression_end : {d : ℕ} {text bytes rest behind : List ℕ} → ExpressionPassed d text bytes rest → IsPiece d rest piece.End behind
     → DelimitedExpression d text bytes behind
 expression_end {d} {behind = behind} h e = rw append-nil at (h.sound [] behind (subst (λ t. DelimitedExpression d t [] behind) (sym e) (p.ends refl)))
 
 -- where no piece follows
-pub expression_stuck : {d : ℕ} {whole text bytes rest : List ℕ} → ExpressionPassed d whole text bytes rest
+pub expression_stuck : {d : ℕ} {text bytes rest : List ℕ} → ExpressionPassed d text bytes rest
     → ((x : Piece) (r : List ℕ) → IsPiece d rest x r → ⊥) → (e r : List ℕ) → DelimitedExpression d text e r → ⊥
 expression_stuck h n e r x = let one = h.only e r x in let some = expression_piece one.1 in n some.kind some.rest some.is
 
@@ -105,13 +95,12 @@ no_escaped_line n m k l (p.escaped f g h x) = k g
 no_escaped_line n m k l (p.pair f g h x) = h l
 
 -- where an escaped newline follows
-pub expression_broken : {d b : ℕ} {whole text bytes rest behind : List ℕ} → d ≢ 92 → ExpressionPassed d whole text bytes rest
+pub expression_broken : {d b : ℕ} {text bytes rest behind : List ℕ} → d ≢ 92 → ExpressionPassed d text bytes rest
     → IsPiece d rest (piece.Pair b) behind → b ≡ 10 → (e r : List ℕ) → DelimitedExpression d text e r → ⊥
 expression_broken {d} n h k l e r x = let one = h.only e r x in no_escaped_line n refl k.1 l (subst (λ t. DelimitedExpression d t one.0 r) k.0 one.1)
 
 -- These bytes of a list have been read, and rest is left.
-pub record ListPassed (d : ℕ) (whole text bytes rest : List ℕ) : Type 0 where
-  pub tail : EndsIn whole rest
+pub record ListPassed (d : ℕ) (text bytes rest : List ℕ) : Type 0 where
   pub sound : (e r : List ℕ) → DelimitedList d rest e r → DelimitedList d text (bytes ++ e) r
   pub only : (e r : List ℕ) → DelimitedList d text e r → (f : List ℕ) × DelimitedList d rest f r
 
@@ -120,10 +109,9 @@ pub record ListStep (d : ℕ) (text : List ℕ) (byte : ℕ) (behind : List ℕ)
   pub sound : (e r : List ℕ) → DelimitedList d behind e r → DelimitedList d text (byte ∷ e) r
   pub only : (e r : List ℕ) → DelimitedList d text e r → (f : List ℕ) × DelimitedList d behind f r
 
-pub list_more : {d byte : ℕ} {whole text bytes rest behind : List ℕ} (all : List ℕ) → all ≡ bytes ++ byte ∷ [] → ListPassed d whole text bytes rest
-    → EndsIn rest behind → ListStep d rest byte behind → ListPassed d whole text all behind
-list_more {byte = byte} {bytes = bytes} all g h t s = record {
-  tail = tail_tail h.tail t;
+pub list_more : {d byte : ℕ} {text bytes rest behind : List ℕ} (all : List ℕ) → all ≡ bytes ++ byte ∷ [] → ListPassed d text bytes rest
+    → ListStep d rest byte behind → ListPassed d text all behind
+list_more {byte = byte} {bytes = bytes} all g h s = record {
   sound = λ e r x. rw (g, append_assoc) (h.sound (byte ∷ e) r (s.sound e r x));
   only = λ e r x. let one = h.only e r x in s.only one.0 r one.1;
 }
@@ -173,12 +161,12 @@ list_pair {d} {b} {m} n k h = record {
   only = λ e r x. only_list_two n refl (subst (λ t. DelimitedList d t e r) h.0 x);
 }
 
-pub list_end : {d : ℕ} {whole text bytes rest behind : List ℕ} → ListPassed d whole text bytes rest → IsPiece d rest piece.End behind
+pub list_end : {d : ℕ} {text bytes rest behind : List ℕ} → ListPassed d text bytes rest → IsPiece d rest piece.End behind
     → DelimitedList d text bytes behind
 list_end {d} {behind = behind} h e = rw append-nil at (h.sound [] behind (subst (λ t. DelimitedList d t [] behind) (sym e) (p.ends refl)))
 
 -- where no piece follows
-pub list_stuck : {d : ℕ} {whole text bytes rest : List ℕ} → d ≢ 92 → ListPassed d whole text bytes rest
+pub list_stuck : {d : ℕ} {text bytes rest : List ℕ} → d ≢ 92 → ListPassed d text bytes rest
     → ((x : Piece) (r : List ℕ) → IsPiece d rest x r → ⊥) → (e r : List ℕ) → DelimitedList d text e r → ⊥
 list_stuck k h n e r x = let one = h.only e r x in let some = list_piece k one.1 in n some.kind some.rest some.is
 
@@ -190,7 +178,7 @@ no_list_pair n m k l (p.backslashes f g x) = let h = rw g at l in cc
 no_list_pair n m k l (p.line f g h x) = let e = h in let i = rw e at l in cc
 
 -- where an escape follows that means nothing
-pub list_broken : {d b : ℕ} {whole text bytes rest behind : List ℕ} → d ≢ 92 → ListPassed d whole text bytes rest
+pub list_broken : {d b : ℕ} {text bytes rest behind : List ℕ} → d ≢ 92 → ListPassed d text bytes rest
     → IsPiece d rest (piece.Pair b) behind → list_escape b ≡ None → (e r : List ℕ) → DelimitedList d text e r → ⊥
 list_broken {d} n h k l e r x = let one = h.only e r x in no_list_pair n refl k.1 l (subst (λ t. DelimitedList d t one.0 r) k.0 one.1)
 

@@ -4,7 +4,7 @@ use Rattle.std.specs.Prelude.{Any, slice_get}
 use Rattle.std.proofs.lemmas.Bool.{false≢true}
 use Rattle.std.specs.Borrow.{Bor}
 use Rattle.std.specs.HashMap.{HashMap}
-use Rattle.sedck_bre.specs.Text.{one_of}
+use Rattle.sedck_text.specs.Text.{one_of}
 use Rattle.sedck_bre.specs.Tree.{Tree}
 use Rattle.sedck_script.specs.Program.{Pattern, Previous, Expression, NoAddress, Label, Command, Program, address_patterns, verb_patterns, patterns, expressions}
 use Rattle.sedck_script.specs.Items.{Known, Item, Written, Closing, Items}

@@ -1,5 +1,5 @@
 -- How the items of a script go on.
-use Rattle.std.proofs.Common.{◌≡◌, ℕ, suc, ◌<◌, ◌≤◌, ◌-◌, Bool, true, false, not, List, [], ◌∷◌, ◌++◌, length, map, Some, refl, ap, sym, ◌∙◌, subst, append_assoc, append-nil, length-append, inl, inr, ◌⊎◌, arith}
+use Rattle.std.proofs.Common.{◌≡◌, ℕ, suc, ◌<◌, ◌≤◌, ◌-◌, Bool, true, false, not, List, [], ◌∷◌, ◌++◌, length, take, map, Some, refl, ap, sym, ◌∙◌, subst, append_assoc, append-nil, length-append, inl, inr, ◌⊎◌, arith}
 use Rattle.std.specs.Prelude.{slice_get}
 use Rattle.sedck_script.specs.Cuts.{is_newline, is_separator, Longest}
 use Rattle.std.specs.Borrow.{Bor}
@@ -16,9 +16,12 @@ use Rattle.sedck_script.specs.Private.ItemReading.{item_of, Turn, Opens, Closes,
 use Rattle.sedck_script.specs.Private.Locating.{AreFirstLocations}
 use Rattle.sedck_script.specs.Private.Progress.{IsFront, IsProgress, HasNoItems, BeginsCommand, IsBeyond}
 use Rattle.sedck_script.specs.declared.items.Progress.{Progress}
-use Rattle.sedck_script.proofs.LongestRuns.{longest_one}
+use Rattle.sedck_text.proofs.Runs.{longest_one}
+use Rattle.sedck_text.specs.Cursors.{unread}
+use Rattle.sedck_text.specs.declared.cursor.Cursor.{Cursor}
+use Rattle.sedck_text.proofs.Cursors.{read_unread, unread_length}
 use Rattle.sedck_script.proofs.FirstBytes.{tails, heads}
-use Rattle.sedck_script.proofs.OffsetLemmas.{tail_cut, tail_tail, tail_length, verb_text_tail, verb_text_shorter, stands_behind}
+use Rattle.sedck_script.proofs.OffsetLemmas.{tail_cut, tail_tail, tail_length, verb_text_shorter, stands_behind}
 use Rattle.sedck_script.proofs.LabelPlaces.{get_front, get_seam}
 use Rattle.sedck_script.proofs.UniqueParts.{ends_one}
 use Rattle.sedck_script.proofs.CommandLemmas.{address_tail}
@@ -54,7 +57,6 @@ items_forth l (w.command m c x) = w.command (begun l m) c x
 
 pub front_none : {text : List ℕ} → IsFront text [] 0 text
 front_none = record {
-  tail = ([], refl);
   sound = λ more h. h;
   only = λ all h. (all, refl, h);
   nests = λ more h. h;
@@ -64,7 +66,6 @@ front_none = record {
 pub front_skip : {text rest separators begins : List ℕ} {items : List Item} {depth : ℕ} → IsFront text items depth rest
     → Longest is_separator rest separators begins → IsFront text items depth begins
 front_skip f l = record {
-  tail = tail_tail f.tail (tail_cut l);
   sound = λ more h. f.sound more (items_back l h);
   only = λ all h. let one = f.only all h in (one.0, one.1, items_forth l one.2);
   nests = f.nests;
@@ -108,7 +109,6 @@ closing_step e h k x = let one = closing_first e h x in (one.0, one.2, items_alo
 pub front_comment : {b : ℕ} {text begins behind line rest : List ℕ} {items : List Item} {depth : ℕ} → IsFront text items depth begins
     → begins ≡ b ∷ behind → b ≡ 35 → CommentText behind line rest → IsFront text items depth rest
 front_comment {b = b} f e h k = record {
-  tail = tail_tail f.tail (tail_tail (b ∷ [], e) (tail_cut k.0));
   sound = λ more x. f.sound more (w.comment (at_front e (rw h refl)) h k.0 k.1 x);
   only = λ all x. let one = f.only all x in (one.0, one.1, comment_step e h k.0 one.2);
   nests = f.nests;
@@ -118,7 +118,6 @@ front_comment {b = b} f e h k = record {
 pub front_closing : {b depth : ℕ} {text begins behind rest : List ℕ} {items : List Item} → IsFront text items (suc depth) begins → begins ≡ b ∷ behind
     → b ≡ 125 → Ends behind rest → IsFront text (items ++ Closing ∷ []) depth rest
 front_closing {b} {items = items} f e h k = record {
-  tail = tail_tail f.tail (tail_tail (b ∷ [], e) (tail_cut k.run));
   sound = λ more x. rw append_assoc (f.sound (Closing ∷ more) (w.closing (at_front e (rw h refl)) h k x));
   only = λ all x.
       let one = f.only all x in
@@ -149,9 +148,6 @@ pub front_unended : {b : ℕ} {text begins behind : List ℕ} {items : List Item
 front_unended f e h none all x few once nests = let step = closing_first e h (f.only all x).2 in none step.1 step.3
 
 -- ---- Commands
-
-command_tail : {text rest : List ℕ} {a : Address} {n : Bool} {v : WrittenVerb} → CommandText text a n v rest → EndsIn text rest
-command_tail c = tail_tail (address_tail c.addresses) (tail_tail (tail_cut c.run) (verb_text_tail c.verbs))
 
 pub command_shorter : {text rest : List ℕ} {a : Address} {n : Bool} {v : WrittenVerb} → CommandText text a n v rest → length rest < length text
 command_shorter c = omega (arith, tail_length (address_tail c.addresses), tail_length (tail_cut c.run), verb_text_shorter c.verbs)
@@ -202,7 +198,6 @@ pub front_command : {depth deep : ℕ} {text begins rest : List ℕ} {items : Li
     → IsFront text items depth begins → BeginsCommand begins → CommandText begins a n v rest
     → Deeper (verb_turn v) depth deep → IsFront text (items ++ Written a n v ∷ []) deep rest
 front_command {depth} {deep} {begins = begins} {items = items} {a = a} {n = n} {v = v} f k c d = record {
-  tail = tail_tail f.tail (command_tail c);
   sound = λ more x. rw append_assoc (f.sound (Written a n v ∷ more)
       (w.command (subst (λ t. Longest is_separator begins [] t) (sym k.2) (at_front k.2 k.3)) c x));
   only = λ all x.
@@ -273,11 +268,19 @@ stands_at whole front rest place e p =
     rw (at, e) (stands_behind front rest 123)
 
 -- the `{` of a block is right before what follows it
-pub brace_stands : {whole text rest : List ℕ} {a : Address} {n : Bool} {v : WrittenVerb} (place : ℕ) → EndsIn whole text → CommandText text a n v rest
-    → place ≡ length whole - length rest - 1 → v ≡ Opening → slice_get whole place ≡ Some 123
-brace_stands {whole} {rest = rest} place h c p e =
-    let tail : EndsIn whole c.begins = tail_tail h (tail_tail (address_tail c.addresses) (tail_cut c.run)) in
-    stands_at whole tail.0 rest place (tail.1 ∙ ap (λ t. tail.0 ++ t) (opening_last e c.verbs)) p
+pub brace_stands : {a : Address} {n : Bool} {v : WrittenVerb} (begins rest : Cursor) → rest.whole ≡ begins.whole
+    → CommandText (unread begins) a n v (unread rest) → v ≡ Opening → slice_get begins.whole.now (rest.at - 1) ≡ Some 123
+brace_stands begins rest same c e =
+    let read = take begins.at begins.whole.now in
+    let tail : EndsIn (unread begins) c.begins = tail_tail (address_tail c.addresses) (tail_cut c.run) in
+    let all : begins.whole.now ≡ (read ++ tail.0) ++ 123 ∷ unread rest = sym (read_unread begins)
+    ∙ ap (λ t. read ++ t) (tail.1 ∙ ap (λ t. tail.0 ++ t) (opening_last e c.verbs)) ∙ sym (append_assoc read tail.0 (123 ∷ unread rest)) in
+    stands_at begins.whole.now (read ++ tail.0) (unread rest) (rest.at - 1) all (omega (arith, unread_length rest, ap (λ w. length w.now) same))
+
+-- a command takes a byte at least
+pub behind_begins : {a : Address} {n : Bool} {v : WrittenVerb} (begins rest : Cursor) → rest.whole ≡ begins.whole
+    → CommandText (unread begins) a n v (unread rest) → begins.at < rest.at
+behind_begins begins rest same c = omega (arith, command_shorter c, unread_length begins, unread_length rest, ap (λ w. length w.now) same)
 
 -- ---- Progress
 

@@ -8,14 +8,12 @@ use Rattle.sedck_script.specs.Cuts.{is_digit, Longest}
 use Rattle.sedck_script.specs.Program.{Part, Text, Newline, Tab, Whole, Group}
 use Rattle.sedck_script.specs.Parts.{EscapedPart, Replacement, is_plain}
 use Rattle.sedck_script.specs.Parts as p
-use Rattle.sedck_script.specs.Private.Reading.{EndsIn}
 use Rattle.sedck_script.specs.declared.delimited.Piece.{Piece}
 use Rattle.sedck_script.specs.declared.delimited.Piece.TheVariants as piece
 use Rattle.sedck_script.specs.Private.PieceReading.{IsPiece}
 use Rattle.sedck_script.specs.Private.ReplacementReading.{IsGroupWithin, HasGroupsUpTo, IsFirstPart}
-use Rattle.sedck_script.proofs.LongestRuns.{longest_one}
+use Rattle.sedck_text.proofs.Runs.{longest_one}
 use Rattle.sedck_script.proofs.FirstBytes.{heads}
-use Rattle.sedck_script.proofs.OffsetLemmas.{tail_cut, tail_tail}
 use Rattle.sedck_script.proofs.UniqueParts.{plain_first, no_plain, escaped_one}
 use Rattle.sedck_script.proofs.PieceLemmas.{SomePiece}
 
@@ -50,7 +48,6 @@ only_whole n m (p.run l x) = absurd ((no_plain _ _ (plain_first _ l)).2 m)
 
 pub first_whole : {d b : ℕ} {text behind : List ℕ} (g : ℕ) → IsPiece d text (piece.Byte b) behind → b ≡ 38 → IsFirstPart d g text Whole behind
 first_whole {d} {b} {text} {behind} g h e = record {
-  tail = (b ∷ [], h.0);
   shorter = omega (arith, ap length h.0);
   within = tt;
   sound = λ parts r x. subst (λ t. Replacement d t (Whole ∷ parts) r) (sym h.0) (p.whole h.1 e x);
@@ -79,7 +76,6 @@ first_run {d} {b} {text} {behind} {run} {after} g n h e l =
     let r = run_of d b text behind run after h.0 (plain_from d b h.1 h.2 h.3 e) l in
     let m : Longest (is_plain d) text (b ∷ r.0) after = subst (λ t. Longest (is_plain d) text t after) r.1 l in
     subst (λ t. IsFirstPart d g text (Text t) after) (sym r.1) (record {
-      tail = tail_cut l;
       shorter = omega (arith, ap length m.cut, length-append (b ∷ r.0) after);
       within = tt;
       sound = λ parts q x. p.run m x;
@@ -99,7 +95,6 @@ pub first_escaped : {d : ℕ} {text behind : List ℕ} (g : ℕ) → d ≢ 92 �
 first_escaped {d} {text} {behind} g n h =
     let itself : take 1 (drop 1 text) ≡ d ∷ [] = ap (λ t. take 1 (drop 1 t)) h.0 in
     subst (λ t. IsFirstPart d g text (Text t) behind) (sym itself) (record {
-      tail = (92 ∷ d ∷ [], h.0);
       shorter = omega (arith, ap length h.0);
       within = tt;
       sound = λ parts r x. subst (λ t. Replacement d t (Text (d ∷ []) ∷ parts) r) (sym h.0) (p.escaped refl refl h.1 x);
@@ -117,7 +112,6 @@ only_pair n m e (p.run l x) = absurd ((no_plain _ _ (plain_first _ l)).1 refl)
 pub first_pair : {d b : ℕ} {text behind : List ℕ} (g : ℕ) (first : Part) → d ≢ 92 → IsPiece d text (piece.Pair b) behind → EscapedPart b first
     → IsGroupWithin g first → IsFirstPart d g text first behind
 first_pair {d} {b} {text} {behind} g first n h e w = record {
-  tail = (92 ∷ b ∷ [], h.0);
   shorter = omega (arith, ap length h.0);
   within = w;
   sound = λ parts r x. subst (λ t. Replacement d t (first ∷ parts) r) (sym h.0) (p.part refl h.1 e x);
@@ -150,8 +144,7 @@ pub replacement_broken : {d b g : ℕ} {text behind r : List ℕ} {all : List Pa
 replacement_broken {d} {r = r} {all = all} n h k x w = no_pair n h.1 k (subst (λ t. Replacement d t all r) h.0 x) w
 
 -- These parts have been read, and rest is left.
-pub record PartsPassed (d g : ℕ) (whole text : List ℕ) (parts : List Part) (rest : List ℕ) : Type 0 where
-  pub tail : EndsIn whole rest
+pub record PartsPassed (d g : ℕ) (text : List ℕ) (parts : List Part) (rest : List ℕ) : Type 0 where
   pub groups : HasGroupsUpTo g parts
   pub sound : (more : List Part) (r : List ℕ) → Replacement d rest more r → Replacement d text (parts ++ more) r
   pub only : (all : List Part) (r : List ℕ) → Replacement d text all r → (more : List Part) × (all ≡ parts ++ more) × Replacement d rest more r
@@ -166,10 +159,9 @@ part_groups g parts first h w k i = elim (Contains-append_cases parts (first ∷
     only_one x y (zero, lt, e) = e
     only_one x y (suc i, lt, e) = absurd (omega arith)
 
-pub parts_more : {d g : ℕ} {whole text rest behind : List ℕ} {parts : List Part} {first : Part} (all : List Part) → all ≡ parts ++ first ∷ []
-    → PartsPassed d g whole text parts rest → IsFirstPart d g rest first behind → PartsPassed d g whole text all behind
+pub parts_more : {d g : ℕ} {text rest behind : List ℕ} {parts : List Part} {first : Part} (all : List Part) → all ≡ parts ++ first ∷ []
+    → PartsPassed d g text parts rest → IsFirstPart d g rest first behind → PartsPassed d g text all behind
 parts_more {d} {g} {parts = parts} {first = first} all e h s = record {
-  tail = tail_tail h.tail s.tail;
   groups = rw e (part_groups g parts first h.groups s.within);
   sound = λ more r x. rw (e, append_assoc) (h.sound (first ∷ more) r (s.sound more r x));
   only = λ whole r x.
@@ -178,11 +170,11 @@ parts_more {d} {g} {parts = parts} {first = first} all e h s = record {
       (two.0, one.1 ∙ ap (λ t. parts ++ t) two.1 ∙ sym (append_assoc parts (first ∷ []) two.0) ∙ ap (λ t. t ++ two.0) (sym e), two.2);
 }
 
-pub parts_end : {d g : ℕ} {whole text rest behind : List ℕ} {parts : List Part} → PartsPassed d g whole text parts rest → rest ≡ d ∷ behind
+pub parts_end : {d g : ℕ} {text rest behind : List ℕ} {parts : List Part} → PartsPassed d g text parts rest → rest ≡ d ∷ behind
     → Replacement d text parts behind
 parts_end {d} {behind = behind} h e = rw append-nil at (h.sound [] behind (subst (λ t. Replacement d t [] behind) (sym e) (p.ends refl)))
 
-pub parts_stuck : {d g : ℕ} {whole text rest : List ℕ} {parts : List Part} → PartsPassed d g whole text parts rest
+pub parts_stuck : {d g : ℕ} {text rest : List ℕ} {parts : List Part} → PartsPassed d g text parts rest
     → ((more : List Part) (r : List ℕ) → Replacement d rest more r → HasGroupsUpTo g more → ⊥) → (all : List Part) (r : List ℕ)
     → Replacement d text all r → HasGroupsUpTo g all → ⊥
 parts_stuck {parts = parts} h n all r x w =

@@ -1,5 +1,6 @@
 -- What holds of a result where more is known of it.
-use Rattle.std.proofs.Common.{◌≡◌, Result, Ok, Err, Option, Some, None, subst, sym}
+use Rattle.std.proofs.Common.{◌≡◌, ℕ, List, Result, Ok, Err, Option, Some, None, subst, sym}
+use Rattle.std.specs.Borrow.{Bor}
 use Rattle.std.specs.Prelude.{IfOk, IfErr, IfSome, IfNone, IsErrAnd}
 
 pub if_ok_more : {A E : Type 0} {P Q : A → Type 0} (r : Result A E) → ((x : A) → P x → Q x) → IfOk r P → IfOk r Q
@@ -29,7 +30,16 @@ pub if_err_always : {A E : Type 0} {P : Type 0} (r : Result A E) → P → IfErr
 if_err_always (Ok x) h = tt
 if_err_always (Err e) h = h
 
+pub if_none_always : {A P : Type 0} (o : Option A) → P → IfNone o P
+if_none_always (Some x) h = tt
+if_none_always None h = h
+
 -- what holds of each error
 pub if_err_each : {A E : Type 0} (Q : E → Type 0) (r : Result A E) → ((e : E) → Q e) → IfErr r Q
 if_err_each Q (Ok x) h = tt
 if_err_each Q (Err e) h = h e
+
+-- what holds of an error in the text of a callee, which is the caller's
+pub if_err_same : {A E : Type 0} (P : List ℕ → E → Type 0) (r : Result A E) (e : E) {whole other : Bor (List ℕ)} → IsErrAnd r (λ y. y ≡ e) → other ≡ whole
+    → P other.now e → IfErr r (P whole.now)
+if_err_same P r e {whole} {other} h same p = if_err_from (P whole.now) r e h (subst (λ w. P w.now e) same p)

@@ -1,5 +1,5 @@
 -- The addresses of a command are the only ones.
-use Rattle.std.proofs.Common.{◌≡◌, ℕ, true, List, [], ◌∷◌, length, Option, Some, None, refl, ap, sym, ◌∙◌, subst, arith}
+use Rattle.std.proofs.Common.{◌≡◌, ℕ, true, List, [], ◌∷◌, Option, Some, None, refl, ap, sym, ◌∙◌, subst}
 use Rattle.std.proofs.lemmas.Bool.{both_ways, not-true}
 use Rattle.sedck_script.specs.Cuts.{is_blank, Longest}
 use Rattle.sedck_script.specs.Program.{Place, Address, NoAddress, One, Two}
@@ -7,13 +7,14 @@ use Rattle.sedck_script.specs.Parts.{PlaceText, AddressText}
 use Rattle.sedck_script.specs.Parts as p
 use Rattle.sedck_script.specs.Items.{WrittenVerb, VerbText}
 use Rattle.sedck_script.specs.Private.AddressReading.{begins_address, is_mark, BeginsPlace, BeginsNoPlace, IsOnlyAddress, IsNoCommand, IsBehindComma, HasNoComma, IsSecond}
-use Rattle.sedck_script.proofs.LongestRuns.{longest_one}
+use Rattle.sedck_text.proofs.Runs.{longest_one}
 use Rattle.sedck_script.proofs.UniqueItems.{place_first, place_other, place_no_mark, no_verb_here, no_place_here, no_comma_here, longest_along, place_along, place_one, pair_of}
 use Rattle.sedck_script.specs.Private.Reading.{EndsIn}
-use Rattle.sedck_script.proofs.OffsetLemmas.{tail_cut, tail_tail, tail_behind, tail_cons, number_tail, expression_tail}
+use Rattle.sedck_script.proofs.OffsetLemmas.{tail_cons, number_tail, expression_tail}
 use Rattle.sedck_script.proofs.ResultLemmas.{if_some_at, if_none_at}
 use Rattle.std.specs.Prelude.{IfSome, IfNone}
-use Rattle.std.specs.Borrow.{Bor}
+use Rattle.sedck_text.specs.Cursors.{unread}
+use Rattle.sedck_text.specs.declared.cursor.Cursor.{Cursor}
 use Rattle.sedck_script.specs.View.{place_of}
 use Rattle.sedck_script.specs.declared.script.Place.{Place as CodePlace}
 use Rattle.sedck_script.proofs.FirstBytes.{heads, tails}
@@ -104,34 +105,23 @@ place_tail (p.last {b = b} e) = (b ∷ [], refl)
 place_tail (p.context {b = b} e x y) = tail_cons b (expression_tail x.cut)
 place_tail (p.custom {b = b} {delimiter = d} e i x y) = tail_cons b (tail_cons d (expression_tail x.cut))
 
--- the tail after a place, a comma and the blanks round it
-pub second_tail : {whole text r blanks after more front second : List ℕ} {b : ℕ} {q : Place} → EndsIn whole text → PlaceText text q r
-    → Longest is_blank r blanks after → after ≡ b ∷ more → Longest is_blank more front second → EndsIn whole second
-second_tail h x l e m = tail_tail (tail_behind (tail_tail h (tail_tail (place_tail x) (tail_cut l))) e) (tail_cut m)
-
-pub comma_tail : {whole text second : List ℕ} → EndsIn whole text → IsBehindComma text second → EndsIn whole second
-comma_tail h l = tail_tail (tail_behind (tail_tail h (tail_cut l.before)) refl) (tail_cut l.behind)
-
 -- ---- Commas
-
-pub no_comma_end : {text blanks after : List ℕ} → Longest is_blank text blanks after → length after ≡ 0 → HasNoComma text
-no_comma_end l e blanks more b k h = absurd (omega (arith, e, ap length (longest_one l k).1))
 
 pub no_comma : {text blanks after behind : List ℕ} {c : ℕ} → Longest is_blank text blanks after → after ≡ c ∷ behind → (c ≡ 44 → ⊥) → HasNoComma text
 no_comma l e n blanks more b k h = n (heads (sym e ∙ (longest_one l k).1) ∙ h)
 
 -- ---- What is found
 
-pub place_found : {text : List ℕ} {o : Option (CodePlace × Option ℕ × Bor (List ℕ))} {x : CodePlace × Option ℕ × Bor (List ℕ)} → o ≡ Some x
-    → IfSome o (λ y. PlaceText text (place_of y.0) y.2.now) → PlaceText text (place_of x.0) x.2.now
-place_found {text = text} e h = if_some_at (λ y. PlaceText text (place_of y.0) y.2.now) e h
+pub place_found : {text : List ℕ} {o : Option (CodePlace × Option ℕ × Cursor)} {x : CodePlace × Option ℕ × Cursor} → o ≡ Some x
+    → IfSome o (λ y. PlaceText text (place_of y.0) (unread y.2)) → PlaceText text (place_of x.0) (unread x.2)
+place_found {text = text} e h = if_some_at (λ y. PlaceText text (place_of y.0) (unread y.2)) e h
 
-pub second_found : {text : List ℕ} {o : Option (CodePlace × Option ℕ × Bor (List ℕ))} {x : CodePlace × Option ℕ × Bor (List ℕ)} → o ≡ Some x
-    → IfSome o (λ y. IsSecond text (place_of y.0) y.2.now) → IsSecond text (place_of x.0) x.2.now
-second_found {text = text} e h = if_some_at (λ y. IsSecond text (place_of y.0) y.2.now) e h
+pub second_found : {text : List ℕ} {o : Option (CodePlace × Option ℕ × Cursor)} {x : CodePlace × Option ℕ × Cursor} → o ≡ Some x
+    → IfSome o (λ y. IsSecond text (place_of y.0) (unread y.2)) → IsSecond text (place_of x.0) (unread x.2)
+second_found {text = text} e h = if_some_at (λ y. IsSecond text (place_of y.0) (unread y.2)) e h
 
-pub no_comma_found : (text : List ℕ) {o : Option (CodePlace × Option ℕ × Bor (List ℕ))} → o ≡ None → IfNone o (HasNoComma text) → HasNoComma text
+pub no_comma_found : (text : List ℕ) {o : Option (CodePlace × Option ℕ × Cursor)} → o ≡ None → IfNone o (HasNoComma text) → HasNoComma text
 no_comma_found text e h = if_none_at (HasNoComma text) e h
 
-pub none_found : (text : List ℕ) {o : Option (CodePlace × Option ℕ × Bor (List ℕ))} → o ≡ None → IfNone o (BeginsNoPlace text) → BeginsNoPlace text
+pub none_found : (text : List ℕ) {o : Option (CodePlace × Option ℕ × Cursor)} → o ≡ None → IfNone o (BeginsNoPlace text) → BeginsNoPlace text
 none_found text e h = if_none_at (BeginsNoPlace text) e h

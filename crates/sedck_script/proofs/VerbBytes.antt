@@ -2,7 +2,7 @@
 use Rattle.std.proofs.Common.{◌≡◌, ◌≢◌, ℕ, Bool, true, false, not, ◌&&◌, eqb, List, ◌∷◌, Option, Some, refl, sym, ◌∙◌, subst, arith}
 use Rattle.std.proofs.lemmas.Bool.{false≢true, eq-eqb}
 use Rattle.std.proofs.lemmas.Option.{same_Some}
-use Rattle.sedck_bre.specs.Text.{is_in, one_of}
+use Rattle.sedck_text.specs.Text.{is_in, one_of}
 use Rattle.sedck_script.specs.Program.{Address, NoAddress, One, Two, Verb}
 use Rattle.sedck_script.specs.Items.{WrittenVerb, Known, Opening, Simple, VerbText, Takes}
 use Rattle.sedck_script.specs.Items as w

@@ -4,7 +4,7 @@ use Rattle.std.specs.List.{list_all}
 use Rattle.std.specs.Borrow.{Bor}
 use Rattle.std.specs.HashMap.{HashMap}
 use Rattle.std.proofs.lemmas.Bool.{or_cases, or_from, ne_eqb, eqb-true, and_parts, both_ways, false≢true, false_from_ne_true, cases_Bool, eq-eqb}
-use Rattle.sedck_bre.specs.Text.{is_in, one_of}
+use Rattle.sedck_text.specs.Text.{is_in, one_of}
 use Rattle.sedck_script.specs.Cuts.{is_blank, Longest}
 use Rattle.sedck_script.specs.Program.{Verb, Label}
 use Rattle.sedck_script.specs.Parts.{Ends, LabelText, Name, GivenText}
@@ -14,7 +14,7 @@ use Rattle.sedck_script.specs.Faults.{verb_bytes}
 use Rattle.sedck_script.specs.Private.Reading.{label_place}
 use Rattle.sedck_script.specs.Private.LabelReading.{BranchText}
 use Rattle.sedck_script.specs.Private.VerbReading.{DefinesKnown}
-use Rattle.sedck_script.proofs.LongestRuns.{longest_one}
+use Rattle.sedck_text.proofs.Runs.{longest_one}
 use Rattle.sedck_script.proofs.UniqueParts.{label_one}
 use Rattle.sedck_script.proofs.UniqueVerbs.{class_of, begins, differ, simple_class}
 use Rattle.sedck_script.proofs.FlagLemmas.{some_of}

@@ -7,12 +7,10 @@ use Rattle.sedck_script.specs.Parts.{Ends, DelimitedList, FirstList, Replacement
 use Rattle.sedck_script.specs.Items.{WrittenVerb, Known, BranchTo, TestTo, Simple, VerbText, IsNoBrace}
 use Rattle.sedck_script.specs.Items as w
 use Rattle.sedck_script.specs.Private.PieceReading.{PatternText}
-use Rattle.sedck_script.specs.Private.Reading.{EndsIn}
 use Rattle.sedck_script.specs.Private.VerbReading.{AreLists}
 use Rattle.sedck_script.specs.Private.ReplacementReading.{HasGroupsUpTo}
 use Rattle.sedck_script.proofs.UniqueParts.{list_one, replacement_one}
 use Rattle.sedck_script.proofs.UniqueVerbs.{class_of, begins, differ}
-use Rattle.sedck_script.proofs.OffsetLemmas.{tail_tail, list_tail}
 
 -- what follows the delimiter of a `s`
 record SubstituteInside (d : ℕ) (opened : List ℕ) (rest : List ℕ) : Type 0 where
@@ -121,6 +119,3 @@ lists_one k l m = (list_one k (second_list k l.first m).0 l.second).1
 pub transliterate_no_end : {d : ℕ} {text opened from to after : List ℕ} → d ≢ 92 → text ≡ d ∷ opened → AreLists d opened from to after
     → ((r : List ℕ) → Ends after r → ⊥) → (verb : WrittenVerb) (rest : List ℕ) → VerbText (121 ∷ text) verb rest → ⊥
 transliterate_no_end k e l n verb rest x = let i = transliterate_inside e x in n rest (subst (λ t. Ends t rest) (lists_one k l i.lists) i.ends)
-
-pub lists_tail : {d : ℕ} {text from to rest : List ℕ} → AreLists d text from to rest → EndsIn text rest
-lists_tail l = tail_tail (list_tail l.first.list) (list_tail l.second)

@@ -1,7 +1,7 @@
 -- Bracket lists in a text that is no expression, as some seds take them into account where they look for the end of a part.
 -- This project's own.
 use Rattle.std.specs.Prelude.{◌≡◌, ◌≢◌, ℕ, ◌==◌, not, List, [], ◌∷◌}
-use Rattle.sedck_bre.specs.Bytes.{opening_bracket, caret, backslash}
+use Rattle.sedck_text.specs.Bytes.{opening_bracket, caret, backslash}
 use Rattle.sedck_script.specs.Cuts.{Longest}
 
 abbrev pub closing_bracket : ℕ

@@ -1,6 +1,6 @@
 -- Worked examples of scripts: what some texts spell, part by part.
 use Rattle.std.specs.Prelude.{◌≡◌, ℕ, true, false, List, [], ◌∷◌, Some, codes}
-use Rattle.sedck_bre.specs.Bytes.{newline, carriage_return, slash, backslash, letter_x}
+use Rattle.sedck_text.specs.Bytes.{newline, carriage_return, slash, backslash, letter_x}
 use Rattle.sedck_script.specs.Program.{Verb, NoAddress, One, Last, Part, Text, Whole, Newline, Label, Branch, Block, NextAppend, Print, Command}
 use Rattle.sedck_script.specs.Parts.{DelimitedExpression, ExpressionText, DelimitedList, FirstList, Replacement, EscapedPart, GivenText}
 use Rattle.sedck_script.specs.Items.{WrittenVerb, Known, BranchTo, Opening, Item, Written, Closing, VerbText, HasNoInnerReturn, Items}

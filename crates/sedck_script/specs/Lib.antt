@@ -1,5 +1,5 @@
-pub use Rattle.sedck_bre.specs.Bytes
-pub use Rattle.sedck_bre.specs.Text
+pub use Rattle.sedck_text.specs.Bytes
+pub use Rattle.sedck_text.specs.Text
 pub use Rattle.sedck_bre.specs.Tree
 pub use Rattle.sedck_bre.specs.Match
 pub use Rattle.sedck_bre.specs.WellFormed

@@ -6,16 +6,17 @@ ghost use Rattle.sedck_script.specs.Program as clean;
 ghost use Rattle.sedck_script.specs.Program.{place_patterns, address_patterns};
 ghost use Rattle.sedck_script.specs.Parts.{PlaceText, AddressText};
 ghost use Rattle.sedck_script.specs.Faults.{IsPlaced};
-ghost use Rattle.sedck_script.specs.Private.Reading.{EndsIn};
+ghost use Rattle.sedck_text.specs.Cursors.{unread, Follows};
 ghost use Rattle.sedck_script.specs.Private.PieceReading.{IsPartPlaced};
 ghost use Rattle.sedck_script.specs.Private.AddressReading.{begins_address, IsEmptyAt, ContextText, CustomText, BeginsPlace, BeginsNoPlace, IsOnlyAddress, IsNoCommand, IsBehindComma, HasNoComma, IsSecond, BeginsNoSecond};
 ghost use Rattle.sedck_script.specs.View as view;
 
-use crate::bytes::{is_delimiter, is_digit, split_blanks};
-use crate::delimited::pattern;
+use crate::bytes::{is_delimiter, is_digit};
+use crate::delimited::read_pattern;
 use crate::fault::ScriptFault;
-use crate::numbers::number;
+use crate::numbers::read_number;
 use crate::script::{Address, Pattern, Place};
+use sedck_text::{Class, Cursor};
 use std::alloc::Global;
 
 /// Whether an address begins with the byte.
@@ -25,165 +26,160 @@ fn begins_address(b: u8) -> bool
     is_digit(b) || b"$/\\".contains(&b)
 }
 
-/// An address between delimiters, after its opening one; the place of its expression where that is empty; and what
+/// An address between delimiters, after its opening one; the offset of its expression where that is empty; and what
 /// follows it.
-fn context<'a>(
+fn read_context<'a>(
     alloc: Global,
-    whole: &[u8],
     opening: usize,
     delimiter: u8,
-    text: &'a [u8],
-) -> Result<(Place, Option<usize>, &'a [u8]), ScriptFault>
+    text: Cursor<'a>,
+) -> Result<(Place, Option<usize>, Cursor<'a>), ScriptFault>
     requires delimiter { IsTrue (is_delimiter delimiter) }
-    requires opened { EndsIn whole.now (delimiter ∷ text.now) }
-    ensures read { IfOk result (λ x. ContextText delimiter text.now (view.place_of x.0) x.2.now) }
-    ensures empty { IfOk result (λ x. IsEmptyAt whole.now (place_patterns (view.place_of x.0)) x.1) }
-    ensures refused { IfErr result (λ fault. fault ≢ ScriptFault.OutOfMemory → (p : clean.Place) (rest : List ℕ) → ContextText delimiter text.now p rest → ⊥) }
-    ensures placed { IfErr result (λ fault. IsPartPlaced opening whole.now fault) }
+    requires opened { Follows text delimiter }
+    ensures read { IfOk result (λ x. ContextText delimiter (unread text.entry) (view.place_of x.0) (unread x.2)) }
+    ensures same { IfOk result (λ x. x.2.whole ≡ text.entry.whole) }
+    ensures empty { IfOk result (λ x. IsEmptyAt text.entry.whole.now (place_patterns (view.place_of x.0)) x.1) }
+    ensures refused { IfErr result (λ fault. fault ≢ ScriptFault.OutOfMemory → (p : clean.Place) (rest : List ℕ) → ContextText delimiter (unread text.entry) p rest → ⊥) }
+    ensures placed { IfErr result (λ fault. IsPartPlaced opening text.entry.whole.now fault) }
 {
-    let (pattern, rest) = pattern(alloc, whole, opening, delimiter, text)?;
+    let (pattern, rest) = read_pattern(alloc, opening, delimiter, text)?;
     let empty = match pattern {
-        Pattern::Previous => Some(whole.len() - text.len()),
+        Pattern::Previous => Some(text.offset()),
         Pattern::Expr(_) => None,
     };
     Ok((Place::Context(pattern), empty, rest))
 }
 
 /// An address with a delimiter of its own, after its backslash.
-fn custom_context<'a>(
+fn read_custom_context<'a>(
     alloc: Global,
-    whole: &[u8],
     opening: usize,
-    text: &'a [u8],
-) -> Result<(Place, Option<usize>, &'a [u8]), ScriptFault>
-    requires tail { EndsIn whole.now text.now }
-    ensures read { IfOk result (λ x. CustomText text.now (view.place_of x.0) x.2.now) }
-    ensures empty { IfOk result (λ x. IsEmptyAt whole.now (place_patterns (view.place_of x.0)) x.1) }
-    ensures refused { IfErr result (λ fault. fault ≢ ScriptFault.OutOfMemory → (p : clean.Place) (rest : List ℕ) → CustomText text.now p rest → ⊥) }
-    ensures placed { IfErr result (λ fault. IsPartPlaced opening whole.now fault) }
+    text: Cursor<'a>,
+) -> Result<(Place, Option<usize>, Cursor<'a>), ScriptFault>
+    ensures read { IfOk result (λ x. CustomText (unread text.entry) (view.place_of x.0) (unread x.2)) }
+    ensures same { IfOk result (λ x. x.2.whole ≡ text.entry.whole) }
+    ensures empty { IfOk result (λ x. IsEmptyAt text.entry.whole.now (place_patterns (view.place_of x.0)) x.1) }
+    ensures refused { IfErr result (λ fault. fault ≢ ScriptFault.OutOfMemory → (p : clean.Place) (rest : List ℕ) → CustomText (unread text.entry) p rest → ⊥) }
+    ensures placed { IfErr result (λ fault. IsPartPlaced opening text.entry.whole.now fault) }
 {
     let Some((delimiter, behind)) = text.split_first() else {
         return Err(ScriptFault::Unterminated { place: opening });
     };
-    if !is_delimiter(*delimiter) {
+    if !is_delimiter(delimiter) {
         return Err(ScriptFault::Unterminated { place: opening });
     }
-    context(alloc, whole, opening, *delimiter, behind)
+    read_context(alloc, opening, delimiter, behind)
 }
 
-/// The address that begins here, the place of its expression where that is empty, and what follows it.
-fn place_here<'a>(
+/// The address that begins here, the offset of its expression where that is empty, and what follows it.
+fn read_place<'a>(
     alloc: Global,
-    whole: &[u8],
     first: u8,
-    text: &'a [u8],
-    behind: &'a [u8],
-) -> Result<(Place, Option<usize>, &'a [u8]), ScriptFault>
-    requires tail { EndsIn whole.now text.now }
-    requires first { text.now ≡ first ∷ behind.now }
+    text: Cursor<'a>,
+    behind: Cursor<'a>,
+) -> Result<(Place, Option<usize>, Cursor<'a>), ScriptFault>
+    requires first { unread text ≡ first ∷ unread behind }
+    requires same { behind.whole ≡ text.whole }
+    requires follows { Follows behind first }
     requires begins { IsTrue (begins_address first) }
-    ensures read { IfOk result (λ x. PlaceText text.now (view.place_of x.0) x.2.now) }
-    ensures empty { IfOk result (λ x. IsEmptyAt whole.now (place_patterns (view.place_of x.0)) x.1) }
-    ensures refused { IfErr result (λ fault. fault ≢ ScriptFault.OutOfMemory → (p : clean.Place) (rest : List ℕ) → PlaceText text.now p rest → ⊥) }
-    ensures placed { IfErr result (λ fault. IsPlaced whole.now fault) }
+    ensures read { IfOk result (λ x. PlaceText (unread text.entry) (view.place_of x.0) (unread x.2)) }
+    ensures same { IfOk result (λ x. x.2.whole ≡ text.entry.whole) }
+    ensures empty { IfOk result (λ x. IsEmptyAt text.entry.whole.now (place_patterns (view.place_of x.0)) x.1) }
+    ensures refused { IfErr result (λ fault. fault ≢ ScriptFault.OutOfMemory → (p : clean.Place) (rest : List ℕ) → PlaceText (unread text.entry) p rest → ⊥) }
+    ensures placed { IfErr result (λ fault. IsPlaced text.entry.whole.now fault) }
 {
-    let opening = whole.len() - text.len();
     if first == b'$' {
         return Ok((Place::Last, None, behind));
     }
     if first == b'/' {
-        return context(alloc, whole, opening, b'/', behind);
+        return read_context(alloc, text.offset(), b'/', behind);
     }
     if first == b'\\' {
-        return custom_context(alloc, whole, opening, behind);
+        return read_custom_context(alloc, text.offset(), behind);
     }
-    match number(text) {
+    match read_number(text) {
         Some((line, rest)) => Ok((Place::Line(line), None, rest)),
-        None => Err(ScriptFault::BadAddress { place: opening }),
+        None => Err(ScriptFault::BadAddress {
+            place: text.offset(),
+        }),
     }
 }
 
 /// The address at the start, where one begins here.
-fn place_at<'a>(
+fn split_place<'a>(
     alloc: Global,
-    whole: &[u8],
-    text: &'a [u8],
-) -> Result<Option<(Place, Option<usize>, &'a [u8])>, ScriptFault>
-    requires tail { EndsIn whole.now text.now }
-    ensures read { IfOk result (λ x. IfSome x (λ y. PlaceText text.now (view.place_of y.0) y.2.now)) }
-    ensures empty { IfOk result (λ x. IfSome x (λ y. IsEmptyAt whole.now (place_patterns (view.place_of y.0)) y.1)) }
-    ensures none { IfOk result (λ x. IfNone x (BeginsNoPlace text.now)) }
-    ensures begins { IfErr result (λ fault. BeginsPlace text.now) }
-    ensures refused { IfErr result (λ fault. fault ≢ ScriptFault.OutOfMemory → (p : clean.Place) (rest : List ℕ) → PlaceText text.now p rest → ⊥) }
-    ensures placed { IfErr result (λ fault. IsPlaced whole.now fault) }
+    text: Cursor<'a>,
+) -> Result<Option<(Place, Option<usize>, Cursor<'a>)>, ScriptFault>
+    ensures read { IfOk result (λ x. IfSome x (λ y. PlaceText (unread text.entry) (view.place_of y.0) (unread y.2))) }
+    ensures same { IfOk result (λ x. IfSome x (λ y. y.2.whole ≡ text.entry.whole)) }
+    ensures empty { IfOk result (λ x. IfSome x (λ y. IsEmptyAt text.entry.whole.now (place_patterns (view.place_of y.0)) y.1)) }
+    ensures none { IfOk result (λ x. IfNone x (BeginsNoPlace (unread text.entry))) }
+    ensures begins { IfErr result (λ fault. BeginsPlace (unread text.entry)) }
+    ensures refused { IfErr result (λ fault. fault ≢ ScriptFault.OutOfMemory → (p : clean.Place) (rest : List ℕ) → PlaceText (unread text.entry) p rest → ⊥) }
+    ensures placed { IfErr result (λ fault. IsPlaced text.entry.whole.now fault) }
 {
     let Some((first, behind)) = text.split_first() else {
         return Ok(None);
     };
-    if !begins_address(*first) {
+    if !begins_address(first) {
         return Ok(None);
     }
-    let found = place_here(alloc, whole, *first, text, behind)?;
+    let found = read_place(alloc, first, text, behind)?;
     Ok(Some(found))
 }
 
 /// What follows a comma and the blanks round it.
-fn behind_comma(text: &[u8]) -> Option<&[u8]>
-    ensures some { IfSome result (λ second. IsBehindComma text.now second.now) }
-    ensures none { IfNone result (HasNoComma text.now) }
+fn skip_comma<'a>(text: Cursor<'a>) -> Option<Cursor<'a>>
+    ensures some { IfSome result (λ second. IsBehindComma (unread text.entry) (unread second)) }
+    ensures same { IfSome result (λ x. x.whole ≡ text.entry.whole) }
+    ensures none { IfNone result (HasNoComma (unread text.entry)) }
 {
-    let (_, after) = split_blanks(text);
-    let Some((next, more)) = after.split_first() else {
-        return None;
-    };
-    if *next != b',' {
+    let (next, more) = text.skip(Class::Blank).split_first()?;
+    if next != b',' {
         return None;
     }
-    let (_, second) = split_blanks(more);
-    Some(second)
+    Some(more.skip(Class::Blank))
 }
 
 /// The address after a comma, where there is one here.
-fn second_at<'a>(
+fn split_second<'a>(
     alloc: Global,
-    whole: &[u8],
-    text: &'a [u8],
-) -> Result<Option<(Place, Option<usize>, &'a [u8])>, ScriptFault>
-    requires tail { EndsIn whole.now text.now }
-    ensures read { IfOk result (λ x. IfSome x (λ y. IsSecond text.now (view.place_of y.0) y.2.now)) }
-    ensures empty { IfOk result (λ x. IfSome x (λ y. IsEmptyAt whole.now (place_patterns (view.place_of y.0)) y.1)) }
-    ensures none { IfOk result (λ x. IfNone x (HasNoComma text.now)) }
-    ensures refused { IfErr result (λ fault. fault ≢ ScriptFault.OutOfMemory → BeginsNoSecond text.now) }
-    ensures placed { IfErr result (λ fault. IsPlaced whole.now fault) }
+    text: Cursor<'a>,
+) -> Result<Option<(Place, Option<usize>, Cursor<'a>)>, ScriptFault>
+    ensures read { IfOk result (λ x. IfSome x (λ y. IsSecond (unread text.entry) (view.place_of y.0) (unread y.2))) }
+    ensures same { IfOk result (λ x. IfSome x (λ y. y.2.whole ≡ text.entry.whole)) }
+    ensures empty { IfOk result (λ x. IfSome x (λ y. IsEmptyAt text.entry.whole.now (place_patterns (view.place_of y.0)) y.1)) }
+    ensures none { IfOk result (λ x. IfNone x (HasNoComma (unread text.entry))) }
+    ensures refused { IfErr result (λ fault. fault ≢ ScriptFault.OutOfMemory → BeginsNoSecond (unread text.entry)) }
+    ensures placed { IfErr result (λ fault. IsPlaced text.entry.whole.now fault) }
 {
-    let Some(second) = behind_comma(text) else {
+    let Some(second) = skip_comma(text) else {
         return Ok(None);
     };
-    let Some(found) = place_at(alloc, whole, second)? else {
+    let Some(found) = split_place(alloc, second)? else {
         return Err(ScriptFault::BadAddress {
-            place: whole.len() - second.len(),
+            place: second.offset(),
         });
     };
     Ok(Some(found))
 }
 
-/// The addresses at the start, the place of their first empty expression, and what follows them.
-pub fn address_at<'a>(
+/// The addresses at the start, the offset of their first empty expression, and what follows them.
+pub fn split_address<'a>(
     alloc: Global,
-    whole: &[u8],
-    text: &'a [u8],
-) -> Result<(Address, Option<usize>, &'a [u8]), ScriptFault>
-    requires tail { EndsIn whole.now text.now }
-    ensures read { IfOk result (λ x. AddressText text.now (view.address_of x.0) x.2.now) }
-    ensures only { IfOk result (λ x. IsOnlyAddress text.now (view.address_of x.0) x.2.now) }
-    ensures empty { IfOk result (λ x. IsEmptyAt whole.now (address_patterns (view.address_of x.0)) x.1) }
-    ensures refused { IfErr result (λ fault. fault ≢ ScriptFault.OutOfMemory → IsNoCommand text.now) }
-    ensures placed { IfErr result (λ fault. IsPlaced whole.now fault) }
+    text: Cursor<'a>,
+) -> Result<(Address, Option<usize>, Cursor<'a>), ScriptFault>
+    ensures read { IfOk result (λ x. AddressText (unread text.entry) (view.address_of x.0) (unread x.2)) }
+    ensures same { IfOk result (λ x. x.2.whole ≡ text.entry.whole) }
+    ensures only { IfOk result (λ x. IsOnlyAddress (unread text.entry) (view.address_of x.0) (unread x.2)) }
+    ensures empty { IfOk result (λ x. IsEmptyAt text.entry.whole.now (address_patterns (view.address_of x.0)) x.1) }
+    ensures refused { IfErr result (λ fault. fault ≢ ScriptFault.OutOfMemory → IsNoCommand (unread text.entry)) }
+    ensures placed { IfErr result (λ fault. IsPlaced text.entry.whole.now fault) }
 {
-    let Some((from, empty, behind)) = place_at(alloc, whole, text)? else {
+    let Some((from, empty, behind)) = split_place(alloc, text)? else {
         return Ok((Address::None, None, text));
     };
-    let Some((to, other, rest)) = second_at(alloc, whole, behind)? else {
+    let Some((to, other, rest)) = split_second(alloc, behind)? else {
         return Ok((Address::One(from), empty, behind));
     };
     Ok((Address::Two(from, to), empty.or(other), rest))

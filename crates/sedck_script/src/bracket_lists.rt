@@ -1,11 +1,11 @@
 //! Bracket lists in a text that is no expression.
 
 ghost use Rattle.std.specs.Prelude.{◌==◌, not, ℕ, List, [], ◌∷◌, IfSome, IfNone};
-ghost use Rattle.sedck_bre.specs.Bytes.{opening_bracket};
+ghost use Rattle.sedck_text.specs.Bytes.{opening_bracket};
 ghost use Rattle.sedck_script.specs.Cuts.{Longest};
 ghost use Rattle.sedck_script.specs.BracketLists.{closing_bracket, BracketBegins, BracketList, BracketsClose};
 
-use crate::bytes::bracket_len;
+use sedck_text::Class;
 
 /// What follows the bytes with which a bracket list begins.
 fn bracket_begins(text: &[u8]) -> Option<&[u8]>
@@ -24,7 +24,7 @@ fn bracket_begins(text: &[u8]) -> Option<&[u8]>
 fn split_bracket(text: &[u8]) -> (&[u8], &[u8])
     ensures { Longest (λ b. not (b == closing_bracket)) text.now result.0.now result.1.now }
 {
-    text.split_at(bracket_len(text))
+    text.split_at(Class::Except(b']').run_length(text))
 }
 
 /// What follows a bracket list after its `[`, where it is closed.

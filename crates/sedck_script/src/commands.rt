@@ -2,37 +2,30 @@
 
 ghost use Rattle.std.specs.Prelude.{◌≡◌, ◌≢◌, ◌≤◌, ◌<◌, ◌++◌, ◌==◌, ◌⊎◌, ◌-◌, ℕ, List, Bool, true, length, IfOk, IfErr, OnOk, OnErr};
 ghost use Rattle.std.specs.List.{list_any};
-ghost use Rattle.sedck_bre.specs.Text.{is_in};
-ghost use Rattle.sedck_script.specs.Cuts.{bang, Longest};
+ghost use Rattle.sedck_text.specs.Text.{is_in};
+ghost use Rattle.sedck_script.specs.Cuts.{bang};
 ghost use Rattle.sedck_script.specs.Program as clean;
 ghost use Rattle.sedck_script.specs.Program.{address_patterns};
 ghost use Rattle.sedck_script.specs.Items.{WrittenVerb, Opening, VerbText, Takes, IsNoBrace, CommandText};
 ghost use Rattle.sedck_script.specs.Resolution.{MayBeBraced};
 ghost use Rattle.sedck_script.specs.Faults.{BeginsCommand, IsVerbDue, IsEmptyExpression, IsPlaced, verb_bytes};
-ghost use Rattle.sedck_script.specs.Private.Reading.{EndsIn};
+ghost use Rattle.sedck_text.specs.Cursors.{unread};
 ghost use Rattle.sedck_script.specs.Private.VerbReading.{written_verb, is_braced, IsWrittenAt, DefinesKnown};
 ghost use Rattle.sedck_script.specs.Private.AddressReading.{is_mark, has_previous, IsEmptyAt};
 ghost use Rattle.sedck_script.specs.Private.Progress.{takes, written_patterns, IsBeyond, AreAllowed};
 ghost use Rattle.sedck_script.specs.Private.Locating.{IsOnlyLocation};
 ghost use Rattle.sedck_script.specs.View.{address_of};
 
-use crate::addresses::address_at;
-use crate::bytes::marks_len;
+use crate::addresses::split_address;
 use crate::fault::ScriptFault;
 use crate::limits::{COMMAND_LIMIT, DEPTH_LIMIT};
-use crate::location::location_of;
+use crate::location::Location;
+use crate::reader::Reader;
 use crate::script::{Address, Pattern, Verb};
-use crate::verbs::{Written, verb_at};
+use crate::verbs::{Written, read_verb};
 use crate::written::WrittenCommand;
-use indexmap::IndexMap;
+use sedck_text::{Class, Cursor};
 use std::alloc::Global;
-
-/// The blanks and `!` at the start, and what follows them.
-fn split_marks(text: &[u8]) -> (&[u8], &[u8])
-    ensures { Longest is_mark text.now result.0.now result.1.now }
-{
-    text.split_at(marks_len(text))
-}
 
 /// Whether a command may begin with the byte after its addresses.
 fn is_verb(b: u8) -> bool
@@ -54,35 +47,27 @@ fn takes(b: u8, address: &Address, negated: bool) -> bool
 }
 
 /// Whether a command may go on with the verb that begins here, by its first byte.
-fn check_verb(
-    whole: &[u8],
-    address: &Address,
-    negated: bool,
-    depth: usize,
-    count: usize,
-    text: &[u8],
-) -> Result<(), ScriptFault>
-    requires tail { EndsIn whole.now text.now }
-    requires due { IsVerbDue whole.now (length whole.now - length text.now) }
-    ensures allowed { OnOk result (AreAllowed (address_of address.now) negated depth count text.now) }
-    ensures brace { OnOk result (IsNoBrace text.now) }
-    ensures refused { IfErr result (λ fault. (verb : WrittenVerb) (rest : List ℕ) → VerbText text.now verb rest → Takes verb (address_of address.now) negated → IsBeyond depth count verb) }
-    ensures placed { IfErr result (λ fault. IsPlaced whole.now fault) }
+fn check_verb(reader: Reader, address: &Address, negated: bool) -> Result<(), ScriptFault>
+    requires due { IsVerbDue reader.cursor.whole.now reader.cursor.at }
+    ensures allowed { OnOk result (AreAllowed (address_of address.now) negated reader.entry.depth reader.entry.count (unread reader.entry.cursor)) }
+    ensures brace { OnOk result (IsNoBrace (unread reader.entry.cursor)) }
+    ensures refused { IfErr result (λ fault. (verb : WrittenVerb) (rest : List ℕ) → VerbText (unread reader.entry.cursor) verb rest → Takes verb (address_of address.now) negated → IsBeyond reader.entry.depth reader.entry.count verb) }
+    ensures placed { IfErr result (λ fault. IsPlaced reader.entry.cursor.whole.now fault) }
 {
-    let place = whole.len() - text.len();
-    let Some((verb, _)) = text.split_first() else {
+    let place = reader.cursor.offset();
+    let Some(verb) = reader.cursor.first() else {
         return Err(ScriptFault::UnknownCommand { place });
     };
-    if !is_verb(*verb) {
+    if !is_verb(verb) {
         return Err(ScriptFault::UnknownCommand { place });
     }
-    if !takes(*verb, address, negated) {
+    if !takes(verb, address, negated) {
         return Err(ScriptFault::TooManyAddresses { place });
     }
-    if *verb == b'{' && depth >= DEPTH_LIMIT {
+    if verb == b'{' && reader.depth >= DEPTH_LIMIT {
         return Err(ScriptFault::TooDeep { place });
     }
-    if count >= COMMAND_LIMIT {
+    if reader.count >= COMMAND_LIMIT {
         return Err(ScriptFault::TooManyCommands { place });
     }
     Ok(())
@@ -102,7 +87,7 @@ fn check_brace(verb: &Written, depth: usize) -> Result<(), ScriptFault>
     Ok(())
 }
 
-/// Where the verb has an empty expression, the place after its delimiter.
+/// Where the verb has an empty expression, the offset after its delimiter.
 fn empty_verb(verb: &Written, behind: usize) -> Option<usize>
     ensures { (text : List ℕ) → (has_previous (written_patterns (written_verb verb.now)) ≡ true → IsEmptyExpression text behind) → IsEmptyAt text (written_patterns (written_verb verb.now)) result }
 {
@@ -115,69 +100,67 @@ fn empty_verb(verb: &Written, behind: usize) -> Option<usize>
 }
 
 /// The verb at the start, where a command with these addresses may go on with it, and what follows it.
-fn allowed_verb<'a>(
+fn read_allowed_verb<'a>(
     alloc: Global,
-    whole: &[u8],
-    labels: &IndexMap<&'a [u8], usize>,
+    reader: Reader<'_, 'a>,
     address: &Address,
     negated: bool,
-    depth: usize,
-    count: usize,
-    text: &'a [u8],
-) -> Result<(Written<'a>, &'a [u8]), ScriptFault>
-    requires tail { EndsIn whole.now text.now }
-    requires due { IsVerbDue whole.now (length whole.now - length text.now) }
-    ensures read { IfOk result (λ x. VerbText text.now (written_verb x.0) x.1.now) }
+) -> Result<(Written<'a>, Cursor<'a>), ScriptFault>
+    requires due { IsVerbDue reader.cursor.whole.now reader.cursor.at }
+    ensures read { IfOk result (λ x. VerbText (unread reader.entry.cursor) (written_verb x.0) (unread x.1)) }
+    ensures same { IfOk result (λ x. x.1.whole ≡ reader.entry.cursor.whole) }
     ensures taken { IfOk result (λ x. Takes (written_verb x.0) (address_of address.now) negated) }
-    ensures fresh { IfOk result (λ x. DefinesKnown labels.now (written_verb x.0) → ⊥) }
-    ensures shallow { IfOk result (λ x. written_verb x.0 ≡ Opening → depth < 64) }
-    ensures braced { IfOk result (λ x. MayBeBraced (is_braced (written_verb x.0)) depth) }
-    ensures few { IfOk result (λ x. count < 4095) }
-    ensures label { IfOk result (λ x. IsWrittenAt whole.now x.0) }
-    ensures refused { IfErr result (λ fault. fault ≢ ScriptFault.OutOfMemory → (verb : WrittenVerb) (rest : List ℕ) → VerbText text.now verb rest → Takes verb (address_of address.now) negated → DefinesKnown labels.now verb ⊎ IsBeyond depth count verb) }
-    ensures placed { IfErr result (λ fault. IsPlaced whole.now fault) }
+    ensures fresh { IfOk result (λ x. DefinesKnown reader.entry.labels.now (written_verb x.0) → ⊥) }
+    ensures shallow { IfOk result (λ x. written_verb x.0 ≡ Opening → reader.entry.depth < 64) }
+    ensures braced { IfOk result (λ x. MayBeBraced (is_braced (written_verb x.0)) reader.entry.depth) }
+    ensures few { IfOk result (λ x. reader.entry.count < 4095) }
+    ensures label { IfOk result (λ x. IsWrittenAt reader.entry.cursor.whole.now x.0) }
+    ensures refused { IfErr result (λ fault. fault ≢ ScriptFault.OutOfMemory → (verb : WrittenVerb) (rest : List ℕ) → VerbText (unread reader.entry.cursor) verb rest → Takes verb (address_of address.now) negated → DefinesKnown reader.entry.labels.now verb ⊎ IsBeyond reader.entry.depth reader.entry.count verb) }
+    ensures placed { IfErr result (λ fault. IsPlaced reader.entry.cursor.whole.now fault) }
 {
-    check_verb(whole, address, negated, depth, count, text)?;
-    let (verb, rest) = verb_at(alloc, whole, labels, text)?;
-    check_brace(&verb, depth)?;
+    check_verb(reader, address, negated)?;
+    let (verb, rest) = read_verb(alloc, reader.labels, reader.cursor)?;
+    check_brace(&verb, reader.depth)?;
     Ok((verb, rest))
 }
 
-/// The command at the start, the place of its first empty expression, and what follows it.
-pub fn command_at<'a>(
+/// The command at the start, the offset of its first empty expression, and what follows it.
+pub fn read_command<'a>(
     alloc: Global,
-    whole: &[u8],
-    labels: &IndexMap<&'a [u8], usize>,
-    depth: usize,
-    count: usize,
-    text: &'a [u8],
-) -> Result<(WrittenCommand<'a>, Option<usize>, &'a [u8]), ScriptFault>
-    requires tail { EndsIn whole.now text.now }
-    requires begins { BeginsCommand text.now }
-    ensures read { IfOk result (λ x. CommandText text.now (address_of x.0.address) x.0.negated (written_verb x.0.verb) x.2.now) }
-    ensures fresh { IfOk result (λ x. DefinesKnown labels.now (written_verb x.0.verb) → ⊥) }
-    ensures shallow { IfOk result (λ x. written_verb x.0.verb ≡ Opening → depth < 64) }
-    ensures braced { IfOk result (λ x. MayBeBraced (is_braced (written_verb x.0.verb)) depth) }
-    ensures few { IfOk result (λ x. count < 4095) }
-    ensures label { IfOk result (λ x. IsWrittenAt whole.now x.0.verb) }
-    ensures located { IfOk result (λ x. IsOnlyLocation (length whole.now) text.now x.0.location) }
-    ensures empty { IfOk result (λ x. IsEmptyAt whole.now (address_patterns (address_of x.0.address) ++ written_patterns (written_verb x.0.verb)) x.1) }
-    ensures refused { IfErr result (λ fault. fault ≢ ScriptFault.OutOfMemory → (given : clean.Address) (negated : Bool) (verb : WrittenVerb) (rest : List ℕ) → CommandText text.now given negated verb rest → DefinesKnown labels.now verb ⊎ IsBeyond depth count verb) }
-    ensures placed { IfErr result (λ fault. IsPlaced whole.now fault) }
+    reader: Reader<'_, 'a>,
+) -> Result<(WrittenCommand<'a>, Option<usize>, Cursor<'a>), ScriptFault>
+    requires begins { BeginsCommand (unread reader.cursor) }
+    ensures read { IfOk result (λ x. CommandText (unread reader.entry.cursor) (address_of x.0.address) x.0.negated (written_verb x.0.verb) (unread x.2)) }
+    ensures same { IfOk result (λ x. x.2.whole ≡ reader.entry.cursor.whole) }
+    ensures fresh { IfOk result (λ x. DefinesKnown reader.entry.labels.now (written_verb x.0.verb) → ⊥) }
+    ensures shallow { IfOk result (λ x. written_verb x.0.verb ≡ Opening → reader.entry.depth < 64) }
+    ensures braced { IfOk result (λ x. MayBeBraced (is_braced (written_verb x.0.verb)) reader.entry.depth) }
+    ensures few { IfOk result (λ x. reader.entry.count < 4095) }
+    ensures label { IfOk result (λ x. IsWrittenAt reader.entry.cursor.whole.now x.0.verb) }
+    ensures located { IfOk result (λ x. IsOnlyLocation (length reader.entry.cursor.whole.now) (unread reader.entry.cursor) x.0.location) }
+    ensures empty { IfOk result (λ x. IsEmptyAt reader.entry.cursor.whole.now (address_patterns (address_of x.0.address) ++ written_patterns (written_verb x.0.verb)) x.1) }
+    ensures refused { IfErr result (λ fault. fault ≢ ScriptFault.OutOfMemory → (given : clean.Address) (negated : Bool) (verb : WrittenVerb) (rest : List ℕ) → CommandText (unread reader.entry.cursor) given negated verb rest → DefinesKnown reader.entry.labels.now verb ⊎ IsBeyond reader.entry.depth reader.entry.count verb) }
+    ensures placed { IfErr result (λ fault. IsPlaced reader.entry.cursor.whole.now fault) }
 {
-    let (address, empty, behind) = address_at(alloc, whole, text)?;
-    let (marks, begins) = split_marks(behind);
+    let start = reader.cursor;
+    let (address, empty, behind) = split_address(alloc, start)?;
+    let (marks, begins) = behind.split(Class::Mark);
     let negated = marks.contains(&b'!');
-    let (verb, rest) = allowed_verb(
-        alloc, whole, labels, &address, negated, depth, count, begins,
-    )?;
-    let empty = empty.or(empty_verb(&verb, whole.len() - begins.len().saturating_sub(2)));
-    let location = location_of(whole, text, begins, rest);
+    let at_verb = Reader {
+        cursor: begins,
+        ..reader
+    };
+    let (verb, rest) = read_allowed_verb(alloc, at_verb, &address, negated)?;
+    let empty = empty.or(empty_verb(&verb, begins.offset() + 2));
     let command = WrittenCommand {
         address,
         negated,
         verb,
-        location,
+        location: Location {
+            start: start.offset(),
+            verb: begins.offset(),
+            end: rest.offset(),
+        },
     };
     Ok((command, empty, rest))
 }

@@ -1,12 +1,12 @@
 //! Parts between delimiters.
 
-ghost use Rattle.std.specs.Prelude.{◌≡◌, ◌≢◌, ◌<◌, ◌∷◌, ℕ, List, IsTrue, IfOk, IfErr};
-ghost use Rattle.sedck_bre.specs.Bytes.{letter_y};
+ghost use Rattle.std.specs.Prelude.{◌≡◌, ◌≢◌, ◌<◌, ◌-◌, ◌∷◌, ℕ, List, IsTrue, IfOk, IfErr};
+ghost use Rattle.sedck_text.specs.Bytes.{letter_y};
 ghost use Rattle.sedck_bre.specs.Faults.{IsOfText};
 ghost use Rattle.sedck_script.specs.Cuts.{is_delimiter};
 ghost use Rattle.sedck_script.specs.Parts.{DelimitedExpression, begins_firmly, has_loose_quote, is_misread, ExpressionText, DelimitedList, FirstList};
-ghost use Rattle.sedck_script.specs.Faults.{IsRefusedExpression};
-ghost use Rattle.sedck_script.specs.Private.Reading.{EndsIn};
+ghost use Rattle.sedck_script.specs.Faults.{StandsAt, IsRefusedExpression};
+ghost use Rattle.sedck_text.specs.Cursors.{unread, Follows};
 ghost use Rattle.sedck_script.specs.Program as clean;
 ghost use Rattle.sedck_script.specs.View.{pattern_of};
 ghost use Rattle.sedck_script.specs.Private.PieceReading.{IsPiece, PatternText, IsFirstEscape, IsPartPlaced, list_escape};
@@ -17,6 +17,7 @@ use crate::bytes::{can_be_escaped, is_digit, is_letter};
 use crate::fault::ScriptFault;
 use crate::script::Pattern;
 use sedck_bre::{ReFault, parse};
+use sedck_text::Cursor;
 use std::alloc::Global;
 
 /// What a delimited part begins with.
@@ -33,40 +34,39 @@ pub enum Piece {
 }
 
 /// The first piece of a delimited part, and what follows it. A part without an end is reported at its opening.
-pub fn piece_at<'a>(
-    whole: &[u8],
+pub fn read_piece<'a>(
     opening: usize,
     delimiter: u8,
-    text: &'a [u8],
-) -> Result<(Piece, &'a [u8]), ScriptFault>
+    text: Cursor<'a>,
+) -> Result<(Piece, Cursor<'a>), ScriptFault>
     requires delimiter { IsTrue (is_delimiter delimiter) }
-    requires tail { EndsIn whole.now text.now }
-    ensures read { IfOk result (λ x. IsPiece delimiter text.now x.0 x.1.now) }
-    ensures refused { IfErr result (λ fault. (piece : Piece) (rest : List ℕ) → IsPiece delimiter text.now piece rest → ⊥) }
-    ensures placed { IfErr result (λ fault. IsPartPlaced opening whole.now fault) }
+    ensures read { IfOk result (λ x. IsPiece delimiter (unread text.entry) x.0 (unread x.1)) }
+    ensures same { IfOk result (λ x. x.1.whole ≡ text.entry.whole) }
+    ensures refused { IfErr result (λ fault. (piece : Piece) (rest : List ℕ) → IsPiece delimiter (unread text.entry) piece rest → ⊥) }
+    ensures placed { IfErr result (λ fault. IsPartPlaced opening text.entry.whole.now fault) }
 {
     let unterminated = ScriptFault::Unterminated { place: opening };
     let Some((first, behind)) = text.split_first() else {
         return Err(unterminated);
     };
-    if *first == delimiter {
+    if first == delimiter {
         return Ok((Piece::End, behind));
     }
-    if *first == b'\n' {
+    if first == b'\n' {
         return Err(unterminated);
     }
-    if *first != b'\\' {
-        return Ok((Piece::Byte(*first), behind));
+    if first != b'\\' {
+        return Ok((Piece::Byte(first), behind));
     }
     let Some((next, after)) = behind.split_first() else {
         return Err(unterminated);
     };
-    if *next != delimiter {
-        return Ok((Piece::Pair(*next), after));
+    if next != delimiter {
+        return Ok((Piece::Pair(next), after));
     }
     if !can_be_escaped(delimiter) {
         return Err(ScriptFault::EscapedDelimiter {
-            place: whole.len() - text.len(),
+            place: text.offset(),
         });
     }
     Ok((Piece::Escaped, after))
@@ -85,30 +85,29 @@ fn list_escape(b: u8) -> Option<u8>
 
 /// The expression up to the first delimiter that no backslash escapes, with the escaped delimiters replaced, the place of the
 /// first of these, and what follows the expression.
-fn delimited_expression<'a>(
+fn read_expression<'a>(
     alloc: Global,
-    whole: &[u8],
     opening: usize,
     delimiter: u8,
-    text: &'a [u8],
-) -> Result<(Vec<u8>, Option<usize>, &'a [u8]), ScriptFault>
+    text: Cursor<'a>,
+) -> Result<(Vec<u8>, Option<usize>, Cursor<'a>), ScriptFault>
     requires delimiter { IsTrue (is_delimiter delimiter) }
-    requires tail { EndsIn whole.now text.now }
-    ensures read { IfOk result (λ x. DelimitedExpression delimiter text.now x.0.items x.2.now) }
-    ensures escape { IfOk result (λ x. IsFirstEscape delimiter whole.now text.now x.0.items (delimiter ∷ x.2.now) x.1) }
-    ensures refused { IfErr result (λ fault. fault ≢ ScriptFault.OutOfMemory → (expression : List ℕ) (rest : List ℕ) → DelimitedExpression delimiter text.now expression rest → ⊥) }
-    ensures placed { IfErr result (λ fault. IsPartPlaced opening whole.now fault) }
+    ensures read { IfOk result (λ x. DelimitedExpression delimiter (unread text.entry) x.0.items (unread x.2)) }
+    ensures same { IfOk result (λ x. x.2.whole ≡ text.entry.whole) }
+    ensures escape { IfOk result (λ x. IsFirstEscape delimiter text.entry.whole.now (unread text.entry) x.0.items (delimiter ∷ (unread x.2)) x.1) }
+    ensures refused { IfErr result (λ fault. fault ≢ ScriptFault.OutOfMemory → (expression : List ℕ) (rest : List ℕ) → DelimitedExpression delimiter (unread text.entry) expression rest → ⊥) }
+    ensures placed { IfErr result (λ fault. IsPartPlaced opening text.entry.whole.now fault) }
 {
     let mut bytes = Vec::new(alloc);
     let mut escape = None;
     let mut rest = text;
     loop {
-        let (piece, behind) = piece_at(whole, opening, delimiter, rest)?;
+        let (piece, behind) = read_piece(opening, delimiter, rest)?;
         match piece {
             Piece::End => return Ok((bytes, escape, behind)),
             Piece::Byte(b) => bytes.push(b)?,
             Piece::Escaped => {
-                escape = escape.or(Some(whole.len() - rest.len()));
+                escape = escape.or(Some(rest.offset()));
                 bytes.push(delimiter)?;
             }
             Piece::Pair(b) => {
@@ -162,20 +161,20 @@ fn is_misread(delimiter: u8, expression: &[u8]) -> bool
 
 /// The expression up to the first delimiter that no backslash escapes, and what follows it. Where some sed reads an escaped
 /// delimiter otherwise, none is read.
-fn expression_text<'a>(
+fn read_expression_text<'a>(
     alloc: Global,
-    whole: &[u8],
     opening: usize,
     delimiter: u8,
-    text: &'a [u8],
-) -> Result<(Vec<u8>, &'a [u8]), ScriptFault>
+    text: Cursor<'a>,
+) -> Result<(Vec<u8>, Cursor<'a>), ScriptFault>
     requires delimiter { IsTrue (is_delimiter delimiter) }
-    requires opened { EndsIn whole.now (delimiter ∷ text.now) }
-    ensures read { IfOk result (λ x. ExpressionText delimiter text.now x.0.items x.1.now) }
-    ensures refused { IfErr result (λ fault. fault ≢ ScriptFault.OutOfMemory → (expression : List ℕ) (rest : List ℕ) → ExpressionText delimiter text.now expression rest → ⊥) }
-    ensures placed { IfErr result (λ fault. IsPartPlaced opening whole.now fault) }
+    requires opened { Follows text delimiter }
+    ensures read { IfOk result (λ x. ExpressionText delimiter (unread text.entry) x.0.items (unread x.1)) }
+    ensures same { IfOk result (λ x. x.1.whole ≡ text.entry.whole) }
+    ensures refused { IfErr result (λ fault. fault ≢ ScriptFault.OutOfMemory → (expression : List ℕ) (rest : List ℕ) → ExpressionText delimiter (unread text.entry) expression rest → ⊥) }
+    ensures placed { IfErr result (λ fault. IsPartPlaced opening text.entry.whole.now fault) }
 {
-    let (bytes, escape, rest) = delimited_expression(alloc, whole, opening, delimiter, text)?;
+    let (bytes, escape, rest) = read_expression(alloc, opening, delimiter, text)?;
     if let Some(place) = escape {
         if is_misread(delimiter, &bytes) {
             return Err(ScriptFault::EscapedDelimiter { place });
@@ -196,48 +195,47 @@ fn expression_fault(place: usize, fault: ReFault) -> ScriptFault
 }
 
 /// The pattern up to the first delimiter that no backslash escapes, and what follows it.
-pub fn pattern<'a>(
+pub fn read_pattern<'a>(
     alloc: Global,
-    whole: &[u8],
     opening: usize,
     delimiter: u8,
-    text: &'a [u8],
-) -> Result<(Pattern, &'a [u8]), ScriptFault>
+    text: Cursor<'a>,
+) -> Result<(Pattern, Cursor<'a>), ScriptFault>
     requires delimiter { IsTrue (is_delimiter delimiter) }
-    requires opened { EndsIn whole.now (delimiter ∷ text.now) }
-    ensures read { IfOk result (λ x. PatternText delimiter text.now (pattern_of x.0) x.1.now) }
-    ensures only { IfOk result (λ x. (p : clean.Pattern) (rest : List ℕ) → PatternText delimiter text.now p rest → (p ≡ pattern_of x.0) × (rest ≡ x.1.now)) }
-    ensures refused { IfErr result (λ fault. fault ≢ ScriptFault.OutOfMemory → (p : clean.Pattern) (rest : List ℕ) → PatternText delimiter text.now p rest → ⊥) }
-    ensures placed { IfErr result (λ fault. IsPartPlaced opening whole.now fault) }
+    requires opened { Follows text delimiter }
+    ensures read { IfOk result (λ x. PatternText delimiter (unread text.entry) (pattern_of x.0) (unread x.1)) }
+    ensures same { IfOk result (λ x. x.1.whole ≡ text.entry.whole) }
+    ensures only { IfOk result (λ x. (p : clean.Pattern) (rest : List ℕ) → PatternText delimiter (unread text.entry) p rest → (p ≡ pattern_of x.0) × (rest ≡ (unread x.1))) }
+    ensures refused { IfErr result (λ fault. fault ≢ ScriptFault.OutOfMemory → (p : clean.Pattern) (rest : List ℕ) → PatternText delimiter (unread text.entry) p rest → ⊥) }
+    ensures placed { IfErr result (λ fault. IsPartPlaced opening text.entry.whole.now fault) }
 {
-    let (bytes, rest) = expression_text(alloc, whole, opening, delimiter, text)?;
+    let (bytes, rest) = read_expression_text(alloc, opening, delimiter, text)?;
     if bytes.is_empty() {
         return Ok((Pattern::Previous, rest));
     }
     match parse(alloc, &bytes) {
         Ok(expression) => Ok((Pattern::Expr(expression), rest)),
-        Err(fault) => Err(expression_fault(whole.len() - text.len(), fault)),
+        Err(fault) => Err(expression_fault(text.offset(), fault)),
     }
 }
 
 /// One list of a `y` command, and what follows it.
-pub fn delimited_list<'a>(
+pub fn read_list<'a>(
     alloc: Global,
-    whole: &[u8],
     opening: usize,
     delimiter: u8,
-    text: &'a [u8],
-) -> Result<(Vec<u8>, &'a [u8]), ScriptFault>
+    text: Cursor<'a>,
+) -> Result<(Vec<u8>, Cursor<'a>), ScriptFault>
     requires delimiter { IsTrue (is_delimiter delimiter) }
-    requires tail { EndsIn whole.now text.now }
-    ensures read { IfOk result (λ x. DelimitedList delimiter text.now x.0.items x.1.now) }
-    ensures refused { IfErr result (λ fault. fault ≢ ScriptFault.OutOfMemory → (bytes : List ℕ) (rest : List ℕ) → DelimitedList delimiter text.now bytes rest → ⊥) }
-    ensures placed { IfErr result (λ fault. IsPartPlaced opening whole.now fault) }
+    ensures read { IfOk result (λ x. DelimitedList delimiter (unread text.entry) x.0.items (unread x.1)) }
+    ensures same { IfOk result (λ x. x.1.whole ≡ text.entry.whole) }
+    ensures refused { IfErr result (λ fault. fault ≢ ScriptFault.OutOfMemory → (bytes : List ℕ) (rest : List ℕ) → DelimitedList delimiter (unread text.entry) bytes rest → ⊥) }
+    ensures placed { IfErr result (λ fault. IsPartPlaced opening text.entry.whole.now fault) }
 {
     let mut bytes = Vec::new(alloc);
     let mut rest = text;
     loop {
-        let (piece, behind) = piece_at(whole, opening, delimiter, rest)?;
+        let (piece, behind) = read_piece(opening, delimiter, rest)?;
         match piece {
             Piece::End => return Ok((bytes, behind)),
             Piece::Byte(b) => bytes.push(b)?,
@@ -248,7 +246,7 @@ pub fn delimited_list<'a>(
                 }
                 let Some(meant) = list_escape(b) else {
                     return Err(ScriptFault::BadTransliteration {
-                        place: whole.len() - rest.len(),
+                        place: rest.offset(),
                     });
                 };
                 bytes.push(meant)?;
@@ -259,24 +257,25 @@ pub fn delimited_list<'a>(
 }
 
 /// The first list of a `y` command, in which no bracket list is left open, and what follows it.
-pub fn first_list<'a>(
+pub fn read_first_list<'a>(
     alloc: Global,
-    whole: &[u8],
     opening: usize,
     delimiter: u8,
-    text: &'a [u8],
-) -> Result<(Vec<u8>, &'a [u8]), ScriptFault>
+    text: Cursor<'a>,
+) -> Result<(Vec<u8>, Cursor<'a>), ScriptFault>
     requires delimiter { IsTrue (is_delimiter delimiter) }
-    requires opened { EndsIn whole.now (letter_y ∷ delimiter ∷ text.now) }
-    ensures read { IfOk result (λ x. FirstList delimiter text.now x.0.items x.1.now) }
-    ensures refused { IfErr result (λ fault. fault ≢ ScriptFault.OutOfMemory → (bytes : List ℕ) (rest : List ℕ) → FirstList delimiter text.now bytes rest → ⊥) }
-    ensures placed { IfErr result (λ fault. IsPartPlaced opening whole.now fault) }
+    requires opened { Follows text delimiter }
+    requires verb { (1 < text.at) × StandsAt text.whole.now (text.at - 2) letter_y }
+    ensures read { IfOk result (λ x. FirstList delimiter (unread text.entry) x.0.items (unread x.1)) }
+    ensures same { IfOk result (λ x. x.1.whole ≡ text.entry.whole) }
+    ensures refused { IfErr result (λ fault. fault ≢ ScriptFault.OutOfMemory → (bytes : List ℕ) (rest : List ℕ) → FirstList delimiter (unread text.entry) bytes rest → ⊥) }
+    ensures placed { IfErr result (λ fault. IsPartPlaced opening text.entry.whole.now fault) }
 {
-    let (bytes, rest) = delimited_list(alloc, whole, opening, delimiter, text)?;
-    let (written, _) = text.split_at(text.len() - rest.len() - 1);
+    let (bytes, rest) = read_list(alloc, opening, delimiter, text)?;
+    let written = &text.unread()[..rest.offset() - text.offset() - 1];
     if let Some(more) = open_bracket(written) {
         return Err(ScriptFault::BadTransliteration {
-            place: whole.len() - rest.len() - more.len() - 2,
+            place: rest.offset() - more.len() - 2,
         });
     }
     Ok((bytes, rest))

@@ -8,8 +8,8 @@ ghost use Rattle.sedck_script.specs.Spelling.{IsQuiet};
 ghost use Rattle.sedck_script.specs.View.{pattern_of, place_of, address_of, verb_of, command_of};
 ghost use Rattle.sedck_script.specs.Private.ExpressionReading.{has_some, lesser as lesser_of, IsLeastOf};
 
-use crate::bytes::line_len;
 use crate::script::{Address, Command, Pattern, Place, Verb};
+use sedck_text::Class;
 
 /// Where a least length is capped, and what stands for it where there is no expression.
 const CAP: u32 = 16_777_215;
@@ -98,5 +98,5 @@ pub(crate) fn has_expression(commands: &[Command]) -> bool
 pub fn is_quiet(text: &[u8]) -> bool
     ensures { IsTrue result ↔ IsQuiet text.now }
 {
-    &text[..line_len(text)] == b"#n".as_slice()
+    &text[..Class::Except(b'\n').run_length(text)] == b"#n".as_slice()
 }

@@ -4,14 +4,15 @@ ghost use Rattle.std.specs.Prelude.{◌≡◌, ℕ, List, option_copied, IfOk, I
 ghost use Rattle.sedck_script.specs.Program as clean;
 ghost use Rattle.sedck_script.specs.Parts.{Flags};
 ghost use Rattle.sedck_script.specs.Faults.{IsPlaced};
-ghost use Rattle.sedck_script.specs.Private.Reading.{EndsIn};
+ghost use Rattle.sedck_text.specs.Cursors.{unread};
 ghost use Rattle.sedck_script.specs.Private.FlagReading.{IsFlag, with_flags};
 
-use crate::bytes::{is_blank, is_digit, is_ending};
+use crate::bytes::{is_digit, is_ending};
 use crate::ends::end_of_flags;
 use crate::fault::ScriptFault;
-use crate::names::{name, name_fault};
-use crate::numbers::number;
+use crate::names::{name_fault, read_name};
+use crate::numbers::read_number;
+use sedck_text::{Class, Cursor};
 
 /// The flags of a substitution but its file.
 #[derive(Clone, Copy)]
@@ -32,50 +33,47 @@ pub enum Flag<'a> {
 }
 
 /// The flag at the start, and what follows it.
-fn flag_at<'a>(whole: &[u8], text: &'a [u8]) -> Result<(Flag<'a>, &'a [u8]), ScriptFault>
-    requires { EndsIn whole.now text.now }
-    ensures read { IfOk result (λ x. IsFlag text.now x.0 x.1.now) }
-    ensures refused { IfErr result (λ fault. (pattern : clean.Pattern) (parts : List clean.Part) (flags : clean.Substitution) (rest : List ℕ) → Flags pattern parts text.now flags rest → ⊥) }
-    ensures placed { IfErr result (λ fault. IsPlaced whole.now fault) }
+fn read_flag<'a>(text: Cursor<'a>) -> Result<(Flag<'a>, Cursor<'a>), ScriptFault>
+    ensures read { IfOk result (λ x. IsFlag (unread text.entry) x.0 (unread x.1)) }
+    ensures same { IfOk result (λ x. x.1.whole ≡ text.entry.whole) }
+    ensures refused { IfErr result (λ fault. (pattern : clean.Pattern) (parts : List clean.Part) (flags : clean.Substitution) (rest : List ℕ) → Flags pattern parts (unread text.entry) flags rest → ⊥) }
+    ensures placed { IfErr result (λ fault. IsPlaced text.entry.whole.now fault) }
 {
     let Some((first, behind)) = text.split_first() else {
         return Ok((Flag::End, text));
     };
-    let place = whole.len() - text.len();
-    if *first == b'g' {
+    let place = text.offset();
+    if first == b'g' {
         return Ok((Flag::Global, behind));
     }
-    if *first == b'p' {
+    if first == b'p' {
         return Ok((Flag::Print, behind));
     }
-    if *first == b'w' {
-        let Some((name, rest)) = name(behind) else {
-            return Err(name_fault(whole, place, behind));
+    if first == b'w' {
+        let Some((name, rest)) = read_name(behind) else {
+            return Err(name_fault(place, behind));
         };
         return Ok((Flag::File(name), rest));
     }
-    if is_digit(*first) {
-        let Some((n, rest)) = number(text) else {
+    if is_digit(first) {
+        let Some((n, rest)) = read_number(text) else {
             return Err(ScriptFault::BadFlag { place });
         };
         return Ok((Flag::Nth(n), rest));
     }
-    if !is_blank(*first) && !is_ending(*first) {
+    if !Class::Blank.has(first) && !is_ending(first) {
         return Err(ScriptFault::BadFlag { place });
     }
-    let rest = end_of_flags(whole, text)?;
+    let rest = end_of_flags(text)?;
     Ok((Flag::End, rest))
 }
 
 /// The flags with their file, and the rest of the text from the end of the command on. None is there twice.
-pub fn flags<'a>(
-    whole: &[u8],
-    text: &'a [u8],
-) -> Result<(Seen, Option<&'a [u8]>, &'a [u8]), ScriptFault>
-    requires { EndsIn whole.now text.now }
-    ensures read { IfOk result (λ x. (pattern : clean.Pattern) (parts : List clean.Part) → Flags pattern parts text.now (with_flags pattern parts x.0 (option_copied x.1)) x.2.now) }
-    ensures refused { IfErr result (λ fault. (pattern : clean.Pattern) (parts : List clean.Part) (flags : clean.Substitution) (rest : List ℕ) → Flags pattern parts text.now flags rest → ⊥) }
-    ensures placed { IfErr result (λ fault. IsPlaced whole.now fault) }
+pub fn read_flags<'a>(text: Cursor<'a>) -> Result<(Seen, Option<&'a [u8]>, Cursor<'a>), ScriptFault>
+    ensures read { IfOk result (λ x. (pattern : clean.Pattern) (parts : List clean.Part) → Flags pattern parts (unread text.entry) (with_flags pattern parts x.0 (option_copied x.1)) (unread x.2)) }
+    ensures same { IfOk result (λ x. x.2.whole ≡ text.entry.whole) }
+    ensures refused { IfErr result (λ fault. (pattern : clean.Pattern) (parts : List clean.Part) (flags : clean.Substitution) (rest : List ℕ) → Flags pattern parts (unread text.entry) flags rest → ⊥) }
+    ensures placed { IfErr result (λ fault. IsPlaced text.entry.whole.now fault) }
 {
     let mut seen = Seen {
         global: false,
@@ -84,8 +82,8 @@ pub fn flags<'a>(
     };
     let mut rest = text;
     loop {
-        let (flag, behind) = flag_at(whole, rest)?;
-        let place = whole.len() - rest.len();
+        let (flag, behind) = read_flag(rest)?;
+        let place = rest.offset();
         match flag {
             Flag::End => return Ok((seen, None, behind)),
             Flag::File(name) => return Ok((seen, Some(name), behind)),

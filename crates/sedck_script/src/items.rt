@@ -2,8 +2,9 @@
 
 ghost use Rattle.std.specs.Prelude.{false, ◌≡◌, ◌≢◌, ◌<◌, ◌≤◌, ◌+◌, ◌++◌, [], ◌∷◌, ℕ, List, length, map, IfOk, IfErr, OnOk};
 ghost use Rattle.std.specs.Option.{option_or};
-ghost use Rattle.sedck_bre.specs.Bytes.{closing_brace};
-ghost use Rattle.sedck_script.specs.Cuts.{is_separator, Longest};
+ghost use Rattle.sedck_text.specs.Bytes.{closing_brace};
+ghost use Rattle.sedck_script.specs.Cuts.{is_separator};
+ghost use Rattle.sedck_text.specs.Cursors.{unread};
 ghost use Rattle.sedck_script.specs.Items.{Item, Items};
 ghost use Rattle.sedck_script.specs.Locations.{locations_of};
 ghost use Rattle.sedck_script.specs.Faults.{IsPlaced};
@@ -11,15 +12,16 @@ ghost use Rattle.sedck_script.specs.Private.Progress.{IsProgress, HasNoItems, Be
 ghost use Rattle.sedck_script.specs.Private.VerbReading.{written_verb};
 ghost use Rattle.sedck_script.specs.Private.ItemReading.{item_of, verb_turn, locations_in, Nests};
 
-use crate::bytes::separators_len;
-use crate::commands::command_at;
-use crate::comments::comment;
+use crate::commands::read_command;
+use crate::comments::read_comment;
 use crate::ends::end_of_command;
 use crate::fault::ScriptFault;
 use crate::label_places::add_label;
+use crate::reader::Reader;
 use crate::verbs::Written;
 use crate::written::{WrittenCommand, WrittenItem};
 use indexmap::IndexMap;
+use sedck_text::{Class, Cursor};
 use std::alloc::Global;
 
 /// What has been read of a script.
@@ -30,39 +32,33 @@ pub struct Progress<'a> {
     pub count: usize,
     /// The places of the labels' commands.
     pub labels: IndexMap<&'a [u8], usize>,
-    /// The places of the `{` of the blocks that are open.
+    /// The offsets of the `{` of the blocks that are open.
     pub open_blocks: Vec<usize>,
-    /// The place of the first empty expression.
+    /// The offset of the first empty expression.
     pub empty: Option<usize>,
-}
-
-/// What may be between commands, and what follows it.
-fn split_separators(text: &[u8]) -> (&[u8], &[u8])
-    ensures { Longest is_separator text.now result.0.now result.1.now }
-{
-    text.split_at(separators_len(text))
 }
 
 /// Reads the `}` at the start with its end.
 fn close_block<'a>(
-    text: &[u8],
-    begins: &[u8],
-    behind: &'a [u8],
+    begins: Cursor<'a>,
+    behind: Cursor<'a>,
     progress: &mut Progress<'a>,
-) -> Result<&'a [u8], ScriptFault>
-    requires begins { begins.now ≡ closing_brace ∷ behind.now }
-    requires progress { IsProgress text.now begins.now progress.old }
-    ensures progress { IfOk result (λ rest. IsProgress text.now rest.now progress.new) }
-    ensures shorter { IfOk result (λ rest. length rest.now < length begins.now) }
-    ensures refused { IfErr result (λ fault. fault ≢ ScriptFault.OutOfMemory → HasNoItems text.now) }
-    ensures placed { IfErr result (λ fault. IsPlaced text.now fault) }
+) -> Result<Cursor<'a>, ScriptFault>
+    requires begins { unread begins ≡ closing_brace ∷ unread behind }
+    requires behind { behind.whole ≡ begins.whole }
+    requires progress { IsProgress begins.whole.now (unread begins) progress.old }
+    ensures progress { IfOk result (λ rest. IsProgress begins.entry.whole.now (unread rest) progress.new) }
+    ensures same { IfOk result (λ rest. rest.whole ≡ begins.entry.whole) }
+    ensures shorter { IfOk result (λ rest. length (unread rest) < length (unread begins.entry)) }
+    ensures refused { IfErr result (λ fault. fault ≢ ScriptFault.OutOfMemory → HasNoItems begins.entry.whole.now) }
+    ensures placed { IfErr result (λ fault. IsPlaced begins.entry.whole.now fault) }
 {
     let Some(_) = progress.open_blocks.pop() else {
         return Err(ScriptFault::UnopenedBlock {
-            place: text.len() - begins.len(),
+            place: begins.offset(),
         });
     };
-    let rest = end_of_command(text, behind)?;
+    let rest = end_of_command(behind)?;
     progress.items.push(WrittenItem::Closing)?;
     Ok(rest)
 }
@@ -82,13 +78,17 @@ fn note_label<'a>(
     Ok(())
 }
 
-/// Adds the place of the `{` where the verb opens a block.
-fn note_block(open_blocks: &mut Vec<usize>, verb: &Written, place: usize) -> Result<(), ScriptFault>
-    ensures ok { OnOk result (NotesBlock (verb_turn (written_verb verb.now)) open_blocks.old.items open_blocks.new.items place) }
+/// Adds the offset of the `{` where the verb opens a block.
+fn note_block(
+    open_blocks: &mut Vec<usize>,
+    verb: &Written,
+    offset: usize,
+) -> Result<(), ScriptFault>
+    ensures ok { OnOk result (NotesBlock (verb_turn (written_verb verb.now)) open_blocks.old.items open_blocks.new.items offset) }
     ensures memory { IfErr result (λ fault. fault ≡ ScriptFault.OutOfMemory) }
 {
     if let Written::Opening = verb {
-        open_blocks.push(place)?;
+        open_blocks.push(offset)?;
     }
     Ok(())
 }
@@ -104,23 +104,23 @@ fn push_command<'a>(
     Ok(())
 }
 
-/// Adds a command and the place of its first empty expression. A `{` that it ends with is at the place.
+/// Adds a command and the offset of its first empty expression. A `{` that it ends with is at `last`.
 fn note_command<'a>(
     progress: &mut Progress<'a>,
     command: WrittenCommand<'a>,
     empty: Option<usize>,
-    place: usize,
+    last: usize,
 ) -> Result<(), ScriptFault>
     requires { progress.old.count ≤ 4095 }
     ensures labels { OnOk result (NotesLabel progress.old.labels progress.new.labels progress.old.count command.entry.verb) }
-    ensures opened { OnOk result (NotesBlock (verb_turn (written_verb command.entry.verb)) progress.old.open_blocks.items progress.new.open_blocks.items place) }
+    ensures opened { OnOk result (NotesBlock (verb_turn (written_verb command.entry.verb)) progress.old.open_blocks.items progress.new.open_blocks.items last) }
     ensures empty { OnOk result (progress.new.empty ≡ option_or progress.old.empty empty) }
     ensures count { OnOk result (progress.new.count ≡ progress.old.count + 1) }
     ensures items { OnOk result (progress.new.items.items ≡ progress.old.items.items ++ WrittenItem.Command command.entry ∷ []) }
     ensures memory { IfErr result (λ fault. fault ≡ ScriptFault.OutOfMemory) }
 {
     note_label(&mut progress.labels, &command.verb, progress.count)?;
-    note_block(&mut progress.open_blocks, &command.verb, place)?;
+    note_block(&mut progress.open_blocks, &command.verb, last)?;
     progress.empty = progress.empty.or(empty);
     progress.count += 1;
     push_command(&mut progress.items, command)
@@ -129,58 +129,58 @@ fn note_command<'a>(
 /// Reads the command at the start with its end.
 fn add_command<'a>(
     alloc: Global,
-    text: &[u8],
-    begins: &'a [u8],
+    begins: Cursor<'a>,
     progress: &mut Progress<'a>,
-) -> Result<&'a [u8], ScriptFault>
-    requires begins { BeginsCommand begins.now }
-    requires progress { IsProgress text.now begins.now progress.old }
-    ensures progress { IfOk result (λ rest. IsProgress text.now rest.now progress.new) }
-    ensures shorter { IfOk result (λ rest. length rest.now < length begins.now) }
-    ensures refused { IfErr result (λ fault. fault ≢ ScriptFault.OutOfMemory → HasNoItems text.now) }
-    ensures placed { IfErr result (λ fault. IsPlaced text.now fault) }
+) -> Result<Cursor<'a>, ScriptFault>
+    requires begins { BeginsCommand (unread begins) }
+    requires progress { IsProgress begins.whole.now (unread begins) progress.old }
+    ensures progress { IfOk result (λ rest. IsProgress begins.entry.whole.now (unread rest) progress.new) }
+    ensures same { IfOk result (λ rest. rest.whole ≡ begins.entry.whole) }
+    ensures shorter { IfOk result (λ rest. length (unread rest) < length (unread begins.entry)) }
+    ensures refused { IfErr result (λ fault. fault ≢ ScriptFault.OutOfMemory → HasNoItems begins.entry.whole.now) }
+    ensures placed { IfErr result (λ fault. IsPlaced begins.entry.whole.now fault) }
 {
-    let (command, empty, rest) = command_at(
-        alloc,
-        text,
-        &progress.labels,
-        progress.open_blocks.len(),
-        progress.count,
-        begins,
-    )?;
-    let place = text.len() - rest.len() - 1;
-    note_command(progress, command, empty, place)?;
+    let reader = Reader {
+        cursor: begins,
+        labels: &progress.labels,
+        depth: progress.open_blocks.len(),
+        count: progress.count,
+    };
+    let (command, empty, rest) = read_command(alloc, reader)?;
+    let last = rest.offset() - 1;
+    note_command(progress, command, empty, last)?;
     Ok(rest)
 }
 
 /// Reads the comment, the `}` or the command at the start.
-fn next_item<'a>(
+fn read_item<'a>(
     alloc: Global,
-    text: &[u8],
-    begins: &'a [u8],
     first: u8,
-    behind: &'a [u8],
+    begins: Cursor<'a>,
+    behind: Cursor<'a>,
     progress: &mut Progress<'a>,
-) -> Result<&'a [u8], ScriptFault>
-    requires first { begins.now ≡ first ∷ behind.now }
+) -> Result<Cursor<'a>, ScriptFault>
+    requires first { unread begins ≡ first ∷ unread behind }
+    requires behind { behind.whole ≡ begins.whole }
     requires separator { is_separator first ≡ false }
-    requires progress { IsProgress text.now begins.now progress.old }
-    ensures progress { IfOk result (λ rest. IsProgress text.now rest.now progress.new) }
-    ensures shorter { IfOk result (λ rest. length rest.now < length begins.now) }
-    ensures refused { IfErr result (λ fault. fault ≢ ScriptFault.OutOfMemory → HasNoItems text.now) }
-    ensures placed { IfErr result (λ fault. IsPlaced text.now fault) }
+    requires progress { IsProgress begins.whole.now (unread begins) progress.old }
+    ensures progress { IfOk result (λ rest. IsProgress begins.entry.whole.now (unread rest) progress.new) }
+    ensures same { IfOk result (λ rest. rest.whole ≡ begins.entry.whole) }
+    ensures shorter { IfOk result (λ rest. length (unread rest) < length (unread begins.entry)) }
+    ensures refused { IfErr result (λ fault. fault ≢ ScriptFault.OutOfMemory → HasNoItems begins.entry.whole.now) }
+    ensures placed { IfErr result (λ fault. IsPlaced begins.entry.whole.now fault) }
 {
     if first == b'#' {
-        return comment(text, behind);
+        return read_comment(behind);
     }
     if first == b'}' {
-        return close_block(text, begins, behind, progress);
+        return close_block(begins, behind, progress);
     }
-    add_command(alloc, text, begins, progress)
+    add_command(alloc, begins, progress)
 }
 
 /// The items of the text, with what is known of them.
-pub fn items<'a>(alloc: Global, text: &'a [u8]) -> Result<Progress<'a>, ScriptFault>
+pub fn read_items<'a>(alloc: Global, text: &'a [u8]) -> Result<Progress<'a>, ScriptFault>
     ensures read { IfOk result (λ progress. Items text.now (map item_of progress.items.items)) }
     ensures located { IfOk result (λ progress. (all : List Item) (spelled : Items text.now all) → locations_in progress.items.items ≡ locations_of (length text.now) spelled) }
     ensures nests { IfOk result (λ progress. Nests (map item_of progress.items.items) 0) }
@@ -195,13 +195,13 @@ pub fn items<'a>(alloc: Global, text: &'a [u8]) -> Result<Progress<'a>, ScriptFa
         open_blocks: Vec::new(alloc),
         empty: None,
     };
-    let mut rest = text;
+    let mut rest = Cursor::new(text);
     loop {
-        let (_, begins) = split_separators(rest);
+        let begins = rest.skip(Class::Separator);
         let Some((first, behind)) = begins.split_first() else {
             break;
         };
-        rest = next_item(alloc, text, begins, *first, behind, &mut progress)?;
+        rest = read_item(alloc, first, begins, behind, &mut progress)?;
     }
     if let Some(place) = progress.open_blocks.last() {
         return Err(ScriptFault::UnclosedBlock { place: *place });

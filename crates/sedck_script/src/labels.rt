@@ -1,7 +1,8 @@
 //! Labels after `:`, `b` and `t`.
 
 ghost use Rattle.std.specs.Prelude.{◌≡◌, ◌<◌, ◌+◌, ℕ, Bool, false, List, Option, length, is_some, option_copied, IfOk, IfErr, IfSome, OnOk};
-ghost use Rattle.sedck_bre.specs.Text.{begins, one_of};
+ghost use Rattle.sedck_text.specs.Text.{begins, one_of};
+ghost use Rattle.sedck_text.specs.Cursors.{unread};
 ghost use Rattle.sedck_script.specs.Cuts.{is_ending, is_label_byte, IsEmptyOr, Longest};
 ghost use Rattle.sedck_script.specs.Parts.{Ends, LabelText};
 ghost use Rattle.sedck_script.specs.Items.{IsNoComment, IsNoBrace, EndsJump, begins_braced_comment};
@@ -10,9 +11,10 @@ ghost use Rattle.sedck_script.specs.Private.Reading.{IsLabelAt};
 ghost use Rattle.sedck_script.specs.Private.LabelReading.{BranchText, IsBehindVerb, IsBehindLabel};
 ghost use Rattle.sedck_script.specs.Private.VerbReading.{IsJumpAt};
 
-use crate::bytes::{is_ending, is_separator, label_len, split_blanks};
+use crate::bytes::is_ending;
 use crate::ends::end_of_command;
 use crate::fault::ScriptFault;
+use sedck_text::{Class, Cursor};
 
 /// Where a branch or a test leads.
 #[derive(Clone, Copy, Debug)]
@@ -24,37 +26,31 @@ pub struct Jump<'a> {
     pub brace: Option<usize>,
 }
 
-/// The bytes of a label at the start, and what follows them.
-fn split_label(text: &[u8]) -> (&[u8], &[u8])
-    ensures { Longest is_label_byte text.now result.0.now result.1.now }
-{
-    text.split_at(label_len(text))
-}
-
 /// The bytes of a label after blanks, their place, and what follows them. There may be none.
-fn label_parts<'a>(whole: &[u8], text: &'a [u8]) -> (&'a [u8], usize, &'a [u8])
-    requires { IsBehindVerb (one_of ":bt") whole.now text.now }
-    ensures parts { IsLabelAt text.now result.0.now result.2.now }
-    ensures behind { IsBehindLabel whole.now result.2.now }
-    ensures place { result.1 + length result.0.now + length result.2.now ≡ length whole.now }
-    ensures label { (test : ℕ → Bool) → IsBehindVerb test whole.now text.now → 0 < length result.0.now → IsLabelBehind test whole.now result.1 result.0.now }
+fn split_label<'a>(text: Cursor<'a>) -> (&'a [u8], usize, Cursor<'a>)
+    requires { IsBehindVerb (one_of ":bt") text }
+    ensures parts { IsLabelAt (unread text.entry) result.0.now (unread result.2) }
+    ensures same { result.2.whole ≡ text.entry.whole }
+    ensures behind { IsBehindLabel result.2 }
+    ensures place { result.1 + length result.0.now ≡ result.2.at }
+    ensures label { (test : ℕ → Bool) → IsBehindVerb test text.entry → 0 < length result.0.now → IsLabelBehind test text.entry.whole.now result.1 result.0.now }
 {
-    let (_, begins) = split_blanks(text);
-    let (name, behind) = split_label(begins);
-    (name, whole.len() - begins.len(), behind)
+    let begins = text.skip(Class::Blank);
+    let (name, behind) = begins.split(Class::Label);
+    (name, begins.offset(), behind)
 }
 
 /// Whether a label that is defined may end here.
-fn check_behind_definition(whole: &[u8], behind: &[u8]) -> Result<(), ScriptFault>
-    requires { IsBehindLabel whole.now behind.now }
-    ensures allowed { OnOk result (IsNoBrace behind.now) }
-    ensures refused { IfErr result (λ fault. (rest : List ℕ) → IsNoBrace behind.now → Ends behind.now rest → ⊥) }
-    ensures placed { IfErr result (λ fault. IsPlaced whole.now fault) }
+fn check_behind_definition<'a>(behind: Cursor<'a>) -> Result<(), ScriptFault>
+    requires { IsBehindLabel behind }
+    ensures allowed { OnOk result (IsNoBrace (unread behind.entry)) }
+    ensures refused { IfErr result (λ fault. (rest : List ℕ) → IsNoBrace (unread behind.entry) → Ends (unread behind.entry) rest → ⊥) }
+    ensures placed { IfErr result (λ fault. IsPlaced behind.entry.whole.now fault) }
 {
-    if let [next, ..] = behind {
-        if !is_separator(*next) {
+    if let Some(next) = behind.first() {
+        if !Class::Separator.has(next) {
             return Err(ScriptFault::BadLabel {
-                place: whole.len() - behind.len(),
+                place: behind.offset(),
             });
         }
     }
@@ -62,35 +58,33 @@ fn check_behind_definition(whole: &[u8], behind: &[u8]) -> Result<(), ScriptFaul
 }
 
 /// The label that is defined, its place, and what follows it.
-pub fn defined_label<'a>(
-    whole: &[u8],
-    text: &'a [u8],
-) -> Result<(&'a [u8], usize, &'a [u8]), ScriptFault>
-    requires { IsBehindVerb (one_of ":") whole.now text.now }
-    ensures read { IfOk result (λ x. LabelText text.now x.0.now x.2.now × IsNoBrace x.2.now) }
-    ensures label { IfOk result (λ x. IsLabelBehind (one_of ":") whole.now x.1 x.0.now) }
-    ensures refused { IfErr result (λ fault. (name : List ℕ) (behind : List ℕ) (rest : List ℕ) → LabelText text.now name behind → IsNoBrace behind → Ends behind rest → ⊥) }
-    ensures placed { IfErr result (λ fault. IsPlaced whole.now fault) }
+pub fn read_definition<'a>(text: Cursor<'a>) -> Result<(&'a [u8], usize, Cursor<'a>), ScriptFault>
+    requires { IsBehindVerb (one_of ":") text }
+    ensures read { IfOk result (λ x. LabelText (unread text.entry) x.0.now (unread x.2) × IsNoBrace (unread x.2)) }
+    ensures same { IfOk result (λ x. x.2.whole ≡ text.entry.whole) }
+    ensures label { IfOk result (λ x. IsLabelBehind (one_of ":") text.entry.whole.now x.1 x.0.now) }
+    ensures refused { IfErr result (λ fault. (name : List ℕ) (behind : List ℕ) (rest : List ℕ) → LabelText (unread text.entry) name behind → IsNoBrace behind → Ends behind rest → ⊥) }
+    ensures placed { IfErr result (λ fault. IsPlaced text.entry.whole.now fault) }
 {
-    let (name, place, behind) = label_parts(whole, text);
+    let (name, place, behind) = split_label(text);
     if name.is_empty() {
         return Err(ScriptFault::BadLabel { place });
     }
-    check_behind_definition(whole, behind)?;
+    check_behind_definition(behind)?;
     Ok((name, place, behind))
 }
 
 /// Whether the label of a branch may end here.
-fn check_behind_label(whole: &[u8], behind: &[u8]) -> Result<(), ScriptFault>
-    requires { IsBehindLabel whole.now behind.now }
-    ensures allowed { OnOk result (IsNoComment behind.now) }
-    ensures refused { IfErr result (λ fault. (rest : List ℕ) → IsNoComment behind.now → Ends behind.now rest → ⊥) }
-    ensures placed { IfErr result (λ fault. IsPlaced whole.now fault) }
+fn check_behind_label<'a>(behind: Cursor<'a>) -> Result<(), ScriptFault>
+    requires { IsBehindLabel behind }
+    ensures allowed { OnOk result (IsNoComment (unread behind.entry)) }
+    ensures refused { IfErr result (λ fault. (rest : List ℕ) → IsNoComment (unread behind.entry) → Ends (unread behind.entry) rest → ⊥) }
+    ensures placed { IfErr result (λ fault. IsPlaced behind.entry.whole.now fault) }
 {
-    if let [next, ..] = behind {
-        if !is_separator(*next) && *next != b'}' {
+    if let Some(next) = behind.first() {
+        if !Class::Separator.has(next) && next != b'}' {
             return Err(ScriptFault::BadLabel {
-                place: whole.len() - behind.len(),
+                place: behind.offset(),
             });
         }
     }
@@ -113,16 +107,17 @@ fn begins_braced_comment(text: &[u8]) -> bool
 
 /// The rest of the text from the end of a branch with a label on. Some seds take a `}` right after the label for a part of it, and
 /// a comment after that too.
-fn end_of_jump<'a>(whole: &[u8], behind: &'a [u8]) -> Result<&'a [u8], ScriptFault>
-    requires { IsBehindLabel whole.now behind.now }
-    ensures read { IfOk result (λ rest. EndsJump behind.now rest.now) }
-    ensures refused { IfErr result (λ fault. (rest : List ℕ) → EndsJump behind.now rest → ⊥) }
-    ensures placed { IfErr result (λ fault. IsPlaced whole.now fault) }
+fn end_of_jump<'a>(behind: Cursor<'a>) -> Result<Cursor<'a>, ScriptFault>
+    requires { IsBehindLabel behind }
+    ensures read { IfOk result (λ rest. EndsJump (unread behind.entry) (unread rest)) }
+    ensures same { IfOk result (λ x. x.whole ≡ behind.entry.whole) }
+    ensures refused { IfErr result (λ fault. (rest : List ℕ) → EndsJump (unread behind.entry) rest → ⊥) }
+    ensures placed { IfErr result (λ fault. IsPlaced behind.entry.whole.now fault) }
 {
-    let rest = end_of_command(whole, behind)?;
-    if begins_braced_comment(rest) {
+    let rest = end_of_command(behind)?;
+    if begins_braced_comment(rest.unread()) {
         return Err(ScriptFault::BadLabel {
-            place: whole.len() - behind.len(),
+            place: behind.offset(),
         });
     }
     Ok(rest)
@@ -130,16 +125,16 @@ fn end_of_jump<'a>(whole: &[u8], behind: &'a [u8]) -> Result<&'a [u8], ScriptFau
 
 /// Whether a branch without a label may end here, after its blanks. A comment may not follow, since some seds take it for a
 /// label.
-fn check_no_label(whole: &[u8], begins: &[u8]) -> Result<(), ScriptFault>
-    requires behind { IsBehindLabel whole.now begins.now }
-    ensures allowed { OnOk result (IsNoComment begins.now × IsEmptyOr is_ending begins.now × (begins_braced_comment begins.now ≡ false)) }
-    ensures refused { IfErr result (λ fault. IsNoComment begins.now → IsEmptyOr is_ending begins.now → begins_braced_comment begins.now ≡ false → ⊥) }
-    ensures placed { IfErr result (λ fault. IsPlaced whole.now fault) }
+fn check_no_label<'a>(begins: Cursor<'a>) -> Result<(), ScriptFault>
+    requires behind { IsBehindLabel begins }
+    ensures allowed { OnOk result (IsNoComment (unread begins.entry) × IsEmptyOr is_ending (unread begins.entry) × (begins_braced_comment (unread begins.entry) ≡ false)) }
+    ensures refused { IfErr result (λ fault. IsNoComment (unread begins.entry) → IsEmptyOr is_ending (unread begins.entry) → begins_braced_comment (unread begins.entry) ≡ false → ⊥) }
+    ensures placed { IfErr result (λ fault. IsPlaced begins.entry.whole.now fault) }
 {
-    if let [next, ..] = begins {
-        if !is_ending(*next) || *next == b'#' || begins_braced_comment(begins) {
+    if let Some(next) = begins.first() {
+        if !is_ending(next) || next == b'#' || begins_braced_comment(begins.unread()) {
             return Err(ScriptFault::BadLabel {
-                place: whole.len() - begins.len(),
+                place: begins.offset(),
             });
         }
     }
@@ -147,48 +142,39 @@ fn check_no_label(whole: &[u8], begins: &[u8]) -> Result<(), ScriptFault>
 }
 
 /// The offset of the `}` that is right after a label, or after a verb without one.
-fn brace_behind(whole: &[u8], behind: &[u8]) -> Option<usize>
-    requires { IsBehindLabel whole.now behind.now }
-    ensures brace { is_some result ≡ begins "}" behind.now }
-    ensures placed { IfSome result (λ place. IsPlaced whole.now (ScriptFault.BadLabel place)) }
+fn brace_behind<'a>(behind: Cursor<'a>) -> Option<usize>
+    requires { IsBehindLabel behind }
+    ensures brace { is_some result ≡ begins "}" (unread behind.entry) }
+    ensures placed { IfSome result (λ place. IsPlaced behind.entry.whole.now (ScriptFault.BadLabel place)) }
 {
-    if behind.starts_with(b"}") {
-        return Some(whole.len() - behind.len());
+    if behind.unread().starts_with(b"}") {
+        return Some(behind.offset());
     }
     None
 }
 
 /// The label of a branch or none, and the rest of the text from the command's end on.
-pub fn branch_label<'a>(whole: &[u8], text: &'a [u8]) -> Result<(Jump<'a>, &'a [u8]), ScriptFault>
-    requires { IsBehindVerb (one_of "bt") whole.now text.now }
-    ensures read { IfOk result (λ x. BranchText text.now (option_copied x.0.label) (is_some x.0.brace) x.1.now) }
-    ensures label { IfOk result (λ x. IsJumpAt whole.now x.0) }
-    ensures refused { IfErr result (λ fault. (label : Option (List ℕ)) (braced : Bool) (rest : List ℕ) → BranchText text.now label braced rest → ⊥) }
-    ensures placed { IfErr result (λ fault. IsPlaced whole.now fault) }
+pub fn read_jump<'a>(text: Cursor<'a>) -> Result<(Jump<'a>, Cursor<'a>), ScriptFault>
+    requires { IsBehindVerb (one_of "bt") text }
+    ensures read { IfOk result (λ x. BranchText (unread text.entry) (option_copied x.0.label) (is_some x.0.brace) (unread x.1)) }
+    ensures same { IfOk result (λ x. x.1.whole ≡ text.entry.whole) }
+    ensures label { IfOk result (λ x. IsJumpAt text.entry.whole.now x.0) }
+    ensures refused { IfErr result (λ fault. (label : Option (List ℕ)) (braced : Bool) (rest : List ℕ) → BranchText (unread text.entry) label braced rest → ⊥) }
+    ensures placed { IfErr result (λ fault. IsPlaced text.entry.whole.now fault) }
 {
-    let (name, place, behind) = label_parts(whole, text);
-    let brace = brace_behind(whole, behind);
-    if name.is_empty() {
-        check_no_label(whole, behind)?;
-        let label = None;
-        return Ok((
-            Jump {
-                label,
-                place,
-                brace,
-            },
-            behind,
-        ));
-    }
-    check_behind_label(whole, behind)?;
-    let rest = end_of_jump(whole, behind)?;
-    let label = Some(name);
-    Ok((
-        Jump {
-            label,
-            place,
-            brace,
-        },
-        rest,
-    ))
+    let (name, place, behind) = split_label(text);
+    let brace = brace_behind(behind);
+    let (label, rest) = if name.is_empty() {
+        check_no_label(behind)?;
+        (None, behind)
+    } else {
+        check_behind_label(behind)?;
+        (Some(name), end_of_jump(behind)?)
+    };
+    let jump = Jump {
+        label,
+        place,
+        brace,
+    };
+    Ok((jump, rest))
 }

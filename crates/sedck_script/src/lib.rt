@@ -37,6 +37,7 @@ mod name_lists;
 mod names;
 mod numbers;
 mod parsing;
+mod reader;
 mod references;
 mod replacements;
 mod resolving;

@@ -1,6 +1,6 @@
 //! Where commands are in the text.
 
-ghost use Rattle.std.specs.Prelude.{◌≡◌, ◌≤◌, ◌-◌, length, IfOk, IfErr};
+ghost use Rattle.std.specs.Prelude.{◌≡◌, IfOk, IfErr};
 ghost use Rattle.sedck_script.specs.Private.ItemReading.{locations_in};
 
 use crate::fault::ScriptFault;
@@ -17,21 +17,6 @@ pub struct Location {
     /// Where it ends: after its blanks the newline, `;`, `}` or comment that ends it; for `{` the next byte;
     /// for a text or a file name the newline after it; and else the end of the script.
     pub end: usize,
-}
-
-/// Where a command is in the whole text: it starts where `text` begins, its verb where `begins` does,
-/// and `rest` follows it.
-pub fn location_of(whole: &[u8], text: &[u8], begins: &[u8], rest: &[u8]) -> Location
-    requires text { length text.now ≤ length whole.now }
-    requires begins { length begins.now ≤ length text.now }
-    requires rest { length rest.now ≤ length begins.now }
-    ensures { result ≡ record { start = length whole.now - length text.now; verb = length whole.now - length begins.now; end = length whole.now - length rest.now } }
-{
-    Location {
-        start: whole.len() - text.len(),
-        verb: whole.len() - begins.len(),
-        end: whole.len() - rest.len(),
-    }
 }
 
 /// The locations of the commands among the items, in order.

@@ -4,17 +4,10 @@ ghost use Rattle.std.specs.Prelude.{◌≡◌, ◌⊎◌, ℕ, List, IfSome, IfN
 ghost use Rattle.sedck_script.specs.Cuts.{is_newline, is_continued, Longest};
 ghost use Rattle.sedck_script.specs.Parts.{Name, is_skipped};
 ghost use Rattle.sedck_script.specs.Faults.{IsPlaced};
-ghost use Rattle.sedck_script.specs.Private.Reading.{EndsIn};
+ghost use Rattle.sedck_text.specs.Cursors.{unread};
 
-use crate::bytes::{line_len, split_blanks};
 use crate::fault::ScriptFault;
-
-/// The rest of the line, and what follows its end.
-pub fn split_line(text: &[u8]) -> (&[u8], &[u8])
-    ensures { Longest (λ b. not (is_newline b)) text.now result.0.now result.1.now }
-{
-    text.split_at(line_len(text))
-}
+use sedck_text::{Class, Cursor};
 
 /// Whether the line ends in an odd number of backslashes.
 pub fn is_continued(line: &[u8]) -> bool
@@ -38,35 +31,34 @@ fn is_skipped(byte: u8) -> bool
 }
 
 /// The file name after the blanks at the start, and the text from the end of its line on.
-pub fn name(text: &[u8]) -> Option<(&[u8], &[u8])>
-    ensures read { IfSome result (λ x. Name text.now x.0.now x.1.now) }
-    ensures none { IfNone result ((name : List ℕ) (rest : List ℕ) → Name text.now name rest → ⊥) }
+pub fn read_name<'a>(text: Cursor<'a>) -> Option<(&'a [u8], Cursor<'a>)>
+    ensures read { IfSome result (λ x. Name (unread text.entry) x.0.now (unread x.1)) }
+    ensures same { IfSome result (λ x. x.1.whole ≡ text.entry.whole) }
+    ensures none { IfNone result ((name : List ℕ) (rest : List ℕ) → Name (unread text.entry) name rest → ⊥) }
 {
-    let (_, begins) = split_blanks(text);
-    let (name, rest) = split_line(begins);
+    let (name, rest) = text.skip(Class::Blank).split(Class::Except(b'\n'));
     let [first, ..] = name else {
         return None;
     };
     if is_skipped(*first) {
         return None;
     }
-    if !rest.is_empty() && is_continued(name) {
+    if !rest.unread().is_empty() && is_continued(name) {
         return None;
     }
     Some((name, rest))
 }
 
 /// Why no name can be read after the verb or the flag at the place: there is none, or it is one that some seds read differently.
-pub fn name_fault(whole: &[u8], place: usize, text: &[u8]) -> ScriptFault
-    requires tail { EndsIn whole.now text.now }
-    ensures { (result ≡ ScriptFault.MissingName place) ⊎ IsPlaced whole.now result }
+pub fn name_fault<'a>(place: usize, text: Cursor<'a>) -> ScriptFault
+    ensures { (result ≡ ScriptFault.MissingName place) ⊎ IsPlaced text.entry.whole.now result }
 {
-    let (_, begins) = split_blanks(text);
-    let (name, _) = split_line(begins);
+    let begins = text.skip(Class::Blank);
+    let (name, _) = begins.split(Class::Except(b'\n'));
     if name.is_empty() {
         return ScriptFault::MissingName { place };
     }
-    let start = whole.len() - begins.len();
+    let start = begins.offset();
     let last = name.len() - 1;
     if is_skipped(name[0]) {
         return ScriptFault::ExtraText { place: start };

@@ -5,18 +5,12 @@ ghost use Rattle.std.specs.Prelude.{◌≡◌, ◌≤◌, ◌<◌, min};
 ghost use Rattle.std.specs.List.{list_all};
 ghost use Rattle.std.specs.Prelude.{IsTrue};
 ghost use Rattle.std.specs.Str.Parse.{digits_value};
-ghost use Rattle.sedck_script.specs.Cuts.{is_digit, Longest};
+ghost use Rattle.sedck_text.specs.Cursors.{unread};
+ghost use Rattle.sedck_script.specs.Cuts.{is_digit};
 ghost use Rattle.sedck_script.specs.Parts.{Number};
 
-use crate::bytes::digits_len;
 use crate::limits::NUMBER_LIMIT;
-
-/// The digits at the start, and what follows them.
-fn split_digits(text: &[u8]) -> (&[u8], &[u8])
-    ensures { Longest is_digit text.now result.0.now result.1.now }
-{
-    text.split_at(digits_len(text))
-}
+use sedck_text::{Class, Cursor};
 
 /// The value of the digits, or the limit where it is greater.
 fn value_of(digits: &[u8]) -> u64
@@ -31,11 +25,12 @@ fn value_of(digits: &[u8]) -> u64
 }
 
 /// The number at the start, and what follows its digits.
-pub fn number(text: &[u8]) -> Option<(u32, &[u8])>
-    ensures read { IfSome result (λ x. Number text.now x.0 x.1.now) }
-    ensures none { IfNone result ((n : ℕ) (rest : List ℕ) → Number text.now n rest → ⊥) }
+pub fn read_number<'a>(text: Cursor<'a>) -> Option<(u32, Cursor<'a>)>
+    ensures read { IfSome result (λ x. Number (unread text.entry) x.0 (unread x.1)) }
+    ensures same { IfSome result (λ x. x.1.whole ≡ text.entry.whole) }
+    ensures none { IfNone result ((n : ℕ) (rest : List ℕ) → Number (unread text.entry) n rest → ⊥) }
 {
-    let (digits, rest) = split_digits(text);
+    let (digits, rest) = text.split(Class::Digit);
     let value = value_of(digits);
     if digits.is_empty() || value == 0 || value == NUMBER_LIMIT {
         return None;

@@ -13,7 +13,7 @@ ghost use Rattle.sedck_script.specs.Faults.{IsPlaced, IsFirstZero};
 
 use crate::expressions::{has_expression, is_quiet};
 use crate::fault::ScriptFault;
-use crate::items::{Progress, items};
+use crate::items::{Progress, read_items};
 use crate::limits::TEXT_LIMIT;
 use crate::location::{Location, locations};
 use crate::name_lists::{Access, sorted_names};
@@ -113,7 +113,7 @@ pub fn parse<'a>(alloc: Global, text: &'a [u8]) -> Result<Script<'a>, ScriptFaul
     ensures zero { (place : ℕ) → length text.now ≤ TEXT_LIMIT → IsFirstZero text.now place → result ≡ Err (ScriptFault.NulByte place) }
 {
     check_text(text)?;
-    let progress = items(alloc, text)?;
+    let progress = read_items(alloc, text)?;
     script(alloc, text, progress)
 }
 
@@ -140,7 +140,7 @@ pub fn locate<'a>(alloc: Global, text: &'a [u8]) -> Result<Located<'a>, ScriptFa
     ensures zero { (place : ℕ) → length text.now ≤ TEXT_LIMIT → IsFirstZero text.now place → result ≡ Err (ScriptFault.NulByte place) }
 {
     check_text(text)?;
-    let progress = items(alloc, text)?;
+    let progress = read_items(alloc, text)?;
     let locations = locations(alloc, &progress.items)?;
     let script = script(alloc, text, progress)?;
     Ok(Located { script, locations })

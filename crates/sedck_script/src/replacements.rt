@@ -4,15 +4,16 @@ ghost use Rattle.std.specs.Prelude.{◌≡◌, ◌≢◌, ◌≤◌, ◌<◌, �
 ghost use Rattle.sedck_script.specs.Cuts.{is_delimiter, Longest};
 ghost use Rattle.sedck_script.specs.Program as clean;
 ghost use Rattle.sedck_script.specs.Parts.{EscapedPart, Replacement, is_plain, greatest_group};
-ghost use Rattle.sedck_script.specs.Private.Reading.{EndsIn};
+ghost use Rattle.sedck_text.specs.Cursors.{unread};
 ghost use Rattle.sedck_script.specs.View.{pattern_of, part_of};
 ghost use Rattle.sedck_script.specs.Private.PieceReading.{IsPartPlaced};
 ghost use Rattle.sedck_script.specs.Private.ReplacementReading.{IsGroupWithin, HasGroupsUpTo, IsNextPart};
 
-use crate::bytes::{is_digit, is_letter, plain_len};
-use crate::delimited::{Piece, piece_at};
+use crate::bytes::{is_digit, is_letter};
+use crate::delimited::{Piece, read_piece};
 use crate::fault::ScriptFault;
 use crate::script::{Part, Pattern};
+use sedck_text::{Class, Cursor};
 use std::alloc::Global;
 
 /// The greatest group that a replacement may name.
@@ -23,13 +24,6 @@ pub fn greatest_group(pattern: &Pattern) -> u8
         Pattern::Previous => 9,
         Pattern::Expr(expression) => expression.groups(),
     }
-}
-
-/// The bytes at the start that stand for themselves, and what follows them.
-fn split_plain(delimiter: u8, text: &[u8]) -> (&[u8], &[u8])
-    ensures { Longest (is_plain delimiter) text.now result.0.now result.1.now }
-{
-    text.split_at(plain_len(delimiter, text))
 }
 
 /// What a backslash and this byte mean, which the slice holds.
@@ -57,34 +51,33 @@ fn escaped_part<'a>(b: u8, itself: &'a [u8], greatest: u8) -> Option<Part<'a>>
 }
 
 /// The first part of a replacement, or none at its end, and what follows it.
-fn next_part<'a>(
-    whole: &[u8],
+fn read_part<'a>(
     opening: usize,
     delimiter: u8,
     greatest: u8,
-    text: &'a [u8],
-) -> Result<(Option<Part<'a>>, &'a [u8]), ScriptFault>
+    text: Cursor<'a>,
+) -> Result<(Option<Part<'a>>, Cursor<'a>), ScriptFault>
     requires delimiter { IsTrue (is_delimiter delimiter) }
-    requires tail { EndsIn whole.now text.now }
-    ensures read { IfOk result (λ x. IsNextPart delimiter greatest text.now (option_map part_of x.0) x.1.now) }
-    ensures refused { IfErr result (λ fault. (parts : List clean.Part) (rest : List ℕ) → Replacement delimiter text.now parts rest → HasGroupsUpTo greatest parts → ⊥) }
-    ensures placed { IfErr result (λ fault. IsPartPlaced opening whole.now fault) }
+    ensures read { IfOk result (λ x. IsNextPart delimiter greatest (unread text.entry) (option_map part_of x.0) (unread x.1)) }
+    ensures same { IfOk result (λ x. x.1.whole ≡ text.entry.whole) }
+    ensures refused { IfErr result (λ fault. (parts : List clean.Part) (rest : List ℕ) → Replacement delimiter (unread text.entry) parts rest → HasGroupsUpTo greatest parts → ⊥) }
+    ensures placed { IfErr result (λ fault. IsPartPlaced opening text.entry.whole.now fault) }
 {
-    let (piece, behind) = piece_at(whole, opening, delimiter, text)?;
+    let (piece, behind) = read_piece(opening, delimiter, text)?;
     match piece {
         Piece::End => Ok((None, behind)),
         Piece::Byte(b) => {
             if b == b'&' {
                 return Ok((Some(Part::Whole), behind));
             }
-            let (run, after) = split_plain(delimiter, text);
+            let (run, after) = text.split(Class::Plain(delimiter));
             Ok((Some(Part::Text(run)), after))
         }
-        Piece::Escaped => Ok((Some(Part::Text(&text[1..2])), behind)),
+        Piece::Escaped => Ok((Some(Part::Text(&text.unread()[1..2])), behind)),
         Piece::Pair(b) => {
-            let Some(part) = escaped_part(b, &text[1..2], greatest) else {
+            let Some(part) = escaped_part(b, &text.unread()[1..2], greatest) else {
                 return Err(ScriptFault::BadReplacement {
-                    place: whole.len() - text.len(),
+                    place: text.offset(),
                 });
             };
             Ok((Some(part), behind))
@@ -93,25 +86,24 @@ fn next_part<'a>(
 }
 
 /// The replacement up to the first delimiter that no backslash escapes, and what follows it.
-pub fn replacement<'a>(
+pub fn read_replacement<'a>(
     alloc: Global,
-    whole: &[u8],
     opening: usize,
     delimiter: u8,
     greatest: u8,
-    text: &'a [u8],
-) -> Result<(Vec<Part<'a>>, &'a [u8]), ScriptFault>
+    text: Cursor<'a>,
+) -> Result<(Vec<Part<'a>>, Cursor<'a>), ScriptFault>
     requires delimiter { IsTrue (is_delimiter delimiter) }
-    requires tail { EndsIn whole.now text.now }
-    ensures read { IfOk result (λ x. Replacement delimiter text.now (map part_of x.0.items) x.1.now) }
+    ensures read { IfOk result (λ x. Replacement delimiter (unread text.entry) (map part_of x.0.items) (unread x.1)) }
+    ensures same { IfOk result (λ x. x.1.whole ≡ text.entry.whole) }
     ensures groups { IfOk result (λ x. HasGroupsUpTo greatest (map part_of x.0.items)) }
-    ensures refused { IfErr result (λ fault. fault ≢ ScriptFault.OutOfMemory → (parts : List clean.Part) (rest : List ℕ) → Replacement delimiter text.now parts rest → HasGroupsUpTo greatest parts → ⊥) }
-    ensures placed { IfErr result (λ fault. IsPartPlaced opening whole.now fault) }
+    ensures refused { IfErr result (λ fault. fault ≢ ScriptFault.OutOfMemory → (parts : List clean.Part) (rest : List ℕ) → Replacement delimiter (unread text.entry) parts rest → HasGroupsUpTo greatest parts → ⊥) }
+    ensures placed { IfErr result (λ fault. IsPartPlaced opening text.entry.whole.now fault) }
 {
     let mut parts = Vec::new(alloc);
     let mut rest = text;
     loop {
-        let (part, behind) = next_part(whole, opening, delimiter, greatest, rest)?;
+        let (part, behind) = read_part(opening, delimiter, greatest, rest)?;
         let Some(part) = part else {
             return Ok((parts, behind));
         };

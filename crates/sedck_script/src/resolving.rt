@@ -2,7 +2,7 @@
 
 ghost use Rattle.std.specs.Prelude.{◌≡◌, ◌≢◌, ◌⊎◌, ℕ, List, [], IfNone, IfSome, Some, None, length, map, All, Any, IfOk, IfErr, OnOk, OnErr, option_copied};
 ghost use Rattle.sedck_script.specs.View as view;
-ghost use Rattle.sedck_bre.specs.Text.{one_of};
+ghost use Rattle.sedck_text.specs.Text.{one_of};
 ghost use Rattle.sedck_script.specs.Faults.{IsLabelBehind};
 ghost use Rattle.sedck_script.specs.Resolution.{Resolves};
 ghost use Rattle.sedck_script.specs.Private.Reading.{HasLabels, IsUnknownLabel};

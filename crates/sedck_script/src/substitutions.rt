@@ -1,62 +1,63 @@
 //! The verbs with delimited parts: `s` and `y`.
 
-ghost use Rattle.std.specs.Prelude.{◌≡◌, ◌≢◌, ◌≤◌, ℕ, List, ◌∷◌, length, drop, IsTrue, IfOk, IfErr};
-ghost use Rattle.sedck_bre.specs.Bytes.{letter_s, letter_y};
+ghost use Rattle.std.specs.Prelude.{◌≡◌, ◌≢◌, ◌<◌, ◌-◌, ℕ, List, ◌∷◌, length, drop, IsTrue, IfOk, IfErr};
+ghost use Rattle.sedck_text.specs.Bytes.{letter_s, letter_y};
 ghost use Rattle.sedck_script.specs.Cuts.{is_delimiter};
 ghost use Rattle.sedck_script.specs.Program as clean;
 ghost use Rattle.sedck_script.specs.Items.{WrittenVerb, Known, VerbText};
 ghost use Rattle.sedck_script.specs.Faults.{StandsAt, IsPlaced};
 ghost use Rattle.sedck_script.specs.Private.PieceReading.{IsPartPlaced};
-ghost use Rattle.sedck_script.specs.Private.Reading.{EndsIn};
+ghost use Rattle.sedck_text.specs.Cursors.{unread, IsAhead, Follows};
 ghost use Rattle.sedck_script.specs.Private.VerbReading.{AreLists};
 ghost use Rattle.sedck_script.specs.View.{verb_of};
 
 use crate::bytes::is_delimiter;
-use crate::delimited::{delimited_list, first_list, pattern};
+use crate::delimited::{read_first_list, read_list, read_pattern};
 use crate::ends::end_of_command;
 use crate::fault::ScriptFault;
-use crate::flags::flags;
+use crate::flags::read_flags;
 use crate::references::{literal_length, outside_of};
-use crate::replacements::{greatest_group, replacement};
+use crate::replacements::{greatest_group, read_replacement};
 use crate::script::{Substitution, Verb};
+use sedck_text::Cursor;
 use std::alloc::Global;
 
 /// The delimiter after a verb, and what follows it.
-fn opening_delimiter<'a>(opening: usize, text: &'a [u8]) -> Result<(u8, &'a [u8]), ScriptFault>
-    ensures read { IfOk result (λ x. (text.now ≡ x.0 ∷ x.1.now) × IsTrue (is_delimiter x.0)) }
-    ensures refused { IfErr result (λ fault. (delimiter : ℕ) (rest : List ℕ) → text.now ≡ delimiter ∷ rest → IsTrue (is_delimiter delimiter) → ⊥) }
+fn split_delimiter<'a>(opening: usize, text: Cursor<'a>) -> Result<(u8, Cursor<'a>), ScriptFault>
+    ensures read { IfOk result (λ x. (unread text.entry ≡ x.0 ∷ unread x.1) × IsTrue (is_delimiter x.0)) }
+    ensures ahead { IfOk result (λ x. IsAhead text.entry 1 x.1 × Follows x.1 x.0) }
+    ensures refused { IfErr result (λ fault. (delimiter : ℕ) (rest : List ℕ) → unread text.entry ≡ delimiter ∷ rest → IsTrue (is_delimiter delimiter) → ⊥) }
     ensures placed { IfErr result (λ fault. (whole : List ℕ) → IsPartPlaced opening whole fault) }
 {
     let unterminated = ScriptFault::Unterminated { place: opening };
     let Some((delimiter, behind)) = text.split_first() else {
         return Err(unterminated);
     };
-    if !is_delimiter(*delimiter) {
+    if !is_delimiter(delimiter) {
         return Err(unterminated);
     }
-    Ok((*delimiter, behind))
+    Ok((delimiter, behind))
 }
 
 /// What a `s` takes, and the rest of the text from its end on.
-pub fn substitution<'a>(
+pub fn read_substitution<'a>(
     alloc: Global,
-    whole: &[u8],
     place: usize,
-    text: &'a [u8],
-) -> Result<(Verb<'a>, &'a [u8]), ScriptFault>
-    requires tail { EndsIn whole.now text.now }
-    requires stands { StandsAt whole.now place letter_s }
-    requires here { drop place whole.now ≡ letter_s ∷ text.now }
-    ensures read { IfOk result (λ x. VerbText (letter_s ∷ text.now) (Known (verb_of x.0)) x.1.now) }
+    text: Cursor<'a>,
+) -> Result<(Verb<'a>, Cursor<'a>), ScriptFault>
+    requires stands { StandsAt text.whole.now place letter_s }
+    requires here { drop place text.whole.now ≡ letter_s ∷ unread text }
+    ensures read { IfOk result (λ x. VerbText (letter_s ∷ unread text.entry) (Known (verb_of x.0)) (unread x.1)) }
+    ensures same { IfOk result (λ x. x.1.whole ≡ text.entry.whole) }
     ensures plain { IfOk result (λ x. (name : List ℕ) → verb_of x.0 ≢ clean.Label name) }
-    ensures refused { IfErr result (λ fault. fault ≢ ScriptFault.OutOfMemory → (verb : WrittenVerb) (rest : List ℕ) → VerbText (letter_s ∷ text.now) verb rest → ⊥) }
-    ensures placed { IfErr result (λ fault. IsPlaced whole.now fault) }
+    ensures refused { IfErr result (λ fault. fault ≢ ScriptFault.OutOfMemory → (verb : WrittenVerb) (rest : List ℕ) → VerbText (letter_s ∷ unread text.entry) verb rest → ⊥) }
+    ensures placed { IfErr result (λ fault. IsPlaced text.entry.whole.now fault) }
 {
-    let (delimiter, opened) = opening_delimiter(place, text)?;
-    let (pattern, behind) = pattern(alloc, whole, place, delimiter, opened)?;
+    let (delimiter, opened) = split_delimiter(place, text)?;
+    let (pattern, behind) = read_pattern(alloc, place, delimiter, opened)?;
     let greatest = greatest_group(&pattern);
-    let (parts, after) = replacement(alloc, whole, place, delimiter, greatest, behind)?;
-    let (seen, file, rest) = flags(whole, after)?;
+    let (parts, after) = read_replacement(alloc, place, delimiter, greatest, behind)?;
+    let (seen, file, rest) = read_flags(after)?;
     let outside = outside_of(&pattern, &parts);
     let literal = literal_length(&parts);
     let substitution = Substitution {
@@ -73,22 +74,23 @@ pub fn substitution<'a>(
 }
 
 /// The two lists of a `y`, which are equally long, and what follows them.
-fn equal_lists<'a>(
+fn read_lists<'a>(
     alloc: Global,
-    whole: &[u8],
     place: usize,
     delimiter: u8,
-    text: &'a [u8],
-) -> Result<(Vec<u8>, Vec<u8>, &'a [u8]), ScriptFault>
+    text: Cursor<'a>,
+) -> Result<(Vec<u8>, Vec<u8>, Cursor<'a>), ScriptFault>
     requires delimiter { IsTrue (is_delimiter delimiter) }
-    requires opened { EndsIn whole.now (letter_y ∷ delimiter ∷ text.now) }
-    requires stands { StandsAt whole.now place letter_y }
-    ensures read { IfOk result (λ x. AreLists delimiter text.now x.0.items x.1.items x.2.now) }
-    ensures refused { IfErr result (λ fault. fault ≢ ScriptFault.OutOfMemory → (from to rest : List ℕ) → AreLists delimiter text.now from to rest → ⊥) }
-    ensures placed { IfErr result (λ fault. IsPartPlaced place whole.now fault) }
+    requires opened { Follows text delimiter }
+    requires verb { (1 < text.at) × StandsAt text.whole.now (text.at - 2) letter_y }
+    requires stands { StandsAt text.whole.now place letter_y }
+    ensures read { IfOk result (λ x. AreLists delimiter (unread text.entry) x.0.items x.1.items (unread x.2)) }
+    ensures same { IfOk result (λ x. x.2.whole ≡ text.entry.whole) }
+    ensures refused { IfErr result (λ fault. fault ≢ ScriptFault.OutOfMemory → (from to rest : List ℕ) → AreLists delimiter (unread text.entry) from to rest → ⊥) }
+    ensures placed { IfErr result (λ fault. IsPartPlaced place text.entry.whole.now fault) }
 {
-    let (from, behind) = first_list(alloc, whole, place, delimiter, text)?;
-    let (to, rest) = delimited_list(alloc, whole, place, delimiter, behind)?;
+    let (from, behind) = read_first_list(alloc, place, delimiter, text)?;
+    let (to, rest) = read_list(alloc, place, delimiter, behind)?;
     if from.len() != to.len() {
         return Err(ScriptFault::BadTransliteration { place });
     }
@@ -96,22 +98,21 @@ fn equal_lists<'a>(
 }
 
 /// What a `y` takes, and the rest of the text from its end on.
-pub fn transliteration<'a>(
+pub fn read_transliteration<'a>(
     alloc: Global,
-    whole: &[u8],
     place: usize,
-    text: &'a [u8],
-) -> Result<(Verb<'a>, &'a [u8]), ScriptFault>
-    requires tail { EndsIn whole.now text.now }
-    requires stands { StandsAt whole.now place letter_y }
-    requires here { drop place whole.now ≡ letter_y ∷ text.now }
-    ensures read { IfOk result (λ x. VerbText (letter_y ∷ text.now) (Known (verb_of x.0)) x.1.now) }
+    text: Cursor<'a>,
+) -> Result<(Verb<'a>, Cursor<'a>), ScriptFault>
+    requires stands { StandsAt text.whole.now place letter_y }
+    requires here { drop place text.whole.now ≡ letter_y ∷ unread text }
+    ensures read { IfOk result (λ x. VerbText (letter_y ∷ unread text.entry) (Known (verb_of x.0)) (unread x.1)) }
+    ensures same { IfOk result (λ x. x.1.whole ≡ text.entry.whole) }
     ensures plain { IfOk result (λ x. (name : List ℕ) → verb_of x.0 ≢ clean.Label name) }
-    ensures refused { IfErr result (λ fault. fault ≢ ScriptFault.OutOfMemory → (verb : WrittenVerb) (rest : List ℕ) → VerbText (letter_y ∷ text.now) verb rest → ⊥) }
-    ensures placed { IfErr result (λ fault. IsPlaced whole.now fault) }
+    ensures refused { IfErr result (λ fault. fault ≢ ScriptFault.OutOfMemory → (verb : WrittenVerb) (rest : List ℕ) → VerbText (letter_y ∷ unread text.entry) verb rest → ⊥) }
+    ensures placed { IfErr result (λ fault. IsPlaced text.entry.whole.now fault) }
 {
-    let (delimiter, opened) = opening_delimiter(place, text)?;
-    let (from, to, after) = equal_lists(alloc, whole, place, delimiter, opened)?;
-    let rest = end_of_command(whole, after)?;
+    let (delimiter, opened) = split_delimiter(place, text)?;
+    let (from, to, after) = read_lists(alloc, place, delimiter, opened)?;
+    let rest = end_of_command(after)?;
     Ok((Verb::Transliterate(from, to), rest))
 }

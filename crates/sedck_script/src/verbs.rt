@@ -1,25 +1,25 @@
 //! Verbs with what they take.
 
 ghost use Rattle.std.specs.Prelude.{◌≡◌, ◌≢◌, ◌⊎◌, ◌-◌, ℕ, List, [], ◌∷◌, false, length, drop, IsTrue, IfOk, IfErr, IfSome, IfNone};
-ghost use Rattle.sedck_bre.specs.Bytes.{colon};
-ghost use Rattle.sedck_bre.specs.Text.{is_in, one_of};
+ghost use Rattle.sedck_text.specs.Bytes.{colon};
+ghost use Rattle.sedck_text.specs.Text.{is_in, one_of};
 ghost use Rattle.sedck_script.specs.Program as clean;
 ghost use Rattle.sedck_script.specs.Items.{WrittenVerb, Known, Simple, VerbText, IsNoBrace};
 ghost use Rattle.sedck_script.specs.Faults.{IsVerbDue, IsPlaced, StandsAt, verb_bytes};
-ghost use Rattle.sedck_script.specs.Private.Reading.{EndsIn};
+ghost use Rattle.sedck_text.specs.Cursors.{unread, Follows};
 ghost use Rattle.sedck_script.specs.View.{verb_of};
 ghost use Rattle.sedck_script.specs.Private.VerbReading.{written_verb, IsWrittenAt, DefinesKnown};
 
-use crate::bytes::split_blanks;
 use crate::ends::end_of_command;
 use crate::fault::ScriptFault;
 use crate::label_places::place_of;
-use crate::labels::{Jump, branch_label, defined_label};
-use crate::names::{name, name_fault};
+use crate::labels::{Jump, read_definition, read_jump};
+use crate::names::{name_fault, read_name};
 use crate::script::Verb;
-use crate::substitutions::{substitution, transliteration};
-use crate::texts::given_text;
+use crate::substitutions::{read_substitution, read_transliteration};
+use crate::texts::read_text;
 use indexmap::IndexMap;
+use sedck_text::{Class, Cursor};
 use std::alloc::Global;
 
 /// A verb as it is written.
@@ -35,6 +35,7 @@ pub enum Written<'a> {
 /// The verb of a byte, if it takes nothing.
 fn simple_verb<'a>(b: u8) -> Option<Verb<'a>>
     ensures some { IfSome result (λ verb. Simple b (verb_of verb)) }
+    ensures plain { IfSome result (λ verb. (name : List ℕ) → verb_of verb ≢ clean.Label name) }
     ensures none { IfNone result (one_of "=dDgGhHlnNpPqx" b ≡ false) }
 {
     match b {
@@ -57,20 +58,20 @@ fn simple_verb<'a>(b: u8) -> Option<Verb<'a>>
 }
 
 /// The text after one of `a`, `c` and `i`, and the rest of the script from its end on.
-fn text_verb<'a>(
-    place: usize,
+fn read_text_verb<'a>(
+    offset: usize,
     verb: u8,
-    text: &'a [u8],
-) -> Result<(Verb<'a>, &'a [u8]), ScriptFault>
+    text: Cursor<'a>,
+) -> Result<(Verb<'a>, Cursor<'a>), ScriptFault>
     requires { IsTrue (one_of "aci" verb) }
-    ensures read { IfOk result (λ x. VerbText (verb ∷ text.now) (Known (verb_of x.0)) x.1.now) }
+    ensures read { IfOk result (λ x. VerbText (verb ∷ unread text.entry) (Known (verb_of x.0)) (unread x.1)) }
+    ensures same { IfOk result (λ x. x.1.whole ≡ text.entry.whole) }
     ensures plain { IfOk result (λ x. (name : List ℕ) → verb_of x.0 ≢ clean.Label name) }
-    ensures refused { IfErr result (λ fault. (written : WrittenVerb) (rest : List ℕ) → VerbText (verb ∷ text.now) written rest → ⊥) }
-    ensures placed { IfErr result (λ fault. fault ≡ ScriptFault.MissingText place) }
+    ensures refused { IfErr result (λ fault. (written : WrittenVerb) (rest : List ℕ) → VerbText (verb ∷ unread text.entry) written rest → ⊥) }
+    ensures placed { IfErr result (λ fault. fault ≡ ScriptFault.MissingText offset) }
 {
-    let (_, begins) = split_blanks(text);
-    let Some((bytes, rest)) = given_text(begins) else {
-        return Err(ScriptFault::MissingText { place });
+    let Some((bytes, rest)) = read_text(text.skip(Class::Blank)) else {
+        return Err(ScriptFault::MissingText { place: offset });
     };
     if verb == b'a' {
         return Ok((Verb::Append(bytes), rest));
@@ -82,21 +83,20 @@ fn text_verb<'a>(
 }
 
 /// The file after one of `r` and `w`, and the rest of the script from the end of its line on.
-fn file_verb<'a>(
-    whole: &[u8],
-    place: usize,
+fn read_file_verb<'a>(
+    offset: usize,
     verb: u8,
-    text: &'a [u8],
-) -> Result<(Verb<'a>, &'a [u8]), ScriptFault>
+    text: Cursor<'a>,
+) -> Result<(Verb<'a>, Cursor<'a>), ScriptFault>
     requires verb { IsTrue (one_of "rw" verb) }
-    requires tail { EndsIn whole.now text.now }
-    ensures read { IfOk result (λ x. VerbText (verb ∷ text.now) (Known (verb_of x.0)) x.1.now) }
+    ensures read { IfOk result (λ x. VerbText (verb ∷ unread text.entry) (Known (verb_of x.0)) (unread x.1)) }
+    ensures same { IfOk result (λ x. x.1.whole ≡ text.entry.whole) }
     ensures plain { IfOk result (λ x. (name : List ℕ) → verb_of x.0 ≢ clean.Label name) }
-    ensures refused { IfErr result (λ fault. (written : WrittenVerb) (rest : List ℕ) → VerbText (verb ∷ text.now) written rest → ⊥) }
-    ensures placed { IfErr result (λ fault. (fault ≡ ScriptFault.MissingName place) ⊎ IsPlaced whole.now fault) }
+    ensures refused { IfErr result (λ fault. (written : WrittenVerb) (rest : List ℕ) → VerbText (verb ∷ unread text.entry) written rest → ⊥) }
+    ensures placed { IfErr result (λ fault. (fault ≡ ScriptFault.MissingName offset) ⊎ IsPlaced text.entry.whole.now fault) }
 {
-    let Some((name, rest)) = name(text) else {
-        return Err(name_fault(whole, place, text));
+    let Some((name, rest)) = read_name(text) else {
+        return Err(name_fault(offset, text));
     };
     if verb == b'r' {
         return Ok((Verb::Read(name), rest));
@@ -105,93 +105,92 @@ fn file_verb<'a>(
 }
 
 /// A verb that takes nothing, and the rest of the script from its end on.
-fn simple_command<'a>(
-    whole: &[u8],
-    place: usize,
+fn read_simple_verb<'a>(
+    offset: usize,
     verb: u8,
-    text: &'a [u8],
-) -> Result<(Verb<'a>, &'a [u8]), ScriptFault>
-    requires tail { EndsIn whole.now text.now }
+    text: Cursor<'a>,
+) -> Result<(Verb<'a>, Cursor<'a>), ScriptFault>
     requires other { one_of "=dDgGhHlnNpPqx" verb ≡ false → is_in verb verb_bytes ≡ false }
-    requires stands { StandsAt whole.now place verb }
-    requires due { IsVerbDue whole.now place }
-    ensures read { IfOk result (λ x. VerbText (verb ∷ text.now) (Known (verb_of x.0)) x.1.now) }
+    requires stands { StandsAt text.whole.now offset verb }
+    requires due { IsVerbDue text.whole.now offset }
+    ensures read { IfOk result (λ x. VerbText (verb ∷ unread text.entry) (Known (verb_of x.0)) (unread x.1)) }
+    ensures same { IfOk result (λ x. x.1.whole ≡ text.entry.whole) }
     ensures plain { IfOk result (λ x. (name : List ℕ) → verb_of x.0 ≢ clean.Label name) }
-    ensures refused { IfErr result (λ fault. (written : WrittenVerb) (rest : List ℕ) → VerbText (verb ∷ text.now) written rest → ⊥) }
-    ensures placed { IfErr result (λ fault. IsPlaced whole.now fault) }
+    ensures refused { IfErr result (λ fault. (written : WrittenVerb) (rest : List ℕ) → VerbText (verb ∷ unread text.entry) written rest → ⊥) }
+    ensures placed { IfErr result (λ fault. IsPlaced text.entry.whole.now fault) }
 {
     let Some(simple) = simple_verb(verb) else {
-        return Err(ScriptFault::UnknownCommand { place });
+        return Err(ScriptFault::UnknownCommand { place: offset });
     };
-    let rest = end_of_command(whole, text)?;
+    let rest = end_of_command(text)?;
     Ok((simple, rest))
 }
 
 /// What a verb takes that is neither `:`, `b`, `t` nor `{`, and the rest of the script from its end on.
-fn known_verb<'a>(
+fn read_known_verb<'a>(
     alloc: Global,
-    whole: &[u8],
-    place: usize,
+    offset: usize,
     verb: u8,
-    text: &'a [u8],
-) -> Result<(Verb<'a>, &'a [u8]), ScriptFault>
-    requires tail { EndsIn whole.now text.now }
+    text: Cursor<'a>,
+) -> Result<(Verb<'a>, Cursor<'a>), ScriptFault>
     requires verb { one_of ":bt{}#" verb ≡ false }
-    requires stands { StandsAt whole.now place verb }
-    requires here { drop place whole.now ≡ verb ∷ text.now }
-    requires due { IsVerbDue whole.now place }
-    ensures read { IfOk result (λ x. VerbText (verb ∷ text.now) (Known (verb_of x.0)) x.1.now) }
+    requires stands { StandsAt text.whole.now offset verb }
+    requires here { drop offset text.whole.now ≡ verb ∷ unread text }
+    requires due { IsVerbDue text.whole.now offset }
+    ensures read { IfOk result (λ x. VerbText (verb ∷ unread text.entry) (Known (verb_of x.0)) (unread x.1)) }
+    ensures same { IfOk result (λ x. x.1.whole ≡ text.entry.whole) }
     ensures plain { IfOk result (λ x. (name : List ℕ) → verb_of x.0 ≢ clean.Label name) }
-    ensures refused { IfErr result (λ fault. fault ≢ ScriptFault.OutOfMemory → (written : WrittenVerb) (rest : List ℕ) → VerbText (verb ∷ text.now) written rest → ⊥) }
-    ensures placed { IfErr result (λ fault. IsPlaced whole.now fault) }
+    ensures refused { IfErr result (λ fault. fault ≢ ScriptFault.OutOfMemory → (written : WrittenVerb) (rest : List ℕ) → VerbText (verb ∷ unread text.entry) written rest → ⊥) }
+    ensures placed { IfErr result (λ fault. IsPlaced text.entry.whole.now fault) }
 {
     if b"aci".contains(&verb) {
-        return text_verb(place, verb, text);
+        return read_text_verb(offset, verb, text);
     }
     if b"rw".contains(&verb) {
-        return file_verb(whole, place, verb, text);
+        return read_file_verb(offset, verb, text);
     }
     if verb == b's' {
-        return substitution(alloc, whole, place, text);
+        return read_substitution(alloc, offset, text);
     }
     if verb == b'y' {
-        return transliteration(alloc, whole, place, text);
+        return read_transliteration(alloc, offset, text);
     }
-    simple_command(whole, place, verb, text)
+    read_simple_verb(offset, verb, text)
 }
 
 /// The label that is defined after a `:`, and the rest of the script from its end on.
-fn definition<'a>(
-    whole: &[u8],
+fn read_label<'a>(
     labels: &IndexMap<&'a [u8], usize>,
-    text: &'a [u8],
-) -> Result<(Written<'a>, &'a [u8]), ScriptFault>
-    requires { EndsIn whole.now (colon ∷ text.now) }
-    ensures read { IfOk result (λ x. VerbText (colon ∷ text.now) (written_verb x.0) x.1.now) }
+    text: Cursor<'a>,
+) -> Result<(Written<'a>, Cursor<'a>), ScriptFault>
+    requires { Follows text colon }
+    ensures read { IfOk result (λ x. VerbText (colon ∷ unread text.entry) (written_verb x.0) (unread x.1)) }
+    ensures same { IfOk result (λ x. x.1.whole ≡ text.entry.whole) }
     ensures fresh { IfOk result (λ x. DefinesKnown labels.now (written_verb x.0) → ⊥) }
-    ensures label { IfOk result (λ x. IsWrittenAt whole.now x.0) }
-    ensures refused { IfErr result (λ fault. (verb : WrittenVerb) (rest : List ℕ) → VerbText (colon ∷ text.now) verb rest → DefinesKnown labels.now verb) }
-    ensures placed { IfErr result (λ fault. IsPlaced whole.now fault) }
+    ensures label { IfOk result (λ x. IsWrittenAt text.entry.whole.now x.0) }
+    ensures refused { IfErr result (λ fault. (verb : WrittenVerb) (rest : List ℕ) → VerbText (colon ∷ unread text.entry) verb rest → DefinesKnown labels.now verb) }
+    ensures placed { IfErr result (λ fault. IsPlaced text.entry.whole.now fault) }
 {
-    let (name, place, behind) = defined_label(whole, text)?;
+    let (name, offset, behind) = read_definition(text)?;
     if place_of(labels, name).is_some() {
-        return Err(ScriptFault::DuplicateLabel { place });
+        return Err(ScriptFault::DuplicateLabel { place: offset });
     }
-    let rest = end_of_command(whole, behind)?;
+    let rest = end_of_command(behind)?;
     Ok((Written::Label(name), rest))
 }
 
 /// What a `b` or a `t` takes, and the rest of the script from its end on.
-fn jump<'a>(whole: &[u8], verb: u8, text: &'a [u8]) -> Result<(Written<'a>, &'a [u8]), ScriptFault>
-    requires tail { EndsIn whole.now (verb ∷ text.now) }
+fn read_branch<'a>(verb: u8, text: Cursor<'a>) -> Result<(Written<'a>, Cursor<'a>), ScriptFault>
+    requires follows { Follows text verb }
     requires verb { (verb ≡ 98) ⊎ (verb ≡ 116) }
-    ensures read { IfOk result (λ x. VerbText (verb ∷ text.now) (written_verb x.0) x.1.now) }
+    ensures read { IfOk result (λ x. VerbText (verb ∷ unread text.entry) (written_verb x.0) (unread x.1)) }
+    ensures same { IfOk result (λ x. x.1.whole ≡ text.entry.whole) }
     ensures no_label { IfOk result (λ x. (name : List ℕ) → written_verb x.0 ≢ Known (clean.Label name)) }
-    ensures label { IfOk result (λ x. IsWrittenAt whole.now x.0) }
-    ensures refused { IfErr result (λ fault. (written : WrittenVerb) (rest : List ℕ) → VerbText (verb ∷ text.now) written rest → ⊥) }
-    ensures placed { IfErr result (λ fault. IsPlaced whole.now fault) }
+    ensures label { IfOk result (λ x. IsWrittenAt text.entry.whole.now x.0) }
+    ensures refused { IfErr result (λ fault. (written : WrittenVerb) (rest : List ℕ) → VerbText (verb ∷ unread text.entry) written rest → ⊥) }
+    ensures placed { IfErr result (λ fault. IsPlaced text.entry.whole.now fault) }
 {
-    let (jump, rest) = branch_label(whole, text)?;
+    let (jump, rest) = read_jump(text)?;
     if verb == b'b' {
         Ok((Written::BranchTo(jump), rest))
     } else {
@@ -203,34 +202,34 @@ fn jump<'a>(whole: &[u8], verb: u8, text: &'a [u8]) -> Result<(Written<'a>, &'a 
 ///
 /// The labels are those that are before it: one of them may not be defined again. That is reported before the end of the
 /// command is looked at.
-pub fn verb_at<'a>(
+pub fn read_verb<'a>(
     alloc: Global,
-    whole: &[u8],
     labels: &IndexMap<&'a [u8], usize>,
-    text: &'a [u8],
-) -> Result<(Written<'a>, &'a [u8]), ScriptFault>
-    requires tail { EndsIn whole.now text.now }
-    requires due { IsVerbDue whole.now (length whole.now - length text.now) }
-    requires verb { IsNoBrace text.now }
-    ensures read { IfOk result (λ x. VerbText text.now (written_verb x.0) x.1.now) }
+    text: Cursor<'a>,
+) -> Result<(Written<'a>, Cursor<'a>), ScriptFault>
+    requires due { IsVerbDue text.whole.now text.at }
+    requires verb { IsNoBrace (unread text) }
+    ensures read { IfOk result (λ x. VerbText (unread text.entry) (written_verb x.0) (unread x.1)) }
+    ensures same { IfOk result (λ x. x.1.whole ≡ text.entry.whole) }
     ensures fresh { IfOk result (λ x. DefinesKnown labels.now (written_verb x.0) → ⊥) }
-    ensures label { IfOk result (λ x. IsWrittenAt whole.now x.0) }
-    ensures refused { IfErr result (λ fault. fault ≢ ScriptFault.OutOfMemory → (verb : WrittenVerb) (rest : List ℕ) → VerbText text.now verb rest → DefinesKnown labels.now verb) }
-    ensures placed { IfErr result (λ fault. IsPlaced whole.now fault) }
+    ensures label { IfOk result (λ x. IsWrittenAt text.entry.whole.now x.0) }
+    ensures refused { IfErr result (λ fault. fault ≢ ScriptFault.OutOfMemory → (verb : WrittenVerb) (rest : List ℕ) → VerbText (unread text.entry) verb rest → DefinesKnown labels.now verb) }
+    ensures placed { IfErr result (λ fault. IsPlaced text.entry.whole.now fault) }
 {
     let Some((first, behind)) = text.split_first() else {
-        return Err(ScriptFault::UnknownCommand { place: whole.len() });
+        return Err(ScriptFault::UnknownCommand {
+            place: text.offset(),
+        });
     };
-    if *first == b':' {
-        return definition(whole, labels, behind);
+    if first == b':' {
+        return read_label(labels, behind);
     }
-    if *first == b'{' {
+    if first == b'{' {
         return Ok((Written::Opening, behind));
     }
-    if *first == b'b' || *first == b't' {
-        return jump(whole, *first, behind);
+    if first == b'b' || first == b't' {
+        return read_branch(first, behind);
     }
-    let place = whole.len() - text.len();
-    let (verb, rest) = known_verb(alloc, whole, place, *first, behind)?;
+    let (verb, rest) = read_known_verb(alloc, text.offset(), first, behind)?;
     Ok((Written::Known(verb), rest))
 }

@@ -1,19 +1,18 @@
 -- How the code's values relate to what is read of a bracket list.
-use Rattle.std.specs.Prelude.{◌≡◌, ℕ, ◌+◌, not, Bool, true, List, ◌++◌, codes, length, drop, nat_eq, IsTrue, if◌then◌else◌, Option, Some, None, Result, Ok, Err}
+use Rattle.std.specs.Prelude.{◌≡◌, ℕ, ◌+◌, not, Bool, true, List, ◌++◌, codes, length, drop, nat_eq, if◌then◌else◌, Option, Some, None, Result, Ok, Err}
 use Rattle.std.specs.List.{list_any, starts_with}
-use Rattle.sedck_bre.specs.Text.{begins}
 use Rattle.sedck_bre.specs.Brackets as brackets
 use Rattle.sedck_bre.specs.Brackets.{class_name, in_element}
 use Rattle.sedck_bre.specs.Private.Reading.{◌>>=◌}
 use Rattle.sedck_bre.specs.Private.BracketReading.{elements_at, clear_of, set_of}
-use Rattle.sedck_bre.specs.Private.FullReading.{IsTail}
+use Rattle.sedck_bre.specs.Faults.{HasOneAt}
 use Rattle.sedck_bre.specs.Private.Sets.{HasJust}
-use Rattle.sedck_bre.specs.declared.element.Class.{Class}
-use Rattle.sedck_bre.specs.declared.element.Class.TheVariants.{Upper, Lower, Alpha, Digit, Alnum, Xdigit, Space, Blank, Punct, Graph, Print, Cntrl}
-use Rattle.sedck_bre.specs.declared.element.Element.{Element}
-use Rattle.sedck_bre.specs.declared.symbol.Flaw.{Flaw}
-use Rattle.sedck_bre.specs.declared.symbol.Flaw.TheVariants.{Unclosed, Bad, Escape}
-use Rattle.sedck_bre.specs.declared.element.Element.TheVariants.{One, Range, Members}
+use Rattle.sedck_bre.specs.declared.brackets.elements.Class.{Class}
+use Rattle.sedck_bre.specs.declared.brackets.elements.Class.TheVariants.{Upper, Lower, Alpha, Digit, Alnum, Xdigit, Space, Blank, Punct, Graph, Print, Cntrl}
+use Rattle.sedck_bre.specs.declared.brackets.elements.Element.{Element}
+use Rattle.sedck_bre.specs.declared.brackets.symbols.Flaw.{Flaw}
+use Rattle.sedck_bre.specs.declared.brackets.symbols.Flaw.TheVariants.{Escape}
+use Rattle.sedck_bre.specs.declared.brackets.elements.Element.TheVariants.{One, Range, Members}
 
 abbrev pub class_of : Class → brackets.Class
 class_of Upper = brackets.upper
@@ -49,12 +48,12 @@ Reads view (Err flaw) read = read ≡ None
 
 -- an element is flawed, and not by an escape
 abbrev pub HasNoEscape : Flaw → Type 0
-HasNoEscape (Escape left) = ⊥
+HasNoEscape (Escape place) = ⊥
 HasNoEscape _ = Unit {0}
 
--- where a refused escape is in the text: at a backslash, from which so many bytes are left
+-- a refused escape is at a backslash of the text
 abbrev pub IsFlawIn : List ℕ → Flaw → Type 0
-IsFlawIn text (Escape left) = (rest : List ℕ) × IsTail text rest × (length rest ≡ left) × IsTrue (begins "\\" rest)
+IsFlawIn text (Escape place) = HasOneAt text place "\\"
 IsFlawIn text _ = Unit {0}
 
 -- a byte of one of the elements

@@ -1,7 +1,7 @@
 -- A way to read a bracket list.
 use Rattle.std.specs.Prelude.{ℕ, zero, suc, ◌+◌, ◌-◌, ◌^◌, ◌==◌, nat_eq, nat_le, Bool, true, false, not, ◌&&◌, if◌then◌else◌, List, [], ◌∷◌, ◌++◌, length, take, drop, Option, Some, None, codes}
 use Rattle.std.specs.List.{list_any, starts_with}
-use Rattle.sedck_bre.specs.Text.{begins}
+use Rattle.sedck_text.specs.Text.{begins}
 use Rattle.sedck_bre.specs.Brackets.{Class, upper, lower, alpha, digit, alnum, xdigit, space, blank, punct, graph, print, cntrl, class_name, Element, One, Range, Members, is_mistakable, is_listed}
 use Rattle.sedck_bre.specs.Private.Reading.{◌>>=◌}
 

@@ -1,5 +1,5 @@
--- How a whole expression is read, and where a part of its text lies.
-use Rattle.std.specs.Prelude.{◌≡◌, ℕ, ◌++◌, List, Option}
+-- How a whole expression is read.
+use Rattle.std.specs.Prelude.{ℕ, List, Option}
 use Rattle.sedck_bre.specs.Tree.{Tree}
 use Rattle.sedck_bre.specs.Private.Reading.{◌>>=◌, Readers, set_before}
 use Rattle.sedck_bre.specs.Private.BracketReading.{bracket_at}
@@ -12,8 +12,3 @@ full = record { bracket = bracket_at; interval = interval_at }
 -- a bracket list as an item
 abbrev pub set_at : List ℕ → Option (Tree × List ℕ)
 set_at text = bracket_at text >>= set_before
-
--- the text is the end of the whole
-pub record IsTail (whole text : List ℕ) : Type 0 where
-  pub front : List ℕ
-  pub made : whole ≡ front ++ text

@@ -1,7 +1,7 @@
 -- A way to read an interval.
 use Rattle.std.specs.Prelude.{ℕ, nat_le, not, ◌&&◌, if◌then◌else◌, List, [], ◌∷◌, drop, Option, Some, None}
 use Rattle.std.specs.Str.Parse.{digits_value}
-use Rattle.sedck_bre.specs.Text.{begins}
+use Rattle.sedck_text.specs.Text.{begins}
 use Rattle.sedck_bre.specs.Brackets.{is_from}
 use Rattle.sedck_bre.specs.Shape.{is_empty}
 use Rattle.sedck_bre.specs.Private.Reading.{◌>>=◌, begins_pair}

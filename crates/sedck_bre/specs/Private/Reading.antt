@@ -1,6 +1,6 @@
 -- A way to read an expression: a function from a text to its tree, or nothing.
 use Rattle.std.specs.Prelude.{ℕ, zero, suc, ◌+◌, ◌-◌, ◌==◌, nat_lt, nat_le, Bool, true, false, ◌&&◌, if◌then◌else◌, List, [], ◌∷◌, ◌++◌, length, drop, Option, Some, None, option_and_then}
-use Rattle.sedck_bre.specs.Text.{one_of, begins}
+use Rattle.sedck_text.specs.Text.{one_of, begins}
 use Rattle.sedck_bre.specs.Tree.{Tree, Trees, Byte, Any, Set, Start, End, Maybe, Group, Ref, Seq, Repeat, Nil, Then, groups_in, is_in}
 use Rattle.sedck_bre.specs.Shape.{Level, Whole, Inside, Position, First, is_first, is_later, behind}
 

@@ -1,7 +1,7 @@
 //! The lines of a text, one after another.
 
 ghost use Rattle.std.specs.Prelude.{◌≡◌, ◌+◌, ◌<◌, ◌^◌, ℕ, Contains, length, MatchOption};
-ghost use Rattle.sedck_bre.specs.Bytes.{newline};
+ghost use Rattle.sedck_text.specs.Bytes.{newline};
 ghost use Rattle.sedck_cert.specs.Private.Cuts.{IsCut};
 
 use bstr::ByteSlice;

@@ -1,7 +1,7 @@
 //! The lines of the nodes.
 
 ghost use Rattle.std.specs.Prelude.{◌-◌, ◌≡◌, ◌⊎◌, ◌/◌, ◌%◌, ◌+◌, ◌≤◌, ◌*◌, ◌<◌, ◌++◌, ℕ, List, [], ◌∷◌, length, All, MatchOption, IfOk, IfErr, Option, decimal};
-ghost use Rattle.sedck_bre.specs.Bytes.{newline};
+ghost use Rattle.sedck_text.specs.Bytes.{newline};
 ghost use Rattle.sedck_flow.specs.Words.{flag_text, node_words};
 ghost use Rattle.sedck_flow.specs.VersionOne.{nth_node_one, node_words_one};
 ghost use Rattle.sedck_cert.specs.Certificate.{AreWithin, nodes_in};

@@ -1,16 +1,13 @@
 -- What the readers of addresses say of what they read.
-use Rattle.std.specs.Prelude.{◌≡◌, ℕ, Bool, true, false, not, ◌||◌, ◌==◌, List, [], ◌∷◌, Option, Some, None, IsTrue}
-use Rattle.sedck_script.specs.Cuts.{bang, is_blank, is_delimiter, IsEmptyOr, Longest}
+use Rattle.std.specs.Prelude.{◌≡◌, ℕ, Bool, true, false, not, List, [], ◌∷◌, Option, Some, None, IsTrue}
+use Rattle.sedck_script.specs.Cuts.{is_blank, is_delimiter, IsEmptyOr, Longest}
+pub use Rattle.sedck_text.specs.Classes.{is_mark}
 pub use Rattle.sedck_script.specs.Faults.{begins_address}
 use Rattle.sedck_script.specs.Faults.{IsEmptyExpression}
 use Rattle.sedck_script.specs.Program.{Pattern, Previous, Expression, Place, Context, Address}
 use Rattle.sedck_script.specs.Parts.{PlaceText, AddressText}
 use Rattle.sedck_script.specs.Items.{WrittenVerb, VerbText, CommandText}
 use Rattle.sedck_script.specs.Private.PieceReading.{PatternText}
-
--- what may be between the addresses and the verb
-abbrev pub is_mark : ℕ → Bool
-is_mark b = is_blank b || (b == bang)
 
 -- one of the patterns is empty
 abbrev pub has_previous : List Pattern → Bool

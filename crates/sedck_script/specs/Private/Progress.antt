@@ -3,13 +3,13 @@ use Rattle.std.specs.Prelude.{◌≡◌, ℕ, ◌<◌, ◌≤◌, Bool, true, fa
 use Rattle.std.specs.Str.{bytes_eq}
 use Rattle.std.specs.Borrow.{Bor}
 use Rattle.std.specs.HashMap.{HashMap}
-use Rattle.sedck_bre.specs.Text.{one_of}
+use Rattle.sedck_text.specs.Text.{one_of}
 use Rattle.sedck_script.specs.Cuts.{colon, brace}
 use Rattle.sedck_script.specs.Program.{Pattern, Address, NoAddress, One, Two, address_patterns, verb_patterns}
 use Rattle.sedck_script.specs.Items.{WrittenVerb, Known, BranchTo, TestTo, Opening, VerbText, Takes, Item, Written, Closing, Items}
 use Rattle.sedck_script.specs.Faults.{StandsAt}
 pub use Rattle.sedck_script.specs.Faults.{BeginsCommand}
-use Rattle.sedck_script.specs.Private.Reading.{EndsIn, HasLabels, AreLabelsOnce, label_place}
+use Rattle.sedck_script.specs.Private.Reading.{HasLabels, AreLabelsOnce, label_place}
 use Rattle.sedck_script.specs.Private.ItemReading.{Turn, Opens, Closes, Stays, Jumps, item_of, commands_among, locations_in, Nests, IsItemAt}
 use Rattle.sedck_script.specs.Private.Locating.{AreFirstLocations}
 use Rattle.sedck_script.specs.Private.AddressReading.{IsEmptyAt}
@@ -65,7 +65,6 @@ AreAllowed given negated depth count text = (verb : WrittenVerb) (rest : List �
 
 -- These items have been read, this many blocks are open, and rest is left.
 pub record IsFront (text : List ℕ) (items : List Item) (depth : ℕ) (rest : List ℕ) : Type 0 where
-  pub tail : EndsIn text rest
   pub sound : (more : List Item) → Items rest more → Items text (items ++ more)
   pub only : (all : List Item) → Items text all → (more : List Item) × (all ≡ items ++ more) × Items rest more
   pub nests : (more : List Item) → Nests more depth → Nests (items ++ more) 0

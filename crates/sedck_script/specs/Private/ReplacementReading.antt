@@ -2,7 +2,6 @@
 use Rattle.std.specs.Prelude.{◌≡◌, ℕ, ◌<◌, ◌≤◌, List, ◌∷◌, length, Option, Some, None, Contains}
 use Rattle.sedck_script.specs.Program.{Part, Text, Newline, Tab, Whole, Group}
 use Rattle.sedck_script.specs.Parts.{Replacement}
-use Rattle.sedck_script.specs.Private.Reading.{EndsIn}
 
 -- a group has at most this number
 abbrev pub IsGroupWithin : ℕ → Part → Type 0
@@ -18,7 +17,6 @@ HasGroupsUpTo greatest parts = (k : ℕ) → Contains parts (Group k) → k ≤ 
 
 -- the text begins with this part of a replacement and with no other, and rest follows it
 pub record IsFirstPart (delimiter greatest : ℕ) (text : List ℕ) (part : Part) (rest : List ℕ) : Type 0 where
-  pub tail : EndsIn text rest
   pub shorter : length rest < length text
   pub within : IsGroupWithin greatest part
   pub sound : (parts : List Part) (r : List ℕ) → Replacement delimiter rest parts r → Replacement delimiter text (part ∷ parts) r

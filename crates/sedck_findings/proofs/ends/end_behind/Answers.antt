@@ -1,6 +1,6 @@
 use Rattle.std.proofs.Common.{◌==◌, ◌≤◌, ℕ, not, refl, drop, arith}
 use Rattle.std.specs.List.{prefix_len}
-use Rattle.sedck_bre.specs.Bytes.{newline}
+use Rattle.sedck_text.specs.Bytes.{newline}
 use Rattle.sedck_findings.proofs.Prefixes.{prefix_taken}
 use Rattle.sedck_findings.proofs.ends.end_behind.Goals as goal
 

@@ -1,6 +1,6 @@
 use Rattle.std.proofs.Common.{◌==◌, ◌∙◌}
-use Rattle.sedck_bre.specs.Bytes.{newline}
-use Rattle.sedck_script.proofs.LongestRuns.{first_place}
+use Rattle.sedck_text.specs.Bytes.{newline}
+use Rattle.sedck_text.proofs.Runs.{first_place}
 use Rattle.sedck_findings.proofs.places.line_len.Goals as goal
 
 pub returns-clause-value : goal.returns-clause-value

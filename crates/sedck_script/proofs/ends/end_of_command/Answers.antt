@@ -3,9 +3,9 @@ use Rattle.sedck_script.proofs.CommandEnds.{no_end, extra_stands}
 use Rattle.sedck_script.proofs.ends.end_of_command.Goals as goal
 
 pub returns-then-not-is_ending-clause-refused : goal.returns-then-not-is_ending-clause-refused
-returns-then-not-is_ending-clause-refused c = λ rest e. no_end c.split_blanks.ensures c.in-len1-up.len_at_least
+returns-then-not-is_ending-clause-refused c = λ rest e. no_end c.skip-rest.ensures.1 c.in-Some.ensures.1
     (sym c.is_ending.ensures ∙ c.if-not-is_ending.true) e
 
 pub returns-then-not-is_ending-clause-placed : goal.returns-then-not-is_ending-clause-placed
-returns-then-not-is_ending-clause-placed c = extra_stands _ c.requires.tail c.split_blanks.ensures c.in-len1-up.len_at_least
-    (sym c.is_ending.ensures ∙ c.if-not-is_ending.true)
+returns-then-not-is_ending-clause-placed c = rw (c.offset.ensures, sym c.skip-rest.ensures.2.whole)
+    (extra_stands c.skip-rest.result c.skip-rest.ensures.1 c.in-Some.ensures.1 (sym c.is_ending.ensures ∙ c.if-not-is_ending.true))

@@ -7,7 +7,8 @@ use Rattle.sedck_script.specs.Cuts.{brace}
 use Rattle.sedck_script.specs.Private.ItemReading.{item_of, IsItemAt}
 use Rattle.sedck_script.specs.Private.Progress.{IsFront}
 use Rattle.sedck_script.proofs.ResultLemmas.{if_err_from}
-use Rattle.sedck_script.proofs.OffsetLemmas.{tail_behind, stands_at_tail}
+use Rattle.sedck_text.specs.Cursors.{unread}
+use Rattle.sedck_script.proofs.CursorPlaces.{stands_here}
 use Rattle.sedck_script.proofs.ProgressLemmas.{front_unopened, front_unended, front_closing}
 use Rattle.sedck_script.proofs.StateLemmas.{among_closing, patterns_closing, locations_closing, opened_front}
 use Rattle.sedck_script.proofs.LocationLemmas.{located_closing}
@@ -17,10 +18,7 @@ pub returns-in_default-clause-refused : goal.returns-in_default-clause-refused
 returns-in_default-clause-refused c = λ memory. front_unopened c.requires.progress.front c.requires.begins refl (omega (arith, c.in_default.ensures.cases.0))
 
 pub returns-in_default-clause-placed : goal.returns-in_default-clause-placed
-returns-in_default-clause-placed c = stands_at_tail c.requires.progress.front.tail c.requires.begins
-
-pub end_of_command-requires : goal.end_of_command-requires
-end_of_command-requires c = record { tail = tail_behind c.requires.progress.front.tail c.requires.begins }
+returns-in_default-clause-placed c = rw c.offset.ensures (stands_here c.args.begins c.requires.begins)
 
 pub returns-in_err-rest-clause-refused : goal.returns-in_err-rest-clause-refused
 returns-in_err-rest-clause-refused c = if_err_from _ c.from_residual.result _ c.from_residual.ensures.1
@@ -34,15 +32,15 @@ returns-clause-progress c =
     record {
       front = rw items
           (front_closing
-          (subst (λ d. IsFront c.args.text.now
-          (map item_of c.args.progress.now.items.items) d c.args.begins.now) deep c.requires.progress.front) c.requires.begins refl c.in_ok-rest.ensures.read);
+          (subst (λ d. IsFront c.args.begins.whole.now
+          (map item_of c.args.progress.now.items.items) d (unread c.args.begins)) deep c.requires.progress.front) c.requires.begins refl c.in_ok-rest.ensures.read);
       labels = rw (items, among_closing) c.requires.progress.labels;
       count = rw (items, among_closing) c.requires.progress.count;
       located = rw (c.in_ok-push.ensures.items, locations_closing)
           (located_closing _ c.requires.progress.located c.requires.begins refl c.in_ok-rest.ensures.read);
       few = c.requires.progress.few;
-      label_places = rw c.in_ok-push.ensures.items (All-push (IsItemAt c.args.text.now) _ _ c.requires.progress.label_places tt);
-      opened = opened_front c.args.text.now _ _ (subst
-          (λ xs. All (λ place. StandsAt c.args.text.now place brace) xs) c.in-Some.ensures.items c.requires.progress.opened);
+      label_places = rw c.in_ok-push.ensures.items (All-push (IsItemAt c.args.begins.whole.now) _ _ c.requires.progress.label_places tt);
+      opened = opened_front c.args.begins.whole.now _ _ (subst
+          (λ xs. All (λ place. StandsAt c.args.begins.whole.now place brace) xs) c.in-Some.ensures.items c.requires.progress.opened);
       empty = rw (items, patterns_closing) c.requires.progress.empty;
     }

@@ -1,8 +1,8 @@
-use Rattle.std.proofs.Common.{◌≡◌, ◌∙◌, false, sym, subst}
+use Rattle.std.proofs.Common.{◌≡◌, ◌∙◌, false, ap, sym, subst}
 use Rattle.std.proofs.lemmas.Bool.{both_ways}
 use Rattle.sedck_script.specs.Items.{begins_braced_comment}
 use Rattle.sedck_script.proofs.ResultLemmas.{if_err_always}
-use Rattle.sedck_script.proofs.PlaceLemmas.{no_label_place}
+use Rattle.sedck_script.proofs.LabelLemmas.{no_label_place}
 use Rattle.sedck_script.proofs.UniqueParts.{ends_one}
 use Rattle.sedck_script.proofs.labels.end_of_jump.Goals as goal
 
@@ -12,7 +12,7 @@ returns-in_err-rest-clause-refused c = if_err_always c.from_residual.result (λ 
 pub returns-then-begins_braced_comment-clause-refused : goal.returns-then-begins_braced_comment-clause-refused
 returns-then-begins_braced_comment-clause-refused c = λ rest x.
     both_ways _ (subst (λ t. begins_braced_comment t ≡ false) (sym (ends_one c.in_ok-rest.ensures.read x.0)) x.1)
-    (sym c.begins_braced_comment.ensures ∙ c.if-begins_braced_comment.true)
+    (ap begins_braced_comment (sym c.unread.ensures) ∙ sym c.begins_braced_comment.ensures ∙ c.if-begins_braced_comment.true)
 
 pub returns-then-begins_braced_comment-clause-placed : goal.returns-then-begins_braced_comment-clause-placed
-returns-then-begins_braced_comment-clause-placed c = no_label_place c.requires
+returns-then-begins_braced_comment-clause-placed c = rw c.offset.ensures (no_label_place c.requires)

@@ -1,9 +1,10 @@
 use Rattle.std.proofs.Common.{refl}
+use Rattle.sedck_text.proofs.Cursors.{unread_ahead}
 use Rattle.sedck_script.proofs.OffsetLemmas.{lines_tail, tail_length, lines_parts}
 use Rattle.sedck_script.proofs.texts.split_lines.Goals as goal
 
-pub overflow_sub-text : goal.overflow_sub-text
-overflow_sub-text c = tail_length (lines_tail c.behind_lines.ensures.1)
+pub overflow_sub-count : goal.overflow_sub-count
+overflow_sub-count c = tail_length (lines_tail c.behind_lines.ensures.1)
 
-pub returns : goal.returns
-returns c = lines_parts _ _ _ c.behind_lines.ensures.1 refl c.split_at.ensures.front c.split_at.ensures.back
+pub returns-clause-lines : goal.returns-clause-lines
+returns-clause-lines c = lines_parts _ _ _ _ c.behind_lines.ensures.1 c.unread-bytes.ensures refl refl (unread_ahead c.advance.ensures)

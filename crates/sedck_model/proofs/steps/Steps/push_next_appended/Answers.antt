@@ -1,7 +1,7 @@
 use Rattle.std.proofs.Common.{◌≡◌, ◌∙◌, ◌<◌, ◌∷◌, ◌++◌, length, arith}
 use Rattle.std.proofs.lemmas.List.{nil_from_length}
 use Rattle.std.proofs.lemmas.Bool.Decides.{nat_tests}
-use Rattle.sedck_bre.specs.Bytes.{newline}
+use Rattle.sedck_text.specs.Bytes.{newline}
 use Rattle.sedck_model.specs.States.{machine_of}
 use Rattle.sedck_model.proofs.AddLemmas.{taken_line}
 use Rattle.sedck_model.proofs.steps.Steps.push_next_appended.Goals as goal

@@ -1,0 +1,19 @@
+use Rattle.std.proofs.Common.{◌≡◌, ◌≤◌, true, List, length}
+use Rattle.sedck_text.specs.Cursors.{unread}
+use Rattle.sedck_bre.specs.Brackets.{Element}
+use Rattle.sedck_bre.specs.Private.Sets.{HasJust}
+use Rattle.sedck_bre.specs.Private.BracketCode.{is_of, elements_of}
+use Rattle.sedck_bre.proofs.BracketFuel.{with_elements}
+use Rattle.sedck_bre.proofs.brackets.lists.read_elements.Given as goal
+
+abbrev pub invariant-elements : goal.invariant-elements
+invariant-elements l = record {
+  same : l.next.whole ≡ l.cursor.whole;
+  shorter : length (unread l.next) ≤ length (unread l.cursor);
+  front : List Element;
+  just : HasJust l.set.0 (is_of front);
+  reads : with_elements front (elements_of l.first (unread l.next)) ≡ elements_of true (unread l.cursor);
+}
+
+abbrev pub decreases-elements : goal.decreases-elements
+decreases-elements l = length (unread l.next)

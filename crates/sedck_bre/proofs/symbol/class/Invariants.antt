@@ -1,7 +1,0 @@
-use Rattle.std.proofs.Common.{◌≡◌, map, drop}
-use Rattle.sedck_bre.specs.Private.BracketReading.{classes, class_from}
-use Rattle.sedck_bre.specs.Private.BracketCode.{class_of}
-use Rattle.sedck_bre.proofs.symbol.class.Given as goal
-
-abbrev pub invariant-classes : goal.invariant-classes
-invariant-classes l = class_from (map class_of (drop l.class-index l.class-items)) l.text ≡ class_from classes l.text

@@ -1,9 +1,0 @@
-use Rattle.std.proofs.Common.{length}
-use Rattle.sedck_script.proofs.PieceLemmas.{ListPassed}
-use Rattle.sedck_script.proofs.delimited.delimited_list.Given as goal
-
-abbrev pub invariant-loop-bytes : goal.invariant-loop-bytes
-invariant-loop-bytes l = ListPassed l.delimiter l.whole l.text l.bytes.items l.rest
-
-abbrev pub decreases-loop-bytes : goal.decreases-loop-bytes
-decreases-loop-bytes l = length l.rest
