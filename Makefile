@@ -5,7 +5,7 @@ RT ?= rt
 PREFIX ?= /usr/local
 
 .PHONY: all build demo test docs examples explain-tests refusals refusals-program streams tools-tests calls-tests wrapper-tests bench planted seds states \
-	changes runs-program install dist clean
+	changes measures runs-program install dist clean
 
 # One target after the other, also under `make -j`: proofs want all processors and much memory, and tests have limits of time.
 .NOTPARALLEL:
@@ -95,6 +95,9 @@ states: runs-program
 	@echo "Holding every step of every sed that is found against the model (100,000 steps take a few minutes) ..."
 	python3 tests/seds/seds_debug.py crates/sedck_runs/out/sedck_runs
 	python3 tests/seds/seds_states.py crates/sedck_runs/out/sedck_runs $(STATES)
+
+measures:
+	python3 tools/measures.py
 
 changes: runs-program
 	@echo "Holding real seds against changed models (a minute for each change) ..."
