@@ -1,4 +1,4 @@
--- Tests of a byte: the characters that POSIX.1-2024 (XCU sed, XBD 6) names, and those of this project's grammar ("ours").
+-- Tests of a byte: blanks, digits and letters of the POSIX locale (POSIX.1-2024 XBD 7.3.1), and the bytes that readers of scripts skip.
 use Rattle.std.specs.Prelude.{ℕ, Bool, not, ◌&&◌, ◌||◌, ◌==◌, nat_le}
 use Rattle.sedck_text.specs.Text.{one_of}
 use Rattle.sedck_text.specs.Bytes.{tab, newline, space, bang, ampersand, semicolon, backslash, digit_0, digit_9, capital_a, capital_z, letter_a, letter_z}
@@ -21,15 +21,15 @@ is_letter b = (nat_le capital_a b && nat_le b capital_z) || (nat_le letter_a b &
 abbrev pub is_label_byte : ℕ → Bool
 is_label_byte b = is_letter b || (is_digit b || one_of "_.-" b)
 
--- what may be between two commands
+-- what may be between two commands (XCU sed, "Editing Commands in sed")
 abbrev pub is_separator : ℕ → Bool
 is_separator b = is_blank b || ((b == newline) || (b == semicolon))
 
--- what may be between the addresses of a command and its verb
+-- what may be between the addresses of a command and its verb (XCU sed, "Editing Commands in sed"; blanks there are ours)
 abbrev pub is_mark : ℕ → Bool
 is_mark b = is_blank b || (b == bang)
 
--- a byte that stands for itself in a replacement with this delimiter
+-- a byte that stands for itself in a replacement with this delimiter (XCU sed, "s")
 abbrev pub is_plain : ℕ → ℕ → Bool
 is_plain delimiter b = not ((b == delimiter) || ((b == backslash) || ((b == newline) || (b == ampersand))))
 

@@ -33,13 +33,6 @@ impl<'a> Cursor<'a> {
         self.at
     }
 
-    /// The whole text.
-    pub fn whole(self) -> &'a [u8]
-        ensures { result ≡ self.entry.whole }
-    {
-        self.whole
-    }
-
     /// What hasn't been read yet.
     pub fn unread(self) -> &'a [u8]
         ensures { result.now ≡ unread self.entry }
