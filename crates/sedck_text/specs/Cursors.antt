@@ -6,7 +6,7 @@ use Rattle.sedck_text.specs.declared.cursor.Cursor.{Cursor}
 abbrev pub unread : Cursor → List ℕ
 unread cursor = drop cursor.at cursor.whole.now
 
--- the second cursor is in the same text, this many bytes on
+-- the second cursor is in the same text, this many bytes on (what it has left follows from that, and is said for proofs)
 pub record IsAhead (old : Cursor) (count : ℕ) (new : Cursor) : Type 0 where
   pub whole : new.whole ≡ old.whole
   pub at : new.at ≡ old.at + count
