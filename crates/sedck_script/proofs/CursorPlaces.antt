@@ -71,6 +71,17 @@ read_byte cursor {b} f =
     (sym (take-append-drop (cursor.at - 1) cursor.whole.now) ∙ ap (λ t. before ++ t) (more.1 ∙ ap (λ t. b ∷ t) (sym next))
     ∙ sym (append_assoc before (b ∷ []) (unread cursor)))
 
+-- the last byte that has been read is where the text goes on with it
+pub verb_before : {b : ℕ} (text : Cursor) (n : ℕ) → n ≡ text.at → Follows text b
+    → StandsAt text.whole.now (n - 1) b × (drop (n - 1) text.whole.now ≡ b ∷ unread text)
+verb_before {b} text n e h =
+    let whole = text.whole.now in
+    let stands : StandsAt whole (n - 1) b = rw e h.1 in
+    let cut = first_of (n - 1) whole b stands in
+    let on : n - 1 + 1 ≡ text.at = omega (arith, e, h.0) in
+    let more : cut.0 ≡ unread text = ap (drop 1) (sym cut.1) ∙ drop-drop 1 (n - 1) whole ∙ ap (λ k. drop k whole) on in
+    (stands, cut.1 ∙ ap (λ t. b ∷ t) more)
+
 -- the verb is two bytes before the cursor that is behind its delimiter
 pub verb_behind : {text opened : Cursor} {b : ℕ} (place : ℕ) → StandsAt text.whole.now place b → drop place text.whole.now ≡ b ∷ unread text
     → IsAhead text 1 opened → (1 < opened.at) × StandsAt opened.whole.now (opened.at - 2) b

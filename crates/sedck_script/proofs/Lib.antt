@@ -26,6 +26,7 @@ pub mod UniqueVerbs
 pub mod UniqueItems
 pub mod UniqueAddresses
 pub mod VerbBytes
+pub mod FormLemmas
 pub mod CommandLemmas
 pub mod StateLemmas
 pub mod ProgressLemmas

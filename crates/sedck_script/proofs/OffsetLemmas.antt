@@ -1,6 +1,5 @@
 -- What each part leaves is an end of its text.
 use Rattle.std.proofs.Common.{◌≡◌, ℕ, Bool, List, [], ◌∷◌, ◌++◌, length, take, drop, ◌-◌, ◌<◌, ◌≤◌, refl, ap, sym, ◌∙◌, subst, length-append, arith, Some, append_assoc}
-use Rattle.std.proofs.lemmas.List.{take-append-drop}
 use Rattle.sedck_script.specs.Cuts.{Longest}
 use Rattle.std.specs.Prelude.{slice_get}
 use Rattle.sedck_script.specs.Program.{Pattern, Part, Substitution}
@@ -16,9 +15,6 @@ tail_cut {front = front} l = (front, l.cut)
 
 pub tail_tail : {a b c : List ℕ} → EndsIn a b → EndsIn b c → EndsIn a c
 tail_tail {a} {b} {c} h k = (h.0 ++ k.0, h.1 ∙ ap (λ t. h.0 ++ t) k.1 ∙ sym (append_assoc h.0 k.0 c))
-
-pub tail_drop : {whole text : List ℕ} (place : ℕ) → drop place whole ≡ text → EndsIn whole text
-tail_drop {whole} place e = (take place whole, sym (take-append-drop place whole) ∙ ap (λ t. take place whole ++ t) e)
 
 pub tail_behind : {whole text behind : List ℕ} {b : ℕ} → EndsIn whole text → text ≡ b ∷ behind → EndsIn whole behind
 tail_behind {whole} {text} {behind} {b} h e = (h.0 ++ (b ∷ []), h.1 ∙ ap (λ t. h.0 ++ t) e ∙ sym (append_assoc h.0 (b ∷ []) behind))

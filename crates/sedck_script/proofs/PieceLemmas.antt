@@ -1,5 +1,5 @@
 -- How far a delimited part has been read.
-use Rattle.std.proofs.Common.{◌≡◌, ◌≢◌, ℕ, ◌<◌, eqb, cond, Some, None, inl, inr, ◌⊎◌, List, [], ◌∷◌, ◌++◌, length, refl, ap, sym, ◌∙◌, subst, append_assoc, append-nil, arith}
+use Rattle.std.proofs.Common.{◌≡◌, ◌≢◌, ℕ, ◌-◌, ◌<◌, ◌≤◌, take, length-append, eqb, cond, Some, None, inl, inr, ◌⊎◌, List, [], ◌∷◌, ◌++◌, length, refl, ap, sym, ◌∙◌, subst, append_assoc, append-nil, arith}
 use Rattle.sedck_script.specs.Parts.{DelimitedExpression, ExpressionText, DelimitedList}
 use Rattle.sedck_script.specs.Parts as p
 use Rattle.sedck_script.specs.declared.delimited.Piece.{Piece}
@@ -9,7 +9,11 @@ use Rattle.sedck_bre.specs.Tree.{Tree}
 use Rattle.sedck_bre.specs.Shape.{Shape}
 use Rattle.sedck_script.specs.Program.{Pattern, Previous, Expression}
 use Rattle.sedck_script.specs.Parts.{IsPattern, previous, expression}
-use Rattle.sedck_script.specs.Private.PieceReading.{IsPiece, list_escape, PatternText}
+use Rattle.sedck_script.specs.Private.PieceReading.{IsPiece, IsReadUpTo, IsWrittenUpTo, list_escape, PatternText}
+use Rattle.sedck_text.specs.Cursors.{unread}
+use Rattle.sedck_text.specs.declared.cursor.Cursor.{Cursor}
+use Rattle.sedck_text.proofs.Cursors.{unread_length}
+use Rattle.sedck_script.proofs.OffsetLemmas.{take_front}
 use Rattle.sedck_script.proofs.UniqueParts.{expression_one}
 use Rattle.std.proofs.lemmas.List.{nil_from_length}
 
@@ -32,18 +36,13 @@ list_piece n (p.escaped {text = rest} f g h x) = record { kind = piece.Escaped; 
 list_piece n (p.backslashes {b = b} {text = rest} f g x) = record { kind = piece.Pair b; rest = rest; is = (ap (λ a. a ∷ b ∷ rest) f, λ e. n (sym e ∙ g)) }
 list_piece n (p.line {b = b} {text = rest} f g h x) = record { kind = piece.Pair b; rest = rest; is = (ap (λ a. a ∷ b ∷ rest) f, g) }
 
--- These bytes of an expression have been read, and rest is left.
-pub record ExpressionPassed (d : ℕ) (text bytes rest : List ℕ) : Type 0 where
-  pub sound : (e r : List ℕ) → DelimitedExpression d rest e r → DelimitedExpression d text (bytes ++ e) r
-  pub only : (e r : List ℕ) → DelimitedExpression d text e r → (f : List ℕ) × DelimitedExpression d rest f r
-
 -- one more piece
 pub record ExpressionStep (d : ℕ) (text front behind : List ℕ) : Type 0 where
   pub sound : (e r : List ℕ) → DelimitedExpression d behind e r → DelimitedExpression d text (front ++ e) r
   pub only : (e r : List ℕ) → DelimitedExpression d text e r → (f : List ℕ) × DelimitedExpression d behind f r
 
 pub expression_more : {d : ℕ} {text bytes rest front behind : List ℕ} (all : List ℕ) → all ≡ bytes ++ front
-    → ExpressionPassed d text bytes rest → ExpressionStep d rest front behind → ExpressionPassed d text all behind
+    → IsReadUpTo d text bytes rest → ExpressionStep d rest front behind → IsReadUpTo d text all behind
 expression_more {bytes = bytes} {front = front} all g h s = record {
   sound = λ e r x. rw (g, append_assoc) (h.sound (front ++ e) r (s.sound e r x));
   only = λ e r x. let one = h.only e r x in s.only one.0 r one.1;
@@ -79,12 +78,56 @@ expression_pair {d} {b} n m h = record {
   only = λ e r x. only_two n refl (subst (λ t. DelimitedExpression d t e r) h.0 x);
 }
 
-pub expression_end : {d : ℕ} {text bytes rest behind : List ℕ} → ExpressionPassed d text bytes rest → IsPiece d rest piece.End behind
+pub expression_end : {d : ℕ} {text bytes rest behind : List ℕ} → IsReadUpTo d text bytes rest → IsPiece d rest piece.End behind
     → DelimitedExpression d text bytes behind
 expression_end {d} {behind = behind} h e = rw append-nil at (h.sound [] behind (subst (λ t. DelimitedExpression d t [] behind) (sym e) (p.ends refl)))
 
+-- where nothing has been read
+pub written_none : {d : ℕ} (text : Cursor) → IsWrittenUpTo d text text
+written_none text = record { same = refl; written = []; cut = refl; passed = record { sound = λ e r x. x; only = λ e r x. (e, x) } }
+
+-- one more piece that is no escaped delimiter
+pub written_more : {d : ℕ} {text rest behind : Cursor} (front : List ℕ) → behind.whole ≡ rest.whole → unread rest ≡ front ++ unread behind
+    → ExpressionStep d (unread rest) front (unread behind) → IsWrittenUpTo d text rest → IsWrittenUpTo d text behind
+written_more {behind = behind} front same e s h = record {
+  same = same ∙ h.same;
+  written = h.written ++ front;
+  cut = h.cut ∙ ap (λ t. h.written ++ t) e ∙ sym (append_assoc h.written front (unread behind));
+  passed = expression_more (h.written ++ front) refl h.passed s;
+}
+
+-- what is written between the cursors
+pub written_between : {d : ℕ} {from to : ℕ} {text rest : Cursor} → IsWrittenUpTo d text rest → to ≡ rest.at → from ≡ text.at
+    → (from ≤ to) × (to - from ≤ length (unread text)) × ((written : List ℕ) × (unread text ≡ written ++ unread rest)
+    × (take (to - from) (unread text) ≡ written) × IsReadUpTo d (unread text) written (unread rest))
+written_between {from = from} {to = to} {text = text} {rest = rest} h e f =
+    let long : length h.written ≡ to - from = omega (
+      arith,
+      e,
+      f,
+      ap length h.cut,
+      length-append h.written (unread rest),
+      unread_length text,
+      unread_length rest,
+      ap (λ w. length w.now) h.same,
+    ) in
+    let within : from ≤ to = omega (
+      arith,
+      e,
+      f,
+      ap length h.cut,
+      length-append h.written (unread rest),
+      unread_length text,
+      unread_length rest,
+      ap (λ w. length w.now) h.same,
+    ) in (
+      within,
+      omega (arith, long, ap length h.cut, length-append h.written (unread rest)),
+      (h.written, h.cut, ap (take (to - from)) h.cut ∙ (take_front h.written (unread rest) (to - from) (sym long)).0, h.passed),
+    )
+
 -- where no piece follows
-pub expression_stuck : {d : ℕ} {text bytes rest : List ℕ} → ExpressionPassed d text bytes rest
+pub expression_stuck : {d : ℕ} {text bytes rest : List ℕ} → IsReadUpTo d text bytes rest
     → ((x : Piece) (r : List ℕ) → IsPiece d rest x r → ⊥) → (e r : List ℕ) → DelimitedExpression d text e r → ⊥
 expression_stuck h n e r x = let one = h.only e r x in let some = expression_piece one.1 in n some.kind some.rest some.is
 
@@ -95,7 +138,7 @@ no_escaped_line n m k l (p.escaped f g h x) = k g
 no_escaped_line n m k l (p.pair f g h x) = h l
 
 -- where an escaped newline follows
-pub expression_broken : {d b : ℕ} {text bytes rest behind : List ℕ} → d ≢ 92 → ExpressionPassed d text bytes rest
+pub expression_broken : {d b : ℕ} {text bytes rest behind : List ℕ} → d ≢ 92 → IsReadUpTo d text bytes rest
     → IsPiece d rest (piece.Pair b) behind → b ≡ 10 → (e r : List ℕ) → DelimitedExpression d text e r → ⊥
 expression_broken {d} n h k l e r x = let one = h.only e r x in no_escaped_line n refl k.1 l (subst (λ t. DelimitedExpression d t one.0 r) k.0 one.1)
 

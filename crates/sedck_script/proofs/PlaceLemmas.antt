@@ -1,41 +1,32 @@
 -- What is at the place of an end of the text.
 use Rattle.std.proofs.Common.{◌≡◌, ◌≢◌, ℕ, ◌+◌, ◌<◌, ◌-◌, Bool, true, false, not, ◌||◌, List, [], ◌∷◌, ◌++◌, length, take, drop, refl, ap, sym, ◌∙◌, subst, subst₂, append_assoc, length-append, arith}
-use Rattle.std.specs.Prelude.{IsTrue}
-use Rattle.std.proofs.lemmas.List.{drop-drop}
-use Rattle.sedck_text.specs.Cursors.{unread, Follows}
+use Rattle.std.specs.Prelude.{IsTrue, if◌then◌else◌}
+use Rattle.std.proofs.lemmas.List.{drop-drop, length-drop}
+use Rattle.sedck_text.specs.Cursors.{unread}
 use Rattle.sedck_text.specs.declared.cursor.Cursor.{Cursor}
-use Rattle.sedck_text.proofs.Cursors.{first_there}
+use Rattle.sedck_text.proofs.Cursors.{first_there, unread_length}
 use Rattle.sedck_script.proofs.CursorPlaces.{stands_here, fails_here, read_more}
 use Rattle.std.specs.Borrow.{Bor}
-use Rattle.std.proofs.lemmas.Bool.{false≢true, false_from_ne_true, not_from_false}
-use Rattle.sedck_text.specs.Text.{is_in}
+use Rattle.std.proofs.lemmas.Bool.{false≢true, false_from_ne_true, not_from_false, both_ways, cond_both}
+use Rattle.sedck_text.specs.Text.{is_in, one_of}
 use Rattle.sedck_script.specs.declared.fault.ScriptFault.{ScriptFault}
 use Rattle.sedck_script.specs.declared.fault.ScriptFault.TheVariants as fault
 use Rattle.sedck_script.specs.Cuts.{is_blank, is_digit, is_ending, is_delimiter, IsEmptyOr, Longest}
-use Rattle.sedck_script.specs.Program.{Place, Address, Pattern, Previous, Expression, Verb, verb_patterns}
+use Rattle.sedck_script.specs.Program.{Place, Address, Pattern, Previous, Expression, Verb, place_patterns, verb_patterns}
 use Rattle.sedck_script.specs.Parts.{Number, DelimitedExpression, ExpressionText, IsPattern, PlaceText, AddressText}
 use Rattle.sedck_script.specs.Parts as p
 use Rattle.sedck_script.specs.Items.{WrittenVerb, Simple, VerbText}
 use Rattle.sedck_script.specs.Items as w
-use Rattle.sedck_script.specs.Faults.{BeginsCommand, IsVerbDue, StandsAt, EndsOrFails, is_extra, begins_address, begins_part, IsNoNumber, IsNoSecondAddress, IsEmptyExpression, IsUnread, IsPlaced, verb_bytes}
-use Rattle.sedck_script.specs.Private.Reading.{EndsIn}
-use Rattle.sedck_script.specs.Private.PieceReading.{PatternText, IsPartPlaced}
-use Rattle.sedck_script.specs.Private.AddressReading.{is_mark, IsBehindComma, BeginsNoPlace, has_previous}
+use Rattle.sedck_script.specs.Faults.{BeginsCommand, IsVerbDue, EndsOrFails, is_extra, begins_address, begins_part, IsNoNumber, IsNoSecondAddress, IsEmptyExpression, IsUnread, IsPlaced, verb_bytes}
+use Rattle.sedck_script.specs.Private.PieceReading.{IsPartPlaced}
+use Rattle.sedck_script.specs.Private.AddressReading.{is_mark, IsBehindComma, IsSecond, BeginsNoPlace, has_previous}
 use Rattle.sedck_script.specs.Private.Progress.{written_patterns}
-use Rattle.sedck_script.proofs.OffsetLemmas.{tail_length, stands_at_tail, take_front}
+use Rattle.sedck_script.proofs.OffsetLemmas.{tail_length, expression_tail, take_front}
 use Rattle.sedck_script.proofs.UniqueParts.{digit_no_end}
 use Rattle.sedck_script.proofs.SpelledIsSound.{flags_pattern}
 use Rattle.sedck_script.proofs.VerbBytes.{byte_of}
 use Rattle.sedck_script.proofs.UniqueItems.{place_first}
 use Rattle.sedck_script.proofs.FirstBytes.{heads}
-
--- where a tail begins, the text is cut into what is before it and the tail
-pub cut_at : {whole text : List ℕ} (h : EndsIn whole text) → (take (length whole - length text) whole ≡ h.0) × (drop (length whole - length text) whole ≡ text)
-cut_at {whole} {text} h =
-    let place = length whole - length text in
-    let at : place ≡ length h.0 = omega (arith, ap length h.1, length-append h.0 text) in
-    let parts = take_front h.0 text place at in
-    (ap (take place) h.1 ∙ parts.0, ap (drop place) h.1 ∙ parts.1)
 
 pub other_here : {test : ℕ → Bool} {b : ℕ} {more : List ℕ} (text : Cursor) → unread text ≡ b ∷ more → test b ≡ false
     → EndsOrFails test text.whole.now text.at
@@ -43,6 +34,17 @@ other_here {test} text e f = fails_here test text (subst (IsEmptyOr (λ c. not (
 
 pub ends_here : {test : ℕ → Bool} (text : Cursor) → unread text ≡ [] → EndsOrFails test text.whole.now text.at
 ends_here {test} text e = fails_here test text (subst (IsEmptyOr (λ b. not (test b))) (sym e) tt)
+
+-- the fault of a byte that is no verb
+pub no_verb_placed : {b place : ℕ} {more : List ℕ} {f : ScriptFault} (text : Cursor)
+    → f ≡ (if one_of "}#" b then fault.TooManyAddresses place else fault.UnknownCommand place) → place ≡ text.at → IsVerbDue text.whole.now text.at
+    → unread text ≡ b ∷ more → (is_in b verb_bytes ≡ true → one_of "}#" b ≡ true) → IsPlaced text.whole.now f
+no_verb_placed {b} {place} {more} {f} text is at due cut known =
+    let whole = text.whole.now in
+    cond_both (one_of "}#" b) (fault.TooManyAddresses place) (fault.UnknownCommand place) (λ g. f ≡ g → IsPlaced whole f)
+    (λ t e. subst (IsPlaced whole) (sym e) (rw at (b, stands_here text cut, grind (arith, t))))
+    (λ n e. subst (IsPlaced whole) (sym e) (rw at (due, other_here text cut (false_from_ne_true _ (λ k. both_ways _ n (known k))))))
+    is
 
 -- where a command begins, its verb is due after its addresses, blanks and `!`
 pub verb_due : {behind marks : List ℕ} {address : Address} (start begins : Cursor) → begins.whole ≡ start.whole → BeginsCommand (unread start)
@@ -82,14 +84,6 @@ no_second_place text second same c n =
 
 -- ---- Expressions
 
--- the delimiter is right before what it opens
-pub opened_before : {whole text : List ℕ} {d : ℕ} → EndsIn whole (d ∷ text)
-    → (0 < length whole - length text) × StandsAt whole (length whole - length text - 1) d
-opened_before {whole} {text} {d} h =
-    let long = tail_length h in
-    let same : length whole - length (d ∷ text) ≡ length whole - length text - 1 = omega (arith, long) in
-    (omega (arith, long), subst (λ n. StandsAt whole n d) same (stands_at_tail h refl))
-
 empty_end : {d : ℕ} {text e rest : List ℕ} → e ≡ [] → DelimitedExpression d text e rest → text ≡ d ∷ rest
 empty_end n (p.ends {rest = rest} h) = ap (λ b. b ∷ rest) h
 empty_end n (p.byte f g h x) = absurd (cc n)
@@ -100,15 +94,66 @@ no_expression : {e : List ℕ} {q : Pattern} → q ≡ Previous → IsPattern e 
 no_expression n p.previous = refl
 no_expression n (p.expression s) = absurd (cc n)
 
--- an empty expression ends at once
-pub empty_place : {rest : List ℕ} {d : ℕ} {q : Pattern} (text : Cursor) → Follows text d → IsTrue (is_delimiter d) → q ≡ Previous
-    → PatternText d (unread text) q rest → IsEmptyExpression text.whole.now text.at
-empty_place {d = d} text h a e x =
-    (d, a, h.0, h.1, stands_here text (empty_end (no_expression e x.2) x.1.cut))
-
 is_previous : {q : Pattern} → has_previous (q ∷ []) ≡ true → q ≡ Previous
 is_previous {q = Previous} h = refl
 is_previous {q = Expression tree} h = absurd (false≢true h)
+
+-- an address takes a byte at least
+pub place_shorter : {text rest : List ℕ} {q : Place} → PlaceText text q rest → length rest < length text
+place_shorter (p.line {rest = rest} n) = omega (arith, n.some, ap length n.run.cut, length-append n.digits rest)
+place_shorter (p.last h) = omega arith
+place_shorter (p.context h x y) = omega (arith, tail_length (expression_tail x.cut))
+place_shorter (p.custom h d x y) = omega (arith, tail_length (expression_tail x.cut))
+
+-- so something has been read where an address has
+pub place_read : {q : Place} (text behind : Cursor) → behind.whole ≡ text.whole → PlaceText (unread text) q (unread behind) → 0 < behind.at
+place_read text behind same x = omega (arith, place_shorter x, unread_length text, unread_length behind, ap (λ w. length w.now) same)
+
+pub second_read : {q : Place} (text behind : Cursor) → behind.whole ≡ text.whole → IsSecond (unread text) q (unread behind) → 0 < behind.at
+second_read text behind same s = omega (
+  arith,
+  place_shorter s.2,
+  ap length s.1.before.cut,
+  length-append s.1.blanks (s.1.comma ∷ s.1.more),
+  ap length s.1.behind.cut,
+  length-append s.1.front s.0,
+  unread_length text,
+  unread_length behind,
+  ap (λ w. length w.now) same,
+)
+
+-- where the address after a comma begins
+pub second_begins : {q : Place} {rest : List ℕ} (text : Cursor) (s : IsSecond (unread text) q rest) → (from : ℕ) × (drop from text.whole.now ≡ s.0)
+second_begins text s =
+    let front = s.1.blanks ++ s.1.comma ∷ s.1.front in
+    let cut : unread text ≡ front ++ s.0 = s.1.before.cut ∙ ap (λ t. s.1.blanks ++ s.1.comma ∷ t) s.1.behind.cut
+    ∙ sym (append_assoc s.1.blanks (s.1.comma ∷ s.1.front) s.0) in (
+      text.at + length front,
+      sym (drop-drop (length front) text.at text.whole.now) ∙ ap (drop (length front)) cut ∙ (take_front front s.0 (length front) refl).1,
+    )
+
+-- a delimiter is there twice, right before what hasn't been read
+closed_here : {d : ℕ} {more : List ℕ} (from : ℕ) (behind : Cursor) → IsTrue (is_delimiter d) → drop from behind.whole.now ≡ d ∷ d ∷ more
+    → unread behind ≡ more → IsEmptyExpression behind.whole.now (behind.at - 1)
+closed_here {d} {more} from behind a h k =
+    let whole = behind.whole.now in
+    let inside : drop (from + 1) whole ≡ d ∷ more = sym (drop-drop 1 from whole) ∙ ap (drop 1) h in
+    let at : behind.at ≡ from + 2 = omega (arith, length-drop from whole, ap length h, ap length k, unread_length behind) in
+    let last : behind.at - 1 ≡ from + 1 = omega (arith, at) in
+    let first : behind.at - 1 - 1 ≡ from = omega (arith, at) in
+    (d, a, omega (arith, at), rw first (first_there from whole (d ∷ more) d h), rw last (first_there (from + 1) whole more d inside))
+
+-- an empty expression of an address ends right before what follows the address
+pub empty_address : {text rest : List ℕ} {q : Place} (from : ℕ) (behind : Cursor) → drop from behind.whole.now ≡ text → unread behind ≡ rest
+    → PlaceText text q rest → has_previous (place_patterns q) ≡ true → IsEmptyExpression behind.whole.now (behind.at - 1)
+empty_address from behind h k (p.line n) some = absurd (false≢true some)
+empty_address from behind h k (p.last e) some = absurd (false≢true some)
+empty_address from behind h k (p.context {text = text} e x y) some =
+    let ended = empty_end (no_expression (is_previous some) y) x.cut in
+    closed_here from behind refl (h ∙ ap (λ b. b ∷ text) e ∙ ap (λ t. 47 ∷ t) ended) k
+empty_address from behind h k (p.custom {delimiter = d} {text = text} e a x y) some =
+    let ended = empty_end (no_expression (is_previous some) y) x.cut in
+    closed_here (from + 1) behind a (sym (drop-drop 1 from behind.whole.now) ∙ ap (drop 1) h ∙ ap (λ t. d ∷ t) ended) k
 
 simple_plain : {b : ℕ} {v : Verb} → Simple b v → has_previous (verb_patterns v) ≡ true → ⊥
 simple_plain w.line_number h = false≢true h

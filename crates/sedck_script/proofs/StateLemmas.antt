@@ -17,8 +17,8 @@ use Rattle.sedck_script.specs.Resolution.{MayBeBraced}
 use Rattle.sedck_script.specs.declared.written.WrittenCommand.{WrittenCommand}
 use Rattle.sedck_script.specs.declared.written.WrittenItem.{WrittenItem}
 use Rattle.sedck_script.specs.declared.written.WrittenItem.TheVariants as item
-use Rattle.sedck_script.specs.declared.verbs.Written.{Written as WrittenCode}
-use Rattle.sedck_script.specs.declared.verbs.Written.TheVariants as code
+use Rattle.sedck_script.specs.declared.written.Written.{Written as WrittenCode}
+use Rattle.sedck_script.specs.declared.written.Written.TheVariants as code
 use Rattle.sedck_script.proofs.LabelPlaces.{labels_label, labels_other}
 
 pub among_append : (xs ys : List Item) → commands_among (xs ++ ys) ≡ commands_among xs ++ commands_among ys

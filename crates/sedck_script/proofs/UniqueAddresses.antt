@@ -1,6 +1,7 @@
 -- The addresses of a command are the only ones.
 use Rattle.std.proofs.Common.{◌≡◌, ℕ, true, List, [], ◌∷◌, Option, Some, None, refl, ap, sym, ◌∙◌, subst}
 use Rattle.std.proofs.lemmas.Bool.{both_ways, not-true}
+use Rattle.std.specs.Borrow.{Bor}
 use Rattle.sedck_script.specs.Cuts.{is_blank, Longest}
 use Rattle.sedck_script.specs.Program.{Place, Address, NoAddress, One, Two}
 use Rattle.sedck_script.specs.Parts.{PlaceText, AddressText}
@@ -112,16 +113,20 @@ no_comma l e n blanks more b k h = n (heads (sym e ∙ (longest_one l k).1) ∙ 
 
 -- ---- What is found
 
-pub place_found : {text : List ℕ} {o : Option (CodePlace × Option ℕ × Cursor)} {x : CodePlace × Option ℕ × Cursor} → o ≡ Some x
-    → IfSome o (λ y. PlaceText text (place_of y.0) (unread y.2)) → PlaceText text (place_of x.0) (unread x.2)
-place_found {text = text} e h = if_some_at (λ y. PlaceText text (place_of y.0) (unread y.2)) e h
+pub same_found : {whole : Bor (List ℕ)} {o : Option (CodePlace × Cursor)} {x : CodePlace × Cursor} → o ≡ Some x
+    → IfSome o (λ y. y.1.whole ≡ whole) → x.1.whole ≡ whole
+same_found {whole = whole} e h = if_some_at (λ y. y.1.whole ≡ whole) e h
 
-pub second_found : {text : List ℕ} {o : Option (CodePlace × Option ℕ × Cursor)} {x : CodePlace × Option ℕ × Cursor} → o ≡ Some x
-    → IfSome o (λ y. IsSecond text (place_of y.0) (unread y.2)) → IsSecond text (place_of x.0) (unread x.2)
-second_found {text = text} e h = if_some_at (λ y. IsSecond text (place_of y.0) (unread y.2)) e h
+pub place_found : {text : List ℕ} {o : Option (CodePlace × Cursor)} {x : CodePlace × Cursor} → o ≡ Some x
+    → IfSome o (λ y. PlaceText text (place_of y.0) (unread y.1)) → PlaceText text (place_of x.0) (unread x.1)
+place_found {text = text} e h = if_some_at (λ y. PlaceText text (place_of y.0) (unread y.1)) e h
 
-pub no_comma_found : (text : List ℕ) {o : Option (CodePlace × Option ℕ × Cursor)} → o ≡ None → IfNone o (HasNoComma text) → HasNoComma text
+pub second_found : {text : List ℕ} {o : Option (CodePlace × Cursor)} {x : CodePlace × Cursor} → o ≡ Some x
+    → IfSome o (λ y. IsSecond text (place_of y.0) (unread y.1)) → IsSecond text (place_of x.0) (unread x.1)
+second_found {text = text} e h = if_some_at (λ y. IsSecond text (place_of y.0) (unread y.1)) e h
+
+pub no_comma_found : (text : List ℕ) {o : Option (CodePlace × Cursor)} → o ≡ None → IfNone o (HasNoComma text) → HasNoComma text
 no_comma_found text e h = if_none_at (HasNoComma text) e h
 
-pub none_found : (text : List ℕ) {o : Option (CodePlace × Option ℕ × Cursor)} → o ≡ None → IfNone o (BeginsNoPlace text) → BeginsNoPlace text
+pub none_found : (text : List ℕ) {o : Option (CodePlace × Cursor)} → o ≡ None → IfNone o (BeginsNoPlace text) → BeginsNoPlace text
 none_found text e h = if_none_at (BeginsNoPlace text) e h

@@ -1,7 +1,6 @@
 -- What the first byte of a verb says of it.
-use Rattle.std.proofs.Common.{◌≡◌, ◌≢◌, ℕ, Bool, true, false, not, ◌&&◌, eqb, List, ◌∷◌, Option, Some, refl, sym, ◌∙◌, subst, arith}
+use Rattle.std.proofs.Common.{◌≡◌, ◌≢◌, ℕ, Bool, true, false, not, ◌&&◌, eqb, List, ◌∷◌, refl, sym, ◌∙◌, subst, arith}
 use Rattle.std.proofs.lemmas.Bool.{false≢true, eq-eqb}
-use Rattle.std.proofs.lemmas.Option.{same_Some}
 use Rattle.sedck_text.specs.Text.{is_in, one_of}
 use Rattle.sedck_script.specs.Program.{Address, NoAddress, One, Two, Verb}
 use Rattle.sedck_script.specs.Items.{WrittenVerb, Known, Opening, Simple, VerbText, Takes}
@@ -47,7 +46,7 @@ none_is NoAddress true h = absurd (false≢true h)
 none_is (One x) n h = absurd (false≢true h)
 none_is (Two x y) n h = absurd (false≢true h)
 
-simple_byte : {b : ℕ} {v : Verb} → Simple b v → IsVerbByte b (Known v)
+pub simple_byte : {b : ℕ} {v : Verb} → Simple b v → IsVerbByte b (Known v)
 simple_byte w.line_number = any_addresses 61 refl (λ a n. refl) (λ a n. tt) refl no_opening
 simple_byte w.delete = any_addresses 100 refl (λ a n. refl) (λ a n. tt) refl no_opening
 simple_byte w.delete_first_line = any_addresses 68 refl (λ a n. refl) (λ a n. tt) refl no_opening
@@ -96,9 +95,10 @@ byte_of e (w.write h n) = along (sym (heads e) ∙ h) (any_addresses 119 refl (�
 byte_of e (w.substitute h d x y z g f) = along (sym (heads e) ∙ h) (any_addresses 115 refl (λ a n. refl) (λ a n. tt) refl (λ e. cc e))
 byte_of e (w.transliterate h d x y l f) = along (sym (heads e) ∙ h) (any_addresses 121 refl (λ a n. refl) (λ a n. tt) refl (λ e. cc e))
 
-pub same_byte : {a b : ℕ} {o : Option ℕ} → o ≡ Some a → o ≡ Some b → a ≡ b
-same_byte e f = same_Some _ _ (sym e ∙ f)
-
 -- a byte that takes not all addresses is one of four
 pub not_taken : (b : ℕ) (a : Address) (n : Bool) → takes b a n ≡ false → one_of "q:}#" b ≡ true
 not_taken b a n h = grind (arith, h)
+
+-- before a `}` and a comment are no addresses
+pub misplaced : (b : ℕ) (a : Address) (n : Bool) → one_of "}#" b ≡ true → takes b a n ≡ false
+misplaced b a n h = rw h refl

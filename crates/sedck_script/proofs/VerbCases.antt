@@ -1,16 +1,14 @@
 -- What follows a verb's byte, by its byte.
-use Rattle.std.proofs.Common.{◌≡◌, ◌≢◌, ℕ, Bool, true, false, eqb, ◌||◌, List, [], ◌∷◌, Option, Some, None, is_some, refl, ap, sym, ◌∙◌, subst, inl, inr, ◌⊎◌}
-use Rattle.std.specs.List.{list_all}
+use Rattle.std.proofs.Common.{◌≡◌, ◌≢◌, ℕ, Bool, true, eqb, List, ◌∷◌, Option, Some, None, is_some, refl, ap, sym, ◌∙◌, subst, inl, inr, ◌⊎◌}
 use Rattle.std.specs.Borrow.{Bor}
 use Rattle.std.specs.HashMap.{HashMap}
-use Rattle.std.proofs.lemmas.Bool.{or_cases, or_from, ne_eqb, eqb-true, and_parts, both_ways, false≢true, false_from_ne_true, cases_Bool, eq-eqb}
-use Rattle.sedck_text.specs.Text.{is_in, one_of}
+use Rattle.std.proofs.lemmas.Bool.{or_cases, eqb-true, both_ways, false≢true, cases_Bool, eq-eqb}
+use Rattle.sedck_text.specs.Text.{one_of}
 use Rattle.sedck_script.specs.Cuts.{is_blank, Longest}
 use Rattle.sedck_script.specs.Program.{Verb, Label}
 use Rattle.sedck_script.specs.Parts.{Ends, LabelText, Name, GivenText}
 use Rattle.sedck_script.specs.Items.{WrittenVerb, Known, BranchTo, TestTo, Simple, VerbText, IsNoBrace}
 use Rattle.sedck_script.specs.Items as w
-use Rattle.sedck_script.specs.Faults.{verb_bytes}
 use Rattle.sedck_script.specs.Private.Reading.{label_place}
 use Rattle.sedck_script.specs.Private.LabelReading.{BranchText}
 use Rattle.sedck_script.specs.Private.VerbReading.{DefinesKnown}
@@ -27,9 +25,6 @@ aci_cases b h = elim (or_cases (eqb 97 b) _ h) [
     | inr i ↦ elim (or_cases (eqb 105 b) _ i) [ inl e ↦ inr (inr (sym (eqb-true 105 b e))) | inr e ↦ absurd (false≢true e) ]
   ]
 ]
-
-pub insert_byte : (b : ℕ) → one_of "aci" b ≡ true → b ≢ 97 → b ≢ 99 → b ≡ 105
-insert_byte b h n m = elim (aci_cases b h) [ inl e ↦ absurd (n e) | inr g ↦ elim g [ inl e ↦ absurd (m e) | inr e ↦ e ] ]
 
 pub write_byte : (b : ℕ) → one_of "rw" b ≡ true → b ≢ 114 → b ≡ 119
 write_byte b h n = elim (or_cases (eqb 114 b) _ h) [
@@ -92,22 +87,6 @@ pub simple_no_end : {b : ℕ} {text : List ℕ} {simple : Verb} → Simple b sim
 simple_no_end s n verb rest (w.simple x e) = n rest e
 simple_no_end s n verb rest x = differ 0 (class_of x) refl (sym (simple_class s) ∙ begins x)
 
--- what holds of each of some bytes
-any_all : (test : ℕ → Bool) (c : ℕ) (ks : List ℕ) → list_all test ks ≡ true → is_in c ks ≡ true → test c ≡ true
-any_all test c [] h e = absurd (false≢true e)
-any_all test c (k ∷ ks) h e = elim (or_cases (eqb k c) (is_in c ks) e) [
-  | inl f ↦ subst (λ b. test b ≡ true) (eqb-true k c f) (and_parts (test k) (list_all test ks) h).0
-  | inr f ↦ any_all test c ks (and_parts (test k) (list_all test ks) h).1 f
-]
-
-pub unknown_byte : (b : ℕ) → one_of "aci" b ≡ false → one_of "rw" b ≡ false → b ≢ 115 → b ≢ 121 → one_of "=dDgGhHlnNpPqx" b ≡ false
-    → one_of ":bt{}#" b ≡ false → is_in b verb_bytes ≡ false
-unknown_byte b h i j k l m =
-    false_from_ne_true _ (λ e. both_ways _
-    (or_from (one_of "aci" b) _ h (or_from (one_of "rw" b) _ i
-    (or_from (eqb b 115) _ (ne_eqb b 115 j) (or_from (eqb b 121) _ (ne_eqb b 121 k) (or_from (one_of "=dDgGhHlnNpPqx" b) (one_of ":bt{}#" b) l m)))))
-    (any_all (λ c. one_of "aci" c || (one_of "rw" c || (eqb c 115 || (eqb c 121 || (one_of "=dDgGhHlnNpPqx" c || one_of ":bt{}#" c))))) b verb_bytes refl e))
-
 record LabelInside (text : List ℕ) (verb : WrittenVerb) (rest : List ℕ) : Type 0 where
   name : List ℕ
   behind : List ℕ
@@ -166,8 +145,3 @@ no_jump h n verb rest x =
 pub verb_behind : {b c : ℕ} {text behind rest : List ℕ} {verb : WrittenVerb} → text ≡ b ∷ behind → b ≡ c → VerbText text verb rest
     → VerbText (c ∷ behind) verb rest
 verb_behind {rest = rest} {verb = verb} e h x = byte_along h (subst (λ t. VerbText t verb rest) e x)
-
--- a verb from its byte and what follows it
-pub verb_here : {b c : ℕ} {text behind rest : List ℕ} {verb : WrittenVerb} → text ≡ b ∷ behind → b ≡ c → VerbText (c ∷ behind) verb rest
-    → VerbText text verb rest
-verb_here {behind = behind} {rest = rest} {verb = verb} e h x = subst (λ t. VerbText t verb rest) (sym (e ∙ ap (λ k. k ∷ behind) h)) x

@@ -4,6 +4,7 @@ pub mod CommentReading
 pub mod ExpressionReading
 pub mod Fields
 pub mod FlagReading
+pub mod Forms
 pub mod ItemReading
 pub mod Keeping
 pub mod LabelReading

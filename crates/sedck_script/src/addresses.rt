@@ -1,14 +1,14 @@
 //! Addresses of commands.
 
-ghost use Rattle.std.specs.Prelude.{◌≡◌, ◌≢◌, ◌≤◌, ◌<◌, ◌∷◌, ℕ, List, Some, None, length, IsTrue, IfOk, IfErr, IfSome, IfNone};
+ghost use Rattle.std.specs.Prelude.{[], ◌≡◌, ◌≤◌, ◌<◌, ◌∷◌, ℕ, List, Some, None, length, drop, IsTrue, IfOk, IfErr, IfSome, IfNone};
 ghost use Rattle.sedck_script.specs.Cuts.{is_delimiter};
 ghost use Rattle.sedck_script.specs.Program as clean;
 ghost use Rattle.sedck_script.specs.Program.{place_patterns, address_patterns};
 ghost use Rattle.sedck_script.specs.Parts.{PlaceText, AddressText};
-ghost use Rattle.sedck_script.specs.Faults.{IsPlaced};
+ghost use Rattle.sedck_script.specs.Faults.{IsPlaced, IsOfText};
 ghost use Rattle.sedck_text.specs.Cursors.{unread, Follows};
 ghost use Rattle.sedck_script.specs.Private.PieceReading.{IsPartPlaced};
-ghost use Rattle.sedck_script.specs.Private.AddressReading.{begins_address, IsEmptyAt, ContextText, CustomText, BeginsPlace, BeginsNoPlace, IsOnlyAddress, IsNoCommand, IsBehindComma, HasNoComma, IsSecond, BeginsNoSecond};
+ghost use Rattle.sedck_script.specs.Private.AddressReading.{begins_address, has_previous, IsEmptyAt, ContextText, CustomText, BeginsPlace, BeginsNoPlace, IsOnlyAddress, IsNoCommand, IsBehindComma, HasNoComma, IsSecond, BeginsNoSecond};
 ghost use Rattle.sedck_script.specs.View as view;
 
 use crate::bytes::{is_delimiter, is_digit};
@@ -26,28 +26,22 @@ fn begins_address(b: u8) -> bool
     is_digit(b) || b"$/\\".contains(&b)
 }
 
-/// An address between delimiters, after its opening one; the offset of its expression where that is empty; and what
-/// follows it.
+/// An address between delimiters, after its opening one, and what follows it.
 fn read_context<'a>(
     alloc: Global,
     opening: usize,
     delimiter: u8,
     text: Cursor<'a>,
-) -> Result<(Place, Option<usize>, Cursor<'a>), ScriptFault>
+) -> Result<(Place, Cursor<'a>), ScriptFault>
     requires delimiter { IsTrue (is_delimiter delimiter) }
     requires opened { Follows text delimiter }
-    ensures read { IfOk result (λ x. ContextText delimiter (unread text.entry) (view.place_of x.0) (unread x.2)) }
-    ensures same { IfOk result (λ x. x.2.whole ≡ text.entry.whole) }
-    ensures empty { IfOk result (λ x. IsEmptyAt text.entry.whole.now (place_patterns (view.place_of x.0)) x.1) }
-    ensures refused { IfErr result (λ fault. fault ≢ ScriptFault.OutOfMemory → (p : clean.Place) (rest : List ℕ) → ContextText delimiter (unread text.entry) p rest → ⊥) }
+    ensures read { IfOk result (λ x. ContextText delimiter (unread text.entry) (view.place_of x.0) (unread x.1)) }
+    ensures same { IfOk result (λ x. x.1.whole ≡ text.entry.whole) }
+    ensures refused { IfErr result (λ fault. IsOfText fault → (p : clean.Place) (rest : List ℕ) → ContextText delimiter (unread text.entry) p rest → ⊥) }
     ensures placed { IfErr result (λ fault. IsPartPlaced opening text.entry.whole.now fault) }
 {
     let (pattern, rest) = read_pattern(alloc, opening, delimiter, text)?;
-    let empty = match pattern {
-        Pattern::Previous => Some(text.offset()),
-        Pattern::Expr(_) => None,
-    };
-    Ok((Place::Context(pattern), empty, rest))
+    Ok((Place::Context(pattern), rest))
 }
 
 /// An address with a delimiter of its own, after its backslash.
@@ -55,11 +49,10 @@ fn read_custom_context<'a>(
     alloc: Global,
     opening: usize,
     text: Cursor<'a>,
-) -> Result<(Place, Option<usize>, Cursor<'a>), ScriptFault>
-    ensures read { IfOk result (λ x. CustomText (unread text.entry) (view.place_of x.0) (unread x.2)) }
-    ensures same { IfOk result (λ x. x.2.whole ≡ text.entry.whole) }
-    ensures empty { IfOk result (λ x. IsEmptyAt text.entry.whole.now (place_patterns (view.place_of x.0)) x.1) }
-    ensures refused { IfErr result (λ fault. fault ≢ ScriptFault.OutOfMemory → (p : clean.Place) (rest : List ℕ) → CustomText (unread text.entry) p rest → ⊥) }
+) -> Result<(Place, Cursor<'a>), ScriptFault>
+    ensures read { IfOk result (λ x. CustomText (unread text.entry) (view.place_of x.0) (unread x.1)) }
+    ensures same { IfOk result (λ x. x.1.whole ≡ text.entry.whole) }
+    ensures refused { IfErr result (λ fault. IsOfText fault → (p : clean.Place) (rest : List ℕ) → CustomText (unread text.entry) p rest → ⊥) }
     ensures placed { IfErr result (λ fault. IsPartPlaced opening text.entry.whole.now fault) }
 {
     let Some((delimiter, behind)) = text.split_first() else {
@@ -71,25 +64,24 @@ fn read_custom_context<'a>(
     read_context(alloc, opening, delimiter, behind)
 }
 
-/// The address that begins here, the offset of its expression where that is empty, and what follows it.
+/// The address that begins here, and what follows it.
 fn read_place<'a>(
     alloc: Global,
     first: u8,
     text: Cursor<'a>,
     behind: Cursor<'a>,
-) -> Result<(Place, Option<usize>, Cursor<'a>), ScriptFault>
+) -> Result<(Place, Cursor<'a>), ScriptFault>
     requires first { unread text ≡ first ∷ unread behind }
     requires same { behind.whole ≡ text.whole }
     requires follows { Follows behind first }
     requires begins { IsTrue (begins_address first) }
-    ensures read { IfOk result (λ x. PlaceText (unread text.entry) (view.place_of x.0) (unread x.2)) }
-    ensures same { IfOk result (λ x. x.2.whole ≡ text.entry.whole) }
-    ensures empty { IfOk result (λ x. IsEmptyAt text.entry.whole.now (place_patterns (view.place_of x.0)) x.1) }
-    ensures refused { IfErr result (λ fault. fault ≢ ScriptFault.OutOfMemory → (p : clean.Place) (rest : List ℕ) → PlaceText (unread text.entry) p rest → ⊥) }
+    ensures read { IfOk result (λ x. PlaceText (unread text.entry) (view.place_of x.0) (unread x.1)) }
+    ensures same { IfOk result (λ x. x.1.whole ≡ text.entry.whole) }
+    ensures refused { IfErr result (λ fault. IsOfText fault → (p : clean.Place) (rest : List ℕ) → PlaceText (unread text.entry) p rest → ⊥) }
     ensures placed { IfErr result (λ fault. IsPlaced text.entry.whole.now fault) }
 {
     if first == b'$' {
-        return Ok((Place::Last, None, behind));
+        return Ok((Place::Last, behind));
     }
     if first == b'/' {
         return read_context(alloc, text.offset(), b'/', behind);
@@ -98,7 +90,7 @@ fn read_place<'a>(
         return read_custom_context(alloc, text.offset(), behind);
     }
     match read_number(text) {
-        Some((line, rest)) => Ok((Place::Line(line), None, rest)),
+        Some((line, rest)) => Ok((Place::Line(line), rest)),
         None => Err(ScriptFault::BadAddress {
             place: text.offset(),
         }),
@@ -109,13 +101,12 @@ fn read_place<'a>(
 fn split_place<'a>(
     alloc: Global,
     text: Cursor<'a>,
-) -> Result<Option<(Place, Option<usize>, Cursor<'a>)>, ScriptFault>
-    ensures read { IfOk result (λ x. IfSome x (λ y. PlaceText (unread text.entry) (view.place_of y.0) (unread y.2))) }
-    ensures same { IfOk result (λ x. IfSome x (λ y. y.2.whole ≡ text.entry.whole)) }
-    ensures empty { IfOk result (λ x. IfSome x (λ y. IsEmptyAt text.entry.whole.now (place_patterns (view.place_of y.0)) y.1)) }
+) -> Result<Option<(Place, Cursor<'a>)>, ScriptFault>
+    ensures read { IfOk result (λ x. IfSome x (λ y. PlaceText (unread text.entry) (view.place_of y.0) (unread y.1))) }
+    ensures same { IfOk result (λ x. IfSome x (λ y. y.1.whole ≡ text.entry.whole)) }
     ensures none { IfOk result (λ x. IfNone x (BeginsNoPlace (unread text.entry))) }
     ensures begins { IfErr result (λ fault. BeginsPlace (unread text.entry)) }
-    ensures refused { IfErr result (λ fault. fault ≢ ScriptFault.OutOfMemory → (p : clean.Place) (rest : List ℕ) → PlaceText (unread text.entry) p rest → ⊥) }
+    ensures refused { IfErr result (λ fault. IsOfText fault → (p : clean.Place) (rest : List ℕ) → PlaceText (unread text.entry) p rest → ⊥) }
     ensures placed { IfErr result (λ fault. IsPlaced text.entry.whole.now fault) }
 {
     let Some((first, behind)) = text.split_first() else {
@@ -145,12 +136,11 @@ fn skip_comma<'a>(text: Cursor<'a>) -> Option<Cursor<'a>>
 fn split_second<'a>(
     alloc: Global,
     text: Cursor<'a>,
-) -> Result<Option<(Place, Option<usize>, Cursor<'a>)>, ScriptFault>
-    ensures read { IfOk result (λ x. IfSome x (λ y. IsSecond (unread text.entry) (view.place_of y.0) (unread y.2))) }
-    ensures same { IfOk result (λ x. IfSome x (λ y. y.2.whole ≡ text.entry.whole)) }
-    ensures empty { IfOk result (λ x. IfSome x (λ y. IsEmptyAt text.entry.whole.now (place_patterns (view.place_of y.0)) y.1)) }
+) -> Result<Option<(Place, Cursor<'a>)>, ScriptFault>
+    ensures read { IfOk result (λ x. IfSome x (λ y. IsSecond (unread text.entry) (view.place_of y.0) (unread y.1))) }
+    ensures same { IfOk result (λ x. IfSome x (λ y. y.1.whole ≡ text.entry.whole)) }
     ensures none { IfOk result (λ x. IfNone x (HasNoComma (unread text.entry))) }
-    ensures refused { IfErr result (λ fault. fault ≢ ScriptFault.OutOfMemory → BeginsNoSecond (unread text.entry)) }
+    ensures refused { IfErr result (λ fault. IsOfText fault → BeginsNoSecond (unread text.entry)) }
     ensures placed { IfErr result (λ fault. IsPlaced text.entry.whole.now fault) }
 {
     let Some(second) = skip_comma(text) else {
@@ -164,6 +154,27 @@ fn split_second<'a>(
     Ok(Some(found))
 }
 
+/// Whether the expression is the empty one.
+fn is_previous(pattern: &Pattern) -> bool
+    ensures { result ≡ has_previous (view.pattern_of pattern.now ∷ []) }
+{
+    matches!(pattern, Pattern::Previous)
+}
+
+/// The offset of the address's expression, where that is empty: its closing delimiter, right before what follows the address.
+fn empty_offset(place: &Place, behind: Cursor<'_>) -> Option<usize>
+    requires { 0 < behind.at }
+    ensures { (from : ℕ) → PlaceText (drop from behind.entry.whole.now) (view.place_of place.now) (unread behind.entry) → IsEmptyAt behind.entry.whole.now (place_patterns (view.place_of place.now)) result }
+{
+    let Place::Context(pattern) = place else {
+        return None;
+    };
+    if is_previous(pattern) {
+        return Some(behind.offset() - 1);
+    }
+    None
+}
+
 /// The addresses at the start, the offset of their first empty expression, and what follows them.
 pub fn split_address<'a>(
     alloc: Global,
@@ -173,14 +184,16 @@ pub fn split_address<'a>(
     ensures same { IfOk result (λ x. x.2.whole ≡ text.entry.whole) }
     ensures only { IfOk result (λ x. IsOnlyAddress (unread text.entry) (view.address_of x.0) (unread x.2)) }
     ensures empty { IfOk result (λ x. IsEmptyAt text.entry.whole.now (address_patterns (view.address_of x.0)) x.1) }
-    ensures refused { IfErr result (λ fault. fault ≢ ScriptFault.OutOfMemory → IsNoCommand (unread text.entry)) }
+    ensures refused { IfErr result (λ fault. IsOfText fault → IsNoCommand (unread text.entry)) }
     ensures placed { IfErr result (λ fault. IsPlaced text.entry.whole.now fault) }
 {
-    let Some((from, empty, behind)) = split_place(alloc, text)? else {
+    let Some((from, behind)) = split_place(alloc, text)? else {
         return Ok((Address::None, None, text));
     };
-    let Some((to, other, rest)) = split_second(alloc, behind)? else {
+    let empty = empty_offset(&from, behind);
+    let Some((to, rest)) = split_second(alloc, behind)? else {
         return Ok((Address::One(from), empty, behind));
     };
-    Ok((Address::Two(from, to), empty.or(other), rest))
+    let empty = empty.or(empty_offset(&to, rest));
+    Ok((Address::Two(from, to), empty, rest))
 }

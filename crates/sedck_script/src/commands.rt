@@ -1,76 +1,91 @@
 //! Commands as they are written.
 
-ghost use Rattle.std.specs.Prelude.{◌≡◌, ◌≢◌, ◌≤◌, ◌<◌, ◌++◌, ◌==◌, ◌⊎◌, ◌-◌, ℕ, List, Bool, true, length, IfOk, IfErr, OnOk, OnErr};
+ghost use Rattle.std.specs.Prelude.{if◌then◌else◌, ◌≡◌, ◌≤◌, ◌<◌, ◌++◌, ◌==◌, ◌⊎◌, ◌-◌, ℕ, List, Bool, true, length, IfOk, IfErr, OnOk, OnErr};
 ghost use Rattle.std.specs.List.{list_any};
-ghost use Rattle.sedck_text.specs.Text.{is_in};
-ghost use Rattle.sedck_script.specs.Cuts.{bang};
+ghost use Rattle.sedck_text.specs.Text.{one_of};
+ghost use Rattle.sedck_script.specs.Cuts.{bang, brace};
 ghost use Rattle.sedck_script.specs.Program as clean;
 ghost use Rattle.sedck_script.specs.Program.{address_patterns};
-ghost use Rattle.sedck_script.specs.Items.{WrittenVerb, Opening, VerbText, Takes, IsNoBrace, CommandText};
+ghost use Rattle.sedck_script.specs.Items.{WrittenVerb, Opening, VerbText, Takes, CommandText};
 ghost use Rattle.sedck_script.specs.Resolution.{MayBeBraced};
-ghost use Rattle.sedck_script.specs.Faults.{BeginsCommand, IsVerbDue, IsEmptyExpression, IsPlaced, verb_bytes};
+ghost use Rattle.sedck_script.specs.Faults.{BeginsCommand, IsVerbDue, IsEmptyExpression, IsPlaced, IsOfText};
 ghost use Rattle.sedck_text.specs.Cursors.{unread};
 ghost use Rattle.sedck_script.specs.Private.VerbReading.{written_verb, is_braced, IsWrittenAt, DefinesKnown};
 ghost use Rattle.sedck_script.specs.Private.AddressReading.{is_mark, has_previous, IsEmptyAt};
 ghost use Rattle.sedck_script.specs.Private.Progress.{takes, written_patterns, IsBeyond, AreAllowed};
+ghost use Rattle.sedck_script.specs.Private.Forms.{IsForm, IsVerbAt};
 ghost use Rattle.sedck_script.specs.Private.Locating.{IsOnlyLocation};
 ghost use Rattle.sedck_script.specs.View.{address_of};
 
 use crate::addresses::split_address;
 use crate::fault::ScriptFault;
+use crate::forms::{Form, form_of};
 use crate::limits::{COMMAND_LIMIT, DEPTH_LIMIT};
 use crate::location::Location;
 use crate::reader::Reader;
 use crate::script::{Address, Pattern, Verb};
-use crate::verbs::{Written, read_verb};
-use crate::written::WrittenCommand;
+use crate::verbs::read_verb;
+use crate::written::{Written, WrittenCommand};
 use sedck_text::{Class, Cursor};
 use std::alloc::Global;
 
-/// Whether a command may begin with the byte after its addresses.
-fn is_verb(b: u8) -> bool
-    ensures { result ≡ is_in b verb_bytes }
+/// Whether a command with a verb of this form takes the addresses and the `!`.
+fn takes(form: &Form, address: &Address, negated: bool) -> bool
+    ensures { (b : ℕ) → IsForm b form.now → result ≡ takes b (address_of address.now) negated }
 {
-    b"{abcdDgGhHilnNpPrstwxy=q:}#".contains(&b)
-}
-
-/// Whether a command that begins with the byte takes the addresses and the `!`.
-fn takes(b: u8, address: &Address, negated: bool) -> bool
-    ensures { result ≡ takes b (address_of address.now) negated }
-{
-    match b {
-        b'}' | b'#' => false,
-        b':' => matches!(address, Address::None) && !negated,
-        b'q' => !matches!(address, Address::Two(..)),
+    match form {
+        Form::Label => matches!(address, Address::None) && !negated,
+        Form::Nothing(Verb::Quit) => !matches!(address, Address::Two(..)),
         _ => true,
     }
 }
 
-/// Whether a command may go on with the verb that begins here, by its first byte.
-fn check_verb(reader: Reader, address: &Address, negated: bool) -> Result<(), ScriptFault>
+/// Whether a verb of this form opens a block.
+fn opens_block(form: &Form) -> bool
+    ensures { (b : ℕ) → IsForm b form.now → result ≡ (b == brace) }
+{
+    matches!(form, Form::Block)
+}
+
+/// The fault of a byte that is no verb: addresses and a `!` may be before neither a `}` nor a comment.
+fn no_verb(byte: u8, place: usize) -> ScriptFault
+    ensures { result ≡ (if one_of "}#" byte then ScriptFault.TooManyAddresses place else ScriptFault.UnknownCommand place) }
+{
+    match byte {
+        b'}' | b'#' => ScriptFault::TooManyAddresses { place },
+        _ => ScriptFault::UnknownCommand { place },
+    }
+}
+
+/// What the verb that begins here takes, and what follows its byte, where a command with these addresses may go on with it.
+fn check_verb<'a>(
+    reader: Reader<'_, 'a>,
+    address: &Address,
+    negated: bool,
+) -> Result<(Form<'a>, Cursor<'a>), ScriptFault>
     requires due { IsVerbDue reader.cursor.whole.now reader.cursor.at }
-    ensures allowed { OnOk result (AreAllowed (address_of address.now) negated reader.entry.depth reader.entry.count (unread reader.entry.cursor)) }
-    ensures brace { OnOk result (IsNoBrace (unread reader.entry.cursor)) }
+    ensures begins { IfOk result (λ x. IsVerbAt reader.entry.cursor x.0 x.1) }
+    ensures allowed { IfOk result (λ x. AreAllowed (address_of address.now) negated reader.entry.depth reader.entry.count (unread reader.entry.cursor)) }
     ensures refused { IfErr result (λ fault. (verb : WrittenVerb) (rest : List ℕ) → VerbText (unread reader.entry.cursor) verb rest → Takes verb (address_of address.now) negated → IsBeyond reader.entry.depth reader.entry.count verb) }
     ensures placed { IfErr result (λ fault. IsPlaced reader.entry.cursor.whole.now fault) }
 {
     let place = reader.cursor.offset();
-    let Some(verb) = reader.cursor.first() else {
+    let Some((byte, behind)) = reader.cursor.split_first() else {
         return Err(ScriptFault::UnknownCommand { place });
     };
-    if !is_verb(verb) {
-        return Err(ScriptFault::UnknownCommand { place });
-    }
-    if !takes(verb, address, negated) {
+    let Some(form) = form_of(byte) else {
+        return Err(no_verb(byte, place));
+    };
+    if !takes(&form, address, negated) {
         return Err(ScriptFault::TooManyAddresses { place });
     }
-    if verb == b'{' && reader.depth >= DEPTH_LIMIT {
+    if opens_block(&form) && reader.depth >= DEPTH_LIMIT {
         return Err(ScriptFault::TooDeep { place });
     }
     if reader.count >= COMMAND_LIMIT {
         return Err(ScriptFault::TooManyCommands { place });
     }
-    Ok(())
+    Ok((form, behind))
 }
 
 /// Whether the verb may be where this many blocks are open: no `}` may be right after its label inside of two of them.
@@ -115,11 +130,11 @@ fn read_allowed_verb<'a>(
     ensures braced { IfOk result (λ x. MayBeBraced (is_braced (written_verb x.0)) reader.entry.depth) }
     ensures few { IfOk result (λ x. reader.entry.count < 4095) }
     ensures label { IfOk result (λ x. IsWrittenAt reader.entry.cursor.whole.now x.0) }
-    ensures refused { IfErr result (λ fault. fault ≢ ScriptFault.OutOfMemory → (verb : WrittenVerb) (rest : List ℕ) → VerbText (unread reader.entry.cursor) verb rest → Takes verb (address_of address.now) negated → DefinesKnown reader.entry.labels.now verb ⊎ IsBeyond reader.entry.depth reader.entry.count verb) }
+    ensures refused { IfErr result (λ fault. IsOfText fault → (verb : WrittenVerb) (rest : List ℕ) → VerbText (unread reader.entry.cursor) verb rest → Takes verb (address_of address.now) negated → DefinesKnown reader.entry.labels.now verb ⊎ IsBeyond reader.entry.depth reader.entry.count verb) }
     ensures placed { IfErr result (λ fault. IsPlaced reader.entry.cursor.whole.now fault) }
 {
-    check_verb(reader, address, negated)?;
-    let (verb, rest) = read_verb(alloc, reader.labels, reader.cursor)?;
+    let (form, behind) = check_verb(reader, address, negated)?;
+    let (verb, rest) = read_verb(alloc, reader.labels, form, behind)?;
     check_brace(&verb, reader.depth)?;
     Ok((verb, rest))
 }
@@ -139,7 +154,7 @@ pub fn read_command<'a>(
     ensures label { IfOk result (λ x. IsWrittenAt reader.entry.cursor.whole.now x.0.verb) }
     ensures located { IfOk result (λ x. IsOnlyLocation (length reader.entry.cursor.whole.now) (unread reader.entry.cursor) x.0.location) }
     ensures empty { IfOk result (λ x. IsEmptyAt reader.entry.cursor.whole.now (address_patterns (address_of x.0.address) ++ written_patterns (written_verb x.0.verb)) x.1) }
-    ensures refused { IfErr result (λ fault. fault ≢ ScriptFault.OutOfMemory → (given : clean.Address) (negated : Bool) (verb : WrittenVerb) (rest : List ℕ) → CommandText (unread reader.entry.cursor) given negated verb rest → DefinesKnown reader.entry.labels.now verb ⊎ IsBeyond reader.entry.depth reader.entry.count verb) }
+    ensures refused { IfErr result (λ fault. IsOfText fault → (given : clean.Address) (negated : Bool) (verb : WrittenVerb) (rest : List ℕ) → CommandText (unread reader.entry.cursor) given negated verb rest → DefinesKnown reader.entry.labels.now verb ⊎ IsBeyond reader.entry.depth reader.entry.count verb) }
     ensures placed { IfErr result (λ fault. IsPlaced reader.entry.cursor.whole.now fault) }
 {
     let start = reader.cursor;

@@ -1,15 +1,16 @@
 //! Parts between delimiters.
 
-ghost use Rattle.std.specs.Prelude.{◌≡◌, ◌≢◌, ◌<◌, ◌-◌, ◌∷◌, ℕ, List, IsTrue, IfOk, IfErr};
+ghost use Rattle.std.specs.Prelude.{◌≡◌, ◌<◌, ◌-◌, ◌∷◌, ℕ, List, IsTrue, IfOk, IfErr};
+ghost use Rattle.std.specs.Cow.{cow_slice_items};
 ghost use Rattle.sedck_text.specs.Bytes.{letter_y};
-ghost use Rattle.sedck_bre.specs.Faults.{IsOfText};
+ghost use Rattle.sedck_bre.specs.Faults as expressions;
 ghost use Rattle.sedck_script.specs.Cuts.{is_delimiter};
 ghost use Rattle.sedck_script.specs.Parts.{DelimitedExpression, begins_firmly, has_loose_quote, is_misread, ExpressionText, DelimitedList, FirstList};
-ghost use Rattle.sedck_script.specs.Faults.{StandsAt, IsRefusedExpression};
+ghost use Rattle.sedck_script.specs.Faults.{StandsAt, IsRefusedExpression, IsOfText};
 ghost use Rattle.sedck_text.specs.Cursors.{unread, Follows};
 ghost use Rattle.sedck_script.specs.Program as clean;
 ghost use Rattle.sedck_script.specs.View.{pattern_of};
-ghost use Rattle.sedck_script.specs.Private.PieceReading.{IsPiece, PatternText, IsFirstEscape, IsPartPlaced, list_escape};
+ghost use Rattle.sedck_script.specs.Private.PieceReading.{IsPiece, PatternText, IsWrittenUpTo, IsFirstEscape, IsPartPlaced, list_escape};
 ghost use Rattle.sedck_script.specs.declared.delimited.Piece.{Piece};
 
 use crate::bracket_lists::open_bracket;
@@ -19,6 +20,7 @@ use crate::script::Pattern;
 use sedck_bre::{ReFault, parse};
 use sedck_text::Cursor;
 use std::alloc::Global;
+use std::borrow::CowSlice;
 
 /// What a delimited part begins with.
 #[derive(Clone, Copy)]
@@ -83,28 +85,65 @@ fn list_escape(b: u8) -> Option<u8>
     }
 }
 
-/// The expression up to the first delimiter that no backslash escapes, with the escaped delimiters replaced, the place of the
-/// first of these, and what follows the expression.
+/// The expression up to the first delimiter that no backslash escapes, with the escaped delimiters replaced, the offset of the
+/// first of these, and what follows the expression. Only where there is one the bytes are copied.
 fn read_expression<'a>(
     alloc: Global,
     opening: usize,
     delimiter: u8,
     text: Cursor<'a>,
-) -> Result<(Vec<u8>, Option<usize>, Cursor<'a>), ScriptFault>
+) -> Result<(CowSlice<'a, u8>, Option<usize>, Cursor<'a>), ScriptFault>
     requires delimiter { IsTrue (is_delimiter delimiter) }
-    ensures read { IfOk result (λ x. DelimitedExpression delimiter (unread text.entry) x.0.items (unread x.2)) }
+    ensures read { IfOk result (λ x. DelimitedExpression delimiter (unread text.entry) (cow_slice_items x.0) (unread x.2)) }
     ensures same { IfOk result (λ x. x.2.whole ≡ text.entry.whole) }
-    ensures escape { IfOk result (λ x. IsFirstEscape delimiter text.entry.whole.now (unread text.entry) x.0.items (delimiter ∷ (unread x.2)) x.1) }
-    ensures refused { IfErr result (λ fault. fault ≢ ScriptFault.OutOfMemory → (expression : List ℕ) (rest : List ℕ) → DelimitedExpression delimiter (unread text.entry) expression rest → ⊥) }
+    ensures escape { IfOk result (λ x. IsFirstEscape delimiter text.entry.whole.now (unread text.entry) (cow_slice_items x.0) (delimiter ∷ (unread x.2)) x.1) }
+    ensures refused { IfErr result (λ fault. IsOfText fault → (expression : List ℕ) (rest : List ℕ) → DelimitedExpression delimiter (unread text.entry) expression rest → ⊥) }
     ensures placed { IfErr result (λ fault. IsPartPlaced opening text.entry.whole.now fault) }
 {
-    let mut bytes = Vec::new(alloc);
-    let mut escape = None;
     let mut rest = text;
+    'pieces: loop {
+        let (piece, behind) = read_piece(opening, delimiter, rest)?;
+        match piece {
+            Piece::End => {
+                let written = &text.unread()[..rest.offset() - text.offset()];
+                return Ok((CowSlice::Borrowed(written), None, behind));
+            }
+            Piece::Escaped => return read_replaced(alloc, opening, delimiter, text, rest),
+            Piece::Byte(_) => {}
+            Piece::Pair(b) => {
+                if b == b'\n' {
+                    return Err(ScriptFault::Unterminated { place: opening });
+                }
+            }
+        }
+        rest = behind;
+    }
+}
+
+/// The same where the bytes up to the second cursor have been read as they are written.
+fn read_replaced<'a>(
+    alloc: Global,
+    opening: usize,
+    delimiter: u8,
+    text: Cursor<'a>,
+    behind_written: Cursor<'a>,
+) -> Result<(CowSlice<'a, u8>, Option<usize>, Cursor<'a>), ScriptFault>
+    requires delimiter { IsTrue (is_delimiter delimiter) }
+    requires written { IsWrittenUpTo delimiter text behind_written }
+    ensures read { IfOk result (λ x. DelimitedExpression delimiter (unread text.entry) (cow_slice_items x.0) (unread x.2)) }
+    ensures same { IfOk result (λ x. x.2.whole ≡ text.entry.whole) }
+    ensures escape { IfOk result (λ x. IsFirstEscape delimiter text.entry.whole.now (unread text.entry) (cow_slice_items x.0) (delimiter ∷ (unread x.2)) x.1) }
+    ensures refused { IfErr result (λ fault. IsOfText fault → (expression : List ℕ) (rest : List ℕ) → DelimitedExpression delimiter (unread text.entry) expression rest → ⊥) }
+    ensures placed { IfErr result (λ fault. IsPartPlaced opening text.entry.whole.now fault) }
+{
+    let written = &text.unread()[..behind_written.offset() - text.offset()];
+    let mut bytes = Vec::from_slice(alloc, written)?;
+    let mut escape = None;
+    let mut rest = behind_written;
     loop {
         let (piece, behind) = read_piece(opening, delimiter, rest)?;
         match piece {
-            Piece::End => return Ok((bytes, escape, behind)),
+            Piece::End => return Ok((CowSlice::Owned(bytes), escape, behind)),
             Piece::Byte(b) => bytes.push(b)?,
             Piece::Escaped => {
                 escape = escape.or(Some(rest.offset()));
@@ -166,27 +205,27 @@ fn read_expression_text<'a>(
     opening: usize,
     delimiter: u8,
     text: Cursor<'a>,
-) -> Result<(Vec<u8>, Cursor<'a>), ScriptFault>
+) -> Result<(CowSlice<'a, u8>, Cursor<'a>), ScriptFault>
     requires delimiter { IsTrue (is_delimiter delimiter) }
     requires opened { Follows text delimiter }
-    ensures read { IfOk result (λ x. ExpressionText delimiter (unread text.entry) x.0.items (unread x.1)) }
+    ensures read { IfOk result (λ x. ExpressionText delimiter (unread text.entry) (cow_slice_items x.0) (unread x.1)) }
     ensures same { IfOk result (λ x. x.1.whole ≡ text.entry.whole) }
-    ensures refused { IfErr result (λ fault. fault ≢ ScriptFault.OutOfMemory → (expression : List ℕ) (rest : List ℕ) → ExpressionText delimiter (unread text.entry) expression rest → ⊥) }
+    ensures refused { IfErr result (λ fault. IsOfText fault → (expression : List ℕ) (rest : List ℕ) → ExpressionText delimiter (unread text.entry) expression rest → ⊥) }
     ensures placed { IfErr result (λ fault. IsPartPlaced opening text.entry.whole.now fault) }
 {
     let (bytes, escape, rest) = read_expression(alloc, opening, delimiter, text)?;
     if let Some(place) = escape {
-        if is_misread(delimiter, &bytes) {
+        if is_misread(delimiter, bytes.as_slice()) {
             return Err(ScriptFault::EscapedDelimiter { place });
         }
     }
     Ok((bytes, rest))
 }
 
-/// The fault of an expression that begins at the place.
+/// The fault of an expression that begins at the offset.
 fn expression_fault(place: usize, fault: ReFault) -> ScriptFault
-    ensures memory { result ≢ ScriptFault.OutOfMemory → IsOfText fault }
-    ensures placed { (text : List ℕ) (opening : ℕ) → (IsOfText fault → IsRefusedExpression text place fault) → IsPartPlaced opening text result }
+    ensures memory { IsOfText result → expressions.IsOfText fault }
+    ensures placed { (text : List ℕ) (opening : ℕ) → (expressions.IsOfText fault → IsRefusedExpression text place fault) → IsPartPlaced opening text result }
 {
     match fault {
         ReFault::OutOfMemory => ScriptFault::OutOfMemory,
@@ -206,14 +245,15 @@ pub fn read_pattern<'a>(
     ensures read { IfOk result (λ x. PatternText delimiter (unread text.entry) (pattern_of x.0) (unread x.1)) }
     ensures same { IfOk result (λ x. x.1.whole ≡ text.entry.whole) }
     ensures only { IfOk result (λ x. (p : clean.Pattern) (rest : List ℕ) → PatternText delimiter (unread text.entry) p rest → (p ≡ pattern_of x.0) × (rest ≡ (unread x.1))) }
-    ensures refused { IfErr result (λ fault. fault ≢ ScriptFault.OutOfMemory → (p : clean.Pattern) (rest : List ℕ) → PatternText delimiter (unread text.entry) p rest → ⊥) }
+    ensures refused { IfErr result (λ fault. IsOfText fault → (p : clean.Pattern) (rest : List ℕ) → PatternText delimiter (unread text.entry) p rest → ⊥) }
     ensures placed { IfErr result (λ fault. IsPartPlaced opening text.entry.whole.now fault) }
 {
     let (bytes, rest) = read_expression_text(alloc, opening, delimiter, text)?;
+    let bytes = bytes.as_slice();
     if bytes.is_empty() {
         return Ok((Pattern::Previous, rest));
     }
-    match parse(alloc, &bytes) {
+    match parse(alloc, bytes) {
         Ok(expression) => Ok((Pattern::Expr(expression), rest)),
         Err(fault) => Err(expression_fault(text.offset(), fault)),
     }
@@ -229,7 +269,7 @@ pub fn read_list<'a>(
     requires delimiter { IsTrue (is_delimiter delimiter) }
     ensures read { IfOk result (λ x. DelimitedList delimiter (unread text.entry) x.0.items (unread x.1)) }
     ensures same { IfOk result (λ x. x.1.whole ≡ text.entry.whole) }
-    ensures refused { IfErr result (λ fault. fault ≢ ScriptFault.OutOfMemory → (bytes : List ℕ) (rest : List ℕ) → DelimitedList delimiter (unread text.entry) bytes rest → ⊥) }
+    ensures refused { IfErr result (λ fault. IsOfText fault → (bytes : List ℕ) (rest : List ℕ) → DelimitedList delimiter (unread text.entry) bytes rest → ⊥) }
     ensures placed { IfErr result (λ fault. IsPartPlaced opening text.entry.whole.now fault) }
 {
     let mut bytes = Vec::new(alloc);
@@ -268,7 +308,7 @@ pub fn read_first_list<'a>(
     requires verb { (1 < text.at) × StandsAt text.whole.now (text.at - 2) letter_y }
     ensures read { IfOk result (λ x. FirstList delimiter (unread text.entry) x.0.items (unread x.1)) }
     ensures same { IfOk result (λ x. x.1.whole ≡ text.entry.whole) }
-    ensures refused { IfErr result (λ fault. fault ≢ ScriptFault.OutOfMemory → (bytes : List ℕ) (rest : List ℕ) → FirstList delimiter (unread text.entry) bytes rest → ⊥) }
+    ensures refused { IfErr result (λ fault. IsOfText fault → (bytes : List ℕ) (rest : List ℕ) → FirstList delimiter (unread text.entry) bytes rest → ⊥) }
     ensures placed { IfErr result (λ fault. IsPartPlaced opening text.entry.whole.now fault) }
 {
     let (bytes, rest) = read_list(alloc, opening, delimiter, text)?;

@@ -1,13 +1,13 @@
 //! Items of a script.
 
-ghost use Rattle.std.specs.Prelude.{false, ◌≡◌, ◌≢◌, ◌<◌, ◌≤◌, ◌+◌, ◌++◌, [], ◌∷◌, ℕ, List, length, map, IfOk, IfErr, OnOk};
+ghost use Rattle.std.specs.Prelude.{false, ◌≡◌, ◌<◌, ◌≤◌, ◌+◌, ◌++◌, [], ◌∷◌, ℕ, List, length, map, IfOk, IfErr, OnOk};
 ghost use Rattle.std.specs.Option.{option_or};
 ghost use Rattle.sedck_text.specs.Bytes.{closing_brace};
 ghost use Rattle.sedck_script.specs.Cuts.{is_separator};
 ghost use Rattle.sedck_text.specs.Cursors.{unread};
 ghost use Rattle.sedck_script.specs.Items.{Item, Items};
 ghost use Rattle.sedck_script.specs.Locations.{locations_of};
-ghost use Rattle.sedck_script.specs.Faults.{IsPlaced};
+ghost use Rattle.sedck_script.specs.Faults.{IsPlaced, IsOfText};
 ghost use Rattle.sedck_script.specs.Private.Progress.{IsProgress, HasNoItems, BeginsCommand, NotesLabel, NotesBlock};
 ghost use Rattle.sedck_script.specs.Private.VerbReading.{written_verb};
 ghost use Rattle.sedck_script.specs.Private.ItemReading.{item_of, verb_turn, locations_in, Nests};
@@ -18,8 +18,7 @@ use crate::ends::end_of_command;
 use crate::fault::ScriptFault;
 use crate::label_places::add_label;
 use crate::reader::Reader;
-use crate::verbs::Written;
-use crate::written::{WrittenCommand, WrittenItem};
+use crate::written::{Written, WrittenCommand, WrittenItem};
 use indexmap::IndexMap;
 use sedck_text::{Class, Cursor};
 use std::alloc::Global;
@@ -50,7 +49,7 @@ fn close_block<'a>(
     ensures progress { IfOk result (λ rest. IsProgress begins.entry.whole.now (unread rest) progress.new) }
     ensures same { IfOk result (λ rest. rest.whole ≡ begins.entry.whole) }
     ensures shorter { IfOk result (λ rest. length (unread rest) < length (unread begins.entry)) }
-    ensures refused { IfErr result (λ fault. fault ≢ ScriptFault.OutOfMemory → HasNoItems begins.entry.whole.now) }
+    ensures refused { IfErr result (λ fault. IsOfText fault → HasNoItems begins.entry.whole.now) }
     ensures placed { IfErr result (λ fault. IsPlaced begins.entry.whole.now fault) }
 {
     let Some(_) = progress.open_blocks.pop() else {
@@ -137,7 +136,7 @@ fn add_command<'a>(
     ensures progress { IfOk result (λ rest. IsProgress begins.entry.whole.now (unread rest) progress.new) }
     ensures same { IfOk result (λ rest. rest.whole ≡ begins.entry.whole) }
     ensures shorter { IfOk result (λ rest. length (unread rest) < length (unread begins.entry)) }
-    ensures refused { IfErr result (λ fault. fault ≢ ScriptFault.OutOfMemory → HasNoItems begins.entry.whole.now) }
+    ensures refused { IfErr result (λ fault. IsOfText fault → HasNoItems begins.entry.whole.now) }
     ensures placed { IfErr result (λ fault. IsPlaced begins.entry.whole.now fault) }
 {
     let reader = Reader {
@@ -167,7 +166,7 @@ fn read_item<'a>(
     ensures progress { IfOk result (λ rest. IsProgress begins.entry.whole.now (unread rest) progress.new) }
     ensures same { IfOk result (λ rest. rest.whole ≡ begins.entry.whole) }
     ensures shorter { IfOk result (λ rest. length (unread rest) < length (unread begins.entry)) }
-    ensures refused { IfErr result (λ fault. fault ≢ ScriptFault.OutOfMemory → HasNoItems begins.entry.whole.now) }
+    ensures refused { IfErr result (λ fault. IsOfText fault → HasNoItems begins.entry.whole.now) }
     ensures placed { IfErr result (λ fault. IsPlaced begins.entry.whole.now fault) }
 {
     if first == b'#' {
@@ -185,7 +184,7 @@ pub fn read_items<'a>(alloc: Global, text: &'a [u8]) -> Result<Progress<'a>, Scr
     ensures located { IfOk result (λ progress. (all : List Item) (spelled : Items text.now all) → locations_in progress.items.items ≡ locations_of (length text.now) spelled) }
     ensures nests { IfOk result (λ progress. Nests (map item_of progress.items.items) 0) }
     ensures progress { IfOk result (λ progress. (rest : List ℕ) × IsProgress text.now rest progress) }
-    ensures refused { IfErr result (λ fault. fault ≢ ScriptFault.OutOfMemory → HasNoItems text.now) }
+    ensures refused { IfErr result (λ fault. IsOfText fault → HasNoItems text.now) }
     ensures placed { IfErr result (λ fault. IsPlaced text.now fault) }
 {
     let mut progress = Progress {

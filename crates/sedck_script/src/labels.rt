@@ -21,18 +21,18 @@ use sedck_text::{Class, Cursor};
 pub struct Jump<'a> {
     pub label: Option<&'a [u8]>,
     /// The offset of the label's first byte, or of what is there where it is missing.
-    pub place: usize,
+    pub offset: usize,
     /// The offset of a `}` that is right after the label.
     pub brace: Option<usize>,
 }
 
-/// The bytes of a label after blanks, their place, and what follows them. There may be none.
+/// The bytes of a label after blanks, their offset, and what follows them. There may be none.
 fn split_label<'a>(text: Cursor<'a>) -> (&'a [u8], usize, Cursor<'a>)
     requires { IsBehindVerb (one_of ":bt") text }
     ensures parts { IsLabelAt (unread text.entry) result.0.now (unread result.2) }
     ensures same { result.2.whole ≡ text.entry.whole }
     ensures behind { IsBehindLabel result.2 }
-    ensures place { result.1 + length result.0.now ≡ result.2.at }
+    ensures offset { result.1 + length result.0.now ≡ result.2.at }
     ensures label { (test : ℕ → Bool) → IsBehindVerb test text.entry → 0 < length result.0.now → IsLabelBehind test text.entry.whole.now result.1 result.0.now }
 {
     let begins = text.skip(Class::Blank);
@@ -57,7 +57,7 @@ fn check_behind_definition<'a>(behind: Cursor<'a>) -> Result<(), ScriptFault>
     Ok(())
 }
 
-/// The label that is defined, its place, and what follows it.
+/// The label that is defined, its offset, and what follows it.
 pub fn read_definition<'a>(text: Cursor<'a>) -> Result<(&'a [u8], usize, Cursor<'a>), ScriptFault>
     requires { IsBehindVerb (one_of ":") text }
     ensures read { IfOk result (λ x. LabelText (unread text.entry) x.0.now (unread x.2) × IsNoBrace (unread x.2)) }
@@ -66,12 +66,12 @@ pub fn read_definition<'a>(text: Cursor<'a>) -> Result<(&'a [u8], usize, Cursor<
     ensures refused { IfErr result (λ fault. (name : List ℕ) (behind : List ℕ) (rest : List ℕ) → LabelText (unread text.entry) name behind → IsNoBrace behind → Ends behind rest → ⊥) }
     ensures placed { IfErr result (λ fault. IsPlaced text.entry.whole.now fault) }
 {
-    let (name, place, behind) = split_label(text);
+    let (name, offset, behind) = split_label(text);
     if name.is_empty() {
-        return Err(ScriptFault::BadLabel { place });
+        return Err(ScriptFault::BadLabel { place: offset });
     }
     check_behind_definition(behind)?;
-    Ok((name, place, behind))
+    Ok((name, offset, behind))
 }
 
 /// Whether the label of a branch may end here.
@@ -162,7 +162,7 @@ pub fn read_jump<'a>(text: Cursor<'a>) -> Result<(Jump<'a>, Cursor<'a>), ScriptF
     ensures refused { IfErr result (λ fault. (label : Option (List ℕ)) (braced : Bool) (rest : List ℕ) → BranchText (unread text.entry) label braced rest → ⊥) }
     ensures placed { IfErr result (λ fault. IsPlaced text.entry.whole.now fault) }
 {
-    let (name, place, behind) = split_label(text);
+    let (name, offset, behind) = split_label(text);
     let brace = brace_behind(behind);
     let (label, rest) = if name.is_empty() {
         check_no_label(behind)?;
@@ -173,7 +173,7 @@ pub fn read_jump<'a>(text: Cursor<'a>) -> Result<(Jump<'a>, Cursor<'a>), ScriptF
     };
     let jump = Jump {
         label,
-        place,
+        offset,
         brace,
     };
     Ok((jump, rest))

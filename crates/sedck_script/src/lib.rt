@@ -27,6 +27,7 @@ mod ends;
 mod expressions;
 mod fault;
 mod flags;
+mod forms;
 mod items;
 mod label_places;
 mod labels;

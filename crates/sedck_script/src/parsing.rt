@@ -1,6 +1,6 @@
 //! From a text to the script that it spells.
 
-ghost use Rattle.std.specs.Prelude.{◌≡◌, ◌≢◌, ℕ, ◌<◌, ◌≤◌, true, false, Some, List, Err, length, map, IfOk, IfErr, OnOk, OnErr};
+ghost use Rattle.std.specs.Prelude.{◌≡◌, ℕ, ◌<◌, ◌≤◌, true, false, Some, List, Err, length, map, IfOk, IfErr, OnOk, OnErr};
 ghost use Rattle.sedck_script.specs.Program.{Program, expressions};
 ghost use Rattle.sedck_script.specs.Private.ExpressionReading.{has_some};
 ghost use Rattle.sedck_script.specs.Spelling.{IsScriptText, AreCommands, Spells};
@@ -9,7 +9,7 @@ ghost use Rattle.sedck_script.specs.Locations.{locations_of, AreInOrder};
 ghost use Rattle.sedck_script.specs.Private.ItemReading.{item_of, Nests};
 ghost use Rattle.sedck_script.specs.Private.Progress.{IsProgress};
 ghost use Rattle.sedck_script.specs.View.{command_of};
-ghost use Rattle.sedck_script.specs.Faults.{IsPlaced, IsFirstZero};
+ghost use Rattle.sedck_script.specs.Faults.{IsPlaced, IsFirstZero, IsOfText};
 
 use crate::expressions::{has_expression, is_quiet};
 use crate::fault::ScriptFault;
@@ -64,7 +64,7 @@ fn commands<'a>(
     requires nests { Nests (map item_of progress.items.items) 0 }
     requires progress { (rest : List ℕ) × IsProgress text.now rest progress }
     ensures read { IfOk result (λ commands. AreCommands (map item_of progress.entry.items.items) (map command_of commands.items)) }
-    ensures refused { IfErr result (λ fault. fault ≢ ScriptFault.OutOfMemory → (other : Program) → Spells text.now other → ⊥) }
+    ensures refused { IfErr result (λ fault. IsOfText fault → (other : Program) → Spells text.now other → ⊥) }
     ensures placed { IfErr result (λ fault. IsPlaced text.now fault) }
 {
     let Progress {
@@ -91,7 +91,7 @@ fn script<'a>(
     requires progress { (rest : List ℕ) × IsProgress text.now rest progress }
     ensures spelled { IfOk result (λ script. Spells text.now script) }
     ensures only { IfOk result (λ script. (other : Program) → Spells text.now other → other ≡ script) }
-    ensures refused { IfErr result (λ fault. fault ≢ ScriptFault.OutOfMemory → (other : Program) → Spells text.now other → ⊥) }
+    ensures refused { IfErr result (λ fault. IsOfText fault → (other : Program) → Spells text.now other → ⊥) }
     ensures placed { IfErr result (λ fault. IsPlaced text.now fault) }
 {
     let commands = commands(alloc, text, progress)?;
@@ -107,7 +107,7 @@ fn script<'a>(
 pub fn parse<'a>(alloc: Global, text: &'a [u8]) -> Result<Script<'a>, ScriptFault>
     ensures spelled { IfOk result (λ script. Spells text.now script) }
     ensures only { IfOk result (λ script. (other : Program) → Spells text.now other → other ≡ script) }
-    ensures refused { IfErr result (λ fault. fault ≢ ScriptFault.OutOfMemory → (other : Program) → Spells text.now other → ⊥) }
+    ensures refused { IfErr result (λ fault. IsOfText fault → (other : Program) → Spells text.now other → ⊥) }
     ensures placed { IfErr result (λ fault. IsPlaced text.now fault) }
     ensures too_long { TEXT_LIMIT < length text.now → result ≡ Err (ScriptFault.TooLong TEXT_LIMIT) }
     ensures zero { (place : ℕ) → length text.now ≤ TEXT_LIMIT → IsFirstZero text.now place → result ≡ Err (ScriptFault.NulByte place) }
@@ -134,7 +134,7 @@ pub fn locate<'a>(alloc: Global, text: &'a [u8]) -> Result<Located<'a>, ScriptFa
     ensures count { IfOk result (λ located. length located.locations.items ≡ length located.script.commands) }
     ensures locations { IfOk result (λ located. (items : List Item) (spelled : Items text.now items) → located.locations.items ≡ locations_of (length text.now) spelled) }
     ensures order { IfOk result (λ located. AreInOrder 0 (length text.now) located.locations.items) }
-    ensures refused { IfErr result (λ fault. fault ≢ ScriptFault.OutOfMemory → (other : Program) → Spells text.now other → ⊥) }
+    ensures refused { IfErr result (λ fault. IsOfText fault → (other : Program) → Spells text.now other → ⊥) }
     ensures placed { IfErr result (λ fault. IsPlaced text.now fault) }
     ensures too_long { TEXT_LIMIT < length text.now → result ≡ Err (ScriptFault.TooLong TEXT_LIMIT) }
     ensures zero { (place : ℕ) → length text.now ≤ TEXT_LIMIT → IsFirstZero text.now place → result ≡ Err (ScriptFault.NulByte place) }

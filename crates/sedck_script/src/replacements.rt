@@ -1,6 +1,7 @@
 //! Replacements of `s`.
 
-ghost use Rattle.std.specs.Prelude.{◌≡◌, ◌≢◌, ◌≤◌, ◌<◌, ℕ, List, [], ◌∷◌, length, map, option_map, IsTrue, IfOk, IfErr, IfSome, IfNone};
+ghost use Rattle.std.specs.Prelude.{◌≡◌, ◌≤◌, ◌<◌, ℕ, List, [], ◌∷◌, length, map, option_map, IsTrue, IfOk, IfErr, IfSome, IfNone};
+ghost use Rattle.sedck_script.specs.Faults.{IsOfText};
 ghost use Rattle.sedck_script.specs.Cuts.{is_delimiter, Longest};
 ghost use Rattle.sedck_script.specs.Program as clean;
 ghost use Rattle.sedck_script.specs.Parts.{EscapedPart, Replacement, is_plain, greatest_group};
@@ -97,7 +98,7 @@ pub fn read_replacement<'a>(
     ensures read { IfOk result (λ x. Replacement delimiter (unread text.entry) (map part_of x.0.items) (unread x.1)) }
     ensures same { IfOk result (λ x. x.1.whole ≡ text.entry.whole) }
     ensures groups { IfOk result (λ x. HasGroupsUpTo greatest (map part_of x.0.items)) }
-    ensures refused { IfErr result (λ fault. fault ≢ ScriptFault.OutOfMemory → (parts : List clean.Part) (rest : List ℕ) → Replacement delimiter (unread text.entry) parts rest → HasGroupsUpTo greatest parts → ⊥) }
+    ensures refused { IfErr result (λ fault. IsOfText fault → (parts : List clean.Part) (rest : List ℕ) → Replacement delimiter (unread text.entry) parts rest → HasGroupsUpTo greatest parts → ⊥) }
     ensures placed { IfErr result (λ fault. IsPartPlaced opening text.entry.whole.now fault) }
 {
     let mut parts = Vec::new(alloc);

@@ -1,9 +1,9 @@
 //! From items to commands: the places that branches, tests and blocks lead to.
 
-ghost use Rattle.std.specs.Prelude.{◌≡◌, ◌≢◌, ◌⊎◌, ℕ, List, [], IfNone, IfSome, Some, None, length, map, All, Any, IfOk, IfErr, OnOk, OnErr, option_copied};
+ghost use Rattle.std.specs.Prelude.{◌≡◌, ◌⊎◌, ℕ, List, [], IfNone, IfSome, Some, None, length, map, All, Any, IfOk, IfErr, OnOk, OnErr, option_copied};
 ghost use Rattle.sedck_script.specs.View as view;
 ghost use Rattle.sedck_text.specs.Text.{one_of};
-ghost use Rattle.sedck_script.specs.Faults.{IsLabelBehind};
+ghost use Rattle.sedck_script.specs.Faults.{IsLabelBehind, IsOfText};
 ghost use Rattle.sedck_script.specs.Resolution.{Resolves};
 ghost use Rattle.sedck_script.specs.Private.Reading.{HasLabels, IsUnknownLabel};
 ghost use Rattle.sedck_script.specs.Private.VerbReading.{written_verb, IsWrittenAt};
@@ -13,8 +13,7 @@ use crate::fault::ScriptFault;
 use crate::label_places::place_of;
 use crate::labels::Jump;
 use crate::script::{Command, Verb};
-use crate::verbs::Written;
-use crate::written::{WrittenCommand, WrittenItem};
+use crate::written::{Written, WrittenCommand, WrittenItem};
 use indexmap::IndexMap;
 use std::alloc::Global;
 
@@ -67,7 +66,7 @@ fn block_target(verb: &Written, targets: &mut Vec<usize>, end: usize) -> usize
     end
 }
 
-/// The label of a branch or a test, and its place.
+/// The label of a branch or a test, and its offset.
 fn label_of<'a>(item: &WrittenItem<'a>) -> Option<(&'a [u8], usize)>
     ensures none { IfNone result (item_label (item_of item.now) ≡ None) }
     ensures some { IfSome result (λ x. item_label (item_of item.now) ≡ Some x.0.now) }
@@ -77,8 +76,8 @@ fn label_of<'a>(item: &WrittenItem<'a>) -> Option<(&'a [u8], usize)>
         return None;
     };
     match &command.verb {
-        Written::BranchTo(Jump { label, place, .. }) => label.map(|name| (name, *place)),
-        Written::TestTo(Jump { label, place, .. }) => label.map(|name| (name, *place)),
+        Written::BranchTo(Jump { label, offset, .. }) => label.map(|name| (name, *offset)),
+        Written::TestTo(Jump { label, offset, .. }) => label.map(|name| (name, *offset)),
         Written::Known(_) | Written::Label(_) | Written::Opening => None,
     }
 }
@@ -89,9 +88,9 @@ fn check_target(item: &WrittenItem, labels: &IndexMap<&[u8], usize>) -> Result<(
     ensures lost { OnErr result (IsLostLabel labels.now (item_label (item_of item.now))) }
     ensures placed { IfErr result (λ fault. (text : List ℕ) → IsItemAt text item.now → IsUnknownLabel labels.now text fault) }
 {
-    if let Some((name, place)) = label_of(item) {
+    if let Some((name, offset)) = label_of(item) {
         if place_of(labels, name).is_none() {
-            return Err(ScriptFault::UnknownLabel { place });
+            return Err(ScriptFault::UnknownLabel { place: offset });
         }
     }
     Ok(())
@@ -120,7 +119,7 @@ pub fn linked<'a>(
     requires nests { Nests (map item_of items.items) 0 }
     requires end { end ≡ length (commands_among (map item_of items.items)) }
     ensures resolved { IfOk result (λ v. Resolves (map view.command_of v.items) [] 0 (map item_of items.entry.items) (map view.command_of v.items)) }
-    ensures lost { IfErr result (λ fault. fault ≢ ScriptFault.OutOfMemory → Any (λ item. IsLostLabel labels.now (item_label (item_of item))) items.entry.items) }
+    ensures lost { IfErr result (λ fault. IsOfText fault → Any (λ item. IsLostLabel labels.now (item_label (item_of item))) items.entry.items) }
     ensures placed { IfErr result (λ fault. (text : List ℕ) → All (IsItemAt text) items.entry.items → (fault ≡ ScriptFault.OutOfMemory) ⊎ IsUnknownLabel labels.now text fault) }
 {
     check_targets(&items, labels)?;

@@ -1,15 +1,14 @@
 //! The verbs with delimited parts: `s` and `y`.
 
-ghost use Rattle.std.specs.Prelude.{◌≡◌, ◌≢◌, ◌<◌, ◌-◌, ℕ, List, ◌∷◌, length, drop, IsTrue, IfOk, IfErr};
+ghost use Rattle.std.specs.Prelude.{◌≡◌, ◌≢◌, ◌<◌, ◌-◌, ℕ, List, ◌∷◌, length, IsTrue, IfOk, IfErr};
 ghost use Rattle.sedck_text.specs.Bytes.{letter_s, letter_y};
 ghost use Rattle.sedck_script.specs.Cuts.{is_delimiter};
 ghost use Rattle.sedck_script.specs.Program as clean;
 ghost use Rattle.sedck_script.specs.Items.{WrittenVerb, Known, VerbText};
-ghost use Rattle.sedck_script.specs.Faults.{StandsAt, IsPlaced};
+ghost use Rattle.sedck_script.specs.Faults.{StandsAt, IsPlaced, IsOfText};
 ghost use Rattle.sedck_script.specs.Private.PieceReading.{IsPartPlaced};
 ghost use Rattle.sedck_text.specs.Cursors.{unread, IsAhead, Follows};
-ghost use Rattle.sedck_script.specs.Private.VerbReading.{AreLists};
-ghost use Rattle.sedck_script.specs.View.{verb_of};
+ghost use Rattle.sedck_script.specs.Private.VerbReading.{AreLists, IsWrittenAt, written_verb};
 
 use crate::bytes::is_delimiter;
 use crate::delimited::{read_first_list, read_list, read_pattern};
@@ -19,6 +18,7 @@ use crate::flags::read_flags;
 use crate::references::{literal_length, outside_of};
 use crate::replacements::{greatest_group, read_replacement};
 use crate::script::{Substitution, Verb};
+use crate::written::Written;
 use sedck_text::Cursor;
 use std::alloc::Global;
 
@@ -42,21 +42,21 @@ fn split_delimiter<'a>(opening: usize, text: Cursor<'a>) -> Result<(u8, Cursor<'
 /// What a `s` takes, and the rest of the text from its end on.
 pub fn read_substitution<'a>(
     alloc: Global,
-    place: usize,
     text: Cursor<'a>,
-) -> Result<(Verb<'a>, Cursor<'a>), ScriptFault>
-    requires stands { StandsAt text.whole.now place letter_s }
-    requires here { drop place text.whole.now ≡ letter_s ∷ unread text }
-    ensures read { IfOk result (λ x. VerbText (letter_s ∷ unread text.entry) (Known (verb_of x.0)) (unread x.1)) }
+) -> Result<(Written<'a>, Cursor<'a>), ScriptFault>
+    requires { Follows text letter_s }
+    ensures read { IfOk result (λ x. VerbText (letter_s ∷ unread text.entry) (written_verb x.0) (unread x.1)) }
     ensures same { IfOk result (λ x. x.1.whole ≡ text.entry.whole) }
-    ensures plain { IfOk result (λ x. (name : List ℕ) → verb_of x.0 ≢ clean.Label name) }
-    ensures refused { IfErr result (λ fault. fault ≢ ScriptFault.OutOfMemory → (verb : WrittenVerb) (rest : List ℕ) → VerbText (letter_s ∷ unread text.entry) verb rest → ⊥) }
+    ensures no_label { IfOk result (λ x. (name : List ℕ) → written_verb x.0 ≢ Known (clean.Label name)) }
+    ensures label { IfOk result (λ x. IsWrittenAt text.entry.whole.now x.0) }
+    ensures refused { IfErr result (λ fault. IsOfText fault → (verb : WrittenVerb) (rest : List ℕ) → VerbText (letter_s ∷ unread text.entry) verb rest → ⊥) }
     ensures placed { IfErr result (λ fault. IsPlaced text.entry.whole.now fault) }
 {
-    let (delimiter, opened) = split_delimiter(place, text)?;
-    let (pattern, behind) = read_pattern(alloc, place, delimiter, opened)?;
+    let opening = text.offset() - 1;
+    let (delimiter, opened) = split_delimiter(opening, text)?;
+    let (pattern, behind) = read_pattern(alloc, opening, delimiter, opened)?;
     let greatest = greatest_group(&pattern);
-    let (parts, after) = read_replacement(alloc, place, delimiter, greatest, behind)?;
+    let (parts, after) = read_replacement(alloc, opening, delimiter, greatest, behind)?;
     let (seen, file, rest) = read_flags(after)?;
     let outside = outside_of(&pattern, &parts);
     let literal = literal_length(&parts);
@@ -70,29 +70,29 @@ pub fn read_substitution<'a>(
         outside,
         literal,
     };
-    Ok((Verb::Substitute(substitution), rest))
+    Ok((Written::Known(Verb::Substitute(substitution)), rest))
 }
 
 /// The two lists of a `y`, which are equally long, and what follows them.
 fn read_lists<'a>(
     alloc: Global,
-    place: usize,
+    opening: usize,
     delimiter: u8,
     text: Cursor<'a>,
 ) -> Result<(Vec<u8>, Vec<u8>, Cursor<'a>), ScriptFault>
     requires delimiter { IsTrue (is_delimiter delimiter) }
     requires opened { Follows text delimiter }
     requires verb { (1 < text.at) × StandsAt text.whole.now (text.at - 2) letter_y }
-    requires stands { StandsAt text.whole.now place letter_y }
+    requires stands { StandsAt text.whole.now opening letter_y }
     ensures read { IfOk result (λ x. AreLists delimiter (unread text.entry) x.0.items x.1.items (unread x.2)) }
     ensures same { IfOk result (λ x. x.2.whole ≡ text.entry.whole) }
-    ensures refused { IfErr result (λ fault. fault ≢ ScriptFault.OutOfMemory → (from to rest : List ℕ) → AreLists delimiter (unread text.entry) from to rest → ⊥) }
-    ensures placed { IfErr result (λ fault. IsPartPlaced place text.entry.whole.now fault) }
+    ensures refused { IfErr result (λ fault. IsOfText fault → (from to rest : List ℕ) → AreLists delimiter (unread text.entry) from to rest → ⊥) }
+    ensures placed { IfErr result (λ fault. IsPartPlaced opening text.entry.whole.now fault) }
 {
-    let (from, behind) = read_first_list(alloc, place, delimiter, text)?;
-    let (to, rest) = read_list(alloc, place, delimiter, behind)?;
+    let (from, behind) = read_first_list(alloc, opening, delimiter, text)?;
+    let (to, rest) = read_list(alloc, opening, delimiter, behind)?;
     if from.len() != to.len() {
-        return Err(ScriptFault::BadTransliteration { place });
+        return Err(ScriptFault::BadTransliteration { place: opening });
     }
     Ok((from, to, rest))
 }
@@ -100,19 +100,19 @@ fn read_lists<'a>(
 /// What a `y` takes, and the rest of the text from its end on.
 pub fn read_transliteration<'a>(
     alloc: Global,
-    place: usize,
     text: Cursor<'a>,
-) -> Result<(Verb<'a>, Cursor<'a>), ScriptFault>
-    requires stands { StandsAt text.whole.now place letter_y }
-    requires here { drop place text.whole.now ≡ letter_y ∷ unread text }
-    ensures read { IfOk result (λ x. VerbText (letter_y ∷ unread text.entry) (Known (verb_of x.0)) (unread x.1)) }
+) -> Result<(Written<'a>, Cursor<'a>), ScriptFault>
+    requires { Follows text letter_y }
+    ensures read { IfOk result (λ x. VerbText (letter_y ∷ unread text.entry) (written_verb x.0) (unread x.1)) }
     ensures same { IfOk result (λ x. x.1.whole ≡ text.entry.whole) }
-    ensures plain { IfOk result (λ x. (name : List ℕ) → verb_of x.0 ≢ clean.Label name) }
-    ensures refused { IfErr result (λ fault. fault ≢ ScriptFault.OutOfMemory → (verb : WrittenVerb) (rest : List ℕ) → VerbText (letter_y ∷ unread text.entry) verb rest → ⊥) }
+    ensures no_label { IfOk result (λ x. (name : List ℕ) → written_verb x.0 ≢ Known (clean.Label name)) }
+    ensures label { IfOk result (λ x. IsWrittenAt text.entry.whole.now x.0) }
+    ensures refused { IfErr result (λ fault. IsOfText fault → (verb : WrittenVerb) (rest : List ℕ) → VerbText (letter_y ∷ unread text.entry) verb rest → ⊥) }
     ensures placed { IfErr result (λ fault. IsPlaced text.entry.whole.now fault) }
 {
-    let (delimiter, opened) = split_delimiter(place, text)?;
-    let (from, to, after) = read_lists(alloc, place, delimiter, opened)?;
+    let opening = text.offset() - 1;
+    let (delimiter, opened) = split_delimiter(opening, text)?;
+    let (from, to, after) = read_lists(alloc, opening, delimiter, opened)?;
     let rest = end_of_command(after)?;
-    Ok((Verb::Transliterate(from, to), rest))
+    Ok((Written::Known(Verb::Transliterate(from, to)), rest))
 }

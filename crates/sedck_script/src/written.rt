@@ -1,8 +1,18 @@
-//! Items of a script as they are written.
+//! Verbs, commands and items of a script as they are written.
 
+use crate::labels::Jump;
 use crate::location::Location;
-use crate::script::Address;
-use crate::verbs::Written;
+use crate::script::{Address, Verb};
+
+/// A verb as it is written.
+#[derive(Drop)]
+pub enum Written<'a> {
+    Known(Verb<'a>),
+    Label(&'a [u8]),
+    BranchTo(Jump<'a>),
+    TestTo(Jump<'a>),
+    Opening,
+}
 
 /// A command whose label hasn't become a place yet.
 #[derive(Drop)]

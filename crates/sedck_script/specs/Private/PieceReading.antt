@@ -2,7 +2,9 @@
 use Rattle.std.specs.Prelude.{◌≡◌, ◌≢◌, ℕ, ◌==◌, List, ◌∷◌, ◌++◌, drop, Option, Some, None, IsTrue, if◌then◌else◌}
 use Rattle.sedck_script.specs.Cuts.{newline, backslash, can_be_escaped}
 use Rattle.sedck_script.specs.Program.{Pattern}
-use Rattle.sedck_script.specs.Parts.{ExpressionText, IsPattern}
+use Rattle.sedck_text.specs.Cursors.{unread}
+use Rattle.sedck_text.specs.declared.cursor.Cursor.{Cursor}
+use Rattle.sedck_script.specs.Parts.{DelimitedExpression, ExpressionText, IsPattern}
 use Rattle.sedck_script.specs.Faults.{IsPlaced}
 use Rattle.sedck_script.specs.declared.fault.ScriptFault.{ScriptFault}
 use Rattle.sedck_script.specs.declared.fault.ScriptFault.TheVariants as fault
@@ -19,6 +21,19 @@ IsPiece delimiter text (piece.Pair b) rest = (text ≡ backslash ∷ b ∷ rest)
 -- a pattern after its opening delimiter, and what follows it
 abbrev pub PatternText : ℕ → List ℕ → Pattern → List ℕ → Type 0
 PatternText delimiter text pattern rest = (expression : List ℕ) × ExpressionText delimiter text expression rest × IsPattern expression pattern
+
+-- These bytes of an expression have been read, and rest is left.
+pub record IsReadUpTo (delimiter : ℕ) (text bytes rest : List ℕ) : Type 0 where
+  pub sound : (more after : List ℕ) → DelimitedExpression delimiter rest more after → DelimitedExpression delimiter text (bytes ++ more) after
+  pub only : (expression after : List ℕ) → DelimitedExpression delimiter text expression after
+      → (more : List ℕ) × DelimitedExpression delimiter rest more after
+
+-- The bytes of an expression between the cursors have been read, without an escaped delimiter.
+pub record IsWrittenUpTo (delimiter : ℕ) (text rest : Cursor) : Type 0 where
+  pub same : rest.whole ≡ text.whole
+  pub written : List ℕ
+  pub cut : unread text ≡ written ++ unread rest
+  pub passed : IsReadUpTo delimiter (unread text) written (unread rest)
 
 -- These bytes of an expression have been read of the text, and rest is left: its first escaped delimiter is at the place in the
 -- whole, or there is none, and the text has the very bytes.

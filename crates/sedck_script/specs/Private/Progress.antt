@@ -15,8 +15,8 @@ use Rattle.sedck_script.specs.Private.Locating.{AreFirstLocations}
 use Rattle.sedck_script.specs.Private.AddressReading.{IsEmptyAt}
 use Rattle.sedck_script.specs.Private.VerbReading.{is_braced}
 use Rattle.sedck_script.specs.declared.items.Progress.{Progress}
-use Rattle.sedck_script.specs.declared.verbs.Written.{Written as WrittenCode}
-use Rattle.sedck_script.specs.declared.verbs.Written.TheVariants as code
+use Rattle.sedck_script.specs.declared.written.Written.{Written as WrittenCode}
+use Rattle.sedck_script.specs.declared.written.Written.TheVariants as code
 
 -- ---- A command
 

@@ -10,10 +10,10 @@ use Rattle.sedck_script.specs.View.{verb_of}
 use Rattle.sedck_script.specs.Private.Reading.{label_place, IsLabelPlace}
 use Rattle.sedck_script.specs.declared.fault.ScriptFault.TheVariants.{BadLabel}
 use Rattle.sedck_script.specs.declared.labels.Jump.{Jump}
-use Rattle.sedck_script.specs.declared.verbs.Written.{Written}
-use Rattle.sedck_script.specs.declared.verbs.Written.TheVariants as code
+use Rattle.sedck_script.specs.declared.written.Written.{Written}
+use Rattle.sedck_script.specs.declared.written.Written.TheVariants as code
 
--- a verb as it is written, without the place of its label
+-- a verb as it is written, without the offset of its label
 abbrev pub written_verb : Written → WrittenVerb
 written_verb (code.Known verb) = Known (verb_of verb)
 written_verb (code.Label name) = Known (Label name.now)
@@ -21,11 +21,11 @@ written_verb (code.BranchTo jump) = BranchTo (option_copied jump.label) (is_some
 written_verb (code.TestTo jump) = TestTo (option_copied jump.label) (is_some jump.brace)
 written_verb code.Opening = Opening
 
--- the label begins at its place, and a `}` right after it is where no label may go on
+-- the label begins at its offset, and a `}` right after it is where no label may go on
 abbrev pub IsJumpAt : List ℕ → Jump → Type 0
-IsJumpAt text jump = IsLabelPlace text jump.place (option_copied jump.label) × IfSome jump.brace (λ place. IsPlaced text (BadLabel place))
+IsJumpAt text jump = IsLabelPlace text jump.offset (option_copied jump.label) × IfSome jump.brace (λ offset. IsPlaced text (BadLabel offset))
 
--- A known verb is no label, and the label of a branch or a test begins at its place.
+-- A known verb is no label, and the label of a branch or a test begins at its offset.
 abbrev pub IsWrittenAt : List ℕ → Written → Type 0
 IsWrittenAt text (code.Known verb) = (name : List ℕ) → verb_of verb ≡ Label name → ⊥
 IsWrittenAt text (code.Label name) = Unit {0}

@@ -1,56 +1,71 @@
 use Rattle.std.proofs.Common.{◌≡◌, Some, ap, sym, ◌∙◌, inl, arith}
-use Rattle.std.proofs.lemmas.Bool.{false≢true}
+use Rattle.std.proofs.lemmas.Bool.{false≢true, both_ways, eqb-true, eq-eqb}
 use Rattle.sedck_script.proofs.CursorPlaces.{stands_here}
 use Rattle.sedck_script.specs.View.{address_of}
-use Rattle.sedck_script.proofs.PlaceLemmas.{other_here, ends_here}
-use Rattle.sedck_script.proofs.VerbBytes.{byte_of, not_taken}
-use Rattle.sedck_script.proofs.commands.check_verb.Goals.{else-verb-eq123-via-then-verb-eq123+else-reader-ge-DEPTH_LIMIT, else-verb-eq123-via-else-verb-eq123}
+use Rattle.sedck_script.proofs.FormLemmas.{form_known}
+use Rattle.sedck_script.proofs.PlaceLemmas.{ends_here, no_verb_placed}
+use Rattle.sedck_script.proofs.VerbBytes.{byte_of, not_taken, misplaced}
 use Rattle.sedck_script.proofs.commands.check_verb.Goals as goal
+use Rattle.sedck_script.proofs.commands.check_verb.Goals.{else-opens_block-via-then-opens_block+else-reader-ge-DEPTH_LIMIT, else-opens_block-via-else-opens_block}
 
 pub returns-in_default-clause-placed : goal.returns-in_default-clause-placed
-returns-in_default-clause-placed c = rw c.offset-place.ensures (c.requires.due, ends_here c.args.reader.cursor c.in_default.ensures)
+returns-in_default-clause-placed c = rw c.offset-place.ensures (c.requires.due, ends_here c.args.reader.cursor c.in_default.ensures.cut)
 
-pub returns-then-not-is_verb-clause-refused : goal.returns-then-not-is_verb-clause-refused
-returns-then-not-is_verb-clause-refused c = λ verb rest x t. absurd
-    (false≢true (sym c.if-not-is_verb.true ∙ c.is_verb.ensures ∙ (byte_of c.in-Some.ensures.1 x).known))
+pub returns-in_default-form_of-clause-refused : goal.returns-in_default-form_of-clause-refused
+returns-in_default-form_of-clause-refused c = λ verb rest x t.
+    let byte = byte_of c.in-Some.ensures.cut x in
+    absurd (false≢true (sym (misplaced c.in-Some.byte _ _ (c.in_default-form_of.ensures.none byte.known)) ∙ byte.taken_so _ _ t))
 
-pub returns-then-not-is_verb-clause-placed : goal.returns-then-not-is_verb-clause-placed
-returns-then-not-is_verb-clause-placed c =
-    rw c.offset-place.ensures (c.requires.due, other_here c.args.reader.cursor c.in-Some.ensures.1 (sym c.is_verb.ensures ∙ c.if-not-is_verb.true))
+pub returns-in_default-form_of-clause-placed : goal.returns-in_default-form_of-clause-placed
+returns-in_default-form_of-clause-placed c =
+    no_verb_placed c.args.reader.cursor c.no_verb.ensures c.offset-place.ensures c.requires.due c.in-Some.ensures.cut c.in_default-form_of.ensures.none
 
 pub returns-then-not-takes-clause-refused : goal.returns-then-not-takes-clause-refused
 returns-then-not-takes-clause-refused c = λ verb rest x t. absurd
-    (false≢true (sym c.if-not-takes.true ∙ c.takes.ensures ∙ (byte_of c.in-Some.ensures.1 x).taken_so _ _ t))
+    (false≢true (sym c.if-not-takes.true ∙ c.takes.ensures c.in-Some.byte c.in-Some-form_of.ensures.some ∙ (byte_of c.in-Some.ensures.cut x).taken_so _ _ t))
 
 pub returns-then-not-takes-clause-placed : goal.returns-then-not-takes-clause-placed
 returns-then-not-takes-clause-placed c = rw c.offset-place.ensures (
-  c.in-Some.verb,
-  stands_here c.args.reader.cursor c.in-Some.ensures.1,
-  not_taken c.in-Some.verb (address_of c.args.address.now) c.args.negated (sym c.takes.ensures ∙ c.if-not-takes.true),
+  c.in-Some.byte,
+  stands_here c.args.reader.cursor c.in-Some.ensures.cut,
+  not_taken c.in-Some.byte (address_of c.args.address.now) c.args.negated
+      (sym (c.takes.ensures c.in-Some.byte c.in-Some-form_of.ensures.some) ∙ c.if-not-takes.true),
 )
 
 pub returns-then-reader-ge-COMMAND_LIMIT-clause-placed : goal.returns-then-reader-ge-COMMAND_LIMIT-clause-placed
 returns-then-reader-ge-COMMAND_LIMIT-clause-placed c = rw c.offset-place.ensures (
-  c.in-Some.verb,
-  stands_here c.args.reader.cursor c.in-Some.ensures.1,
-  sym c.is_verb.ensures ∙ c.if-not-is_verb.false,
+  c.in-Some.byte,
+  stands_here c.args.reader.cursor c.in-Some.ensures.cut,
+  form_known c.in-Some.byte c.in-Some-form_of.form c.in-Some-form_of.ensures.some,
 )
 
+pub returns-clause-begins : goal.returns-clause-begins
+returns-clause-begins c = record {
+  byte = c.in-Some.byte;
+  cut = c.in-Some.ensures.cut;
+  is = c.in-Some-form_of.ensures.some;
+  whole = c.in-Some.ensures.ahead.0.whole;
+  follows = c.in-Some.ensures.ahead.1;
+}
+
 pub returns-then-reader-ge-DEPTH_LIMIT-clause-refused : goal.returns-then-reader-ge-DEPTH_LIMIT-clause-refused
-returns-then-reader-ge-DEPTH_LIMIT-clause-refused c = λ verb rest x t. inl ((byte_of c.in-Some.ensures.1 x).opens c.if-verb-eq123.true, omega arith)
+returns-then-reader-ge-DEPTH_LIMIT-clause-refused c = λ verb rest x t.
+    let brace : c.in-Some.byte ≡ 123 = eqb-true c.in-Some.byte 123 (sym (c.opens_block.ensures c.in-Some.byte c.in-Some-form_of.ensures.some) ∙ c.if-opens_block.true) in
+    inl ((byte_of c.in-Some.ensures.cut x).opens brace, omega arith)
 
 pub returns-then-reader-ge-DEPTH_LIMIT-clause-placed : goal.returns-then-reader-ge-DEPTH_LIMIT-clause-placed
-returns-then-reader-ge-DEPTH_LIMIT-clause-placed c = rw c.offset-place.ensures
-    (stands_here c.args.reader.cursor c.in-Some.ensures.1 ∙ ap Some c.if-verb-eq123.true)
+returns-then-reader-ge-DEPTH_LIMIT-clause-placed c =
+    let brace : c.in-Some.byte ≡ 123 = eqb-true c.in-Some.byte 123 (sym (c.opens_block.ensures c.in-Some.byte c.in-Some-form_of.ensures.some) ∙ c.if-opens_block.true) in
+    rw c.offset-place.ensures (stands_here c.args.reader.cursor c.in-Some.ensures.cut ∙ ap Some brace)
 
 pub returns-clause-allowed : goal.returns-clause-allowed
 returns-clause-allowed c = λ verb rest x.
-    let byte = byte_of c.in-Some.ensures.1 x in (
-      byte.takes_so _ _ (sym c.takes.ensures ∙ c.if-not-takes.false),
-      λ e. let brace : c.in-Some.verb ≡ 123 = byte.opening e in
-          elim c.else-verb-eq123.branch [
-            | else-verb-eq123-via-then-verb-eq123+else-reader-ge-DEPTH_LIMIT w ↦ omega arith
-            | else-verb-eq123-via-else-verb-eq123 w ↦ absurd (omega (arith, brace, w.if-verb-eq123.false))
-          ],
+    let byte = byte_of c.in-Some.ensures.cut x in (
+      byte.takes_so _ _ (sym (c.takes.ensures c.in-Some.byte c.in-Some-form_of.ensures.some) ∙ c.if-not-takes.false),
+      λ e. elim c.else-opens_block.branch [
+        | else-opens_block-via-then-opens_block+else-reader-ge-DEPTH_LIMIT w ↦ omega arith
+        | else-opens_block-via-else-opens_block w ↦ absurd (both_ways _
+            (sym (c.opens_block.ensures c.in-Some.byte c.in-Some-form_of.ensures.some) ∙ w.if-opens_block.false) (eq-eqb c.in-Some.byte 123 (byte.opening e)))
+      ],
       omega arith,
     )

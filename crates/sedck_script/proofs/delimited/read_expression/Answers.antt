@@ -1,64 +1,51 @@
-use Rattle.std.proofs.Common.{[], ◌∷◌, ◌++◌, ◌∙◌, refl, ap, sym, subst, Some, append_assoc}
-use Rattle.std.specs.Option.{option_or}
+use Rattle.std.proofs.Common.{◌≡◌, ◌-◌, take, [], ◌∷◌, ◌++◌, ◌∙◌, ap, sym, subst}
 use Rattle.sedck_text.specs.Cursors.{unread}
+use Rattle.sedck_script.specs.Parts.{DelimitedExpression}
 use Rattle.sedck_script.specs.Private.PieceReading.{IsPiece, IsPartPlaced, as_written}
 use Rattle.sedck_script.proofs.ResultLemmas.{if_err_each, if_err_same}
 use Rattle.sedck_script.proofs.UniqueVerbs.{no_backslash}
-use Rattle.sedck_script.proofs.PieceLemmas.{expression_more, expression_byte, expression_escaped, expression_pair, expression_end, expression_stuck, expression_broken}
-use Rattle.sedck_script.proofs.EscapeLemmas.{escape_more, escape_noted}
+use Rattle.sedck_script.proofs.PieceLemmas.{expression_byte, expression_pair, expression_end, expression_stuck, expression_broken, written_none, written_more, written_between}
 use Rattle.sedck_script.proofs.delimited.read_expression.Goals as goal
 
 pub returns-in_err-piece-clause-refused : goal.returns-in_err-piece-clause-refused
 returns-in_err-piece-clause-refused c = if_err_each _ c.from_residual.result
-    (λ fault memory. expression_stuck c.loop-bytes.invariant.1 c.in_err-piece.ensures.refused)
+    (λ fault memory. expression_stuck c.pieces.invariant.passed c.in_err-piece.ensures.refused)
 
 pub returns-in_err-piece-clause-placed : goal.returns-in_err-piece-clause-placed
 returns-in_err-piece-clause-placed c = if_err_same (IsPartPlaced c.args.opening) c.from_residual.result _ c.from_residual.ensures.1
-    c.loop-bytes.invariant.0 c.in_err-piece.ensures.placed
-
-pub returns-in-End-clause-read : goal.returns-in-End-clause-read
-returns-in-End-clause-read c = expression_end c.loop-bytes.invariant.1
-    (subst (λ x. IsPiece c.args.delimiter (unread c.loop-bytes.rest) x (unread c.in_ok-piece.behind)) c.in-End.is c.in_ok-piece.ensures.read)
+    c.pieces.invariant.same c.in_err-piece.ensures.placed
 
 pub returns-then-b-eq10-clause-refused : goal.returns-then-b-eq10-clause-refused
-returns-then-b-eq10-clause-refused c = λ memory. expression_broken (no_backslash c.requires.delimiter) c.loop-bytes.invariant.1
-    (subst (λ x. IsPiece c.args.delimiter (unread c.loop-bytes.rest) x (unread c.in_ok-piece.behind)) c.in-Pair.is c.in_ok-piece.ensures.read) c.if-b-eq10.true
+returns-then-b-eq10-clause-refused c = λ memory. expression_broken (no_backslash c.requires.delimiter) c.pieces.invariant.passed
+    (subst (λ x. IsPiece c.args.delimiter (unread c.pieces.rest) x (unread c.in_ok-piece.behind)) c.in-Pair.is c.in_ok-piece.ensures.read) c.if-b-eq10.true
 
-pub loop-bytes-preserved-in_ok-push-in-Byte : goal.loop-bytes-preserved-in_ok-push-in-Byte
-loop-bytes-preserved-in_ok-push-in-Byte c =
-    let piece = subst (λ x. IsPiece c.args.delimiter (unread c.loop-bytes.rest) x (unread c.in_ok-piece.behind)) c.in-Byte.is c.in_ok-piece.ensures.read in (
-      c.in_ok-piece.ensures.same ∙ c.loop-bytes.invariant.0,
-      expression_more _ c.in_ok-push-in-Byte.ensures.items c.loop-bytes.invariant.1 (expression_byte piece),
-      escape_more (c.in-Byte.b ∷ []) _ c.in_ok-push-in-Byte.ensures.items piece.0 c.loop-bytes.invariant.2,
-    )
+pub pieces-init : goal.pieces-init
+pieces-init c = written_none c.args.text
 
-pub loop-bytes-preserved-in_ok-push-in-Escaped : goal.loop-bytes-preserved-in_ok-push-in-Escaped
-loop-bytes-preserved-in_ok-push-in-Escaped c =
-    let piece = subst (λ x. IsPiece c.args.delimiter (unread c.loop-bytes.rest) x (unread c.in_ok-piece.behind)) c.in-Escaped.is c.in_ok-piece.ensures.read in (
-      c.in_ok-piece.ensures.same ∙ c.loop-bytes.invariant.0,
-      expression_more _ c.in_ok-push-in-Escaped.ensures.items c.loop-bytes.invariant.1
-          (expression_escaped (no_backslash c.requires.delimiter) piece),
-      escape_noted c.loop-bytes.rest _ c.in_ok-push-in-Escaped.ensures.items piece.0
-          (c.or-escape.ensures ∙ ap (λ n. option_or c.loop-bytes.escape (Some n)) c.offset.ensures) c.loop-bytes.invariant.0 c.loop-bytes.invariant.2,
-    )
+pub pieces-preserved-in-Byte : goal.pieces-preserved-in-Byte
+pieces-preserved-in-Byte c =
+    let piece = subst (λ x. IsPiece c.args.delimiter (unread c.pieces.rest) x (unread c.in_ok-piece.behind)) c.in-Byte.is c.in_ok-piece.ensures.read in
+    written_more (c.in-Byte.field-0 ∷ []) c.in_ok-piece.ensures.same piece.0 (expression_byte piece) c.pieces.invariant
 
-pub loop-bytes-preserved : goal.loop-bytes-preserved
-loop-bytes-preserved c =
-    let piece = subst (λ x. IsPiece c.args.delimiter (unread c.loop-bytes.rest) x (unread c.in_ok-piece.behind)) c.in-Pair.is c.in_ok-piece.ensures.read in
-    let items = c.in_ok-push-in-Pair-2.ensures.items ∙ ap (λ t. t ++ c.in-Pair.b ∷ []) c.in_ok-push-in-Pair.ensures.items
-    ∙ append_assoc c.loop-bytes.bytes.items (92 ∷ []) (c.in-Pair.b ∷ []) in (
-      c.in_ok-piece.ensures.same ∙ c.loop-bytes.invariant.0,
-      expression_more _ items c.loop-bytes.invariant.1
-          (expression_pair (no_backslash c.requires.delimiter) c.if-b-eq10.false piece),
-      escape_more (92 ∷ c.in-Pair.b ∷ []) _ items piece.0 c.loop-bytes.invariant.2,
-    )
+pub pieces-preserved : goal.pieces-preserved
+pieces-preserved c =
+    let piece = subst (λ x. IsPiece c.args.delimiter (unread c.pieces.rest) x (unread c.in_ok-piece.behind)) c.in-Pair.is c.in_ok-piece.ensures.read in
+    written_more (92 ∷ c.in-Pair.b ∷ []) c.in_ok-piece.ensures.same piece.0 (expression_pair (no_backslash c.requires.delimiter) c.if-b-eq10.false piece)
+    c.pieces.invariant
 
-pub loop-bytes-init : goal.loop-bytes-init
-loop-bytes-init c = (
-  refl,
-  record {
-    sound = λ e r x. rw c.new-bytes.ensures.items x;
-    only = λ e r x. (e, x);
-  },
-  as_written (ap (λ t. t ++ (unread c.args.text)) (sym c.new-bytes.ensures.items)),
-)
+pub returns-in-End-clause-read : goal.returns-in-End-clause-read
+returns-in-End-clause-read c =
+    let between = written_between c.pieces.invariant c.offset.ensures c.offset-in-End.ensures in
+    let written : take (c.offset.result - c.offset-in-End.result) c.unread.result.now ≡ between.2.0 =
+    ap (take (c.offset.result - c.offset-in-End.result)) c.unread.ensures ∙ between.2.2 in
+    subst (λ t. DelimitedExpression c.args.delimiter (unread c.args.text) t (unread c.in_ok-piece.behind)) (sym written) (expression_end between.2.3
+    (subst (λ x. IsPiece c.args.delimiter (unread c.pieces.rest) x (unread c.in_ok-piece.behind)) c.in-End.is c.in_ok-piece.ensures.read))
+
+pub returns-in-End-clause-escape : goal.returns-in-End-clause-escape
+returns-in-End-clause-escape c =
+    let between = written_between c.pieces.invariant c.offset.ensures c.offset-in-End.ensures in
+    let written : take (c.offset.result - c.offset-in-End.result) c.unread.result.now ≡ between.2.0 =
+    ap (take (c.offset.result - c.offset-in-End.result)) c.unread.ensures ∙ between.2.2 in
+    let end : unread c.pieces.rest ≡ c.args.delimiter ∷ unread c.in_ok-piece.behind =
+    subst (λ x. IsPiece c.args.delimiter (unread c.pieces.rest) x (unread c.in_ok-piece.behind)) c.in-End.is c.in_ok-piece.ensures.read in
+    as_written (between.2.1 ∙ ap (λ t. between.2.0 ++ t) end ∙ ap (λ t. t ++ c.args.delimiter ∷ unread c.in_ok-piece.behind) (sym written))

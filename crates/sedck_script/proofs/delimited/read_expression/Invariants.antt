@@ -1,13 +1,10 @@
-use Rattle.std.proofs.Common.{◌≡◌, length}
+use Rattle.std.proofs.Common.{length}
 use Rattle.sedck_text.specs.Cursors.{unread}
-use Rattle.sedck_script.specs.Private.PieceReading.{IsFirstEscape}
-use Rattle.sedck_script.proofs.PieceLemmas.{ExpressionPassed}
+use Rattle.sedck_script.specs.Private.PieceReading.{IsWrittenUpTo}
 use Rattle.sedck_script.proofs.delimited.read_expression.Given as goal
 
-abbrev pub invariant-loop-bytes : goal.invariant-loop-bytes
-invariant-loop-bytes l =
-    (l.rest.whole ≡ l.text.whole) × ExpressionPassed l.delimiter (unread l.text) l.bytes.items (unread l.rest)
-    × IsFirstEscape l.delimiter l.text.whole.now (unread l.text) l.bytes.items (unread l.rest) l.escape
+abbrev pub invariant-pieces : goal.invariant-pieces
+invariant-pieces l = IsWrittenUpTo l.delimiter l.text l.rest
 
-abbrev pub decreases-loop-bytes : goal.decreases-loop-bytes
-decreases-loop-bytes l = length (unread l.rest)
+abbrev pub decreases-pieces : goal.decreases-pieces
+decreases-pieces l = length (unread l.rest)

@@ -10,24 +10,24 @@ use Rattle.sedck_script.proofs.labels.read_jump.Goals.{then-is_empty+in_ok-check
 
 pub returns-in_err-check_no_label-clause-refused : goal.returns-in_err-check_no_label-clause-refused
 returns-in_err-check_no_label-clause-refused c = if_err_always c.from_residual.result
-    (no_branch_end c.split_label-place.ensures.parts (grind (arith, c.if-is_empty.ensures)) c.in_err-check_no_label.ensures.refused)
+    (no_branch_end c.split_label-offset.ensures.parts (grind (arith, c.if-is_empty.ensures)) c.in_err-check_no_label.ensures.refused)
 
 pub returns-in_err-check_behind_label-clause-refused : goal.returns-in_err-check_behind_label-clause-refused
 returns-in_err-check_behind_label-clause-refused c =
     if_err_always c.from_residual-in_err-check_behind_label.result
-    (no_branch_label c.split_label-place.ensures.parts (grind (arith, c.if-is_empty.ensures)) (λ rest n e. c.in_err-check_behind_label.ensures.refused rest n e.0))
+    (no_branch_label c.split_label-offset.ensures.parts (grind (arith, c.if-is_empty.ensures)) (λ rest n e. c.in_err-check_behind_label.ensures.refused rest n e.0))
 
 pub returns-in_err-end_of_jump-clause-refused : goal.returns-in_err-end_of_jump-clause-refused
 returns-in_err-end_of_jump-clause-refused c = if_err_always c.from_residual-in_err-end_of_jump.result
-    (no_branch_label c.split_label-place.ensures.parts (grind (arith, c.if-is_empty.ensures)) (λ rest n e. c.in_err-end_of_jump.ensures.refused rest e))
+    (no_branch_label c.split_label-offset.ensures.parts (grind (arith, c.if-is_empty.ensures)) (λ rest n e. c.in_err-end_of_jump.ensures.refused rest e))
 
 pub returns-clause-label : goal.returns-clause-label
 returns-clause-label c = (
   elim c.if-is_empty.branch [
     | then-is_empty+in_ok-check_no_label w ↦ rw w.t-21-is tt
     | else-is_empty+in_ok-check_behind_label+in_ok-end_of_jump w ↦ rw w.t-21-is
-        (c.split_label-place.ensures.label (one_of "bt") c.requires (grind (arith, c.is_empty.ensures, w.if-is_empty.false)))
+        (c.split_label-offset.ensures.label (one_of "bt") c.requires (grind (arith, c.is_empty.ensures, w.if-is_empty.false)))
   ],
-  subst (λ w. IfSome c.brace_behind-brace.result (λ place. IsPlaced w.now (BadLabel place))) c.split_label-place.ensures.same
+  subst (λ w. IfSome c.brace_behind-brace.result (λ offset. IsPlaced w.now (BadLabel offset))) c.split_label-offset.ensures.same
       c.brace_behind-brace.ensures.placed,
 )

@@ -11,7 +11,7 @@ returns-in_err-from-clause-refused c =
     if_err_from _ c.from_residual.result _ c.from_residual.ensures.1 (λ memory f t r l. c.in_err-from.ensures.refused memory f l.behind l.first)
 
 pub returns-in_err-to-clause-placed : goal.returns-in_err-to-clause-placed
-returns-in_err-to-clause-placed c = if_err_same (IsPartPlaced c.args.place) c.from_residual-in_err-to.result _ c.from_residual-in_err-to.ensures.1
+returns-in_err-to-clause-placed c = if_err_same (IsPartPlaced c.args.opening) c.from_residual-in_err-to.result _ c.from_residual-in_err-to.ensures.1
     c.in_ok-from.ensures.same c.in_err-to.ensures.placed
 
 pub returns-in_err-to-clause-refused : goal.returns-in_err-to-clause-refused

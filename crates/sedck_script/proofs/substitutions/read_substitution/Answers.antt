@@ -1,4 +1,4 @@
-use Rattle.std.proofs.Common.{◌<◌, ◌≤◌, ◌^◌, [], map, refl, ◌∙◌, sym, subst, arith}
+use Rattle.std.proofs.Common.{◌-◌, ◌<◌, ◌≤◌, ◌^◌, [], map, refl, ◌∙◌, sym, subst, arith}
 use Rattle.sedck_script.specs.Program.{literal_length}
 use Rattle.std.specs.List.{All}
 use Rattle.std.proofs.lemmas.List.Elements.{All-from_recursion}
@@ -7,6 +7,7 @@ use Rattle.sedck_text.proofs.Cursors.{unread_length}
 use Rattle.sedck_script.specs.Faults.{IsPlaced}
 use Rattle.sedck_script.specs.View.{pattern_of, part_of}
 use Rattle.sedck_script.specs.Invariant.{IsPart}
+use Rattle.sedck_script.proofs.CursorPlaces.{verb_before}
 use Rattle.sedck_script.proofs.OffsetLemmas.{tail_length, tail_behind, expression_tail}
 use Rattle.sedck_script.proofs.ResultLemmas.{if_err_each, if_err_from, if_err_same}
 use Rattle.sedck_script.proofs.PlaceLemmas.{part_placed, part_placed_same, unread_verb}
@@ -20,10 +21,13 @@ returns-in_err-delimiter-clause-refused c =
     if_err_each _ c.from_residual.result (λ fault memory. substitute_no_delimiter c.in_err-delimiter.ensures.refused)
 
 pub returns-in_err-delimiter-clause-placed : goal.returns-in_err-delimiter-clause-placed
-returns-in_err-delimiter-clause-placed c = if_err_from _ c.from_residual.result _ c.from_residual.ensures.1
-    (part_placed c.args.place c.args.text.whole.now _ (c.in_err-delimiter.ensures.placed c.args.text.whole.now) (λ is. (
-      (115, c.requires.stands, refl),
-      unread_verb c.args.text.whole.now c.args.place c.requires.here refl (substitute_no_delimiter c.in_err-delimiter.ensures.refused),
+returns-in_err-delimiter-clause-placed c =
+    let opening = c.offset-opening.result - 1 in
+    let at = verb_before c.args.text c.offset-opening.result c.offset-opening.ensures c.requires in
+    if_err_from _ c.from_residual.result _ c.from_residual.ensures.1
+    (part_placed opening c.args.text.whole.now _ (c.in_err-delimiter.ensures.placed c.args.text.whole.now) (λ is. (
+      (115, at.0, refl),
+      unread_verb c.args.text.whole.now opening at.1 refl (substitute_no_delimiter c.in_err-delimiter.ensures.refused),
     )))
 
 pub returns-in_err-pattern-clause-refused : goal.returns-in_err-pattern-clause-refused
@@ -60,20 +64,24 @@ returns-clause-read c =
 
 pub returns-in_err-pattern-clause-placed : goal.returns-in_err-pattern-clause-placed
 returns-in_err-pattern-clause-placed c =
+    let opening = c.offset-opening.result - 1 in
+    let at = verb_before c.args.text c.offset-opening.result c.offset-opening.ensures c.requires in
     if_err_from _ c.from_residual-in_err-pattern.result _ c.from_residual-in_err-pattern.ensures.1
-    (part_placed_same c.args.place _ c.in_ok-delimiter.ensures.ahead.0.whole c.in_err-pattern.ensures.placed (λ is. (
-      (115, c.requires.stands, refl),
-      unread_verb c.args.text.whole.now c.args.place c.requires.here refl
+    (part_placed_same opening _ c.in_ok-delimiter.ensures.ahead.0.whole c.in_err-pattern.ensures.placed (λ is. (
+      (115, at.0, refl),
+      unread_verb c.args.text.whole.now opening at.1 refl
           (substitute_no_pattern c.in_ok-delimiter.ensures.read.0 (c.in_err-pattern.ensures.refused (λ memory. absurd (cc (is, memory))))),
     )))
 
 pub returns-in_err-parts-clause-placed : goal.returns-in_err-parts-clause-placed
 returns-in_err-parts-clause-placed c =
+    let opening = c.offset-opening.result - 1 in
+    let at = verb_before c.args.text c.offset-opening.result c.offset-opening.ensures c.requires in
     if_err_from _ c.from_residual-in_err-parts.result _ c.from_residual-in_err-parts.ensures.1
-    (part_placed_same c.args.place _ (c.in_ok-pattern.ensures.same ∙ c.in_ok-delimiter.ensures.ahead.0.whole)
+    (part_placed_same opening _ (c.in_ok-pattern.ensures.same ∙ c.in_ok-delimiter.ensures.ahead.0.whole)
     c.in_err-parts.ensures.placed (λ is. (
-      (115, c.requires.stands, refl),
-      unread_verb c.args.text.whole.now c.args.place c.requires.here refl (substitute_no_parts _
+      (115, at.0, refl),
+      unread_verb c.args.text.whole.now opening at.1 refl (substitute_no_parts _
           (pattern_of c.in_ok-pattern.pattern) c.in_ok-delimiter.ensures.read.0 c.in_ok-pattern.ensures.only c.greatest_group-greatest.ensures
           (c.in_err-parts.ensures.refused (λ memory. absurd (cc (is, memory))))),
     )))

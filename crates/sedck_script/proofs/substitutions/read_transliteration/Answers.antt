@@ -1,6 +1,6 @@
-use Rattle.std.proofs.Common.{refl, sym, subst, ◌∙◌}
+use Rattle.std.proofs.Common.{◌-◌, refl, sym, subst, ◌∙◌}
 use Rattle.sedck_script.specs.Faults.{StandsAt, IsPlaced}
-use Rattle.sedck_script.proofs.CursorPlaces.{verb_behind}
+use Rattle.sedck_script.proofs.CursorPlaces.{verb_before, verb_behind}
 use Rattle.sedck_script.proofs.ResultLemmas.{if_err_each, if_err_from, if_err_same}
 use Rattle.sedck_script.proofs.PlaceLemmas.{part_placed, part_placed_same, unread_verb}
 use Rattle.sedck_script.proofs.UniqueVerbs.{no_backslash}
@@ -8,10 +8,16 @@ use Rattle.sedck_script.proofs.VerbLemmas.{transliterate_read, transliterate_no_
 use Rattle.sedck_script.proofs.substitutions.read_transliteration.Goals as goal
 
 pub read_lists-requires-clause-verb : goal.read_lists-requires-clause-verb
-read_lists-requires-clause-verb c = verb_behind c.args.place c.requires.stands c.requires.here c.in_ok-delimiter.ensures.ahead.0
+read_lists-requires-clause-verb c =
+    let opening = c.offset-opening.result - 1 in
+    let at = verb_before c.args.text c.offset-opening.result c.offset-opening.ensures c.requires in
+    verb_behind opening at.0 at.1 c.in_ok-delimiter.ensures.ahead.0
 
 pub read_lists-requires-clause-stands : goal.read_lists-requires-clause-stands
-read_lists-requires-clause-stands c = subst (λ w. StandsAt w.now c.args.place 121) (sym c.in_ok-delimiter.ensures.ahead.0.whole) c.requires.stands
+read_lists-requires-clause-stands c =
+    let opening = c.offset-opening.result - 1 in
+    let at = verb_before c.args.text c.offset-opening.result c.offset-opening.ensures c.requires in
+    subst (λ w. StandsAt w.now opening 121) (sym c.in_ok-delimiter.ensures.ahead.0.whole) at.0
 
 pub returns-in_err-from-clause-refused : goal.returns-in_err-from-clause-refused
 returns-in_err-from-clause-refused c =
@@ -31,17 +37,22 @@ pub returns-clause-read : goal.returns-clause-read
 returns-clause-read c = transliterate_read c.in_ok-delimiter.ensures.read.0 c.in_ok-delimiter.ensures.read.1 c.in_ok-from.ensures.read c.in_ok-rest.ensures.read
 
 pub returns-in_err-delimiter-clause-placed : goal.returns-in_err-delimiter-clause-placed
-returns-in_err-delimiter-clause-placed c = if_err_from _ c.from_residual.result _ c.from_residual.ensures.1
-    (part_placed c.args.place c.args.text.whole.now _ (c.in_err-delimiter.ensures.placed c.args.text.whole.now) (λ is. (
-      (121, c.requires.stands, refl),
-      unread_verb c.args.text.whole.now c.args.place c.requires.here refl (transliterate_no_delimiter c.in_err-delimiter.ensures.refused),
+returns-in_err-delimiter-clause-placed c =
+    let opening = c.offset-opening.result - 1 in
+    let at = verb_before c.args.text c.offset-opening.result c.offset-opening.ensures c.requires in
+    if_err_from _ c.from_residual.result _ c.from_residual.ensures.1
+    (part_placed opening c.args.text.whole.now _ (c.in_err-delimiter.ensures.placed c.args.text.whole.now) (λ is. (
+      (121, at.0, refl),
+      unread_verb c.args.text.whole.now opening at.1 refl (transliterate_no_delimiter c.in_err-delimiter.ensures.refused),
     )))
 
 pub returns-in_err-from-clause-placed : goal.returns-in_err-from-clause-placed
 returns-in_err-from-clause-placed c =
+    let opening = c.offset-opening.result - 1 in
+    let at = verb_before c.args.text c.offset-opening.result c.offset-opening.ensures c.requires in
     if_err_from _ c.from_residual-in_err-from.result _ c.from_residual-in_err-from.ensures.1
-    (part_placed_same c.args.place _ c.in_ok-delimiter.ensures.ahead.0.whole c.in_err-from.ensures.placed (λ is. (
-      (121, c.requires.stands, refl),
-      unread_verb c.args.text.whole.now c.args.place c.requires.here refl
+    (part_placed_same opening _ c.in_ok-delimiter.ensures.ahead.0.whole c.in_err-from.ensures.placed (λ is. (
+      (121, at.0, refl),
+      unread_verb c.args.text.whole.now opening at.1 refl
           (transliterate_no_lists c.in_ok-delimiter.ensures.read.0 (c.in_err-from.ensures.refused (λ memory. absurd (cc (is, memory))))),
     )))

@@ -1,0 +1,81 @@
+//! The table of verbs: what the byte of each says of the rest of its command.
+
+ghost use Rattle.std.specs.Prelude.{◌≡◌, true, IfSome, IfNone};
+ghost use Rattle.sedck_text.specs.Text.{is_in, one_of};
+ghost use Rattle.sedck_script.specs.Faults.{verb_bytes};
+ghost use Rattle.sedck_script.specs.Private.Forms.{IsForm};
+
+use crate::name_lists::Access;
+use crate::script::Verb;
+
+/// A verb that a text follows.
+#[derive(Clone, Copy)]
+pub enum TextVerb {
+    Append,
+    Change,
+    Insert,
+}
+
+/// A verb that a label follows, or nothing.
+#[derive(Clone, Copy)]
+pub enum JumpVerb {
+    Branch,
+    Test,
+}
+
+/// What a verb takes.
+#[derive(Drop)]
+pub enum Form<'a> {
+    /// Nothing: this is the verb.
+    Nothing(Verb<'a>),
+    /// A text.
+    Text(TextVerb),
+    /// The name of a file.
+    File(Access),
+    /// The label that it defines.
+    Label,
+    /// The label that it leads to.
+    Jump(JumpVerb),
+    /// Commands up to a `}`.
+    Block,
+    /// An expression, a replacement and flags.
+    Substitution,
+    /// Two lists of bytes.
+    Transliteration,
+}
+
+/// What the verb of the byte takes. A `}` and a comment are no verbs.
+pub fn form_of<'a>(byte: u8) -> Option<Form<'a>>
+    ensures some { IfSome result (IsForm byte) }
+    ensures none { IfNone result (is_in byte verb_bytes ≡ true → one_of "}#" byte ≡ true) }
+{
+    let form = match byte {
+        b'=' => Form::Nothing(Verb::LineNumber),
+        b'd' => Form::Nothing(Verb::Delete),
+        b'D' => Form::Nothing(Verb::DeleteFirstLine),
+        b'g' => Form::Nothing(Verb::Get),
+        b'G' => Form::Nothing(Verb::GetAppend),
+        b'h' => Form::Nothing(Verb::Hold),
+        b'H' => Form::Nothing(Verb::HoldAppend),
+        b'l' => Form::Nothing(Verb::List),
+        b'n' => Form::Nothing(Verb::Next),
+        b'N' => Form::Nothing(Verb::NextAppend),
+        b'p' => Form::Nothing(Verb::Print),
+        b'P' => Form::Nothing(Verb::PrintFirstLine),
+        b'q' => Form::Nothing(Verb::Quit),
+        b'x' => Form::Nothing(Verb::Exchange),
+        b'a' => Form::Text(TextVerb::Append),
+        b'c' => Form::Text(TextVerb::Change),
+        b'i' => Form::Text(TextVerb::Insert),
+        b'r' => Form::File(Access::Read),
+        b'w' => Form::File(Access::Write),
+        b':' => Form::Label,
+        b'b' => Form::Jump(JumpVerb::Branch),
+        b't' => Form::Jump(JumpVerb::Test),
+        b'{' => Form::Block,
+        b's' => Form::Substitution,
+        b'y' => Form::Transliteration,
+        _ => return None,
+    };
+    Some(form)
+}
