@@ -22,7 +22,7 @@ pub mod WholeBracket
 pub mod SetLemmas
 pub mod NumberReading
 pub mod ClassNames
-pub mod BracketFuel
+pub mod ElementLoop
 pub mod SetLoop
 pub mod OffsetLemmas
 pub mod UntouchedGroups

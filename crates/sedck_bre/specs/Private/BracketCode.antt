@@ -3,8 +3,6 @@ use Rattle.std.specs.Prelude.{◌≡◌, ℕ, ◌+◌, not, Bool, true, List, �
 use Rattle.std.specs.List.{list_any, starts_with}
 use Rattle.sedck_bre.specs.Brackets as brackets
 use Rattle.sedck_bre.specs.Brackets.{class_name, in_element}
-use Rattle.sedck_bre.specs.Private.Reading.{◌>>=◌}
-use Rattle.sedck_bre.specs.Private.BracketReading.{elements_at, clear_of, set_of}
 use Rattle.sedck_bre.specs.Faults.{HasOneAt}
 use Rattle.sedck_bre.specs.Private.Sets.{HasJust}
 use Rattle.sedck_bre.specs.declared.brackets.elements.Class.{Class}
@@ -60,10 +58,6 @@ IsFlawIn text _ = Unit {0}
 abbrev pub is_of : List brackets.Element → ℕ → Bool
 is_of es b = list_any (in_element b) es
 
--- the elements up to the closing bracket, and what follows it
-unfoldable pub elements_of : Bool → List ℕ → Option (List brackets.Element × List ℕ)
-elements_of first text = elements_at (length text + 1) first text
-
 -- elements are read, and the set has just their bytes
 abbrev pub HasElements : List ℕ → List ℕ → Option (List brackets.Element × List ℕ) → Type 0
 HasElements words rest read = (es : List brackets.Element) × (read ≡ Some (es, rest)) × HasJust words (is_of es)
@@ -71,7 +65,3 @@ HasElements words rest read = (es : List brackets.Element) × (read ≡ Some (es
 -- a test turned round, if the flag says so
 abbrev pub signed : Bool → (ℕ → Bool) → ℕ → Bool
 signed complement test b = if complement then not (test b) else test b
-
--- the set of the elements, or its complement, up to the closing bracket, and what follows it
-abbrev pub set_at : Bool → List ℕ → Option (List ℕ × List ℕ)
-set_at complement text = elements_of true text >>= clear_of text >>= set_of complement

@@ -1,6 +1,6 @@
 //! The elements of a bracket list, and the bytes that each of them stands for.
 
-ghost use Rattle.std.specs.Prelude.{◌≡◌, ℕ, ◌==◌, ◌≤◌, length, IsTrue, IfOk, IfErr, Err};
+ghost use Rattle.std.specs.Prelude.{◌≡◌, ℕ, ◌==◌, ◌<◌, ◌≤◌, length, IsTrue, IfOk, IfErr, Err};
 ghost use Rattle.sedck_text.specs.Cursors.{unread};
 ghost use Rattle.sedck_bre.specs.Brackets.{in_class, in_element, punct};
 ghost use Rattle.sedck_bre.specs.Private.Sets.{HasJust};
@@ -126,6 +126,7 @@ fn begins_range(cursor: Cursor<'_>) -> bool
 fn refuse_range<'a>(element: Element, cursor: Cursor<'a>) -> Result<(Element, Cursor<'a>), Flaw>
     ensures read { Reads (λ x. (element_of x.0, unread x.1)) result (no_range (element_of element, unread cursor.entry)) }
     ensures same { IfOk result (λ x. x.1.whole ≡ cursor.entry.whole) }
+    ensures shorter { IfOk result (λ x. length (unread x.1) ≤ length (unread cursor.entry)) }
     ensures flaw { IfErr result HasNoEscape }
 {
     if begins_range(cursor) {
@@ -139,6 +140,7 @@ fn refuse_range<'a>(element: Element, cursor: Cursor<'a>) -> Result<(Element, Cu
 fn read_range_end<'a>(first: u8, cursor: Cursor<'a>) -> Result<(Element, Cursor<'a>), Flaw>
     ensures read { Reads (λ x. (element_of x.0, unread x.1)) result (range_end_at first (unread cursor.entry)) }
     ensures same { IfOk result (λ x. x.1.whole ≡ cursor.entry.whole) }
+    ensures shorter { IfOk result (λ x. length (unread x.1) ≤ length (unread cursor.entry)) }
     ensures flaw { IfErr result (λ flaw. IsFlawIn cursor.entry.whole.now flaw) }
 {
     let (last, behind) = read_byte(cursor)?;
@@ -153,6 +155,7 @@ fn read_range_end<'a>(first: u8, cursor: Cursor<'a>) -> Result<(Element, Cursor<
 fn read_byte_or_range<'a>(cursor: Cursor<'a>) -> Result<(Element, Cursor<'a>), Flaw>
     ensures read { Reads (λ x. (element_of x.0, unread x.1)) result (byte_or_range_at (unread cursor.entry)) }
     ensures same { IfOk result (λ x. x.1.whole ≡ cursor.entry.whole) }
+    ensures shorter { IfOk result (λ x. length (unread x.1) < length (unread cursor.entry)) }
     ensures ended { length (unread cursor.entry) ≡ 0 → result ≡ Err Flaw.Unclosed }
     ensures flaw { IfErr result (λ flaw. IsFlawIn cursor.entry.whole.now flaw) }
 {
@@ -168,6 +171,7 @@ fn read_byte_or_range<'a>(cursor: Cursor<'a>) -> Result<(Element, Cursor<'a>), F
 fn read_whole_class<'a>(cursor: Cursor<'a>) -> Result<(Element, Cursor<'a>), Flaw>
     ensures read { Reads (λ x. (element_of x.0, unread x.1)) result (whole_class_at (unread cursor.entry)) }
     ensures same { IfOk result (λ x. x.1.whole ≡ cursor.entry.whole) }
+    ensures shorter { IfOk result (λ x. length (unread x.1) ≤ length (unread cursor.entry)) }
     ensures flaw { IfErr result HasNoEscape }
 {
     match read_class(cursor) {
@@ -180,6 +184,7 @@ fn read_whole_class<'a>(cursor: Cursor<'a>) -> Result<(Element, Cursor<'a>), Fla
 fn read_equivalents<'a>(cursor: Cursor<'a>) -> Result<(Element, Cursor<'a>), Flaw>
     ensures read { Reads (λ x. (element_of x.0, unread x.1)) result (equivalents_at (unread cursor.entry)) }
     ensures same { IfOk result (λ x. x.1.whole ≡ cursor.entry.whole) }
+    ensures shorter { IfOk result (λ x. length (unread x.1) ≤ length (unread cursor.entry)) }
     ensures flaw { IfErr result HasNoEscape }
 {
     let (byte, behind) = read_symbol(b'=', cursor)?;
@@ -190,6 +195,7 @@ fn read_equivalents<'a>(cursor: Cursor<'a>) -> Result<(Element, Cursor<'a>), Fla
 fn read_last_dash<'a>(cursor: Cursor<'a>) -> Result<(Element, Cursor<'a>), Flaw>
     ensures read { Reads (λ x. (element_of x.0, unread x.1)) result (last_dash_at (unread cursor.entry)) }
     ensures same { IfOk result (λ x. x.1.whole ≡ cursor.entry.whole) }
+    ensures shorter { IfOk result (λ x. length (unread x.1) ≤ length (unread cursor.entry)) }
     ensures flaw { IfErr result HasNoEscape }
 {
     match cursor.unread() {
@@ -206,6 +212,7 @@ pub(crate) fn read_element<'a>(
 ) -> Result<(Element, Cursor<'a>), Flaw>
     ensures read { Reads (λ x. (element_of x.0, unread x.1)) result (element_at first (unread cursor.entry)) }
     ensures same { IfOk result (λ x. x.1.whole ≡ cursor.entry.whole) }
+    ensures shorter { IfOk result (λ x. length (unread x.1) < length (unread cursor.entry)) }
     ensures ended { length (unread cursor.entry) ≡ 0 → result ≡ Err Flaw.Unclosed }
     ensures flaw { IfErr result (λ flaw. IsFlawIn cursor.entry.whole.now flaw) }
 {

@@ -1,6 +1,6 @@
 //! The bytes, symbols and classes of bracket lists.
 
-ghost use Rattle.std.specs.Prelude.{◌≡◌, false, length, IfOk, IfErr, IfSome, Err};
+ghost use Rattle.std.specs.Prelude.{◌≡◌, ◌<◌, ◌≤◌, false, length, IfOk, IfErr, IfSome, Err};
 ghost use Rattle.std.specs.Option.{option_map};
 ghost use Rattle.sedck_bre.specs.Private.BracketReading.{classes, class_from, symbol_at, opened_at, escaped_at, byte_at};
 ghost use Rattle.sedck_text.specs.Text.{begins};
@@ -51,6 +51,7 @@ pub(crate) fn missing_end(mark: u8, cursor: Cursor<'_>) -> Flaw
 pub(crate) fn read_class<'a>(cursor: Cursor<'a>) -> Option<(Class, Cursor<'a>)>
     ensures value { option_map (λ x. (element_of (Element.Members x.0), unread x.1)) result ≡ class_from classes (unread cursor.entry) }
     ensures same { IfSome result (λ x. x.1.whole ≡ cursor.entry.whole) }
+    ensures shorter { IfSome result (λ x. length (unread x.1) ≤ length (unread cursor.entry)) }
 {
     'classes: for class in CLASSES {
         if let Some(behind) = skip_name(class, cursor) {
@@ -64,6 +65,7 @@ pub(crate) fn read_class<'a>(cursor: Cursor<'a>) -> Option<(Class, Cursor<'a>)>
 fn skip_name<'a>(class: Class, cursor: Cursor<'a>) -> Option<Cursor<'a>>
     ensures value { option_map unread result ≡ behind_name (class_of class) (unread cursor.entry) }
     ensures same { IfSome result (λ behind. behind.whole ≡ cursor.entry.whole) }
+    ensures shorter { IfSome result (λ behind. length (unread behind) ≤ length (unread cursor.entry)) }
 {
     let name = closed_name(class);
     if cursor.unread().starts_with(name) {
@@ -77,6 +79,7 @@ fn skip_name<'a>(class: Class, cursor: Cursor<'a>) -> Option<Cursor<'a>>
 pub(crate) fn read_symbol<'a>(mark: u8, cursor: Cursor<'a>) -> Result<(u8, Cursor<'a>), Flaw>
     ensures read { Reads (λ x. (x.0, unread x.1)) result (symbol_at mark (unread cursor.entry)) }
     ensures same { IfOk result (λ x. x.1.whole ≡ cursor.entry.whole) }
+    ensures shorter { IfOk result (λ x. length (unread x.1) ≤ length (unread cursor.entry)) }
     ensures flaw { IfErr result HasNoEscape }
 {
     match cursor.unread() {
@@ -95,6 +98,7 @@ pub(crate) fn read_symbol<'a>(mark: u8, cursor: Cursor<'a>) -> Result<(u8, Curso
 pub(crate) fn read_byte<'a>(cursor: Cursor<'a>) -> Result<(u8, Cursor<'a>), Flaw>
     ensures read { Reads (λ x. (x.0, unread x.1)) result (byte_at (unread cursor.entry)) }
     ensures same { IfOk result (λ x. x.1.whole ≡ cursor.entry.whole) }
+    ensures shorter { IfOk result (λ x. length (unread x.1) < length (unread cursor.entry)) }
     ensures ended { length (unread cursor.entry) ≡ 0 → result ≡ Err Flaw.Unclosed }
     ensures flaw { IfErr result (λ flaw. IsFlawIn cursor.entry.whole.now flaw) }
 {
@@ -114,6 +118,7 @@ pub(crate) fn read_byte<'a>(cursor: Cursor<'a>) -> Result<(u8, Cursor<'a>), Flaw
 fn read_opened<'a>(cursor: Cursor<'a>) -> Result<(u8, Cursor<'a>), Flaw>
     ensures read { Reads (λ x. (x.0, unread x.1)) result (opened_at 91 (unread cursor.entry)) }
     ensures same { IfOk result (λ x. x.1.whole ≡ cursor.entry.whole) }
+    ensures shorter { IfOk result (λ x. length (unread x.1) ≤ length (unread cursor.entry)) }
     ensures flaw { IfErr result HasNoEscape }
 {
     match cursor.unread() {
@@ -130,6 +135,7 @@ fn read_escaped<'a>(cursor: Cursor<'a>) -> Result<(u8, Cursor<'a>), Flaw>
     requires { begins "cdox" (unread cursor) ≡ false }
     ensures read { Reads (λ x. (x.0, unread x.1)) result (escaped_at 92 (unread cursor.entry)) }
     ensures same { IfOk result (λ x. x.1.whole ≡ cursor.entry.whole) }
+    ensures shorter { IfOk result (λ x. length (unread x.1) ≤ length (unread cursor.entry)) }
     ensures flaw { IfErr result HasNoEscape }
 {
     match cursor.unread() {
