@@ -1,7 +1,7 @@
 -- The loop over the elements of a list: those that have been read, before those that are left to read. The bound on their number
 -- does not matter, as long as it is above the length of what is left.
-use Rattle.std.proofs.Common.{◌≡◌, ℕ, suc, zero, ◌+◌, ◌<◌, Bool, true, false, List, [], ◌∷◌, ◌++◌, length, drop, Option, Some, None, refl, sym, ap, ◌∙◌, arith, append_assoc}
-use Rattle.std.specs.Prelude.{◌&&◌, not}
+use Rattle.std.proofs.Common.{◌≡◌, ℕ, suc, zero, ◌+◌, ◌<◌, ◌≤◌, Bool, true, false, List, [], ◌∷◌, ◌++◌, length, drop, Option, Some, None, refl, sym, ap, ◌∙◌, arith, append_assoc}
+use Rattle.std.specs.Prelude.{◌&&◌, not, if◌then◌else◌}
 use Rattle.std.proofs.lemmas.List.{append-nil}
 use Rattle.sedck_text.specs.Text.{begins}
 use Rattle.sedck_bre.specs.Brackets.{Element}
@@ -32,32 +32,30 @@ with_elements-nil (Some x) = refl
 pub elements_start : (text : List ℕ) → LeftToRead (elements_of text) [] true text
 elements_start text = record { bound = length text + 1; enough = omega arith; is = with_elements-nil (elements_of text) }
 
-module _ {read : Option (List Element × List ℕ)} {front : List Element} {first : Bool} {text : List ℕ} where
-  pub elements_end : LeftToRead read front first text → (begins "]" text && not first) ≡ true → read ≡ Some (front, drop 1 text)
-  unfolding elements_at
-  elements_end l over = go l.bound l.enough l.is
-    where
-      go : (n : ℕ) → length text < n → with_elements front (elements_at n first text) ≡ read → read ≡ Some (front, drop 1 text)
-      go zero enough is = absurd (omega arith)
-      go (suc n) enough is = sym is ∙ rw over (ap (λ es. Some (es, drop 1 text)) (append-nil front))
+module _ {read : Option (List Element × List ℕ)} {front : List Element} {first : Bool} {text : List ℕ} (left : LeftToRead read front first text) where
+  abbrev some_at : ℕ → Option (List Element × List ℕ)
+  some_at n = if begins "]" text && not first then Some ([], drop 1 text) else (element_at first text >>= others (elements_at n))
 
-  pub elements_go : LeftToRead read front first text → (e : Element) (after : List ℕ) → (begins "]" text && not first) ≡ false
-      → element_at first text ≡ Some (e, after) → length after < length text → LeftToRead read (front ++ e ∷ []) false after
+  -- the bound for what follows the first element
+  step : (n : ℕ) × (length text ≤ n) × (with_elements front (some_at n) ≡ read)
   unfolding elements_at
-  elements_go l e after going one less = go l.bound l.enough l.is
+  step = go left.bound left.enough left.is
     where
-      go : (n : ℕ) → length text < n → with_elements front (elements_at n first text) ≡ read → LeftToRead read (front ++ e ∷ []) false after
+      go : (n : ℕ) → length text < n → with_elements front (elements_at n first text) ≡ read
+          → (n : ℕ) × (length text ≤ n) × (with_elements front (some_at n) ≡ read)
       go zero enough is = absurd (omega arith)
-      go (suc n) enough is = record {
-        bound = n;
-        enough = omega (arith, enough, less);
-        is = sym (rw going (ap (λ o. with_elements front (o >>= others (elements_at n))) one) ∙ with_elements-push front e (elements_at n false after)) ∙ is;
-      }
+      go (suc n) enough is = (n, omega (arith, enough), is)
 
-  pub elements_fail : LeftToRead read front first text → (begins "]" text && not first) ≡ false → element_at first text ≡ None → read ≡ None
-  unfolding elements_at
-  elements_fail l going none = go l.bound l.enough l.is
-    where
-      go : (n : ℕ) → length text < n → with_elements front (elements_at n first text) ≡ read → read ≡ None
-      go zero enough is = absurd (omega arith)
-      go (suc n) enough is = sym is ∙ rw going (ap (λ o. with_elements front (o >>= others (elements_at n))) none)
+  pub elements_end : (begins "]" text && not first) ≡ true → read ≡ Some (front, drop 1 text)
+  elements_end over = sym step.2 ∙ rw over (ap (λ es. Some (es, drop 1 text)) (append-nil front))
+
+  pub elements_fail : (begins "]" text && not first) ≡ false → element_at first text ≡ None → read ≡ None
+  elements_fail going none = sym step.2 ∙ rw going (ap (λ o. with_elements front (o >>= others (elements_at step.0))) none)
+
+  pub elements_go : (e : Element) (after : List ℕ) → (begins "]" text && not first) ≡ false → element_at first text ≡ Some (e, after)
+      → length after < length text → LeftToRead read (front ++ e ∷ []) false after
+  elements_go e after going one less = record {
+    bound = step.0;
+    enough = omega (arith, less, step.1);
+    is = sym (rw going (ap (λ o. with_elements front (o >>= others (elements_at step.0))) one) ∙ with_elements-push front e _) ∙ step.2;
+  }

@@ -10,7 +10,6 @@ pub mod ReadLemmas
 pub mod ReadingSound
 pub mod ItemBeginnings
 pub mod ReadingComplete
-pub mod ReadingFuel
 pub mod ItemLoop
 pub mod WholeReading
 pub mod IntervalLemmas
