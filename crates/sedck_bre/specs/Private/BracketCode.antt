@@ -1,5 +1,5 @@
 -- How the code's values relate to what is read of a bracket list.
-use Rattle.std.specs.Prelude.{◌≡◌, ℕ, ◌+◌, not, Bool, true, List, ◌++◌, codes, length, drop, nat_eq, if◌then◌else◌, Option, Some, None, Result, Ok, Err}
+use Rattle.std.specs.Prelude.{◌≡◌, ℕ, ◌-◌, ◌<◌, ◌≤◌, not, Bool, true, List, ◌++◌, codes, length, drop, nat_eq, if◌then◌else◌, Option, Some, None, Result, Ok, Err}
 use Rattle.std.specs.List.{list_any, starts_with}
 use Rattle.sedck_bre.specs.Brackets as brackets
 use Rattle.sedck_bre.specs.Brackets.{class_name, in_element}
@@ -44,14 +44,18 @@ abbrev pub Reads : {X Y E : Type 0} → (X → Y) → Result X E → Option Y �
 Reads view (Ok x) read = read ≡ Some (view x)
 Reads view (Err flaw) read = read ≡ None
 
+-- so many bytes are read of the text
+abbrev pub IsTaken : ℕ → List ℕ → Type 0
+IsTaken count text = (0 < count) × (count ≤ length text)
+
 -- an element is flawed, and not by an escape
 abbrev pub HasNoEscape : Flaw → Type 0
-HasNoEscape (Escape place) = ⊥
+HasNoEscape (Escape left) = ⊥
 HasNoEscape _ = Unit {0}
 
 -- a refused escape is at a backslash of the text
 abbrev pub IsFlawIn : List ℕ → Flaw → Type 0
-IsFlawIn text (Escape place) = HasOneAt text place "\\"
+IsFlawIn text (Escape left) = (left ≤ length text) × HasOneAt text (length text - left) "\\"
 IsFlawIn text _ = Unit {0}
 
 -- a byte of one of the elements

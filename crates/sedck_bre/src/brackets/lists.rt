@@ -32,7 +32,7 @@ fn is_over(first: bool, cursor: Cursor<'_>) -> bool
 fn fault_of(outer: usize, cursor: Cursor<'_>, flaw: Flaw) -> ReFault
     requires outer { HasOneAt cursor.whole.now outer "[" }
     requires some { flaw ≡ Flaw.Bad → 0 < length (unread cursor) }
-    requires flaw { IsFlawIn cursor.whole.now flaw }
+    requires flaw { IsFlawIn (unread cursor) flaw }
     ensures { IsPlaced cursor.entry.whole.now result }
 {
     match flaw {
@@ -41,7 +41,10 @@ fn fault_of(outer: usize, cursor: Cursor<'_>, flaw: Flaw) -> ReFault
             let place = cursor.offset();
             ReFault::BadBracket { place }
         }
-        Flaw::Escape { place } => ReFault::BadEscape { place },
+        Flaw::Escape { left } => {
+            let place = cursor.offset() + (cursor.unread().len() - left);
+            ReFault::BadEscape { place }
+        }
     }
 }
 
@@ -57,10 +60,10 @@ fn read_elements<'a>(outer: usize, cursor: Cursor<'a>) -> Result<(ByteSet, Curso
     let mut next = cursor;
     let mut first = true;
     'elements: while !is_over(first, next) {
-        match read_element(first, next) {
-            Ok((element, behind)) => {
+        match read_element(first, next.unread()) {
+            Ok((element, count)) => {
                 set = union(set, members(element));
-                next = behind;
+                next = next.advance(count);
                 first = false;
             }
             Err(flaw) => return Err(fault_of(outer, next, flaw)),
@@ -107,7 +110,8 @@ fn find_element(cursor: Cursor<'_>, offset: usize) -> usize
 {
     let mut next = cursor;
     let mut first = true;
-    'elements: while let Ok((_, behind)) = read_element(first, next) {
+    'elements: while let Ok((_, count)) = read_element(first, next.unread()) {
+        let behind = next.advance(count);
         if behind.offset() > offset {
             break;
         }

@@ -1,4 +1,4 @@
-use Rattle.std.proofs.Common.{◌∙◌, ◌++◌, ◌∷◌, [], refl, sym, ap, arith, Some, rules}
+use Rattle.std.proofs.Common.{◌∙◌, ◌++◌, ◌∷◌, [], refl, sym, ap, arith, Some, rules, ◌<◌, length, length-drop}
 use Rattle.sedck_text.specs.Cursors.{unread}
 use Rattle.sedck_bre.specs.Brackets.{in_element}
 use Rattle.sedck_bre.specs.Private.BracketCode.{element_of, is_of}
@@ -13,17 +13,22 @@ pub elements-preserved : goal.elements-preserved
 elements-preserved c =
     let front = c.elements.invariant.front in
     let e = element_of c.in-Ok.element in
+    let read = rw c.unread.ensures at c.in-Ok.ensures in
+    let left = c.advance-next.ensures.left in
+    let less : length (unread c.advance-next.result) < length (unread c.elements.next) =
+    omega (arith, ap length left, length-drop c.in-Ok.count (unread c.elements.next), read.taken.0, read.taken.1) in
     record {
-      same = c.in-Ok.ensures.same ∙ c.elements.invariant.same;
-      shorter = omega (arith, c.in-Ok.ensures.shorter, c.elements.invariant.shorter);
+      same = c.advance-next.ensures.whole ∙ c.elements.invariant.same;
+      shorter = omega (arith, less, c.elements.invariant.shorter);
       front = front ++ e ∷ [];
       just = just_push c.union-set.result.0 front e (c.union-set.ensures (is_of front) (λ b. in_element b e) c.elements.invariant.just c.members.ensures);
-      reads = elements_go c.elements.invariant.reads e (unread c.in-Ok.behind) (sym c.is_over.ensures.value ∙ c.elements-test.true) c.in-Ok.ensures.read
-          c.in-Ok.ensures.shorter;
+      reads = elements_go c.elements.invariant.reads e (unread c.advance-next.result) (sym c.is_over.ensures.value ∙ c.elements-test.true)
+          (read.read ∙ ap (λ t. Some (e, t)) (sym left)) less;
     }
 
 pub returns-in-Err-clause-value : goal.returns-in-Err-clause-value
-returns-in-Err-clause-value c = elements_fail c.elements.invariant.reads (sym c.is_over.ensures.value ∙ c.elements-test.true) c.in-Err.ensures.read
+returns-in-Err-clause-value c =
+    elements_fail c.elements.invariant.reads (sym c.is_over.ensures.value ∙ c.elements-test.true) (rw c.unread.ensures at c.in-Err.ensures.read)
 
 pub returns-clause-value : goal.returns-clause-value
 returns-clause-value c = (
