@@ -1,5 +1,5 @@
 -- How the code's values relate to what is read of a bracket list.
-use Rattle.std.specs.Prelude.{◌≡◌, ℕ, ◌-◌, ◌<◌, ◌≤◌, not, Bool, true, List, ◌++◌, codes, length, drop, nat_eq, if◌then◌else◌, Option, Some, None, Result, Ok, Err}
+use Rattle.std.specs.Prelude.{◌≡◌, ℕ, ◌-◌, ◌<◌, ◌≤◌, not, Bool, List, ◌++◌, codes, length, drop, nat_eq, if◌then◌else◌, Option, Some, None, Result, Ok, Err}
 use Rattle.std.specs.List.{list_any, starts_with}
 use Rattle.sedck_bre.specs.Brackets as brackets
 use Rattle.sedck_bre.specs.Brackets.{class_name, in_element}

@@ -6,7 +6,7 @@ use Rattle.sedck_bre.specs.Tree.{groups_in}
 use Rattle.sedck_bre.specs.View.{tree}
 use Rattle.sedck_bre.specs.Private.Sequence.{sequence}
 use Rattle.sedck_bre.specs.Private.Reading.{at_end}
-use Rattle.sedck_bre.specs.Private.Gives.{position_of, level_of, ClosedIs}
+use Rattle.sedck_bre.specs.Private.Gives.{ClosedIs}
 use Rattle.sedck_bre.proofs.ItemLoop.{groups-push, loop_starts, loop_ends, loop_goes, loop_fails, loop_fails_at, same_left, closed-push, closed_more}
 use Rattle.std.proofs.Math.ListN.{set}
 use Rattle.sedck_bre.specs.declared.tree.Bre.TheVariants as Bre
