@@ -1,35 +1,39 @@
 -- What is read as an interval is spelled so, and what is spelled so is read.
-use Rattle.std.proofs.Common.{◌≡◌, ℕ, ◌≤◌, Bool, true, false, cond, List, [], ◌∷◌, ◌++◌, drop, Option, Some, None, inl, inr, refl, sym, ap, ◌∙◌, arith, IfSome, append_assoc}
+use Rattle.std.proofs.Common.{◌≡◌, ℕ, ◌≤◌, Bool, true, false, List, [], ◌∷◌, ◌++◌, drop, Option, Some, None, inl, inr, refl, sym, ap, ◌∙◌, arith, IfSome, append_assoc}
 use Rattle.std.specs.Prelude.{◌==◌, ◌&&◌, ◌||◌, not, nat_le, codes, All}
 use Rattle.std.specs.Char.{IsAsciiDigit}
 use Rattle.std.proofs.lemmas.Bool.{false≢true, eqb-true}
 use Rattle.std.proofs.lemmas.Bool.Decides.{nat_tests}
-use Rattle.std.proofs.lemmas.List.Elements.{All-nil, All-cons, All-head, All-tail}
+use Rattle.std.proofs.lemmas.List.Elements.{All-head}
+use Rattle.std.proofs.lemmas.List.Sums.{AllPass-from_list_all, list_all-from_AllPass}
 use Rattle.std.specs.Str.Parse.{digits_value}
 use Rattle.sedck_text.specs.Text.{begins}
-use Rattle.sedck_bre.specs.Brackets.{is_from}
+use Rattle.sedck_text.specs.Classes.{is_digit}
+use Rattle.sedck_text.specs.Runs.{IsEmptyOr, Longest}
+use Rattle.sedck_text.proofs.Runs.{longest_cut, longest_one}
 use Rattle.sedck_bre.specs.WellFormed.{AreBounds}
 use Rattle.sedck_bre.specs.Shape.{is_empty, IsNumber, SpellsCount}
 use Rattle.sedck_bre.specs.Private.Reading.{◌>>=◌, begins_pair}
-use Rattle.sedck_bre.specs.Private.IntervalReading.{digit_before, digits_at, number_of, number_at, most_of, upper_at, bounds_of, interval_at}
+use Rattle.sedck_bre.specs.Private.IntervalReading.{digits_at, number_of, number_at, most_of, upper_at, bounds_of, interval_at}
 use Rattle.sedck_bre.proofs.ReadLemmas.{bind_holds, cond_holds, and_left, pair_text, nat_le_of}
 
 le_test : (a b : ℕ) → a ≤ b → nat_le a b ≡ true
 le_test a b h = grind (arith, nat_tests)
 
-digit_of : (c : ℕ) → is_from 48 57 c ≡ true → IsAsciiDigit c
+pub digit_of : (c : ℕ) → is_digit c ≡ true → IsAsciiDigit c
 digit_of c h = let both = and_left (nat_le 48 c) (nat_le c 57) h in (nat_le_of 48 c both.0, nat_le_of c 57 both.1)
+
+digit_again : (c : ℕ) → IsAsciiDigit c → is_digit c ≡ true
+digit_again c h = rw (le_test 48 c h.0, le_test c 57 h.1) refl
 
 -- the digits are digits, and are before the rest
 digits_take : (text : List ℕ) → (text ≡ (digits_at text).0 ++ (digits_at text).1) × All IsAsciiDigit (digits_at text).0
-digits_take [] = (refl, All-nil IsAsciiDigit)
-digits_take (c ∷ text) = go (is_from 48 57 c) refl (digits_take text)
-  where
-    go : (b : Bool) → is_from 48 57 c ≡ b → (text ≡ (digits_at text).0 ++ (digits_at text).1) × All IsAsciiDigit (digits_at text).0
-        → (c ∷ text ≡ (cond b (digit_before c (digits_at text)) ([], c ∷ text)).0 ++ (cond b (digit_before c (digits_at text)) ([], c ∷ text)).1)
-        × All IsAsciiDigit (cond b (digit_before c (digits_at text)) ([], c ∷ text)).0
-    go true e r = (ap (λ t. c ∷ t) r.0, All-cons IsAsciiDigit c (digits_at text).0 (digit_of c e) r.1)
-    go false e r = (refl, All-nil IsAsciiDigit)
+digits_take text =
+    let l = longest_cut is_digit text in (l.cut, λ i d lt. digit_of _ (AllPass-from_list_all is_digit (digits_at text).0 l.passes i d lt))
+
+-- there is no other way to cut them off
+pub digits_are : {text front rest : List ℕ} → Longest is_digit text front rest → digits_at text ≡ (front, rest)
+digits_are {text} l = let same = longest_one (longest_cut is_digit text) l in cc (same.0, same.1)
 
 abbrev IsNumberBefore : List ℕ → ℕ × List ℕ → Type 0
 IsNumberBefore text x = (m : List ℕ) × (text ≡ m ++ x.1) × IsNumber m x.0
@@ -98,20 +102,15 @@ interval_takes text =
     regroup m n r = sym (append_assoc ((m ++ codes ",") ++ n) (codes "\\}") r
         ∙ (append_assoc (m ++ codes ",") n (92 ∷ 125 ∷ r) ∙ append_assoc m (codes ",") (n ++ 92 ∷ 125 ∷ r)))
 
-is_from_of : (c : ℕ) → IsAsciiDigit c → is_from 48 57 c ≡ true
-is_from_of c h = rw (le_test 48 c h.0, le_test c 57 h.1) refl
-
-digits_again : (m rest : List ℕ) → All IsAsciiDigit m → digits_at rest ≡ ([], rest) → digits_at (m ++ rest) ≡ (m, rest)
-digits_again [] rest h e = e
-digits_again (c ∷ m) rest h e =
-    let d : is_from 48 57 c ≡ true = is_from_of c (All-head IsAsciiDigit c m h) in
-    rw d (ap (digit_before c) (digits_again m rest (All-tail IsAsciiDigit c m h) e))
+digits_again : (m rest : List ℕ) → All IsAsciiDigit m → IsEmptyOr (λ b. not (is_digit b)) rest → digits_at (m ++ rest) ≡ (m, rest)
+digits_again m rest h e =
+    let passes = list_all-from_AllPass is_digit m (λ i d l. digit_again _ (h i d l)) in digits_are (record { cut = refl; passes = passes; stops = e })
 
 some_digits : (m : List ℕ) → (m ≡ [] → ⊥) → is_empty m ≡ false
 some_digits [] h = absurd (h refl)
 some_digits (c ∷ m) h = refl
 
-number_again : (m rest : List ℕ) (n : ℕ) → IsNumber m n → digits_at rest ≡ ([], rest) → number_at (m ++ rest) ≡ Some (n, rest)
+number_again : (m rest : List ℕ) (n : ℕ) → IsNumber m n → IsEmptyOr (λ b. not (is_digit b)) rest → number_at (m ++ rest) ≡ Some (n, rest)
 number_again m rest n h e =
     let few : nat_le (digits_value 10 m) 255 ≡ true = le_test (digits_value 10 m) 255 (omega (arith, h.2, h.3)) in
     let some : is_empty m ≡ false = some_digits m h.0 in

@@ -1,5 +1,5 @@
 -- The loop over the items of a list: what has been read, before what is left to read.
-use Rattle.std.proofs.Common.{◌≡◌, ℕ, ◌+◌, ◌<◌, ◌≤◌, Bool, true, false, List, [], ◌∷◌, ◌++◌, length, Option, Some, None, refl, sym, ap, ◌∙◌, append_assoc, get_or}
+use Rattle.std.proofs.Common.{◌≡◌, ℕ, zero, suc, ◌+◌, ◌<◌, ◌≤◌, Bool, true, false, List, [], ◌∷◌, ◌++◌, length, Option, Some, None, refl, sym, ap, ◌∙◌, append_assoc, get_or, arith}
 use Rattle.std.specs.Prelude.{◌==◌, ◌||◌}
 use Rattle.std.proofs.Math.ListN.{set}
 use Rattle.std.proofs.Common.{get_or-set_same, get_or-set_other}
@@ -11,13 +11,12 @@ use Rattle.sedck_bre.specs.Tree.{Tree, Trees, Nil, Then, trees, groups_in, is_in
 use Rattle.sedck_bre.specs.View.{tree}
 use Rattle.sedck_bre.specs.Private.Sequence.{sequence}
 use Rattle.sedck_bre.specs.Shape.{Level, Inside, Position, First, behind}
-use Rattle.sedck_bre.specs.Private.Reading.{◌>>=◌, at_end, atom, with_sign, before_all, more, items_of}
+use Rattle.sedck_bre.specs.Private.Reading.{◌>>=◌, at_end, atom, with_sign, before_all, more, some_items, items}
 use Rattle.sedck_bre.specs.Private.FullReading.{full}
 use Rattle.sedck_bre.specs.declared.tree.Bre.{Bre}
 use Rattle.sedck_bre.proofs.ReadLemmas.{Takes, Reads}
 use Rattle.sedck_bre.proofs.IntervalLemmas.{interval_takes, interval_again}
 use Rattle.sedck_bre.proofs.WholeBracket.{bracket_takes, bracket_again}
-use Rattle.sedck_bre.proofs.ReadingFuel.{items_step}
 
 pub full_takes : Takes full
 full_takes = record { bracket = bracket_takes; interval = interval_takes }
@@ -53,43 +52,62 @@ groups-push [] x = append-nil (groups_in (tree x))
 groups-push (y ∷ xs) x = ap (λ g. groups_in (tree y) ++ g) (groups-push xs x)
     ∙ sym (append_assoc (groups_in (tree y)) (groups_in (sequence xs)) (groups_in (tree x)))
 
-module _ (level : Level) (place : Position) (deep opened : ℕ) (closed text : List ℕ) (few : opened ≤ 99) (shallow : deep ≤ 32) (front : List Tree) where
-  abbrev rest_read : Option (Trees × List ℕ)
-  rest_read = items_of full level place deep opened closed text
+-- the whole reading is that of the rest of the text, with the trees before it
+pub record LeftToRead (read : Option (Trees × List ℕ)) (front : List Tree) (level : Level) (place : Position) (deep opened : ℕ) (closed text : List ℕ)
+    : Type 0 where
+  pub bound : ℕ
+  pub enough : length text < bound
+  pub is : with_front front (items full bound level place deep opened closed text) ≡ read
 
-  abbrev bare_read : Option (Tree × List ℕ)
-  bare_read = atom full (items_of full Inside First (deep + 1) (opened + 1) closed) level place deep opened closed text
+with_front-nil : (o : Option (Trees × List ℕ)) → with_front [] o ≡ o
+with_front-nil None = refl
+with_front-nil (Some x) = refl
 
-  pub loop_ends : at_end text ≡ true → with_front front rest_read ≡ Some (trees front, text)
-  loop_ends e = ap (with_front front) (items_step full full_takes level place deep opened closed text few shallow)
-      ∙ rw e (ap (λ ts. Some (ts, text)) (onto-nil front))
+pub loop_starts : (bound : ℕ) (level : Level) (place : Position) (deep opened : ℕ) (closed text : List ℕ) → length text < bound
+    → LeftToRead (items full bound level place deep opened closed text) [] level place deep opened closed text
+loop_starts bound level place deep opened closed text enough = record { bound = bound; enough = enough; is = with_front-nil _ }
 
-  opens : at_end text ≡ false → rest_read ≡ (bare_read >>= with_sign full >>= more (items_of full) level place deep opened closed)
-  opens e = items_step full full_takes level place deep opened closed text few shallow ∙ rw e refl
+module _ {read : Option (Trees × List ℕ)} {front : List Tree} {level : Level} {place : Position} {deep opened : ℕ} {closed text : List ℕ}
+    (left : LeftToRead read front level place deep opened closed text) where
+  abbrev bare_read : ℕ → Option (Tree × List ℕ)
+  bare_read n = atom full (items full n Inside First (deep + 1) (opened + 1) closed) level place deep opened closed text
 
-  pub loop_goes : (bare item : Tree) (sign after : List ℕ) → at_end text ≡ false → bare_read ≡ Some (bare, sign)
-      → with_sign full (bare, sign) ≡ Some (item, after)
-      → with_front front rest_read ≡ with_front (front ++ item ∷ [])
-      (items_of full level (behind place item) deep (opened + length (groups_in item)) (closed ++ groups_in item) after)
-  loop_goes bare item sign after e a s =
-      ap (with_front front)
-      (opens e ∙ (ap (λ o. o >>= with_sign full >>= more (items_of full) level place deep opened closed) a
-      ∙ ap (λ o. o >>= more (items_of full) level place deep opened closed) s))
-      ∙ with_front-push front item (items_of full level (behind place item) deep (opened + length (groups_in item)) (closed ++ groups_in item) after)
+  -- the bound for what follows the first item
+  step : (n : ℕ) × (length text ≤ n) × (with_front front (some_items full (items full n) level place deep opened closed text) ≡ read)
+  unfolding items
+  step = go left.bound left.enough left.is
+    where
+      go : (n : ℕ) → length text < n → with_front front (items full n level place deep opened closed text) ≡ read
+          → (n : ℕ) × (length text ≤ n) × (with_front front (some_items full (items full n) level place deep opened closed text) ≡ read)
+      go zero enough is = absurd (omega arith)
+      go (suc n) enough is = (n, omega (arith, enough), is)
 
-  pub loop_fails : at_end text ≡ false → bare_read ≡ None → with_front front rest_read ≡ None
-  loop_fails e a = ap (with_front front) (opens e ∙ ap (λ o. o >>= with_sign full >>= more (items_of full) level place deep opened closed) a)
+  pub loop_ends : at_end text ≡ true → read ≡ Some (trees front, text)
+  loop_ends e = sym step.2 ∙ rw e (ap (λ ts. Some (ts, text)) (onto-nil front))
 
-  pub loop_fails_at : (bare : Tree) (sign : List ℕ) → at_end text ≡ false → bare_read ≡ Some (bare, sign) → with_sign full (bare, sign) ≡ None
-      → with_front front rest_read ≡ None
-  loop_fails_at bare sign e a s = ap (with_front front)
-      (opens e ∙ (ap (λ o. o >>= with_sign full >>= more (items_of full) level place deep opened closed) a
-      ∙ ap (λ o. o >>= more (items_of full) level place deep opened closed) s))
+  pub loop_fails : at_end text ≡ false → ((n : ℕ) → length text ≤ n → bare_read n ≡ None) → read ≡ None
+  loop_fails e a = sym step.2 ∙ rw e (ap (λ o. with_front front (o >>= with_sign full >>= more (items full step.0) level place deep opened closed)) (a step.0 step.1))
 
--- the same reading, from equal parts
-pub same_read : (level : Level) (deep : ℕ) (after : List ℕ) (f g : List Tree) (p q : Position) (m n : ℕ) (c d : List ℕ) → f ≡ g → p ≡ q → m ≡ n → c ≡ d
-    → with_front f (items_of full level p deep m c after) ≡ with_front g (items_of full level q deep n d after)
-same_read level deep after f g p q m n c d e1 e2 e3 e4 = rw (e1, e2, e3, e4) refl
+  module _ (bare : Tree) (sign : List ℕ) (going : at_end text ≡ false) (is : (n : ℕ) → length text ≤ n → bare_read n ≡ Some (bare, sign)) where
+    signed_read : with_front front (with_sign full (bare, sign) >>= more (items full step.0) level place deep opened closed) ≡ read
+    signed_read =
+        sym (rw going (ap (λ o. with_front front (o >>= with_sign full >>= more (items full step.0) level place deep opened closed)) (is step.0 step.1))) ∙ step.2
+
+    pub loop_fails_at : with_sign full (bare, sign) ≡ None → read ≡ None
+    loop_fails_at s = sym signed_read ∙ ap (λ o. with_front front (o >>= more (items full step.0) level place deep opened closed)) s
+
+    pub loop_goes : (item : Tree) (after : List ℕ) → with_sign full (bare, sign) ≡ Some (item, after) → length after < length text
+        → LeftToRead read (front ++ item ∷ []) level (behind place item) deep (opened + length (groups_in item)) (closed ++ groups_in item) after
+    loop_goes item after s less = record {
+      bound = step.0;
+      enough = omega (arith, less, step.1);
+      is = sym (ap (λ o. with_front front (o >>= more (items full step.0) level place deep opened closed)) s ∙ with_front-push front item _) ∙ signed_read;
+    }
+
+-- the same is left to read, from equal parts
+pub same_left : {read : Option (Trees × List ℕ)} {level : Level} {deep : ℕ} {after : List ℕ} {f g : List Tree} {p q : Position} {m n : ℕ} {c d : List ℕ}
+    → f ≡ g → p ≡ q → m ≡ n → c ≡ d → LeftToRead read g level q deep n d after → LeftToRead read f level p deep m c after
+same_left e1 e2 e3 e4 l = rw (e1, e2, e3, e4) l
 
 pub closed-push : (closed : List ℕ) (xs : List Bre) (x : Bre)
     → closed ++ groups_in (sequence (xs ++ x ∷ [])) ≡ (closed ++ groups_in (sequence xs)) ++ groups_in (tree x)

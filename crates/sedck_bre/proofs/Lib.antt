@@ -10,7 +10,6 @@ pub mod ReadLemmas
 pub mod ReadingSound
 pub mod ItemBeginnings
 pub mod ReadingComplete
-pub mod ReadingFuel
 pub mod ItemLoop
 pub mod WholeReading
 pub mod IntervalLemmas
@@ -22,7 +21,7 @@ pub mod WholeBracket
 pub mod SetLemmas
 pub mod NumberReading
 pub mod ClassNames
-pub mod BracketFuel
+pub mod ElementLoop
 pub mod SetLoop
 pub mod OffsetLemmas
 pub mod UntouchedGroups

@@ -4,10 +4,10 @@ use Rattle.std.specs.Prelude.{◌==◌, ◌&&◌, ◌||◌, not}
 use Rattle.std.specs.List.{list_any}
 use Rattle.sedck_bre.specs.WellFormed.{IsByteSet}
 use Rattle.sedck_bre.specs.Brackets.{Element, in_element, is_mistakable, is_listed}
-use Rattle.sedck_bre.specs.Private.BracketReading.{words_of, inside_of, clear_of, set_of}
+use Rattle.sedck_bre.specs.Private.BracketReading.{words_of, inside_of, clear_of, set_of, elements_of, set_at}
 use Rattle.sedck_bre.specs.Private.Reading.{◌>>=◌}
 use Rattle.sedck_bre.specs.Private.Sets.{bit_of, HasJust, some_word, has_no_word}
-use Rattle.sedck_bre.specs.Private.BracketCode.{is_of, signed, elements_of, set_at}
+use Rattle.sedck_bre.specs.Private.BracketCode.{is_of, signed}
 use Rattle.sedck_bre.proofs.SetLemmas.{just_same}
 use Rattle.sedck_bre.proofs.BracketSets.{set_same}
 
@@ -56,7 +56,7 @@ signed_same : (complement : Bool) (es : List Element) (b : ℕ) → signed compl
 signed_same true es b = refl
 signed_same false es b = refl
 
-module _ (complement : Bool) (text rest words : List ℕ) (es : List Element) (read : elements_of true text ≡ Some (es, rest)) (set : IsByteSet words)
+module _ (complement : Bool) (text rest words : List ℕ) (es : List Element) (read : elements_of text ≡ Some (es, rest)) (set : IsByteSet words)
     (just : HasJust words (signed complement (is_of es))) where
   clear_is : (b : Bool) → is_mistakable (inside_of text rest) ≡ b → set_at complement text ≡ cond b None (set_of complement (es, rest))
   clear_is true e = ap (λ o. o >>= clear_of text >>= set_of complement) read ∙ ap (λ b. cond b None (Some (es, rest)) >>= set_of complement) e
@@ -79,7 +79,7 @@ module _ (complement : Bool) (text rest words : List ℕ) (es : List Element) (r
   set_empty clear h = set_is clear ∙ ap (λ b. cond (not b) (Some (words, rest)) None) h
 
 -- a list that is mistakable isn't read
-pub set_mistakable : (complement : Bool) (text rest : List ℕ) (es : List Element) → elements_of true text ≡ Some (es, rest)
+pub set_mistakable : (complement : Bool) (text rest : List ℕ) (es : List Element) → elements_of text ≡ Some (es, rest)
     → is_mistakable (inside_of text rest) ≡ true → set_at complement text ≡ None
 set_mistakable complement text rest es read e =
     ap (λ o. o >>= clear_of text >>= set_of complement) read ∙ ap (λ b. cond b None (Some (es, rest)) >>= set_of complement) e

@@ -8,7 +8,7 @@ use Rattle.sedck_bre.specs.WellFormed.{HasMember}
 use Rattle.sedck_bre.specs.Brackets.{class_name, Element, One, Range, Members, WritesByte, WritesElement, WritesElements, opening, is_mistakable, is_listed, IsBracketList}
 use Rattle.sedck_bre.specs.Shape.{is_empty}
 use Rattle.sedck_bre.specs.Private.Reading.{◌>>=◌}
-use Rattle.sedck_bre.specs.Private.BracketReading.{element_at, before_elements, others, elements_at, words_of, inside_of, clear_of, set_of, inside_at, bracket_at}
+use Rattle.sedck_bre.specs.Private.BracketReading.{element_at, before_elements, others, elements_at, words_of, inside_of, clear_of, set_of, elements_of, set_at, inside_at, bracket_at}
 use Rattle.sedck_bre.specs.Private.Sets.{some_word}
 use Rattle.sedck_bre.proofs.ReadLemmas.{bind_holds, cond_holds}
 use Rattle.sedck_bre.proofs.BracketLemmas.{one_front, begins_before, is_closing_front}
@@ -110,18 +110,18 @@ bracket_again u words rest h member = ap (λ x. bracket_at (x ++ rest)) h.writte
     enough : length h.elements ≤ length (h.inside ++ 93 ∷ rest)
     enough = omega (arith, elements_few h.elements true h.inside h.spelled, length-append h.inside (93 ∷ rest))
 
+    all : (complement : Bool) → words ≡ words_of (is_listed complement h.elements) → set_at complement text ≡ Some (words, rest)
+    all complement is =
+        ap (λ o. o >>= clear_of text >>= set_of complement)
+        (elements_again h.elements (length text + 1) true h.inside rest h.spelled (λ _. h.some) (omega (arith, enough)))
+        ∙ ap (λ o. o >>= set_of complement) clear ∙ set complement is
+
     go : (complement : Bool) → (complement ≡ false → begins "^" h.inside ≡ false) → words ≡ words_of (is_listed complement h.elements)
         → bracket_at ((opening complement ++ h.inside ++ codes "]") ++ rest) ≡ Some (words, rest)
-    go true sign is =
-        ap bracket_at (tail true) ∙ ap (λ o. o >>= clear_of (h.inside ++ 93 ∷ rest) >>= set_of true)
-        (elements_again h.elements (suc (length (h.inside ++ 93 ∷ rest))) true h.inside rest h.spelled (λ _. h.some) (omega (arith, enough)))
-        ∙ ap (λ o. o >>= set_of true) clear ∙ set true is
+    go true sign is = ap bracket_at (tail true) ∙ all true is
     go false sign is =
         ap bracket_at (tail false)
-        ∙ ap (λ b. cond b (elements_at (length text) true (drop 1 text) >>= clear_of (drop 1 text) >>= set_of true)
-        (elements_at (length text + 1) true text >>= clear_of text >>= set_of false)) (begins_before "^" h.inside rest refl ∙ sign refl)
-        ∙ ap (λ o. o >>= clear_of text >>= set_of false) (elements_again h.elements (length text + 1) true h.inside rest h.spelled (λ _. h.some)
-        (omega (arith, enough))) ∙ ap (λ o. o >>= set_of false) clear ∙ set false is
+        ∙ ap (λ b. cond b (set_at true (drop 1 text)) (set_at false text)) (begins_before "^" h.inside rest refl ∙ sign refl) ∙ all false is
 
 -- ---- What is read is a bracket list
 
@@ -180,9 +180,9 @@ bracket_takes text =
     (λ open_bracket. subst (λ t. IfSome (inside_at (drop 1 text)) (IsListBefore t)) (sym (one_front "[" 91 text refl open_bracket)) (behind (drop 1 text)))
     (λ _. tt)
   where
-    all : (complement : Bool) (n : ℕ) (text : List ℕ) → (complement ≡ false → begins "^" text ≡ false)
-        → IfSome (elements_at n true text >>= clear_of text >>= set_of complement) (IsListBefore (opening complement ++ text))
-    all complement n text sign = joined (elements_at n true text) (elements_take n true text)
+    all : (complement : Bool) (text : List ℕ) → (complement ≡ false → begins "^" text ≡ false)
+        → IfSome (set_at complement text) (IsListBefore (opening complement ++ text))
+    all complement text sign = joined (elements_of text) (elements_take (length text + 1) true text)
       where
         joined : (o : Option (List Element × List ℕ)) → IfSome o (AreElementsBefore true text)
             → IfSome (o >>= clear_of text >>= set_of complement) (IsListBefore (opening complement ++ text))
@@ -191,7 +191,7 @@ bracket_takes text =
 
     behind : (text : List ℕ) → IfSome (inside_at text) (IsListBefore (91 ∷ text))
     behind text =
-        cond_holds (begins "^" text) (elements_at (length text) true (drop 1 text) >>= clear_of (drop 1 text) >>= set_of true) _ (IsListBefore (91 ∷ text))
-        (λ sign. subst (λ t. IfSome (elements_at (length text) true (drop 1 text) >>= clear_of (drop 1 text) >>= set_of true) (IsListBefore (91 ∷ t)))
-        (sym (one_front "^" 94 text refl sign)) (all true (length text) (drop 1 text) (λ is. absurd (false≢true (sym is)))))
-        (λ sign. all false (length text + 1) text (λ _. sign))
+        cond_holds (begins "^" text) (set_at true (drop 1 text)) (set_at false text) (IsListBefore (91 ∷ text))
+        (λ sign. subst (λ t. IfSome (set_at true (drop 1 text)) (IsListBefore (91 ∷ t))) (sym (one_front "^" 94 text refl sign))
+        (all true (drop 1 text) (λ is. absurd (false≢true (sym is)))))
+        (λ sign. all false text (λ _. sign))

@@ -1,9 +1,9 @@
 -- The reading of a whole text, from that of its list of items.
-use Rattle.std.proofs.Common.{◌≡◌, ℕ, false, List, [], ◌∷◌, length, Some, None, refl, sym, ap, ◌∙◌, replicate}
+use Rattle.std.proofs.Common.{◌≡◌, ℕ, ◌+◌, false, List, [], ◌∷◌, length, Some, None, refl, sym, ap, ◌∙◌, replicate}
 use Rattle.std.proofs.lemmas.List.{get_or-replicate}
 use Rattle.sedck_bre.specs.Tree.{Tree, Trees, Seq}
 use Rattle.sedck_bre.specs.Shape.{Whole, First, Shape}
-use Rattle.sedck_bre.specs.Private.Reading.{◌>>=◌, items_of, whole, read}
+use Rattle.sedck_bre.specs.Private.Reading.{◌>>=◌, items, whole, read}
 use Rattle.sedck_bre.specs.Private.FullReading.{full}
 use Rattle.sedck_bre.specs.Private.Gives.{ClosedIs}
 use Rattle.sedck_bre.proofs.ReadingSound.{read_sound}
@@ -11,21 +11,21 @@ use Rattle.sedck_bre.specs.Laws.{TextsHaveOneTree}
 use Rattle.sedck_bre.proofs.ReadingComplete.{read_again, one_shape}
 use Rattle.sedck_bre.proofs.ItemLoop.{full_takes, full_reads}
 
-pub read-items : (text : List ℕ) → read full text ≡ (items_of full Whole First 0 0 [] text >>= whole)
-unfolding read items_of
+pub read-items : (text : List ℕ) → read full text ≡ (items full (length text + 1) Whole First 0 0 [] text >>= whole)
+unfolding read
 read-items text = refl
 
-pub read-none : (text : List ℕ) → items_of full Whole First 0 0 [] text ≡ None → read full text ≡ None
+pub read-none : (text : List ℕ) → items full (length text + 1) Whole First 0 0 [] text ≡ None → read full text ≡ None
 read-none text e = read-items text ∙ ap (λ o. o >>= whole) e
 
-pub read-over : (text : List ℕ) (ts : Trees) → items_of full Whole First 0 0 [] text ≡ Some (ts, []) → read full text ≡ Some (Seq ts)
+pub read-over : (text : List ℕ) (ts : Trees) → items full (length text + 1) Whole First 0 0 [] text ≡ Some (ts, []) → read full text ≡ Some (Seq ts)
 read-over text ts e = read-items text ∙ ap (λ o. o >>= whole) e
 
 whole-rest : (ts : Trees) (rest : List ℕ) → (length rest ≡ 0 → ⊥) → whole (ts, rest) ≡ None
 whole-rest ts [] h = absurd (h refl)
 whole-rest ts (x ∷ rest) h = refl
 
-pub read-rest : (text : List ℕ) (ts : Trees) (rest : List ℕ) → (length rest ≡ 0 → ⊥) → items_of full Whole First 0 0 [] text ≡ Some (ts, rest)
+pub read-rest : (text : List ℕ) (ts : Trees) (rest : List ℕ) → (length rest ≡ 0 → ⊥) → items full (length text + 1) Whole First 0 0 [] text ≡ Some (ts, rest)
     → read full text ≡ None
 read-rest text ts rest h e = read-items text ∙ (ap (λ o. o >>= whole) e ∙ whole-rest ts rest h)
 

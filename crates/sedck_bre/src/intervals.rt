@@ -1,10 +1,25 @@
 //! Intervals: the bounds between `\{` and `\}`.
-ghost use Rattle.std.specs.Prelude.{◌≡◌, ◌≤◌, length, IfSome};
+ghost use Rattle.std.specs.Prelude.{◌≡◌, ◌≤◌, length, min, IsTrue, IfSome};
+ghost use Rattle.std.specs.List.{list_all};
 ghost use Rattle.std.specs.Option.{option_map};
+ghost use Rattle.std.specs.Str.Parse.{digits_value};
+ghost use Rattle.sedck_text.specs.Classes.{is_digit};
 ghost use Rattle.sedck_text.specs.Cursors.{unread};
 ghost use Rattle.sedck_bre.specs.Private.IntervalReading.{number_at, upper_at, bounds_at, interval_at};
 
-use sedck_text::Cursor;
+use sedck_text::{Class, Cursor};
+
+/// The value of the digits, where 256 stands for each greater one.
+fn value_of(digits: &[u8]) -> u16
+    requires { IsTrue (list_all is_digit digits.now) }
+    ensures { result ≡ min (digits_value 10 digits.now) 256 }
+{
+    let mut value = 0;
+    for digit in digits {
+        value = (value * 10 + u16::from(*digit - b'0')).min(256);
+    }
+    value
+}
 
 /// The number at the start, where it has a digit and is at most 255, and the cursor behind it.
 fn read_number<'a>(cursor: Cursor<'a>) -> Option<(u8, Cursor<'a>)>
@@ -12,20 +27,12 @@ fn read_number<'a>(cursor: Cursor<'a>) -> Option<(u8, Cursor<'a>)>
     ensures same { IfSome result (λ x. x.1.whole ≡ cursor.entry.whole) }
     ensures shorter { IfSome result (λ x. length (unread x.1) ≤ length (unread cursor.entry)) }
 {
-    // A value that is too large stays at 256, however many digits follow.
-    let mut value: u16 = 0;
-    let mut next = cursor;
-    'digits: while let [digit @ b'0'..=b'9', ..] = next.unread() {
-        value = (value * 10 + u16::from(*digit - b'0')).min(256);
-        next = next.advance(1);
-    }
-    if next.offset() == cursor.offset() {
+    let (digits, behind) = cursor.split(Class::Digit);
+    let value = value_of(digits);
+    if digits.is_empty() || value > 255 {
         return None;
     }
-    if value > 255 {
-        return None;
-    }
-    Some((value as u8, next))
+    Some((value as u8, behind))
 }
 
 /// What follows the comma of an interval: the second number, if there is one, and the end.

@@ -8,7 +8,7 @@ ghost use Rattle.sedck_bre.specs.Shape.{Shape};
 ghost use Rattle.sedck_bre.specs.Shape as shape;
 ghost use Rattle.sedck_bre.specs.Faults.{IsPlaced, IsOfText};
 ghost use Rattle.sedck_bre.specs.Private.Sequence.{sequence};
-ghost use Rattle.sedck_bre.specs.Private.Reading.{begins_pair, at_end, items_of, atom, group_at};
+ghost use Rattle.sedck_bre.specs.Private.Reading.{begins_pair, at_end, items, atom, group_at};
 ghost use Rattle.sedck_bre.specs.Private.FullReading.{full};
 ghost use Rattle.sedck_bre.specs.Private.Gives.{Gives, position_of, level_of, ClosedIs};
 
@@ -48,7 +48,7 @@ fn read_items<'a>(
 ) -> Result<(Vec<Bre>, Cursor<'a>), ReFault>
     requires few { groups.old.opened ≤ 99 }
     requires shallow { depth ≤ 32 }
-    ensures value { (closed : List ℕ) → ClosedIs groups.old.closed closed → Gives (λ x. (trees (map tree x.0.items), unread x.1)) result (items_of full (level_of depth) shape.First depth groups.old.opened closed (unread cursor.entry)) }
+    ensures value { (bound : ℕ) (closed : List ℕ) → length (unread cursor.entry) < bound → ClosedIs groups.old.closed closed → Gives (λ x. (trees (map tree x.0.items), unread x.1)) result (items full bound (level_of depth) shape.First depth groups.old.opened closed (unread cursor.entry)) }
     ensures few { groups.new.opened ≤ 99 }
     ensures opened { IfOk result (λ x. groups.new.opened ≡ groups.old.opened + length (groups_in (sequence x.0.items))) }
     ensures closed { (closed : List ℕ) → ClosedIs groups.old.closed closed → IfOk result (λ x. ClosedIs groups.new.closed (closed ++ groups_in (sequence x.0.items))) }
@@ -82,7 +82,7 @@ fn read_item<'a>(
     requires going { at_end (unread cursor) ≡ false }
     requires few { groups.old.opened ≤ 99 }
     requires shallow { depth ≤ 32 }
-    ensures value { (closed : List ℕ) → ClosedIs groups.old.closed closed → Gives (λ x. (tree x.0, unread x.1)) result (atom full (items_of full shape.Inside shape.First (depth + 1) (groups.old.opened + 1) closed) (level_of depth) (position_of position) depth groups.old.opened closed (unread cursor.entry)) }
+    ensures value { (bound : ℕ) (closed : List ℕ) → length (unread cursor.entry) ≤ bound → ClosedIs groups.old.closed closed → Gives (λ x. (tree x.0, unread x.1)) result (atom full (items full bound shape.Inside shape.First (depth + 1) (groups.old.opened + 1) closed) (level_of depth) (position_of position) depth groups.old.opened closed (unread cursor.entry)) }
     ensures few { groups.new.opened ≤ 99 }
     ensures opened { IfOk result (λ x. groups.new.opened ≡ groups.old.opened + length (groups_in (tree x.0))) }
     ensures closed { (closed : List ℕ) → ClosedIs groups.old.closed closed → IfOk result (λ x. ClosedIs groups.new.closed (closed ++ groups_in (tree x.0))) }
@@ -107,7 +107,7 @@ fn read_group<'a>(
     requires opens { begins_pair 40 (unread cursor) ≡ true }
     requires few { groups.old.opened ≤ 99 }
     requires shallow { depth ≤ 32 }
-    ensures value { (closed : List ℕ) → ClosedIs groups.old.closed closed → Gives (λ x. (tree x.0, unread x.1)) result (group_at (items_of full shape.Inside shape.First (depth + 1) (groups.old.opened + 1) closed) depth groups.old.opened (drop 2 (unread cursor.entry))) }
+    ensures value { (bound : ℕ) (closed : List ℕ) → length (unread cursor.entry) ≤ bound → ClosedIs groups.old.closed closed → Gives (λ x. (tree x.0, unread x.1)) result (group_at (items full bound shape.Inside shape.First (depth + 1) (groups.old.opened + 1) closed) depth groups.old.opened (drop 2 (unread cursor.entry))) }
     ensures few { groups.new.opened ≤ 99 }
     ensures opened { IfOk result (λ x. groups.new.opened ≡ groups.old.opened + length (groups_in (tree x.0))) }
     ensures closed { (closed : List ℕ) → ClosedIs groups.old.closed closed → IfOk result (λ x. ClosedIs groups.new.closed (closed ++ groups_in (tree x.0))) }

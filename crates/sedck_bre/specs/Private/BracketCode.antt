@@ -1,10 +1,8 @@
 -- How the code's values relate to what is read of a bracket list.
-use Rattle.std.specs.Prelude.{◌≡◌, ℕ, ◌+◌, not, Bool, true, List, ◌++◌, codes, length, drop, nat_eq, if◌then◌else◌, Option, Some, None, Result, Ok, Err}
+use Rattle.std.specs.Prelude.{◌≡◌, ℕ, ◌-◌, ◌<◌, ◌≤◌, not, Bool, List, ◌++◌, codes, length, drop, nat_eq, if◌then◌else◌, Option, Some, None, Result, Ok, Err}
 use Rattle.std.specs.List.{list_any, starts_with}
 use Rattle.sedck_bre.specs.Brackets as brackets
 use Rattle.sedck_bre.specs.Brackets.{class_name, in_element}
-use Rattle.sedck_bre.specs.Private.Reading.{◌>>=◌}
-use Rattle.sedck_bre.specs.Private.BracketReading.{elements_at, clear_of, set_of}
 use Rattle.sedck_bre.specs.Faults.{HasOneAt}
 use Rattle.sedck_bre.specs.Private.Sets.{HasJust}
 use Rattle.sedck_bre.specs.declared.brackets.elements.Class.{Class}
@@ -46,23 +44,23 @@ abbrev pub Reads : {X Y E : Type 0} → (X → Y) → Result X E → Option Y �
 Reads view (Ok x) read = read ≡ Some (view x)
 Reads view (Err flaw) read = read ≡ None
 
+-- so many bytes are read of the text
+abbrev pub IsTaken : ℕ → List ℕ → Type 0
+IsTaken count text = (0 < count) × (count ≤ length text)
+
 -- an element is flawed, and not by an escape
 abbrev pub HasNoEscape : Flaw → Type 0
-HasNoEscape (Escape place) = ⊥
+HasNoEscape (Escape left) = ⊥
 HasNoEscape _ = Unit {0}
 
 -- a refused escape is at a backslash of the text
 abbrev pub IsFlawIn : List ℕ → Flaw → Type 0
-IsFlawIn text (Escape place) = HasOneAt text place "\\"
+IsFlawIn text (Escape left) = (left ≤ length text) × HasOneAt text (length text - left) "\\"
 IsFlawIn text _ = Unit {0}
 
 -- a byte of one of the elements
 abbrev pub is_of : List brackets.Element → ℕ → Bool
 is_of es b = list_any (in_element b) es
-
--- the elements up to the closing bracket, and what follows it
-unfoldable pub elements_of : Bool → List ℕ → Option (List brackets.Element × List ℕ)
-elements_of first text = elements_at (length text + 1) first text
 
 -- elements are read, and the set has just their bytes
 abbrev pub HasElements : List ℕ → List ℕ → Option (List brackets.Element × List ℕ) → Type 0
@@ -71,7 +69,3 @@ HasElements words rest read = (es : List brackets.Element) × (read ≡ Some (es
 -- a test turned round, if the flag says so
 abbrev pub signed : Bool → (ℕ → Bool) → ℕ → Bool
 signed complement test b = if complement then not (test b) else test b
-
--- the set of the elements, or its complement, up to the closing bracket, and what follows it
-abbrev pub set_at : Bool → List ℕ → Option (List ℕ × List ℕ)
-set_at complement text = elements_of true text >>= clear_of text >>= set_of complement

@@ -110,11 +110,17 @@ inside_of text rest = take (length text - length rest - 1) text
 abbrev pub clear_of : List ℕ → List Element × List ℕ → Option (List Element × List ℕ)
 clear_of text (es, rest) = if is_mistakable (inside_of text rest) then None else Some (es, rest)
 
+-- all elements from here on, which begin a list
+abbrev pub elements_of : List ℕ → Option (List Element × List ℕ)
+elements_of text = elements_at (length text + 1) true text
+
+-- the set of the elements, or its complement, up to the closing bracket, and what follows it
+abbrev pub set_at : Bool → List ℕ → Option (List ℕ × List ℕ)
+set_at complement text = elements_of text >>= clear_of text >>= set_of complement
+
 -- what follows the opening bracket
 abbrev pub inside_at : List ℕ → Option (List ℕ × List ℕ)
-inside_at text =
-    if begins "^" text then (elements_at (length text) true (drop 1 text) >>= clear_of (drop 1 text) >>= set_of true)
-    else (elements_at (length text + 1) true text >>= clear_of text >>= set_of false)
+inside_at text = if begins "^" text then set_at true (drop 1 text) else set_at false text
 
 -- a whole bracket list with a member
 unfoldable pub bracket_at : List ℕ → Option (List ℕ × List ℕ)

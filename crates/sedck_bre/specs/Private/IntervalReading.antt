@@ -1,18 +1,15 @@
 -- A way to read an interval.
-use Rattle.std.specs.Prelude.{ℕ, nat_le, not, ◌&&◌, if◌then◌else◌, List, [], ◌∷◌, drop, Option, Some, None}
+use Rattle.std.specs.Prelude.{ℕ, nat_le, not, ◌&&◌, if◌then◌else◌, List, take, drop, Option, Some, None}
+use Rattle.std.specs.List.{prefix_len}
 use Rattle.std.specs.Str.Parse.{digits_value}
 use Rattle.sedck_text.specs.Text.{begins}
-use Rattle.sedck_bre.specs.Brackets.{is_from}
+use Rattle.sedck_text.specs.Classes.{is_digit}
 use Rattle.sedck_bre.specs.Shape.{is_empty}
 use Rattle.sedck_bre.specs.Private.Reading.{◌>>=◌, begins_pair}
 
-abbrev pub digit_before : ℕ → List ℕ × List ℕ → List ℕ × List ℕ
-digit_before c (digits, rest) = (c ∷ digits, rest)
-
 -- the digits at the start, and what follows them
 abbrev pub digits_at : List ℕ → List ℕ × List ℕ
-digits_at [] = ([], [])
-digits_at (c ∷ text) = if is_from 48 57 c then digit_before c (digits_at text) else ([], c ∷ text)
+digits_at text = (take (prefix_len is_digit text) text, drop (prefix_len is_digit text) text)
 
 abbrev pub number_of : List ℕ × List ℕ → Option (ℕ × List ℕ)
 number_of (digits, rest) = if not (is_empty digits) && nat_le (digits_value 10 digits) 255 then Some (digits_value 10 digits, rest) else None

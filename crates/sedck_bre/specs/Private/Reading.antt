@@ -130,7 +130,3 @@ whole (ts, _ ∷ _) = None
 
 unfoldable pub read : Readers → List ℕ → Option Tree
 read readers text = items readers (length text + 1) Whole First 0 0 [] text >>= whole
-
--- the items up to the end of their list, and what follows it
-unfoldable pub items_of : Readers → Lister
-items_of readers level position deep opened closed text = items readers (length text + 1) level position deep opened closed text

@@ -1,16 +1,15 @@
 //! The elements of a bracket list, and the bytes that each of them stands for.
 
-ghost use Rattle.std.specs.Prelude.{◌≡◌, ℕ, ◌==◌, ◌≤◌, length, IsTrue, IfOk, IfErr, Err};
-ghost use Rattle.sedck_text.specs.Cursors.{unread};
+ghost use Rattle.std.specs.Prelude.{◌≡◌, ℕ, ◌==◌, ◌≤◌, length, drop, true, IsTrue, IfOk, IfErr, Err};
+ghost use Rattle.sedck_text.specs.Text.{begins};
 ghost use Rattle.sedck_bre.specs.Brackets.{in_class, in_element, punct};
 ghost use Rattle.sedck_bre.specs.Private.Sets.{HasJust};
 ghost use Rattle.sedck_bre.specs.Private.BracketReading.{ranges, no_range, range_end_at, byte_or_range_at, whole_class_at, equivalents_at, last_dash_at, element_at};
-ghost use Rattle.sedck_bre.specs.Private.BracketCode.{class_of, element_of, closed_name, Reads, HasNoEscape, IsFlawIn};
+ghost use Rattle.sedck_bre.specs.Private.BracketCode.{class_of, element_of, closed_name, Reads, IsTaken, HasNoEscape, IsFlawIn};
 
 use super::sets::{range, union};
 use super::symbols::{Flaw, missing_end, read_byte, read_class, read_symbol};
 use crate::tree::ByteSet;
-use sedck_text::Cursor;
 
 /// A character class of the POSIX locale.
 #[derive(Clone, Copy)]
@@ -111,108 +110,109 @@ pub(crate) fn members(element: Element) -> ByteSet
     }
 }
 
-/// Whether what is before the cursor would begin a range.
-fn begins_range(cursor: Cursor<'_>) -> bool
-    ensures value { result ≡ ranges (unread cursor.entry) }
-    ensures long { IsTrue result → 2 ≤ length (unread cursor.entry) }
+/// Whether what is before the text would begin a range.
+fn begins_range(text: &[u8]) -> bool
+    ensures value { result ≡ ranges text.now }
+    ensures long { IsTrue result → 2 ≤ length text.now }
 {
-    match cursor.unread() {
+    match text {
         [sign, last, ..] => *sign == b'-' && *last != b']',
         _ => false,
     }
 }
 
-/// The element, which may be no end of a range.
-fn refuse_range<'a>(element: Element, cursor: Cursor<'a>) -> Result<(Element, Cursor<'a>), Flaw>
-    ensures read { Reads (λ x. (element_of x.0, unread x.1)) result (no_range (element_of element, unread cursor.entry)) }
-    ensures same { IfOk result (λ x. x.1.whole ≡ cursor.entry.whole) }
+/// The element, which is the first bytes of the text and may be no end of a range.
+fn refuse_range(element: Element, count: usize, text: &[u8]) -> Result<(Element, usize), Flaw>
+    requires { IsTaken count text.now }
+    ensures read { Reads (λ x. (element_of x.0, drop x.1 text.now)) result (no_range (element_of element, drop count text.now)) }
+    ensures taken { IfOk result (λ x. IsTaken x.1 text.now) }
     ensures flaw { IfErr result HasNoEscape }
 {
-    if begins_range(cursor) {
+    if begins_range(&text[count..]) {
         Err(Flaw::Bad)
     } else {
-        Ok((element, cursor))
+        Ok((element, count))
     }
 }
 
-/// The end of a range, where its first byte and the `-` are read.
-fn read_range_end<'a>(first: u8, cursor: Cursor<'a>) -> Result<(Element, Cursor<'a>), Flaw>
-    ensures read { Reads (λ x. (element_of x.0, unread x.1)) result (range_end_at first (unread cursor.entry)) }
-    ensures same { IfOk result (λ x. x.1.whole ≡ cursor.entry.whole) }
-    ensures flaw { IfErr result (λ flaw. IsFlawIn cursor.entry.whole.now flaw) }
+/// The range from the first byte on, of which so many bytes are read with its `-`.
+fn read_range_end(first: u8, count: usize, text: &[u8]) -> Result<(Element, usize), Flaw>
+    requires { count ≤ length text.now }
+    ensures read { Reads (λ x. (element_of x.0, drop x.1 text.now)) result (range_end_at first (drop count text.now)) }
+    ensures taken { IfOk result (λ x. IsTaken x.1 text.now) }
+    ensures flaw { IfErr result (λ flaw. IsFlawIn text.now flaw) }
 {
-    let (last, behind) = read_byte(cursor)?;
+    let (last, more) = read_byte(&text[count..])?;
     if first <= last {
-        Ok((Element::Range(first, last), behind))
+        Ok((Element::Range(first, last), count + more))
     } else {
         Err(Flaw::Bad)
     }
 }
 
 /// A byte or a range.
-fn read_byte_or_range<'a>(cursor: Cursor<'a>) -> Result<(Element, Cursor<'a>), Flaw>
-    ensures read { Reads (λ x. (element_of x.0, unread x.1)) result (byte_or_range_at (unread cursor.entry)) }
-    ensures same { IfOk result (λ x. x.1.whole ≡ cursor.entry.whole) }
-    ensures ended { length (unread cursor.entry) ≡ 0 → result ≡ Err Flaw.Unclosed }
-    ensures flaw { IfErr result (λ flaw. IsFlawIn cursor.entry.whole.now flaw) }
+fn read_byte_or_range(text: &[u8]) -> Result<(Element, usize), Flaw>
+    ensures read { Reads (λ x. (element_of x.0, drop x.1 text.now)) result (byte_or_range_at text.now) }
+    ensures taken { IfOk result (λ x. IsTaken x.1 text.now) }
+    ensures ended { length text.now ≡ 0 → result ≡ Err Flaw.Unclosed }
+    ensures flaw { IfErr result (λ flaw. IsFlawIn text.now flaw) }
 {
-    let (first, behind) = read_byte(cursor)?;
-    if begins_range(behind) {
-        read_range_end(first, behind.advance(1))
+    let (first, count) = read_byte(text)?;
+    if begins_range(&text[count..]) {
+        read_range_end(first, count + 1, text)
     } else {
-        Ok((Element::One(first), behind))
+        Ok((Element::One(first), count))
     }
 }
 
-/// A whole class, of which the cursor is behind the `[:`.
-fn read_whole_class<'a>(cursor: Cursor<'a>) -> Result<(Element, Cursor<'a>), Flaw>
-    ensures read { Reads (λ x. (element_of x.0, unread x.1)) result (whole_class_at (unread cursor.entry)) }
-    ensures same { IfOk result (λ x. x.1.whole ≡ cursor.entry.whole) }
+/// A whole class.
+fn read_whole_class(text: &[u8]) -> Result<(Element, usize), Flaw>
+    requires { 2 ≤ length text.now }
+    ensures read { Reads (λ x. (element_of x.0, drop x.1 text.now)) result (whole_class_at (drop 2 text.now)) }
+    ensures taken { IfOk result (λ x. IsTaken x.1 text.now) }
     ensures flaw { IfErr result HasNoEscape }
 {
-    match read_class(cursor) {
-        Some((class, behind)) => refuse_range(Element::Members(class), behind),
-        None => Err(missing_end(b':', cursor)),
+    match read_class(text) {
+        Some((class, count)) => refuse_range(Element::Members(class), count, text),
+        None => Err(missing_end(b':', &text[2..])),
     }
 }
 
-/// A whole equivalence class, of which the cursor is behind the `[=`.
-fn read_equivalents<'a>(cursor: Cursor<'a>) -> Result<(Element, Cursor<'a>), Flaw>
-    ensures read { Reads (λ x. (element_of x.0, unread x.1)) result (equivalents_at (unread cursor.entry)) }
-    ensures same { IfOk result (λ x. x.1.whole ≡ cursor.entry.whole) }
+/// A whole equivalence class.
+fn read_equivalents(text: &[u8]) -> Result<(Element, usize), Flaw>
+    ensures read { Reads (λ x. (element_of x.0, drop x.1 text.now)) result (equivalents_at (drop 2 text.now)) }
+    ensures taken { IfOk result (λ x. IsTaken x.1 text.now) }
     ensures flaw { IfErr result HasNoEscape }
 {
-    let (byte, behind) = read_symbol(b'=', cursor)?;
-    refuse_range(Element::One(byte), behind)
+    let (byte, count) = read_symbol(b'=', text)?;
+    refuse_range(Element::One(byte), count, text)
 }
 
-/// A `-` before the cursor that isn't first in its list: it has to be last.
-fn read_last_dash<'a>(cursor: Cursor<'a>) -> Result<(Element, Cursor<'a>), Flaw>
-    ensures read { Reads (λ x. (element_of x.0, unread x.1)) result (last_dash_at (unread cursor.entry)) }
-    ensures same { IfOk result (λ x. x.1.whole ≡ cursor.entry.whole) }
+/// A `-` that isn't first in its list: it has to be last.
+fn read_last_dash(text: &[u8]) -> Result<(Element, usize), Flaw>
+    requires { begins "-" text.now ≡ true }
+    ensures read { Reads (λ x. (element_of x.0, drop x.1 text.now)) result (last_dash_at (drop 1 text.now)) }
+    ensures taken { IfOk result (λ x. IsTaken x.1 text.now) }
     ensures flaw { IfErr result HasNoEscape }
 {
-    match cursor.unread() {
-        [] => Err(Flaw::Unclosed),
-        [b']', ..] => Ok((Element::One(b'-'), cursor)),
-        _ => Err(Flaw::Bad),
+    match text {
+        [_, b']', ..] => Ok((Element::One(b'-'), 1)),
+        [_, _, ..] => Err(Flaw::Bad),
+        _ => Err(Flaw::Unclosed),
     }
 }
 
-/// The element at the start, and the cursor behind it.
-pub(crate) fn read_element<'a>(
-    first: bool,
-    cursor: Cursor<'a>,
-) -> Result<(Element, Cursor<'a>), Flaw>
-    ensures read { Reads (λ x. (element_of x.0, unread x.1)) result (element_at first (unread cursor.entry)) }
-    ensures same { IfOk result (λ x. x.1.whole ≡ cursor.entry.whole) }
-    ensures ended { length (unread cursor.entry) ≡ 0 → result ≡ Err Flaw.Unclosed }
-    ensures flaw { IfErr result (λ flaw. IsFlawIn cursor.entry.whole.now flaw) }
+/// The element at the start, and how many bytes it takes.
+pub(crate) fn read_element(first: bool, text: &[u8]) -> Result<(Element, usize), Flaw>
+    ensures read { Reads (λ x. (element_of x.0, drop x.1 text.now)) result (element_at first text.now) }
+    ensures taken { IfOk result (λ x. IsTaken x.1 text.now) }
+    ensures ended { length text.now ≡ 0 → result ≡ Err Flaw.Unclosed }
+    ensures flaw { IfErr result (λ flaw. IsFlawIn text.now flaw) }
 {
-    match cursor.unread() {
-        [b'[', b':', ..] => read_whole_class(cursor.advance(2)),
-        [b'[', b'=', ..] => read_equivalents(cursor.advance(2)),
-        [b'-', ..] if !first => read_last_dash(cursor.advance(1)),
-        _ => read_byte_or_range(cursor),
+    match text {
+        [b'[', b':', ..] => read_whole_class(text),
+        [b'[', b'=', ..] => read_equivalents(text),
+        [b'-', ..] if !first => read_last_dash(text),
+        _ => read_byte_or_range(text),
     }
 }

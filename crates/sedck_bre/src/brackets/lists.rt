@@ -4,8 +4,8 @@ ghost use Rattle.std.specs.Prelude.{◌≡◌, ◌<◌, ◌≤◌, ◌&&◌, not
 ghost use Rattle.sedck_text.specs.Text.{begins};
 ghost use Rattle.sedck_text.specs.Cursors.{unread};
 ghost use Rattle.sedck_bre.specs.Brackets.{has_symbol, is_mistakable};
-ghost use Rattle.sedck_bre.specs.Private.BracketReading.{bracket_at};
-ghost use Rattle.sedck_bre.specs.Private.BracketCode.{HasElements, elements_of, signed, set_at, IsFlawIn};
+ghost use Rattle.sedck_bre.specs.Private.BracketReading.{elements_of, set_at, bracket_at};
+ghost use Rattle.sedck_bre.specs.Private.BracketCode.{HasElements, signed, IsFlawIn};
 ghost use Rattle.sedck_bre.specs.Faults.{HasOneAt, IsPlaced};
 ghost use Rattle.sedck_bre.specs.Private.Gives.{Gives};
 ghost use Rattle.sedck_bre.specs.Private.Sets.{HasJust};
@@ -32,7 +32,7 @@ fn is_over(first: bool, cursor: Cursor<'_>) -> bool
 fn fault_of(outer: usize, cursor: Cursor<'_>, flaw: Flaw) -> ReFault
     requires outer { HasOneAt cursor.whole.now outer "[" }
     requires some { flaw ≡ Flaw.Bad → 0 < length (unread cursor) }
-    requires flaw { IsFlawIn cursor.whole.now flaw }
+    requires flaw { IsFlawIn (unread cursor) flaw }
     ensures { IsPlaced cursor.entry.whole.now result }
 {
     match flaw {
@@ -41,14 +41,17 @@ fn fault_of(outer: usize, cursor: Cursor<'_>, flaw: Flaw) -> ReFault
             let place = cursor.offset();
             ReFault::BadBracket { place }
         }
-        Flaw::Escape { place } => ReFault::BadEscape { place },
+        Flaw::Escape { left } => {
+            let place = cursor.offset() + (cursor.unread().len() - left);
+            ReFault::BadEscape { place }
+        }
     }
 }
 
 /// The set of the elements up to the closing bracket, and the cursor behind it. The list begins at `outer`.
 fn read_elements<'a>(outer: usize, cursor: Cursor<'a>) -> Result<(ByteSet, Cursor<'a>), ReFault>
     requires outer { HasOneAt cursor.whole.now outer "[" }
-    ensures value { MatchResult result (λ x. HasElements x.0.0 (unread x.1) (elements_of true (unread cursor.entry))) (λ _. elements_of true (unread cursor.entry) ≡ None) }
+    ensures value { MatchResult result (λ x. HasElements x.0.0 (unread x.1) (elements_of (unread cursor.entry))) (λ _. elements_of (unread cursor.entry) ≡ None) }
     ensures same { IfOk result (λ x. x.1.whole ≡ cursor.entry.whole) }
     ensures shorter { IfOk result (λ x. length (unread x.1) < length (unread cursor.entry)) }
     ensures place { IfErr result (λ fault. IsPlaced cursor.entry.whole.now fault) }
@@ -57,10 +60,10 @@ fn read_elements<'a>(outer: usize, cursor: Cursor<'a>) -> Result<(ByteSet, Curso
     let mut next = cursor;
     let mut first = true;
     'elements: while !is_over(first, next) {
-        match read_element(first, next) {
-            Ok((element, behind)) => {
+        match read_element(first, next.unread()) {
+            Ok((element, count)) => {
                 set = union(set, members(element));
-                next = behind;
+                next = next.advance(count);
                 first = false;
             }
             Err(flaw) => return Err(fault_of(outer, next, flaw)),
@@ -107,7 +110,8 @@ fn find_element(cursor: Cursor<'_>, offset: usize) -> usize
 {
     let mut next = cursor;
     let mut first = true;
-    'elements: while let Ok((_, behind)) = read_element(first, next) {
+    'elements: while let Ok((_, count)) = read_element(first, next.unread()) {
+        let behind = next.advance(count);
         if behind.offset() > offset {
             break;
         }

@@ -1,34 +1,14 @@
-use Rattle.std.proofs.Common.{◌≡◌, ◌≤◌, ◌<◌, ◌∙◌, sym, subst, arith, ap, length, get_or}
-use Rattle.std.proofs.lemmas.List.{length-drop}
-use Rattle.sedck_text.specs.Cursors.{unread}
-use Rattle.sedck_bre.proofs.NumberReading.{number_large, number_some, capped_over, capped_from}
+use Rattle.std.proofs.Common.{sym, arith}
+use Rattle.sedck_bre.proofs.NumberReading.{number_none, number_large, number_some}
 use Rattle.sedck_bre.proofs.intervals.read_number.Goals as goal
-use Rattle.sedck_bre.proofs.intervals.read_number.Goals.{in_default, in_default-2, in_default-3}
+use Rattle.sedck_bre.proofs.intervals.read_number.Goals.{then-is_empty-via-then-is_empty, then-is_empty-via-else-is_empty+then-value-gt255}
 
-pub returns-then-value-gt255-clause-value : goal.returns-then-value-gt255-clause-value
-returns-then-value-gt255-clause-value c =
-    let over : 0 < length c.unread.result.now → 48 ≤ get_or c.unread.result.now 0 0 → get_or c.unread.result.now 0 0 ≤ 57 → ⊥ =
-    elim c.if-unread-lt1.branch [ in_default w ↦ λ l a b. omega arith | in_default-2 w ↦ λ l a b. omega arith | in_default-3 w ↦ λ l a b. omega arith ] in
-    sym (number_large (unread c.args.cursor) c.digits.value (unread c.digits.next)
-    (sym c.digits.invariant.reads ∙ subst (λ t. capped_from c.digits.value t ≡ (c.digits.value, t)) c.unread.ensures (capped_over c.digits.value c.unread.result.now over))
-    c.if-value-gt255.true)
+pub returns-then-is_empty-clause-value : goal.returns-then-is_empty-clause-value
+returns-then-is_empty-clause-value c = elim c.then-is_empty.branch [
+  | then-is_empty-via-then-is_empty w ↦ sym (number_none c.split.ensures.run (grind (arith, w.if-is_empty.ensures)))
+  | then-is_empty-via-else-is_empty+then-value-gt255 w ↦ sym (number_large c.split.ensures.run _ c.value_of-value.ensures w.if-value-gt255.true)
+]
 
 pub returns-clause-value : goal.returns-clause-value
 returns-clause-value c =
-    let over : 0 < length c.unread.result.now → 48 ≤ get_or c.unread.result.now 0 0 → get_or c.unread.result.now 0 0 ≤ 57 → ⊥ =
-    elim c.if-unread-lt1.branch [ in_default w ↦ λ l a b. omega arith | in_default-2 w ↦ λ l a b. omega arith | in_default-3 w ↦ λ l a b. omega arith ] in
-    let some : length (unread c.digits.next) ≡ length (unread c.args.cursor) → ⊥ = λ e. c.if-offset.false
-    (omega (
-      arith,
-      e,
-      ap (λ w. length w.now) c.digits.invariant.whole,
-      length-drop c.digits.next.at c.digits.next.whole.now,
-      length-drop c.args.cursor.at c.args.cursor.whole.now,
-      c.digits.next.within,
-      c.args.cursor.within,
-      c.offset.ensures,
-      c.offset-2.ensures,
-    )) in
-    sym (number_some (unread c.args.cursor) c.digits.value (unread c.digits.next)
-    (sym c.digits.invariant.reads ∙ subst (λ t. capped_from c.digits.value t ≡ (c.digits.value, t)) c.unread.ensures (capped_over c.digits.value c.unread.result.now over))
-    some c.if-value-gt255.false)
+    sym (number_some c.split.ensures.run _ c.value_of-value.ensures (λ e. grind (arith, e, c.if-is_empty.ensures, c.if-is_empty.false)) c.if-value-gt255.false)

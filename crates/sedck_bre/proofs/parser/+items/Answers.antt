@@ -1,23 +1,31 @@
-use Rattle.std.proofs.Common.{◌≡◌, ◌+◌, ◌<◌, ◌∷◌, ◌++◌, length, map, true, false, sym, ap, ◌∙◌, subst, arith, length-append}
+use Rattle.std.proofs.Common.{◌≡◌, ◌+◌, ◌<◌, ◌∷◌, ◌++◌, length, map, true, false, refl, sym, ap, ◌∙◌, subst, arith, length-append}
 use Rattle.std.proofs.lemmas.Result.{err_from_is_err_and}
-use Rattle.std.proofs.lemmas.List.{map_push}
+use Rattle.std.proofs.lemmas.List.{map_push, append-nil}
 use Rattle.sedck_text.specs.Cursors.{unread}
 use Rattle.sedck_bre.specs.Tree.{groups_in}
 use Rattle.sedck_bre.specs.View.{tree}
 use Rattle.sedck_bre.specs.Private.Sequence.{sequence}
 use Rattle.sedck_bre.specs.Private.Reading.{at_end}
-use Rattle.sedck_bre.specs.Private.Gives.{position_of, level_of, ClosedIs}
-use Rattle.sedck_bre.proofs.ItemLoop.{groups-push, loop_ends, loop_goes, loop_fails, loop_fails_at, same_read, closed-push, closed_more}
+use Rattle.sedck_bre.specs.Private.Gives.{ClosedIs}
+use Rattle.sedck_bre.proofs.ItemLoop.{groups-push, loop_starts, loop_ends, loop_goes, loop_fails, loop_fails_at, same_left, closed-push, closed_more}
 use Rattle.std.proofs.Math.ListN.{set}
 use Rattle.sedck_bre.specs.declared.tree.Bre.TheVariants as Bre
 use Rattle.sedck_bre.proofs.ViewLemmas.{tree-Seq, tree-Group}
 use Rattle.sedck_bre.proofs.parser.+items.Goals as goal
 
 pub read_items-returns-clause-value : goal.read_items-returns-clause-value
-read_items-returns-clause-value t c closed h =
-    sym (c.items.invariant.reads closed h) ∙ loop_ends (level_of c.args.depth) (position_of c.items.position) c.args.depth c.items.groups.opened
-    (closed ++ groups_in (sequence c.items.items.items)) (unread c.items.next)
-    c.items.invariant.few c.requires.shallow (map tree c.items.items.items) (sym c.is_at_end.ensures ∙ c.items-test.false)
+read_items-returns-clause-value t c bound closed enough h =
+    loop_ends (c.items.invariant.reads bound closed enough h) (sym c.is_at_end.ensures ∙ c.items-test.false)
+
+pub read_items-items-init : goal.read_items-items-init
+read_items-items-init t c = rw c.new-items.ensures.items (record {
+  same = refl;
+  few = c.requires.few;
+  shorter = omega arith;
+  opened = omega arith;
+  closed = λ closed h. rw (append-nil closed) h;
+  reads = λ bound closed enough h. rw (append-nil closed) (loop_starts bound _ _ _ _ closed _ enough);
+})
 
 pub read_items-items-preserved : goal.read_items-items-preserved
 read_items-items-preserved t c =
@@ -37,38 +45,29 @@ read_items-items-preserved t c =
           (ap (λ g. (closed ++ groups_in (sequence xs)) ++ g) (sym alike)
           ∙ sym (ap (λ ys. closed ++ groups_in (sequence ys)) items ∙ closed-push closed xs item))
           (c.in_ok-bare.ensures.closed (closed ++ groups_in (sequence xs)) (c.items.invariant.closed closed h));
-      reads = λ closed h.
+      reads = λ bound closed enough h.
           let g = closed ++ groups_in (sequence xs) in
-          same_read (level_of c.args.depth) c.args.depth (unread c.in_ok-item.behind) _ _ _ _ _ _ _ _
-          (ap (map tree) items ∙ map_push tree xs item) c.position_behind-position.ensures opened
+          same_left (ap (map tree) items ∙ map_push tree xs item) c.position_behind-position.ensures opened
           (ap (λ ys. closed ++ groups_in (sequence ys)) items ∙ closed-push closed xs item)
-          ∙ sym (loop_goes (level_of c.args.depth)
-          (position_of c.items.position) c.args.depth c.items.groups.opened g (unread c.items.next) c.items.invariant.few c.requires.shallow (map tree xs)
-          (tree c.in_ok-bare.bare) (tree item) (unread c.in_ok-bare.sign) (unread c.in_ok-item.behind) going
-          (c.in_ok-bare.ensures.value g (c.items.invariant.closed closed h)) c.in_ok-item.ensures.value)
-          ∙ c.items.invariant.reads closed h;
+          (loop_goes (c.items.invariant.reads bound closed enough h) (tree c.in_ok-bare.bare) (unread c.in_ok-bare.sign) going
+          (λ n room. c.in_ok-bare.ensures.value n g room (c.items.invariant.closed closed h)) (tree item) (unread c.in_ok-item.behind)
+          c.in_ok-item.ensures.value (omega (arith, c.in_ok-bare.ensures.shorter, c.in_ok-item.ensures.shorter)));
     }
 
 pub read_items-returns-in_err-bare-clause-value : goal.read_items-returns-in_err-bare-clause-value
-read_items-returns-in_err-bare-clause-value t c closed h =
+read_items-returns-in_err-bare-clause-value t c bound closed enough h =
     let p = err_from_is_err_and c.from_residual.result c.from_residual.ensures.1 in
     let g = closed ++ groups_in (sequence c.items.items.items) in
-    let going : at_end (unread c.items.next) ≡ false = sym c.is_at_end.ensures ∙ c.items-test.true in
-    rw (p.1, p.2) (λ bad. sym (c.items.invariant.reads closed h)
-    ∙ loop_fails (level_of c.args.depth)
-    (position_of c.items.position) c.args.depth c.items.groups.opened g (unread c.items.next) c.items.invariant.few c.requires.shallow
-    (map tree c.items.items.items) going
-    (c.in_err-bare.ensures.value g (c.items.invariant.closed closed h) bad))
+    rw (p.1, p.2) (λ bad. loop_fails (c.items.invariant.reads bound closed enough h) (sym c.is_at_end.ensures ∙ c.items-test.true)
+    (λ n room. c.in_err-bare.ensures.value n g room (c.items.invariant.closed closed h) bad))
 
 pub read_items-returns-in_err-item-clause-value : goal.read_items-returns-in_err-item-clause-value
-read_items-returns-in_err-item-clause-value t c closed h =
+read_items-returns-in_err-item-clause-value t c bound closed enough h =
     let p = err_from_is_err_and c.from_residual-in_err-item.result c.from_residual-in_err-item.ensures.1 in
     let g = closed ++ groups_in (sequence c.items.items.items) in
-    let going : at_end (unread c.items.next) ≡ false = sym c.is_at_end.ensures ∙ c.items-test.true in
-    rw (p.1, p.2) (λ bad. sym (c.items.invariant.reads closed h)
-    ∙ loop_fails_at (level_of c.args.depth)
-    (position_of c.items.position) c.args.depth c.items.groups.opened g (unread c.items.next) c.items.invariant.few c.requires.shallow (map tree c.items.items.items)
-    (tree c.in_ok-bare.bare) (unread c.in_ok-bare.sign) going (c.in_ok-bare.ensures.value g (c.items.invariant.closed closed h)) (c.in_err-item.ensures.value bad))
+    rw (p.1, p.2) (λ bad. loop_fails_at (c.items.invariant.reads bound closed enough h) (tree c.in_ok-bare.bare) (unread c.in_ok-bare.sign)
+    (sym c.is_at_end.ensures ∙ c.items-test.true)
+    (λ n room. c.in_ok-bare.ensures.value n g room (c.items.invariant.closed closed h)) (c.in_err-item.ensures.value bad))
 
 pub read_group-returns-in_ok-body-in-92-clause-closed : goal.read_group-returns-in_ok-body-in-92-clause-closed
 read_group-returns-in_ok-body-in-92-clause-closed t c closed h =

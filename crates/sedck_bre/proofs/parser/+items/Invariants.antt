@@ -1,13 +1,13 @@
-use Rattle.std.proofs.Common.{◌≡◌, ℕ, ◌+◌, ◌*◌, ◌≤◌, ◌++◌, List, length, map}
+use Rattle.std.proofs.Common.{◌≡◌, ℕ, ◌+◌, ◌*◌, ◌<◌, ◌≤◌, ◌++◌, List, length, map}
 use Rattle.sedck_text.specs.Cursors.{unread}
 use Rattle.sedck_bre.specs.Tree.{groups_in}
 use Rattle.sedck_bre.specs.View.{tree}
 use Rattle.sedck_bre.specs.Private.Sequence.{sequence}
 use Rattle.sedck_bre.specs.Shape as shape
-use Rattle.sedck_bre.specs.Private.Reading.{items_of}
+use Rattle.sedck_bre.specs.Private.Reading.{items}
 use Rattle.sedck_bre.specs.Private.FullReading.{full}
 use Rattle.sedck_bre.specs.Private.Gives.{position_of, level_of, ClosedIs}
-use Rattle.sedck_bre.proofs.ItemLoop.{with_front}
+use Rattle.sedck_bre.proofs.ItemLoop.{LeftToRead}
 use Rattle.sedck_bre.proofs.parser.+items.Given as goal
 
 abbrev pub decreases-read_items : goal.decreases-read_items
@@ -26,10 +26,9 @@ invariant-read_items-items l = record {
   shorter : length (unread l.next) ≤ length (unread l.cursor);
   opened : l.groups.opened ≡ l.fn.groups.opened + length (groups_in (sequence l.items.items));
   closed : (closed : List ℕ) → ClosedIs l.fn.groups.closed closed → ClosedIs l.groups.closed (closed ++ groups_in (sequence l.items.items));
-  reads : (closed : List ℕ) → ClosedIs l.fn.groups.closed closed →
-      with_front (map tree l.items.items) (items_of full (level_of l.depth) (position_of l.position) l.depth l.groups.opened
-      (closed ++ groups_in (sequence l.items.items)) (unread l.next))
-      ≡ items_of full (level_of l.depth) shape.First l.depth l.fn.groups.opened closed (unread l.cursor);
+  reads : (bound : ℕ) (closed : List ℕ) → length (unread l.cursor) < bound → ClosedIs l.fn.groups.closed closed →
+      LeftToRead (items full bound (level_of l.depth) shape.First l.depth l.fn.groups.opened closed (unread l.cursor)) (map tree l.items.items)
+      (level_of l.depth) (position_of l.position) l.depth l.groups.opened (closed ++ groups_in (sequence l.items.items)) (unread l.next);
 }
 
 abbrev pub decreases-read_items-items : goal.decreases-read_items-items

@@ -1,12 +1,10 @@
-use Rattle.std.proofs.Common.{◌≡◌, ◌∙◌, ℕ, List, true, false, sym, subst, ap, rules}
+use Rattle.std.proofs.Common.{refl, ◌≡◌, ◌∙◌, ℕ, List, true, false, sym, subst, ap, rules}
 use Rattle.sedck_text.specs.Text.{begins}
 use Rattle.sedck_text.specs.Cursors.{unread}
 use Rattle.sedck_text.specs.declared.cursor.Cursor.{Cursor}
 use Rattle.sedck_bre.specs.declared.tree.ByteSet.{ByteSet}
-use Rattle.sedck_bre.specs.Private.BracketReading.{inside_at}
-use Rattle.sedck_bre.specs.Private.BracketCode.{set_at}
+use Rattle.sedck_bre.specs.Private.BracketReading.{inside_at, set_at}
 use Rattle.sedck_bre.specs.Private.Gives.{Gives}
-use Rattle.sedck_bre.proofs.BracketFuel.{inside_complement, inside_plain}
 use Rattle.sedck_bre.proofs.OffsetLemmas.{bracket_is}
 use Rattle.sedck_bre.proofs.brackets.lists.read_bracket_list.Goals as goal
 
@@ -18,12 +16,12 @@ pub returns-in-94-clause-value : goal.returns-in-94-clause-value
 returns-in-94-clause-value c =
     let caret : begins "^" (unread c.advance-inside.result) ≡ true = search rules in
     let is = bracket_is (unread c.args.cursor) c.requires.opens ∙ ap inside_at (sym c.advance-inside.ensures.left)
-    ∙ inside_complement (unread c.advance-inside.result) caret ∙ ap (set_at true) (sym c.advance.ensures.left) in
+    ∙ rw caret refl ∙ ap (set_at true) (sym c.advance.ensures.left) in
     subst (Gives viewed c.read_set.result) (sym is) c.read_set.ensures.value
 
 pub returns-in_default-clause-value : goal.returns-in_default-clause-value
 returns-in_default-clause-value c =
     let plain : begins "^" (unread c.advance-inside.result) ≡ false = search rules in
     let is = bracket_is (unread c.args.cursor) c.requires.opens ∙ ap inside_at (sym c.advance-inside.ensures.left)
-    ∙ inside_plain (unread c.advance-inside.result) plain in
+    ∙ rw plain refl in
     subst (Gives viewed c.read_set-in_default.result) (sym is) c.read_set-in_default.ensures.value

@@ -1,9 +1,10 @@
-use Rattle.std.proofs.Common.{◌≡◌, ◌≤◌, true, List, length}
+use Rattle.std.proofs.Common.{◌≡◌, ◌≤◌, List, length}
 use Rattle.sedck_text.specs.Cursors.{unread}
 use Rattle.sedck_bre.specs.Brackets.{Element}
 use Rattle.sedck_bre.specs.Private.Sets.{HasJust}
-use Rattle.sedck_bre.specs.Private.BracketCode.{is_of, elements_of}
-use Rattle.sedck_bre.proofs.BracketFuel.{with_elements}
+use Rattle.sedck_bre.specs.Private.BracketCode.{is_of}
+use Rattle.sedck_bre.specs.Private.BracketReading.{elements_of}
+use Rattle.sedck_bre.proofs.ElementLoop.{LeftToRead}
 use Rattle.sedck_bre.proofs.brackets.lists.read_elements.Given as goal
 
 abbrev pub invariant-elements : goal.invariant-elements
@@ -12,7 +13,7 @@ invariant-elements l = record {
   shorter : length (unread l.next) ≤ length (unread l.cursor);
   front : List Element;
   just : HasJust l.set.0 (is_of front);
-  reads : with_elements front (elements_of l.first (unread l.next)) ≡ elements_of true (unread l.cursor);
+  reads : LeftToRead (elements_of (unread l.cursor)) front l.first (unread l.next);
 }
 
 abbrev pub decreases-elements : goal.decreases-elements
