@@ -79,7 +79,7 @@ impl Make<'_> {
             let end = first_of(self.file, rest, b" \t=:?+!#");
             return self.assign_unknown(between(rest.start, end), line);
         }
-        if is_one_of(word, &DIRECTIVES) {
+        if is_one_of(word, DIRECTIVES) {
             return self.add(line, Reading::Value);
         }
         self.read_rule(line)
