@@ -7,10 +7,16 @@ use sedck_traced::Unit;
 use std::alloc::AllocError;
 
 /// Utilities whose operands may be assignments to variables of the shell.
-const DECLARING: [&[u8]; 5] = [b"export", b"readonly", b"local", b"declare", b"typeset"];
+static DECLARING: &'static [&'static [u8]] = &[
+    b"export",
+    b"readonly",
+    b"local",
+    b"declare",
+    b"typeset",
+];
 
 /// Utilities that set or unset variables that they are given by their names.
-const SETTING: [&[u8]; 9] = [
+static SETTING: &'static [&'static [u8]] = &[
     b"read",
     b"unset",
     b"getopts",
@@ -28,7 +34,7 @@ pub(crate) fn is_assignment(units: &[Unit]) -> bool {
 }
 
 /// What a word assigns.
-#[derive(Clone, Copy, Debug, PartialEq, Eq)]
+#[derive(Clone, Copy, PartialEq, Eq)]
 enum Assigned {
     Nothing,
     /// The value that begins with the unit of this number.
@@ -85,10 +91,10 @@ impl Names<'_> {
         let Some(name) = bytes_of(self.alloc, &name.units)? else {
             return Ok(());
         };
-        if is_among(&name, &DECLARING) {
+        if is_among(&name, DECLARING) {
             return self.note_declared(operands, scope);
         }
-        if is_among(&name, &SETTING) || (operands.len() > 1 && is_among(&name, &[b"eval"])) {
+        if is_among(&name, SETTING) || (operands.len() > 1 && is_among(&name, &[b"eval"])) {
             return self.note_names(operands);
         }
         Ok(())

@@ -7,6 +7,9 @@ use crate::units::{bytes_of, is_among, is_text};
 use sedck_shell::ShellWord;
 use std::alloc::{AllocError, Global};
 
+/// What `find` runs a command for.
+static EXECUTING: &'static [&'static [u8]] = &[b"-exec", b"-execdir", b"-ok", b"-okdir"];
+
 /// The most commands that run one another.
 const WRAPPED: usize = 8;
 
@@ -150,7 +153,7 @@ impl Finder<'_> {
         let Some(bytes) = bytes_of(self.names.alloc, &word.units)? else {
             return Ok(());
         };
-        if is_among(&bytes, &[b"-exec", b"-execdir", b"-ok", b"-okdir"]) {
+        if is_among(&bytes, EXECUTING) {
             self.state = State::Name;
             self.is_found = true;
             self.wrappers = 0;

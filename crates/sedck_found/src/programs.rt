@@ -34,8 +34,11 @@ pub(crate) struct Wrapper {
     pub operands: usize,
 }
 
-/// The commands that run another one: their names, and what `Wrapper` says of them.
-const WRAPPERS: [(&[u8], &[u8], &[u8], usize); 17] = [
+/// The name of a command that runs another one, and what `Wrapper` says of it.
+type Named = (&'static [u8], &'static [u8], &'static [u8], usize);
+
+/// The commands that run another one.
+static WRAPPERS: &'static [Named] = &[
     (b"env", b"uC", b"S", 0),
     (b"exec", b"a", b"", 0),
     (b"command", b"", b"vV", 0),
@@ -63,7 +66,7 @@ const PREFIX: Wrapper = Wrapper {
 };
 
 /// Long options that take the next word.
-const LONG: [&[u8]; 17] = [
+static LONG: &'static [&'static [u8]] = &[
     b"--arg-file",
     b"--delimiter",
     b"--max-args",
@@ -83,13 +86,25 @@ const LONG: [&[u8]; 17] = [
     b"--class",
 ];
 
-/// The shells.
-const SHELLS: [&[u8]; 8] = [
-    b"sh", b"bash", b"dash", b"ksh", b"zsh", b"ash", b"mksh", b"ksh93",
+/// Names of other programs, and what they are.
+static PROGRAMS: &'static [(&'static [u8], Program)] = &[
+    (b"sh", Program::Shell),
+    (b"bash", Program::Shell),
+    (b"dash", Program::Shell),
+    (b"ksh", Program::Shell),
+    (b"zsh", Program::Shell),
+    (b"ash", Program::Shell),
+    (b"mksh", Program::Shell),
+    (b"ksh93", Program::Shell),
+    (b"eval", Program::Again),
+    (b"trap", Program::Again),
+    (b"su", Program::User),
+    (b"runuser", Program::User),
+    (b"find", Program::Find),
 ];
 
 /// What a word of a wrapper is.
-#[derive(Clone, Copy, Debug, PartialEq, Eq)]
+#[derive(Clone, Copy)]
 pub(crate) enum Before {
     /// An option, alone or with its argument.
     Option,
@@ -107,7 +122,7 @@ pub(crate) enum Before {
 pub(crate) fn before_command(wrapper: Wrapper, word: &[u8]) -> Before {
     match word {
         [b'-', b'-'] => Before::End,
-        [b'-', b'-', ..] if is_among(word, &LONG) => Before::Awaiting,
+        [b'-', b'-', ..] if is_among(word, LONG) => Before::Awaiting,
         [b'-', b'-', ..] => Before::Option,
         [b'-', letters @ ..] => wrapper.letters_before(letters),
         _ => Before::Word,
@@ -160,26 +175,27 @@ fn named_program(name: &[u8]) -> Program {
     if is_sed_path(name) {
         return Program::Sed;
     }
-    if is_among(name, &SHELLS) {
-        return Program::Shell;
+    for (other, program) in PROGRAMS {
+        if *other == name {
+            return *program;
+        }
     }
-    if is_among(name, &[b"eval", b"trap"]) {
-        return Program::Again;
+    match wrapper_named(name) {
+        Some(wrapper) => Program::Wrapper(wrapper),
+        None => Program::Other,
     }
-    if is_among(name, &[b"su", b"runuser"]) {
-        return Program::User;
-    }
-    if is_among(name, &[b"find"]) {
-        return Program::Find;
-    }
-    for (wrapper, letters, stops, operands) in WRAPPERS {
-        if wrapper == name {
-            return Program::Wrapper(Wrapper {
+}
+
+/// The command with this name, if it runs another one.
+fn wrapper_named(name: &[u8]) -> Option<Wrapper> {
+    for (other, letters, stops, operands) in WRAPPERS {
+        if *other == name {
+            return Some(Wrapper {
                 letters,
                 stops,
-                operands,
+                operands: *operands,
             });
         }
     }
-    Program::Other
+    None
 }

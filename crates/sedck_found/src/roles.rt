@@ -1,7 +1,7 @@
 //! Where in a script a byte is: a reader of sed's language that knows just enough for that (POSIX.1-2024 XCU, sed).
 
 /// Where in a script the next byte is.
-#[derive(Clone, Copy, Debug, PartialEq, Eq)]
+#[derive(Clone, Copy, PartialEq, Eq)]
 pub(crate) enum Place {
     /// In addresses, before a command, or behind one.
     Command,

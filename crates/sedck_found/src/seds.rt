@@ -7,13 +7,18 @@ use sedck_traced::hole_name;
 use std::alloc::{AllocError, Global};
 
 /// The names of variables that have the path of a sed.
-const SED_VARIABLES: [&[u8]; 2] = [b"SED", b"GSED"];
+static SED_VARIABLES: &'static [&'static [u8]] = &[b"SED", b"GSED"];
 
 /// The names of variables that have the path of a shell.
-const SHELL_VARIABLES: [&[u8]; 4] = [b"SHELL", b"CONFIG_SHELL", b"BASH", b"POSIX_SHELL"];
+static SHELL_VARIABLES: &'static [&'static [u8]] = &[
+    b"SHELL",
+    b"CONFIG_SHELL",
+    b"BASH",
+    b"POSIX_SHELL",
+];
 
 /// Commands that write the path of a sed.
-const PATHS: [&[u8]; 8] = [
+static PATHS: &'static [&'static [u8]] = &[
     b"which sed",
     b"which gsed",
     b"command -v sed",
@@ -31,7 +36,7 @@ const LONGEST: usize = 256;
 const LONGEST_READ: usize = 1024;
 
 /// What a hole calls.
-#[derive(Clone, Copy, Debug, PartialEq, Eq)]
+#[derive(Clone, Copy)]
 pub(crate) enum Called {
     Sed,
     Shell,
@@ -94,9 +99,9 @@ fn called_by_name(written: &[u8], names: &Names<'_>) -> Called {
     };
     let is_made = matches!(written, [b'$', b'(', inner @ .., b')'] if inner.len() == name.len());
     let is_whole = is_made || replaced_name(written, names.kind).is_some();
-    if is_among(name, &SED_VARIABLES) && (is_whole || has_sed_default(written, name)) {
+    if is_among(name, SED_VARIABLES) && (is_whole || has_sed_default(written, name)) {
         Called::Sed
-    } else if is_among(name, &SHELL_VARIABLES) && is_whole {
+    } else if is_among(name, SHELL_VARIABLES) && is_whole {
         Called::Shell
     } else if is_whole && is_among(name, &[b"SUDO", b"sudo"]) {
         Called::Sudo
@@ -119,8 +124,8 @@ fn has_sed_default(written: &[u8], name: &[u8]) -> bool {
 /// Whether it is a command that writes the path of a sed.
 fn is_path_command(written: &[u8]) -> bool {
     match written {
-        [b'$', b'(', command @ .., b')'] => is_among(command, &PATHS),
-        [b'`', command @ .., b'`'] => is_among(command, &PATHS),
+        [b'$', b'(', command @ .., b')'] => is_among(command, PATHS),
+        [b'`', command @ .., b'`'] => is_among(command, PATHS),
         _ => false,
     }
 }

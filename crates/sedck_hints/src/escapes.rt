@@ -7,20 +7,34 @@ pub fn escape_hint(spot: Spot) -> &'static str {
     if spot.reading().is_in_list() {
         return list_escape_hint(spot.rest);
     }
-    match spot.rest {
-        [_, b'+' | b'?', ..] => repeat_hint(spot),
-        [_, b'|', ..] => bar_hint(spot),
-        [_, b's', ..] => "for `\\s` write `[[:space:]]`",
-        [_, b'S', ..] => "for `\\S` write `[^[:space:]]`",
-        [_, b'w', ..] => "for `\\w` write `[[:alnum:]_]`",
-        [_, b'W', ..] => "for `\\W` write `[^[:alnum:]_]`",
-        [_, b'b' | b'B' | b'<' | b'>', ..] => word_hint(spot),
-        [_, b'`' | b'\'', ..] => "for the ends of the pattern space write `^` and `$`",
-        [_, b'd', b'0'..=b'9', ..] | [_, b'x' | b'o' | b'c', ..] => { "write the byte itself" }
-        [_, b'd', ..] => "if a digit is meant write `[[:digit:]]`",
-        [_, b'r' | b'f' | b'v' | b'a', ..] =>
+    let Some(escaped) = spot.rest.get(1) else {
+        return PLAIN;
+    };
+    match *escaped {
+        b'+' | b'?' => repeat_hint(spot),
+        b'|' => bar_hint(spot),
+        b'b' | b'B' | b'<' | b'>' => word_hint(spot),
+        b'd' if !matches!(spot.rest.get(2), Some(b'0'..=b'9')) => {
+            "if a digit is meant write `[[:digit:]]`"
+        }
+        escaped => letter_hint(escaped),
+    }
+}
+
+const PLAIN: &str = "write the character without the backslash, or in a bracket list, as in `[%]`";
+
+/// By the byte after the backslash alone.
+fn letter_hint(escaped: u8) -> &'static str {
+    match escaped {
+        b's' => "for `\\s` write `[[:space:]]`",
+        b'S' => "for `\\S` write `[^[:space:]]`",
+        b'w' => "for `\\w` write `[[:alnum:]_]`",
+        b'W' => "for `\\W` write `[^[:alnum:]_]`",
+        b'`' | b'\'' => "for the ends of the pattern space write `^` and `$`",
+        b'd' | b'x' | b'o' | b'c' => "write the byte itself",
+        b'r' | b'f' | b'v' | b'a' =>
             "GNU sed reads this as a control character, as `\\a` for BEL: write that character itself, or the letter if that is meant",
-        _ => "write the character without the backslash, or in a bracket list, as in `[%]`",
+        _ => PLAIN,
     }
 }
 

@@ -13,7 +13,7 @@ const INSIDE: &str =
     "check each sed script inside it by itself: docs/RECIPES.md shows how to pass it to standard input";
 
 /// Words with which a line of a shell script begins, and no usual line of sed.
-const SHELL_WORDS: [&[u8]; 14] = [
+static SHELL_WORDS: &'static [&'static [u8]] = &[
     b"if ", b"for ", b"while ", b"case ", b"set -", b"export ", b"echo ", b"exec ", b"cd ",
     b"test ", b"[ ", b"sed ", b"cat ", b"grep ",
 ];
@@ -21,34 +21,51 @@ const SHELL_WORDS: [&[u8]; 14] = [
 /// What the text looks like, if it isn't a script of sed.
 pub fn other_kind(text: &[u8]) -> Option<Foreign> {
     if text.starts_with(b"#!") {
-        let first = text.split(|byte| *byte == b'\n').next().unwrap_or(&[]);
-        return if names_sed(first) {
-            None
-        } else {
-            Some(Foreign {
-                message: "the first line names a program other than sed: this isn't a sed script",
-                hint: INSIDE,
-            })
-        };
+        return other_program(text);
     }
     let mut lines = text
         .split(|byte| *byte == b'\n')
         .filter(|line| !is_left_out(line));
     let first = lines.next()?;
     let second = lines.next().unwrap_or(&[]);
-    if is_target(first) && second.starts_with(b"\t") {
-        return Some(Foreign {
-            message: "this looks like a makefile, not a sed script",
-            hint: INSIDE,
-        });
+    other_lines(first, second)
+}
+
+/// By the first line, which names a program.
+fn other_program(text: &[u8]) -> Option<Foreign> {
+    let first = text.split(|byte| *byte == b'\n').next().unwrap_or(&[]);
+    if names_sed(first) {
+        return None;
     }
-    if is_assignment(first) || SHELL_WORDS.iter().any(|word| first.starts_with(*word)) {
-        return Some(Foreign {
-            message: "this looks like a shell script or a makefile, not a sed script",
-            hint: INSIDE,
-        });
+    Some(Foreign {
+        message: "the first line names a program other than sed: this isn't a sed script",
+        hint: INSIDE,
+    })
+}
+
+/// By the first two lines that are neither blank nor comments.
+fn other_lines(first: &[u8], second: &[u8]) -> Option<Foreign> {
+    let message = if is_target(first) && second.starts_with(b"\t") {
+        "this looks like a makefile, not a sed script"
+    } else if is_assignment(first) || begins_command(first) {
+        "this looks like a shell script or a makefile, not a sed script"
+    } else {
+        return None;
+    };
+    Some(Foreign {
+        message,
+        hint: INSIDE,
+    })
+}
+
+/// Whether the line begins with one of the shell's words.
+fn begins_command(line: &[u8]) -> bool {
+    for word in SHELL_WORDS {
+        if line.starts_with(*word) {
+            return true;
+        }
     }
-    None
+    false
 }
 
 /// Whether a word of the line ends in `sed`.

@@ -43,29 +43,39 @@ fn file_hint(rest: &[u8]) -> Option<&'static str> {
 }
 
 fn command_hint(spot: Spot) -> Option<&'static str> {
-    match spot.rest {
-        [b'T', ..] => Some(
-            "for `T end` write `t go`, `b end` and `:go` on lines of their own; for `/x/T end` put the first two into a block, `/x/{` and `}`",
-        ),
-        [b'z', ..] => Some("for `z` write `s/.*//`, which sets the flag that `t` tests"),
-        [b'Q', ..] if spot.previous() == Some(b'!') => Some(
-            "for `/x/!Q` write `/x/!{`, `:end`, `$d`, `N`, `s/.*\\n//`, `b end` and `}` on lines of their own",
-        ),
-        [b'Q', ..] => Some("for `/x/Q` write `/x/,$d`"),
-        [b'I', ..] => Some("for `/hello/I` write `/[hH][eE][lL][lL][oO]/`"),
-        [b'~', behind @ ..] => Some(multiples_hint(behind)),
-        [b'e', ..] => Some("POSIX sed can't run other programs: do it outside the script"),
-        [b'v', ..] => Some("`v` requires a version of GNU sed: leave it out"),
-        [b'F' | b'R' | b'W', ..] => Some(
-            "this extension of GNU sed has no equivalent in POSIX: do it outside the script",
-        ),
-        [b'\\', b'!', ..] => Some("`!` needs no backslash here"),
-        [b'"' | b'\'', ..] => Some("quotes belong to the shell: leave them out of the script"),
-        [b'$', ..] if spot.previous() == Some(b'$') => Some(
+    let [first, behind @ ..] = spot.rest else {
+        return Some("a command is missing after the address");
+    };
+    match *first {
+        b'~' => Some(multiples_hint(behind)),
+        b'\\' if behind.first() == Some(&b'!') => Some("`!` needs no backslash here"),
+        b'$' if spot.previous() == Some(b'$') => Some(
             "in a makefile `$$` becomes one `$`: write one, or check the script that the shell passes on",
         ),
-        [b',', ..] => Some("a command has at most two addresses"),
-        [] | [b'\n' | b';' | b'}', ..] => Some("a command is missing after the address"),
+        b'Q' if spot.previous() == Some(b'!') => Some(
+            "for `/x/!Q` write `/x/!{`, `:end`, `$d`, `N`, `s/.*\\n//`, `b end` and `}` on lines of their own",
+        ),
+        verb => verb_hint(verb),
+    }
+}
+
+/// By the byte in place of a verb.
+fn verb_hint(verb: u8) -> Option<&'static str> {
+    match verb {
+        b'T' => Some(
+            "for `T end` write `t go`, `b end` and `:go` on lines of their own; for `/x/T end` put the first two into a block, `/x/{` and `}`",
+        ),
+        b'z' => Some("for `z` write `s/.*//`, which sets the flag that `t` tests"),
+        b'Q' => Some("for `/x/Q` write `/x/,$d`"),
+        b'I' => Some("for `/hello/I` write `/[hH][eE][lL][lL][oO]/`"),
+        b'e' => Some("POSIX sed can't run other programs: do it outside the script"),
+        b'v' => Some("`v` requires a version of GNU sed: leave it out"),
+        b'F' | b'R' | b'W' => Some(
+            "this extension of GNU sed has no equivalent in POSIX: do it outside the script",
+        ),
+        b'"' | b'\'' => Some("quotes belong to the shell: leave them out of the script"),
+        b',' => Some("a command has at most two addresses"),
+        b'\n' | b';' | b'}' => Some("a command is missing after the address"),
         _ => None,
     }
 }
@@ -175,14 +185,23 @@ fn element_hint(rest: &[u8]) -> &'static str {
         [b'[', b'.' | b'=', byte, mark, b']', ..] if byte == mark => {
             "write the byte itself: `[.]` for `[[...]]`, `[=]` for `[[===]]`"
         }
-        [b'[', b']' | b'^', ..]
-        | [_, b'-', b'[', b']' | b'^', ..]
-        | [_, _, b'-', b'[', b']' | b'^', ..]
-        | [_, _, _, _, _, b'-', b'[', b']' | b'^', ..] => {
-            "BusyBox ends this list too early: put the `[`, or the range that ends in it, before the class, as in `[[[:alpha:]]`"
-        }
+        [b'[', b']' | b'^', ..] => EARLY,
+        rest if has_early_end(rest) => EARLY,
         _ => "put a `-` first or last in its list, and a class inside a list, as in `[[:digit:]]`",
     }
+}
+
+const EARLY: &str =
+    "BusyBox ends this list too early: put the `[`, or the range that ends in it, before the class, as in `[[[:alpha:]]`";
+
+/// Whether a range that begins with a byte, an escape or a symbol ends in a `[` that BusyBox takes for the beginning of a list.
+fn has_early_end(rest: &[u8]) -> bool {
+    ends_in_bracket(rest, 1) || ends_in_bracket(rest, 2) || ends_in_bracket(rest, 5)
+}
+
+/// The same of a range whose hyphen is at this offset.
+fn ends_in_bracket(rest: &[u8], hyphen: usize) -> bool {
+    matches!(rest.get(hyphen..), Some([b'-', b'[', b']' | b'^', ..]))
 }
 
 /// By the bytes of an interval.
@@ -210,19 +229,20 @@ fn ends_before(rest: &[u8], ends: &[u8]) -> bool {
     false
 }
 
+/// By the byte after the backslash.
 fn replacement_hint(rest: &[u8]) -> Option<&'static str> {
-    match rest {
-        [_, b'0', ..] => Some("for `\\0` write `&`"),
-        [_, b'U' | b'L' | b'u' | b'l' | b'E', ..] => {
+    match rest.get(1) {
+        Some(b'0') => Some("for `\\0` write `&`"),
+        Some(b'U' | b'L' | b'u' | b'l' | b'E') => {
             Some("to change whole lines write `y/abc../ABC../` with the whole alphabet")
         }
-        [_, b'1'..=b'9', ..] => Some(
+        Some(b'1'..=b'9') => Some(
             "the expression has fewer groups: a group is written `\\(` and `\\)`; is the script meant for `sed -E`?",
         ),
-        [_, b'x' | b'o' | b'c' | b'd', ..] => {
+        Some(b'x' | b'o' | b'c' | b'd') => {
             Some("write the byte itself, `&` as `\\&` and a backslash as `\\\\`")
         }
-        [_, b'r' | b'f' | b'v' | b'a', ..] => Some(
+        Some(b'r' | b'f' | b'v' | b'a') => Some(
             "GNU sed reads this as a control character: write that character itself, or the letter if that is meant",
         ),
         _ => Some("write the character without the backslash"),
@@ -230,14 +250,14 @@ fn replacement_hint(rest: &[u8]) -> Option<&'static str> {
 }
 
 fn flag_hint(rest: &[u8]) -> Option<&'static str> {
-    match rest {
-        [b'I' | b'i', ..] => Some("for `s/hello/x/I` write `s/[hH][eE][lL][lL][oO]/x/`"),
-        [b'e', ..] => Some("POSIX sed can't run other programs: do it outside the script"),
-        [b'm' | b'M', ..] => Some(
+    match rest.first() {
+        Some(b'I' | b'i') => Some("for `s/hello/x/I` write `s/[hH][eE][lL][lL][oO]/x/`"),
+        Some(b'e') => Some("POSIX sed can't run other programs: do it outside the script"),
+        Some(b'm' | b'M') => Some(
             "`^` and `$` match only at the ends of the pattern space: match `\\n` instead",
         ),
-        [b'0', ..] => Some("matches are counted from 1"),
-        [b'1'..=b'9', ..] => Some("give only one number among the flags, of at most 4,294,967,295"),
+        Some(b'0') => Some("matches are counted from 1"),
+        Some(b'1'..=b'9') => Some("give only one number among the flags, of at most 4,294,967,295"),
         _ => Some("the flags are `g`, `p`, a number, and `w` with a file name, each once"),
     }
 }

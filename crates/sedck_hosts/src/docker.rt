@@ -6,8 +6,8 @@ use crate::docker_lines::{
 use crate::host::Host;
 use crate::kind::{Kind, interpreter_kind};
 use crate::parts::{
-    Part, after_any, after_blanks, between, bytes_of, is_ended, lines_of, push_newline, push_part,
-    split_word,
+    Part, after_any, after_blanks, between, bytes_of, is_ended, is_one_of, lines_of, push_newline,
+    push_part, split_word,
 };
 use sedck_traced::Unit;
 use std::alloc::{AllocError, Global};
@@ -29,6 +29,9 @@ struct Docker<'a> {
     is_foreign: bool,
 }
 
+/// Lines that change how lines are continued.
+static ESCAPES: &'static [&'static [u8]] = &[b"# escape=`", b"#escape=`"];
+
 /// The shell text of a Dockerfile; none where a directive changes how lines are continued.
 pub(crate) fn host_of_docker(alloc: Global, file: &[u8]) -> Result<Host, AllocError> {
     let mut docker = Docker {
@@ -43,7 +46,7 @@ pub(crate) fn host_of_docker(alloc: Global, file: &[u8]) -> Result<Host, AllocEr
     };
     let lines = lines_of(alloc, file, false)?;
     for line in &lines {
-        if matches!(bytes_of(file, *line), b"# escape=`" | b"#escape=`") {
+        if is_one_of(bytes_of(file, *line), ESCAPES) {
             return Ok(docker.host);
         }
         docker.read_line(*line)?;

@@ -34,23 +34,79 @@ impl Kind {
     }
 }
 
-/// Names of shells, also of those that are named when a package is configured.
-const SHELLS: [&[u8]; 11] = [
-    b"sh",
-    b"bash",
-    b"dash",
-    b"ksh",
-    b"mksh",
-    b"zsh",
-    b"ash",
-    b"@SHELL@",
-    b"@BASH@",
-    b"@POSIX_SHELL@",
-    b"@SH@",
+/// A name, and the kind that it means.
+type Named = (&'static [u8], Kind);
+
+/// Names of files that mean something only as they are.
+static WHOLE: &'static [Named] = &[
+    (b"configure.in", Kind::Autoconf),
+    (b"config.status", Kind::Shell),
+    (b"config.status.in", Kind::Shell),
 ];
 
-/// Names of scripts, which are those of Debian's packages but for one.
-const SCRIPTS: [&[u8]; 5] = [b"preinst", b"postinst", b"prerm", b"postrm", b"configure"];
+/// The names of folders, with the names of files that mean something in them alone.
+static IN_FOLDERS: &'static [(&'static [u8], &'static [Named])] = &[
+    (
+        b"debian",
+        &[(b"rules", Kind::Make), (b"config", Kind::Shell)],
+    ),
+    (b"DEBIAN", &[(b"config", Kind::Shell)]),
+];
+
+/// Names of files, or what is behind the last dot of one. The scripts are those of Debian's packages but for one.
+static NAMES: &'static [Named] = &[
+    (b"preinst", Kind::Shell),
+    (b"postinst", Kind::Shell),
+    (b"prerm", Kind::Shell),
+    (b"postrm", Kind::Shell),
+    (b"configure", Kind::Shell),
+    (b"Makefile", Kind::Make),
+    (b"makefile", Kind::Make),
+    (b"GNUmakefile", Kind::Make),
+    (b"Dockerfile", Kind::Docker),
+    (b"dockerfile", Kind::Docker),
+    (b"Containerfile", Kind::Docker),
+];
+
+/// What is behind the last dot of a name.
+static SUFFIXES: &'static [Named] = &[
+    (b"sh", Kind::Shell),
+    (b"bash", Kind::Shell),
+    (b"ksh", Kind::Shell),
+    (b"dash", Kind::Shell),
+    (b"mk", Kind::Make),
+    (b"mak", Kind::Make),
+    (b"make", Kind::Make),
+    (b"am", Kind::Make),
+    (b"yml", Kind::Yaml),
+    (b"yaml", Kind::Yaml),
+    (b"ac", Kind::Autoconf),
+    (b"m4", Kind::Autoconf),
+    (b"spec", Kind::Spec),
+];
+
+/// What may be before a dot, whatever is behind it.
+static STEMS: &'static [Named] = &[(b"Makefile", Kind::Make), (b"Dockerfile", Kind::Docker)];
+
+/// Names of programs. Shells are there also as they are named when a package is configured.
+static PROGRAMS: &'static [Named] = &[
+    (b"sh", Kind::Shell),
+    (b"bash", Kind::Shell),
+    (b"dash", Kind::Shell),
+    (b"ksh", Kind::Shell),
+    (b"mksh", Kind::Shell),
+    (b"zsh", Kind::Shell),
+    (b"ash", Kind::Shell),
+    (b"@SHELL@", Kind::Shell),
+    (b"@BASH@", Kind::Shell),
+    (b"@POSIX_SHELL@", Kind::Shell),
+    (b"@SH@", Kind::Shell),
+    (b"make", Kind::Make),
+    (b"gmake", Kind::Make),
+];
+
+/// Names of programs that run the one that is named next.
+static RUNNERS: &'static [&'static [u8]] = &[b"env", b"busybox"];
 
 /// How many bytes are looked at for a NUL byte, which no text has.
 const LOOKED_AT: usize = 8000;
@@ -86,51 +142,50 @@ fn split_last(bytes: &[u8], byte: u8) -> (&[u8], &[u8]) {
     )
 }
 
+/// The kind that the list has for the name.
+fn kind_in(list: &[Named], name: &[u8]) -> Option<Kind> {
+    for (other, kind) in list {
+        if *other == name {
+            return Some(*kind);
+        }
+    }
+    None
+}
+
+/// The kind that a file with this name has in this folder alone.
+fn kind_in_folder(folder: &[u8], name: &[u8]) -> Option<Kind> {
+    for (other, files) in IN_FOLDERS {
+        if *other == folder {
+            return kind_in(files, name);
+        }
+    }
+    None
+}
+
 /// The kind by the file's name, from which `.in` is taken off, and by that of its folder.
 fn named_kind(folder: &[u8], name: &[u8]) -> Option<Kind> {
-    if matches!(name, b"configure.in") {
-        return Some(Kind::Autoconf);
+    if let Some(kind) = kind_in(WHOLE, name) {
+        return Some(kind);
     }
     let name = name.strip_suffix(b".in").unwrap_or(name);
+    if let Some(kind) = kind_in_folder(folder, name) {
+        return Some(kind);
+    }
     let (stem, last) = split_last(name, b'.');
-    match (folder, name) {
-        (b"debian", b"rules") => return Some(Kind::Make),
-        (b"debian" | b"DEBIAN", b"config") => return Some(Kind::Shell),
-        _ => {}
-    }
-    if is_one_of(last, &SCRIPTS) {
-        return Some(Kind::Shell);
-    }
-    if is_one_of(last, &[b"Makefile", b"makefile", b"GNUmakefile"]) {
-        return Some(Kind::Make);
-    }
-    if is_one_of(last, &[b"Dockerfile", b"dockerfile", b"Containerfile"]) {
-        return Some(Kind::Docker);
-    }
-    if stem.is_empty() {
-        return None;
-    }
-    match split_last(stem, b'.') {
-        (b"", b"Makefile") if !matches!(last, b"PL") => Some(Kind::Make),
-        (b"", b"Dockerfile") => Some(Kind::Docker),
-        _ => suffix_kind(stem, last),
+    match kind_in(NAMES, last) {
+        Some(kind) => Some(kind),
+        None if stem.is_empty() => None,
+        None => dotted_kind(stem, last),
     }
 }
 
-/// The kind by what is behind the last dot of the name.
-fn suffix_kind(stem: &[u8], last: &[u8]) -> Option<Kind> {
-    if is_one_of(last, &[b"sh", b"bash", b"ksh", b"dash"]) {
-        return Some(Kind::Shell);
-    }
-    if is_one_of(last, &[b"mk", b"mak", b"make", b"am"]) {
-        return Some(Kind::Make);
-    }
-    match last {
-        b"yml" | b"yaml" => Some(Kind::Yaml),
-        b"ac" | b"m4" => Some(Kind::Autoconf),
-        b"spec" => Some(Kind::Spec),
-        b"status" if is_one_of(stem, &[b"config"]) => Some(Kind::Shell),
-        _ => None,
+/// The kind by what is before the last dot of the name, and what is behind it. `Makefile.PL` is a script of Perl's.
+fn dotted_kind(stem: &[u8], last: &[u8]) -> Option<Kind> {
+    let (before, first) = split_last(stem, b'.');
+    match kind_in(STEMS, first) {
+        Some(Kind::Make) if matches!(last, b"PL") => None,
+        Some(kind) if before.is_empty() => Some(kind),
+        _ => kind_in(SUFFIXES, last),
     }
 }
 
@@ -150,9 +205,7 @@ pub(crate) fn interpreter_kind(bytes: &[u8]) -> Option<Kind> {
     for _ in 0..8 {
         let (word, next) = split_word(line, rest);
         let (_, name) = split_last(word, b'/');
-        let is_passed = matches!(name, b"env" | b"busybox")
-            || name.starts_with(b"-")
-            || name.contains(&b'=');
+        let is_passed = is_one_of(name, RUNNERS) || name.starts_with(b"-") || name.contains(&b'=');
         if !is_passed {
             return program_kind(name);
         }
@@ -163,11 +216,5 @@ pub(crate) fn interpreter_kind(bytes: &[u8]) -> Option<Kind> {
 
 /// The kind of what a program of this name reads.
 pub(crate) fn program_kind(name: &[u8]) -> Option<Kind> {
-    if is_one_of(name, &SHELLS) {
-        Some(Kind::Shell)
-    } else if is_one_of(name, &[b"make", b"gmake"]) {
-        Some(Kind::Make)
-    } else {
-        None
-    }
+    kind_in(PROGRAMS, name)
 }

@@ -9,6 +9,11 @@ use crate::parts::{
 use sedck_traced::Unit;
 use std::alloc::{AllocError, Global};
 
+/// The words around the value of a variable that has several lines.
+const DEFINE: &[u8] = b"define";
+
+const ENDEF: &[u8] = b"endef";
+
 /// The state of reading a makefile.
 #[derive(Drop)]
 struct Make<'a> {
@@ -58,12 +63,15 @@ impl Make<'_> {
     /// Reads a line between `define` and `endef`.
     fn read_in_define(&mut self, line: Part, statement: Part) -> Result<(), AllocError> {
         let (word, _) = split_word(self.file, statement);
-        match word {
-            b"endef" => self.defines = self.defines.saturating_sub(1),
-            b"define" => self.defines = self.defines.saturating_add(1),
-            _ => self.add(line, Reading::Recipe)?,
+        if word == ENDEF {
+            self.defines = self.defines.saturating_sub(1);
+            return Ok(());
         }
-        Ok(())
+        if word == DEFINE {
+            self.defines = self.defines.saturating_add(1);
+            return Ok(());
+        }
+        self.add(line, Reading::Recipe)
     }
 
     /// Reads a line that isn't one of a recipe.
@@ -73,13 +81,13 @@ impl Make<'_> {
             return self.read_definition(line, definition);
         }
         let (word, rest) = split_word(self.file, line);
-        if matches!(word, b"define") {
+        if word == DEFINE {
             self.is_in_rule = false;
             self.defines = 1;
             let end = first_of(self.file, rest, b" \t=:?+!#");
             return self.assign_unknown(between(rest.start, end), line);
         }
-        if is_one_of(word, &DIRECTIVES) {
+        if is_one_of(word, DIRECTIVES) {
             return self.add(line, Reading::Value);
         }
         self.read_rule(line)
@@ -164,12 +172,15 @@ impl Make<'_> {
     }
 }
 
-/// The line without blanks at its beginning, and without `export` and `override`.
+/// Words that may stand before an assignment.
+static MODIFIERS: &'static [&'static [u8]] = &[b"export", b"override", b"private"];
+
+/// The line without blanks at its beginning, and without such words.
 fn after_modifiers(file: &[u8], line: Part) -> Part {
     let mut rest = between(after_blanks(file, line), line.end);
     for _ in 0..4 {
         let (word, next) = split_word(file, rest);
-        if !matches!(word, b"export" | b"override" | b"private") {
+        if !is_one_of(word, MODIFIERS) {
             break;
         }
         rest = next;

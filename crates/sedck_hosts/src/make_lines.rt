@@ -3,7 +3,7 @@
 use crate::parts::{Part, after_blanks, between, bytes_of, name_end};
 
 /// Words that begin a line which is neither a rule nor an assignment.
-pub(crate) const DIRECTIVES: [&[u8]; 15] = [
+pub(crate) static DIRECTIVES: &'static [&'static [u8]] = &[
     b"ifeq",
     b"ifneq",
     b"ifdef",
@@ -22,7 +22,7 @@ pub(crate) const DIRECTIVES: [&[u8]; 15] = [
 ];
 
 /// How an assignment sets its name.
-#[derive(Clone, Copy, Debug, PartialEq, Eq)]
+#[derive(Clone, Copy, PartialEq, Eq)]
 pub(crate) enum Operator {
     /// To the value, as `=`, `:=`, `::=`, `:::=` and `?=` do.
     Set,

@@ -5,7 +5,7 @@ use sedck_traced::Unit;
 use std::alloc::{AllocError, Global};
 
 /// What a part of a makefile is.
-#[derive(Clone, Copy, Debug, PartialEq, Eq)]
+#[derive(Clone, Copy, PartialEq, Eq)]
 pub(crate) enum Reading {
     /// A line of a recipe: a backslash before a newline stays.
     Recipe,

@@ -20,7 +20,7 @@ struct Open {
 }
 
 /// What a line is by the word that begins it.
-#[derive(Clone, Copy, Debug, PartialEq, Eq)]
+#[derive(Clone, Copy, PartialEq, Eq)]
 enum Sort {
     /// It begins a section of shell text.
     Script,
@@ -32,7 +32,7 @@ enum Sort {
 }
 
 /// Words that begin a section of shell text.
-const SCRIPTS: [&[u8]; 27] = [
+static SCRIPTS: &'static [&'static [u8]] = &[
     b"%prep",
     b"%conf",
     b"%build",
@@ -63,7 +63,7 @@ const SCRIPTS: [&[u8]; 27] = [
 ];
 
 /// Words that begin another section.
-const SECTIONS: [&[u8]; 7] = [
+static SECTIONS: &'static [&'static [u8]] = &[
     b"%files",
     b"%description",
     b"%changelog",
@@ -74,7 +74,7 @@ const SECTIONS: [&[u8]; 7] = [
 ];
 
 /// Words that begin a line which is left out of a section's text.
-const DIRECTIVES: [&[u8]; 15] = [
+static DIRECTIVES: &'static [&'static [u8]] = &[
     b"%if",
     b"%ifarch",
     b"%ifnarch",
@@ -294,11 +294,11 @@ fn macro_end(file: &[u8], whole: Part) -> usize {
 
 /// What a line is by the word that begins it.
 fn sort_of(word: &[u8]) -> Sort {
-    if is_one_of(word, &SCRIPTS) {
+    if is_one_of(word, SCRIPTS) {
         Sort::Script
-    } else if is_one_of(word, &SECTIONS) {
+    } else if is_one_of(word, SECTIONS) {
         Sort::Section
-    } else if is_one_of(word, &DIRECTIVES) {
+    } else if is_one_of(word, DIRECTIVES) {
         Sort::Directive
     } else {
         Sort::Text

@@ -10,7 +10,7 @@ use crate::scalars::{plain_scalar, push_line, quoted_units};
 use std::alloc::{AllocError, Global};
 
 /// Keys whose values are shell text.
-const KEYS: [&[u8]; 13] = [
+static KEYS: &'static [&'static [u8]] = &[
     b"run",
     b"script",
     b"before_script",
@@ -135,7 +135,7 @@ impl Yaml<'_> {
         if matches!(key, b"shell") && is_foreign(bytes_of(self.file, value)) {
             self.foreign = Some(line.column);
         }
-        if is_one_of(key, &KEYS) && self.foreign != Some(line.column) {
+        if is_one_of(key, KEYS) && self.foreign != Some(line.column) {
             self.list = Some(List {
                 key: line.column,
                 items: None,

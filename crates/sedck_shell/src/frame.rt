@@ -4,7 +4,7 @@ use crate::command::ShellWord;
 use std::alloc::Global;
 
 /// The quoting of a byte (XCU 2.2).
-#[derive(Clone, Copy, Debug, PartialEq, Eq)]
+#[derive(Clone, Copy, PartialEq, Eq)]
 pub(crate) enum Quote {
     None,
     Single,
@@ -20,7 +20,7 @@ pub(crate) enum Quote {
 }
 
 /// What encloses a byte.
-#[derive(Clone, Copy, Debug, PartialEq, Eq)]
+#[derive(Clone, Copy, PartialEq, Eq)]
 pub(crate) enum Enclosure {
     /// The text itself.
     Text,
@@ -44,7 +44,7 @@ pub(crate) struct Mark {
 }
 
 /// What the next word is.
-#[derive(Clone, Copy, Debug, PartialEq, Eq)]
+#[derive(Clone, Copy)]
 pub(crate) enum Awaited {
     /// A word of the command.
     Word,

@@ -8,7 +8,7 @@ use sedck_traced::Unit;
 use std::alloc::AllocError;
 
 /// Reserved words before a command, which are no words of it.
-const RESERVED: [&[u8]; 13] = [
+static RESERVED: &'static [&'static [u8]] = &[
     b"if", b"then", b"else", b"elif", b"fi", b"do", b"done", b"while", b"until", b"{", b"}", b"!",
     b"time",
 ];
