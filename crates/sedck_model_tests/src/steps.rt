@@ -4,6 +4,7 @@ use sedck_matching::Budget;
 use sedck_model::{Event, Machine, Move, State, follows, step};
 use sedck_script::parse;
 use std::alloc::Global;
+use std::process::Abort;
 use std::test::Fail;
 
 /// Before the command at this place, with nothing but a pattern space.
@@ -52,90 +53,111 @@ const END: Move<'static> = Move {
     after: State::Done,
 };
 
-/// The first step that is none of the model's, in a run of the script on these lines.
-fn first_wrong(
-    alloc: Global,
+/// Whether this is the first step that is none of the model's, in a run of the script on these lines; none where all are.
+fn expect_wrong(
+    rt: &(impl Abort + AllocGlobal),
     text: &[u8],
     lines: &[&[u8]],
     steps: &[Move],
-) -> Result<Option<usize>, Fail> {
-    let script = parse(alloc, text)?;
+    wanted: Option<usize>,
+) -> Result<(), Fail> {
+    let script = parse(rt.alloc(), text)?;
     let mut budget = Budget { left: 1000 };
-    Ok(follows(alloc, &script, lines, steps, &mut budget)?)
-}
-
-#[test]
-fn runs_are_followed(rt: HostRuntime) -> Result<(), Fail> {
-    let alloc = rt.alloc();
-    assert_eq!(rt; first_wrong(alloc, b"p", &[], &[END])?, None);
-    let one = silent(0, b"a");
-    let lines: [&[u8]; 1] = [b"a"];
-    let steps = [one, holding(b"a", 1, b""), holding(b"a", 2, b"\na"), END];
-    assert_eq!(rt; first_wrong(alloc, b"x;G", &lines, &steps)?, None);
-    assert_eq!(rt;
-        first_wrong(alloc, b"G", &lines, &[one, silent(1, b"a")])?,
-        Some(1)
-    );
-    let steps = [one, silent(1, b"b"), END];
-    assert_eq!(rt; first_wrong(alloc, b"y/ab/ba/", &lines, &steps)?, None);
-    assert_eq!(rt; first_wrong(alloc, b"y/ab/cc/", &lines, &steps)?, Some(1));
+    let found = follows(rt.alloc(), &script, lines, steps, &mut budget)?;
+    assert_eq!(rt; found, wanted, "{text:?}");
     Ok(())
 }
 
 #[test]
+fn runs_are_followed(rt: HostRuntime) -> Result<(), Fail> {
+    expect_wrong(&rt, b"p", &[], &[END], None)?;
+    let one = silent(0, b"a");
+    let lines: [&[u8]; 1] = [b"a"];
+    let steps = [one, holding(b"a", 1, b""), holding(b"a", 2, b"\na"), END];
+    expect_wrong(&rt, b"x;G", &lines, &steps, None)?;
+    expect_wrong(&rt, b"G", &lines, &[one, silent(1, b"a")], Some(1))?;
+    let steps = [one, silent(1, b"b"), END];
+    expect_wrong(&rt, b"y/ab/ba/", &lines, &steps, None)?;
+    expect_wrong(&rt, b"y/ab/cc/", &lines, &steps, Some(1))
+}
+
+#[test]
 fn runs_on_two_lines_are_followed(rt: HostRuntime) -> Result<(), Fail> {
-    let alloc = rt.alloc();
     let left: [&[u8]; 1] = [b"b"];
     let lines: [&[u8]; 2] = [b"a", b"b"];
     let first = before(&left, 0, b"a");
     let joined = silent(1, b"a\nb");
     let steps = [first, joined, silent(2, b"a\nb"), silent(0, b"b"), END];
-    assert_eq!(rt; first_wrong(alloc, b"N;P;D", &lines, &steps)?, None);
-    assert_eq!(rt;
-        first_wrong(alloc, b"n", &lines, &[first, silent(1, b"a")])?,
-        Some(1)
-    );
-    assert_eq!(rt; first_wrong(alloc, b"$!q", &lines, &[first, END])?, None);
+    expect_wrong(&rt, b"N;P;D", &lines, &steps, None)?;
+    expect_wrong(&rt, b"n", &lines, &[first, silent(1, b"a")], Some(1))?;
+    expect_wrong(&rt, b"$!q", &lines, &[first, END], None)?;
     let skipping = [first, before(&left, 1, b"a")];
-    assert_eq!(rt; first_wrong(alloc, b"$!q", &lines, &skipping)?, Some(1));
-    Ok(())
+    expect_wrong(&rt, b"$!q", &lines, &skipping, Some(1))
+}
+
+/// A script, whether the flag is set before its first step, what that does to a file, the place and the pattern space after it (none
+/// at the end of the run), and whether the model has the step. The pattern space is `a` before it.
+type Case = (
+    &'static [u8],
+    bool,
+    Event<'static>,
+    Option<(usize, &'static [u8])>,
+    bool,
+);
+
+static CASES: &'static [Case] = &[
+    (b"w f", false, Event::Writes(b"f"), Some((1, b"a")), true),
+    (b"w f", false, Event::Silent, Some((1, b"a")), false),
+    (b"w f", false, Event::Reads(b"f"), Some((1, b"a")), false),
+    (b"r f", false, Event::Reads(b"f"), Some((1, b"a")), true),
+    (b"t", true, Event::Silent, Some((1, b"a")), true),
+    (b"t;p", true, Event::Silent, Some((2, b"a")), true),
+    (b"t;p", true, Event::Silent, Some((1, b"a")), false),
+    (b"t;p", false, Event::Silent, Some((1, b"a")), true),
+    (b"1{p;p};p", false, Event::Silent, Some((3, b"a")), true),
+    (b"1{p;p};p", false, Event::Silent, Some((2, b"a")), false),
+    (b"2,3c\\\nx", false, Event::Silent, Some((1, b"")), true),
+    (b"2c\\\nx", false, Event::Silent, Some((1, b"")), false),
+    (b"s/b/c/w f", false, Event::Silent, Some((1, b"a")), true),
+    (b"n", true, Event::Silent, None, true),
+    (b"/a/d", false, Event::Silent, None, true),
+    (b"/b*$/d", false, Event::Silent, None, true),
+    (b"/b/d", false, Event::Silent, None, false),
+    (b"/b/!d", false, Event::Silent, Some((1, b"a")), false),
+    (b"//d;/a/p", false, Event::Silent, None, true),
+];
+
+/// The state before the command at this place, or at the end of the run.
+fn state_at<'a>(after: &Option<(usize, &'a [u8])>) -> State<'a, 'a> {
+    match after {
+        Some((at, pattern)) => State::At(machine(*at, pattern)),
+        None => State::Done,
+    }
+}
+
+/// Whether the model has the step of the script's first command from this machine.
+fn is_step(
+    alloc: Global,
+    text: &[u8],
+    before: Machine,
+    event: &Event,
+    after: &State,
+) -> Result<bool, Fail> {
+    let script = parse(alloc, text)?;
+    let mut budget = Budget { left: 1000 };
+    let start = State::At(before);
+    Ok(step(alloc, &script, &start, event, after, &mut budget)?)
 }
 
 #[test]
 fn steps_are_decided(rt: HostRuntime) -> Result<(), Fail> {
-    let here = machine(0, b"a");
-    let flagged = Machine { flag: true, ..here };
-    let on = State::At(machine(1, b"a"));
-    let second = State::At(machine(2, b"a"));
-    let third = State::At(machine(3, b"a"));
-    let emptied = State::At(machine(1, b""));
-    let cases: [(&[u8], Machine, Event, State, bool); 19] = [
-        (b"w f", here, Event::Writes(b"f"), on, true),
-        (b"w f", here, Event::Silent, on, false),
-        (b"w f", here, Event::Reads(b"f"), on, false),
-        (b"r f", here, Event::Reads(b"f"), on, true),
-        (b"t", flagged, Event::Silent, on, true),
-        (b"t;p", flagged, Event::Silent, second, true),
-        (b"t;p", flagged, Event::Silent, on, false),
-        (b"t;p", here, Event::Silent, on, true),
-        (b"1{p;p};p", here, Event::Silent, third, true),
-        (b"1{p;p};p", here, Event::Silent, second, false),
-        (b"2,3c\\\nx", here, Event::Silent, emptied, true),
-        (b"2c\\\nx", here, Event::Silent, emptied, false),
-        (b"s/b/c/w f", here, Event::Silent, on, true),
-        (b"n", flagged, Event::Silent, State::Done, true),
-        (b"/a/d", here, Event::Silent, State::Done, true),
-        (b"/b*$/d", here, Event::Silent, State::Done, true),
-        (b"/b/d", here, Event::Silent, State::Done, false),
-        (b"/b/!d", here, Event::Silent, on, false),
-        (b"//d;/a/p", here, Event::Silent, State::Done, true),
-    ];
-    for (text, from, event, after, wanted) in cases {
-        let script = parse(rt.alloc(), text)?;
-        let mut budget = Budget { left: 1000 };
-        let start = State::At(from);
-        let found = step(rt.alloc(), &script, &start, &event, &after, &mut budget)?;
-        assert_eq!(rt; found, wanted, "{text:?}");
+    for (text, flag, event, after, wanted) in CASES {
+        let before = Machine {
+            flag: *flag,
+            ..machine(0, b"a")
+        };
+        let found = is_step(rt.alloc(), text, before, event, &state_at(after))?;
+        assert_eq!(rt; found, *wanted, "{text:?}");
     }
     Ok(())
 }

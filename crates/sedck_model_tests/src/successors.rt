@@ -166,36 +166,31 @@ fn flags_are_kept_and_reset(rt: HostRuntime) -> Result<(), Fail> {
     expect(&rt, rt.alloc(), b"p;t", before, &["2 \"a\\nb\""])
 }
 
+/// A script, a pattern space, and the steps of the first command.
+type Row = (&'static [u8], &'static [u8], &'static [&'static str]);
+
+static ROWS: &'static [Row] = &[
+    (b"2,3d", b"a", &["end", "1 \"a\""]),
+    (b"2,3c\\\nx", b"a", &["end", "1 \"\"", "1 \"a\""]),
+    (b"/b/d", b"a", &["1 \"a\""]),
+    (b"$d", b"a", &["end"]),
+    (b"$!d", b"a", &["1 \"a\""]),
+    (b"1{p;p}", b"a", &["1 \"a\"", "3 \"a\""]),
+    (b"y/ab/bc/", b"abd", &["1 \"bcd\""]),
+    (
+        b"y/aa/bc/",
+        b"aa",
+        &["1 \"bb\"", "1 \"bc\"", "1 \"cb\"", "1 \"cc\""],
+    ),
+    (b"H", b"a", &["1 \"a\" hold \"\\na\""]),
+];
+
 #[test]
 fn commands_are_applied_and_skipped(rt: HostRuntime) -> Result<(), Fail> {
-    let before = machine(b"a");
-    expect(&rt, rt.alloc(), b"2,3d", before, &["end", "1 \"a\""])?;
-    expect(
-        &rt,
-        rt.alloc(),
-        b"2,3c\\\nx",
-        before,
-        &["end", "1 \"\"", "1 \"a\""],
-    )?;
-    expect(&rt, rt.alloc(), b"/b/d", before, &["1 \"a\""])?;
-    expect(&rt, rt.alloc(), b"$d", before, &["end"])?;
-    expect(&rt, rt.alloc(), b"$!d", before, &["1 \"a\""])?;
-    expect(&rt, rt.alloc(), b"1{p;p}", before, &["1 \"a\"", "3 \"a\""])?;
-    expect(
-        &rt,
-        rt.alloc(),
-        b"y/ab/bc/",
-        machine(b"abd"),
-        &["1 \"bcd\""],
-    )?;
-    expect(
-        &rt,
-        rt.alloc(),
-        b"y/aa/bc/",
-        machine(b"aa"),
-        &["1 \"bb\"", "1 \"bc\"", "1 \"cb\"", "1 \"cc\""],
-    )?;
-    expect(&rt, rt.alloc(), b"H", before, &["1 \"a\" hold \"\\na\""])
+    for (text, pattern, wanted) in ROWS {
+        expect(&rt, rt.alloc(), text, machine(pattern), *wanted)?;
+    }
+    Ok(())
 }
 
 #[test]

@@ -10,7 +10,7 @@ use std::alloc::{AllocError, Global};
 const STEP_BUDGET: u64 = 200_000;
 
 /// What is known of a run.
-#[derive(Debug, Clone, Copy, PartialEq, Eq)]
+#[derive(Clone, Copy)]
 pub enum Verdict {
     /// It is one of the model's.
     Follows,
@@ -21,7 +21,7 @@ pub enum Verdict {
 }
 
 /// Where a state comes from: the flag before its step, and the event.
-#[derive(Debug, Clone, Copy)]
+#[derive(Clone, Copy)]
 struct Link<'a> {
     flag: bool,
     event: Event<'a>,

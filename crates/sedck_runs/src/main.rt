@@ -140,13 +140,12 @@ fn places(rt: &HostRuntime, located: &Located) -> io::Result<u8> {
     let count = located.script.commands().len();
     for (location, command) in located.locations.iter().zip(located.script.commands()) {
         let (start, end) = (location.start, location.end);
-        match command.verb {
-            Verb::Label(_) => println!(rt; "{start} {end} label")?,
-            Verb::Branch(target) | Verb::Test(target) if target == count => {
-                println!(rt; "{start} {end} leaves")?;
-            }
-            _ => println!(rt; "{start} {end} command")?,
-        }
+        let word = match command.verb {
+            Verb::Label(_) => "label",
+            Verb::Branch(target) | Verb::Test(target) if target == count => "leaves",
+            _ => "command",
+        };
+        println!(rt; "{start} {end} {word}")?;
     }
     Ok(0)
 }

@@ -6,7 +6,7 @@ use sedck_script::Script;
 use std::io;
 
 /// How many runs and steps there are, and how many of each answer.
-#[derive(Debug, Default, Drop)]
+#[derive(Default, Drop)]
 pub struct Counts {
     runs: u64,
     steps: u64,

@@ -5,7 +5,7 @@ ghost use Rattle.std.specs.Prelude.{◌<◌, IfSome};
 use std::alloc::{AllocError, Global};
 
 /// What was seen before a command, or after the last one.
-#[derive(Debug, Drop)]
+#[derive(Drop)]
 pub struct Seen {
     pub place: usize,
     /// How many lines had been read.
@@ -15,7 +15,7 @@ pub struct Seen {
 }
 
 /// What was seen of a run.
-#[derive(Debug, Drop)]
+#[derive(Drop)]
 pub struct Trace {
     pub name: String,
     /// The input.

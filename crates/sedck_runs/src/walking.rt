@@ -22,7 +22,7 @@ struct Begun<'a> {
 }
 
 /// How many runs ended, and how many were cut off.
-#[derive(Debug, Default, Drop)]
+#[derive(Default, Drop)]
 struct Counts {
     ended: u64,
     cut: u64,
