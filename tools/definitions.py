@@ -463,7 +463,6 @@ LIBRARY = {
     "codes": "`codes \"..\"`: the list of the bytes between the quotes (ASCII)",
     "decimal": "the decimal digits of a number as a text, without leading zeros",
     "digits_value": "`digits_value 10 text`: the number that the decimal digits of the text write",
-    "IsAsciiDigit": "the byte is one of `0` to `9`",
 }
 
 

@@ -1,11 +1,9 @@
 -- What is read as an interval is spelled so, and what is spelled so is read.
 use Rattle.std.proofs.Common.{◌≡◌, ℕ, ◌≤◌, Bool, true, false, List, [], ◌∷◌, ◌++◌, drop, Option, Some, None, inl, inr, refl, sym, ap, ◌∙◌, arith, IfSome, append_assoc}
-use Rattle.std.specs.Prelude.{◌==◌, ◌&&◌, ◌||◌, not, nat_le, codes, All}
-use Rattle.std.specs.Char.{IsAsciiDigit}
+use Rattle.std.specs.Prelude.{◌==◌, ◌&&◌, ◌||◌, not, nat_le, codes, IsTrue}
+use Rattle.std.specs.List.{list_all}
 use Rattle.std.proofs.lemmas.Bool.{false≢true, eqb-true}
 use Rattle.std.proofs.lemmas.Bool.Decides.{nat_tests}
-use Rattle.std.proofs.lemmas.List.Elements.{All-head}
-use Rattle.std.proofs.lemmas.List.Sums.{AllPass-from_list_all, list_all-from_AllPass}
 use Rattle.std.specs.Str.Parse.{digits_value}
 use Rattle.sedck_text.specs.Text.{begins}
 use Rattle.sedck_text.specs.Classes.{is_digit}
@@ -15,21 +13,15 @@ use Rattle.sedck_bre.specs.WellFormed.{AreBounds}
 use Rattle.sedck_bre.specs.Shape.{is_empty, IsNumber, SpellsCount}
 use Rattle.sedck_bre.specs.Private.Reading.{◌>>=◌, begins_pair}
 use Rattle.sedck_bre.specs.Private.IntervalReading.{digits_at, number_of, number_at, most_of, upper_at, bounds_of, interval_at}
+use Rattle.sedck_bre.proofs.ItemBeginnings.{refuted}
 use Rattle.sedck_bre.proofs.ReadLemmas.{bind_holds, cond_holds, and_left, pair_text, nat_le_of}
 
 le_test : (a b : ℕ) → a ≤ b → nat_le a b ≡ true
 le_test a b h = grind (arith, nat_tests)
 
-pub digit_of : (c : ℕ) → is_digit c ≡ true → IsAsciiDigit c
-digit_of c h = let both = and_left (nat_le 48 c) (nat_le c 57) h in (nat_le_of 48 c both.0, nat_le_of c 57 both.1)
-
-digit_again : (c : ℕ) → IsAsciiDigit c → is_digit c ≡ true
-digit_again c h = rw (le_test 48 c h.0, le_test c 57 h.1) refl
-
 -- the digits are digits, and are before the rest
-digits_take : (text : List ℕ) → (text ≡ (digits_at text).0 ++ (digits_at text).1) × All IsAsciiDigit (digits_at text).0
-digits_take text =
-    let l = longest_cut is_digit text in (l.cut, λ i d lt. digit_of _ (AllPass-from_list_all is_digit (digits_at text).0 l.passes i d lt))
+digits_take : (text : List ℕ) → (text ≡ (digits_at text).0 ++ (digits_at text).1) × IsTrue (list_all is_digit (digits_at text).0)
+digits_take text = let l = longest_cut is_digit text in (l.cut, l.passes)
 
 -- there is no other way to cut them off
 pub digits_are : {text front rest : List ℕ} → Longest is_digit text front rest → digits_at text ≡ (front, rest)
@@ -41,7 +33,7 @@ IsNumberBefore text x = (m : List ℕ) × (text ≡ m ++ x.1) × IsNumber m x.0
 number_takes : (text : List ℕ) → IfSome (number_at text) (IsNumberBefore text)
 number_takes text = go (digits_at text).0 (digits_at text).1 (digits_take text)
   where
-    go : (ds rest : List ℕ) → (text ≡ ds ++ rest) × All IsAsciiDigit ds → IfSome (number_of (ds, rest)) (IsNumberBefore text)
+    go : (ds rest : List ℕ) → (text ≡ ds ++ rest) × IsTrue (list_all is_digit ds) → IfSome (number_of (ds, rest)) (IsNumberBefore text)
     go ds rest h = cond_holds (not (is_empty ds) && nat_le (digits_value 10 ds) 255) (Some (digits_value 10 ds, rest)) None (IsNumberBefore text)
         (λ s. let both = and_left (not (is_empty ds)) (nat_le (digits_value 10 ds) 255) s in
         (ds, h.0, (λ e. absurd (false≢true (sym (ap (λ x. not (is_empty x)) e) ∙ both.0)), h.1, refl, nat_le_of (digits_value 10 ds) 255 both.1)))
@@ -102,9 +94,8 @@ interval_takes text =
     regroup m n r = sym (append_assoc ((m ++ codes ",") ++ n) (codes "\\}") r
         ∙ (append_assoc (m ++ codes ",") n (92 ∷ 125 ∷ r) ∙ append_assoc m (codes ",") (n ++ 92 ∷ 125 ∷ r)))
 
-digits_again : (m rest : List ℕ) → All IsAsciiDigit m → IsEmptyOr (λ b. not (is_digit b)) rest → digits_at (m ++ rest) ≡ (m, rest)
-digits_again m rest h e =
-    let passes = list_all-from_AllPass is_digit m (λ i d l. digit_again _ (h i d l)) in digits_are (record { cut = refl; passes = passes; stops = e })
+digits_again : (m rest : List ℕ) → IsTrue (list_all is_digit m) → IsEmptyOr (λ b. not (is_digit b)) rest → digits_at (m ++ rest) ≡ (m, rest)
+digits_again m rest h e = digits_are (record { cut = refl; passes = h; stops = e })
 
 some_digits : (m : List ℕ) → (m ≡ [] → ⊥) → is_empty m ≡ false
 some_digits [] h = absurd (h refl)
@@ -125,15 +116,14 @@ unfolding interval_at
 open_again m rest least h = ap (λ o. o >>= bounds_of) (number_again m (44 ∷ 92 ∷ 125 ∷ rest) least h refl)
 
 -- a digit begins no `\}`
-digit_front : (n rest : List ℕ) → (n ≡ [] → ⊥) → All IsAsciiDigit n → begins_pair 125 (n ++ rest) ≡ false
+digit_front : (n rest : List ℕ) → (n ≡ [] → ⊥) → IsTrue (list_all is_digit n) → begins_pair 125 (n ++ rest) ≡ false
 digit_front [] rest h d = absurd (h refl)
 digit_front (c ∷ n) rest h d = go (n ++ rest)
   where
     go : (t : List ℕ) → begins_pair 125 (c ∷ t) ≡ false
     go [] = refl
     go (x ∷ t) =
-        let l = (All-head IsAsciiDigit c n d).1 in
-        let e : (c == 92) ≡ false = grind (arith, nat_tests) in rw e refl
+        let e : (c == 92) ≡ false = refuted c 92 is_digit (and_left (is_digit c) (list_all is_digit n) d).0 refl in rw e refl
 
 comma_front : (t : List ℕ) → begins_pair 125 (44 ∷ t) ≡ false
 comma_front [] = refl

@@ -1,6 +1,7 @@
 -- The value of digits, where one above 255 counts as 256, and what is read by it.
 use Rattle.std.proofs.Common.{◌≡◌, ℕ, ◌+◌, ◌*◌, ◌-◌, ◌<◌, ◌≤◌, min, true, false, List, [], ◌∷◌, length, take, get_or, Some, None, refl, ap, ◌∙◌, arith}
 use Rattle.std.specs.Prelude.{nat_le, IsTrue}
+use Rattle.std.specs.Char.{IsAsciiDigit}
 use Rattle.std.specs.List.{list_all}
 use Rattle.std.specs.Str.Parse.{digits_value}
 use Rattle.std.proofs.lemmas.Bool.Decides.{nat_tests}
@@ -10,7 +11,11 @@ use Rattle.std.proofs.lemmas.Str.{digit_value_digit}
 use Rattle.sedck_text.specs.Classes.{is_digit}
 use Rattle.sedck_text.specs.Runs.{Longest}
 use Rattle.sedck_bre.specs.Private.IntervalReading.{number_of, number_at}
-use Rattle.sedck_bre.proofs.IntervalLemmas.{digit_of, digits_are}
+use Rattle.sedck_bre.proofs.IntervalLemmas.{digits_are}
+use Rattle.sedck_bre.proofs.ReadLemmas.{and_left, nat_le_of}
+
+digit_of : (c : ℕ) → is_digit c ≡ true → IsAsciiDigit c
+digit_of c h = let both = and_left (nat_le 48 c) (nat_le c 57) h in (nat_le_of 48 c both.0, nat_le_of c 57 both.1)
 
 -- one more digit
 pub digits_more : (digits : List ℕ) (i v : ℕ) → i < length digits → IsTrue (list_all is_digit digits) → v ≡ min (digits_value 10 (take i digits)) 256
