@@ -31,10 +31,10 @@ demo:
 # they are, so that nothing is proved or built again. A C compiler that is missing is missed before the gate.
 test: build/refuse.so
 	@echo "Running the gate: every proof from nothing, the must-fail edits, the tests and the program (100 to 300 processor minutes) ..."
-	RT_JOBS=$${RT_JOBS:-$$(sh tools/jobs.sh)} $(RT) ci && times > build/gate-times
+	@python3 tools/gate.py "$(RT)"
 	@$(COPY)
 	@$(MAKE) --no-print-directory -o build -o refusals-program docs explain-tests refusals streams tools-tests calls-tests wrapper-tests
-	@echo "Processor time of the gate, user and system: $$(tail -n 1 build/gate-times)"
+	@cat build/gate-cost
 
 docs examples: build
 	@echo "Checking the documents: the examples and their certificates, and each command that the pages show ..."
