@@ -1,9 +1,8 @@
 -- Where a byte of a line is in the whole text.
-use Rattle.std.proofs.Common.{◌≡◌, ℕ, Bool, true, false, cond, not, eqb, None, Option, ◌+◌, ◌-◌, ◌<◌, ◌≤◌, ◌⊎◌, inl, inr, Some, List, [], ◌∷◌, ◌++◌, length, get_or, refl, ap, sym, ◌∙◌, subst, length-append, arith}
+use Rattle.std.proofs.Common.{◌≡◌, ℕ, Bool, true, false, cond, Option, ◌+◌, ◌-◌, ◌<◌, ◌≤◌, ◌⊎◌, inl, inr, Some, List, [], ◌∷◌, ◌++◌, length, get_or, refl, ap, sym, ◌∙◌, subst, length-append, arith}
 use Rattle.std.proofs.Math.Seq.{get_or-append_seam}
 use Rattle.std.proofs.lemmas.Bool.{false≢true, eqb-true, and_parts, cases_order}
 use Rattle.std.specs.Prelude.{◌==◌, IsTrue, nat_le, MatchOption}
-use Rattle.std.specs.Option.{option_eq}
 use Rattle.sedck_text.specs.Text.{begins}
 use Rattle.sedck_bre.proofs.ReadLemmas.{nat_le_of}
 use Rattle.sedck_script.specs.Cuts.{is_continued}
@@ -60,17 +59,12 @@ continued_cut (b ∷ c ∷ line) h = go (b == 92) refl (λ k. continued_cut line
     go true e pair one = let k = pair (under true e) in (b ∷ c ∷ k.0, ap (λ t. b ∷ c ∷ t) k.1)
     go false e pair one = let k = one (under false e) in (b ∷ k.0, ap (λ t. b ∷ t) k.1)
 
--- a text that a test of its first byte finds to begin with a `#`
-pub begins_hash : (text : List ℕ) (first : Option ℕ) → MatchOption first (text ≡ []) (λ b. (more : List ℕ) × (text ≡ b ∷ more))
-    → not (option_eq eqb first (Some 35)) ≡ false → IsTrue (begins "#" text)
-begins_hash text None h e = absurd (false≢true (sym e))
-begins_hash text (Some b) h e =
-    let same : b ≡ 35 = eqb-true b 35 (ne_false (eqb b 35) e) in
-    subst (λ t. IsTrue (begins "#" t)) (sym (h.1 ∙ ap (λ a. a ∷ h.0) same)) refl
-  where
-    ne_false : (x : Bool) → not x ≡ false → x ≡ true
-    ne_false true e = refl
-    ne_false false e = absurd (false≢true (sym e))
+-- a text whose first byte is a `#` begins with it
+pub begins_hash : (text : List ℕ) {first : Option ℕ} → MatchOption first (text ≡ []) (λ b. (more : List ℕ) × (text ≡ b ∷ more))
+    → first ≡ Some 35 → IsTrue (begins "#" text)
+begins_hash text h e =
+    let cut = subst (λ f. MatchOption f (text ≡ []) (λ b. (more : List ℕ) × (text ≡ b ∷ more))) e h in
+    subst (λ t. IsTrue (begins "#" t)) (sym cut.1) refl
 
 pub continued_stands : (text behind : Cursor) (line : List ℕ) → unread text ≡ line ++ unread behind → IsAhead text (length line) behind
     → is_continued line ≡ true → StandsWhere is_extra text.whole.now (behind.at - 1)

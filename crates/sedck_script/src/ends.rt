@@ -37,9 +37,9 @@ pub fn end_of_flags<'a>(text: Cursor<'a>) -> Result<Cursor<'a>, ScriptFault>
     ensures placed { IfErr result (λ fault. IsPlaced text.entry.whole.now fault) }
 {
     let rest = end_of_command(text)?;
-    if rest.first() != Some(b'#') {
+    let Some(b'#') = rest.first() else {
         return Ok(rest);
-    }
+    };
     let (line, behind) = rest.split(Class::Except(b'\n'));
     if !behind.unread().is_empty() && is_continued(line) {
         return Err(ScriptFault::ExtraText {

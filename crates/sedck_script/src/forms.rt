@@ -3,7 +3,9 @@
 ghost use Rattle.std.specs.Prelude.{◌≡◌, true, IfSome, IfNone};
 ghost use Rattle.sedck_text.specs.Text.{is_in, one_of};
 ghost use Rattle.sedck_script.specs.Faults.{verb_bytes};
+ghost use Rattle.sedck_script.specs.Items.{Simple};
 ghost use Rattle.sedck_script.specs.Private.Forms.{IsForm};
+ghost use Rattle.sedck_script.specs.View.{verb_of};
 
 use crate::name_lists::Access;
 use crate::script::Verb;
@@ -44,26 +46,37 @@ pub enum Form<'a> {
     Transliteration,
 }
 
+/// The verb of the byte, where it takes nothing.
+fn simple_verb<'a>(byte: u8) -> Option<Verb<'a>>
+    ensures some { IfSome result (λ verb. Simple byte (verb_of verb)) }
+    ensures none { IfNone result (is_in byte verb_bytes ≡ true → one_of "{abcirstwy:}#" byte ≡ true) }
+{
+    let verb = match byte {
+        b'=' => Verb::LineNumber,
+        b'd' => Verb::Delete,
+        b'D' => Verb::DeleteFirstLine,
+        b'g' => Verb::Get,
+        b'G' => Verb::GetAppend,
+        b'h' => Verb::Hold,
+        b'H' => Verb::HoldAppend,
+        b'l' => Verb::List,
+        b'n' => Verb::Next,
+        b'N' => Verb::NextAppend,
+        b'p' => Verb::Print,
+        b'P' => Verb::PrintFirstLine,
+        b'q' => Verb::Quit,
+        b'x' => Verb::Exchange,
+        _ => return None,
+    };
+    Some(verb)
+}
+
 /// What the verb of the byte takes. A `}` and a comment are no verbs.
 pub fn form_of<'a>(byte: u8) -> Option<Form<'a>>
     ensures some { IfSome result (IsForm byte) }
     ensures none { IfNone result (is_in byte verb_bytes ≡ true → one_of "}#" byte ≡ true) }
 {
     let form = match byte {
-        b'=' => Form::Nothing(Verb::LineNumber),
-        b'd' => Form::Nothing(Verb::Delete),
-        b'D' => Form::Nothing(Verb::DeleteFirstLine),
-        b'g' => Form::Nothing(Verb::Get),
-        b'G' => Form::Nothing(Verb::GetAppend),
-        b'h' => Form::Nothing(Verb::Hold),
-        b'H' => Form::Nothing(Verb::HoldAppend),
-        b'l' => Form::Nothing(Verb::List),
-        b'n' => Form::Nothing(Verb::Next),
-        b'N' => Form::Nothing(Verb::NextAppend),
-        b'p' => Form::Nothing(Verb::Print),
-        b'P' => Form::Nothing(Verb::PrintFirstLine),
-        b'q' => Form::Nothing(Verb::Quit),
-        b'x' => Form::Nothing(Verb::Exchange),
         b'a' => Form::Text(TextVerb::Append),
         b'c' => Form::Text(TextVerb::Change),
         b'i' => Form::Text(TextVerb::Insert),
@@ -75,7 +88,7 @@ pub fn form_of<'a>(byte: u8) -> Option<Form<'a>>
         b'{' => Form::Block,
         b's' => Form::Substitution,
         b'y' => Form::Transliteration,
-        _ => return None,
+        _ => Form::Nothing(simple_verb(byte)?),
     };
     Some(form)
 }

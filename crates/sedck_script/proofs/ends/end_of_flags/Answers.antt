@@ -1,4 +1,4 @@
-use Rattle.std.proofs.Common.{◌≡◌, ◌⊎◌, ◌∙◌, List, ℕ, [], false, inl, inr, sym, subst, arith, not}
+use Rattle.std.proofs.Common.{◌≡◌, ◌⊎◌, ◌∙◌, List, ℕ, [], Some, false, inl, inr, ap, sym, subst, arith, not}
 use Rattle.std.proofs.lemmas.Bool.{both_ways}
 use Rattle.std.specs.Prelude.{IsTrue}
 use Rattle.sedck_text.specs.Text.{begins}
@@ -25,7 +25,7 @@ pub returns-then-is_continued-clause-refused : goal.returns-then-is_continued-cl
 returns-then-is_continued-clause-refused c = λ rest x.
     let same = ends_one c.in_ok-rest.ensures.read x.0 in
     let comment : IsTrue (begins "#" rest) =
-    subst (λ t. IsTrue (begins "#" t)) same (begins_hash _ c.first.result c.first.ensures (sym c.ne.ensures ∙ c.if-ne.false)) in
+    subst (λ t. IsTrue (begins "#" t)) same (begins_hash _ c.first.ensures (c.in-Some-eq35.is ∙ ap (λ b. Some b) c.in-Some-eq35.field-0-test)) in
     let line = subst (λ t. Longest (λ b. not (is_newline b)) t c.split.result.0.now (unread c.split.result.1)) same c.split.ensures.run in
     elim (x.1 comment _ _ line) [
       | inl none ↦ grind (arith, c.is_empty.ensures, c.if-not-is_empty.true, c.unread.ensures, none)
