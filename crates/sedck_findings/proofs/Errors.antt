@@ -1,7 +1,6 @@
 -- Errors among findings.
-use Rattle.std.proofs.Common.{◌≡◌, ◌∙◌, ◌==◌, ◌||◌, if◌then◌else◌, ℕ, Bool, true, false, not, List, [], ◌∷◌, ◌++◌, Option, Some, None, Result, Ok, Err, OnOk, refl, sym, ap, subst}
-use Rattle.std.proofs.lemmas.List.Folds.{list_any-append}
-use Rattle.sedck_report.specs.Levels.{is_warning, has_warning, is_error, has_error, BeginsWithError}
+use Rattle.std.proofs.Common.{◌≡◌, ◌∙◌, ◌==◌, ◌||◌, if◌then◌else◌, ℕ, Bool, true, false, not, List, [], ◌∷◌, Option, Some, None, refl}
+use Rattle.sedck_report.specs.Levels.{has_warning, is_error, has_error, BeginsWithError}
 use Rattle.sedck_report.specs.declared.finding.Finding.{Finding}
 use Rattle.sedck_report.specs.declared.places.Position.{Position}
 use Rattle.sedck_errors.specs.declared.denied.Denied.{Denied}

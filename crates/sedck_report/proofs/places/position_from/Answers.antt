@@ -1,5 +1,5 @@
 use Rattle.std.proofs.Common.{take}
-use Rattle.sedck_report.proofs.Lines.{line_within, own_position}
+use Rattle.sedck_report.proofs.Lines.{line_within}
 use Rattle.sedck_report.proofs.places.position_from.Goals as goal
 
 pub after-position-requires-clause-lines : goal.after-position-requires-clause-lines
