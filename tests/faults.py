@@ -3,7 +3,7 @@
 
 The faults and rejections that docs/FORMATS.md lists must be just those of man/sedck.5 and docs/FAULTS.md, by number and name, and
 each example in the tables of docs/FORMATS.md must get the fault of its row, at the offset that is said there. The findings of
-man/sedck-explain.1 must be just the codes of `Code` in sedck_findings, by name, and all of these faults and rejections must be among
+man/sedck-explain.1 must be just the codes of `Code` in sedck_report, by name, and all of these faults and rejections must be among
 them; it must name each field of the format for programs. The status is 0 only where all of this holds.
 """
 import json
@@ -19,7 +19,7 @@ HEADS = {"FAULTS OF SCRIPTS": "Faults of scripts", "FAULTS OF EXPRESSIONS": "Fau
          "FAULTS OF CERTIFICATES": "Faults of certificates", "REJECTIONS": "Rejections"}
 # A refused expression is a finding by its own fault, and lack of memory is none.
 NO_FINDINGS = {"bad-expression", "out-of-memory"}
-CODES = "crates/sedck_findings/src/code.rt"
+CODES = "crates/sedck_report/src/code.rt"
 
 
 def section(text, head, mark):

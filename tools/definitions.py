@@ -366,7 +366,7 @@ script.Locations
 script.Faults bre.Faults cert.Faults
 script.FaultWords bre.FaultWords cert.FaultText cli.Lines
 cli.Reports cli.Engines cli.Statuses cli.Causes cli.Faults cert.Streams cli.Inputs cli.Opened
-findings.Answers findings.Denial findings.Explanations findings.Errors explain_cli.Explained explain_cli.Statuses findings.Positions findings.Shown findings.Codes findings.Reported escapes.Html escapes.Ascii
+findings.Answers findings.Denial findings.Explanations findings.Errors errors.Errors explain_cli.Explained explain_cli.Statuses report.Positions report.Shown report.Codes report.Levels report.Files report.Reported warnings.Added escapes.Html escapes.Ascii
 called.Called scan.Scanned scan.Placed traced.Traced traced.Texts calls.Words calls.Options calls.Calls calls.Origins calls.Scripts
 words.Names
 bre.Lengths script.Shortest script.Invariant
@@ -390,7 +390,7 @@ PARTS = [
          ("sedck_bre", "ReFault*", None), ("sedck_script", "ScriptFault*", None), ("sedck_cert", "CertFault*", None)]),
         ("Where commands are", [("sedck_script", "locate", ("count", "locations", "order"))]),
         ("Reports and statuses", [("sedck_cli", "*", None), ("sedck_cert", "write_cert", None)]),
-        ("What is explained", [("sedck_findings", "*", None), ("sedck_explain_cli", "*", None), ("sedck_escapes", "*", None),
+        ("What is explained", [("sedck_findings", "*", None), ("sedck_report", "*", None), ("sedck_errors", "*", None), ("sedck_warnings", "*", None), ("sedck_explain_cli", "*", None), ("sedck_escapes", "*", None),
          ("sedck_words", "*", None), ("sedck_scan", "*", None)]),
         ("The model, decided", [("sedck_matching", "*", None), ("sedck_model", "*", None)]),
         ("Certificates of version 1", [("sedck_cert", "read_cert_one", None), ("sedck_cert", "upgrade*", None), ("sedck_cert", "CertOne*", None),

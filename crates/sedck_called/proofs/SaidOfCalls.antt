@@ -2,10 +2,10 @@
 use Rattle.std.proofs.Common.{◌≡◌, ℕ, Bool, true, false, MatchBool, List, None, Result, Ok, Err, IfOk, refl, sym, subst}
 use Rattle.sedck_calls.specs.declared.call.Call.{Call}
 use Rattle.sedck_called.specs.Called.{is_in_place, is_denied_call, IsDenied, IsCalled}
-use Rattle.sedck_findings.specs.Denial.{has_warning}
+use Rattle.sedck_report.specs.Levels.{has_warning}
+use Rattle.sedck_errors.specs.declared.denied.Denied.{Denied}
 use Rattle.sedck_findings.specs.Explanations.{IsExplanation}
-use Rattle.sedck_findings.specs.declared.denied.Denied.{Denied}
-use Rattle.sedck_findings.specs.declared.finding.Explanation.{Explanation}
+use Rattle.sedck_findings.specs.declared.explanation.Explanation.{Explanation}
 
 -- where warnings are denied, an operand that is overwritten is warned of
 abbrev IsWarned : Denied → Call → Explanation → Type 0

@@ -14,11 +14,11 @@ use Rattle.sedck_calls.specs.declared.call.Piece.TheVariants.{Text, File}
 use Rattle.sedck_calls.specs.declared.call.Call.{Call}
 use Rattle.sedck_cli.specs.Inputs.{IsRead}
 use Rattle.sedck_cli.specs.Opened.{Known}
-use Rattle.sedck_findings.specs.Denial.{is_there, has_warning}
-use Rattle.sedck_findings.specs.Errors.{has_error}
+use Rattle.sedck_report.specs.Files.{is_there}
+use Rattle.sedck_report.specs.Levels.{has_warning, has_error}
+use Rattle.sedck_errors.specs.declared.denied.Denied.{Denied}
 use Rattle.sedck_findings.specs.Explanations.{IsExplanation, Keeps}
-use Rattle.sedck_findings.specs.declared.denied.Denied.{Denied}
-use Rattle.sedck_findings.specs.declared.finding.Explanation.{Explanation}
+use Rattle.sedck_findings.specs.declared.explanation.Explanation.{Explanation}
 
 -- An option that makes sed read another language (extended expressions), or other lines (up to a byte 0, or of each operand by itself),
 -- than those of the model

@@ -2,8 +2,7 @@
 
 ghost use Rattle.std.specs.Prelude.{◌≡◌, true, false, IfOk};
 ghost use Rattle.std.specs.List.{list_any};
-ghost use Rattle.sedck_findings.specs.Denial.{has_warning};
-ghost use Rattle.sedck_findings.specs.Errors.{is_error, has_error};
+ghost use Rattle.sedck_report.specs.Levels.{has_warning, is_error, has_error};
 ghost use Rattle.sedck_called.specs.Called.{changes_language as is_language_option, is_foreign as is_foreign_option, has_foreign as has_foreign_option};
 ghost use Rattle.sedck_called.specs.Called.{is_overwriting as is_overwriting_option, is_in_place as is_in_place_call};
 

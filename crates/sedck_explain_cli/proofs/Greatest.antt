@@ -5,8 +5,8 @@ use Rattle.std.proofs.lemmas.List.{length-map, get_or-map}
 use Rattle.sedck_cli.specs.Inputs.{IsRead}
 use Rattle.sedck_cli.specs.Opened.{Known}
 use Rattle.sedck_cli.specs.declared.answer.RunFault.{RunFault}
-use Rattle.sedck_findings.specs.declared.denied.Denied.{Denied}
-use Rattle.sedck_findings.specs.declared.finding.Explanation.{Explanation}
+use Rattle.sedck_errors.specs.declared.denied.Denied.{Denied}
+use Rattle.sedck_findings.specs.declared.explanation.Explanation.{Explanation}
 use Rattle.sedck_findings.proofs.Answering.{on_ok}
 use Rattle.sedck_explain_cli.specs.Explained.{Output, IsExplained, IsExplainedWith}
 use Rattle.sedck_explain_cli.specs.Statuses.{script_bytes, IsGiven, HasStatus, IsGreatest}

@@ -6,9 +6,9 @@ use Rattle.sedck_cli.specs.Inputs.{IsRead}
 use Rattle.sedck_cli.specs.declared.answer.Input.TheVariants as input
 use Rattle.sedck_cli.specs.declared.answer.RunFault.{RunFault}
 use Rattle.sedck_cli.specs.declared.answer.RunFault.TheVariants as fault
+use Rattle.sedck_errors.specs.declared.denied.Denied.{Denied}
 use Rattle.sedck_findings.specs.Explanations.{IsExplanation}
-use Rattle.sedck_findings.specs.declared.denied.Denied.{Denied}
-use Rattle.sedck_findings.specs.declared.finding.Explanation.{Explanation}
+use Rattle.sedck_findings.specs.declared.explanation.Explanation.{Explanation}
 
 -- The report on the explanation of a script's text, and of a certificate's where there is one, with its exit status. What the
 -- reporter makes of each explanation is known for some.

@@ -4,9 +4,9 @@ use Rattle.std.specs.Str.{bytes_eq}
 use Rattle.std.specs.Option.{option_map}
 use Rattle.sedck_cli.specs.Inputs.{IsRead}
 use Rattle.sedck_cli.specs.Opened.{Known}
+use Rattle.sedck_errors.specs.declared.denied.Denied.{Denied}
 use Rattle.sedck_findings.specs.Explanations.{IsExplanation}
-use Rattle.sedck_findings.specs.declared.denied.Denied.{Denied}
-use Rattle.sedck_findings.specs.declared.finding.Explanation.{Explanation}
+use Rattle.sedck_findings.specs.declared.explanation.Explanation.{Explanation}
 use Rattle.sedck_explain_cli.specs.declared.request.Request.{Request}
 
 -- the bytes that the script at the path has, where they are known: `-` is standard input, of which nothing is

@@ -1,7 +1,7 @@
 //! What makes a report of an explanation.
 
 ghost use Rattle.std.specs.Prelude.{◌≡◌, List, ℕ, Option, IfOk, IfSome};
-ghost use Rattle.sedck_findings.specs.declared.finding.Explanation.{Explanation};
+ghost use Rattle.sedck_findings.specs.declared.explanation.Explanation.{Explanation};
 
 use sedck_findings::Explanation;
 use std::alloc::{AllocError, Global};

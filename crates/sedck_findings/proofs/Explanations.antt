@@ -11,17 +11,17 @@ use Rattle.sedck_cert.specs.Certificate.{Certificate}
 use Rattle.sedck_cert.specs.Ranked.{Accepts}
 use Rattle.sedck_cert.specs.Headline.{SpellsOnly}
 use Rattle.sedck_cert.proofs.NamesListed.{reads_listed, writes_listed, only_list}
+use Rattle.sedck_report.specs.Positions.{position_in}
+use Rattle.sedck_report.specs.Files.{is_there, names_of}
+use Rattle.sedck_report.specs.declared.finding.NamedFile.{NamedFile}
+use Rattle.sedck_errors.specs.declared.denied.Denied.{Denied}
 use Rattle.sedck_findings.specs.Answers.{IsAnswer}
-use Rattle.sedck_findings.specs.Positions.{position_in}
-use Rattle.sedck_findings.specs.Denial.{is_there}
-use Rattle.sedck_findings.specs.Explanations.{Keeps, KeepsNothing, IsExplanation, names_of}
+use Rattle.sedck_findings.specs.Explanations.{Keeps, KeepsNothing, IsExplanation}
 use Rattle.sedck_findings.specs.Private.Errors.{IsOfScript, IsRefused, CanBeReported}
 use Rattle.sedck_findings.specs.Private.Explaining.{Explains, KeepsLocated, HasLists}
 use Rattle.sedck_findings.specs.declared.answer.Answer.{Answer}
 use Rattle.sedck_findings.specs.declared.answer.Answer.TheVariants.{ScriptRefused, CertificateRefused, Accepted, Rejected, Endless, NotJudged}
-use Rattle.sedck_findings.specs.declared.denied.Denied.{Denied}
-use Rattle.sedck_findings.specs.declared.finding.Explanation.{Explanation}
-use Rattle.sedck_findings.specs.declared.finding.NamedFile.{NamedFile}
+use Rattle.sedck_findings.specs.declared.explanation.Explanation.{Explanation}
 
 -- what follows from two promises on success
 pub on_both : {T E : Type 0} (P Q R : T → Type 0) (r : Result T E) → ((x : T) → P x → Q x → R x) → IfOk r P → IfOk r Q → IfOk r R

@@ -2,17 +2,18 @@
 use Rattle.std.proofs.Common.{◌≡◌, ◌∙◌, ◌==◌, ◌||◌, ◌&&◌, not, ℕ, Bool, true, false, List, [], ◌∷◌, ◌++◌, Option, map, refl, sym, ap, subst}
 use Rattle.std.specs.Prelude.{cond}
 use Rattle.std.proofs.lemmas.List.Elements.{All-head}
-use Rattle.sedck_findings.specs.Denial.{has_warning, status_under}
-use Rattle.sedck_findings.specs.Errors.{is_error, has_error, BeginsWithError, BeginsWithAnswer}
-use Rattle.sedck_findings.specs.Reported.{AreOf, AreInOrder}
-use Rattle.sedck_findings.specs.Private.Reporting.{head_of, errors_in, KeepsErrors, AreReported}
+use Rattle.sedck_report.specs.Levels.{has_warning, is_error, has_error, BeginsWithError}
+use Rattle.sedck_report.specs.Reported.{AreOf, AreInOrder, head_of}
+use Rattle.sedck_report.specs.declared.code.Code.{Code}
+use Rattle.sedck_report.specs.declared.finding.Finding.{Finding}
+use Rattle.sedck_report.specs.declared.finding.Level.TheVariants.{Error}
+use Rattle.sedck_report.specs.declared.places.Position.{Position}
+use Rattle.sedck_errors.specs.declared.denied.Denied.{Denied}
+use Rattle.sedck_findings.specs.Denial.{status_under}
+use Rattle.sedck_findings.specs.Errors.{BeginsWithAnswer}
+use Rattle.sedck_findings.specs.Private.Reporting.{errors_in, KeepsErrors, AreReported}
 use Rattle.sedck_findings.specs.declared.answer.Answer.{Answer}
 use Rattle.sedck_findings.specs.declared.answer.Answer.TheVariants.{ScriptRefused, CertificateRefused, Accepted, Rejected, Endless, NotJudged}
-use Rattle.sedck_findings.specs.declared.code.Code.{Code}
-use Rattle.sedck_findings.specs.declared.denied.Denied.{Denied}
-use Rattle.sedck_findings.specs.declared.finding.Finding.{Finding}
-use Rattle.sedck_findings.specs.declared.finding.Level.TheVariants.{Error}
-use Rattle.sedck_findings.specs.declared.places.Position.{Position}
 use Rattle.sedck_findings.proofs.Reports.{errors_of_ordered}
 
 -- a list has something

@@ -4,14 +4,13 @@ use Rattle.std.proofs.lemmas.List.{map-append}
 use Rattle.std.proofs.lemmas.List.Folds.{list_any-append}
 use Rattle.std.proofs.lemmas.List.Elements.{filter-append, All-append, All-cons, All-nil, All-head, All-tail}
 use Rattle.std.specs.List.{All}
-use Rattle.sedck_findings.specs.Denial.{has_warning, is_warning}
-use Rattle.sedck_findings.specs.Errors.{is_error}
-use Rattle.sedck_findings.specs.Reported.{AreOf, AreInOrder, HasRange}
-use Rattle.sedck_findings.specs.Private.Reporting.{head_of, errors_in, AreReported}
-use Rattle.sedck_findings.specs.declared.code.Code.{Code}
-use Rattle.sedck_findings.specs.declared.finding.Finding.{Finding}
-use Rattle.sedck_findings.specs.declared.finding.Level.{Level}
-use Rattle.sedck_findings.specs.declared.finding.Level.TheVariants.{Error, Warning, Note}
+use Rattle.sedck_report.specs.Levels.{has_warning, is_warning, is_error}
+use Rattle.sedck_report.specs.Reported.{AreOf, AreInOrder, HasRange, head_of}
+use Rattle.sedck_report.specs.declared.code.Code.{Code}
+use Rattle.sedck_report.specs.declared.finding.Finding.{Finding}
+use Rattle.sedck_report.specs.declared.finding.Level.{Level}
+use Rattle.sedck_report.specs.declared.finding.Level.TheVariants.{Error, Warning, Note}
+use Rattle.sedck_findings.specs.Private.Reporting.{errors_in, AreReported}
 
 -- what was found so far, by its levels and without what is ignored
 pub record IsSortedOut (text : List ℕ) (ignored : List Code) (found errors warnings notes : List Finding) : Type 0 where

@@ -1,30 +1,15 @@
 -- What a caller may deny of an accepted script, this project's own: files that it reads or writes, warnings, and steps without a
 -- limit. A script that isn't accepted has its status with or without it.
-use Rattle.std.specs.Prelude.{◌==◌, ℕ, Bool, true, false, not, ◌&&◌, ◌||◌, List, length, is_none, if◌then◌else◌}
-use Rattle.std.specs.List.{list_any}
+use Rattle.std.specs.Prelude.{ℕ, Bool, false, ◌&&◌, ◌||◌, is_none, if◌then◌else◌}
+use Rattle.sedck_report.specs.Files.{is_there}
+use Rattle.sedck_errors.specs.declared.denied.Denied.{Denied}
 use Rattle.sedck_findings.specs.Answers.{status_of}
 use Rattle.sedck_findings.specs.declared.answer.Answer.{Answer}
 use Rattle.sedck_findings.specs.declared.answer.Answer.TheVariants.{Accepted}
-use Rattle.sedck_findings.specs.declared.denied.Denied.{Denied}
-use Rattle.sedck_findings.specs.declared.finding.Finding.{Finding}
-use Rattle.sedck_findings.specs.declared.finding.Level.{Level}
-use Rattle.sedck_findings.specs.declared.finding.Level.TheVariants.{Warning}
 
 -- nothing is denied
 abbrev pub nothing : Denied
 nothing = record { reads = false; writes = false; warnings = false; unbounded = false }
-
--- a list has something
-abbrev pub is_there : {A : Type 0} → List A → Bool
-is_there things = not (length things == 0)
-
-abbrev pub is_warning : Level → Bool
-is_warning Warning = true
-is_warning _ = false
-
--- one of these findings is a warning
-abbrev pub has_warning : List Finding → Bool
-has_warning findings = list_any (λ finding. is_warning finding.level) findings
 
 -- the script is accepted, and has what is denied. Its lists are those of the accepted certificate.
 abbrev pub is_denied : Denied → Bool → Answer → Bool

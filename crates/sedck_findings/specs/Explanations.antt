@@ -6,22 +6,19 @@ use Rattle.sedck_script.specs.Names.{reads, writes}
 use Rattle.sedck_script.specs.Items.{Item, Items}
 use Rattle.sedck_script.specs.Locations.{locations_of}
 use Rattle.sedck_cert.specs.Headline.{SpellsOnly}
-use Rattle.sedck_findings.specs.Positions.{position_in}
+use Rattle.sedck_report.specs.Positions.{position_in}
+use Rattle.sedck_report.specs.Files.{names_of}
+use Rattle.sedck_report.specs.Levels.{has_warning}
+use Rattle.sedck_report.specs.Reported.{AreInOrder, HasRange}
+use Rattle.sedck_report.specs.declared.finding.Finding.{Finding}
+use Rattle.sedck_report.specs.declared.places.Position.{Position}
+use Rattle.sedck_errors.specs.declared.denied.Denied.{Denied}
 use Rattle.sedck_findings.specs.Answers.{IsAnswer}
-use Rattle.sedck_findings.specs.Denial.{has_warning, status_under}
+use Rattle.sedck_findings.specs.Denial.{status_under}
 use Rattle.sedck_findings.specs.Errors.{HasErrors}
-use Rattle.sedck_findings.specs.Reported.{AreInOrder, HasRange}
 use Rattle.sedck_findings.specs.declared.answer.Answer.{Answer}
 use Rattle.sedck_findings.specs.declared.answer.Answer.TheVariants.{ScriptRefused, NotJudged}
-use Rattle.sedck_findings.specs.declared.denied.Denied.{Denied}
-use Rattle.sedck_findings.specs.declared.finding.Explanation.{Explanation}
-use Rattle.sedck_findings.specs.declared.finding.Finding.{Finding}
-use Rattle.sedck_findings.specs.declared.finding.NamedFile.{NamedFile}
-use Rattle.sedck_findings.specs.declared.places.Position.{Position}
-
--- the names of files, in their order
-abbrev pub names_of : List NamedFile → List (List ℕ)
-names_of files = map (λ file. file.name.now) files
+use Rattle.sedck_findings.specs.declared.explanation.Explanation.{Explanation}
 
 -- the positions are those of the verbs, as every list of items has them that the text is read as
 abbrev pub AreVerbPositions : List ℕ → List Position → Type 0

@@ -1,18 +1,20 @@
 //! What the engines answer of a script, alone or with a certificate.
 
-ghost use Rattle.std.specs.Prelude.{◌≡◌, ◌≤◌, ℕ, List, IfOk, IfSome, Some, None, length};
+ghost use Rattle.std.specs.Prelude.{◌≡◌, ◌≤◌, ◌&&◌, ◌||◌, ℕ, List, IfOk, IfSome, Some, None, length};
 ghost use Rattle.std.specs.Option.{option_map};
 ghost use Rattle.sedck_script.specs.Locations.{locations_of};
 ghost use Rattle.sedck_script.specs.Items.{Item, Items};
 ghost use Rattle.sedck_cert.specs.Ranked.{Accepts};
 ghost use Rattle.sedck_cert.specs.Headline.{SpellsOnly};
+ghost use Rattle.sedck_cert.specs.declared.verifying.Fault.TheVariants as below;
+ghost use Rattle.sedck_report.specs.Files.{is_there};
 ghost use Rattle.sedck_findings.specs.Answers.{IsAnswer, status_of};
 ghost use Rattle.sedck_findings.specs.Denial.{nothing, status_under};
 ghost use Rattle.sedck_findings.specs.Private.Answering.{IsFoundAnswer, IsJudgedAnswer, IsAcceptedAnswer, refusal};
 ghost use Rattle.sedck_findings.specs.Private.Errors.{IsRefused};
 
-use crate::denied::{Denied, has_reads, has_writes};
-use sedck_cert::{Bound, Cert, CertFault, Fault, Rejection, Verdict, check, limit, read_any};
+use sedck_cert::{Bound, Cert, CertFault, Rejection, Verdict, check, limit, read_any};
+use sedck_errors::{Denied, has_reads, has_writes};
 use sedck_script::{Located, Script, ScriptFault, locate};
 use sedck_search::{Found, Walk, search};
 use std::alloc::{AllocError, Global};
@@ -65,15 +67,26 @@ impl Answer {
     {
         match self {
             Answer::Accepted { cert, bound } => {
-                let is_denied = (denied.reads && has_reads(cert))
-                    || (denied.writes && has_writes(cert))
-                    || (denied.unbounded && bound.is_none())
-                    || (denied.warnings && has_warning);
-                if is_denied { 1 } else { 0 }
+                if has_denied(denied, has_warning, cert, bound.is_none()) {
+                    1
+                } else {
+                    0
+                }
             }
             _ => self.status(),
         }
     }
+}
+
+/// Whether what is denied is there, of a script that is accepted with this certificate.
+fn has_denied(denied: Denied, has_warning: bool, cert: &Cert, is_unbounded: bool) -> bool
+    ensures { result ≡ ((denied.reads && is_there cert.now.reads) || (denied.writes && is_there cert.now.writes)
+        || (denied.unbounded && is_unbounded) || (denied.warnings && has_warning)) }
+{
+    (denied.reads && has_reads(cert))
+        || (denied.writes && has_writes(cert))
+        || (denied.unbounded && is_unbounded)
+        || (denied.warnings && has_warning)
 }
 
 /// An answer, and the script with the places of its commands where it isn't refused.
@@ -98,7 +111,7 @@ pub(crate) fn answer_of<'a>(
         Ok(located) => located,
         Err(fault) => {
             return Ok(Answered {
-                answer: refused(Fault::Script(fault))?,
+                answer: refused_script(fault)?,
                 located: None,
             });
         }
@@ -119,7 +132,7 @@ fn judged_answer(alloc: Global, script: &Script, certificate: &[u8]) -> Result<A
 {
     let cert = match read_any(alloc, certificate) {
         Ok(cert) => cert,
-        Err(fault) => return refused(Fault::Certificate(fault)),
+        Err(fault) => return refused_certificate(fault),
     };
     match check(script, &cert) {
         Verdict::Accepted => Ok(accepted(script, cert)),
@@ -136,15 +149,23 @@ fn accepted(script: &Script, cert: Cert) -> Answer
     Answer::Accepted { cert, bound }
 }
 
-/// The answer for a text that is refused.
-fn refused(fault: Fault) -> Result<Answer, AllocError>
-    ensures { IfOk result (λ answer. refusal fault ≡ Some answer) }
+/// The answer for a script's text that is refused.
+fn refused_script(fault: ScriptFault) -> Result<Answer, AllocError>
+    ensures { IfOk result (λ answer. refusal (below.Script fault) ≡ Some answer) }
 {
     match fault {
-        Fault::Script(ScriptFault::OutOfMemory) => Err(AllocError),
-        Fault::Certificate(CertFault::OutOfMemory) => Err(AllocError),
-        Fault::Script(fault) => Ok(Answer::ScriptRefused(fault)),
-        Fault::Certificate(fault) => Ok(Answer::CertificateRefused(fault)),
+        ScriptFault::OutOfMemory => Err(AllocError),
+        fault => Ok(Answer::ScriptRefused(fault)),
+    }
+}
+
+/// The answer for a certificate's text that is refused.
+fn refused_certificate(fault: CertFault) -> Result<Answer, AllocError>
+    ensures { IfOk result (λ answer. refusal (below.Certificate fault) ≡ Some answer) }
+{
+    match fault {
+        CertFault::OutOfMemory => Err(AllocError),
+        fault => Ok(Answer::CertificateRefused(fault)),
     }
 }
 

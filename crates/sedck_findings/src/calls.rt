@@ -5,8 +5,8 @@ ghost use Rattle.sedck_findings.specs.Explanations.{KeepsNothing};
 ghost use Rattle.sedck_findings.specs.declared.answer.Answer.TheVariants.{NotJudged};
 
 use crate::answer::Answer;
-use crate::code::Code;
-use crate::finding::{Explanation, Finding, Level};
+use crate::explanation::Explanation;
+use sedck_report::{Code, Finding, Level};
 use std::alloc::Global;
 
 /// The explanation of a call whose script isn't judged: these findings say why.

@@ -2,25 +2,23 @@
 
 ghost use Rattle.std.specs.Prelude.{◌≡◌, ◌≤◌, false, None, [], IfOk, map};
 ghost use Rattle.std.specs.Option.{option_map};
+ghost use Rattle.sedck_report.specs.Levels.{has_warning, has_error};
+ghost use Rattle.sedck_report.specs.Positions.{position_in};
 ghost use Rattle.sedck_findings.specs.Explanations.{IsExplanation, KeepsNothing, WarnedWith};
-ghost use Rattle.sedck_findings.specs.Denial.{has_warning};
-ghost use Rattle.sedck_findings.specs.Errors.{has_error};
-ghost use Rattle.sedck_findings.specs.Positions.{position_in};
 ghost use Rattle.sedck_findings.specs.Private.Errors.{IsOfScript, IsRefused, CanBeReported, AreFindingsOf, IsFindingOf};
 ghost use Rattle.sedck_findings.specs.Private.Explaining.{Explains, KeepsLocated, HasLists, AreDeniedFindings};
 
 use crate::answer::{Answer, Answered, answer_of};
-use crate::certificates::{certificate_refusal, rejection};
-use crate::denied::{Denied, any_warning, with_denials};
-use crate::finding::{Explanation, Finding, NamedFile};
-use crate::ignored::{ignored_codes, ignoring_words, unknown_warnings};
-use crate::looks::look_warnings;
-use crate::loops::{loop_finding, unbounded};
-use crate::names::{name_warnings, named_files};
-use crate::places::{Position, positions};
-use crate::refusals::script_refusal;
+use crate::explanation::Explanation;
+use crate::ignored::ignored_codes;
 use crate::reporting::reported;
+use sedck_errors::{
+    Denied, any_warning, certificate_refusal, loop_finding, rejection, script_refusal, unbounded,
+    with_denials,
+};
+use sedck_report::{Finding, NamedFile, Position, positions};
 use sedck_script::{Access, Located, Location, Script};
+use sedck_warnings::{add_warnings, ignoring_words, named_files};
 use std::alloc::{AllocError, Global};
 
 /// Explains what the engines answer of the script, alone or with a certificate: `judge`'s verdict, or what `search` finds. What is
@@ -96,9 +94,15 @@ fn explained<'a>(
     let words = ignoring_words(alloc, text, &located.locations)?;
     let mut found = answer_findings(alloc, text, script, &positions, &answer)?;
     found.append(&mut warnings)?;
-    look_warnings(alloc, &mut found, text, &located.locations)?;
-    name_warnings(alloc, &mut found, &reads, &writes)?;
-    unknown_warnings(alloc, &mut found, text, &words)?;
+    add_warnings(
+        alloc,
+        &mut found,
+        text,
+        &located.locations,
+        &reads,
+        &writes,
+        &words,
+    )?;
     let all = denied_findings(alloc, found, denied, &answer, &reads, &writes)?;
     let status = answer.status_under(denied, any_warning(&all));
     let ignored = ignored_codes(alloc, &words, denied)?;

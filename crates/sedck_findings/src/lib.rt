@@ -7,27 +7,17 @@
 
 mod answer;
 mod calls;
-mod certificates;
-mod code;
-mod denied;
-mod ends;
 mod explaining;
-mod finding;
+mod explanation;
 mod ignored;
-mod looks;
-mod loops;
-mod names;
-mod places;
-mod refusals;
 mod reporting;
-mod shown;
-mod steps;
 
 pub use answer::Answer;
 pub use calls::{call_finding, not_judged};
-pub use code::Code;
-pub use denied::Denied;
 pub use explaining::{explain, explain_call};
-pub use finding::{Explanation, Finding, Fix, Level, NamedFile, Step};
-pub use places::{Position, line_at, position_at, position_from};
-pub use shown::{is_printable, shown_line, shown_name};
+pub use explanation::Explanation;
+pub use sedck_errors::Denied;
+pub use sedck_report::{
+    Code, Finding, Fix, Level, NamedFile, Position, Step, is_printable, line_at, position_at,
+    position_from, shown_line, shown_name,
+};

@@ -1,12 +1,11 @@
 //! From the findings to the order in which they are reported: without those that the script ignores, and each with its end.
 
 ghost use Rattle.std.specs.Prelude.{◌≡◌, [], false, true, IfOk};
-ghost use Rattle.sedck_findings.specs.Errors.{is_error};
+ghost use Rattle.sedck_report.specs.Levels.{is_error};
 ghost use Rattle.sedck_findings.specs.Private.Reporting.{AreReported};
 
-use crate::code::Code;
-use crate::ends::with_end;
-use crate::finding::{Finding, Level};
+use sedck_errors::with_end;
+use sedck_report::{Code, Finding, Level};
 use sedck_script::Location;
 use std::alloc::{AllocError, Global};
 

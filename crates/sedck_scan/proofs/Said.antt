@@ -2,8 +2,8 @@
 use Rattle.std.proofs.Common.{◌≡◌, ◌∙◌, inl, inr, ℕ, Bool, true, false, MatchBool, List}
 use Rattle.sedck_calls.specs.declared.call.Call.{Call}
 use Rattle.sedck_called.specs.Called.{has_foreign}
-use Rattle.sedck_findings.specs.declared.denied.Denied.{Denied}
-use Rattle.sedck_findings.specs.declared.finding.Explanation.{Explanation}
+use Rattle.sedck_errors.specs.declared.denied.Denied.{Denied}
+use Rattle.sedck_findings.specs.declared.explanation.Explanation.{Explanation}
 use Rattle.sedck_found.specs.declared.found.FoundScript.{FoundScript}
 use Rattle.sedck_found.specs.declared.found.FoundScript.TheVariants.{Text, Foreign, Refused, Unknown}
 use Rattle.sedck_traced.specs.declared.origin.Traced.{Traced}

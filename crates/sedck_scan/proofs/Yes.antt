@@ -4,9 +4,9 @@ use Rattle.std.proofs.lemmas.Bool.{true≢false}
 use Rattle.sedck_calls.specs.Calls.{IsCall}
 use Rattle.sedck_calls.specs.declared.call.Call.{Call}
 use Rattle.sedck_called.specs.Called.{has_foreign, is_denied_call, IsDenied, IsCalled}
+use Rattle.sedck_errors.specs.declared.denied.Denied.{Denied}
 use Rattle.sedck_findings.specs.Explanations.{IsExplanation}
-use Rattle.sedck_findings.specs.declared.denied.Denied.{Denied}
-use Rattle.sedck_findings.specs.declared.finding.Explanation.{Explanation}
+use Rattle.sedck_findings.specs.declared.explanation.Explanation.{Explanation}
 use Rattle.sedck_found.specs.declared.found.FoundScript.{FoundScript}
 use Rattle.sedck_found.specs.declared.found.FoundScript.TheVariants.{Text, Foreign, Refused, Unknown}
 use Rattle.sedck_traced.specs.Traced.{has_hole}

@@ -1,9 +1,9 @@
 -- Positions of findings in a file, this project's own.
 use Rattle.std.specs.Prelude.{◌≡◌, ℕ, List, Option, Some, None}
 use Rattle.std.specs.List.{All}
-use Rattle.sedck_findings.specs.Positions.{position_in}
-use Rattle.sedck_findings.specs.declared.finding.Finding.{Finding}
-use Rattle.sedck_findings.specs.declared.places.Position.{Position}
+use Rattle.sedck_report.specs.Positions.{position_in}
+use Rattle.sedck_report.specs.declared.finding.Finding.{Finding}
+use Rattle.sedck_report.specs.declared.places.Position.{Position}
 
 -- the line and the column are those of the offset in the file
 abbrev pub IsIn : List ℕ → Position → Type 0

@@ -9,10 +9,11 @@ use Rattle.sedck_calls.specs.declared.call.Call.{Call}
 use Rattle.sedck_calls.specs.declared.call.Piece.{Piece}
 use Rattle.sedck_calls.specs.declared.call.Piece.TheVariants as piece
 use Rattle.sedck_called.specs.Called.{has_foreign, IsCalled}
-use Rattle.sedck_findings.specs.Explanations.{IsExplanation, names_of}
+use Rattle.sedck_report.specs.Files.{names_of}
+use Rattle.sedck_errors.specs.declared.denied.Denied.{Denied}
+use Rattle.sedck_findings.specs.Explanations.{IsExplanation}
 use Rattle.sedck_findings.specs.declared.answer.Answer.TheVariants.{NotJudged}
-use Rattle.sedck_findings.specs.declared.denied.Denied.{Denied}
-use Rattle.sedck_findings.specs.declared.finding.Explanation.{Explanation}
+use Rattle.sedck_findings.specs.declared.explanation.Explanation.{Explanation}
 use Rattle.sedck_found.specs.declared.found.FoundCall.{FoundCall}
 use Rattle.sedck_found.specs.declared.found.FoundScript.{FoundScript}
 use Rattle.sedck_found.specs.declared.found.FoundScript.TheVariants.{Text, Foreign, Refused, Unknown}

@@ -1,7 +1,7 @@
 //! The calls of a file, explained one after another.
 
 ghost use Rattle.std.specs.Prelude.{◌≡◌, IfOk};
-ghost use Rattle.sedck_findings.specs.Positions.{position_in};
+ghost use Rattle.sedck_report.specs.Positions.{position_in};
 ghost use Rattle.sedck_scan.specs.Scanned.{IsWorst, worse, rank as rank_of};
 
 use crate::answers::call_report;

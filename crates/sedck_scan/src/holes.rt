@@ -2,7 +2,7 @@
 
 ghost use Rattle.std.specs.Prelude.{◌≡◌, IfOk};
 ghost use Rattle.std.specs.List.{All};
-ghost use Rattle.sedck_findings.specs.Positions.{position_in};
+ghost use Rattle.sedck_report.specs.Positions.{position_in};
 ghost use Rattle.sedck_scan.specs.Placed.{IsFindingIn};
 
 use crate::places::Places;

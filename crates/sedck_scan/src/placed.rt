@@ -3,7 +3,7 @@
 ghost use Rattle.std.specs.Prelude.{◌≡◌};
 ghost use Rattle.std.specs.List.{All};
 ghost use Rattle.sedck_scan.specs.Placed.{IsFindingIn, IsSomeIn};
-ghost use Rattle.sedck_findings.specs.Explanations.{names_of};
+ghost use Rattle.sedck_report.specs.Files.{names_of};
 ghost use Rattle.sedck_scan.specs.Scanned.{Agrees};
 
 use crate::places::Places;

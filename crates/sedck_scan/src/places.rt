@@ -1,7 +1,7 @@
 //! Positions of a script as positions of its file.
 
 ghost use Rattle.std.specs.Prelude.{◌≡◌, IfOk};
-ghost use Rattle.sedck_findings.specs.Positions.{position_in};
+ghost use Rattle.sedck_report.specs.Positions.{position_in};
 ghost use Rattle.sedck_scan.specs.Placed.{IsIn};
 
 use sedck_findings::{Position, position_at, position_from};

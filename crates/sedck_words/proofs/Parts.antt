@@ -3,7 +3,7 @@ use Rattle.std.proofs.Common.{◌≡◌, ◌∙◌, ◌+◌, ◌≤◌, ◌<◌,
 use Rattle.std.proofs.lemmas.Bool.Decides.{nat_tests}
 use Rattle.std.proofs.lemmas.List.Elements.{filter-append}
 use Rattle.std.specs.List.{filter, last_or}
-use Rattle.sedck_findings.specs.declared.places.Position.{Position}
+use Rattle.sedck_report.specs.declared.places.Position.{Position}
 use Rattle.sedck_words.specs.Names.{begins_by, part_at, IsPlaceIn, IsPlace}
 use Rattle.sedck_words.specs.declared.names.Place.{Place}
 use Rattle.sedck_words.specs.declared.names.PartName.{PartName}

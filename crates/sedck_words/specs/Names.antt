@@ -1,7 +1,7 @@
 -- Where a position is in the parts of a script, this project's own.
 use Rattle.std.specs.Prelude.{◌≡◌, ◌≤◌, ◌+◌, ℕ, Bool, not, nat_lt, List, Option, Some, None, string_bytes}
 use Rattle.std.specs.List.{filter, last_or}
-use Rattle.sedck_findings.specs.declared.places.Position.{Position}
+use Rattle.sedck_report.specs.declared.places.Position.{Position}
 use Rattle.sedck_words.specs.declared.names.PartName.{PartName}
 use Rattle.sedck_words.specs.declared.names.Place.{Place}
 

@@ -1,28 +1,15 @@
 -- What functions promise each other of the findings.
-use Rattle.std.specs.Prelude.{◌≡◌, ◌≢◌, ◌==◌, ◌&&◌, ℕ, Bool, true, false, List, ◌∷◌, Option, Some, None, IfSome}
-use Rattle.sedck_script.specs.Cuts.{backslash}
+use Rattle.std.specs.Prelude.{◌≡◌, ℕ, false, List, Option, Some, None, IfSome}
 use Rattle.sedck_script.specs.Program.{Program}
 use Rattle.sedck_script.specs.Names.{reads, writes}
-use Rattle.sedck_script.specs.Faults.{IsPlaced}
-use Rattle.sedck_script.specs.declared.fault.ScriptFault.{ScriptFault}
-use Rattle.sedck_script.specs.declared.fault.ScriptFault.TheVariants.{OutOfMemory}
-use Rattle.sedck_findings.specs.Denial.{has_warning}
-use Rattle.sedck_findings.specs.Errors.{is_error, has_error, BeginsWithError, IsErrorPosition, BeginsWithAnswer}
+use Rattle.sedck_report.specs.Levels.{is_error, has_error}
+use Rattle.sedck_report.specs.declared.finding.Finding.{Finding}
+use Rattle.sedck_report.specs.declared.finding.Level.TheVariants.{Error}
+use Rattle.sedck_report.specs.declared.places.Position.{Position}
+use Rattle.sedck_errors.specs.Errors.{IsReportable}
+use Rattle.sedck_findings.specs.Errors.{IsErrorPosition, BeginsWithAnswer}
 use Rattle.sedck_findings.specs.declared.answer.Answer.{Answer}
 use Rattle.sedck_findings.specs.declared.answer.Answer.TheVariants.{ScriptRefused, Accepted, NotJudged}
-use Rattle.sedck_findings.specs.declared.finding.Finding.{Finding}
-use Rattle.sedck_findings.specs.declared.finding.Level.TheVariants.{Error}
-use Rattle.sedck_findings.specs.declared.places.Position.{Position}
-
--- findings are added after the others, and none of them is an error
-pub record AddsNoError (old new : List Finding) : Type 0 where
-  pub errors : has_error new ≡ has_error old
-  pub warned : has_warning old ≡ true → has_warning new ≡ true
-  pub first : (position : Option Position) → BeginsWithError position old → BeginsWithError position new
-
--- a fault that is reported has a place in the text
-abbrev pub IsReportable : List ℕ → ScriptFault → Type 0
-IsReportable text why = (why ≢ OutOfMemory) × IsPlaced text why
 
 -- what is known of an answer for this script that is read or refused
 abbrev pub IsOfScript : List ℕ → Program → Answer → Type 0
@@ -52,12 +39,3 @@ IsFindingOf text positions answer (Some finding) = (finding.level ≡ Error) × 
 abbrev pub AreFindingsOf : List ℕ → List Position → Answer → List Finding → Type 0
 AreFindingsOf text positions (Accepted cert bound) findings = has_error findings ≡ false
 AreFindingsOf text positions answer findings = BeginsWithAnswer text positions findings answer
-
--- a backslash and this delimiter are first; a backslash and any other byte
-abbrev pub is_escaped : ℕ → List ℕ → Bool
-is_escaped delimiter (a ∷ b ∷ rest) = (a == backslash) && (b == delimiter)
-is_escaped delimiter _ = false
-
-abbrev pub is_pair : List ℕ → Bool
-is_pair (a ∷ b ∷ rest) = a == backslash
-is_pair _ = false

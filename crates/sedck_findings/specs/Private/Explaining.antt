@@ -4,17 +4,18 @@ use Rattle.std.specs.List.{All}
 use Rattle.sedck_script.specs.Program.{Program}
 use Rattle.sedck_script.specs.Names.{reads, writes}
 use Rattle.sedck_script.specs.declared.location.Location.{Location}
-use Rattle.sedck_findings.specs.Positions.{position_in}
-use Rattle.sedck_findings.specs.Denial.{is_there, has_warning, is_denied, status_under}
-use Rattle.sedck_findings.specs.Errors.{has_error, HasErrors}
-use Rattle.sedck_findings.specs.Reported.{AreInOrder, HasRange}
-use Rattle.sedck_findings.specs.Explanations.{names_of}
+use Rattle.sedck_report.specs.Positions.{position_in}
+use Rattle.sedck_report.specs.Files.{is_there, names_of}
+use Rattle.sedck_report.specs.Levels.{has_warning, has_error}
+use Rattle.sedck_report.specs.Reported.{AreInOrder, HasRange}
+use Rattle.sedck_report.specs.declared.finding.Finding.{Finding}
+use Rattle.sedck_report.specs.declared.finding.NamedFile.{NamedFile}
+use Rattle.sedck_errors.specs.declared.denied.Denied.{Denied}
+use Rattle.sedck_findings.specs.Denial.{is_denied, status_under}
+use Rattle.sedck_findings.specs.Errors.{HasErrors}
 use Rattle.sedck_findings.specs.declared.answer.Answer.{Answer}
 use Rattle.sedck_findings.specs.declared.answer.Answer.TheVariants.{Accepted}
-use Rattle.sedck_findings.specs.declared.denied.Denied.{Denied}
-use Rattle.sedck_findings.specs.declared.finding.Explanation.{Explanation}
-use Rattle.sedck_findings.specs.declared.finding.Finding.{Finding}
-use Rattle.sedck_findings.specs.declared.finding.NamedFile.{NamedFile}
+use Rattle.sedck_findings.specs.declared.explanation.Explanation.{Explanation}
 
 -- the explanation of this answer, but for what it keeps of the script
 pub record Explains (text : List ℕ) (denied : Denied) (answer : Answer) (e : Explanation) : Type 0 where

@@ -1,16 +1,10 @@
 -- The steps from what is found to what is reported.
-use Rattle.std.specs.Prelude.{◌≡◌, ℕ, List, [], Option, map}
+use Rattle.std.specs.Prelude.{◌≡◌, ℕ, List, [], map}
 use Rattle.std.specs.List.{All, filter}
-use Rattle.sedck_findings.specs.Denial.{has_warning}
-use Rattle.sedck_findings.specs.Errors.{is_error}
-use Rattle.sedck_findings.specs.Reported.{AreInOrder, HasRange}
-use Rattle.sedck_findings.specs.declared.code.Code.{Code}
-use Rattle.sedck_findings.specs.declared.finding.Finding.{Finding}
-use Rattle.sedck_findings.specs.declared.places.Position.{Position}
-
--- what an error is about, and where
-abbrev pub head_of : Finding → Code × Option Position
-head_of finding = (finding.code, finding.position)
+use Rattle.sedck_report.specs.Levels.{has_warning, is_error}
+use Rattle.sedck_report.specs.Reported.{head_of, AreInOrder, HasRange}
+use Rattle.sedck_report.specs.declared.code.Code.{Code}
+use Rattle.sedck_report.specs.declared.finding.Finding.{Finding}
 
 -- the errors among findings
 abbrev pub errors_in : List Finding → List Finding

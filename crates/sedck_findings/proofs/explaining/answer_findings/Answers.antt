@@ -1,6 +1,6 @@
 use Rattle.std.proofs.Common.{◌≡◌, ◌∙◌, List, [], ◌∷◌, ◌++◌, ap, sym, subst}
+use Rattle.sedck_report.specs.declared.finding.Finding.{Finding}
 use Rattle.sedck_findings.specs.Private.Errors.{IsFindingOf, AreFindingsOf}
-use Rattle.sedck_findings.specs.declared.finding.Finding.{Finding}
 use Rattle.sedck_findings.proofs.Errors.{finding_alone}
 use Rattle.sedck_findings.proofs.explaining.answer_findings.Goals as goal
 

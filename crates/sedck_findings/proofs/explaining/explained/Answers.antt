@@ -1,11 +1,14 @@
 use Rattle.std.proofs.Common.{◌≡◌, ◌∙◌, List, refl, ap, map, subst}
-use Rattle.sedck_findings.specs.Denial.{has_warning, status_under}
-use Rattle.sedck_findings.specs.Positions.{position_in}
-use Rattle.sedck_findings.specs.Private.Errors.{AreFindingsOf, AddsNoError}
+use Rattle.sedck_report.specs.Levels.{has_warning}
+use Rattle.sedck_report.specs.Positions.{position_in}
+use Rattle.sedck_report.specs.declared.code.Code.{Code}
+use Rattle.sedck_report.specs.declared.places.Position.{Position}
+use Rattle.sedck_warnings.specs.Added.{AddsNoError}
+use Rattle.sedck_findings.specs.Denial.{status_under}
+use Rattle.sedck_findings.specs.Private.Errors.{AreFindingsOf}
 use Rattle.sedck_findings.specs.Private.Reporting.{AreReported}
-use Rattle.sedck_findings.specs.declared.code.Code.{Code}
-use Rattle.sedck_findings.specs.declared.places.Position.{Position}
-use Rattle.sedck_findings.proofs.Errors.{errors_of, findings_stay, no_error_append, no_error_trans, warned_behind}
+use Rattle.sedck_warnings.proofs.Added.{no_error_append, no_error_trans, warned_behind}
+use Rattle.sedck_findings.proofs.Errors.{errors_of, findings_stay}
 use Rattle.sedck_findings.proofs.Explanations.{can_be_reported, lists_of_script}
 use Rattle.sedck_findings.proofs.Kept.{errors_reported, status_reported}
 use Rattle.sedck_findings.proofs.explaining.explained.Goals as goal
@@ -25,8 +28,7 @@ returns-clause-explains c =
     let answer = c.args.answer in
     let positions = c.in_ok-positions.positions.items in
     let given = c.append.new.self.items in
-    let looks = c.look_warnings.new.findings.items in
-    let found = c.unknown_warnings.new.findings.items in
+    let found = c.add_warnings.new.findings.items in
     let all = c.in_ok-all.all.items in
     let findings = c.in_ok-findings.findings.items in
     let ignored = c.in_ok-ignored.ignored.items in
@@ -38,8 +40,7 @@ returns-clause-explains c =
     let adds : AddsNoError c.in_ok-found.found.items found =
     no_error_trans c.in_ok-found.found.items given found
     (no_error_append c.in_ok-found.found.items given c.args.warnings.items c.in_ok-append.ensures.items c.requires.warned)
-    (no_error_trans given looks found c.in_ok-look_warnings.ensures
-    (no_error_trans looks c.name_warnings.new.findings.items found c.in_ok-name_warnings.ensures c.in_ok-unknown_warnings.ensures)) in
+    c.in_ok-add_warnings.ensures in
     let reported : AreReported text ignored all findings =
     subst (λ (codes : List Code). AreReported text codes all findings) c.deref-15.ensures.value c.in_ok-findings.ensures in
     let errors = errors_reported text positions answer ignored all findings c.status_under-status.result reported
@@ -68,15 +69,12 @@ returns-clause-warned c = λ denied warned.
     let text = c.args.text.now in
     let begun = c.in_ok-found.found.items in
     let given = c.append.new.self.items in
-    let looks = c.look_warnings.new.findings.items in
-    let found = c.unknown_warnings.new.findings.items in
+    let found = c.add_warnings.new.findings.items in
     let all = c.in_ok-all.all.items in
     let findings = c.in_ok-findings.findings.items in
     let ignored = c.in_ok-ignored.ignored.items in
     let reported : AreReported text ignored all findings =
     subst (λ (codes : List Code). AreReported text codes all findings) c.deref-15.ensures.value c.in_ok-findings.ensures in
-    let adds : AddsNoError given found =
-    no_error_trans given looks found c.in_ok-look_warnings.ensures
-    (no_error_trans looks c.name_warnings.new.findings.items found c.in_ok-name_warnings.ensures c.in_ok-unknown_warnings.ensures) in
+    let adds : AddsNoError given found = c.in_ok-add_warnings.ensures in
     reported.warnings (c.in_ok-ignored.ensures denied) ∙ c.in_ok-all.ensures.warnings
     ∙ adds.warned (warned_behind begun given c.args.warnings.items c.in_ok-append.ensures.items warned)

@@ -1,8 +1,8 @@
 use Rattle.std.proofs.Common.{◌≡◌, ◌∙◌, List, [], ◌∷◌, ◌++◌, ap, sym, subst}
+use Rattle.sedck_report.specs.declared.finding.Finding.{Finding}
 use Rattle.sedck_findings.specs.Private.Errors.{AreFindingsOf}
 use Rattle.sedck_findings.specs.declared.answer.Answer.{Answer}
 use Rattle.sedck_findings.specs.declared.answer.Answer.TheVariants.{ScriptRefused}
-use Rattle.sedck_findings.specs.declared.finding.Finding.{Finding}
 use Rattle.sedck_findings.proofs.Errors.{finding_alone}
 use Rattle.sedck_findings.proofs.explaining.refusal_findings.Goals as goal
 

@@ -1,9 +1,11 @@
 use Rattle.std.proofs.Common.{◌≡◌, ◌∙◌, [], refl, ap, sym, subst}
-use Rattle.sedck_findings.specs.Denial.{has_warning, status_under}
+use Rattle.sedck_report.specs.Levels.{has_warning}
+use Rattle.sedck_findings.specs.Denial.{status_under}
 use Rattle.sedck_findings.specs.Errors.{BeginsWithAnswer}
 use Rattle.sedck_findings.specs.Private.Errors.{AreFindingsOf}
 use Rattle.sedck_findings.specs.Private.Reporting.{AreReported}
-use Rattle.sedck_findings.proofs.Errors.{errors_of_refusal, findings_stay, no_error_append, warned_behind}
+use Rattle.sedck_warnings.proofs.Added.{no_error_append, warned_behind}
+use Rattle.sedck_findings.proofs.Errors.{errors_of_refusal, findings_stay}
 use Rattle.sedck_findings.proofs.Kept.{errors_reported, status_reported}
 use Rattle.sedck_findings.proofs.explaining.refused.Goals as goal
 

@@ -2,8 +2,8 @@ use Rattle.std.proofs.Common.{◌≡◌, ◌∙◌, ◌++◌, List, length, refl
 use Rattle.std.proofs.lemmas.Iterator.Consumers.{YieldsList-end}
 use Rattle.std.proofs.lemmas.Iterator.Adapters.{YieldsList-from_vec}
 use Rattle.std.proofs.lemmas.List.Folds.{map_fixed}
+use Rattle.sedck_report.specs.declared.finding.Finding.{Finding}
 use Rattle.sedck_findings.specs.Private.Reporting.{AreReported}
-use Rattle.sedck_findings.specs.declared.finding.Finding.{Finding}
 use Rattle.sedck_findings.proofs.Reports.{more_error, more_warning, more_note, sorted_reports}
 use Rattle.sedck_findings.proofs.reporting.reported.Goals as goal
 

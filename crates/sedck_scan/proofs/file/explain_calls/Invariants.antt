@@ -1,5 +1,5 @@
 use Rattle.std.proofs.Common.{◌≡◌, take}
-use Rattle.sedck_findings.specs.Positions.{position_in}
+use Rattle.sedck_report.specs.Positions.{position_in}
 use Rattle.sedck_scan.specs.Scanned.{IsWorst}
 use Rattle.sedck_scan.proofs.file.explain_calls.Given as goal
 

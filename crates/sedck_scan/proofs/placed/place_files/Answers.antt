@@ -1,6 +1,6 @@
 use Rattle.std.proofs.Common.{◌∙◌, get_or, refl}
 use Rattle.std.proofs.Math.Seq.{map-set_same}
-use Rattle.sedck_findings.specs.declared.finding.NamedFile.{NamedFile}
+use Rattle.sedck_report.specs.declared.finding.NamedFile.{NamedFile}
 use Rattle.sedck_scan.proofs.placed.place_files.Goals as goal
 
 pub loop-file-preserved : goal.loop-file-preserved

@@ -1,5 +1,5 @@
 use Rattle.std.proofs.Common.{◌≡◌}
-use Rattle.sedck_findings.specs.Explanations.{names_of}
+use Rattle.sedck_report.specs.Files.{names_of}
 use Rattle.sedck_scan.proofs.placed.place_files.Given as goal
 
 -- the names stay

@@ -1,0 +1,4 @@
+-- What the public contracts cite.
+pub mod Errors
+-- What functions inside the crate promise each other.
+pub mod Private

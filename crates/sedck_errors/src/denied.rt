@@ -1,0 +1,159 @@
+//! What a caller denies of an accepted script, and what is reported of it.
+
+ghost use Rattle.std.specs.Prelude.{◌≡◌, ◌&&◌, ◌||◌, not, true, false, IfOk, OnOk};
+ghost use Rattle.sedck_report.specs.Levels.{has_warning, is_warning, has_error, is_error};
+ghost use Rattle.sedck_report.specs.Files.{is_there};
+
+use sedck_cert::Cert;
+use sedck_report::{Code, Finding, Level, NamedFile, Position, shown_name};
+use std::alloc::{AllocError, Global};
+
+/// What an accepted script may not have.
+#[derive(Clone, Copy, PartialEq, Eq)]
+pub struct Denied {
+    /// A file that it reads.
+    pub reads: bool,
+    /// A file that it writes.
+    pub writes: bool,
+    /// A finding of the level of warnings.
+    pub warnings: bool,
+    /// Steps without a known limit.
+    pub unbounded: bool,
+}
+
+impl Denied {
+    /// All is allowed.
+    pub const NOTHING: Denied = Denied {
+        reads: false,
+        writes: false,
+        warnings: false,
+        unbounded: false,
+    };
+}
+
+/// Whether one of the findings is a warning.
+pub fn any_warning(findings: &[Finding]) -> bool
+    ensures { result ≡ has_warning findings.now }
+{
+    findings.iter().any(|finding| finding.is_warning())
+}
+
+/// Whether a file is read.
+pub fn has_reads(cert: &Cert) -> bool
+    ensures { result ≡ is_there cert.now.reads }
+{
+    !cert.reads().is_empty()
+}
+
+/// Whether a file is written.
+pub fn has_writes(cert: &Cert) -> bool
+    ensures { result ≡ is_there cert.now.writes }
+{
+    !cert.writes().is_empty()
+}
+
+/// The findings on an accepted script after an error for each thing that is denied and there.
+pub fn with_denials(
+    alloc: Global,
+    mut findings: Vec<Finding>,
+    denied: Denied,
+    reads: &[NamedFile],
+    writes: &[NamedFile],
+    is_bounded: bool,
+) -> Result<Vec<Finding>, AllocError>
+    // There is an error where something is denied and there, or was one before; all warnings are kept.
+    ensures errors { IfOk result (λ all. has_error all.items ≡ ((denied.reads && is_there reads.now) || (denied.writes && is_there writes.now)
+        || (denied.unbounded && not is_bounded) || (denied.warnings && has_warning findings.items) || has_error findings.items)) }
+    ensures warnings { IfOk result (λ all. has_warning all.items ≡ has_warning findings.items) }
+{
+    let mut all = Vec::new(alloc);
+    if denied.reads {
+        push_files(alloc, &mut all, reads, Code::DeniedReads, "reads")?;
+    }
+    if denied.writes {
+        push_files(alloc, &mut all, writes, Code::DeniedWrites, "writes")?;
+    }
+    if denied.unbounded && !is_bounded {
+        all.push(unbounded_denial(alloc, &findings)?)?;
+    }
+    if denied.warnings {
+        push_warnings(alloc, &mut all, &findings)?;
+    }
+    all.append(&mut findings)?;
+    Ok(all)
+}
+
+/// Adds an error for each of the files, at the first command that names it.
+fn push_files(
+    alloc: Global,
+    findings: &mut Vec<Finding>,
+    files: &[NamedFile],
+    code: Code,
+    does: &'static str,
+) -> Result<(), AllocError>
+    ensures errors { OnOk result (has_error findings.new.items ≡ (has_error findings.old.items || is_there files.now)) }
+    ensures warnings { OnOk result (has_warning findings.new.items ≡ has_warning findings.old.items) }
+{
+    for file in files {
+        let name = shown_name(alloc, file.name)?;
+        let message = format!(in alloc; "this {does} \"{name}\", which `--deny {does}` forbids")?;
+        findings.push(denial(alloc, code, file.positions.first().copied(), message))?;
+    }
+    Ok(())
+}
+
+/// Adds an error for each warning, at its place.
+fn push_warnings(
+    alloc: Global,
+    findings: &mut Vec<Finding>,
+    given: &[Finding],
+) -> Result<(), AllocError>
+    ensures errors { OnOk result (has_error findings.new.items ≡ (has_error findings.old.items || has_warning given.now)) }
+    ensures warnings { OnOk result (has_warning findings.new.items ≡ has_warning findings.old.items) }
+{
+    for finding in given {
+        if finding.is_warning() {
+            let code = finding.code.name();
+            let message = format!(in alloc;
+                "this has the warning `{code}`, which `--deny warnings` forbids"
+            )?;
+            let mut error = denial(alloc, Code::DeniedWarnings, finding.position, message);
+            error.end = finding.end;
+            findings.push(error)?;
+        }
+    }
+    Ok(())
+}
+
+/// The error where no limit on the steps is known, at the place of the note that says so.
+fn unbounded_denial(alloc: Global, findings: &[Finding]) -> Result<Finding, AllocError>
+    ensures error { IfOk result (λ finding. is_error finding.level ≡ true) }
+    ensures warning { IfOk result (λ finding. is_warning finding.level ≡ false) }
+{
+    let position = findings
+        .iter()
+        .find(|finding| finding.code == Code::NoBound)
+        .and_then(|finding| finding.position);
+    let message = String::from_str(
+        alloc,
+        "no limit on the steps is known, which `--deny unbounded` forbids",
+    )?;
+    Ok(denial(alloc, Code::DeniedUnbounded, position, message))
+}
+
+/// An error on something that is denied.
+fn denial(alloc: Global, code: Code, position: Option<Position>, message: String) -> Finding
+    ensures error { is_error result.level ≡ true }
+    ensures warning { is_warning result.level ≡ false }
+{
+    Finding {
+        level: Level::Error,
+        code,
+        position,
+        end: None,
+        message,
+        hint: None,
+        fix: None,
+        steps: Vec::new(alloc),
+    }
+}

@@ -1,0 +1,182 @@
+//! What is reported of a loop, and of a script whose steps have no limit.
+
+ghost use Rattle.std.specs.Prelude.{◌≡◌, false, IfOk, IfSome};
+ghost use Rattle.sedck_report.specs.Levels.{is_error};
+ghost use Rattle.sedck_report.specs.declared.finding.Level.TheVariants.{Error};
+ghost use Rattle.sedck_errors.specs.Errors.{first_position};
+
+use crate::steps::{position_of, step, target_step};
+use sedck_cert::{Cert, first_growth};
+use sedck_flow::Edge;
+use sedck_report::{Code, Finding, Level, Position, Step};
+use sedck_script::{Pattern, Script, Verb};
+use sedck_search::{Form, Walk};
+use std::alloc::{AllocError, Global};
+
+/// The finding for a loop that rules all certificates out.
+pub fn loop_finding(
+    alloc: Global,
+    script: &Script,
+    positions: &[Position],
+    walk: &Walk,
+) -> Result<Finding, AllocError>
+    ensures level { IfOk result (λ finding. finding.level ≡ Error) }
+    ensures position { IfOk result (λ finding. finding.position ≡ first_position positions.now walk.now.nodes.items) }
+{
+    let (code, message) = match walk.form {
+        Form::Idle => (
+            Code::LoopIdle,
+            "this loop reads no line and never shortens the pattern space: it may run forever",
+        ),
+        Form::Growing => (
+            Code::LoopGrowing,
+            "this loop reads no line and may lengthen the pattern space each time: it may run forever",
+        ),
+    };
+    let steps = loop_steps(alloc, script, positions, walk)?;
+    Ok(Finding {
+        level: Level::Error,
+        code,
+        position: loop_position(positions, walk),
+        end: None,
+        message: String::from_str(alloc, message)?,
+        hint: Some(loop_hint(script, walk)),
+        fix: None,
+        steps,
+    })
+}
+
+/// Where the loop begins.
+fn loop_position(positions: &[Position], walk: &Walk) -> Option<Position>
+    ensures { result ≡ first_position positions.now walk.now.nodes.items }
+{
+    match walk.nodes.first() {
+        Some(node) => position_of(positions, *node),
+        None => None,
+    }
+}
+
+/// The steps of the loop, in the order of a run, and the node that it comes back to.
+fn loop_steps(
+    alloc: Global,
+    script: &Script,
+    positions: &[Position],
+    walk: &Walk,
+) -> Result<Vec<Step>, AllocError> {
+    let mut steps = Vec::new(alloc);
+    for index in 0..walk.kinds.len() {
+        let (Some(from), Some(to), Some(kind)) = (
+            walk.nodes.get(index),
+            walk.nodes.get(index + 1),
+            walk.kinds.get(index),
+        ) else {
+            break;
+        };
+        let edge = Edge {
+            from: *from,
+            to: *to,
+            kind: *kind,
+        };
+        steps.push(step(alloc, script, positions, edge)?)?;
+    }
+    if let Some(last) = walk.nodes.last() {
+        steps.push(target_step(alloc, positions, *last, "and so on")?)?;
+    }
+    Ok(steps)
+}
+
+/// How loops of this shape are repaired.
+fn loop_hint(script: &Script, walk: &Walk) -> &'static str {
+    if has_verb(script, walk, VerbForm::Reading) {
+        return "branch only where a line was read: put the branch into a block with the `N` or `n`, as in `/x/{`, `N`, `b a`, `}` on lines of their own";
+    }
+    if has_verb(script, walk, VerbForm::Testing) {
+        return test_hint(script, walk);
+    }
+    match walk.form {
+        Form::Growing =>
+            "repeat the command as often as it may be needed, without the loop; or, if no replacement makes a new match, use one `s` with the flag `g`",
+        Form::Idle =>
+            "make each round read a line, with `n`, `N` or `d`, or shorten the pattern space; or write the commands out a fixed number of times",
+    }
+}
+
+/// How loops with `t` are repaired. They leave the flag unset, which a way without a loop must do too.
+fn test_hint(script: &Script, walk: &Walk) -> &'static str {
+    match walk.form {
+        Form::Idle if has_verb(script, walk, VerbForm::MatchingNothing) => {
+            "an `s` that matches the empty string sets the flag too: make it match at least one byte, as in `s/^xx*//` for `s/^x*//`"
+        }
+        Form::Idle if has_verb(script, walk, VerbForm::ReplacingAll) => {
+            "repeat the command as often as it may be needed, and then write `t c` and `:c`, since the loop leaves the flag of `t` unset; or give the loop fuel, as docs/MENDING.md shows"
+        }
+        Form::Growing if has_verb(script, walk, VerbForm::ReplacingAll) => {
+            "repeat the command as often as it may be needed, and then write `t c` and `:c`, since the loop leaves the flag of `t` unset"
+        }
+        _ =>
+            "if no replacement makes a new match, use one `s` with the flag `g`, else repeat the command as often as it may be needed; then write `t c` and `:c`, since the loop leaves the flag of `t` unset",
+    }
+}
+
+/// Whether the loop has a command with such a verb.
+fn has_verb(script: &Script, walk: &Walk, form: VerbForm) -> bool {
+    walk.nodes.iter().any(|node| {
+        match script.commands().get(usize::from(node.at)) {
+            Some(command) => is_of(&command.verb, form),
+            None => false,
+        }
+    })
+}
+
+/// Verbs that tell the shapes of loops apart.
+#[derive(Clone, Copy)]
+enum VerbForm {
+    Reading,
+    Testing,
+    /// `s` with the flag `g`.
+    ReplacingAll,
+    /// `s` with an expression that matches the empty text.
+    MatchingNothing,
+}
+
+fn is_of(verb: &Verb, form: VerbForm) -> bool {
+    match (form, verb) {
+        (VerbForm::Reading, Verb::Next | Verb::NextAppend) => true,
+        (VerbForm::Testing, Verb::Test(_)) => true,
+        (VerbForm::ReplacingAll, Verb::Substitute(substitution)) => substitution.global,
+        (VerbForm::MatchingNothing, Verb::Substitute(substitution)) => match &substitution.pattern {
+            Pattern::Expr(expression) => expression.least() == 0,
+            Pattern::Previous => false,
+        },
+        _ => false,
+    }
+}
+
+/// A note on the first command that may make the pattern space longer, at a node with ranks, where no limit is given.
+pub fn unbounded(
+    alloc: Global,
+    script: &Script,
+    positions: &[Position],
+    cert: &Cert,
+) -> Result<Option<Finding>, AllocError>
+    ensures { IfOk result (λ found. IfSome found (λ finding. is_error finding.level ≡ false)) }
+{
+    let Some(edge) = first_growth(script, cert) else {
+        return Ok(None);
+    };
+    let mut steps = Vec::new(alloc);
+    steps.push(step(alloc, script, positions, edge)?)?;
+    Ok(Some(Finding {
+        level: Level::Note,
+        code: Code::NoBound,
+        position: position_of(positions, edge.from),
+        end: None,
+        message: String::from_str(
+            alloc,
+            "every run ends, but no limit on its steps is known, since this may lengthen the pattern space",
+        )?,
+        hint: None,
+        fix: None,
+        steps,
+    }))
+}

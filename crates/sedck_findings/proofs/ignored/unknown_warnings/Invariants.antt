@@ -1,5 +1,0 @@
-use Rattle.sedck_findings.specs.Private.Errors.{AddsNoError}
-use Rattle.sedck_findings.proofs.ignored.unknown_warnings.Given as goal
-
-abbrev pub invariant-loop-word-2 : goal.invariant-loop-word-2
-invariant-loop-word-2 l = AddsNoError l.initial.findings.items l.findings.items

@@ -1,6 +1,0 @@
-use Rattle.std.proofs.Common.{◌≡◌, map, take}
-use Rattle.sedck_findings.specs.Explanations.{names_of}
-use Rattle.sedck_findings.proofs.names.unplaced_files.Given as goal
-
-abbrev pub invariant-loop-name : goal.invariant-loop-name
-invariant-loop-name l = names_of l.files.items ≡ map (λ name. name.now) (take l.name-index l.names)

@@ -1,6 +1,0 @@
-use Rattle.std.proofs.Common.{take}
-use Rattle.sedck_findings.proofs.Positions.{line_within, own_position}
-use Rattle.sedck_findings.proofs.places.position_from.Goals as goal
-
-pub after-position-requires-clause-lines : goal.after-position-requires-clause-lines
-after-position-requires-clause-lines c = rw c.loop-index.invariant (line_within (take c.loop-index.index c.args.text.now))

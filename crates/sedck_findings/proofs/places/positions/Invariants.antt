@@ -1,6 +1,0 @@
-use Rattle.std.proofs.Common.{◌≡◌, map, take}
-use Rattle.sedck_findings.specs.Positions.{position_in}
-use Rattle.sedck_findings.proofs.places.positions.Given as goal
-
-abbrev pub invariant-loop-offset : goal.invariant-loop-offset
-invariant-loop-offset l = (l.from ≡ position_in l.text l.from.offset) × (l.positions.items ≡ map (position_in l.text) (take l.offset-index l.offsets))

@@ -1,6 +1,0 @@
-use Rattle.std.proofs.Common.{◌≡◌, flat_map, take, string_bytes}
-use Rattle.sedck_findings.specs.Shown.{shown_in_line}
-use Rattle.sedck_findings.proofs.shown.shown_line.Given as goal
-
-abbrev pub invariant-loop-byte : goal.invariant-loop-byte
-invariant-loop-byte l = string_bytes l.shown ≡ flat_map shown_in_line (take l.byte-index l.bytes)

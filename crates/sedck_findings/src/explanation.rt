@@ -1,0 +1,31 @@
+//! All that is reported of a script, with the answer.
+
+use crate::answer::Answer;
+use sedck_report::{Finding, NamedFile, Position};
+use sedck_script::Script;
+
+/// All that is reported of a script.
+#[derive(Drop)]
+pub struct Explanation<'a> {
+    pub text: &'a [u8],
+    pub answer: Answer,
+    /// The exit status: that of the answer, but 1 where the script is accepted and has what is denied.
+    pub status: u8,
+    /// None where the script is refused.
+    pub script: Option<Script<'a>>,
+    /// Where the verb of each command is; empty where the script is refused.
+    pub positions: Vec<Position>,
+    /// In the order in which they are reported: errors, then warnings and notes.
+    pub findings: Vec<Finding>,
+    /// Sorted by name.
+    pub reads: Vec<NamedFile<'a>>,
+    /// Sorted by name.
+    pub writes: Vec<NamedFile<'a>>,
+}
+
+impl Explanation<'_> {
+    /// Whether the script is accepted, and has what is denied.
+    pub fn is_denied(&self) -> bool {
+        self.status != self.answer.status()
+    }
+}

@@ -1,0 +1,3 @@
+mod Lines
+mod After
+mod Prefixes

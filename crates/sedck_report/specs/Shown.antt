@@ -1,0 +1,34 @@
+-- Bytes as they are shown, this project's own.
+use Rattle.std.specs.Prelude.{◌==◌, ◌+◌, ◌-◌, ◌/◌, ◌%◌, ℕ, Bool, not, List, [], ◌∷◌, ◌++◌, take, drop, nat_lt, codes, if◌then◌else◌}
+use Rattle.std.specs.List.{prefix_len}
+use Rattle.sedck_text.specs.Bytes.{newline, tab, backslash}
+use Rattle.sedck_report.specs.declared.places.Position.{Position}
+
+-- printable ASCII, a blank too
+abbrev pub is_printable : ℕ → Bool
+is_printable b = if nat_lt b 32 then nat_lt 1 0 else nat_lt b 127
+
+-- a digit of a number below 16
+abbrev pub hexadecimal : ℕ → ℕ
+hexadecimal digit = if nat_lt digit 10 then 48 + digit else 87 + digit
+
+-- the byte itself where it is printable, else `\x` and two digits
+abbrev pub shown_byte : ℕ → List ℕ
+shown_byte b = if is_printable b then b ∷ [] else codes "\\x" ++ (hexadecimal (b / 16) ∷ hexadecimal (b % 16) ∷ [])
+
+-- in a line a tab is four spaces
+abbrev pub shown_in_line : ℕ → List ℕ
+shown_in_line b = if b == tab then codes "    " else shown_byte b
+
+-- in a name a backslash is two, so that the name can be read back, and no quote is alone
+abbrev pub shown_in_name : ℕ → List ℕ
+shown_in_name b =
+    if b == backslash then codes "\\\\" else if b == 34 then codes "\\\"" else if b == 96 then codes "\\x60" else shown_byte b
+
+-- what a text has before its first newline
+abbrev pub first_line : List ℕ → List ℕ
+first_line text = take (prefix_len (λ b. not (b == newline)) text) text
+
+-- the line in which a position is: what the text has from its start on up to a newline
+abbrev pub line_around : List ℕ → Position → List ℕ
+line_around text p = first_line (drop (p.offset - (p.column - 1)) text)

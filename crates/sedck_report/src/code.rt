@@ -1,0 +1,187 @@
+//! The codes of findings.
+
+ghost use Rattle.std.specs.Prelude.{◌≡◌};
+
+/// What a finding is about. No later version gives another meaning to a code.
+#[derive(Clone, Copy, PartialEq, Eq)]
+pub enum Code {
+    // A script that is refused, by its fault.
+    TooLong,
+    NulByte,
+    UnknownCommand,
+    BadAddress,
+    TooManyAddresses,
+    Unterminated,
+    BadReplacement,
+    BadFlag,
+    BadTransliteration,
+    MissingText,
+    MissingName,
+    BadLabel,
+    DuplicateLabel,
+    UnknownLabel,
+    UnopenedBlock,
+    UnclosedBlock,
+    TooDeep,
+    TooManyCommands,
+    ExtraText,
+    NoPreviousExpression,
+    EscapedDelimiter,
+
+    // A script that is refused, by the fault of an expression. One that is nested too deep is `TooDeep` as well.
+    TrailingBackslash,
+    BadEscape,
+    UnclosedBracket,
+    BadBracket,
+    EmptySet,
+    UnclosedGroup,
+    UnopenedGroup,
+    BadInterval,
+    NothingToRepeat,
+    DoubleRepeat,
+    BadReference,
+    TooManyGroups,
+
+    // A certificate that is refused.
+    BadHeader,
+    BadCount,
+    BadNode,
+    BadNames,
+    BadEnd,
+
+    // A certificate that is rejected.
+    WrongCount,
+    StartUnranked,
+    LeavesRanked,
+    NotLowered,
+    ReadsDiffer,
+    WritesDiffer,
+
+    // A loop.
+    LoopIdle,
+    LoopGrowing,
+
+    // What is denied.
+    DeniedReads,
+    DeniedWrites,
+    DeniedUnbounded,
+    DeniedWarnings,
+
+    // Warnings of how the script looks.
+    OptionsInFirstLine,
+    BraceBehindLabel,
+    LooksExtended,
+
+    // Warnings of file names.
+    StreamName,
+    DeviceName,
+    AbsoluteName,
+    UpwardName,
+    UnprintableName,
+    BlankAtEnd,
+    CommandInName,
+    ReadAndWritten,
+
+    // Warnings of comments.
+    UnknownCode,
+
+    // A call of sed.
+    /// Options by which sed reads another language, or other lines, than what is judged.
+    OtherLanguage,
+    /// Words that no sed takes.
+    BadCall,
+    /// The operands are overwritten.
+    InPlace,
+
+    // A call of sed in a file.
+    /// A part of the script isn't known before a run.
+    OpenHole,
+    /// So much of the script isn't known that it can't be judged.
+    Unknowable,
+    /// The value of a variable is known: the file sets it, or it was given with the call of this program.
+    KnownValue,
+
+    // Notes.
+    NoBound,
+}
+
+impl Code {
+    ghost use Rattle.sedck_report.specs.Codes.{name_of};
+
+    /// The name that is printed: in lower case, with hyphens between its words.
+    pub fn name(self) -> &'static str
+        ensures { result.now ≡ name_of self }
+    {
+        match self {
+            Code::TooLong => "too-long",
+            Code::NulByte => "nul-byte",
+            Code::UnknownCommand => "unknown-command",
+            Code::BadAddress => "bad-address",
+            Code::TooManyAddresses => "too-many-addresses",
+            Code::Unterminated => "unterminated",
+            Code::BadReplacement => "bad-replacement",
+            Code::BadFlag => "bad-flag",
+            Code::BadTransliteration => "bad-transliteration",
+            Code::MissingText => "missing-text",
+            Code::MissingName => "missing-name",
+            Code::BadLabel => "bad-label",
+            Code::DuplicateLabel => "duplicate-label",
+            Code::UnknownLabel => "unknown-label",
+            Code::UnopenedBlock => "unopened-block",
+            Code::UnclosedBlock => "unclosed-block",
+            Code::TooDeep => "too-deep",
+            Code::TooManyCommands => "too-many-commands",
+            Code::ExtraText => "extra-text",
+            Code::NoPreviousExpression => "no-previous-expression",
+            Code::EscapedDelimiter => "escaped-delimiter",
+            Code::TrailingBackslash => "trailing-backslash",
+            Code::BadEscape => "bad-escape",
+            Code::UnclosedBracket => "unclosed-bracket",
+            Code::BadBracket => "bad-bracket",
+            Code::EmptySet => "empty-set",
+            Code::UnclosedGroup => "unclosed-group",
+            Code::UnopenedGroup => "unopened-group",
+            Code::BadInterval => "bad-interval",
+            Code::NothingToRepeat => "nothing-to-repeat",
+            Code::DoubleRepeat => "double-repeat",
+            Code::BadReference => "bad-reference",
+            Code::TooManyGroups => "too-many-groups",
+            Code::BadHeader => "bad-header",
+            Code::BadCount => "bad-count",
+            Code::BadNode => "bad-node",
+            Code::BadNames => "bad-names",
+            Code::BadEnd => "bad-end",
+            Code::WrongCount => "wrong-count",
+            Code::StartUnranked => "start-unranked",
+            Code::LeavesRanked => "leaves-ranked",
+            Code::NotLowered => "not-lowered",
+            Code::ReadsDiffer => "reads-differ",
+            Code::WritesDiffer => "writes-differ",
+            Code::LoopIdle => "loop-idle",
+            Code::LoopGrowing => "loop-growing",
+            Code::DeniedReads => "denied-reads",
+            Code::DeniedWrites => "denied-writes",
+            Code::DeniedUnbounded => "denied-unbounded",
+            Code::DeniedWarnings => "denied-warnings",
+            Code::OptionsInFirstLine => "options-in-first-line",
+            Code::BraceBehindLabel => "brace-behind-label",
+            Code::LooksExtended => "looks-extended",
+            Code::StreamName => "stream-name",
+            Code::DeviceName => "device-name",
+            Code::AbsoluteName => "absolute-name",
+            Code::UpwardName => "upward-name",
+            Code::UnprintableName => "unprintable-name",
+            Code::BlankAtEnd => "blank-at-end",
+            Code::CommandInName => "command-in-name",
+            Code::ReadAndWritten => "read-and-written",
+            Code::UnknownCode => "unknown-code",
+            Code::OtherLanguage => "other-language",
+            Code::BadCall => "bad-call",
+            Code::InPlace => "in-place",
+            Code::OpenHole => "open-hole",
+            Code::Unknowable => "unknowable",
+            Code::KnownValue => "known-value",
+            Code::NoBound => "no-bound",
+        }
+    }
+}

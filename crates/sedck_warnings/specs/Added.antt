@@ -1,0 +1,11 @@
+-- What stays of the findings where others are added, this project's own.
+use Rattle.std.specs.Prelude.{◌≡◌, true, List, Option}
+use Rattle.sedck_report.specs.Levels.{has_error, has_warning, BeginsWithError}
+use Rattle.sedck_report.specs.declared.finding.Finding.{Finding}
+use Rattle.sedck_report.specs.declared.places.Position.{Position}
+
+-- findings are added after the others, and none of them is an error
+pub record AddsNoError (old new : List Finding) : Type 0 where
+  pub errors : has_error new ≡ has_error old
+  pub warned : has_warning old ≡ true → has_warning new ≡ true
+  pub first : (position : Option Position) → BeginsWithError position old → BeginsWithError position new
