@@ -1,14 +1,16 @@
-//! The steps between commands, put together from the edges of the flow graph.
+//! Arrows: the edges of a flow graph, put together where they have the same ends and the same kind.
 
-use crate::flow::is_of_loop;
+use crate::flow::{Flow, flow_of, is_of_loop};
+use sedck_findings::{Explanation, Position};
 use sedck_flow::{Edge, Kind};
 use std::alloc::{AllocError, Global};
 
-/// All edges of one kind from one command to another.
-#[derive(Clone, Copy, PartialEq, Eq, PartialOrd, Ord)]
+/// All edges of one kind from one command to another, or from one line to another. A number one above the last one stands for the
+/// script's end.
+#[derive(Clone, Copy)]
 pub(crate) struct Arrow {
-    pub from: u16,
-    pub to: u16,
+    pub from: usize,
+    pub to: usize,
     pub kind: Kind,
     /// Each of them leaves a node with the flag that `t` tests.
     pub with_flag: bool,
@@ -22,13 +24,28 @@ impl Arrow {
     /// The edge alone. The edges of the loop are sorted.
     fn of(edge: Edge, bold: &[Edge]) -> Arrow {
         Arrow {
-            from: edge.from.at,
-            to: edge.to.at,
+            from: usize::from(edge.from.at),
+            to: usize::from(edge.to.at),
             kind: edge.kind,
             with_flag: edge.from.flag,
             on_last: edge.from.last,
             is_bold: is_of_loop(bold, edge),
         }
+    }
+
+    /// The first of its two ends.
+    pub(crate) fn top(self) -> usize {
+        self.from.min(self.to)
+    }
+
+    /// The last of its two ends.
+    pub(crate) fn bottom(self) -> usize {
+        self.from.max(self.to)
+    }
+
+    /// How far its ends are apart.
+    pub(crate) fn span(self) -> usize {
+        self.from.abs_diff(self.to)
     }
 
     /// Whether it has the ends and the kind of the other one.
@@ -46,17 +63,62 @@ impl Arrow {
     }
 }
 
-/// The edges put together, in order. The edges of the loop are sorted.
-pub(crate) fn arrows_of(
-    alloc: Global,
-    edges: &[Edge],
-    bold: &[Edge],
-) -> Result<Vec<Arrow>, AllocError> {
+/// The arrows between commands, in order.
+pub(crate) fn arrows_of(alloc: Global, flow: &Flow) -> Result<Vec<Arrow>, AllocError> {
     let mut arrows = Vec::new(alloc);
-    for edge in edges {
-        arrows.push(Arrow::of(*edge, bold))?;
+    for edge in &flow.edges {
+        arrows.push(Arrow::of(*edge, &flow.bold))?;
     }
-    arrows.sort()?;
+    merged(alloc, arrows)
+}
+
+/// The jumps of a script, in order. There are none where the script is refused.
+pub(crate) fn jumps_of(alloc: Global, explanation: &Explanation) -> Result<Vec<Arrow>, AllocError> {
+    let flow = flow_of(alloc, explanation)?;
+    let arrows = arrows_of(alloc, &flow)?;
+    jumps_among(alloc, &arrows)
+}
+
+/// The arrows between commands that don't lead to the next one.
+fn jumps_among(alloc: Global, arrows: &[Arrow]) -> Result<Vec<Arrow>, AllocError> {
+    let mut jumps = Vec::new(alloc);
+    for arrow in arrows {
+        if arrow.to != arrow.from.saturating_add(1) {
+            jumps.push(*arrow)?;
+        }
+    }
+    Ok(jumps)
+}
+
+/// The jumps between the lines of the commands, each pair and kind once, in order. `end` is the line of the script's end.
+pub(crate) fn line_jumps(
+    alloc: Global,
+    jumps: &[Arrow],
+    positions: &[Position],
+    end: usize,
+) -> Result<Vec<Arrow>, AllocError> {
+    let mut lines = Vec::new(alloc);
+    for jump in jumps {
+        let mut line = *jump;
+        line.from = line_of(positions, end, jump.from);
+        line.to = line_of(positions, end, jump.to);
+        lines.push(line)?;
+    }
+    merged(alloc, lines)
+}
+
+/// The line of the command, or of the script's end.
+pub(crate) fn line_of(positions: &[Position], end: usize, command: usize) -> usize {
+    match positions.get(command) {
+        Some(position) => position.line,
+        None => end,
+    }
+}
+
+/// The arrows in order, each pair and kind once.
+fn merged(alloc: Global, arrows: Vec<Arrow>) -> Result<Vec<Arrow>, AllocError> {
+    let mut arrows = arrows;
+    arrows.sort_by_key(|arrow| (arrow.from, arrow.to, arrow.kind))?;
     let mut out: Vec<Arrow> = Vec::new(alloc);
     for arrow in &arrows {
         match out.last_mut() {

@@ -1,129 +1,73 @@
 //! A finding in a page.
 
-use crate::markup::{push_element, push_place, push_prose};
-use sedck_escapes::{push_html, push_text};
-use sedck_findings::{Finding, Position, Step};
-use sedck_words::{Names, Source, command_line, decimal, level_word, push_all};
-use std::alloc::{AllocError, Global};
+use crate::markup::{push_place, push_prose};
+use sedck_findings::{Finding, Step};
+use sedck_words::{Shown, Written, command_line, level_word};
 
 /// The most characters of a line that are shown beside a step.
 const STEP_WIDTH: usize = 60;
 
-/// Adds the finding: its level, message and code, its steps and its hint.
-pub(crate) fn push_box(
-    alloc: Global,
-    out: &mut Vec<u8>,
-    names: Names,
-    source: Source,
-    finding: &Finding,
-    index: usize,
-) -> Result<(), AllocError> {
-    push_level(alloc, out, level_word(finding.level), index)?;
-    push_column(alloc, out, finding.position)?;
-    push_message(out, finding)?;
-    push_steps(alloc, out, names, source, &finding.steps)?;
-    push_hint(out, finding.hint)?;
-    push_text(out, "</div>")
+/// Adds the finding with this number: its level, message and code, its steps and its hint.
+pub(crate) fn push_box(out: &mut Written, shown: &Shown, finding: &Finding, number: usize) {
+    push_level(out, finding, number);
+    push_message(out, finding);
+    if !finding.steps.is_empty() {
+        push_steps(out, shown, &finding.steps);
+    }
+    if let Some(hint) = finding.hint {
+        out.text("<p><strong>hint</strong>: ");
+        push_prose(out, hint);
+        out.text("</p>");
+    }
+    out.text("</div>");
 }
 
-/// Begins the box, with the level.
-fn push_level(
-    alloc: Global,
-    out: &mut Vec<u8>,
-    level: &str,
-    index: usize,
-) -> Result<(), AllocError> {
-    let index = decimal(alloc, index)?;
-    push_all(
-        out,
-        &[
-            "<div class=\"finding ",
-            level,
-            "\" id=\"F",
-            index.as_str(),
-            "\"><p><strong class=\"",
-        ],
-    )?;
-    push_all(out, &[level, "\">", level, "</strong>"])
-}
-
-/// Adds the column, where there is one.
-fn push_column(
-    alloc: Global,
-    out: &mut Vec<u8>,
-    position: Option<Position>,
-) -> Result<(), AllocError> {
-    let Some(position) = position else {
-        return Ok(());
-    };
-    let column = decimal(alloc, position.column)?;
-    push_all(out, &[" at column ", column.as_str()])
+/// Begins the box, with the level, and the column where there is one.
+fn push_level(out: &mut Written, finding: &Finding, number: usize) {
+    let level = level_word(finding.level);
+    out.text("<div class=\"finding ").text(level);
+    out.text("\" id=\"F").number(number);
+    out.text("\"><p><strong class=\"").text(level);
+    out.text("\">").text(level).text("</strong>");
+    if let Some(position) = finding.position {
+        out.text(" at column ").number(position.column);
+    }
 }
 
 /// Adds the message and the code.
-fn push_message(out: &mut Vec<u8>, finding: &Finding) -> Result<(), AllocError> {
-    push_text(out, ": ")?;
-    push_prose(out, finding.message.as_str())?;
-    push_text(out, " <code class=\"soft\">[")?;
-    push_html(out, finding.code.name())?;
-    push_text(out, "]</code></p>")
+fn push_message(out: &mut Written, finding: &Finding) {
+    out.text(": ");
+    push_prose(out, finding.message.as_str());
+    out.text(" <code class=\"soft\">[")
+        .html(finding.code.name())
+        .text("]</code></p>");
 }
 
-/// Adds the hint, if there is one.
-fn push_hint(out: &mut Vec<u8>, hint: Option<&'static str>) -> Result<(), AllocError> {
-    let Some(hint) = hint else {
-        return Ok(());
-    };
-    push_text(out, "<p><strong>hint</strong>: ")?;
-    push_prose(out, hint)?;
-    push_text(out, "</p>")
-}
-
-/// Adds the steps as a list.
-fn push_steps(
-    alloc: Global,
-    out: &mut Vec<u8>,
-    names: Names,
-    source: Source,
-    steps: &[Step],
-) -> Result<(), AllocError> {
-    if steps.is_empty() {
-        return Ok(());
-    }
-    push_text(out, "<ol>")?;
+/// Adds the steps as a list: the place of each, its command's line if it has one, and what it does.
+fn push_steps(out: &mut Written, shown: &Shown, steps: &[Step]) {
+    out.text("<ol>");
     for step in steps {
-        push_step(alloc, out, names, source, step)?;
+        out.text("<li>");
+        push_place(out, shown.names, step.position);
+        out.text(" ");
+        push_command(out, shown, step);
+        push_prose(out, step.message.as_str());
+        out.text("</li>");
     }
-    push_text(out, "</ol>")
-}
-
-/// Adds a step: its place, its line and what it does.
-fn push_step(
-    alloc: Global,
-    out: &mut Vec<u8>,
-    names: Names,
-    source: Source,
-    step: &Step,
-) -> Result<(), AllocError> {
-    push_text(out, "<li>")?;
-    push_place(alloc, out, names, step.position)?;
-    push_text(out, " ")?;
-    push_command(alloc, out, source, step)?;
-    push_prose(out, step.message.as_str())?;
-    push_text(out, "</li>")
+    out.text("</ol>");
 }
 
 /// Adds the line of the step's command, if it has one.
-fn push_command(
-    alloc: Global,
-    out: &mut Vec<u8>,
-    source: Source,
-    step: &Step,
-) -> Result<(), AllocError> {
+fn push_command(out: &mut Written, shown: &Shown, step: &Step) {
     let Some(position) = step.position else {
-        return Ok(());
+        return;
     };
-    let line = command_line(alloc, source, step.node.at, position, STEP_WIDTH)?;
-    push_element(out, "code", line.as_str())?;
-    push_text(out, " ")
+    let line = command_line(
+        out.alloc(),
+        shown.source,
+        step.node.at,
+        position,
+        STEP_WIDTH,
+    );
+    out.text("<code>").html_words(line).text("</code> ");
 }

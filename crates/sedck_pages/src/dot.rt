@@ -1,12 +1,11 @@
 //! The flow graph for Graphviz, with one box for each command.
 
 use crate::arrows::{Arrow, arrows_of};
-use crate::flow::{Reached, loop_edges, reached_part};
-use crate::graph_parts::{push_head, push_opening, push_refusal, push_source, style};
-use sedck_findings::{Answer, Explanation};
+use crate::flow::flow_of;
+use crate::graph_parts::{push_box, push_head, push_refusal, style};
+use sedck_findings::Explanation;
 use sedck_flow::Node;
-use sedck_script::Script;
-use sedck_words::{Names, Source, kind_word, push_all, source_of};
+use sedck_words::{Names, Shown, Written, kind_word, shown_of};
 use std::alloc::{AllocError, Global};
 
 /// The commands that a run may reach, and the steps between them. A box has the place of a command and its line. Kinds of steps
@@ -18,88 +17,53 @@ pub fn dot_report(
     names: Names,
     explanation: &Explanation,
 ) -> Result<Vec<u8>, AllocError> {
-    let mut out = Vec::new(alloc);
-    push_head(&mut out, names.whole(), explanation)?;
-    match &explanation.script {
-        Some(script) => {
-            let source = source_of(explanation);
-            push_graph(alloc, &mut out, names, script, source, &explanation.answer)?;
-        }
-        None => push_refusal(&mut out, &explanation.findings)?,
-    }
-    push_all(&mut out, &["}\n"])?;
-    Ok(out)
+    let flow = flow_of(alloc, explanation)?;
+    let arrows = arrows_of(alloc, &flow)?;
+    graph_of(alloc, names, explanation, &flow.nodes, &arrows)
 }
 
-/// Adds the start, the commands and the steps between them.
-fn push_graph(
+/// The graph of these nodes and steps.
+fn graph_of(
     alloc: Global,
-    out: &mut Vec<u8>,
     names: Names,
-    script: &Script,
-    source: Source,
-    answer: &Answer,
-) -> Result<(), AllocError> {
-    let bold = loop_edges(alloc, answer)?;
-    let Reached { nodes, edges } = reached_part(alloc, script)?;
-    push_all(out, &["  start [shape=point];\n  start -> n0;\n"])?;
-    push_boxes(alloc, out, names, source, &nodes)?;
-    for arrow in &arrows_of(alloc, &edges, &bold)? {
-        push_arrow(alloc, out, *arrow)?;
+    explanation: &Explanation,
+    nodes: &[Node],
+    arrows: &[Arrow],
+) -> Result<Vec<u8>, AllocError> {
+    let mut out = Written::new(alloc);
+    push_head(&mut out, names, explanation);
+    if explanation.script.is_some() {
+        out.text("  start [shape=point];\n  start -> n0;\n");
+        push_boxes(&mut out, &shown_of(names, explanation), nodes);
+    } else {
+        push_refusal(&mut out, &explanation.findings);
     }
-    Ok(())
+    for arrow in arrows {
+        push_arrow(&mut out, *arrow);
+    }
+    out.text("}\n");
+    out.finished()
 }
 
 /// Adds a box for each command of the nodes, which are in order.
-fn push_boxes(
-    alloc: Global,
-    out: &mut Vec<u8>,
-    names: Names,
-    source: Source,
-    nodes: &[Node],
-) -> Result<(), AllocError> {
+fn push_boxes(out: &mut Written, shown: &Shown, nodes: &[Node]) {
     let mut before = None;
     for node in nodes {
         if before != Some(node.at) {
-            push_box(alloc, out, names, source, node.at)?;
+            push_box(out, shown, usize::from(node.at), node.at, "");
         }
         before = Some(node.at);
-    }
-    Ok(())
-}
-
-/// Adds a box for the command, or an oval for the script's end.
-fn push_box(
-    alloc: Global,
-    out: &mut Vec<u8>,
-    names: Names,
-    source: Source,
-    command: u16,
-) -> Result<(), AllocError> {
-    let position = source.positions.get(usize::from(command)).copied();
-    push_opening(alloc, out, names, usize::from(command), position)?;
-    match position {
-        Some(position) => push_source(alloc, out, source, command, position),
-        None => push_all(out, &["\", shape=oval];\n"]),
     }
 }
 
 /// Adds the step.
-fn push_arrow(alloc: Global, out: &mut Vec<u8>, arrow: Arrow) -> Result<(), AllocError> {
-    let Arrow { from, to, .. } = arrow;
-    let ends = format!(in alloc; "  n{from} -> n{to} [label=\"")?;
+fn push_arrow(out: &mut Written, arrow: Arrow) {
     let flag = if arrow.with_flag { " [t]" } else { "" };
     let last = if arrow.on_last { " [$]" } else { "" };
     let width = if arrow.is_bold { ", penwidth=4" } else { "" };
-    let words = [
-        ends.as_str(),
-        kind_word(arrow.kind),
-        flag,
-        last,
-        "\", ",
-        style(arrow.kind),
-        width,
-        "];\n",
-    ];
-    push_all(out, &words)
+    out.text("  n").number(arrow.from);
+    out.text(" -> n").number(arrow.to);
+    out.text(" [label=\"").text(kind_word(arrow.kind));
+    out.text(flag).text(last).text("\", ");
+    out.text(style(arrow.kind)).text(width).text("];\n");
 }

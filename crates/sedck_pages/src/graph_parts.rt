@@ -1,9 +1,9 @@
 //! The parts of a graph for Graphviz: its head, boxes and styles.
 
-use sedck_findings::{Explanation, Finding, Position};
+use sedck_findings::{Explanation, Finding};
 use sedck_flow::Kind;
-use sedck_words::{Names, Source, answer_word, command_line, place_words, push_all};
-use std::alloc::{AllocError, Global};
+use sedck_words::{Names, Shown, Written, answer_word, command_line, place_words};
+use std::alloc::AllocError;
 
 /// The most characters of a line that are shown in a box.
 const BOX_WIDTH: usize = 40;
@@ -15,50 +15,37 @@ const HEAD: &str = "\", labelloc=t, fontname=\"monospace\"];
 ";
 
 /// Adds what precedes the boxes, with the title.
-pub(crate) fn push_head(
-    out: &mut Vec<u8>,
-    name: &str,
-    explanation: &Explanation,
-) -> Result<(), AllocError> {
-    push_all(out, &["digraph sedck {\n  graph [label=\""])?;
-    push_escaped(out, name)?;
-    push_all(out, &[": ", answer_word(explanation), HEAD])
+pub(crate) fn push_head(out: &mut Written, names: Names, explanation: &Explanation) {
+    out.text("digraph sedck {\n  graph [label=\"");
+    push_escaped(out, names.whole());
+    out.text(": ").text(answer_word(explanation)).text(HEAD);
 }
 
-/// Adds the start of a box or an oval: its name, and the place of its command.
-pub(crate) fn push_opening(
-    alloc: Global,
-    out: &mut Vec<u8>,
-    names: Names,
-    node: usize,
-    position: Option<Position>,
-) -> Result<(), AllocError> {
-    push_all(out, &[format!(in alloc; "  n{node} [label=\"")?.as_str()])?;
-    push_escaped(out, place_words(alloc, names, position)?.as_str())
+/// Adds a box with this number: the place of a command, these flags, and the command's line. Without a command it is an oval for the
+/// script's end.
+pub(crate) fn push_box(out: &mut Written, shown: &Shown, number: usize, command: u16, flags: &str) {
+    let position = shown.source.positions.get(usize::from(command)).copied();
+    out.text("  n").number(number).text(" [label=\"");
+    push_escaped_words(out, place_words(out.alloc(), shown.names, position));
+    out.text(flags);
+    let Some(position) = position else {
+        out.text("\", shape=oval];\n");
+        return;
+    };
+    let line = command_line(out.alloc(), shown.source, command, position, BOX_WIDTH);
+    out.text("\\n");
+    push_escaped_words(out, line);
+    out.text("\"];\n");
 }
 
 /// Adds a box that says why the script is refused or not judged.
-pub(crate) fn push_refusal(out: &mut Vec<u8>, findings: &[Finding]) -> Result<(), AllocError> {
-    push_all(out, &["  refused [label=\""])?;
+pub(crate) fn push_refusal(out: &mut Written, findings: &[Finding]) {
+    out.text("  refused [label=\"");
     if let Some(finding) = findings.first() {
-        push_escaped(out, finding.message.as_str())?;
-        push_all(out, &[" [", finding.code.name(), "]"])?;
+        push_escaped(out, finding.message.as_str());
+        out.text(" [").text(finding.code.name()).text("]");
     }
-    push_all(out, &["\"];\n"])
-}
-
-/// Adds the line of a command, and ends its box.
-pub(crate) fn push_source(
-    alloc: Global,
-    out: &mut Vec<u8>,
-    source: Source,
-    command: u16,
-    position: Position,
-) -> Result<(), AllocError> {
-    let line = command_line(alloc, source, command, position, BOX_WIDTH)?;
-    push_all(out, &["\\n"])?;
-    push_escaped(out, line.as_str())?;
-    push_all(out, &["\"];\n"])
+    out.text("\"];\n");
 }
 
 /// How edges of the kind are drawn.
@@ -71,21 +58,31 @@ pub(crate) fn style(kind: Kind) -> &'static str {
     }
 }
 
-/// Adds the words as a quoted string of the language holds them: with escapes for what ends it, begins an escape, or begins an
-/// entity.
-fn push_escaped(out: &mut Vec<u8>, words: &str) -> Result<(), AllocError> {
-    for byte in words.as_bytes() {
-        push_escaped_byte(out, *byte)?;
+/// Adds words that were put together, as `push_escaped` does, unless memory was refused for them.
+fn push_escaped_words(out: &mut Written, words: Result<String, AllocError>) {
+    match words {
+        Ok(words) => push_escaped(out, words.as_str()),
+        Err(error) => {
+            out.words(Err(error));
+        }
     }
-    Ok(())
 }
 
-/// Adds the byte, or its escape.
-fn push_escaped_byte(out: &mut Vec<u8>, byte: u8) -> Result<(), AllocError> {
-    match byte {
-        b'"' => push_all(out, &["\\\""]),
-        b'\\' => push_all(out, &["\\\\"]),
-        b'&' => push_all(out, &["&amp;"]),
-        byte => Ok(out.push(byte)?),
+/// Adds the words as a quoted string of the language holds them: with escapes for what ends it, begins an escape, or begins an
+/// entity.
+fn push_escaped(out: &mut Written, words: &str) {
+    for byte in words.as_bytes() {
+        match *byte {
+            b'"' => {
+                out.text("\\\"");
+            }
+            b'\\' => {
+                out.text("\\\\");
+            }
+            b'&' => {
+                out.text("&amp;");
+            }
+            byte => out.byte(byte),
+        }
     }
 }

@@ -1,21 +1,21 @@
 //! Which jump is drawn where beside the lines.
 
-use crate::jumps::Jump;
+use crate::arrows::Arrow;
 use std::alloc::{AllocError, Global};
 
 /// The most jumps that are drawn beside one line.
 const LANES: usize = 12;
 
-/// Jumps that share no line.
+/// Arrows that share no line.
 #[derive(Drop)]
 pub(crate) struct Lane {
-    jumps: Vec<Jump>,
+    jumps: Vec<Arrow>,
     next: usize,
 }
 
 impl Lane {
     /// Whether the jump shares no line with those that are here.
-    fn has_room(&self, jump: Jump) -> bool {
+    fn has_room(&self, jump: Arrow) -> bool {
         for other in &self.jumps {
             if jump.top() <= other.bottom() && other.top() <= jump.bottom() {
                 return false;
@@ -25,7 +25,7 @@ impl Lane {
     }
 
     /// The jump that begins, ends or passes at the line. The lines are asked for in order, from the first one on.
-    pub(crate) fn at(&mut self, line: usize) -> Option<Jump> {
+    pub(crate) fn at(&mut self, line: usize) -> Option<Arrow> {
         let mut jump = self.jumps.get(self.next).copied()?;
         if jump.bottom() < line {
             self.next = self.next.saturating_add(1);
@@ -35,7 +35,7 @@ impl Lane {
     }
 }
 
-/// Jumps in lanes, of which the first one is next to the lines, and how many found no room.
+/// Arrows in lanes, of which the first one is next to the lines, and how many found no room.
 #[derive(Drop)]
 pub(crate) struct Drawing {
     pub lanes: Vec<Lane>,
@@ -43,7 +43,7 @@ pub(crate) struct Drawing {
 }
 
 /// Gives each jump a lane while there is room: those of the loop first, then the shorter ones.
-pub(crate) fn drawing_of(alloc: Global, jumps: Vec<Jump>) -> Result<Drawing, AllocError> {
+pub(crate) fn drawing_of(alloc: Global, jumps: Vec<Arrow>) -> Result<Drawing, AllocError> {
     let mut jumps = jumps;
     jumps.sort_by_key(|jump| (!jump.is_bold, jump.span()))?;
     let mut drawing = Drawing {
@@ -60,7 +60,7 @@ pub(crate) fn drawing_of(alloc: Global, jumps: Vec<Jump>) -> Result<Drawing, All
 }
 
 /// Adds the jump to the first lane that has room for it, or to a new one.
-fn add_jump(alloc: Global, drawing: &mut Drawing, jump: Jump) -> Result<(), AllocError> {
+fn add_jump(alloc: Global, drawing: &mut Drawing, jump: Arrow) -> Result<(), AllocError> {
     for lane in &mut drawing.lanes {
         if lane.has_room(jump) {
             lane.jumps.push(jump)?;

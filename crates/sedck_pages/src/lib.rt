@@ -10,7 +10,6 @@ mod dot;
 mod dot_nodes;
 mod flow;
 mod graph_parts;
-mod jumps;
 mod lanes;
 mod listing;
 mod margin;

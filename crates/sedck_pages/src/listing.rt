@@ -1,13 +1,12 @@
 //! The lines of a script in a page, with jumps and findings beside them.
 
+use crate::arrows::{Arrow, line_jumps};
 use crate::boxes::push_box;
-use crate::jumps::{Jump, jumps_from, line_jumps, long_returns};
 use crate::margin::{Margin, Spot, margin_of};
 use crate::strokes::{drawing_width, push_strokes};
-use sedck_escapes::{push_html, push_text};
 use sedck_findings::{Explanation, Finding, Level, shown_line};
-use sedck_words::{Names, Source, decimal, push_all, push_grouped, source_of};
-use std::alloc::{AllocError, Global};
+use sedck_words::{Shown, Written};
+use std::alloc::AllocError;
 
 /// What the kinds of jumps look like.
 const LEGEND: &str = "<ul class=\"legend\">
@@ -29,56 +28,42 @@ bold: part of the loop</li>
 
 /// Adds the script's lines with what is beside them, and its end.
 pub(crate) fn push_listing(
-    alloc: Global,
-    out: &mut Vec<u8>,
-    names: Names,
+    out: &mut Written,
+    shown: &Shown,
     explanation: &Explanation,
     least: Level,
-    jumps: &[Jump],
+    jumps: &[Arrow],
 ) -> Result<(), AllocError> {
-    let text = match explanation.text {
-        [front @ .., b'\n'] => front,
-        text => text,
-    };
+    let alloc = out.alloc();
+    let text = shown.source.text;
+    let text = text.strip_suffix(b"\n").unwrap_or(text);
     let end = line_count(text).saturating_add(1);
     let lines = line_jumps(alloc, jumps, &explanation.positions, end)?;
-    let returns = long_returns(alloc, &lines)?;
     let mut margin = margin_of(alloc, explanation, least, lines, end)?;
-    push_legend(alloc, out, &margin)?;
-    let beside = Beside {
-        names,
-        source: source_of(explanation),
-        findings: &explanation.findings,
-        returns: &returns,
-    };
-    push_rows(alloc, out, beside, &mut margin, text)
-}
-
-/// What the boxes beside lines show.
-#[derive(Clone, Copy)]
-struct Beside<'a> {
-    names: Names<'a>,
-    source: Source<'a>,
-    findings: &'a [Finding],
-    /// The long jumps back, in order.
-    returns: &'a [Jump],
+    push_legend(out, &margin);
+    push_rows(out, shown, &explanation.findings, &mut margin, text);
+    Ok(())
 }
 
 /// Adds each line of the text, and its end.
 fn push_rows(
-    alloc: Global,
-    out: &mut Vec<u8>,
-    beside: Beside,
+    out: &mut Written,
+    shown: &Shown,
+    findings: &[Finding],
     margin: &mut Margin,
     text: &[u8],
-) -> Result<(), AllocError> {
+) {
     let mut line = 1usize;
     for bytes in text.split(|byte| *byte == b'\n') {
-        push_row(alloc, out, beside, margin, line, Some(bytes))?;
+        push_start(out, margin, line);
+        push_line(out, line, bytes, margin.spots());
+        push_rest(out, shown, findings, margin, line);
         line = line.saturating_add(1);
     }
-    push_row(alloc, out, beside, margin, line, None)?;
-    push_text(out, "</ol>\n")
+    push_start(out, margin, line);
+    out.text("<a class=\"number\" id=\"end\" href=\"#end\">end</a>");
+    push_rest(out, shown, findings, margin, line);
+    out.text("</ol>\n");
 }
 
 /// How many lines the text has, where no newline ends the last one.
@@ -93,154 +78,102 @@ fn line_count(text: &[u8]) -> usize {
 }
 
 /// Adds the heading, the legend unless there are no jumps, and the start of the list.
-fn push_legend(alloc: Global, out: &mut Vec<u8>, margin: &Margin) -> Result<(), AllocError> {
-    push_text(out, "<h2 id=\"script\">Script</h2>\n")?;
+fn push_legend(out: &mut Written, margin: &Margin) {
+    out.text("<h2 id=\"script\">Script</h2>\n");
     if !margin.drawing.lanes.is_empty() {
         let loops = if margin.has_loop() { LOOP_LEGEND } else { "" };
-        push_all(out, &[LEGEND, loops, "</ul>\n"])?;
-        push_left_out(alloc, out, margin.drawing.left_out)?;
+        out.text(LEGEND).text(loops).text("</ul>\n");
+        push_left_out(out, margin.drawing.left_out);
     }
-    let width = decimal(alloc, drawing_width(&margin.drawing))?;
-    push_all(
-        out,
-        &[
-            "<ol class=\"script\" style=\"--jumps:",
-            width.as_str(),
-            "px\">\n",
-        ],
-    )
+    out.text("<ol class=\"script\" style=\"--jumps:")
+        .number(drawing_width(&margin.drawing))
+        .text("px\">\n");
 }
 
 /// Adds how many jumps aren't drawn, if there are any.
-fn push_left_out(alloc: Global, out: &mut Vec<u8>, left_out: usize) -> Result<(), AllocError> {
+fn push_left_out(out: &mut Written, left_out: usize) {
     if left_out == 0 {
-        return Ok(());
+        return;
     }
     let words = if left_out == 1 {
         " jump isn't drawn for lack of space; the list of jumps has it.</p>\n"
     } else {
         " jumps aren't drawn for lack of space; the list of jumps has them.</p>\n"
     };
-    push_text(out, "<p>")?;
-    push_grouped(alloc, out, left_out as u64)?;
-    push_text(out, words)
+    out.text("<p>").grouped(left_out as u64).text(words);
 }
 
-/// Adds a line with what is beside it. Without bytes it is the script's end.
-fn push_row(
-    alloc: Global,
-    out: &mut Vec<u8>,
-    beside: Beside,
-    margin: &mut Margin,
-    line: usize,
-    bytes: Option<&[u8]>,
-) -> Result<(), AllocError> {
-    let is_of_loop = margin.is_of_loop(line);
-    let number = decimal(alloc, line)?;
-    push_all(out, &["<li id=\"L", number.as_str(), "\""])?;
-    push_text(out, if is_of_loop { " class=\"loop\">" } else { ">" })?;
-    push_strokes(alloc, out, &mut margin.drawing, line)?;
-    let spots = margin.spots_at(line);
-    push_line(alloc, out, number.as_str(), bytes, spots)?;
-    if is_of_loop {
-        push_text(out, "<span class=\"tag\">loop</span>")?;
+/// Begins a line, with the strokes beside it.
+fn push_start(out: &mut Written, margin: &mut Margin, line: usize) {
+    margin.go_to(line);
+    let class = if margin.is_of_loop(line) {
+        "\" class=\"loop\">"
+    } else {
+        "\">"
+    };
+    out.text("<li id=\"L").number(line).text(class);
+    push_strokes(out, &mut margin.drawing, line);
+}
+
+/// Adds the number and the bytes of a line.
+fn push_line(out: &mut Written, line: usize, bytes: &[u8], spots: &[Spot]) {
+    out.text("<a class=\"number\" href=\"#L").number(line);
+    out.text("\">").number(line).text("</a>");
+    if bytes.is_empty() && spots.is_empty() {
+        return;
     }
-    push_returns(alloc, out, jumps_from(beside.returns, line))?;
-    push_boxes(alloc, out, beside, spots)?;
-    push_text(out, "</li>\n")
+    out.text("<code>");
+    push_code(out, bytes, spots);
+    out.text("</code>");
+}
+
+/// Adds what follows the bytes of a line: marks, links, and the findings at the line.
+fn push_rest(out: &mut Written, shown: &Shown, findings: &[Finding], margin: &Margin, line: usize) {
+    if margin.is_of_loop(line) {
+        out.text("<span class=\"tag\">loop</span>");
+    }
+    push_returns(out, margin.returns());
+    for spot in margin.spots() {
+        if let Some(finding) = findings.get(spot.finding) {
+            push_box(out, shown, finding, spot.finding);
+        }
+    }
+    out.text("</li>\n");
 }
 
 /// Adds a link for each long jump back, whose other end may be out of sight.
-fn push_returns(alloc: Global, out: &mut Vec<u8>, jumps: &[Jump]) -> Result<(), AllocError> {
+fn push_returns(out: &mut Written, jumps: &[Arrow]) {
     for jump in jumps {
-        let to = jump.to;
-        let link = format!(in alloc; "<a class=\"tag soft\" href=\"#L{to}\">&uarr; {to}</a>")?;
-        push_text(out, link.as_str())?;
+        out.text("<a class=\"tag soft\" href=\"#L").number(jump.to);
+        out.text("\">&uarr; ").number(jump.to).text("</a>");
     }
-    Ok(())
-}
-
-/// Adds the number and the bytes of a line, or the word `end`.
-fn push_line(
-    alloc: Global,
-    out: &mut Vec<u8>,
-    number: &str,
-    bytes: Option<&[u8]>,
-    spots: &[Spot],
-) -> Result<(), AllocError> {
-    let Some(bytes) = bytes else {
-        return push_text(out, "<a class=\"number\" id=\"end\" href=\"#end\">end</a>");
-    };
-    push_all(
-        out,
-        &[
-            "<a class=\"number\" href=\"#L",
-            number,
-            "\">",
-            number,
-            "</a>",
-        ],
-    )?;
-    if bytes.is_empty() && spots.is_empty() {
-        return Ok(());
-    }
-    push_text(out, "<code>")?;
-    push_code(alloc, out, bytes, spots)?;
-    push_text(out, "</code>")
-}
-
-/// Adds the findings at the line.
-fn push_boxes(
-    alloc: Global,
-    out: &mut Vec<u8>,
-    beside: Beside,
-    spots: &[Spot],
-) -> Result<(), AllocError> {
-    for spot in spots {
-        if let Some(finding) = beside.findings.get(spot.finding) {
-            push_box(
-                alloc,
-                out,
-                beside.names,
-                beside.source,
-                finding,
-                spot.finding,
-            )?;
-        }
-    }
-    Ok(())
 }
 
 /// Adds the bytes of a line, with a mark on those that a finding is about.
-fn push_code(
-    alloc: Global,
-    out: &mut Vec<u8>,
-    bytes: &[u8],
-    spots: &[Spot],
-) -> Result<(), AllocError> {
+fn push_code(out: &mut Written, bytes: &[u8], spots: &[Spot]) {
     let mut start = 0usize;
     for spot in spots {
         let at = spot.column.saturating_sub(1);
         if at >= start {
-            push_bytes(alloc, out, bytes.get(start..at.min(bytes.len())))?;
-            push_mark(alloc, out, bytes.get(at..at.saturating_add(1)))?;
+            push_bytes(out, bytes.get(start..at.min(bytes.len())));
+            push_mark(out, bytes.get(at..at.saturating_add(1)));
             start = at.saturating_add(1);
         }
     }
-    push_bytes(alloc, out, bytes.get(start..))
+    push_bytes(out, bytes.get(start..));
 }
 
 /// Adds a byte with a mark, or a blank where there is none.
-fn push_mark(alloc: Global, out: &mut Vec<u8>, byte: Option<&[u8]>) -> Result<(), AllocError> {
-    push_text(out, "<mark>")?;
-    push_bytes(alloc, out, Some(byte.unwrap_or(b" ")))?;
-    push_text(out, "</mark>")
+fn push_mark(out: &mut Written, byte: Option<&[u8]>) {
+    out.text("<mark>");
+    push_bytes(out, Some(byte.unwrap_or(b" ")));
+    out.text("</mark>");
 }
 
 /// Adds bytes of a line as they are shown.
-fn push_bytes(alloc: Global, out: &mut Vec<u8>, bytes: Option<&[u8]>) -> Result<(), AllocError> {
-    match bytes {
-        Some(bytes) => push_html(out, shown_line(alloc, bytes)?.as_str()),
-        None => Ok(()),
+fn push_bytes(out: &mut Written, bytes: Option<&[u8]>) {
+    if let Some(bytes) = bytes {
+        let words = shown_line(out.alloc(), bytes);
+        out.html_words(words);
     }
 }

@@ -1,13 +1,16 @@
 //! What is beside the lines of a script in a page: jumps, findings, and marks of a loop.
 
-use crate::jumps::{Jump, line_of};
+use crate::arrows::{Arrow, line_of};
 use crate::lanes::{Drawing, drawing_of};
 use sedck_findings::{Answer, Explanation, Level};
 use sedck_words::is_listed;
 use std::alloc::{AllocError, Global};
 
+/// How many lines apart the ends of a jump back are at least, where it has a label.
+const LONG: usize = 20;
+
 /// A finding's place in the lines.
-#[derive(Clone, Copy, PartialEq, Eq, PartialOrd, Ord)]
+#[derive(Clone, Copy)]
 pub(crate) struct Spot {
     pub line: usize,
     pub column: usize,
@@ -19,22 +22,40 @@ pub(crate) struct Spot {
 #[derive(Drop)]
 pub(crate) struct Margin {
     pub drawing: Drawing,
+    /// Sorted by line and column.
     spots: Vec<Spot>,
-    next: usize,
+    /// How many spots precede the line, and how many the next one.
+    first_spot: usize,
+    next_spot: usize,
+    /// The jumps back over many lines, each pair of lines once, in order.
+    returns: Vec<Arrow>,
+    /// How many of them leave lines before this one, and how many lines before the next one.
+    first_return: usize,
+    next_return: usize,
     of_loop: Vec<usize>,
 }
 
 impl Margin {
-    /// The findings at the line, by column. The lines are asked for in order, from the first one on.
-    pub(crate) fn spots_at(&mut self, line: usize) -> &[Spot] {
-        let start = self.next;
-        let rest = self.spots.get(start..).unwrap_or(&[]);
-        let count = match rest.iter().position(|spot| spot.line > line) {
-            Some(count) => count,
-            None => rest.len(),
-        };
-        self.next = start.saturating_add(count);
-        self.spots.get(start..self.next).unwrap_or(&[])
+    /// Goes on to the line. The lines are gone to in order, from the first one on.
+    pub(crate) fn go_to(&mut self, line: usize) {
+        self.first_spot = self.next_spot;
+        self.next_spot = spots_through(&self.spots, self.first_spot, line);
+        self.first_return = self.next_return;
+        self.next_return = returns_through(&self.returns, self.first_return, line);
+    }
+
+    /// The findings at the line, by column.
+    pub(crate) fn spots(&self) -> &[Spot] {
+        self.spots
+            .get(self.first_spot..self.next_spot)
+            .unwrap_or(&[])
+    }
+
+    /// The long jumps back that leave the line.
+    pub(crate) fn returns(&self) -> &[Arrow] {
+        self.returns
+            .get(self.first_return..self.next_return)
+            .unwrap_or(&[])
     }
 
     /// Whether there is a loop.
@@ -48,20 +69,63 @@ impl Margin {
     }
 }
 
+/// How many of the spots are above the line or at it, where so many are above it.
+fn spots_through(spots: &[Spot], above: usize, line: usize) -> usize {
+    let mut count = above;
+    for spot in spots.get(above..).unwrap_or(&[]) {
+        if spot.line > line {
+            break;
+        }
+        count = count.saturating_add(1);
+    }
+    count
+}
+
+/// How many of the jumps leave lines above this one or this one, where so many leave lines above it.
+fn returns_through(jumps: &[Arrow], above: usize, line: usize) -> usize {
+    let mut count = above;
+    for jump in jumps.get(above..).unwrap_or(&[]) {
+        if jump.from > line {
+            break;
+        }
+        count = count.saturating_add(1);
+    }
+    count
+}
+
 /// What is beside the lines, between which these jumps are; `end` is the line of the script's end.
 pub(crate) fn margin_of(
     alloc: Global,
     explanation: &Explanation,
     least: Level,
-    jumps: Vec<Jump>,
+    jumps: Vec<Arrow>,
     end: usize,
 ) -> Result<Margin, AllocError> {
     Ok(Margin {
+        returns: long_returns(alloc, &jumps)?,
         drawing: drawing_of(alloc, jumps)?,
         spots: spots_of(alloc, explanation, least)?,
-        next: 0,
+        first_spot: 0,
+        next_spot: 0,
+        first_return: 0,
+        next_return: 0,
         of_loop: loop_lines(alloc, explanation, end)?,
     })
+}
+
+/// The jumps back over many lines, each pair of lines once, in order.
+fn long_returns(alloc: Global, jumps: &[Arrow]) -> Result<Vec<Arrow>, AllocError> {
+    let mut returns: Vec<Arrow> = Vec::new(alloc);
+    for jump in jumps {
+        let is_known = match returns.last() {
+            Some(before) => before.from == jump.from && before.to == jump.to,
+            None => false,
+        };
+        if jump.to < jump.from && jump.span() >= LONG && !is_known {
+            returns.push(*jump)?;
+        }
+    }
+    Ok(returns)
 }
 
 /// The places of the findings of at least this level that have one, sorted.
@@ -82,7 +146,7 @@ fn spots_of(
             })?;
         }
     }
-    spots.sort()?;
+    spots.sort_by_key(|spot| (spot.line, spot.column))?;
     Ok(spots)
 }
 

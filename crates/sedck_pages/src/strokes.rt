@@ -1,10 +1,8 @@
 //! The strokes of jumps beside a line, as SVG. Lengths are in pixels of CSS, which a browser's zoom scales.
 
-use crate::jumps::Jump;
+use crate::arrows::Arrow;
 use crate::lanes::Drawing;
-use sedck_escapes::push_text;
-use sedck_words::{decimal, kind_word, push_all};
-use std::alloc::{AllocError, Global};
+use sedck_words::{Written, kind_word};
 
 /// How far lanes are apart.
 const STEP: usize = 10;
@@ -25,23 +23,17 @@ pub(crate) fn drawing_width(drawing: &Drawing) -> usize {
 }
 
 /// Adds what is drawn beside the line. The lines are added in order.
-pub(crate) fn push_strokes(
-    alloc: Global,
-    out: &mut Vec<u8>,
-    drawing: &mut Drawing,
-    line: usize,
-) -> Result<(), AllocError> {
+pub(crate) fn push_strokes(out: &mut Written, drawing: &mut Drawing, line: usize) {
     let width = drawing_width(drawing);
     let mut is_empty = true;
     for (index, lane) in drawing.lanes.iter_mut().enumerate().rev() {
         if let Some(jump) = lane.at(line) {
-            let opening = if is_empty { OPENING } else { "" };
-            push_text(out, opening)?;
+            out.text(if is_empty { OPENING } else { "" });
             is_empty = false;
-            push_jump(alloc, out, jump, line, Lengths::of(width, index))?;
+            push_jump(out, jump, line, Lengths::of(width, index));
         }
     }
-    push_text(out, if is_empty { "" } else { "</svg>" })
+    out.text(if is_empty { "" } else { "</svg>" });
 }
 
 /// What precedes the strokes beside a line.
@@ -78,30 +70,20 @@ impl Lengths {
 }
 
 /// Adds what is drawn of one jump beside the line.
-fn push_jump(
-    alloc: Global,
-    out: &mut Vec<u8>,
-    jump: Jump,
-    line: usize,
-    lengths: Lengths,
-) -> Result<(), AllocError> {
+fn push_jump(out: &mut Written, jump: Arrow, line: usize, lengths: Lengths) {
     let bold = if jump.is_bold { " bold" } else { "" };
-    push_all(out, &["<g class=\"", kind_word(jump.kind), bold, "\">"])?;
-    push_shape(alloc, out, shape(jump, line), lengths)?;
+    out.text("<g class=\"").text(kind_word(jump.kind));
+    out.text(bold).text("\">");
+    push_shape(out, shape(jump, line), lengths);
     if line == jump.to {
-        push_shape(
-            alloc,
-            out,
-            "<path class=\"head\" d=\"MW 8l-7-4v8z\"/>",
-            lengths,
-        )?;
+        push_shape(out, "<path class=\"head\" d=\"MW 8l-7-4v8z\"/>", lengths);
     }
-    push_text(out, "</g>")
+    out.text("</g>");
 }
 
 /// The strokes: one past the line, a turn to the line or from it, or a turn back to the same line. Jumps leave a line below its
 /// middle and reach it above. A capital letter stands for a length: W, E, X or N.
-fn shape(jump: Jump, line: usize) -> &'static str {
+fn shape(jump: Arrow, line: usize) -> &'static str {
     let leaves = line == jump.from;
     if leaves && line == jump.to {
         "<path d=\"MW 16HNQX 16 X 12QX 8 N 8HE\"/>"
@@ -119,17 +101,13 @@ fn shape(jump: Jump, line: usize) -> &'static str {
 }
 
 /// Adds the shape, with its lengths in place of the letters.
-fn push_shape(
-    alloc: Global,
-    out: &mut Vec<u8>,
-    shape: &str,
-    lengths: Lengths,
-) -> Result<(), AllocError> {
+fn push_shape(out: &mut Written, shape: &str, lengths: Lengths) {
     for letter in shape.as_bytes() {
         match lengths.named(*letter) {
-            Some(length) => push_text(out, decimal(alloc, length)?.as_str())?,
-            None => out.push(*letter)?,
+            Some(length) => {
+                out.number(length);
+            }
+            None => out.byte(*letter),
         }
     }
-    Ok(())
 }

@@ -1,11 +1,9 @@
 //! The tables of a page: files, jumps and ranks.
 
-use crate::jumps::Jump;
+use crate::arrows::Arrow;
 use crate::markup::push_place;
-use sedck_escapes::{push_html, push_text};
-use sedck_findings::{Answer, Explanation, NamedFile, Position, shown_name};
-use sedck_words::{Names, kind_word, push_all};
-use std::alloc::{AllocError, Global};
+use sedck_findings::{Answer, Explanation, NamedFile, shown_name};
+use sedck_words::{Names, Shown, Written, kind_word};
 
 /// What precedes the rows of files.
 const FILES_HEAD: &str = "<div class=\"wide\"><table>
@@ -48,159 +46,100 @@ const DETAILS_END: &str = "</tbody></table></div>
 </details>
 ";
 
-/// Adds the files that the script names.
-pub(crate) fn push_files(
-    alloc: Global,
-    out: &mut Vec<u8>,
-    names: Names,
-    explanation: &Explanation,
-) -> Result<(), AllocError> {
+/// Adds the files that the script names, or that there are none.
+pub(crate) fn push_files(out: &mut Written, names: Names, explanation: &Explanation) {
     if explanation.script.is_none() {
-        return Ok(());
+        return;
     }
-    push_text(out, "<h2 id=\"files\">Files</h2>\n")?;
-    push_uses(alloc, out, names, &explanation.reads, &explanation.writes)
+    out.text("<h2 id=\"files\">Files</h2>\n");
+    if explanation.reads.is_empty() && explanation.writes.is_empty() {
+        out.text("<p>No command reads or writes a file.</p>\n");
+        return;
+    }
+    out.text(FILES_HEAD);
+    push_rows(out, names, &explanation.reads, "read");
+    push_rows(out, names, &explanation.writes, "written");
+    out.text("</tbody></table></div>\n");
 }
 
-/// Adds the table of the files, or that there are none.
-fn push_uses(
-    alloc: Global,
-    out: &mut Vec<u8>,
-    names: Names,
-    reads: &[NamedFile],
-    writes: &[NamedFile],
-) -> Result<(), AllocError> {
-    if reads.is_empty() && writes.is_empty() {
-        return push_text(out, "<p>No command reads or writes a file.</p>\n");
-    }
-    push_text(out, FILES_HEAD)?;
-    push_rows(alloc, out, names, reads, "read")?;
-    push_rows(alloc, out, names, writes, "written")?;
-    push_text(out, "</tbody></table></div>\n")
-}
-
-/// Adds a row for each file.
-fn push_rows(
-    alloc: Global,
-    out: &mut Vec<u8>,
-    names: Names,
-    files: &[NamedFile],
-    what: &str,
-) -> Result<(), AllocError> {
+/// Adds a row for each file, with a link for each position.
+fn push_rows(out: &mut Written, names: Names, files: &[NamedFile], what: &str) {
     for file in files {
-        let name = shown_name(alloc, file.name)?;
-        push_text(out, "<tr><td><code>&quot;")?;
-        push_html(out, name.as_str())?;
-        push_all(out, &["&quot;</code></td><td>", what, "</td><td>"])?;
-        push_places(alloc, out, names, &file.positions)?;
-        push_text(out, "</td></tr>\n")?;
+        let name = shown_name(out.alloc(), file.name);
+        out.text("<tr><td><code>&quot;").html_words(name);
+        out.text("&quot;</code></td><td>").text(what);
+        out.text("</td><td>");
+        for position in &file.positions {
+            push_place(out, names, Some(*position));
+            out.text(" ");
+        }
+        out.text("</td></tr>\n");
     }
-    Ok(())
-}
-
-/// Adds a link for each position.
-fn push_places(
-    alloc: Global,
-    out: &mut Vec<u8>,
-    names: Names,
-    positions: &[Position],
-) -> Result<(), AllocError> {
-    for position in positions {
-        push_place(alloc, out, names, Some(*position))?;
-        push_text(out, " ")?;
-    }
-    Ok(())
 }
 
 /// Adds the list of jumps, which the arcs show too.
-pub(crate) fn push_jumps(
-    alloc: Global,
-    out: &mut Vec<u8>,
-    names: Names,
-    positions: &[Position],
-    jumps: &[Jump],
-) -> Result<(), AllocError> {
+pub(crate) fn push_jumps(out: &mut Written, shown: &Shown, jumps: &[Arrow]) {
     if jumps.is_empty() {
-        return Ok(());
+        return;
     }
-    push_text(out, JUMPS_HEAD)?;
+    out.text(JUMPS_HEAD);
     for jump in jumps {
-        push_jump(alloc, out, names, positions, *jump)?;
+        push_jump(out, shown, *jump);
     }
-    push_text(out, DETAILS_END)
+    out.text(DETAILS_END);
 }
 
 /// Adds a row for a jump.
-fn push_jump(
-    alloc: Global,
-    out: &mut Vec<u8>,
-    names: Names,
-    positions: &[Position],
-    jump: Jump,
-) -> Result<(), AllocError> {
-    push_text(out, "<tr><td>")?;
-    push_place(alloc, out, names, positions.get(jump.from).copied())?;
-    push_text(out, "</td><td>")?;
-    push_place(alloc, out, names, positions.get(jump.to).copied())?;
+fn push_jump(out: &mut Written, shown: &Shown, jump: Arrow) {
+    out.text("<tr><td>");
+    push_command(out, shown, jump.from);
+    out.text("</td><td>");
+    push_command(out, shown, jump.to);
     let part = if jump.is_bold {
         ", part of the loop"
     } else {
         ""
     };
-    push_all(
+    out.text("</td><td>").text(kind_word(jump.kind));
+    out.text(part).text("</td></tr>\n");
+}
+
+/// Adds a link to the command with this number, or to the script's end.
+fn push_command(out: &mut Written, shown: &Shown, command: usize) {
+    push_place(
         out,
-        &["</td><td>", kind_word(jump.kind), part, "</td></tr>\n"],
-    )
+        shown.names,
+        shown.source.positions.get(command).copied(),
+    );
 }
 
 /// Adds the ranks of an accepted certificate, a row for each command.
-pub(crate) fn push_ranks(
-    alloc: Global,
-    out: &mut Vec<u8>,
-    names: Names,
-    explanation: &Explanation,
-) -> Result<(), AllocError> {
-    match &explanation.answer {
-        Answer::Accepted { cert, .. } => {
-            push_table(alloc, out, names, cert.ranks(), &explanation.positions)
-        }
-        _ => Ok(()),
+pub(crate) fn push_ranks(out: &mut Written, shown: &Shown, answer: &Answer) {
+    let Answer::Accepted { cert, .. } = answer else {
+        return;
+    };
+    out.text(RANKS_HEAD);
+    for (index, row) in cert.ranks().chunks(4).enumerate() {
+        out.text("<tr><th scope=\"row\">");
+        push_command(out, shown, index);
+        out.text("</th>");
+        push_pairs(out, row);
+        out.text("</tr>\n");
     }
-}
-
-/// Adds the table of ranks.
-fn push_table(
-    alloc: Global,
-    out: &mut Vec<u8>,
-    names: Names,
-    ranks: &[Option<(u16, u16)>],
-    positions: &[Position],
-) -> Result<(), AllocError> {
-    push_text(out, RANKS_HEAD)?;
-    for (index, row) in ranks.chunks(4).enumerate() {
-        push_text(out, "<tr><th scope=\"row\">")?;
-        push_place(alloc, out, names, positions.get(index).copied())?;
-        push_text(out, "</th>")?;
-        push_pairs(alloc, out, row)?;
-        push_text(out, "</tr>\n")?;
-    }
-    push_text(out, DETAILS_END)
+    out.text(DETAILS_END);
 }
 
 /// Adds a cell with the ranks of each node.
-fn push_pairs(
-    alloc: Global,
-    out: &mut Vec<u8>,
-    pairs: &[Option<(u16, u16)>],
-) -> Result<(), AllocError> {
+fn push_pairs(out: &mut Written, pairs: &[Option<(u16, u16)>]) {
     for pair in pairs {
         match *pair {
-            Some((first, second)) => {
-                let cell = format!(in alloc; "<td>{first} {second}</td>")?;
-                push_text(out, cell.as_str())?;
-            }
-            None => push_text(out, "<td>-</td>")?,
-        }
+            Some((first, second)) => out
+                .text("<td>")
+                .number(usize::from(first))
+                .text(" ")
+                .number(usize::from(second))
+                .text("</td>"),
+            None => out.text("<td>-</td>"),
+        };
     }
-    Ok(())
 }

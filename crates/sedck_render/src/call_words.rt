@@ -2,7 +2,7 @@
 
 use crate::parts::{Ink, NO_INK};
 use sedck_findings::{Answer, Explanation, NamedFile, Position, shown_name};
-use sedck_words::push_all;
+use sedck_words::Written;
 use std::alloc::{AllocError, Global};
 
 /// A call of sed in a file.
@@ -17,7 +17,7 @@ pub struct CallAt<'a> {
 }
 
 /// The answer on a call in a file.
-#[derive(Clone, Copy, Debug, PartialEq, Eq)]
+#[derive(Clone, Copy)]
 pub enum CallAnswer {
     Accepted,
     /// Accepted for values that keep to what is said of them.
@@ -64,22 +64,18 @@ pub fn text_answer(
     explanation: &Explanation,
     colour: bool,
 ) -> Result<Vec<u8>, AllocError> {
-    let mut out = Vec::new(alloc);
-    let file = call.file;
-    let Position {
-        offset: _,
-        line,
-        column,
-    } = call.position;
-    let place = format!(in alloc; "{file}:{line}:{column}: ")?;
+    let mut out = Written::new(alloc);
+    let Position { line, column, .. } = call.position;
+    out.text(call.file).text(":").number(line);
+    out.text(":").number(column).text(": ");
     let answer = CallAnswer::of(explanation);
     let ink = if colour { ink_of(answer) } else { NO_INK };
-    push_all(&mut out, &[place.as_str(), ink.on, answer.word(), ink.off])?;
+    ink.push(&mut out, answer.word());
     if explanation.script.is_some() {
-        push_files(alloc, &mut out, explanation)?;
+        push_files(&mut out, explanation);
     }
-    push_all(&mut out, &["\n"])?;
-    Ok(out)
+    out.text("\n");
+    out.finished()
 }
 
 /// The colour of an answer.
@@ -93,30 +89,20 @@ fn ink_of(answer: CallAnswer) -> Ink {
 }
 
 /// Adds which files the script reads and writes.
-fn push_files(
-    alloc: Global,
-    out: &mut Vec<u8>,
-    explanation: &Explanation,
-) -> Result<(), AllocError> {
+fn push_files(out: &mut Written, explanation: &Explanation) {
     if explanation.reads.is_empty() && explanation.writes.is_empty() {
-        return push_all(out, &[", no file"]);
+        out.text(", no file");
     }
-    push_names(alloc, out, ", reads ", &explanation.reads)?;
-    push_names(alloc, out, ", writes ", &explanation.writes)
+    push_names(out, ", reads ", &explanation.reads);
+    push_names(out, ", writes ", &explanation.writes);
 }
 
 /// Adds the names, each in quotes, after these words.
-fn push_names(
-    alloc: Global,
-    out: &mut Vec<u8>,
-    what: &str,
-    files: &[NamedFile],
-) -> Result<(), AllocError> {
+fn push_names(out: &mut Written, what: &str, files: &[NamedFile]) {
     let mut before = what;
     for file in files {
-        let name = shown_name(alloc, file.name)?;
-        push_all(out, &[before, "\"", name.as_str(), "\""])?;
+        let name = shown_name(out.alloc(), file.name);
+        out.text(before).text("\"").words(name).text("\"");
         before = " ";
     }
-    Ok(())
 }

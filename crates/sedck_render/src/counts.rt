@@ -1,7 +1,7 @@
 //! How many calls were found, by their answers.
 
 use crate::call_words::CallAnswer;
-use sedck_words::{push_all, push_grouped};
+use sedck_words::Written;
 use std::alloc::{AllocError, Global};
 
 /// How many calls were found, by their answers.
@@ -55,67 +55,45 @@ impl Counts {
 
     /// A line that says how many calls were found, and then how many there are of each answer that there is.
     pub fn text(self, alloc: Global) -> Result<Vec<u8>, AllocError> {
-        let mut out = Vec::new(alloc);
-        push_counted(alloc, &mut out, self.calls, " call of sed", " calls of sed")?;
-        push_counted(alloc, &mut out, self.files, " file", " files")?;
-        let mut parts = Vec::new(alloc);
-        self.push_known(alloc, &mut parts)?;
-        self.push_others(alloc, &mut parts)?;
-        out.extend_from_slice(&parts)?;
-        push_all(&mut out, &["\n"])?;
-        Ok(out)
+        let mut out = Written::new(alloc);
+        let calls = if self.calls == 1 {
+            " call of sed in "
+        } else {
+            " calls of sed in "
+        };
+        let files = if self.files == 1 { " file" } else { " files" };
+        out.grouped(self.calls as u64).text(calls);
+        out.grouped(self.files as u64).text(files);
+        self.push_parts(&mut out);
+        out.text("\n");
+        out.finished()
     }
 
-    /// Adds the answers of scripts that were judged.
-    fn push_known(&self, alloc: Global, out: &mut Vec<u8>) -> Result<(), AllocError> {
-        push_part(alloc, out, self.accepted, " accepted")?;
-        let words = " accepted if what isn't known is as said";
-        push_part(alloc, out, self.accepted_if, words)?;
-        push_part(alloc, out, self.denied, " denied")?;
-        push_part(alloc, out, self.loops, " with a loop")
-    }
-
-    /// Adds the other answers.
-    fn push_others(&self, alloc: Global, out: &mut Vec<u8>) -> Result<(), AllocError> {
-        push_part(alloc, out, self.refused, " refused")?;
-        push_part(alloc, out, self.not_judged, " not judged")?;
-        push_part(alloc, out, self.unknown, " unknown")?;
+    /// Adds how many there are of each answer that there is.
+    fn push_parts(&self, out: &mut Written) {
         let places = if self.unread == 1 {
             " place not understood"
         } else {
             " places not understood"
         };
-        push_part(alloc, out, self.unread, places)?;
-        push_part(alloc, out, self.unreadable, " not readable")
+        let parts = [
+            (self.accepted, " accepted"),
+            (self.accepted_if, " accepted if what isn't known is as said"),
+            (self.denied, " denied"),
+            (self.loops, " with a loop"),
+            (self.refused, " refused"),
+            (self.not_judged, " not judged"),
+            (self.unknown, " unknown"),
+            (self.unread, places),
+            (self.unreadable, " not readable"),
+        ];
+        let mut is_first = true;
+        for (count, words) in parts {
+            if count > 0 {
+                out.text(if is_first { ": " } else { ", " });
+                out.grouped(count as u64).text(words);
+                is_first = false;
+            }
+        }
     }
-}
-
-/// Adds how many there are, if any, after a comma where another part precedes.
-fn push_part(
-    alloc: Global,
-    out: &mut Vec<u8>,
-    count: usize,
-    words: &str,
-) -> Result<(), AllocError> {
-    if count == 0 {
-        return Ok(());
-    }
-    push_all(out, &[if out.is_empty() { ": " } else { ", " }])?;
-    push_grouped(alloc, out, count as u64)?;
-    push_all(out, &[words])
-}
-
-/// Adds how many there are, after ` in ` where something precedes.
-fn push_counted(
-    alloc: Global,
-    out: &mut Vec<u8>,
-    count: usize,
-    one: &str,
-    several: &str,
-) -> Result<(), AllocError> {
-    if !out.is_empty() {
-        push_all(out, &[" in "])?;
-    }
-    push_grouped(alloc, out, count as u64)?;
-    push_all(out, &[if count == 1 { one } else { several }])
 }

@@ -3,7 +3,7 @@
 use crate::parts::{NO_INK, prefix, push_headline, push_left_out};
 use sedck_findings::{Explanation, Finding, Level, Step};
 use sedck_words::{
-    ListedSteps, Names, Source, command_line, is_listed, listed_steps, push_all, source_of,
+    ListedSteps, Names, Shown, Written, command_line, is_listed, listed_steps, shown_of,
 };
 use std::alloc::{AllocError, Global};
 
@@ -18,73 +18,54 @@ pub fn gcc_report(
     explanation: &Explanation,
     least: Level,
 ) -> Result<Vec<u8>, AllocError> {
-    let mut out = Vec::new(alloc);
-    let source = source_of(explanation);
+    let mut out = Written::new(alloc);
+    let shown = shown_of(names, explanation);
     for finding in &explanation.findings {
         if is_listed(finding, least) {
-            push_finding(alloc, &mut out, names, source, finding)?;
+            let place = prefix(alloc, names, finding.position)?;
+            push_finding(&mut out, &shown, place.as_str(), finding);
         }
     }
-    Ok(out)
+    out.finished()
 }
 
 /// Adds the finding with its steps and its hint.
-fn push_finding(
-    alloc: Global,
-    out: &mut Vec<u8>,
-    names: Names,
-    source: Source,
-    finding: &Finding,
-) -> Result<(), AllocError> {
-    let place = prefix(alloc, names, finding.position)?;
-    push_headline(out, place.as_str(), NO_INK, finding)?;
+fn push_finding(out: &mut Written, shown: &Shown, place: &str, finding: &Finding) {
+    push_headline(out, place, NO_INK, finding);
     let ListedSteps {
         first,
         left_out,
         last,
     } = listed_steps(&finding.steps);
-    push_steps(alloc, out, names, source, first)?;
+    push_steps(out, shown, first);
     if left_out > 0 {
-        push_all(out, &[place.as_str(), "note: "])?;
-        push_left_out(alloc, out, left_out)?;
+        out.text(place).text("note: ");
+        push_left_out(out, left_out);
     }
-    push_steps(alloc, out, names, source, last)?;
-    match finding.hint {
-        Some(hint) => push_all(out, &[place.as_str(), "note: hint: ", hint, "\n"]),
-        None => Ok(()),
+    push_steps(out, shown, last);
+    if let Some(hint) = finding.hint {
+        out.text(place).text("note: hint: ").text(hint).text("\n");
     }
 }
 
-/// Adds a note for each step.
-fn push_steps(
-    alloc: Global,
-    out: &mut Vec<u8>,
-    names: Names,
-    source: Source,
-    steps: &[Step],
-) -> Result<(), AllocError> {
+/// Adds a note for each step: the line of its command between backquotes, or the script's end, and what it does.
+fn push_steps(out: &mut Written, shown: &Shown, steps: &[Step]) {
     for step in steps {
-        let place = prefix(alloc, names, step.position)?;
-        let command = command_words(alloc, source, step)?;
-        let words = [
-            place.as_str(),
-            "note: ",
-            command.as_str(),
-            " ",
-            step.message.as_str(),
-            "\n",
-        ];
-        push_all(out, &words)?;
+        out.words(prefix(out.alloc(), shown.names, step.position));
+        out.text("note: ");
+        match step.position {
+            Some(position) => {
+                let line = command_line(
+                    out.alloc(),
+                    shown.source,
+                    step.node.at,
+                    position,
+                    NOTE_WIDTH,
+                );
+                out.text("`").words(line).text("`")
+            }
+            None => out.text("the script's end"),
+        };
+        out.text(" ").text(step.message.as_str()).text("\n");
     }
-    Ok(())
-}
-
-/// The line of the step's command between backquotes, or the script's end.
-fn command_words(alloc: Global, source: Source, step: &Step) -> Result<String, AllocError> {
-    let Some(position) = step.position else {
-        return String::from_str(alloc, "the script's end");
-    };
-    let line = command_line(alloc, source, step.node.at, position, NOTE_WIDTH)?;
-    let shown = line.as_str();
-    format!(in alloc; "`{shown}`")
 }

@@ -6,14 +6,21 @@ ghost use Rattle.sedck_escapes.specs.Ascii.{IsPrintableLine};
 
 use crate::call_words::{CallAnswer, CallAt};
 use crate::counts::Counts;
-use crate::json_line::{json_bound, json_files, json_findings, json_position, json_positions};
-use crate::json_shape::{JsonCall, JsonCounts};
-use sedck_escapes::ascii_line;
+use crate::json_line::push_details;
+use crate::json_places::push_position;
+use crate::json_text::Json;
 use sedck_findings::{Explanation, Level};
 use sedck_words::{Names, VERSION};
 use std::alloc::{AllocError, Global};
 
-/// The object of a call on a line, in ASCII, with the findings of at least this level.
+/// The object of a call on a line, in ASCII, with the findings of at least this level. Positions are those of the file.
+///
+/// - `file`: the file's path.
+/// - `call`: where the command's name is.
+/// - `words`: the words after the name, in the form of a file's name; what isn't known is `x`.
+/// - `status`: 0 for accepted, 1 for a loop or denied, 2 for a refused script or one that isn't judged, 5 for what isn't known before
+///   a run.
+/// - `answer`: as of a script, or `accepted-if` or `unknown`.
 pub fn json_call(
     alloc: Global,
     call: CallAt,
@@ -23,69 +30,56 @@ pub fn json_call(
     ensures ascii { IfOk result (λ line. IsAscii line.items) }
     ensures line { IfOk result (λ line. IsPrintableLine line.items) }
 {
-    written_call(alloc, &call_of(alloc, call, explanation, least)?)
-}
-
-/// The object as text on a line.
-fn written_call(alloc: Global, call: &JsonCall) -> Result<Vec<u8>, AllocError>
-    ensures ascii { IfOk result (λ line. IsAscii line.items) }
-    ensures line { IfOk result (λ line. IsPrintableLine line.items) }
-{
-    let Ok(text) = serde_json::to_string(alloc, call) else {
-        return Err(AllocError);
-    };
-    ascii_line(alloc, text.as_str())
-}
-
-/// All that is reported of the call.
-fn call_of<'a>(
-    alloc: Global,
-    call: CallAt<'a>,
-    explanation: &'a Explanation,
-    least: Level,
-) -> Result<JsonCall<'a>, AllocError> {
     let names = Names::of_file(call.file);
-    Ok(JsonCall {
-        file: call.file,
-        call: json_position(names, call.position),
-        words: call.words,
-        status: explanation.status,
-        answer: CallAnswer::of(explanation).word(),
-        bound: json_bound(&explanation.answer),
-        reads: json_files(alloc, names, &explanation.reads)?,
-        writes: json_files(alloc, names, &explanation.writes)?,
-        findings: json_findings(alloc, names, &explanation.findings, least)?,
-        commands: json_positions(alloc, names, &explanation.positions)?,
-        version: VERSION,
-    })
+    let mut out = Json::new(alloc);
+    out.open().text("file", call.file);
+    push_position(&mut out, "call", names, call.position);
+    push_words(&mut out, &call.words);
+    out.number("status", u64::from(explanation.status))
+        .text("answer", CallAnswer::of(explanation).word());
+    push_details(&mut out, names, explanation, least);
+    out.finished()
+}
+
+/// Adds the words of the call.
+fn push_words(out: &mut Json, words: &[String]) {
+    out.list("words");
+    for word in words {
+        out.item(word.as_str());
+    }
+    out.close("]");
 }
 
 /// The object of the counts on a line, in ASCII.
+///
+/// - `files`: those in which calls were looked for.
+/// - `unread`: places where a file wasn't understood, and reading went on at a next line.
+/// - `unreadable`: files and folders that can't be read.
+/// - `status`: the exit status.
 pub fn json_counts(alloc: Global, counts: Counts, status: u8) -> Result<Vec<u8>, AllocError>
     ensures ascii { IfOk result (λ line. IsAscii line.items) }
     ensures line { IfOk result (λ line. IsPrintableLine line.items) }
 {
-    let Ok(text) = serde_json::to_string(alloc, &shape_of(counts, status)) else {
-        return Err(AllocError);
-    };
-    ascii_line(alloc, text.as_str())
+    let mut out = Json::new(alloc);
+    push_counts(&mut out, &counts);
+    out.number("status", u64::from(status))
+        .text("version", VERSION)
+        .close("}");
+    out.finished()
 }
 
-/// The counts as an object.
-fn shape_of(counts: Counts, status: u8) -> JsonCounts {
-    JsonCounts {
-        calls: counts.calls,
-        files: counts.files,
-        accepted: counts.accepted,
-        accepted_if: counts.accepted_if,
-        denied: counts.denied,
-        loops: counts.loops,
-        refused: counts.refused,
-        not_judged: counts.not_judged,
-        unknown: counts.unknown,
-        unread: counts.unread,
-        unreadable: counts.unreadable,
-        status,
-        version: VERSION,
-    }
+/// Begins the object with the counts.
+fn push_counts(out: &mut Json, counts: &Counts) {
+    out.open()
+        .number("calls", counts.calls as u64)
+        .number("files", counts.files as u64)
+        .number("accepted", counts.accepted as u64)
+        .number("accepted_if", counts.accepted_if as u64)
+        .number("denied", counts.denied as u64)
+        .number("loops", counts.loops as u64)
+        .number("refused", counts.refused as u64)
+        .number("not_judged", counts.not_judged as u64)
+        .number("unknown", counts.unknown as u64)
+        .number("unread", counts.unread as u64)
+        .number("unreadable", counts.unreadable as u64);
 }

@@ -5,15 +5,16 @@
 #![tactic(auto)]
 
 mod call_words;
-mod columns;
 mod counts;
 mod gcc;
 mod json_calls;
+mod json_findings;
 mod json_line;
-mod json_shape;
+mod json_places;
+mod json_text;
 mod parts;
 mod sarif;
-mod sarif_shape;
+mod sarif_places;
 mod summary;
 mod text;
 mod uri;

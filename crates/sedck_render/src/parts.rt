@@ -1,7 +1,7 @@
 //! The parts of a report in text: where a finding is, and what it says.
 
 use sedck_findings::{Finding, Position};
-use sedck_words::{Names, Place, level_word, push_all, push_grouped};
+use sedck_words::{Names, Place, Written, level_word};
 use std::alloc::{AllocError, Global};
 
 /// What precedes and what follows coloured words.
@@ -13,6 +13,13 @@ pub(crate) struct Ink {
 
 /// No colour.
 pub(crate) const NO_INK: Ink = Ink { on: "", off: "" };
+
+impl Ink {
+    /// Adds the words in the colour.
+    pub(crate) fn push(self, out: &mut Written, words: &str) {
+        out.text(self.on).text(words).text(self.off);
+    }
+}
 
 /// `FILE:LINE:COLUMN: ` with the name of the part, or `FILE: ` without a position.
 pub(crate) fn prefix(
@@ -33,31 +40,18 @@ pub(crate) fn prefix(
 }
 
 /// Adds the place, and `LEVEL: MESSAGE [code]` with the level in the colour.
-pub(crate) fn push_headline(
-    out: &mut Vec<u8>,
-    place: &str,
-    ink: Ink,
-    finding: &Finding,
-) -> Result<(), AllocError> {
-    push_all(out, &[place])?;
-    push_all(out, &[ink.on, level_word(finding.level), ink.off, ": "])?;
-    push_all(out, &[finding.message.as_str(), " ["])?;
-    push_all(out, &[finding.code.name(), "]\n"])
+pub(crate) fn push_headline(out: &mut Written, place: &str, ink: Ink, finding: &Finding) {
+    out.text(place);
+    ink.push(out, level_word(finding.level));
+    out.text(": ").text(finding.message.as_str());
+    out.text(" [").text(finding.code.name()).text("]\n");
 }
 
 /// Adds how many steps aren't listed.
-pub(crate) fn push_left_out(
-    alloc: Global,
-    out: &mut Vec<u8>,
-    left_out: usize,
-) -> Result<(), AllocError> {
-    push_grouped(alloc, out, left_out as u64)?;
-    push_all(
-        out,
-        &[if left_out == 1 {
-            " step left out\n"
-        } else {
-            " steps left out\n"
-        }],
-    )
+pub(crate) fn push_left_out(out: &mut Written, left_out: usize) {
+    out.grouped(left_out as u64).text(if left_out == 1 {
+        " step left out\n"
+    } else {
+        " steps left out\n"
+    });
 }

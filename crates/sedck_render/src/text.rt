@@ -1,12 +1,11 @@
 //! The report for people at a terminal: each finding with its line, and what an accepted script may do.
 
-use crate::columns::{push_aligned, push_padded, push_spaces, width_of};
 use crate::parts::{Ink, NO_INK, prefix, push_headline, push_left_out};
 use crate::summary::{Inks, push_summary};
 use sedck_findings::{Explanation, Finding, Level, Position, Step};
 use sedck_words::{
-    ListedSteps, Names, Source, command_line, decimal, excerpt, is_listed, listed_steps,
-    place_words, push_all, source_of,
+    ListedSteps, Names, Shown, Written, command_line, excerpt, is_listed, listed_steps,
+    place_words, shown_of,
 };
 use std::alloc::{AllocError, Global};
 
@@ -36,13 +35,14 @@ pub fn text_report(
     least: Level,
     colour: bool,
 ) -> Result<Vec<u8>, AllocError> {
-    let mut out = text_findings(alloc, names, explanation, least, colour)?;
+    let mut out = Written::new(alloc);
+    push_findings(&mut out, names, explanation, least, colour)?;
     let inks = Inks {
         yes: ink_where(colour, GREEN),
         no: ink_where(colour, RED),
     };
-    push_summary(alloc, &mut out, names, explanation, inks)?;
-    Ok(out)
+    push_summary(&mut out, names, explanation, inks);
+    out.finished()
 }
 
 /// Each finding of at least this level with its line, a caret under the byte that is meant, its steps and its hint.
@@ -53,14 +53,26 @@ pub fn text_findings(
     least: Level,
     colour: bool,
 ) -> Result<Vec<u8>, AllocError> {
-    let mut out = Vec::new(alloc);
-    let source = source_of(explanation);
+    let mut out = Written::new(alloc);
+    push_findings(&mut out, names, explanation, least, colour)?;
+    out.finished()
+}
+
+/// Adds the findings of at least this level.
+fn push_findings(
+    out: &mut Written,
+    names: Names,
+    explanation: &Explanation,
+    least: Level,
+    colour: bool,
+) -> Result<(), AllocError> {
+    let shown = shown_of(names, explanation);
     for finding in &explanation.findings {
         if is_listed(finding, least) {
-            push_finding(alloc, &mut out, names, source, finding, colour)?;
+            push_finding(out, &shown, finding, colour)?;
         }
     }
-    Ok(out)
+    Ok(())
 }
 
 /// The colour, where colours are wanted.
@@ -73,71 +85,58 @@ fn ink_where(colour: bool, on: &'static str) -> Ink {
 }
 
 /// The colour of a level.
-fn level_ink(colour: bool, level: Level) -> Ink {
+fn level_colour(level: Level) -> &'static str {
     match level {
-        Level::Error => ink_where(colour, RED),
-        Level::Warning => ink_where(colour, YELLOW),
-        Level::Note => ink_where(colour, CYAN),
+        Level::Error => RED,
+        Level::Warning => YELLOW,
+        Level::Note => CYAN,
     }
 }
 
 /// Adds a finding.
 fn push_finding(
-    alloc: Global,
-    out: &mut Vec<u8>,
-    names: Names,
-    source: Source,
+    out: &mut Written,
+    shown: &Shown,
     finding: &Finding,
     colour: bool,
 ) -> Result<(), AllocError> {
-    let ink = level_ink(colour, finding.level);
-    let place = prefix(alloc, names, finding.position)?;
-    push_headline(out, place.as_str(), ink, finding)?;
-    let mut gutter = 4;
-    if let Some(position) = finding.position {
-        let number = decimal(alloc, names.place_of(position).line)?;
-        gutter = number.len().saturating_add(2).max(4);
-        push_aligned(out, number.as_str(), gutter)?;
-        push_line(alloc, out, source.text, position, gutter, ink)?;
-    }
-    push_steps(alloc, out, names, source, &finding.steps, gutter)?;
-    push_hint(out, finding.hint, gutter, ink_where(colour, CYAN))
-}
-
-/// Adds the line in which the position is, behind its number, and a caret under the byte.
-fn push_line(
-    alloc: Global,
-    out: &mut Vec<u8>,
-    text: &[u8],
-    position: Position,
-    gutter: usize,
-    ink: Ink,
-) -> Result<(), AllocError> {
-    let shown = excerpt(alloc, text, position, LINE_WIDTH)?;
-    push_all(out, &[" | ", shown.shown.as_str(), "\n"])?;
-    push_caret(out, gutter, shown.before, ink)
-}
-
-/// Adds a caret this many columns after the bar.
-fn push_caret(out: &mut Vec<u8>, gutter: usize, before: usize, ink: Ink) -> Result<(), AllocError> {
-    push_spaces(out, gutter)?;
-    push_all(out, &[" | "])?;
-    push_spaces(out, before)?;
-    push_all(out, &[ink.on, "^", ink.off, "\n"])
-}
-
-/// Adds the hint, if there is one.
-fn push_hint(
-    out: &mut Vec<u8>,
-    hint: Option<&'static str>,
-    gutter: usize,
-    ink: Ink,
-) -> Result<(), AllocError> {
-    let Some(hint) = hint else {
-        return Ok(());
+    let ink = ink_where(colour, level_colour(finding.level));
+    let place = prefix(out.alloc(), shown.names, finding.position)?;
+    push_headline(out, place.as_str(), ink, finding);
+    let gutter = match finding.position {
+        Some(position) => push_line(out, shown, position, ink)?,
+        None => 4,
     };
-    push_spaces(out, gutter)?;
-    push_all(out, &[" = ", ink.on, "hint", ink.off, ": ", hint, "\n"])
+    let rows = rows_of(out.alloc(), shown, &finding.steps)?;
+    push_rows(out, &rows, &finding.steps, gutter);
+    if let Some(hint) = finding.hint {
+        out.spaces(gutter);
+        out.text(" = ");
+        ink_where(colour, CYAN).push(out, "hint");
+        out.text(": ").text(hint).text("\n");
+    }
+    Ok(())
+}
+
+/// Adds the line in which the position is, behind its number, and a caret under the byte; how wide the number's column is.
+fn push_line(
+    out: &mut Written,
+    shown: &Shown,
+    position: Position,
+    ink: Ink,
+) -> Result<usize, AllocError> {
+    let line = shown.names.place_of(position).line;
+    let number = format!(in out.alloc(); "{line}")?;
+    let gutter = number.len().saturating_add(2).max(4);
+    let part = excerpt(out.alloc(), shown.source.text, position, LINE_WIDTH)?;
+    push_aligned(out, number.as_str(), gutter);
+    out.text(" | ").text(part.shown.as_str()).text("\n");
+    out.spaces(gutter);
+    out.text(" | ");
+    out.spaces(part.before);
+    ink.push(out, "^");
+    out.text("\n");
+    Ok(gutter)
 }
 
 /// A step as it is printed.
@@ -148,82 +147,75 @@ struct Row<'a> {
     message: &'a str,
 }
 
-/// Adds the steps, one a line, and how many are left out.
-fn push_steps(
+/// The steps that are listed, as they are printed.
+fn rows_of<'a>(
     alloc: Global,
-    out: &mut Vec<u8>,
-    names: Names,
-    source: Source,
-    steps: &[Step],
-    gutter: usize,
-) -> Result<(), AllocError> {
-    let ListedSteps {
-        first,
-        left_out,
-        last,
-    } = listed_steps(steps);
+    shown: &Shown,
+    steps: &'a [Step],
+) -> Result<Vec<Row<'a>>, AllocError> {
+    let ListedSteps { first, last, .. } = listed_steps(steps);
     let mut rows = Vec::new(alloc);
     for step in first.iter().chain(last.iter()) {
-        rows.push(step_row(alloc, names, source, step)?)?;
+        rows.push(row_of(alloc, shown, step)?)?;
     }
-    let columns = columns_of(&rows, gutter);
-    for (index, row) in rows.iter().enumerate() {
-        if left_out > 0 && index == first.len() {
-            push_spaces(out, gutter.saturating_add(3))?;
-            push_all(out, &["... "])?;
-            push_left_out(alloc, out, left_out)?;
-        }
-        push_row(out, row, columns)?;
-    }
-    Ok(())
+    Ok(rows)
 }
 
 /// The parts of a step's line.
-fn step_row<'a>(
-    alloc: Global,
-    names: Names,
-    source: Source,
-    step: &'a Step,
-) -> Result<Row<'a>, AllocError> {
-    let place = place_words(alloc, names, step.position)?;
-    let source = match step.position {
-        Some(position) => command_line(alloc, source, step.node.at, position, STEP_WIDTH)?,
-        None => String::new(alloc),
-    };
+fn row_of<'a>(alloc: Global, shown: &Shown, step: &'a Step) -> Result<Row<'a>, AllocError> {
     Ok(Row {
-        place,
-        source,
+        place: place_words(alloc, shown.names, step.position)?,
+        source: match step.position {
+            Some(position) => {
+                command_line(alloc, shown.source, step.node.at, position, STEP_WIDTH)?
+            }
+            None => String::new(alloc),
+        },
         message: step.message.as_str(),
     })
 }
 
-/// How many columns precede a row, and how wide its parts are.
-#[derive(Clone, Copy)]
-struct Columns {
-    before: usize,
-    place: usize,
-    source: usize,
-}
-
-/// The columns in which all rows fit.
-fn columns_of(rows: &[Row], gutter: usize) -> Columns {
-    let mut columns = Columns {
-        before: gutter.saturating_add(3),
-        place: 0,
-        source: 0,
-    };
-    for row in rows {
-        columns.place = columns.place.max(width_of(row.place.as_str()));
-        columns.source = columns.source.max(row.source.len());
+/// Adds the rows of steps in columns, and how many steps are left out.
+fn push_rows(out: &mut Written, rows: &[Row], steps: &[Step], gutter: usize) {
+    let ListedSteps {
+        first,
+        left_out,
+        ..
+    } = listed_steps(steps);
+    let before = gutter.saturating_add(3);
+    let (place, source) = widths(rows);
+    for (index, row) in rows.iter().enumerate() {
+        out.spaces(before);
+        if left_out > 0 && index == first.len() {
+            out.text("... ");
+            push_left_out(out, left_out);
+            out.spaces(before);
+        }
+        push_aligned(out, row.place.as_str(), place);
+        out.text("  ").text(row.source.as_str());
+        out.spaces(source.saturating_sub(row.source.len()));
+        out.text("  ").text(row.message).text("\n");
     }
-    columns
 }
 
-/// Adds the row in its columns.
-fn push_row(out: &mut Vec<u8>, row: &Row, columns: Columns) -> Result<(), AllocError> {
-    push_spaces(out, columns.before)?;
-    push_aligned(out, row.place.as_str(), columns.place)?;
-    push_all(out, &["  "])?;
-    push_padded(out, row.source.as_str(), columns.source)?;
-    push_all(out, &["  ", row.message, "\n"])
+/// How wide the places and the lines are.
+fn widths(rows: &[Row]) -> (usize, usize) {
+    let mut place = 0;
+    let mut source = 0;
+    for row in rows {
+        place = width_of(row.place.as_str()).max(place);
+        source = row.source.len().max(source);
+    }
+    (place, source)
+}
+
+/// Adds spaces up to the width, and the words.
+fn push_aligned(out: &mut Written, words: &str, width: usize) {
+    out.spaces(width.saturating_sub(width_of(words)));
+    out.text(words);
+}
+
+/// How many characters the words have.
+fn width_of(words: &str) -> usize {
+    words.chars().count()
 }

@@ -9,13 +9,14 @@ mod listed;
 mod names;
 mod pages;
 mod words;
+mod written;
 
 pub use limit::push_limit;
-pub use lines::{LinePart, Source, command_line, excerpt, source_of};
+pub use lines::{LinePart, Shown, Source, command_line, excerpt, shown_of};
 pub use listed::{ListedSteps, is_listed, listed_steps};
 pub use names::{Names, PartName, Place};
 pub use pages::page_of;
 pub use words::{
-    VERSION, answer_word, decimal, kind_word, level_word, place_words, push_all, push_grouped,
-    shown_letter, shown_path,
+    VERSION, answer_word, kind_word, level_word, place_words, shown_letter, shown_path,
 };
+pub use written::Written;

@@ -1,25 +1,17 @@
 //! The limit on the steps of a run, in words.
 
-use crate::words::{push_all, push_grouped};
+use crate::written::Written;
 use sedck_cert::Bound;
-use std::alloc::{AllocError, Global};
 
 /// Adds the limit in words, with an example.
-pub fn push_limit(alloc: Global, out: &mut Vec<u8>, bound: Bound) -> Result<(), AllocError> {
-    let parts = [
-        ("at most ", bound.per_byte),
-        (" a byte, plus ", bound.per_line),
-        (" a line, plus ", bound.fixed),
-    ];
-    for (words, number) in parts {
-        push_all(out, &[words])?;
-        push_grouped(alloc, out, number)?;
+pub fn push_limit(out: &mut Written, bound: Bound) {
+    out.text("at most ").grouped(bound.per_byte);
+    out.text(" a byte, plus ").grouped(bound.per_line);
+    out.text(" a line, plus ").grouped(bound.fixed);
+    if let Some(steps) = example_steps(bound) {
+        out.text("; for 1,000 lines of 80 bytes at most ")
+            .grouped(steps);
     }
-    let Some(steps) = example_steps(bound) else {
-        return Ok(());
-    };
-    push_all(out, &["; for 1,000 lines of 80 bytes at most "])?;
-    push_grouped(alloc, out, steps)
 }
 
 /// The limit for 1,000 lines of 80 bytes, where it is below 2^64.

@@ -1,5 +1,6 @@
 //! A line of a script around one of its bytes.
 
+use crate::names::Names;
 use sedck_findings::{Explanation, Position, is_printable, shown_line};
 use std::alloc::{AllocError, Global};
 
@@ -13,11 +14,21 @@ pub struct Source<'a> {
     pub positions: &'a [Position],
 }
 
-/// The text and the commands of what is explained.
-pub fn source_of<'a>(explanation: &'a Explanation) -> Source<'a> {
-    Source {
-        text: explanation.text,
-        positions: &explanation.positions,
+/// A script as reports name it and show it.
+#[derive(Clone, Copy)]
+pub struct Shown<'a> {
+    pub names: Names<'a>,
+    pub source: Source<'a>,
+}
+
+/// The script of what is explained, by these names.
+pub fn shown_of<'a>(names: Names<'a>, explanation: &'a Explanation) -> Shown<'a> {
+    Shown {
+        names,
+        source: Source {
+            text: explanation.text,
+            positions: &explanation.positions,
+        },
     }
 }
 

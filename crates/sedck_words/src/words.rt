@@ -80,30 +80,3 @@ pub fn shown_letter(letter: char) -> char {
         );
     if is_hidden { '?' } else { letter }
 }
-
-/// Adds the words, one after another.
-pub fn push_all(out: &mut Vec<u8>, words: &[&str]) -> Result<(), AllocError> {
-    for part in words {
-        out.extend_from_slice(part.as_bytes())?;
-    }
-    Ok(())
-}
-
-/// The number in decimal.
-pub fn decimal(alloc: Global, number: usize) -> Result<String, AllocError> {
-    format!(in alloc; "{number}")
-}
-
-/// Adds the number with a comma before each group of three digits.
-pub fn push_grouped(alloc: Global, out: &mut Vec<u8>, number: u64) -> Result<(), AllocError> {
-    let digits = format!(in alloc; "{number}")?;
-    let mut left = digits.len();
-    for digit in digits.as_str().as_bytes() {
-        if left % 3 == 0 && left < digits.len() {
-            out.push(b',')?;
-        }
-        out.push(*digit)?;
-        left = left.saturating_sub(1);
-    }
-    Ok(())
-}
