@@ -1,7 +1,7 @@
 //! Where a reader of an expression is: outside of its bracket lists, or in one.
 
 /// Where a reader is, by what was read.
-#[derive(Clone, Copy, PartialEq, Eq)]
+#[derive(Clone, Copy)]
 enum Place {
     Outside,
     /// After a backslash that is outside of lists.
@@ -48,7 +48,7 @@ impl Reading {
 
     /// Whether the next byte is escaped.
     pub fn is_escaped(self) -> bool {
-        self.place == Place::Escape
+        matches!(self.place, Place::Escape)
     }
 
     /// Whether the reader is in a group.

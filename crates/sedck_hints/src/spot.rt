@@ -14,7 +14,7 @@ pub struct Spot<'a> {
 }
 
 /// What an expression is for.
-#[derive(Clone, Copy, PartialEq, Eq)]
+#[derive(Clone, Copy)]
 pub enum Purpose {
     /// The expression of `s`.
     Replaces,
@@ -49,8 +49,13 @@ impl<'a> Spot<'a> {
         let inside = self.before.get(self.expression..).unwrap_or(&[]);
         inside.is_empty()
             || inside.ends_with(b"\\(")
-            || matches!(inside, b"^")
+            || inside == b"^".as_slice()
             || inside.ends_with(b"\\(^")
+    }
+
+    /// The script from the byte after the fault's first one on.
+    pub(crate) fn behind(self) -> &'a [u8] {
+        self.rest.get(1..).unwrap_or(&[])
     }
 
     /// The byte before the blanks before the fault.
