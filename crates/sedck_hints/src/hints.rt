@@ -1,7 +1,7 @@
 //! What to write in place of what is refused.
 
 use crate::escapes::escape_hint;
-use crate::lists::is_blank;
+use crate::lists::{is_blank, without_blanks};
 use crate::spot::{Spot, behind_part};
 use sedck_bre::ReFault;
 use sedck_script::ScriptFault;
@@ -99,9 +99,12 @@ fn multiples_hint(behind: &[u8]) -> &'static str {
 
 /// The byte after digits and blanks.
 fn verb_in(text: &[u8]) -> Option<u8> {
-    text.iter()
-        .find(|byte| !is_blank(**byte) && !matches!(**byte, b'0'..=b'9'))
-        .copied()
+    for byte in text {
+        if !is_blank(*byte) && !byte.is_ascii_digit() {
+            return Some(*byte);
+        }
+    }
+    None
 }
 
 fn address_hint(spot: Spot) -> Option<&'static str> {
@@ -327,19 +330,15 @@ fn text_hint(rest: &[u8]) -> &'static str {
     "seds differ on a text that begins with a backslash: write `a\\`, a newline and the text"
 }
 
-/// The text after the blanks with which it begins.
-fn without_blanks(text: &[u8]) -> &[u8] {
-    let start = text
-        .iter()
-        .position(|byte| !is_blank(*byte))
-        .unwrap_or(text.len());
-    text.get(start..).unwrap_or(&[])
-}
-
 /// Whether braces are next, after blanks or none, and a comment right after them.
 fn has_braced_comment(rest: &[u8]) -> bool {
     let braces = without_blanks(rest);
-    braces.starts_with(b"}") && braces.iter().find(|byte| **byte != b'}') == Some(&b'#')
+    for byte in braces {
+        if *byte != b'}' {
+            return *byte == b'#' && braces.starts_with(b"}");
+        }
+    }
+    false
 }
 
 fn label_hint(rest: &[u8]) -> &'static str {

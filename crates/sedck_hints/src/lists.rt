@@ -93,3 +93,13 @@ fn next_place(place: Place, byte: u8) -> Place {
 pub fn is_blank(byte: u8) -> bool {
     matches!(byte, b' ' | b'\t')
 }
+
+/// The text after the blanks with which it begins.
+pub(crate) fn without_blanks(text: &[u8]) -> &[u8] {
+    for (index, byte) in text.iter().enumerate() {
+        if !is_blank(*byte) {
+            return text.get(index..).unwrap_or(&[]);
+        }
+    }
+    &[]
+}

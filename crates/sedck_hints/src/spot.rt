@@ -1,6 +1,6 @@
 //! What is around a fault, as far as a hint depends on it.
 
-use crate::lists::{Reading, is_blank};
+use crate::lists::{Reading, is_blank, without_blanks};
 
 /// Where a fault is, and what is around it.
 #[derive(Clone, Copy)]
@@ -85,7 +85,7 @@ impl<'a> Spot<'a> {
         if last_byte(opening) == Some(b',') {
             return Purpose::Range;
         }
-        match behind.iter().find(|byte| !is_blank(**byte)) {
+        match without_blanks(behind).first() {
             Some(b',') => Purpose::Range,
             Some(b'!') => Purpose::Unless,
             Some(b'd') => Purpose::Deletes,
@@ -111,5 +111,10 @@ pub fn behind_part(part: &[u8], delimiter: u8) -> &[u8] {
 
 /// The last byte that is no blank.
 fn last_byte(text: &[u8]) -> Option<u8> {
-    text.iter().rev().find(|byte| !is_blank(**byte)).copied()
+    for byte in text.iter().rev() {
+        if !is_blank(*byte) {
+            return Some(*byte);
+        }
+    }
+    None
 }
