@@ -40,13 +40,13 @@ fn letter_hint(escaped: u8) -> &'static str {
 
 /// In a bracket list.
 fn list_escape_hint(rest: &[u8]) -> &'static str {
-    match rest {
-        [_, b'd', b'0'..=b'9', ..]
-        | [_, b'o', b'0'..=b'7', ..]
-        | [_, b'x', b'0'..=b'9' | b'a'..=b'f' | b'A'..=b'F', ..] => {
+    match (rest.get(1), rest.get(2)) {
+        (Some(b'd'), Some(b'0'..=b'9'))
+        | (Some(b'o'), Some(b'0'..=b'7'))
+        | (Some(b'x'), Some(b'0'..=b'9' | b'a'..=b'f' | b'A'..=b'F')) => {
             "GNU sed turns this into a byte before it reads the list: write that byte itself"
         }
-        [_, b'd', ..] =>
+        (Some(b'd'), _) =>
             "if a digit is meant write `[[:digit:]]`; GNU sed reads this as a `d`; for a backslash and a `d` write `[\\\\d]`",
         _ =>
             "GNU sed turns `\\c` and what follows into one byte: for a backslash and the letter write two backslashes, as in `[\\\\c]`",
@@ -55,15 +55,15 @@ fn list_escape_hint(rest: &[u8]) -> &'static str {
 
 /// For `\+` and `\?`.
 fn repeat_hint(spot: Spot) -> &'static str {
-    let is_comma = spot.delimiter() == b',';
-    match spot.rest {
-        _ if spot.begins() =>
-            "at the start of an expression or a group GNU sed reads this as a literal character: write it without the backslash",
-        [_, b'+', ..] if is_comma =>
-            "for `x\\+` write `xx*`, or `x\\{1\\,\\}`, since `,` is the delimiter",
-        [_, b'+', ..] => "for `x\\+` write `x\\{1,\\}` or `xx*`",
-        _ if is_comma => "for `x\\?` write `x\\{0\\,1\\}`, since `,` is the delimiter",
-        _ => "for `x\\?` write `x\\{0,1\\}`",
+    if spot.begins() {
+        return "at the start of an expression or a group GNU sed reads this as a literal character: write it without the backslash";
+    }
+    let is_plus = spot.rest.get(1) == Some(&b'+');
+    match (is_plus, spot.delimiter() == b',') {
+        (true, true) => "for `x\\+` write `xx*`, or `x\\{1\\,\\}`, since `,` is the delimiter",
+        (true, false) => "for `x\\+` write `x\\{1,\\}` or `xx*`",
+        (false, true) => "for `x\\?` write `x\\{0\\,1\\}`, since `,` is the delimiter",
+        (false, false) => "for `x\\?` write `x\\{0,1\\}`",
     }
 }
 

@@ -1,6 +1,6 @@
 //! Texts that are no scripts of sed, by how they begin.
 
-use crate::lists::is_blank;
+use crate::lists::{is_blank, without_blanks};
 
 /// What is said of a refused text that looks like something else.
 #[derive(Clone, Copy)]
@@ -76,7 +76,7 @@ fn names_sed(line: &[u8]) -> bool {
 
 /// Whether the line is blank or a comment.
 fn is_left_out(line: &[u8]) -> bool {
-    match line.iter().find(|byte| !is_blank(**byte)) {
+    match without_blanks(line).first() {
         Some(byte) => *byte == b'#',
         None => true,
     }
@@ -101,7 +101,10 @@ fn is_target(line: &[u8]) -> bool {
 
 /// How many letters, digits, `_`, `.` and `-` the line begins with.
 fn name_length(line: &[u8]) -> usize {
-    line.iter()
-        .position(|byte| !(byte.is_ascii_alphanumeric() || matches!(*byte, b'_' | b'.' | b'-')))
-        .unwrap_or(line.len())
+    for (length, byte) in line.iter().enumerate() {
+        if !byte.is_ascii_alphanumeric() && !matches!(*byte, b'_' | b'.' | b'-') {
+            return length;
+        }
+    }
+    line.len()
 }

@@ -1,7 +1,7 @@
 //! What to write in place of what is refused.
 
 use crate::escapes::escape_hint;
-use crate::lists::is_blank;
+use crate::lists::{is_blank, without_blanks};
 use crate::spot::{Spot, behind_part};
 use sedck_bre::ReFault;
 use sedck_script::ScriptFault;
@@ -28,27 +28,35 @@ pub fn script_hint(fault: ScriptFault, spot: Spot) -> Option<&'static str> {
 
 /// Where the file as a whole isn't what sed expects.
 fn file_hint(rest: &[u8]) -> Option<&'static str> {
-    match rest {
-        [b'\r'] | [b'\r', b'\n', ..] => {
-            Some("the line ends in a carriage return: save the file with Unix line endings")
-        }
-        [b'\r', ..] => Some(
-            "BusyBox ends a line at a carriage return: remove it, or save the file with Unix line endings",
-        ),
-        [0xef, 0xbb, 0xbf, ..] => Some(
-            "the file begins with a byte order mark: save it without one",
-        ),
-        _ => None,
+    if ends_in_return(rest) {
+        return Some("the line ends in a carriage return: save the file with Unix line endings");
     }
+    if rest.starts_with(b"\r") {
+        return Some(
+            "BusyBox ends a line at a carriage return: remove it, or save the file with Unix line endings",
+        );
+    }
+    if rest.starts_with(BYTE_ORDER_MARK) {
+        return Some("the file begins with a byte order mark: save it without one");
+    }
+    None
+}
+
+/// With what editors of other systems may begin a file.
+pub(crate) const BYTE_ORDER_MARK: &[u8] = b"\xef\xbb\xbf";
+
+/// Whether a carriage return ends the line here.
+pub(crate) fn ends_in_return(rest: &[u8]) -> bool {
+    rest.starts_with(b"\r") && matches!(rest.get(1), None | Some(b'\n'))
 }
 
 fn command_hint(spot: Spot) -> Option<&'static str> {
-    let [first, behind @ ..] = spot.rest else {
+    let Some(first) = spot.rest.first() else {
         return Some("a command is missing after the address");
     };
     match *first {
-        b'~' => Some(multiples_hint(behind)),
-        b'\\' if behind.first() == Some(&b'!') => Some("`!` needs no backslash here"),
+        b'~' => Some(multiples_hint(spot.behind())),
+        b'\\' if spot.rest.get(1) == Some(&b'!') => Some("`!` needs no backslash here"),
         b'$' if spot.previous() == Some(b'$') => Some(
             "in a makefile `$$` becomes one `$`: write one, or check the script that the shell passes on",
         ),
@@ -91,24 +99,36 @@ fn multiples_hint(behind: &[u8]) -> &'static str {
 
 /// The byte after digits and blanks.
 fn verb_in(text: &[u8]) -> Option<u8> {
-    text.iter()
-        .find(|byte| !is_blank(**byte) && !matches!(**byte, b'0'..=b'9'))
-        .copied()
+    for byte in text {
+        if !is_blank(*byte) && !byte.is_ascii_digit() {
+            return Some(*byte);
+        }
+    }
+    None
 }
 
 fn address_hint(spot: Spot) -> Option<&'static str> {
-    match spot.rest {
-        [b'0', b'~', behind @ ..] => Some(multiples_hint(behind)),
-        [b'0', b',', b'/', behind @ ..] => Some(first_match_hint(behind_part(behind, b'/'))),
-        [b'0', b'r', ..] => Some(
-            "`0r` is an extension of GNU sed: put the file before the input, as in `cat FILE - | sed ..`",
-        ),
-        [b'+', behind @ ..] => Some(following_hint(spot, behind)),
-        [b'~', ..] => Some("for `addr,~n` count the lines with `n` or `N`"),
-        [b'0', ..] => Some("lines are counted from 1"),
-        [b'1'..=b'9', ..] => Some("a line number is at most 4,294,967,295"),
+    match spot.rest.first() {
+        Some(b'0') => Some(zero_hint(spot.rest)),
+        Some(b'1'..=b'9') => Some("a line number is at most 4,294,967,295"),
+        Some(b'+') => Some(following_hint(spot)),
+        Some(b'~') => Some("for `addr,~n` count the lines with `n` or `N`"),
         _ => Some("an address is a line number, `$`, or an expression between delimiters"),
     }
+}
+
+/// By what follows the `0`.
+fn zero_hint(rest: &[u8]) -> &'static str {
+    if let Some(behind) = rest.strip_prefix(b"0~") {
+        return multiples_hint(behind);
+    }
+    if let Some(behind) = rest.strip_prefix(b"0,/") {
+        return first_match_hint(behind_part(behind, b'/'));
+    }
+    if rest.starts_with(b"0r") {
+        return "`0r` is an extension of GNU sed: put the file before the input, as in `cat FILE - | sed ..`";
+    }
+    "lines are counted from 1"
 }
 
 /// By what follows `0,/x/`.
@@ -123,16 +143,17 @@ fn first_match_hint(behind: &[u8]) -> &'static str {
 }
 
 /// By what is around the `+`.
-fn following_hint(spot: Spot, behind: &[u8]) -> &'static str {
-    let start = spot
-        .before
-        .strip_suffix(b",")
-        .and_then(|text| text.last().copied());
-    match (start, behind, verb_in(behind)) {
-        (Some(b'0'..=b'9'), _, _) => "for `6,+2` write `6,8`",
-        (_, [b'0', next, ..], _) if !matches!(*next, b'0'..=b'9') => "for `/x/,+0` write `/x/`",
-        (_, _, Some(b'd')) =>
-            "for `/x/,+2d` write `/x/{`, `$!N`, `$!N`, `d` and `}` on lines of their own",
+fn following_hint(spot: Spot) -> &'static str {
+    let behind = spot.behind();
+    let start = spot.before.strip_suffix(b",").unwrap_or(&[]);
+    if matches!(start.last(), Some(b'0'..=b'9')) {
+        return "for `6,+2` write `6,8`";
+    }
+    if behind.starts_with(b"0") && matches!(behind.get(1), Some(next) if !next.is_ascii_digit()) {
+        return "for `/x/,+0` write `/x/`";
+    }
+    match verb_in(behind) {
+        Some(b'd') => "for `/x/,+2d` write `/x/{`, `$!N`, `$!N`, `d` and `}` on lines of their own",
         _ =>
             "for `/x/,+2p` alone in a script write `/x/{`, `p`, `n`, `p`, `n`, `p` and `}` on lines of their own; for `d` write `$!N` twice and one `d`",
     }
@@ -147,15 +168,20 @@ fn expression_hint(fault: ReFault, spot: Spot) -> Option<&'static str> {
         ReFault::NothingToRepeat { .. } => Some(
             "for a literal brace write `{`; else put what is to be repeated before it",
         ),
-        ReFault::DoubleRepeat { .. } => Some(match (spot.previous(), spot.rest) {
-            (Some(b'*'), [b'*', ..]) => "one `*` is enough",
-            _ => "a group may be repeated again, as in `\\(a\\{2\\}\\)*`",
-        }),
+        ReFault::DoubleRepeat { .. } => Some(repeat_hint(spot)),
         ReFault::UnclosedGroup { .. } | ReFault::UnopenedGroup { .. } => {
             Some("a group is written `\\(` and `\\)`; literal parentheses are `(` and `)`")
         }
         _ => None,
     }
+}
+
+/// At a repetition of a repetition.
+fn repeat_hint(spot: Spot) -> &'static str {
+    if spot.previous() == Some(b'*') && spot.rest.starts_with(b"*") {
+        return "one `*` is enough";
+    }
+    "a group may be repeated again, as in `\\(a\\{2\\}\\)*`"
 }
 
 /// Whether a bracket list that isn't closed has a `]`, and the beginning of a class or a symbol, which isn't closed either.
@@ -165,10 +191,12 @@ pub fn has_open_class(spot: Spot) -> bool {
         .rest
         .get(1..spot.rest.len().saturating_sub(behind.len()))
         .unwrap_or(&[]);
-    let begins = list
-        .windows(2)
-        .any(|pair| matches!(pair, [b'[', b'.' | b':' | b'=']));
-    begins && list.contains(&b']')
+    list.contains(&b']') && list.windows(2).any(begins_class)
+}
+
+/// Whether the bytes begin a class or a symbol.
+fn begins_class(bytes: &[u8]) -> bool {
+    bytes.starts_with(b"[") && matches!(bytes.get(1), Some(b'.' | b':' | b'='))
 }
 
 /// Where a list isn't closed: the delimiter ends it, or it has the beginning of a class or a symbol.
@@ -181,14 +209,20 @@ fn unclosed_hint(spot: Spot) -> &'static str {
 
 /// By an invalid element.
 fn element_hint(rest: &[u8]) -> &'static str {
-    match rest {
-        [b'[', b'.' | b'=', byte, mark, b']', ..] if byte == mark => {
-            "write the byte itself: `[.]` for `[[...]]`, `[=]` for `[[===]]`"
-        }
-        [b'[', b']' | b'^', ..] => EARLY,
-        rest if has_early_end(rest) => EARLY,
-        _ => "put a `-` first or last in its list, and a class inside a list, as in `[[:digit:]]`",
+    if is_symbol_of_its_mark(rest) {
+        return "write the byte itself: `[.]` for `[[...]]`, `[=]` for `[[===]]`";
     }
+    if rest.starts_with(b"[]") || rest.starts_with(b"[^") || has_early_end(rest) {
+        return EARLY;
+    }
+    "put a `-` first or last in its list, and a class inside a list, as in `[[:digit:]]`"
+}
+
+/// Whether the element is `[.` or `[=`, the same byte twice, and a `]`.
+fn is_symbol_of_its_mark(rest: &[u8]) -> bool {
+    (rest.starts_with(b"[.") || rest.starts_with(b"[="))
+        && rest.get(4) == Some(&b']')
+        && rest.get(2) == rest.get(3)
 }
 
 const EARLY: &str =
@@ -201,7 +235,8 @@ fn has_early_end(rest: &[u8]) -> bool {
 
 /// The same of a range whose hyphen is at this offset.
 fn ends_in_bracket(rest: &[u8], hyphen: usize) -> bool {
-    matches!(rest.get(hyphen..), Some([b'-', b'[', b']' | b'^', ..]))
+    let end = rest.get(hyphen..).unwrap_or(&[]);
+    end.starts_with(b"-[]") || end.starts_with(b"-[^")
 }
 
 /// By the bytes of an interval.
@@ -209,21 +244,23 @@ fn interval_hint(spot: Spot) -> &'static str {
     if spot.delimiter() == b',' && !ends_before(spot.rest, b",") {
         return "the comma is the delimiter here: write `\\{1\\,2\\}`, or use another delimiter";
     }
-    match spot.rest {
-        [_, _, b',', ..] => "for `x\\{,3\\}` write `x\\{0,3\\}`",
-        rest if ends_before(rest, b"\n") =>
-            "write a longer repetition as two, as in `a\\{255\\}a\\{45\\}`",
-        _ => "an interval ends in `\\}`; write a literal `{` without a backslash",
+    if spot.rest.get(2) == Some(&b',') {
+        return "for `x\\{,3\\}` write `x\\{0,3\\}`";
     }
+    if ends_before(spot.rest, b"\n") {
+        return "write a longer repetition as two, as in `a\\{255\\}a\\{45\\}`";
+    }
+    "an interval ends in `\\}`; write a literal `{` without a backslash"
 }
 
 /// Whether the interval has its `\}` before any of these bytes.
 fn ends_before(rest: &[u8], ends: &[u8]) -> bool {
     for pair in rest.windows(2) {
-        match pair {
-            [b'\\', b'}'] => return true,
-            [byte, _] if ends.contains(byte) => return false,
-            _ => {}
+        if pair.starts_with(b"\\}") {
+            return true;
+        }
+        if matches!(pair.first(), Some(byte) if ends.contains(byte)) {
+            return false;
         }
     }
     false
@@ -264,11 +301,11 @@ fn flag_hint(rest: &[u8]) -> Option<&'static str> {
 
 /// At a backslash, at a `[` of the first list, or at the verb.
 fn list_hint(rest: &[u8]) -> Option<&'static str> {
-    match rest {
-        [b'\\', ..] => Some(
+    match rest.first() {
+        Some(b'\\') => Some(
             "write the character itself; a backslash may only precede a backslash, an `n` or the delimiter",
         ),
-        [b'[', ..] => Some(
+        Some(b'[') => Some(
             "BusyBox reads `[` as the start of a bracket list here: add one character and a `]` after it to both lists, as in `y/[a]/(a]/` for `y/[/(/`",
         ),
         _ => Some("make both lists the same length"),
@@ -277,69 +314,61 @@ fn list_hint(rest: &[u8]) -> Option<&'static str> {
 
 /// Whether the command with this verb has a text on the same line that begins with a backslash.
 pub fn has_escaped_text(rest: &[u8]) -> bool {
-    match without_blanks(rest.get(1..).unwrap_or(&[])) {
-        [b'\\', byte, ..] => *byte != b'\n',
-        _ => false,
-    }
+    let text = without_blanks(rest.get(1..).unwrap_or(&[]));
+    text.starts_with(b"\\") && matches!(text.get(1), Some(byte) if *byte != b'\n')
 }
 
 /// At the verb of a text.
 fn text_hint(rest: &[u8]) -> &'static str {
-    let behind = rest.get(1..).unwrap_or(&[]);
-    match without_blanks(behind) {
-        [b'\\'] | [b'\\', b'\n'] =>
-            "`$a\\` adds a missing last newline, but only in GNU sed: add it before sed; for a text write `a\\` and the text on the next line",
-        [b'\\', ..] =>
-            "seds differ on a text that begins with a backslash: write `a\\`, a newline and the text",
-        _ => "write `a\\` and the text on the next line",
+    let text = without_blanks(rest.get(1..).unwrap_or(&[]));
+    let Some(behind) = text.strip_prefix(b"\\") else {
+        return "write `a\\` and the text on the next line";
+    };
+    if behind.is_empty() || behind == b"\n".as_slice() {
+        return "`$a\\` adds a missing last newline, but only in GNU sed: add it before sed; for a text write `a\\` and the text on the next line";
     }
-}
-
-/// The text after the blanks with which it begins.
-fn without_blanks(text: &[u8]) -> &[u8] {
-    let start = text
-        .iter()
-        .position(|byte| !is_blank(*byte))
-        .unwrap_or(text.len());
-    text.get(start..).unwrap_or(&[])
+    "seds differ on a text that begins with a backslash: write `a\\`, a newline and the text"
 }
 
 /// Whether braces are next, after blanks or none, and a comment right after them.
 fn has_braced_comment(rest: &[u8]) -> bool {
     let braces = without_blanks(rest);
-    braces.starts_with(b"}") && braces.iter().find(|byte| **byte != b'}') == Some(&b'#')
+    for byte in braces {
+        if *byte != b'}' {
+            return *byte == b'#' && braces.starts_with(b"}");
+        }
+    }
+    false
 }
 
 fn label_hint(rest: &[u8]) -> &'static str {
-    match rest {
-        [b'#', ..] => "some seds read `#` as a label here: write the comment on a line of its own",
-        _ if has_braced_comment(rest) =>
-            "BusyBox reads the `}` and the comment as part of the label: write a `;` before the `}`",
-        [b'}', ..] =>
-            "in a nested block BusyBox reads the `}` as part of the label: write a `;` before it",
-        _ => "a label consists of letters, digits, `_`, `.` and `-`",
+    if rest.starts_with(b"#") {
+        return "some seds read `#` as a label here: write the comment on a line of its own";
     }
+    if has_braced_comment(rest) {
+        return "BusyBox reads the `}` and the comment as part of the label: write a `;` before the `}`";
+    }
+    if rest.starts_with(b"}") {
+        return "in a nested block BusyBox reads the `}` as part of the label: write a `;` before it";
+    }
+    "a label consists of letters, digits, `_`, `.` and `-`"
 }
 
 /// After a command that should have ended.
 fn end_hint(spot: Spot) -> &'static str {
+    if spot.rest.starts_with(b"\\\n") {
+        return "BusyBox joins this line with the next one: end the name or the comment with another character";
+    }
     let line = current_line(spot.before);
-    match (ended_command(line), spot.rest) {
-        (_, [b'\\', b'\n', ..]) =>
-            "BusyBox joins this line with the next one: end the name or the comment with another character",
-        (_, [11 | 12, ..]) => "BusyBox skips this character: begin the name with another one",
-        (
-            Some(b's'),
-            [
-                b'g' | b'p' | b'w' | b'0'..=b'9' | b'I' | b'i' | b'm' | b'M' | b'e',
-                ..
-            ],
-        ) => "remove the blank before the flag: `s/a/b/p` for `s/a/b/ p`",
-        (Some(b'y'), [b'g', ..]) =>
+    match (ended_command(line), spot.rest.first()) {
+        (_, Some(11 | 12)) => "BusyBox skips this character: begin the name with another one",
+        (Some(b's'), Some(b'g' | b'p' | b'w' | b'0'..=b'9' | b'I' | b'i' | b'm' | b'M' | b'e')) =>
+            "remove the blank before the flag: `s/a/b/p` for `s/a/b/ p`",
+        (Some(b'y'), Some(b'g')) =>
             "`y` takes no flags, and always replaces every character: leave it out",
         (Some(b':'), _) =>
             "a label can't contain blanks: write `:two_words`, and the same after `b` and `t`; a command follows a `;` or a newline",
-        (_, [b'0'..=b'9', ..]) if matches!(spot.previous(), Some(b'q' | b'l' | b'L')) => {
+        (_, Some(b'0'..=b'9')) if matches!(spot.previous(), Some(b'q' | b'l' | b'L')) => {
             "an exit status of `q` and a width of `l` are extensions of GNU sed: leave them out"
         }
         _ => "end each command with a newline or a `;`",
@@ -358,21 +387,34 @@ pub(crate) fn current_line(before: &[u8]) -> &[u8] {
 /// Whether the line ends in `s`, `y` or `:` with all that it takes: the verb.
 pub(crate) fn ended_command(line: &[u8]) -> Option<u8> {
     for start in 0..line.len() {
-        let ended = match line.get(start..).unwrap_or(&[]) {
-            [b's', delimiter, part @ ..] => ends_in_flags(part, *delimiter, b"gpIiemM0123456789"),
-            [b'y', delimiter, part @ ..] => ends_in_flags(part, *delimiter, b""),
-            [b':', label @ ..] if line.iter().take(start).all(|byte| is_blank(*byte)) => {
-                label
-                    .iter()
-                    .all(|byte| is_blank(*byte) || is_of_label(*byte))
-            }
-            _ => false,
-        };
-        if ended {
-            return line.get(start).copied();
+        let before = line.get(..start).unwrap_or(&[]);
+        let text = line.get(start..).unwrap_or(&[]);
+        if is_whole(before, text) {
+            return text.first().copied();
         }
     }
     None
+}
+
+/// Whether the text is `s`, `y` or `:` with all that it takes, where this precedes it in its line.
+fn is_whole(before: &[u8], text: &[u8]) -> bool {
+    let part = text.get(2..).unwrap_or(&[]);
+    match (text.first(), text.get(1)) {
+        (Some(b's'), Some(delimiter)) => ends_in_flags(part, *delimiter, b"gpIiemM0123456789"),
+        (Some(b'y'), Some(delimiter)) => ends_in_flags(part, *delimiter, b""),
+        (Some(b':'), _) => without_blanks(before).is_empty() && is_label(text),
+        _ => false,
+    }
+}
+
+/// Whether a byte, and then bytes of labels and blanks are all of the text.
+fn is_label(text: &[u8]) -> bool {
+    for byte in text.get(1..).unwrap_or(&[]) {
+        if !is_blank(*byte) && !is_of_label(*byte) {
+            return false;
+        }
+    }
+    true
 }
 
 /// Whether two parts, then these flags and blanks are all of the text.
@@ -393,11 +435,10 @@ fn is_of_label(byte: u8) -> bool {
 }
 
 fn delimiter_hint(rest: &[u8]) -> &'static str {
-    match rest {
-        [b'\\', b'x', ..] =>
-            "GNU sed reads `\\x` as the start of a number: use a delimiter that isn't in the expression",
-        _ => "use a delimiter that isn't in the expression",
+    if rest.starts_with(b"\\x") {
+        return "GNU sed reads `\\x` as the start of a number: use a delimiter that isn't in the expression";
     }
+    "use a delimiter that isn't in the expression"
 }
 
 fn other_hint(fault: ScriptFault) -> Option<&'static str> {

@@ -1,7 +1,7 @@
 //! Where a reader of an expression is: outside of its bracket lists, or in one.
 
 /// Where a reader is, by what was read.
-#[derive(Clone, Copy, PartialEq, Eq)]
+#[derive(Clone, Copy)]
 enum Place {
     Outside,
     /// After a backslash that is outside of lists.
@@ -48,7 +48,7 @@ impl Reading {
 
     /// Whether the next byte is escaped.
     pub fn is_escaped(self) -> bool {
-        self.place == Place::Escape
+        matches!(self.place, Place::Escape)
     }
 
     /// Whether the reader is in a group.
@@ -92,4 +92,14 @@ fn next_place(place: Place, byte: u8) -> Place {
 /// Whether the byte is a space or a tab.
 pub fn is_blank(byte: u8) -> bool {
     matches!(byte, b' ' | b'\t')
+}
+
+/// The text after the blanks with which it begins.
+pub(crate) fn without_blanks(text: &[u8]) -> &[u8] {
+    for (index, byte) in text.iter().enumerate() {
+        if !is_blank(*byte) {
+            return text.get(index..).unwrap_or(&[]);
+        }
+    }
+    &[]
 }

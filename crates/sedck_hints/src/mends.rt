@@ -1,13 +1,13 @@
 //! Mends that need no judgement: what to write in place of a few bytes, so that the script is read as GNU sed reads it now.
 
-use crate::hints::{current_line, ended_command};
+use crate::hints::{BYTE_ORDER_MARK, current_line, ended_command, ends_in_return};
 use crate::lists::is_blank;
 use crate::spot::Spot;
 use sedck_bre::ReFault;
 use sedck_script::ScriptFault;
 
 /// What to write in place of the bytes around a fault.
-#[derive(Clone, Copy, Debug, PartialEq, Eq)]
+#[derive(Clone, Copy)]
 pub struct Mend {
     /// How many bytes before the fault are replaced.
     pub before: usize,
@@ -18,10 +18,11 @@ pub struct Mend {
 
 /// The mend of this fault, where there is one that changes nothing for GNU sed.
 pub fn script_mend(fault: ScriptFault, spot: Spot) -> Option<Mend> {
-    match spot.rest {
-        [b'\r'] | [b'\r', b'\n', ..] => return Some(replaced(1, "")),
-        [0xef, 0xbb, 0xbf, ..] if spot.before.is_empty() => return Some(replaced(3, "")),
-        _ => {}
+    if ends_in_return(spot.rest) {
+        return Some(replaced(1, ""));
+    }
+    if spot.before.is_empty() && spot.rest.starts_with(BYTE_ORDER_MARK) {
+        return Some(replaced(3, ""));
     }
     match fault {
         ScriptFault::UnknownCommand { .. } => negation_mend(spot.rest),
@@ -42,12 +43,14 @@ fn replaced(after: usize, text: &'static str) -> Mend {
     }
 }
 
+/// The mend, where it is one.
+fn mend_where(is_mend: bool, mend: Mend) -> Option<Mend> {
+    if is_mend { Some(mend) } else { None }
+}
+
 /// For `\!` before a command.
 fn negation_mend(rest: &[u8]) -> Option<Mend> {
-    match rest {
-        [b'\\', b'!', ..] => Some(replaced(1, "")),
-        _ => None,
-    }
+    mend_where(rest.starts_with(b"\\!"), replaced(1, ""))
 }
 
 /// Without the blanks before a flag of `s`.
@@ -70,9 +73,9 @@ fn flag_mend(spot: Spot) -> Option<Mend> {
 
 /// Whether the fault is at a flag of POSIX that isn't the last one before the blanks.
 fn is_new_flag(spot: Spot) -> bool {
-    match (spot.previous(), spot.rest) {
-        (Some(b'0'..=b'9'), [b'0'..=b'9', ..]) => false,
-        (previous, [flag, ..]) => {
+    match (spot.previous(), spot.rest.first()) {
+        (Some(b'0'..=b'9'), Some(b'0'..=b'9')) => false,
+        (previous, Some(flag)) => {
             matches!(*flag, b'g' | b'p' | b'w' | b'1'..=b'9') && previous != Some(*flag)
         }
         _ => false,
@@ -81,18 +84,13 @@ fn is_new_flag(spot: Spot) -> bool {
 
 /// A `;` between a label and the `}` right after it.
 fn label_mend(rest: &[u8]) -> Option<Mend> {
-    match rest {
-        [b'}', ..] => Some(replaced(0, ";")),
-        _ => None,
-    }
+    mend_where(rest.starts_with(b"}"), replaced(0, ";"))
 }
 
 /// For `\0`, where `&` isn't the delimiter: then it would be in the line before.
 fn replacement_mend(spot: Spot) -> Option<Mend> {
-    match spot.rest {
-        [b'\\', b'0', ..] if !current_line(spot.before).contains(&b'&') => Some(replaced(2, "&")),
-        _ => None,
-    }
+    let is_mended = spot.rest.starts_with(b"\\0") && !current_line(spot.before).contains(&b'&');
+    mend_where(is_mended, replaced(2, "&"))
 }
 
 /// In an expression, where the text has no delimiter.
@@ -110,24 +108,27 @@ fn expression_mend(fault: ReFault, spot: Spot) -> Option<Mend> {
 
 /// For the escapes of GNU sed that POSIX spells in another way.
 fn escape_mend(spot: Spot) -> Option<Mend> {
-    match spot.rest {
-        [_, b'+', ..] if is_repeatable(spot) => Some(replaced(2, "\\{1,\\}")),
-        [_, b'?', ..] if is_repeatable(spot) => Some(replaced(2, "\\{0,1\\}")),
-        [_, b's', ..] => Some(replaced(2, "[[:space:]]")),
-        [_, b'S', ..] => Some(replaced(2, "[^[:space:]]")),
-        [_, b'w', ..] => Some(replaced(2, "[[:alnum:]_]")),
-        [_, b'W', ..] => Some(replaced(2, "[^[:alnum:]_]")),
-        _ => None,
-    }
+    let text = match *spot.rest.get(1)? {
+        b'+' if is_repeatable(spot) => "\\{1,\\}",
+        b'?' if is_repeatable(spot) => "\\{0,1\\}",
+        b's' => "[[:space:]]",
+        b'S' => "[^[:space:]]",
+        b'w' => "[[:alnum:]_]",
+        b'W' => "[^[:alnum:]_]",
+        _ => return None,
+    };
+    Some(replaced(2, text))
 }
 
 /// For `\+` and `\?` where the comma is the delimiter.
 fn comma_mend(spot: Spot) -> Option<Mend> {
-    match spot.rest {
-        [b'\\', b'+', ..] if spot.delimiter() == b',' => Some(replaced(2, "\\{1\\,\\}")),
-        [b'\\', b'?', ..] if spot.delimiter() == b',' => Some(replaced(2, "\\{0\\,1\\}")),
-        _ => None,
+    if spot.delimiter() != b',' {
+        return None;
     }
+    if spot.rest.starts_with(b"\\+") {
+        return Some(replaced(2, "\\{1\\,\\}"));
+    }
+    mend_where(spot.rest.starts_with(b"\\?"), replaced(2, "\\{0\\,1\\}"))
 }
 
 /// Whether something is before the fault that isn't repeated yet.
@@ -140,8 +141,6 @@ fn is_repeatable(spot: Spot) -> bool {
 
 /// For `\{,n\}`.
 fn interval_mend(rest: &[u8]) -> Option<Mend> {
-    match rest {
-        [b'\\', b'{', b',', b'0'..=b'9', ..] => Some(replaced(2, "\\{0")),
-        _ => None,
-    }
+    let is_mended = rest.starts_with(b"\\{,") && matches!(rest.get(3), Some(b'0'..=b'9'));
+    mend_where(is_mended, replaced(2, "\\{0"))
 }

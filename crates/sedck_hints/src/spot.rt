@@ -1,6 +1,6 @@
 //! What is around a fault, as far as a hint depends on it.
 
-use crate::lists::{Reading, is_blank};
+use crate::lists::{Reading, is_blank, without_blanks};
 
 /// Where a fault is, and what is around it.
 #[derive(Clone, Copy)]
@@ -14,7 +14,7 @@ pub struct Spot<'a> {
 }
 
 /// What an expression is for.
-#[derive(Clone, Copy, PartialEq, Eq)]
+#[derive(Clone, Copy)]
 pub enum Purpose {
     /// The expression of `s`.
     Replaces,
@@ -49,8 +49,13 @@ impl<'a> Spot<'a> {
         let inside = self.before.get(self.expression..).unwrap_or(&[]);
         inside.is_empty()
             || inside.ends_with(b"\\(")
-            || matches!(inside, b"^")
+            || inside == b"^".as_slice()
             || inside.ends_with(b"\\(^")
+    }
+
+    /// The script from the byte after the fault's first one on.
+    pub(crate) fn behind(self) -> &'a [u8] {
+        self.rest.get(1..).unwrap_or(&[])
     }
 
     /// The byte before the blanks before the fault.
@@ -80,7 +85,7 @@ impl<'a> Spot<'a> {
         if last_byte(opening) == Some(b',') {
             return Purpose::Range;
         }
-        match behind.iter().find(|byte| !is_blank(**byte)) {
+        match without_blanks(behind).first() {
             Some(b',') => Purpose::Range,
             Some(b'!') => Purpose::Unless,
             Some(b'd') => Purpose::Deletes,
@@ -106,5 +111,10 @@ pub fn behind_part(part: &[u8], delimiter: u8) -> &[u8] {
 
 /// The last byte that is no blank.
 fn last_byte(text: &[u8]) -> Option<u8> {
-    text.iter().rev().find(|byte| !is_blank(**byte)).copied()
+    for byte in text.iter().rev() {
+        if !is_blank(*byte) {
+            return Some(*byte);
+        }
+    }
+    None
 }
