@@ -29,7 +29,7 @@ pub enum Format {
 }
 
 /// The names of the formats, as they are given on the command line.
-pub(crate) const NAMES: [&str; 7] = ["text", "gcc", "json", "sarif", "html", "dot", "dot-nodes"];
+pub(crate) const NAMES: &[&str] = &["text", "gcc", "json", "sarif", "html", "dot", "dot-nodes"];
 
 impl Format {
     /// The format with this name.

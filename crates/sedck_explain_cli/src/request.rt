@@ -114,15 +114,6 @@ fn assumed_of<'a>(alloc: Global, matches: &ArgMatches<'a>) -> Result<Vec<Assumed
     Ok(assumed)
 }
 
-/// The kinds of files, by name.
-const KINDS: [&str; 6] = ["sh", "make", "docker", "yaml", "spec", "m4"];
-
-/// The levels, by name.
-const LEVELS: [&str; 3] = ["error", "warning", "note"];
-
-/// What a script may be denied, by name.
-const DENIALS: [&str; 4] = ["reads", "writes", "warnings", "unbounded"];
-
 /// What is denied.
 fn denied_of(matches: &ArgMatches) -> Denied {
     match matches.get_strs("deny") {
@@ -146,19 +137,92 @@ fn has(words: &[&str], word: &str) -> bool {
     false
 }
 
+/// The kinds of files, by name.
+const KINDS: &[&str] = &["sh", "make", "docker", "yaml", "spec", "m4"];
+
+/// The levels, by name.
+const LEVELS: &[&str] = &["error", "warning", "note"];
+
+/// What a script may be denied, by name.
+const DENIALS: &[&str] = &["reads", "writes", "warnings", "unbounded"];
+
+/// What follows an option; the first word is what the help calls it.
+#[derive(Clone, Copy)]
+enum Takes {
+    /// Nothing: it is there or not.
+    Nothing,
+    Value(&'static str),
+    OneOf(&'static str, &'static [&'static str]),
+    /// Some of these, with commas between.
+    SomeOf(&'static str, &'static [&'static str]),
+    /// A value each time that it is given.
+    Each(&'static str),
+}
+
+/// An option.
+struct Choice {
+    name: &'static str,
+    takes: Takes,
+    /// What the help says of it.
+    help: &'static str,
+}
+
+/// The options, in the order of the help.
+static CHOICES: [Choice; 9] = [
+    Choice {
+        name: "format",
+        takes: Takes::OneOf("FORMAT", NAMES),
+        help: "How the report is printed [default: text]",
+    },
+    Choice {
+        name: "level",
+        takes: Takes::OneOf("LEVEL", LEVELS),
+        help: "The least level of findings that are reported: error, warning or note [default: note; warning for gcc]; the exit status stays the same",
+    },
+    Choice {
+        name: "cert",
+        takes: Takes::Value("CERT"),
+        help: "Judge this certificate instead of searching for one; for one script",
+    },
+    Choice {
+        name: "deny",
+        takes: Takes::SomeOf("WHAT", DENIALS),
+        help: "What makes an accepted script end with status 1, with commas between: reads, writes, warnings, unbounded",
+    },
+    Choice {
+        name: "stdin-filename",
+        takes: Takes::Value("NAME"),
+        help: "The name of standard input in reports [default: -]",
+    },
+    Choice {
+        name: "sed",
+        takes: Takes::Nothing,
+        help: "Explain a call of sed: the words after `--` are those after its name",
+    },
+    Choice {
+        name: "calls",
+        takes: Takes::Nothing,
+        help: "Explain the calls of sed in shell scripts, makefiles and other files, and below folders",
+    },
+    Choice {
+        name: "as",
+        takes: Takes::OneOf("KIND", KINDS),
+        help: "What the files of --calls are, where their names don't say",
+    },
+    Choice {
+        name: "assume",
+        takes: Takes::Each("NAME=VALUE"),
+        help: "The value of a variable in the files of --calls",
+    },
+];
+
 /// The valid arguments.
 fn command<'a>(alloc: Global) -> Result<Command<'a>, AllocError> {
-    described(alloc)
-        .arg(format(alloc))?
-        .arg(level(alloc))?
-        .arg(certificate(alloc))?
-        .arg(deny(alloc))?
-        .arg(stdin_name(alloc))?
-        .arg(sed(alloc))?
-        .arg(calls(alloc))?
-        .arg(kind(alloc))?
-        .arg(assume(alloc))?
-        .arg(scripts(alloc))
+    let mut command = described(alloc);
+    for choice in &CHOICES {
+        command = command.arg(option(alloc, choice))?;
+    }
+    command.arg(scripts(alloc))
 }
 
 /// The program, with what its help says of it.
@@ -174,78 +238,21 @@ fn described<'a>(alloc: Global) -> Command<'a> {
         )
 }
 
-fn format<'a>(alloc: Global) -> Arg<'a> {
-    Arg::new(alloc, "format")
-        .long("format")
-        .value_name("FORMAT")
-        .value_parser(NAMES.as_slice())
-        .help("How the report is printed [default: text]")
-}
-
-fn level<'a>(alloc: Global) -> Arg<'a> {
-    Arg::new(alloc, "level")
-        .long("level")
-        .value_name("LEVEL")
-        .value_parser(LEVELS.as_slice())
-        .help(
-            "The least level of findings that are reported: error, warning or note [default: note; warning for gcc]; the exit status stays the same",
-        )
-}
-
-fn certificate<'a>(alloc: Global) -> Arg<'a> {
-    Arg::new(alloc, "cert").long("cert").value_name("CERT").help(
-        "Judge this certificate instead of searching for one; for one script",
-    )
-}
-
-fn deny<'a>(alloc: Global) -> Arg<'a> {
-    Arg::new(alloc, "deny")
-        .long("deny")
-        .value_name("WHAT")
-        .value_delimiter(',')
-        .value_parser(DENIALS.as_slice())
-        .help(
-            "What makes an accepted script end with status 1, with commas between: reads, writes, warnings, unbounded",
-        )
-}
-
-fn stdin_name<'a>(alloc: Global) -> Arg<'a> {
-    Arg::new(alloc, "stdin-filename")
-        .long("stdin-filename")
-        .value_name("NAME")
-        .help("The name of standard input in reports [default: -]")
-}
-
-fn sed<'a>(alloc: Global) -> Arg<'a> {
-    Arg::new(alloc, "sed")
-        .long("sed")
-        .action(ArgAction::SetTrue)
-        .help("Explain a call of sed: the words after `--` are those after its name")
-}
-
-fn calls<'a>(alloc: Global) -> Arg<'a> {
-    Arg::new(alloc, "calls")
-        .long("calls")
-        .action(ArgAction::SetTrue)
-        .help(
-            "Explain the calls of sed in shell scripts, makefiles and other files, and below folders",
-        )
-}
-
-fn kind<'a>(alloc: Global) -> Arg<'a> {
-    Arg::new(alloc, "as")
-        .long("as")
-        .value_name("KIND")
-        .value_parser(KINDS.as_slice())
-        .help("What the files of --calls are, where their names don't say")
-}
-
-fn assume<'a>(alloc: Global) -> Arg<'a> {
-    Arg::new(alloc, "assume")
-        .long("assume")
-        .value_name("NAME=VALUE")
-        .action(ArgAction::Append)
-        .help("The value of a variable in the files of --calls")
+/// The option as `clap` has it.
+fn option<'a>(alloc: Global, choice: &Choice) -> Arg<'a> {
+    let arg = Arg::new(alloc, choice.name)
+        .long(choice.name)
+        .help(choice.help);
+    match choice.takes {
+        Takes::Nothing => arg.action(ArgAction::SetTrue),
+        Takes::Value(value) => arg.value_name(value),
+        Takes::OneOf(value, names) => arg.value_name(value).value_parser(names),
+        Takes::SomeOf(value, names) => arg
+            .value_name(value)
+            .value_parser(names)
+            .value_delimiter(','),
+        Takes::Each(value) => arg.value_name(value).action(ArgAction::Append),
+    }
 }
 
 fn scripts<'a>(alloc: Global) -> Arg<'a> {

@@ -1,5 +1,5 @@
 //! Verdicts, searches, and the reports of the engines.
-use crate::readers::{tell_certificate, tell_script};
+use crate::readers::{show, tell, tell_certificate, tell_script};
 use sedck_cert::streams::{FromRead, FromWrite};
 use sedck_cert::{Bound, Fault, Judged, Rejection, Verdict, judge, verify};
 use sedck_cli::{Outcome, RunFault, run_check, run_files, run_graph, run_rank, run_upgrade};
@@ -54,19 +54,19 @@ fn tell_fault(rt: &impl Print, fault: Fault) -> io::Result<()> {
 
 fn tell_verdict(rt: &impl Print, verdict: Verdict) -> io::Result<()> {
     match verdict {
-        Verdict::Accepted => println!(rt; "accepted"),
+        Verdict::Accepted => tell(rt, "accepted"),
         Verdict::Rejected(why) => tell_rejection(rt, why),
     }
 }
 
 fn tell_rejection(rt: &impl Print, why: Rejection) -> io::Result<()> {
     match why {
-        Rejection::WrongCount => println!(rt; "wrong-count"),
-        Rejection::StartUnranked => println!(rt; "start-unranked"),
+        Rejection::WrongCount => tell(rt, "wrong-count"),
+        Rejection::StartUnranked => tell(rt, "start-unranked"),
         Rejection::LeavesRanked(edge) => println!(rt; "leaves-ranked {edge}"),
         Rejection::NotLowered(edge) => println!(rt; "not-lowered {edge}"),
-        Rejection::ReadsDiffer => println!(rt; "reads-differ"),
-        Rejection::WritesDiffer => println!(rt; "writes-differ"),
+        Rejection::ReadsDiffer => tell(rt, "reads-differ"),
+        Rejection::WritesDiffer => tell(rt, "writes-differ"),
     }
 }
 
@@ -79,20 +79,20 @@ pub fn found(rt: &(impl Print + AllocGlobal), text: &[u8]) -> io::Result<()> {
     match search(rt.alloc(), &script) {
         Ok(Found::Ranks(cert)) => tell_certificate(rt, &cert),
         Ok(Found::Loop(walk)) => tell_walk(rt, &walk),
-        Err(_) => println!(rt; "out of memory"),
+        Err(_) => tell(rt, "out of memory"),
     }
 }
 
 fn tell_walk(rt: &impl Print, walk: &Walk) -> io::Result<()> {
     match walk.form {
-        Form::Idle => println!(rt; "idle")?,
-        Form::Growing => println!(rt; "growing")?,
+        Form::Idle => tell(rt, "idle")?,
+        Form::Growing => tell(rt, "growing")?,
     }
     for node in &walk.nodes {
-        println!(rt; "{node}")?;
+        show(rt, node)?;
     }
     for kind in &walk.kinds {
-        println!(rt; "{kind}")?;
+        show(rt, kind)?;
     }
     Ok(())
 }
@@ -105,9 +105,9 @@ pub fn report(
     certificate: &[u8],
 ) -> io::Result<()> {
     match run(rt, rt.alloc(), engine, text, certificate) {
-        Ok(Outcome::Yes) => println!(rt; "yes"),
-        Ok(Outcome::No) => println!(rt; "no"),
-        Err(fault) => println!(rt; "{fault}"),
+        Ok(Outcome::Yes) => tell(rt, "yes"),
+        Ok(Outcome::No) => tell(rt, "no"),
+        Err(fault) => show(rt, &fault),
     }
 }
 

@@ -1,8 +1,19 @@
 //! Expressions, scripts and certificates that are read.
 use sedck_cert::streams::FromWrite;
 use sedck_cert::{Cert, read_any, read_cert, read_cert_one, upgrade, write_cert};
-use sedck_script::{Location, Pattern, Script, Substitution, Verb};
+use sedck_script::{Command, Location, Pattern, Script, Substitution, Verb};
+use std::fmt::Display;
 use std::io;
+
+/// Prints the words on a line.
+pub fn tell(rt: &impl Print, words: &str) -> io::Result<()> {
+    println!(rt; "{words}")
+}
+
+/// Prints what is shown as text on a line.
+pub fn show<T: Display>(rt: &impl Print, shown: &T) -> io::Result<()> {
+    println!(rt; "{shown}")
+}
 
 /// How many groups the expression has, and the least length of its texts.
 pub fn expression(rt: &(impl Print + AllocGlobal), text: &[u8]) -> io::Result<()> {
@@ -12,7 +23,7 @@ pub fn expression(rt: &(impl Print + AllocGlobal), text: &[u8]) -> io::Result<()
             let least = expression.least();
             println!(rt; "groups {groups} least {least}")
         }
-        Err(fault) => println!(rt; "{fault}"),
+        Err(fault) => show(rt, &fault),
     }
 }
 
@@ -20,7 +31,7 @@ pub fn expression(rt: &(impl Print + AllocGlobal), text: &[u8]) -> io::Result<()
 pub fn script(rt: &(impl Print + AllocGlobal), text: &[u8]) -> io::Result<()> {
     match sedck_script::parse(rt.alloc(), text) {
         Ok(script) => tell_script(rt, &script),
-        Err(fault) => println!(rt; "{fault}"),
+        Err(fault) => show(rt, &fault),
     }
 }
 
@@ -28,7 +39,7 @@ pub fn script(rt: &(impl Print + AllocGlobal), text: &[u8]) -> io::Result<()> {
 pub fn locations(rt: &(impl Print + AllocGlobal), text: &[u8]) -> io::Result<()> {
     match sedck_script::locate(rt.alloc(), text) {
         Ok(located) => tell_locations(rt, &located.locations),
-        Err(fault) => println!(rt; "{fault}"),
+        Err(fault) => show(rt, &fault),
     }
 }
 
@@ -43,13 +54,18 @@ fn tell_locations(rt: &impl Print, locations: &[Location]) -> io::Result<()> {
 pub fn tell_script(rt: &impl Print, script: &Script) -> io::Result<()> {
     let count = script.commands().len();
     println!(rt; "commands {count}")?;
-    for command in script.commands() {
+    tell_substitutions(rt, script.commands())?;
+    tell_names(rt, "read", script.reads())?;
+    tell_names(rt, "write", script.writes())
+}
+
+fn tell_substitutions(rt: &impl Print, commands: &[Command]) -> io::Result<()> {
+    for command in commands {
         if let Verb::Substitute(substitution) = &command.verb {
             tell_substitution(rt, substitution)?;
         }
     }
-    tell_names(rt, "read", script.reads())?;
-    tell_names(rt, "write", script.writes())
+    Ok(())
 }
 
 /// How many parts the replacement has, and how many groups and which least length the expression.
@@ -70,7 +86,7 @@ fn tell_names(rt: &impl Print, word: &str, names: &[&[u8]]) -> io::Result<()> {
     println!(rt; "{word} {count}")?;
     for name in names {
         rt.write_all(name)?;
-        println!(rt; "")?;
+        tell(rt, "")?;
     }
     Ok(())
 }
@@ -79,7 +95,7 @@ fn tell_names(rt: &impl Print, word: &str, names: &[&[u8]]) -> io::Result<()> {
 pub fn certificate(rt: &(impl Print + AllocGlobal), text: &[u8]) -> io::Result<()> {
     match read_cert(rt.alloc(), text) {
         Ok(cert) => tell_certificate(rt, &cert),
-        Err(fault) => println!(rt; "{fault}"),
+        Err(fault) => show(rt, &fault),
     }
 }
 
@@ -87,7 +103,7 @@ pub fn certificate(rt: &(impl Print + AllocGlobal), text: &[u8]) -> io::Result<(
 pub fn either_certificate(rt: &(impl Print + AllocGlobal), text: &[u8]) -> io::Result<()> {
     match read_any(rt.alloc(), text) {
         Ok(cert) => tell_certificate(rt, &cert),
-        Err(fault) => println!(rt; "{fault}"),
+        Err(fault) => show(rt, &fault),
     }
 }
 
@@ -95,17 +111,17 @@ pub fn either_certificate(rt: &(impl Print + AllocGlobal), text: &[u8]) -> io::R
 pub fn old_certificate(rt: &(impl Print + AllocGlobal), text: &[u8]) -> io::Result<()> {
     let cert = match read_cert_one(rt.alloc(), text) {
         Ok(cert) => cert,
-        Err(fault) => return println!(rt; "{fault}"),
+        Err(fault) => return show(rt, &fault),
     };
     match upgrade(rt.alloc(), &cert) {
         Ok(cert) => tell_certificate(rt, &cert),
-        Err(_) => println!(rt; "out of memory"),
+        Err(_) => tell(rt, "out of memory"),
     }
 }
 
 pub fn tell_certificate(rt: &impl Print, cert: &Cert) -> io::Result<()> {
     match write_cert(cert, &mut FromWrite::new(io::writer(rt))) {
         Ok(()) => Ok(()),
-        Err(_) => println!(rt; "cannot write"),
+        Err(_) => tell(rt, "cannot write"),
     }
 }

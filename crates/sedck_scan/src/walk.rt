@@ -18,7 +18,7 @@ use std::fs::Files;
 use std::io::{Error, ErrorKind, Input};
 
 /// Folders of version control, which aren't walked.
-const HIDDEN: [&str; 5] = [".git", ".hg", ".svn", ".bzr", "_darcs"];
+static HIDDEN: [&'static str; 5] = [".git", ".hg", ".svn", ".bzr", "_darcs"];
 
 /// What is known so far.
 #[derive(Drop)]

@@ -5,7 +5,6 @@ mod loops;
 mod ranks;
 
 use crate::texts::{require, require_text, script_of};
-use bstr::ByteSlice;
 use sedck_cert::{Cert, Verdict, check};
 use sedck_flow::Node;
 use sedck_script::Script;
@@ -54,18 +53,19 @@ fn told_of(rt: &impl Abort, alloc: Global, script: &Script, text: &[u8]) -> Stri
 }
 
 /// Whether these lines are reported of the script.
-fn is_told(rt: &impl Abort, alloc: Global, text: &[u8], lines: &str) {
-    let script = script_of(rt, alloc, text);
-    require_text(rt, &told_of(rt, alloc, &script, text), lines, lines);
+fn is_told(rt: &impl Abort, alloc: Global, text: &str, lines: &str) {
+    let script = script_of(rt, alloc, text.as_bytes());
+    let told = told_of(rt, alloc, &script, text.as_bytes());
+    require_text(rt, &told, lines, lines);
 }
 
 /// A script, and what is reported of it, also where it has a newline for each semicolon.
-type Row = (&'static [u8], &'static str);
+type Row = (&'static str, &'static str);
 
 fn are_told(rt: &impl Abort, alloc: Global, rows: &[Row]) {
     for (text, lines) in rows {
-        is_told(rt, alloc, text, lines);
-        let text = text.replace(alloc, b";", b"\n").expect(rt, "memory");
-        is_told(rt, alloc, &text, lines);
+        is_told(rt, alloc, *text, *lines);
+        let text = text.replace(alloc, ";", "\n").expect(rt, "memory");
+        is_told(rt, alloc, &text, *lines);
     }
 }

@@ -4,14 +4,14 @@ use std::alloc::Global;
 use std::process::Abort;
 
 /// A part of a text, and how many times it is there.
-pub type Part = (&'static [u8], usize);
+pub type Part = (&'static str, usize);
 
 /// The parts one after another, each this many times.
-pub fn repeated(rt: &impl Abort, alloc: Global, parts: &[Part]) -> Vec<u8> {
-    let mut text = Vec::new(alloc);
+pub fn repeated(rt: &impl Abort, alloc: Global, parts: &[Part]) -> String {
+    let mut text = String::new(alloc);
     for (part, times) in parts {
         for _ in 0..*times {
-            text.extend_from_slice(*part).expect(rt, "memory");
+            text.push_str(*part).expect(rt, "memory");
         }
     }
     text
@@ -98,14 +98,35 @@ pub fn fault_of(alloc: Global, kind: &Kind, text: &[u8]) -> (u8, usize) {
     (number, place.unwrap_or(usize::MAX))
 }
 
+/// Whether this is the number and the place of the text's fault; zeros for a text that is read.
+pub fn has_fault(rt: &impl Abort, alloc: Global, kind: &Kind, text: &[u8], fault: (u8, usize)) {
+    require_fault(rt, fault_of(alloc, kind, text), fault, text);
+}
+
 /// A text, and the number and the place of its fault; zeros for a text that is read.
-pub type Row = (&'static [u8], u8, usize);
+pub type Row = (&'static str, u8, usize);
 
 pub fn have_faults(rt: &impl Abort, alloc: Global, kind: &Kind, rows: &[Row]) {
     for (text, number, place) in rows {
-        require_fault(rt, fault_of(alloc, kind, text), (*number, *place), text);
+        has_fault(rt, alloc, kind, text.as_bytes(), (*number, *place));
     }
 }
+
+/// The same of texts that aren't UTF-8.
+pub type BytesRow = (&'static [u8], u8, usize);
+
+pub fn bytes_have_faults(rt: &impl Abort, alloc: Global, kind: &Kind, rows: &[BytesRow]) {
+    for (text, number, place) in rows {
+        has_fault(rt, alloc, kind, text, (*number, *place));
+    }
+}
+
+/// So much of a long text that a row is known by it.
+pub fn front_of(text: &str) -> &[u8] {
+    text.as_bytes().get(..FRONT).unwrap_or(text.as_bytes())
+}
+
+const FRONT: usize = 80;
 
 /// The parts of a text, and the number and the place of its fault; zeros for a text that is read.
 pub type LongRow = (&'static [Part], u8, usize);
@@ -113,10 +134,7 @@ pub type LongRow = (&'static [Part], u8, usize);
 pub fn long_texts_have_faults(rt: &impl Abort, alloc: Global, kind: &Kind, rows: &[LongRow]) {
     for (parts, number, place) in rows {
         let text = repeated(rt, alloc, *parts);
-        assert_eq!(rt;
-            fault_of(alloc, kind, &text),
-            (*number, *place),
-            "{parts:?}"
-        );
+        let fault = fault_of(alloc, kind, text.as_bytes());
+        require_fault(rt, fault, (*number, *place), front_of(&text));
     }
 }

@@ -110,8 +110,7 @@ static GREATEST: &'static str =
 fn longest_text(rt: &impl Abort, alloc: Global, length: usize) -> String {
     let nodes = numbered(rt, alloc, GREATEST, 0, 4096);
     let names = numbered(rt, alloc, "@\n", 1000, 4094);
-    let tail = repeated(rt, alloc, &[(b"n", length)]);
-    let tail = String::from_utf8(tail).expect(rt, "text");
+    let tail = repeated(rt, alloc, &[("n", length)]);
     let text = format!(in alloc;
         "sedck 2\ncommands 4095\n{nodes}read 4095\n{names}5094\nwrite 4095\n{names}5094{tail}\nend\n"
     );

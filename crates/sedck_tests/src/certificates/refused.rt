@@ -1,26 +1,39 @@
 //! Texts that are no certificates: the number of the fault and its line.
 use super::{ENDLESS, NAMED};
-use crate::texts::{Kind, LongRow, fault_of, long_texts_have_faults, require_count, require_fault};
+use crate::texts::{Kind, LongRow, has_fault, long_texts_have_faults, require_count};
 use bstr::ByteSlice;
 use std::alloc::Global;
 use std::process::Abort;
 
 /// A part of a text, what replaces it, and the number and the line of the fault; zeros for none.
-pub type Row = (&'static [u8], &'static [u8], u8, usize);
+pub type Row = (&'static str, &'static str, u8, usize);
 
 /// Whether the text has this fault by the reader of its version, and by the reader of both.
-fn has_fault(rt: &impl Abort, alloc: Global, kind: &Kind, text: &[u8], fault: (u8, usize)) {
-    require_fault(rt, fault_of(alloc, kind, text), fault, text);
-    let found = fault_of(alloc, &Kind::Certificate, text);
-    require_fault(rt, found, fault, text);
+fn is_refused(rt: &impl Abort, alloc: Global, kind: &Kind, text: &[u8], fault: (u8, usize)) {
+    has_fault(rt, alloc, kind, text, fault);
+    has_fault(rt, alloc, &Kind::Certificate, text, fault);
 }
 
 /// Whether the changed texts have these faults by the reader of their version, and by the reader of both.
 pub fn changed_have_faults(rt: &impl Abort, alloc: Global, kind: &Kind, text: &[u8], rows: &[Row]) {
     for (old, new, number, line) in rows {
-        let text = text.replace(alloc, *old, *new).expect(rt, "memory");
-        has_fault(rt, alloc, kind, &text, (*number, *line));
+        let fault = (*number, *line);
+        changed_has_fault(rt, alloc, kind, text, old.as_bytes(), new.as_bytes(), fault);
     }
+}
+
+/// The same of one changed part.
+pub fn changed_has_fault(
+    rt: &impl Abort,
+    alloc: Global,
+    kind: &Kind,
+    text: &[u8],
+    old: &[u8],
+    new: &[u8],
+    fault: (u8, usize),
+) {
+    let text = text.replace(alloc, old, new).expect(rt, "memory");
+    is_refused(rt, alloc, kind, &text, fault);
 }
 
 /// The first and the last size that has a fault, its number, and its line.
@@ -31,57 +44,56 @@ pub fn cut_have_faults(rt: &impl Abort, alloc: Global, kind: &Kind, text: &[u8],
     for (first, last, number, line) in rows {
         assert!(rt; *last < text.len());
         for size in *first..*last + 1 {
-            has_fault(rt, alloc, kind, &text[..size], (*number, *line));
+            is_refused(rt, alloc, kind, &text[..size], (*number, *line));
         }
     }
 }
 
 static CHANGED: [Row; 32] = [
-    (b"0 0 1 2 2\n0 1 0 -\n", b"0 1 0 -\n0 0 1 2 2\n", 3, 4),
-    (b"0 0 0 2 2\n0 0 1 2 2\n", b"0 0 1 2 2\n0 0 0 2 2\n", 3, 3),
-    (b"sedck 2\n", b"sedck 2\r\n", 1, 1),
-    (b"sedck 2\n", b"sedck 3\n", 1, 1),
-    (b"sedck 2\n", b"sedck 02\n", 1, 1),
-    (b"0 0 0 2 2\n", b"0 0 0 02 2\n", 3, 3),
-    (b"0 0 0 2 2\n", b"0 0 0 2 02\n", 3, 3),
-    (b"0 0 0 2 2\n", b"0 0  0 2 2\n", 3, 3),
-    (b"0 0 0 2 2\n", b"0 0 0 2 2 \n", 3, 3),
-    (b"0 0 0 2 2\n", b"0 0 0 +2 2\n", 3, 3),
+    ("0 0 1 2 2\n0 1 0 -\n", "0 1 0 -\n0 0 1 2 2\n", 3, 4),
+    ("0 0 0 2 2\n0 0 1 2 2\n", "0 0 1 2 2\n0 0 0 2 2\n", 3, 3),
+    ("sedck 2\n", "sedck 2\r\n", 1, 1),
+    ("sedck 2\n", "sedck 3\n", 1, 1),
+    ("sedck 2\n", "sedck 02\n", 1, 1),
+    ("0 0 0 2 2\n", "0 0 0 02 2\n", 3, 3),
+    ("0 0 0 2 2\n", "0 0 0 2 02\n", 3, 3),
+    ("0 0 0 2 2\n", "0 0  0 2 2\n", 3, 3),
+    ("0 0 0 2 2\n", "0 0 0 2 2 \n", 3, 3),
+    ("0 0 0 2 2\n", "0 0 0 +2 2\n", 3, 3),
     // the last line is missing, as in version 1
-    (b"0 0 0 2 2\n", b"0 0 2 2\n", 3, 3),
-    (b"0 1 0 -\n", b"0 1 -\n", 3, 5),
-    (b"0 0 0 2 2\n", b"0 0 0 2\n", 3, 3),
-    (b"0 0 0 2 2\n", b"0 0 0 2 2 2\n", 3, 3),
-    (b"0 0 0 2 2\n", b"0 1 0 2 2\n", 3, 3),
-    (b"0 0 0 2 2\n", b"0 0 1 2 2\n", 3, 3),
-    (b"0 0 1 2 2\n", b"0 0 2 2 2\n", 3, 4),
-    (b"0 0 1 2 2\n", b"0 0 01 2 2\n", 3, 4),
-    (b"0 1 0 -\n", b"0 1 0 - 1\n", 3, 5),
-    (b"0 1 0 -\n", b"0 1 0\n", 3, 5),
-    (b"1 0 0 1 1\n", b"01 0 0 1 1\n", 3, 7),
-    (b"sedck 2\n", b"sedck  2\n", 1, 1),
-    (b"sedck 2\n", b"Sedck 2\n", 1, 1),
-    (b"commands 3\n", b"commands 03\n", 2, 2),
-    (b"commands 3\n", b"command 3\n", 2, 2),
-    (b"read 0\n", b"read 00\n", 4, 19),
-    (b"read 0\n", b"read 1\n", 4, 21),
-    (b"write 0\n", b"write -\n", 4, 20),
-    (b"end\n", b"end \n", 5, 21),
-    (b"end\n", b"end\nend\n", 5, 22),
-    (b"end\n", b"end\n\n", 5, 22),
-    (b"end\n", b"end", 5, 21),
+    ("0 0 0 2 2\n", "0 0 2 2\n", 3, 3),
+    ("0 1 0 -\n", "0 1 -\n", 3, 5),
+    ("0 0 0 2 2\n", "0 0 0 2\n", 3, 3),
+    ("0 0 0 2 2\n", "0 0 0 2 2 2\n", 3, 3),
+    ("0 0 0 2 2\n", "0 1 0 2 2\n", 3, 3),
+    ("0 0 0 2 2\n", "0 0 1 2 2\n", 3, 3),
+    ("0 0 1 2 2\n", "0 0 2 2 2\n", 3, 4),
+    ("0 0 1 2 2\n", "0 0 01 2 2\n", 3, 4),
+    ("0 1 0 -\n", "0 1 0 - 1\n", 3, 5),
+    ("0 1 0 -\n", "0 1 0\n", 3, 5),
+    ("1 0 0 1 1\n", "01 0 0 1 1\n", 3, 7),
+    ("sedck 2\n", "sedck  2\n", 1, 1),
+    ("sedck 2\n", "Sedck 2\n", 1, 1),
+    ("commands 3\n", "commands 03\n", 2, 2),
+    ("commands 3\n", "command 3\n", 2, 2),
+    ("read 0\n", "read 00\n", 4, 19),
+    ("read 0\n", "read 1\n", 4, 21),
+    ("write 0\n", "write -\n", 4, 20),
+    ("end\n", "end \n", 5, 21),
+    ("end\n", "end\nend\n", 5, 22),
+    ("end\n", "end\n\n", 5, 22),
+    ("end\n", "end", 5, 21),
 ];
 
-static CHANGED_NAMES: [Row; 9] = [
-    (b"read 6\n", b"read 06\n", 4, 31),
-    (b"read 6\n", b"read 5\n", 4, 37),
-    (b"read 6\n", b"read 7\n", 4, 38),
-    (b"\nZ\n", b"\n\n", 4, 32),
-    (b"\nZ\n", b"\nZ\0\n", 4, 32),
-    (b"\nZ\na\n", b"\na\na\n", 4, 33),
-    (b"end\n\xe9\n", b"\xe9\nend\n", 4, 37),
-    (b"a b \na;b}\n", b"a;b}\na b \n", 4, 35),
-    (b"write 0\n", b"write 1\n", 5, 40),
+static CHANGED_NAMES: [Row; 8] = [
+    ("read 6\n", "read 06\n", 4, 31),
+    ("read 6\n", "read 5\n", 4, 37),
+    ("read 6\n", "read 7\n", 4, 38),
+    ("\nZ\n", "\n\n", 4, 32),
+    ("\nZ\n", "\nZ\0\n", 4, 32),
+    ("\nZ\na\n", "\na\na\n", 4, 33),
+    ("a b \na;b}\n", "a;b}\na b \n", 4, 35),
+    ("write 0\n", "write 1\n", 5, 40),
 ];
 
 /// The certificate of the script without commands.
@@ -89,19 +101,19 @@ static EMPTY: &'static [u8] =
     b"sedck 2\ncommands 0\n0 0 0 1 1\n0 0 1 1 1\n0 1 0 -\n0 1 1 -\nread 0\nwrite 0\nend\n";
 
 static NUMBERS: [Row; 12] = [
-    (b"write 0\n", b"write 2\nb\na\n", 4, 10),
-    (b"write 0\n", b"write 2\na\na\n", 4, 10),
+    ("write 0\n", "write 2\nb\na\n", 4, 10),
+    ("write 0\n", "write 2\na\na\n", 4, 10),
     // the last line is a name here
-    (b"write 0\n", b"write 2\na\n", 5, 11),
-    (b"commands 0\n", b"commands 4096\n", 2, 2),
-    (b"commands 0\n", b"commands 00\n", 2, 2),
-    (b"commands 0\n", b"commands 4095\n", 3, 7),
-    (b"0 0 0 1 1\n", b"0 0 0 65536 1\n", 3, 3),
-    (b"0 0 1 1 1\n", b"0 0 1 1 65536\n", 3, 4),
-    (b"0 0 0 1 1\n", b"0 0 0 18446744073709551617 1\n", 3, 3),
-    (b"0 0 0 1 1\n", b"0 0 0 65535 65535\n", 0, 0),
-    (b"read 0\n", b"read 4096\n", 4, 7),
-    (b"write 0\n", b"write 4096\n", 4, 8),
+    ("write 0\n", "write 2\na\n", 5, 11),
+    ("commands 0\n", "commands 4096\n", 2, 2),
+    ("commands 0\n", "commands 00\n", 2, 2),
+    ("commands 0\n", "commands 4095\n", 3, 7),
+    ("0 0 0 1 1\n", "0 0 0 65536 1\n", 3, 3),
+    ("0 0 1 1 1\n", "0 0 1 1 65536\n", 3, 4),
+    ("0 0 0 1 1\n", "0 0 0 18446744073709551617 1\n", 3, 3),
+    ("0 0 0 1 1\n", "0 0 0 65535 65535\n", 0, 0),
+    ("read 0\n", "read 4096\n", 4, 7),
+    ("write 0\n", "write 4096\n", 4, 8),
 ];
 
 #[test]
@@ -115,6 +127,17 @@ fn changed_texts(rt: HostRuntime) {
         &CHANGED_NAMES,
     );
     changed_have_faults(&rt, rt.alloc(), &Kind::CertificateTwo, EMPTY, &NUMBERS);
+    // names that aren't UTF-8
+    let (old, new) = (b"end\n\xe9\n", b"\xe9\nend\n");
+    changed_has_fault(
+        &rt,
+        rt.alloc(),
+        &Kind::CertificateTwo,
+        NAMED,
+        old,
+        new,
+        (4, 37),
+    );
 }
 
 static CUTS: [Cut; 21] = [
@@ -142,27 +165,27 @@ static CUTS: [Cut; 21] = [
 ];
 
 /// What is before the lists where there is no command, and the line of the names that are read.
-const HEAD: &[u8] = b"sedck 2\ncommands 0\n0 0 0 1 1\n0 0 1 1 1\n0 1 0 -\n0 1 1 -\nread 1\n";
+const HEAD: &str = "sedck 2\ncommands 0\n0 0 0 1 1\n0 0 1 1 1\n0 1 0 -\n0 1 1 -\nread 1\n";
 
 /// The line of the names that are written.
-const WRITE: &[u8] = b"\nwrite 1\n";
+const WRITE: &str = "\nwrite 1\n";
 
-const END: &[u8] = b"\nend\n";
+const END: &str = "\nend\n";
 
 /// What is before a name that is written, where none is read.
-const WRITES: &[u8] =
-    b"sedck 2\ncommands 0\n0 0 0 1 1\n0 0 1 1 1\n0 1 0 -\n0 1 1 -\nread 0\nwrite 1\n";
+const WRITES: &str =
+    "sedck 2\ncommands 0\n0 0 0 1 1\n0 0 1 1 1\n0 1 0 -\n0 1 1 -\nread 0\nwrite 1\n";
 
 /// A long name written, and long names in both lists.
 static NAMES: [LongRow; 7] = [
-    (&[(WRITES, 1), (b"n", 1_048_575), (END, 1)], 0, 0),
-    (&[(WRITES, 1), (b"n", 1_048_576), (END, 1)], 4, 9),
+    (&[(WRITES, 1), ("n", 1_048_575), (END, 1)], 0, 0),
+    (&[(WRITES, 1), ("n", 1_048_576), (END, 1)], 4, 9),
     (
         &[
             (HEAD, 1),
-            (b"n", 524_287),
+            ("n", 524_287),
             (WRITE, 1),
-            (b"n", 524_287),
+            ("n", 524_287),
             (END, 1),
         ],
         0,
@@ -171,9 +194,9 @@ static NAMES: [LongRow; 7] = [
     (
         &[
             (HEAD, 1),
-            (b"n", 524_287),
+            ("n", 524_287),
             (WRITE, 1),
-            (b"n", 524_288),
+            ("n", 524_288),
             (END, 1),
         ],
         4,
@@ -182,33 +205,21 @@ static NAMES: [LongRow; 7] = [
     (
         &[
             (HEAD, 1),
-            (b"n", 524_288),
+            ("n", 524_288),
             (WRITE, 1),
-            (b"n", 524_287),
+            ("n", 524_287),
             (END, 1),
         ],
         4,
         10,
     ),
     (
-        &[
-            (HEAD, 1),
-            (b"n", 1_048_573),
-            (WRITE, 1),
-            (b"n", 1),
-            (END, 1),
-        ],
+        &[(HEAD, 1), ("n", 1_048_573), (WRITE, 1), ("n", 1), (END, 1)],
         0,
         0,
     ),
     (
-        &[
-            (HEAD, 1),
-            (b"n", 1_048_576),
-            (WRITE, 1),
-            (b"n", 1),
-            (END, 1),
-        ],
+        &[(HEAD, 1), ("n", 1_048_576), (WRITE, 1), ("n", 1), (END, 1)],
         4,
         8,
     ),

@@ -1,7 +1,7 @@
 //! Certificates of version 1: what they are read as.
 use super::read::text_of;
 use super::{ENDLESS, ENDLESS_ONE, NAMED, NAMED_ONE};
-use crate::texts::{Kind, fault_of, numbered, require_bytes, require_fault};
+use crate::texts::{Kind, has_fault, numbered, require_bytes};
 use sedck_cert::{read_any, read_cert_one, upgrade};
 use std::alloc::Global;
 use std::process::Abort;
@@ -28,19 +28,14 @@ fn is_upgraded(rt: &impl Abort, alloc: Global, one: &[u8], two: &[u8]) {
     is_read_as(rt, alloc, one, two);
     is_read_as(rt, alloc, two, two);
     // neither is read as the other version
-    require_fault(rt, fault_of(alloc, &Kind::CertificateOne, two), (1, 1), two);
-    require_fault(rt, fault_of(alloc, &Kind::CertificateTwo, one), (1, 1), one);
+    has_fault(rt, alloc, &Kind::CertificateOne, two, (1, 1));
+    has_fault(rt, alloc, &Kind::CertificateTwo, one, (1, 1));
 }
 
 /// Whether the text of these two parts has fault 3 in line 3.
 fn require_joined_fault(rt: &impl Abort, alloc: Global, first: &[u8], second: &[u8]) {
     let text = [first, second].concat(alloc).expect(rt, "memory");
-    require_fault(
-        rt,
-        fault_of(alloc, &Kind::Certificate, &text),
-        (3, 3),
-        &text,
-    );
+    has_fault(rt, alloc, &Kind::Certificate, &text, (3, 3));
 }
 
 static UPGRADED: [(&'static [u8], &'static [u8]); 2] = [

@@ -243,8 +243,7 @@ static LIMITS: [(Engine, bool, usize, usize, &'static str); 7] = [
 
 #[test]
 fn limits(rt: HostRuntime) {
-    let long = repeated(&rt, rt.alloc(), &[(b"\n", 1_700_000)]);
-    let long = String::from_utf8(long).expect(&rt, "text");
+    let long = repeated(&rt, rt.alloc(), &[("\n", 1_700_000)]);
     for (engine, is_certificate, script_end, certificate_end, fault) in &LIMITS {
         let texts = if *is_certificate {
             ("", long.as_str())

@@ -32,12 +32,12 @@ fn upgraded(alloc: Global, text: &[u8]) -> Result<Vec<u8>, RunFault>
 }
 
 /// A script, and its lists.
-static LISTS: [(&'static [u8], &'static str); 2] = [
+static LISTS: [(&'static str, &'static str); 2] = [
     (
-        b"s/a/b/w out.txt\nq\nw log",
+        "s/a/b/w out.txt\nq\nw log",
         "read 0\nwrite 2\nlog\nout.txt\n",
     ),
-    (b"r x\nr x", "read 1\nx\nwrite 0\n"),
+    ("r x\nr x", "read 1\nx\nwrite 0\n"),
 ];
 
 /// The certificate of the empty script in each version, and what it is upgraded to.
@@ -57,7 +57,8 @@ fn is_reported(rt: &impl Abort, report: Result<Vec<u8>, RunFault>, wanted: &[u8]
 #[test]
 fn known_bytes(rt: HostRuntime) {
     for (text, lists) in &LISTS {
-        is_reported(&rt, files_of(rt.alloc(), text), lists.as_bytes());
+        let report = files_of(rt.alloc(), text.as_bytes());
+        is_reported(&rt, report, lists.as_bytes());
     }
     for (text, upgraded_text) in &UPGRADES {
         let report = upgraded(rt.alloc(), text.as_bytes());

@@ -41,61 +41,61 @@ fn least_outside(expression: &Expr, wanted: [bool; 4]) -> u32 {
 }
 
 /// An expression, which of the groups 1, 2, 3 and 9 are left out, and the least length of what else is matched.
-type Row = (&'static [u8], [bool; 4], u32);
+type Row = (&'static str, [bool; 4], u32);
 
 static OUTSIDE: [Row; 17] = [
-    (b"\\(.*\\)  \\(.*\\)", [true, true, false, false], 2),
-    (b"\\(.*\\)  \\(.*\\)", [false, true, false, false], 2),
-    (b"\\(.*\\)  \\(.*\\)", [false, false, false, false], 2),
+    ("\\(.*\\)  \\(.*\\)", [true, true, false, false], 2),
+    ("\\(.*\\)  \\(.*\\)", [false, true, false, false], 2),
+    ("\\(.*\\)  \\(.*\\)", [false, false, false, false], 2),
     // what a reference to the group matches lies outside of it
-    (b"\\(ab\\)c\\1", [true, false, false, false], 3),
-    (b"\\(ab\\)c\\1", [false, false, false, false], 5),
-    (b"x\\(a\\{3\\}\\)\\(b\\)", [false, true, false, false], 4),
-    (b"x\\(a\\{3\\}\\)\\(b\\)", [true, true, false, false], 1),
-    (b"x\\(a\\{3\\}\\)\\(b\\)", [true, false, false, false], 2),
-    (b"x\\(a\\{3\\}\\)\\(b\\)", [false, false, false, false], 5),
-    (b"\\(\\(a\\)\\)b", [true, false, false, false], 1),
-    (b"\\(\\(a\\)b\\)c\\(d\\)", [true, false, true, false], 1),
-    (b"\\(a\\)\\(b\\)\\(c\\)", [true, true, true, false], 0),
-    (b"a*\\(b\\)c\\{2,\\}", [true, false, false, false], 2),
+    ("\\(ab\\)c\\1", [true, false, false, false], 3),
+    ("\\(ab\\)c\\1", [false, false, false, false], 5),
+    ("x\\(a\\{3\\}\\)\\(b\\)", [false, true, false, false], 4),
+    ("x\\(a\\{3\\}\\)\\(b\\)", [true, true, false, false], 1),
+    ("x\\(a\\{3\\}\\)\\(b\\)", [true, false, false, false], 2),
+    ("x\\(a\\{3\\}\\)\\(b\\)", [false, false, false, false], 5),
+    ("\\(\\(a\\)\\)b", [true, false, false, false], 1),
+    ("\\(\\(a\\)b\\)c\\(d\\)", [true, false, true, false], 1),
+    ("\\(a\\)\\(b\\)\\(c\\)", [true, true, true, false], 0),
+    ("a*\\(b\\)c\\{2,\\}", [true, false, false, false], 2),
     (
-        b"a\\(\\)\\(\\)\\(\\)\\(\\)\\(\\)\\(\\)\\(\\)\\(\\)\\(bb\\)\\9",
+        "a\\(\\)\\(\\)\\(\\)\\(\\)\\(\\)\\(\\)\\(\\)\\(\\)\\(bb\\)\\9",
         [true, true, true, true],
         3,
     ),
     (
-        b"a\\(\\)\\(\\)\\(\\)\\(\\)\\(\\)\\(\\)\\(\\)\\(\\)\\(bb\\)\\9",
+        "a\\(\\)\\(\\)\\(\\)\\(\\)\\(\\)\\(\\)\\(\\)\\(\\)\\(bb\\)\\9",
         [true, true, true, false],
         5,
     ),
     // the cap, with and without the group
     (
-        b"\\(\\(\\(a\\{255\\}\\)\\{255\\}\\)\\{255\\}\\)b",
+        "\\(\\(\\(a\\{255\\}\\)\\{255\\}\\)\\{255\\}\\)b",
         [true, false, false, false],
         1,
     ),
     (
-        b"\\(b\\)\\(\\(\\(a\\{255\\}\\)\\{255\\}\\)\\{255\\}\\)\\{2\\}",
+        "\\(b\\)\\(\\(\\(a\\{255\\}\\)\\{255\\}\\)\\{255\\}\\)\\{2\\}",
         [true, false, false, false],
         16777215,
     ),
 ];
 
 /// An expression, and which of the groups 1, 2, 3 and 9 are items of it.
-static ITEMS: [(&'static [u8], [bool; 4]); 10] = [
-    (b"\\(.*\\)  \\(.*\\)", [true, true, false, false]),
-    (b"\\(ab\\)c\\1", [true, false, false, false]),
-    (b"x\\(a\\{3\\}\\)\\(b\\)", [true, true, false, false]),
-    (b"ab", [false, false, false, false]),
+static ITEMS: [(&'static str, [bool; 4]); 10] = [
+    ("\\(.*\\)  \\(.*\\)", [true, true, false, false]),
+    ("\\(ab\\)c\\1", [true, false, false, false]),
+    ("x\\(a\\{3\\}\\)\\(b\\)", [true, true, false, false]),
+    ("ab", [false, false, false, false]),
     // in another group
-    (b"\\(\\(a\\)\\)b", [true, false, false, false]),
-    (b"\\(\\(a\\)b\\)c\\(d\\)", [true, false, true, false]),
+    ("\\(\\(a\\)\\)b", [true, false, false, false]),
+    ("\\(\\(a\\)b\\)c\\(d\\)", [true, false, true, false]),
     // repeated, also once
-    (b"\\(ab\\)*c", [false, false, false, false]),
-    (b"\\(ab\\)\\{1\\}c", [false, false, false, false]),
-    (b"\\(a\\)\\(b\\)*\\(c\\)", [true, false, true, false]),
+    ("\\(ab\\)*c", [false, false, false, false]),
+    ("\\(ab\\)\\{1\\}c", [false, false, false, false]),
+    ("\\(a\\)\\(b\\)*\\(c\\)", [true, false, true, false]),
     (
-        b"a\\(\\)\\(\\)\\(\\)\\(\\)\\(\\)\\(\\)\\(\\)\\(\\)\\(bb\\)\\9",
+        "a\\(\\)\\(\\)\\(\\)\\(\\)\\(\\)\\(\\)\\(\\)\\(\\)\\(bb\\)\\9",
         [true, true, true, true],
     ),
 ];
@@ -110,6 +110,7 @@ fn expression_of(rt: &impl Abort, alloc: Global, text: &[u8]) -> Expr {
 #[test]
 fn items(rt: HostRuntime) {
     for (text, wanted) in &ITEMS {
+        let text = text.as_bytes();
         let expression = expression_of(&rt, rt.alloc(), text);
         for (k, is_item) in [1, 2, 3, 9].iter().zip(wanted) {
             require(&rt, expression.top_group(*k) == *is_item, text);
@@ -127,6 +128,7 @@ fn items(rt: HostRuntime) {
 #[test]
 fn lengths_outside(rt: HostRuntime) {
     for (text, wanted, least) in &OUTSIDE {
+        let text = text.as_bytes();
         let expression = expression_of(&rt, rt.alloc(), text);
         let outside = least_outside(&expression, *wanted);
         require_count(&rt, outside as usize, *least as usize, text);

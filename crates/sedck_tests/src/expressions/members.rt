@@ -1,8 +1,31 @@
 //! The members of bracket lists, byte by byte, and the bytes of escapes.
-use crate::texts::{Kind, fault_of, require, require_fault};
+use crate::texts::{Kind, has_fault, require};
 use sedck_bre::{Bre, parse};
 use std::alloc::Global;
 use std::process::Abort;
+
+/// Whether the byte is in a range.
+fn is_in(ranges: &[(u8, u8)], byte: u8) -> bool {
+    for (first, last) in ranges {
+        if *first <= byte && byte <= *last {
+            return true;
+        }
+    }
+    false
+}
+
+/// Whether the set has just the bytes of the ranges, or just the others.
+fn is_set(words: &[u64; 4], ranges: &[(u8, u8)], complement: bool) -> bool {
+    for byte in 0..=255u8 {
+        let word = words[usize::from(byte / 64)];
+        let is_member = (word >> (byte % 64)) & 1 == 1;
+        let is_wanted = is_in(ranges, byte) != complement;
+        if is_member != is_wanted {
+            return false;
+        }
+    }
+    true
+}
 
 /// Whether the text is one bracket list with just these members.
 fn has_members(alloc: Global, text: &[u8], ranges: &[(u8, u8)], complement: bool) -> bool {
@@ -12,97 +35,85 @@ fn has_members(alloc: Global, text: &[u8], ranges: &[(u8, u8)], complement: bool
     let Bre::Seq(items) = expression.body() else {
         return false;
     };
-    let [Bre::Set(set)] = items.as_slice() else {
-        return false;
-    };
-    let words = set.0;
-    for byte in 0..=255u8 {
-        let mut wanted = complement;
-        for (first, last) in ranges {
-            if *first <= byte && byte <= *last {
-                wanted = !complement;
-            }
-        }
-        let word = words[usize::from(byte / 64)];
-        if ((word >> (byte % 64)) & 1 == 1) != wanted {
-            return false;
-        }
+    match items.as_slice() {
+        [Bre::Set(set)] => is_set(&set.0, ranges, complement),
+        _ => false,
     }
-    true
 }
 
 /// A bracket list, the ranges in it, and whether they are what it leaves out.
-type Row = (&'static [u8], &'static [(u8, u8)], bool);
+type Row = (&'static str, &'static [(u8, u8)], bool);
 
 fn have_members(rt: &impl Abort, alloc: Global, rows: &[Row]) {
     for (text, ranges, complement) in rows {
-        assert!(rt; has_members(alloc, text, ranges, *complement), "{text:?}");
+        let text = text.as_bytes();
+        require(rt, has_members(alloc, text, ranges, *complement), text);
     }
 }
 
 static CLASSES: [Row; 12] = [
-    (b"[[:upper:]]", &[(b'A', b'Z')], false),
-    (b"[[:lower:]]", &[(b'a', b'z')], false),
-    (b"[[:alpha:]]", &[(b'A', b'Z'), (b'a', b'z')], false),
-    (b"[[:digit:]]", &[(b'0', b'9')], false),
+    ("[[:upper:]]", &[(b'A', b'Z')], false),
+    ("[[:lower:]]", &[(b'a', b'z')], false),
+    ("[[:alpha:]]", &[(b'A', b'Z'), (b'a', b'z')], false),
+    ("[[:digit:]]", &[(b'0', b'9')], false),
     (
-        b"[[:alnum:]]",
+        "[[:alnum:]]",
         &[(b'A', b'Z'), (b'a', b'z'), (b'0', b'9')],
         false,
     ),
     (
-        b"[[:xdigit:]]",
+        "[[:xdigit:]]",
         &[(b'0', b'9'), (b'A', b'F'), (b'a', b'f')],
         false,
     ),
-    (b"[[:space:]]", &[(9, 13), (32, 32)], false),
-    (b"[[:blank:]]", &[(9, 9), (32, 32)], false),
+    ("[[:space:]]", &[(9, 13), (32, 32)], false),
+    ("[[:blank:]]", &[(9, 9), (32, 32)], false),
     (
-        b"[[:punct:]]",
+        "[[:punct:]]",
         &[(33, 47), (58, 64), (91, 96), (123, 126)],
         false,
     ),
-    (b"[[:graph:]]", &[(33, 126)], false),
-    (b"[[:print:]]", &[(32, 126)], false),
-    (b"[[:cntrl:]]", &[(0, 31), (127, 127)], false),
+    ("[[:graph:]]", &[(33, 126)], false),
+    ("[[:print:]]", &[(32, 126)], false),
+    ("[[:cntrl:]]", &[(0, 31), (127, 127)], false),
 ];
 
-static LISTS: [Row; 35] = [
-    (b"[]]", &[(b']', b']')], false),
-    (b"[^]]", &[(b']', b']')], true),
-    (b"[]a]", &[(b']', b']'), (b'a', b'a')], false),
-    (b"[a-]", &[(b'a', b'a'), (b'-', b'-')], false),
-    (b"[-a]", &[(b'a', b'a'), (b'-', b'-')], false),
-    (b"[^-a]", &[(b'a', b'a'), (b'-', b'-')], true),
-    (b"[-]", &[(b'-', b'-')], false),
-    (b"[--/]", &[(b'-', b'/')], false),
-    (b"[+--]", &[(b'+', b'-')], false),
-    (b"[]-a]", &[(b']', b'a')], false),
-    (b"[a-c-]", &[(b'a', b'c'), (b'-', b'-')], false),
-    (b"[[.=.]]", &[(b'=', b'=')], false),
-    (b"[[=.=]]", &[(b'.', b'.')], false),
-    (b"[][]", &[(b'[', b'['), (b']', b']')], false),
-    (b"[\\f]", &[(b'\\', b'\\'), (b'f', b'f')], false),
-    (b"[[.].]]", &[(b']', b']')], false),
-    (b"[[.-.]-a]", &[(b'-', b'a')], false),
-    (b"[[=]=]]", &[(b']', b']')], false),
-    (b"[[=a=]b]", &[(b'a', b'b')], false),
-    (b"[[.a.]-c]", &[(b'a', b'c')], false),
-    (b"[a-[.c.]]", &[(b'a', b'c')], false),
-    (b"[\\n-a]", &[(10, b'a')], false),
-    (b"[\\\\-a]", &[(b'\\', b'a')], false),
-    (b"[\\n]", &[(10, 10)], false),
-    (b"[\\\\n]", &[(b'\\', b'\\'), (b'n', b'n')], false),
-    (b"[\\]", &[(b'\\', b'\\')], false),
-    (b"[\\t]", &[(b'\\', b'\\'), (b't', b't')], false),
-    (b"[[a]", &[(b'[', b'['), (b'a', b'a')], false),
-    (b"[a[]", &[(b'[', b'['), (b'a', b'a')], false),
-    (b"[\0]", &[(0, 0)], false),
-    (b"[^a]", &[(b'a', b'a')], true),
-    (b"[a-a]", &[(b'a', b'a')], false),
-    (b"[^^]", &[(b'^', b'^')], true),
+static LISTS: [Row; 34] = [
+    ("[]]", &[(b']', b']')], false),
+    ("[^]]", &[(b']', b']')], true),
+    ("[]a]", &[(b']', b']'), (b'a', b'a')], false),
+    ("[a-]", &[(b'a', b'a'), (b'-', b'-')], false),
+    ("[-a]", &[(b'a', b'a'), (b'-', b'-')], false),
+    ("[^-a]", &[(b'a', b'a'), (b'-', b'-')], true),
+    ("[-]", &[(b'-', b'-')], false),
+    ("[--/]", &[(b'-', b'/')], false),
+    ("[+--]", &[(b'+', b'-')], false),
+    ("[]-a]", &[(b']', b'a')], false),
+    ("[a-c-]", &[(b'a', b'c'), (b'-', b'-')], false),
+    ("[[.=.]]", &[(b'=', b'=')], false),
+    ("[[=.=]]", &[(b'.', b'.')], false),
+    ("[][]", &[(b'[', b'['), (b']', b']')], false),
+    ("[\\f]", &[(b'\\', b'\\'), (b'f', b'f')], false),
+    ("[[.].]]", &[(b']', b']')], false),
+    ("[[.-.]-a]", &[(b'-', b'a')], false),
+    ("[[=]=]]", &[(b']', b']')], false),
+    ("[[=a=]b]", &[(b'a', b'b')], false),
+    ("[[.a.]-c]", &[(b'a', b'c')], false),
+    ("[a-[.c.]]", &[(b'a', b'c')], false),
+    ("[\\n-a]", &[(10, b'a')], false),
+    ("[\\\\-a]", &[(b'\\', b'a')], false),
+    ("[\\n]", &[(10, 10)], false),
+    ("[\\\\n]", &[(b'\\', b'\\'), (b'n', b'n')], false),
+    ("[\\]", &[(b'\\', b'\\')], false),
+    ("[\\t]", &[(b'\\', b'\\'), (b't', b't')], false),
+    ("[[a]", &[(b'[', b'['), (b'a', b'a')], false),
+    ("[a[]", &[(b'[', b'['), (b'a', b'a')], false),
+    ("[\0]", &[(0, 0)], false),
+    ("[^a]", &[(b'a', b'a')], true),
+    ("[a-a]", &[(b'a', b'a')], false),
+    ("[^^]", &[(b'^', b'^')], true),
     (
-        b"[:alpha:]",
+        "[:alpha:]",
         &[
             (b':', b':'),
             (b'a', b'a'),
@@ -112,13 +123,14 @@ static LISTS: [Row; 35] = [
         ],
         false,
     ),
-    (b"[\0-\xff]", &[(0, 255)], false),
 ];
 
 #[test]
 fn members(rt: HostRuntime) {
     have_members(&rt, rt.alloc(), &CLASSES);
     have_members(&rt, rt.alloc(), &LISTS);
+    let all = b"[\0-\xff]";
+    require(&rt, has_members(rt.alloc(), all, &[(0, 255)], false), all);
 }
 
 /// Whether the text is the one byte.
@@ -157,8 +169,7 @@ fn bytes(rt: HostRuntime) {
     for byte in 0..=255u8 {
         if !KNOWN.contains(&byte) {
             let text = [b'a', b'\\', byte];
-            let fault = fault_of(rt.alloc(), &Kind::Expression, &text);
-            require_fault(&rt, fault, (2, 1), &text);
+            has_fault(&rt, rt.alloc(), &Kind::Expression, &text, (2, 1));
         }
         if !b".[\\^$".contains(&byte) {
             means(&rt, rt.alloc(), &[byte], byte);

@@ -4,30 +4,30 @@ use sedck_script::{Location, locate};
 use std::process::Abort;
 
 /// A text, and the start, the verb and the end of each command.
-type Row = (&'static [u8], &'static [(usize, usize, usize)]);
+type Row = (&'static str, &'static [(usize, usize, usize)]);
 
 static SCRIPTS: [Row; 18] = [
-    (b"", &[]),
-    (b"p", &[(0, 0, 1)]),
-    (b" \n;p ", &[(3, 3, 5)]),
-    (b"p;p\np", &[(0, 0, 1), (2, 2, 3), (4, 4, 5)]),
-    (b"1,$!  p", &[(0, 6, 7)]),
-    (b"/a}/ ! !d ;x", &[(0, 8, 10), (11, 11, 12)]),
-    (b"!p", &[(0, 1, 2)]),
-    (b"\\,a\\,,p", &[(0, 6, 7)]),
+    ("", &[]),
+    ("p", &[(0, 0, 1)]),
+    (" \n;p ", &[(3, 3, 5)]),
+    ("p;p\np", &[(0, 0, 1), (2, 2, 3), (4, 4, 5)]),
+    ("1,$!  p", &[(0, 6, 7)]),
+    ("/a}/ ! !d ;x", &[(0, 8, 10), (11, 11, 12)]),
+    ("!p", &[(0, 1, 2)]),
+    ("\\,a\\,,p", &[(0, 6, 7)]),
     // blocks: a `}` is no command
-    (b"$!{p}", &[(0, 2, 3), (3, 3, 4)]),
-    (b"1{p;}\nx", &[(0, 1, 2), (2, 2, 3), (6, 6, 7)]),
-    (b"{{p}};x", &[(0, 0, 1), (1, 1, 2), (2, 2, 3), (6, 6, 7)]),
+    ("$!{p}", &[(0, 2, 3), (3, 3, 4)]),
+    ("1{p;}\nx", &[(0, 1, 2), (2, 2, 3), (6, 6, 7)]),
+    ("{{p}};x", &[(0, 0, 1), (1, 1, 2), (2, 2, 3), (6, 6, 7)]),
     // comments
-    (b"#n\np#c\n#d\nq", &[(3, 3, 4), (10, 10, 11)]),
-    (b":a ;b a", &[(0, 0, 3), (4, 4, 7)]),
+    ("#n\np#c\n#d\nq", &[(3, 3, 4), (10, 10, 11)]),
+    (":a ;b a", &[(0, 0, 3), (4, 4, 7)]),
     // texts over lines, and names to the end of the line
-    (b"a\\\nx\\\ny\nx", &[(0, 0, 7), (8, 8, 9)]),
-    (b"s/a/;/w f;x\np", &[(0, 0, 11), (12, 12, 13)]),
-    (b"2r f;p\nq", &[(0, 1, 6), (7, 7, 8)]),
-    (b"{/a/,2s/x/}/g }", &[(0, 0, 1), (1, 6, 14)]),
-    (b"y/ab/cd/\t\n=", &[(0, 0, 9), (10, 10, 11)]),
+    ("a\\\nx\\\ny\nx", &[(0, 0, 7), (8, 8, 9)]),
+    ("s/a/;/w f;x\np", &[(0, 0, 11), (12, 12, 13)]),
+    ("2r f;p\nq", &[(0, 1, 6), (7, 7, 8)]),
+    ("{/a/,2s/x/}/g }", &[(0, 0, 1), (1, 6, 14)]),
+    ("y/ab/cd/\t\n=", &[(0, 0, 9), (10, 10, 11)]),
 ];
 
 /// Whether the locations are those of the row.
@@ -51,6 +51,7 @@ fn are_located(
 #[test]
 fn located(rt: HostRuntime) {
     for (text, rows) in &SCRIPTS {
+        let text = text.as_bytes();
         let Ok(located) = locate(rt.alloc(), text) else {
             panic!(rt; "refused: {text:?}");
         };

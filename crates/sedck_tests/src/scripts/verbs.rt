@@ -1,13 +1,16 @@
 //! Verbs with what they take.
-use crate::texts::{require, script_of};
-use sedck_script::{Part, Verb};
+use crate::texts::{require, require_count, script_of};
+use sedck_script::{Part, Script, Verb};
 use std::alloc::Global;
 use std::process::Abort;
 
 /// A command's letter, the text or the name that it takes, and where it leads to, and to the next command.
 type Word<'a> = (u8, &'a [u8], usize);
 
-type Words = &'static [Word<'static>];
+/// The same as it is wanted.
+type Wanted = (u8, &'static str, usize);
+
+type Row = (&'static str, &'static [Wanted]);
 
 fn word_of<'a>(verb: &Verb<'a>) -> Word<'a> {
     match verb {
@@ -30,79 +33,79 @@ fn word_of<'a>(verb: &Verb<'a>) -> Word<'a> {
     }
 }
 
-fn have_words(rt: &impl Abort, alloc: Global, rows: &[(&'static [u8], Words)]) {
+fn have_words(rt: &impl Abort, alloc: Global, rows: &[Row]) {
     for (text, words) in rows {
+        let text = text.as_bytes();
         let script = script_of(rt, alloc, text);
         require(rt, script.commands().len() == words.len(), text);
         for (command, word) in script.commands().iter().zip(*words) {
-            require(rt, word_of(&command.verb) == *word, text);
+            let (letter, taken, at) = word;
+            let wanted = (*letter, taken.as_bytes(), *at);
+            require(rt, word_of(&command.verb) == wanted, text);
         }
     }
 }
 
-static TEXTS: [(&'static [u8], Words); 8] = [
-    (b"a hello", &[(b'a', b"hello", 0)]),
-    (b"a\\hello", &[(b'a', b"hello", 0)]),
-    (b"a   x", &[(b'a', b"x", 0)]),
-    (b"i\\  x", &[(b'i', b"  x", 0)]),
-    (b"c\\\n", &[(b'c', b"", 0)]),
-    (b"a\\\nx\\\ny\nx", &[(b'a', b"x\\\ny", 0), (b'x', b"", 0)]),
-    (b"c x\\", &[(b'c', b"x\\", 0)]),
-    (b"c x\\\\\np", &[(b'c', b"x\\\\", 0), (b'p', b"", 0)]),
+static TEXTS: [Row; 8] = [
+    ("a hello", &[(b'a', "hello", 0)]),
+    ("a\\hello", &[(b'a', "hello", 0)]),
+    ("a   x", &[(b'a', "x", 0)]),
+    ("i\\  x", &[(b'i', "  x", 0)]),
+    ("c\\\n", &[(b'c', "", 0)]),
+    ("a\\\nx\\\ny\nx", &[(b'a', "x\\\ny", 0), (b'x', "", 0)]),
+    ("c x\\", &[(b'c', "x\\", 0)]),
+    ("c x\\\\\np", &[(b'c', "x\\\\", 0), (b'p', "", 0)]),
 ];
 
-static NAMES: [(&'static [u8], Words); 4] = [
-    (b"w f;p", &[(b'w', b"f;p", 0)]),
-    (b"r  a b \nq", &[(b'r', b"a b ", 0), (b'q', b"", 0)]),
-    (b": _a.-9 ;p", &[(b':', b"_a.-9", 0), (b'p', b"", 0)]),
-    (b":a #c", &[(b':', b"a", 0)]),
+static NAMES: [Row; 4] = [
+    ("w f;p", &[(b'w', "f;p", 0)]),
+    ("r  a b \nq", &[(b'r', "a b ", 0), (b'q', "", 0)]),
+    (": _a.-9 ;p", &[(b':', "_a.-9", 0), (b'p', "", 0)]),
+    (":a #c", &[(b':', "a", 0)]),
 ];
 
-static BRANCHES: [(&'static [u8], Words); 15] = [
+static BRANCHES: [Row; 15] = [
     // the block leads after its end, the branch to its label
     (
-        b":a;$!{N;ba};s/\\n/ /g",
+        ":a;$!{N;ba};s/\\n/ /g",
         &[
-            (b':', b"a", 0),
-            (b'{', b"", 4),
-            (b'N', b"", 0),
-            (b'b', b"", 0),
-            (b's', b"", 0),
+            (b':', "a", 0),
+            (b'{', "", 4),
+            (b'N', "", 0),
+            (b'b', "", 0),
+            (b's', "", 0),
         ],
     ),
     (
-        b"{p;b a\n};t;:a",
+        "{p;b a\n};t;:a",
         &[
-            (b'{', b"", 3),
-            (b'p', b"", 0),
-            (b'b', b"", 4),
-            (b't', b"", 5),
-            (b':', b"a", 0),
+            (b'{', "", 3),
+            (b'p', "", 0),
+            (b'b', "", 4),
+            (b't', "", 5),
+            (b':', "a", 0),
         ],
     ),
     (
-        b" :a\n n \n\nb a",
-        &[(b':', b"a", 0), (b'n', b"", 0), (b'b', b"", 0)],
+        " :a\n n \n\nb a",
+        &[(b':', "a", 0), (b'n', "", 0), (b'b', "", 0)],
     ),
+    ("{ba};:a", &[(b'{', "", 2), (b'b', "", 2), (b':', "a", 0)]),
+    ("b a #c\n:a", &[(b'b', "", 1), (b':', "a", 0)]),
     (
-        b"{ba};:a",
-        &[(b'{', b"", 2), (b'b', b"", 2), (b':', b"a", 0)],
+        "txp\nx\n:xp",
+        &[(b't', "", 2), (b'x', "", 0), (b':', "xp", 0)],
     ),
-    (b"b a #c\n:a", &[(b'b', b"", 1), (b':', b"a", 0)]),
-    (
-        b"txp\nx\n:xp",
-        &[(b't', b"", 2), (b'x', b"", 0), (b':', b"xp", 0)],
-    ),
-    (b"t a\t;:a", &[(b't', b"", 1), (b':', b"a", 0)]),
-    (b"b", &[(b'b', b"", 1)]),
-    (b"b;p", &[(b'b', b"", 2), (b'p', b"", 0)]),
-    (b"{t}", &[(b'{', b"", 2), (b't', b"", 2)]),
-    (b"b  ", &[(b'b', b"", 1)]),
+    ("t a\t;:a", &[(b't', "", 1), (b':', "a", 0)]),
+    ("b", &[(b'b', "", 1)]),
+    ("b;p", &[(b'b', "", 2), (b'p', "", 0)]),
+    ("{t}", &[(b'{', "", 2), (b't', "", 2)]),
+    ("b  ", &[(b'b', "", 1)]),
     // a comment after a branch without a label needs a `;` or a newline before it
-    (b"b;#c", &[(b'b', b"", 1)]),
-    (b"t\n#a", &[(b't', b"", 1)]),
-    (b":a;t a\t# x", &[(b':', b"a", 0), (b't', b"", 0)]),
-    (b"t\np", &[(b't', b"", 2), (b'p', b"", 0)]),
+    ("b;#c", &[(b'b', "", 1)]),
+    ("t\n#a", &[(b't', "", 1)]),
+    (":a;t a\t# x", &[(b':', "a", 0), (b't', "", 0)]),
+    ("t\np", &[(b't', "", 2), (b'p', "", 0)]),
 ];
 
 #[test]
@@ -113,39 +116,55 @@ fn words(rt: HostRuntime) {
 }
 
 /// A text, the number of its commands, the place of the `y` among them, and its lists.
-static LISTS: [(&'static [u8], usize, usize, &'static [u8], &'static [u8]); 11] = [
-    (b"y/abc/\\n\\\\\\// ;p", 2, 0, b"abc", b"\n\\/"),
-    (b"y///", 1, 0, b"", b""),
-    (b"{yxa\\xxb\\\\x}", 2, 1, b"ax", b"b\\"),
+static LISTS: [(&'static str, usize, usize, &'static str, &'static str); 11] = [
+    ("y/abc/\\n\\\\\\// ;p", 2, 0, "abc", "\n\\/"),
+    ("y///", 1, 0, "", ""),
+    ("{yxa\\xxb\\\\x}", 2, 1, "ax", "b\\"),
     // bracket lists in the first list are closed; in the second one they need not be
-    (b"y,],[,#", 1, 0, b"]", b"["),
-    (b"y/ab/[]/", 1, 0, b"ab", b"[]"),
-    (b"y/[a]/bcd/", 1, 0, b"[a]", b"bcd"),
-    (b"y/[]]/abc/", 1, 0, b"[]]", b"abc"),
-    (b"y/[^]]/abcd/", 1, 0, b"[^]]", b"abcd"),
-    (b"y/[[]]/abcd/", 1, 0, b"[[]]", b"abcd"),
-    (b"y/\\\\[]]/abcd/", 1, 0, b"\\[]]", b"abcd"),
-    (b"y,[\\,],abc,", 1, 0, b"[,]", b"abc"),
+    ("y,],[,#", 1, 0, "]", "["),
+    ("y/ab/[]/", 1, 0, "ab", "[]"),
+    ("y/[a]/bcd/", 1, 0, "[a]", "bcd"),
+    ("y/[]]/abc/", 1, 0, "[]]", "abc"),
+    ("y/[^]]/abcd/", 1, 0, "[^]]", "abcd"),
+    ("y/[[]]/abcd/", 1, 0, "[[]]", "abcd"),
+    ("y/\\\\[]]/abcd/", 1, 0, "\\[]]", "abcd"),
+    ("y,[\\,],abc,", 1, 0, "[,]", "abc"),
 ];
+
+/// The verb at the place, in a script with so many commands.
+fn verb_at<'a, 'b>(
+    rt: &impl Abort,
+    script: &'b Script<'a>,
+    count: usize,
+    at: usize,
+) -> &'b Verb<'a> {
+    let commands = script.commands();
+    assert!(rt; commands.len() == count && at < count);
+    &commands[at].verb
+}
+
+/// Whether the verb is a `y` with these lists.
+fn has_lists(verb: &Verb, from: &str, to: &str) -> bool {
+    match verb {
+        Verb::Transliterate(first, second) => {
+            first.as_slice() == from.as_bytes() && second.as_slice() == to.as_bytes()
+        }
+        _ => false,
+    }
+}
 
 #[test]
 fn lists(rt: HostRuntime) {
     for (text, count, at, from, to) in &LISTS {
+        let text = text.as_bytes();
         let script = script_of(&rt, rt.alloc(), text);
-        let commands = script.commands();
-        assert!(rt; commands.len() == *count && *at < *count);
-        match &commands[*at].verb {
-            Verb::Transliterate(first, second) => {
-                require(&rt, first.as_slice() == *from, text);
-                require(&rt, second.as_slice() == *to, text);
-            }
-            _ => require(&rt, false, text),
-        }
+        let verb = verb_at(&rt, &script, *count, *at);
+        require(&rt, has_lists(verb, *from, *to), text);
     }
 }
 
 /// Whether the part has this letter and this text.
-fn is_part(part: &Part, word: &(u8, &[u8])) -> bool {
+fn is_part(part: &Part, word: &(u8, &str)) -> bool {
     let (letter, text): (u8, &[u8]) = match part {
         Part::Text(text) => (b't', *text),
         Part::Newline => (b'n', b""),
@@ -153,20 +172,28 @@ fn is_part(part: &Part, word: &(u8, &[u8])) -> bool {
         Part::Whole => (b'w', b""),
         Part::Group(_) => (b'g', b""),
     };
-    letter == word.0 && text == word.1
+    letter == word.0 && text == word.1.as_bytes()
 }
 
-static PARTS: [(u8, &'static [u8]); 10] = [
-    (b't', b"x."),
-    (b'n', b""),
-    (b'b', b""),
-    (b'w', b""),
-    (b'g', b""),
-    (b't', b"&"),
-    (b't', b"\\"),
-    (b't', b","),
-    (b't', b"y"),
-    (b't', b"\n"),
+/// Whether these are the parts.
+fn are_parts(rt: &impl Abort, parts: &[Part], words: &[(u8, &str)]) {
+    require_count(rt, parts.len(), words.len(), b"parts");
+    for (part, word) in parts.iter().zip(words) {
+        require(rt, is_part(part, word), word.1.as_bytes());
+    }
+}
+
+static PARTS: [(u8, &'static str); 10] = [
+    (b't', "x."),
+    (b'n', ""),
+    (b'b', ""),
+    (b'w', ""),
+    (b'g', ""),
+    (b't', "&"),
+    (b't', "\\"),
+    (b't', ","),
+    (b't', "y"),
+    (b't', "\n"),
 ];
 
 #[test]
@@ -174,92 +201,94 @@ fn parts(rt: HostRuntime) {
     // the last line has the expression that the empty one needs
     let text = b"s,,x.\\n\\t&\\1\\&\\\\\\,y\\\n,\n/a/p";
     let script = script_of(&rt, rt.alloc(), text);
-    assert!(rt; script.commands().len() == 2);
-    match &script.commands()[0].verb {
-        Verb::Substitute(s) => {
-            require(&rt, s.parts.len() == PARTS.len(), text);
-            for (part, word) in s.parts.iter().zip(&PARTS) {
-                require(&rt, is_part(part, word), word.1);
-            }
-        }
+    match verb_at(&rt, &script, 2, 0) {
+        Verb::Substitute(substitution) => are_parts(&rt, &substitution.parts, &PARTS),
         _ => require(&rt, false, text),
     }
 }
 
 /// Whether all are substituted, whether lines are printed, which one is substituted, and the file.
-type Flags = (bool, bool, Option<u32>, Option<&'static [u8]>);
+type Flags = (bool, bool, Option<u32>, Option<&'static str>);
 
 /// A text, the number of its commands, the place of the `s` among them, and its flags.
-static FLAGS: [(&'static [u8], usize, usize, Flags); 5] = [
-    (b"s//x/\n/a/p", 2, 0, (false, false, None, None)),
+static FLAGS: [(&'static str, usize, usize, Flags); 5] = [
+    ("s//x/\n/a/p", 2, 0, (false, false, None, None)),
     (
-        b"s//x/p07gw out }\n/a/p",
+        "s//x/p07gw out }\n/a/p",
         2,
         0,
-        (true, true, Some(7), Some(b"out }")),
+        (true, true, Some(7), Some("out }")),
     ),
-    (b"s//x/gp ;/a/p", 2, 0, (true, true, None, None)),
+    ("s//x/gp ;/a/p", 2, 0, (true, true, None, None)),
     (
-        b"{s//x/4294967295}\n/a/p",
+        "{s//x/4294967295}\n/a/p",
         3,
         1,
         (false, false, Some(4_294_967_295), None),
     ),
-    (
-        b"s//x/w f;p\n/a/p",
-        2,
-        0,
-        (false, false, None, Some(b"f;p")),
-    ),
+    ("s//x/w f;p\n/a/p", 2, 0, (false, false, None, Some("f;p"))),
 ];
+
+/// Whether the verb is an `s` with these flags.
+fn has_flags(verb: &Verb, flags: &Flags) -> bool {
+    let Verb::Substitute(substitution) = verb else {
+        return false;
+    };
+    let (global, print, nth, file) = flags;
+    let is_file = match (substitution.file, file) {
+        (Some(found), Some(wanted)) => found == wanted.as_bytes(),
+        (None, None) => true,
+        _ => false,
+    };
+    substitution.global == *global
+        && substitution.print == *print
+        && substitution.nth == *nth
+        && is_file
+}
 
 #[test]
 fn flags(rt: HostRuntime) {
     for (text, count, at, flags) in &FLAGS {
+        let text = text.as_bytes();
         let script = script_of(&rt, rt.alloc(), text);
-        let commands = script.commands();
-        assert!(rt; commands.len() == *count && *at < *count);
-        match &commands[*at].verb {
-            Verb::Substitute(s) => {
-                require(&rt, (s.global, s.print, s.nth, s.file) == *flags, text);
-            }
-            _ => require(&rt, false, text),
-        }
+        let verb = verb_at(&rt, &script, *count, *at);
+        require(&rt, has_flags(verb, flags), text);
     }
 }
 
 /// A script of one substitution, and the least length of a match outside of the groups that its replacement names; none
 /// where it doesn't keep them.
-static OUTSIDE: [(&'static [u8], Option<u32>); 16] = [
-    (b"s/\\(.*\\)  \\(.*\\)/\\1 \\2/", Some(2)),
-    (b"s/\\(.*\\)  \\(.*\\)/\\2/", Some(2)),
-    (b"s/\\(ab\\)c\\1/\\1/", Some(3)),
-    (b"s/\\(ab\\)c\\1/x/", Some(5)),
-    (b"s/x\\(a\\{3\\}\\)\\(b\\)/\\2/", Some(4)),
-    (b"s/x\\(a\\{3\\}\\)\\(b\\)/\\2-\\1/", Some(1)),
+static OUTSIDE: [(&'static str, Option<u32>); 16] = [
+    ("s/\\(.*\\)  \\(.*\\)/\\1 \\2/", Some(2)),
+    ("s/\\(.*\\)  \\(.*\\)/\\2/", Some(2)),
+    ("s/\\(ab\\)c\\1/\\1/", Some(3)),
+    ("s/\\(ab\\)c\\1/x/", Some(5)),
+    ("s/x\\(a\\{3\\}\\)\\(b\\)/\\2/", Some(4)),
+    ("s/x\\(a\\{3\\}\\)\\(b\\)/\\2-\\1/", Some(1)),
     (
-        b"s/a\\(\\)\\(\\)\\(\\)\\(\\)\\(\\)\\(\\)\\(\\)\\(\\)\\(bb\\)\\9/\\9/",
+        "s/a\\(\\)\\(\\)\\(\\)\\(\\)\\(\\)\\(\\)\\(\\)\\(\\)\\(bb\\)\\9/\\9/",
         Some(3),
     ),
-    (b"s/\\(\\(a\\)\\)b/\\1/", Some(1)),
-    (b"s/ab/x/", Some(2)),
+    ("s/\\(\\(a\\)\\)b/\\1/", Some(1)),
+    ("s/ab/x/", Some(2)),
     // in another group, repeated, twice, beside the match
-    (b"s/\\(\\(a\\)\\)b/\\2/", None),
-    (b"s/\\(ab\\)*c/\\1/", None),
-    (b"s/\\(ab\\)\\{1\\}c/\\1/", None),
-    (b"s/\\(a\\)/\\1\\1/", None),
-    (b"s/\\(a\\)b/&\\1/", None),
-    (b"s/a/&/", None),
-    (b"s/a/x&/", None),
+    ("s/\\(\\(a\\)\\)b/\\2/", None),
+    ("s/\\(ab\\)*c/\\1/", None),
+    ("s/\\(ab\\)\\{1\\}c/\\1/", None),
+    ("s/\\(a\\)/\\1\\1/", None),
+    ("s/\\(a\\)b/&\\1/", None),
+    ("s/a/&/", None),
+    ("s/a/x&/", None),
 ];
 
 #[test]
 fn least_lengths_outside_of_groups(rt: HostRuntime) {
     for (text, outside) in &OUTSIDE {
-        let script = script_of(&rt, rt.alloc(), *text);
+        let text = text.as_bytes();
+        let script = script_of(&rt, rt.alloc(), text);
         for command in script.commands() {
             if let Verb::Substitute(substitution) = &command.verb {
-                require(&rt, substitution.outside == *outside, *text);
+                require(&rt, substitution.outside == *outside, text);
             }
         }
     }

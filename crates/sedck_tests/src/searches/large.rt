@@ -50,10 +50,10 @@ fn ranks(rt: HostRuntime) {
         let node = format!(in rt.alloc(); "{at} 0").expect(&rt, "memory");
         add_both(&rt, &mut ranks, &node, count, count);
     }
-    is_told(&rt, rt.alloc(), text.as_bytes(), &ranks);
+    is_told(&rt, rt.alloc(), &text, &ranks);
     let text = numbered(&rt, rt.alloc(), ":a@\ns/x//\nta@\n", 0, 1300);
     let ranks = ranks_of_loops(&rt, rt.alloc());
-    is_told(&rt, rt.alloc(), text.as_bytes(), &ranks);
+    is_told(&rt, rt.alloc(), &text, &ranks);
 }
 
 /// What is before a piece, the piece, its copies, what follows them, and the loop that is reported: the first of
@@ -85,6 +85,6 @@ fn loops(rt: HostRuntime) {
         let copies = numbered(&rt, rt.alloc(), *piece, 0, *count);
         let text = format!(in rt.alloc(); "{before}{copies}{behind}").expect(&rt, "memory");
         let told = if told.is_empty() { all.as_str() } else { *told };
-        is_told(&rt, rt.alloc(), text.as_bytes(), told);
+        is_told(&rt, rt.alloc(), &text, told);
     }
 }
