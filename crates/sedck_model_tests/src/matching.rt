@@ -7,33 +7,33 @@ use std::process::Abort;
 use std::test::Fail;
 
 /// An expression, a text, whether it is in the language, and whether some part of it is.
-type Row = (&'static [u8], &'static [u8], bool, bool);
+type Row = (&'static str, &'static str, bool, bool);
 
 static LANGUAGES: [Row; 15] = [
-    (b"a*", b"aaa", true, true),
-    (b"b*", b"aaa", false, true),
-    (b"b", b"aaa", false, false),
-    (b"b", b"", false, false),
-    (b"a.c", b"abc", true, true),
-    (b"[ab]\\{2,3\\}", b"abab", false, true),
-    (b"[ab]\\{2,\\}", b"abab", true, true),
-    (b"[^ab]\\{2,\\}", b"abab", false, false),
+    ("a*", "aaa", true, true),
+    ("b*", "aaa", false, true),
+    ("b", "aaa", false, false),
+    ("b", "", false, false),
+    ("a.c", "abc", true, true),
+    ("[ab]\\{2,3\\}", "abab", false, true),
+    ("[ab]\\{2,\\}", "abab", true, true),
+    ("[^ab]\\{2,\\}", "abab", false, false),
     // the group has one a or two, and its text is there once more
-    (b"\\(a\\{1,2\\}\\)\\1", b"aaaa", true, true),
-    (b"\\(a\\{1,2\\}\\)\\1", b"aaa", false, true),
+    ("\\(a\\{1,2\\}\\)\\1", "aaaa", true, true),
+    ("\\(a\\{1,2\\}\\)\\1", "aaa", false, true),
     // each round of the repetition may set the group anew
-    (b"\\(a\\{1,2\\}\\)*b\\1", b"aaabaa", true, true),
-    (b"\\(a\\{1,2\\}\\)*b\\1", b"aaaba", true, true),
-    (b"\\(a\\{1,2\\}\\)*b\\1", b"aaabaaa", false, true),
+    ("\\(a\\{1,2\\}\\)*b\\1", "aaabaa", true, true),
+    ("\\(a\\{1,2\\}\\)*b\\1", "aaaba", true, true),
+    ("\\(a\\{1,2\\}\\)*b\\1", "aaabaaa", false, true),
     // sixteen million rounds that lead nowhere are not made
     (
-        b"\\(\\(\\(a\\{255\\}\\)\\{255\\}\\)\\{255\\}\\)b",
-        b"ab",
+        "\\(\\(\\(a\\{255\\}\\)\\{255\\}\\)\\{255\\}\\)b",
+        "ab",
         false,
         false,
     ),
     // a repetition of the empty text ends
-    (b"\\(a*\\)*", b"aab", false, true),
+    ("\\(a*\\)*", "aab", false, true),
 ];
 
 fn expression_of(rt: &impl Abort, alloc: Global, text: &[u8]) -> Expr {
@@ -45,14 +45,16 @@ fn expression_of(rt: &impl Abort, alloc: Global, text: &[u8]) -> Expr {
 
 #[test]
 fn languages(rt: HostRuntime) -> Result<(), Fail> {
-    for row in LANGUAGES.iter() {
-        let (written, text, whole, part) = *row;
-        let expression = expression_of(&rt, rt.alloc(), written);
+    for (written, text, whole, part) in &LANGUAGES {
+        let expression = expression_of(&rt, rt.alloc(), written.as_bytes());
+        let (body, text) = (expression.body(), text.as_bytes());
         let mut budget = Budget { left: 10_000 };
-        let in_language = is_in_language(rt.alloc(), expression.body(), text, &mut budget);
-        assert_eq!(rt; in_language, Ok(whole), "{written:?} {text:?}");
-        let has_part = has_match(rt.alloc(), expression.body(), text, &mut budget);
-        assert_eq!(rt; has_part, Ok(part), "{written:?} {text:?}");
+        let in_language = is_in_language(rt.alloc(), body, text, &mut budget);
+        let in_language = in_language.expect(&rt, *written);
+        let has_part = has_match(rt.alloc(), body, text, &mut budget);
+        let has_part = has_part.expect(&rt, *written);
+        let holds = in_language == *whole && has_part == *part;
+        assert!(rt; holds, "{written} {text:?}: {in_language} {has_part}");
     }
     Ok(())
 }

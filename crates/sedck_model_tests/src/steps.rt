@@ -98,39 +98,39 @@ fn runs_on_two_lines_are_followed(rt: HostRuntime) -> Result<(), Fail> {
 /// A script, whether the flag is set before its first step, what that does to a file, the place and the pattern space after it (none
 /// at the end of the run), and whether the model has the step. The pattern space is `a` before it.
 type Case = (
-    &'static [u8],
+    &'static str,
     bool,
     Event<'static>,
-    Option<(usize, &'static [u8])>,
+    Option<(usize, &'static str)>,
     bool,
 );
 
 static CASES: &'static [Case] = &[
-    (b"w f", false, Event::Writes(b"f"), Some((1, b"a")), true),
-    (b"w f", false, Event::Silent, Some((1, b"a")), false),
-    (b"w f", false, Event::Reads(b"f"), Some((1, b"a")), false),
-    (b"r f", false, Event::Reads(b"f"), Some((1, b"a")), true),
-    (b"t", true, Event::Silent, Some((1, b"a")), true),
-    (b"t;p", true, Event::Silent, Some((2, b"a")), true),
-    (b"t;p", true, Event::Silent, Some((1, b"a")), false),
-    (b"t;p", false, Event::Silent, Some((1, b"a")), true),
-    (b"1{p;p};p", false, Event::Silent, Some((3, b"a")), true),
-    (b"1{p;p};p", false, Event::Silent, Some((2, b"a")), false),
-    (b"2,3c\\\nx", false, Event::Silent, Some((1, b"")), true),
-    (b"2c\\\nx", false, Event::Silent, Some((1, b"")), false),
-    (b"s/b/c/w f", false, Event::Silent, Some((1, b"a")), true),
-    (b"n", true, Event::Silent, None, true),
-    (b"/a/d", false, Event::Silent, None, true),
-    (b"/b*$/d", false, Event::Silent, None, true),
-    (b"/b/d", false, Event::Silent, None, false),
-    (b"/b/!d", false, Event::Silent, Some((1, b"a")), false),
-    (b"//d;/a/p", false, Event::Silent, None, true),
+    ("w f", false, Event::Writes(b"f"), Some((1, "a")), true),
+    ("w f", false, Event::Silent, Some((1, "a")), false),
+    ("w f", false, Event::Reads(b"f"), Some((1, "a")), false),
+    ("r f", false, Event::Reads(b"f"), Some((1, "a")), true),
+    ("t", true, Event::Silent, Some((1, "a")), true),
+    ("t;p", true, Event::Silent, Some((2, "a")), true),
+    ("t;p", true, Event::Silent, Some((1, "a")), false),
+    ("t;p", false, Event::Silent, Some((1, "a")), true),
+    ("1{p;p};p", false, Event::Silent, Some((3, "a")), true),
+    ("1{p;p};p", false, Event::Silent, Some((2, "a")), false),
+    ("2,3c\\\nx", false, Event::Silent, Some((1, "")), true),
+    ("2c\\\nx", false, Event::Silent, Some((1, "")), false),
+    ("s/b/c/w f", false, Event::Silent, Some((1, "a")), true),
+    ("n", true, Event::Silent, None, true),
+    ("/a/d", false, Event::Silent, None, true),
+    ("/b*$/d", false, Event::Silent, None, true),
+    ("/b/d", false, Event::Silent, None, false),
+    ("/b/!d", false, Event::Silent, Some((1, "a")), false),
+    ("//d;/a/p", false, Event::Silent, None, true),
 ];
 
 /// The state before the command at this place, or at the end of the run.
-fn state_at<'a>(after: &Option<(usize, &'a [u8])>) -> State<'a, 'a> {
+fn state_at<'a>(after: &Option<(usize, &'a str)>) -> State<'a, 'a> {
     match after {
-        Some((at, pattern)) => State::At(machine(*at, pattern)),
+        Some((at, pattern)) => State::At(machine(*at, pattern.as_bytes())),
         None => State::Done,
     }
 }
@@ -156,8 +156,9 @@ fn steps_are_decided(rt: HostRuntime) -> Result<(), Fail> {
             flag: *flag,
             ..machine(0, b"a")
         };
-        let found = is_step(rt.alloc(), text, before, event, &state_at(after))?;
-        assert_eq!(rt; found, *wanted, "{text:?}");
+        let after = state_at(after);
+        let found = is_step(rt.alloc(), text.as_bytes(), before, event, &after)?;
+        assert!(rt; found == *wanted, "{text}");
     }
     Ok(())
 }

@@ -167,28 +167,29 @@ fn flags_are_kept_and_reset(rt: HostRuntime) -> Result<(), Fail> {
 }
 
 /// A script, a pattern space, and the steps of the first command.
-type Row = (&'static [u8], &'static [u8], &'static [&'static str]);
+type Row = (&'static str, &'static str, &'static [&'static str]);
 
 static ROWS: &'static [Row] = &[
-    (b"2,3d", b"a", &["end", "1 \"a\""]),
-    (b"2,3c\\\nx", b"a", &["end", "1 \"\"", "1 \"a\""]),
-    (b"/b/d", b"a", &["1 \"a\""]),
-    (b"$d", b"a", &["end"]),
-    (b"$!d", b"a", &["1 \"a\""]),
-    (b"1{p;p}", b"a", &["1 \"a\"", "3 \"a\""]),
-    (b"y/ab/bc/", b"abd", &["1 \"bcd\""]),
+    ("2,3d", "a", &["end", "1 \"a\""]),
+    ("2,3c\\\nx", "a", &["end", "1 \"\"", "1 \"a\""]),
+    ("/b/d", "a", &["1 \"a\""]),
+    ("$d", "a", &["end"]),
+    ("$!d", "a", &["1 \"a\""]),
+    ("1{p;p}", "a", &["1 \"a\"", "3 \"a\""]),
+    ("y/ab/bc/", "abd", &["1 \"bcd\""]),
     (
-        b"y/aa/bc/",
-        b"aa",
+        "y/aa/bc/",
+        "aa",
         &["1 \"bb\"", "1 \"bc\"", "1 \"cb\"", "1 \"cc\""],
     ),
-    (b"H", b"a", &["1 \"a\" hold \"\\na\""]),
+    ("H", "a", &["1 \"a\" hold \"\\na\""]),
 ];
 
 #[test]
 fn commands_are_applied_and_skipped(rt: HostRuntime) -> Result<(), Fail> {
     for (text, pattern, wanted) in ROWS {
-        expect(&rt, rt.alloc(), text, machine(pattern), *wanted)?;
+        let before = machine(pattern.as_bytes());
+        expect(&rt, rt.alloc(), text.as_bytes(), before, *wanted)?;
     }
     Ok(())
 }
