@@ -366,8 +366,8 @@ script.Locations
 script.Faults bre.Faults cert.Faults
 script.FaultWords bre.FaultWords cert.FaultText cli.Lines
 cli.Reports cli.Engines cli.Statuses cli.Causes cli.Faults cert.Streams cli.Inputs cli.Opened
-findings.Answers findings.Denial findings.Explanations findings.Errors errors.Errors explain_cli.Explained explain_cli.Statuses report.Positions report.Shown report.Codes report.Levels report.Files report.Reported warnings.Added escapes.Html escapes.Ascii
-called.Called scan.Scanned scan.Placed traced.Traced traced.Texts calls.Words calls.Options calls.Calls calls.Origins calls.Scripts
+findings.Answers findings.Denial findings.Explanations findings.Errors errors.Errors explaining.Explained explain_cli.Statuses explain_cli.Lines report.Positions report.Shown report.Codes report.Levels report.Files report.Reported warnings.Added escapes.Html escapes.Ascii
+called.Called judging.Judged judging.Placed scan.Scanned traced.Traced traced.Texts calls.Words calls.Options calls.Calls calls.Origins calls.Scripts
 words.Names
 bre.Lengths script.Shortest script.Invariant
 bre.View script.View script.ReplacementView cert.View
@@ -390,8 +390,9 @@ PARTS = [
          ("sedck_bre", "ReFault*", None), ("sedck_script", "ScriptFault*", None), ("sedck_cert", "CertFault*", None)]),
         ("Where commands are", [("sedck_script", "locate", ("count", "locations", "order"))]),
         ("Reports and statuses", [("sedck_cli", "*", None), ("sedck_cert", "write_cert", None)]),
-        ("What is explained", [("sedck_findings", "*", None), ("sedck_report", "*", None), ("sedck_errors", "*", None), ("sedck_warnings", "*", None), ("sedck_explain_cli", "*", None), ("sedck_escapes", "*", None),
-         ("sedck_words", "*", None), ("sedck_scan", "*", None)]),
+        ("What is explained", [("sedck_findings", "*", None), ("sedck_report", "*", None), ("sedck_errors", "*", None), ("sedck_warnings", "*", None), ("sedck_explaining", "*", None),
+         ("sedck_explain_cli", "*", None), ("sedck_escapes", "*", None),
+         ("sedck_words", "*", None), ("sedck_judging", "*", None), ("sedck_scan", "*", None)]),
         ("The model, decided", [("sedck_matching", "*", None), ("sedck_model", "*", None)]),
         ("Certificates of version 1", [("sedck_cert", "read_cert_one", None), ("sedck_cert", "upgrade*", None), ("sedck_cert", "CertOne*", None),
          ("sedck_flow", "edges_were_there", None), ("sedck_flow", "kinds_agree", None), ("sedck_flow", "literal_kinds_stay", None), ("sedck_search", "obstacles_were_there", None)]),

@@ -8,7 +8,7 @@ use Rattle.sedck_cli.specs.declared.answer.RunFault.{RunFault}
 use Rattle.sedck_errors.specs.declared.denied.Denied.{Denied}
 use Rattle.sedck_findings.specs.declared.explanation.Explanation.{Explanation}
 use Rattle.sedck_findings.proofs.Answering.{on_ok}
-use Rattle.sedck_explain_cli.specs.Explained.{Output, IsExplained, IsExplainedWith}
+use Rattle.sedck_explaining.specs.Explained.{Output, IsExplained, IsExplainedWith}
 use Rattle.sedck_explain_cli.specs.Statuses.{script_bytes, IsGiven, HasStatus, IsGreatest}
 
 -- what was read of an open file was read of the bytes that it is known to have

@@ -1,3 +1,1 @@
--- What several proofs use.
-mod Writing
 mod Greatest

@@ -1,3 +1,3 @@
 -- What the public contracts cite.
-pub mod Explained
+pub mod Lines
 pub mod Statuses

@@ -7,7 +7,7 @@ use Rattle.sedck_cli.specs.Opened.{Known}
 use Rattle.sedck_errors.specs.declared.denied.Denied.{Denied}
 use Rattle.sedck_findings.specs.Explanations.{IsExplanation}
 use Rattle.sedck_findings.specs.declared.explanation.Explanation.{Explanation}
-use Rattle.sedck_explain_cli.specs.declared.request.Request.{Request}
+use Rattle.sedck_request.specs.declared.request.Request.{Request}
 
 -- the bytes that the script at the path has, where they are known: `-` is standard input, of which nothing is
 abbrev pub script_bytes : Known → List ℕ → Option (List ℕ)

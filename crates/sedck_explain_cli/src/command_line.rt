@@ -4,23 +4,20 @@ ghost use Rattle.std.specs.Prelude.{◌≡◌, ◌≢◌, ◌⊎◌, ◌<◌, �
 ghost use Rattle.std.specs.Io.KnownBytes.{Keeps, Appends};
 ghost use Rattle.sedck_cert.specs.Streams.{ReportsFailure};
 ghost use Rattle.sedck_called.specs.Called.{IsAcceptedCall};
-ghost use Rattle.sedck_explain_cli.specs.Explained.{error_line};
+ghost use Rattle.sedck_explain_cli.specs.Lines.{error_line};
 ghost use Rattle.sedck_explain_cli.specs.Statuses.{certificate_of, scripts_of, HasStatus, StatusAt, IsGreatest};
 
-use crate::calls::explain_words;
-use crate::explaining::{explain_alone, explain_with};
-use crate::format::{Format, Style};
-use crate::request::{Request, request_of};
 use crate::scanning::explain_files;
 use crate::unread::{unread_of, unread_part};
-use crate::words::Words;
 use clap::Error;
 use clap::error::ErrorKind;
 use sedck_called::Unexplained;
 use sedck_cert::streams::{Failed, FromRead, Sink, Source, write_all};
 use sedck_cli::{FromFiles, Input as InputOf, Opener, RunFault};
+use sedck_explaining::{Format, Style, explain_alone, explain_with, explain_words};
 use sedck_findings::Denied;
 use sedck_render::json_unreadable;
+use sedck_request::{Request, Words, request_of};
 use std::alloc::{AllocError, Global};
 use std::fs::Files;
 use std::io::{Input, Write};

@@ -1,26 +1,14 @@
 //! The program `sedck-explain`, but for its streams.
 //!
-//! `explain_alone` and `explain_with` read a script, alone or with a certificate, and write what is reported of it; their exit
-//! status is proved to be that of the engines' answer for what was read. `explain_all` does this for several scripts, and `program`
-//! for the arguments of a command line.
+//! `explain_all` explains several scripts, `explain_call` the call of sed that is given, and `program` does what the arguments of a
+//! command line ask for. Their exit status is proved to be the greatest of what is said of the scripts and the call that were read.
 #![tactic(auto)]
 
-mod calls;
 mod command_line;
-mod explaining;
-mod format;
-mod part_names;
-mod reporter;
-mod request;
 mod scanning;
 mod unread;
-mod words;
 
-pub use calls::explain_words;
 pub use command_line::{explain_all, explain_call, flushed, out_of_memory, program};
-pub use explaining::{explain_alone, explain_with};
-pub use format::{Format, Style};
-pub use reporter::Reporter;
-pub use request::Request;
+pub use sedck_explaining::{Format, Reporter, Style, explain_alone, explain_with, explain_words};
 pub use sedck_findings::{Denied, Level};
-pub use words::{Words, arguments};
+pub use sedck_request::{Request, Words, arguments};

@@ -4,9 +4,9 @@ ghost use Rattle.std.specs.Prelude.{◌≡◌, ◌<◌, ◌≤◌};
 ghost use Rattle.std.specs.Io.KnownBytes.{Keeps};
 
 use crate::command_line::end;
-use crate::format::Format;
-use crate::request::Request;
 use sedck_cert::streams::Sink;
+use sedck_explaining::Format;
+use sedck_request::Request;
 use sedck_scan::{Look, Scan, scan_files};
 use std::fs::Files;
 use std::io::Input;

@@ -1,5 +1,1 @@
-mod Calls
-mod Lists
 mod Worst
-mod Yes
-mod Said

@@ -4,7 +4,8 @@ use Rattle.std.proofs.lemmas.List.{take_more}
 use Rattle.sedck_errors.specs.declared.denied.Denied.{Denied}
 use Rattle.sedck_findings.specs.declared.explanation.Explanation.{Explanation}
 use Rattle.sedck_found.specs.declared.found.FoundCall.{FoundCall}
-use Rattle.sedck_scan.specs.Scanned.{IsSaidOf, IsWorst, worse}
+use Rattle.sedck_judging.specs.Judged.{IsSaidOf}
+use Rattle.sedck_scan.specs.Scanned.{IsWorst, worse}
 
 -- one call more
 worst_snoc : (file : List ℕ) (denied : Denied) (known : ℕ) (calls : List FoundCall) (found : FoundCall) (status : ℕ) (e : Explanation)

@@ -1,3 +1,2 @@
 -- What the public contracts cite.
-pub mod Placed
 pub mod Scanned

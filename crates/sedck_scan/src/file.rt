@@ -5,13 +5,13 @@ ghost use Rattle.sedck_report.specs.Positions.{position_in};
 ghost use Rattle.sedck_scan.specs.Scanned.{IsWorst, worse, rank as rank_of};
 
 use crate::answers::call_report;
-use crate::judging::explain_found;
 use crate::request::Scan;
 use sedck_called::Unexplained;
 use sedck_cert::streams::{Sink, write_all};
 use sedck_findings::{Position, position_at, position_from};
 use sedck_found::{FoundCall, calls_in, dialect_of};
 use sedck_hosts::Kind;
+use sedck_judging::explain_found;
 use sedck_render::{CallAnswer, Counts};
 use std::alloc::Global;
 

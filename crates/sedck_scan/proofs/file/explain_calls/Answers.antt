@@ -1,5 +1,6 @@
 use Rattle.std.proofs.Common.{sym, subst, take, ◌+◌}
-use Rattle.sedck_scan.specs.Scanned.{IsSaidOf, IsWorst}
+use Rattle.sedck_judging.specs.Judged.{IsSaidOf}
+use Rattle.sedck_scan.specs.Scanned.{IsWorst}
 use Rattle.sedck_scan.proofs.Worst.{next_worst}
 use Rattle.sedck_scan.proofs.file.explain_calls.Goals as goal
 

@@ -1,0 +1,4 @@
+mod Calls
+mod Lists
+mod Yes
+mod Said
