@@ -1,12 +1,14 @@
 //! All that is reported of a script.
 
-ghost use Rattle.std.specs.Prelude.{◌≡◌, ◌≤◌, false, None, [], IfOk, map};
+ghost use Rattle.std.specs.Prelude.{◌≡◌, ◌≤◌, true, false, None, [], IfOk, map};
 ghost use Rattle.std.specs.Option.{option_map};
+ghost use Rattle.sedck_script.specs.Names.{reads, writes};
+ghost use Rattle.sedck_report.specs.Files.{names_of};
 ghost use Rattle.sedck_report.specs.Levels.{has_warning, has_error};
 ghost use Rattle.sedck_report.specs.Positions.{position_in};
 ghost use Rattle.sedck_findings.specs.Explanations.{IsExplanation, KeepsNothing, WarnedWith};
 ghost use Rattle.sedck_findings.specs.Private.Errors.{IsOfScript, IsRefused, CanBeReported, AreFindingsOf, IsFindingOf};
-ghost use Rattle.sedck_findings.specs.Private.Explaining.{Explains, KeepsLocated, HasLists, AreDeniedFindings};
+ghost use Rattle.sedck_findings.specs.Private.Explaining.{Explains, Reports, KeepsLocated, HasLists, AreDeniedFindings};
 
 use crate::answer::{Answer, Answered, answer_of};
 use crate::explanation::Explanation;
@@ -77,7 +79,7 @@ fn explained<'a>(
     text: &'a [u8],
     answer: Answer,
     located: Located<'a>,
-    mut warnings: Vec<Finding>,
+    warnings: Vec<Finding>,
     denied: Denied,
 ) -> Result<Explanation<'a>, AllocError>
     requires script { IsOfScript text.now located.script answer }
@@ -87,26 +89,13 @@ fn explained<'a>(
     ensures few { IfOk result (λ e. e.status ≤ 2) }
     ensures warned { IfOk result (WarnedWith denied warnings.items) }
 {
-    let positions = verb_positions(alloc, text, &located.locations)?;
-    let script = &located.script;
-    let reads = named_files(alloc, script.reads(), script, &positions, Access::Read)?;
-    let writes = named_files(alloc, script.writes(), script, &positions, Access::Write)?;
-    let words = ignoring_words(alloc, text, &located.locations)?;
-    let mut found = answer_findings(alloc, text, script, &positions, &answer)?;
-    found.append(&mut warnings)?;
-    add_warnings(
-        alloc,
-        &mut found,
-        text,
-        &located.locations,
-        &reads,
-        &writes,
-        &words,
-    )?;
-    let all = denied_findings(alloc, found, denied, &answer, &reads, &writes)?;
-    let status = answer.status_under(denied, any_warning(&all));
-    let ignored = ignored_codes(alloc, &words, denied)?;
-    let findings = reported(alloc, text, &located.locations, all, &ignored)?;
+    let lists = lists_of(alloc, text, &located)?;
+    let (status, findings) = reports(alloc, text, &answer, &located, &lists, warnings, denied)?;
+    let Lists {
+        positions,
+        reads,
+        writes,
+    } = lists;
     Ok(Explanation {
         text,
         answer,
@@ -117,6 +106,69 @@ fn explained<'a>(
         reads,
         writes,
     })
+}
+
+/// Where the verbs of a script are, and the files that it names.
+#[derive(Drop)]
+struct Lists<'a> {
+    positions: Vec<Position>,
+    reads: Vec<NamedFile<'a>>,
+    writes: Vec<NamedFile<'a>>,
+}
+
+fn lists_of<'a>(alloc: Global, text: &[u8], located: &Located<'a>) -> Result<Lists<'a>, AllocError>
+    ensures reads { IfOk result (λ lists. names_of lists.reads.items ≡ reads located.entry.now.script) }
+    ensures writes { IfOk result (λ lists. names_of lists.writes.items ≡ writes located.entry.now.script) }
+    ensures positions { IfOk result (λ lists. lists.positions.items ≡ map (λ location. position_in text.now location.verb) located.entry.now.locations.items) }
+{
+    let script = &located.script;
+    let positions = verb_positions(alloc, text, &located.locations)?;
+    let reads = named_files(alloc, script.reads(), script, &positions, Access::Read)?;
+    let writes = named_files(alloc, script.writes(), script, &positions, Access::Write)?;
+    Ok(Lists {
+        positions,
+        reads,
+        writes,
+    })
+}
+
+/// The status, and the findings: those of the answer, these warnings and the script's own, and what is denied, but for those that the
+/// script ignores.
+fn reports(
+    alloc: Global,
+    text: &[u8],
+    answer: &Answer,
+    located: &Located,
+    lists: &Lists,
+    mut warnings: Vec<Finding>,
+    denied: Denied,
+) -> Result<(u8, Vec<Finding>), AllocError>
+    requires script { IsOfScript text.now located.now.script answer.now }
+    requires warned { has_error warnings.items ≡ false }
+    requires reads { names_of lists.now.reads.items ≡ reads located.now.script }
+    requires writes { names_of lists.now.writes.items ≡ writes located.now.script }
+    ensures reports { IfOk result (λ r. Reports text.now denied answer.now lists.now.positions.items r.0 r.1.items) }
+    ensures few { IfOk result (λ r. r.0 ≤ 2) }
+    ensures warned { IfOk result (λ r. denied.warnings ≡ true → has_warning warnings.items ≡ true → has_warning r.1.items ≡ true) }
+{
+    let locations = &located.locations;
+    let words = ignoring_words(alloc, text, locations)?;
+    let mut found = answer_findings(alloc, text, &located.script, &lists.positions, answer)?;
+    found.append(&mut warnings)?;
+    add_warnings(
+        alloc,
+        &mut found,
+        text,
+        locations,
+        &lists.reads,
+        &lists.writes,
+        &words,
+    )?;
+    let all = denied_findings(alloc, found, denied, answer, &lists.reads, &lists.writes)?;
+    let status = answer.status_under(denied, any_warning(&all));
+    let ignored = ignored_codes(alloc, &words, denied)?;
+    let findings = reported(alloc, text, locations, all, &ignored)?;
+    Ok((status, findings))
 }
 
 /// What is reported of a script that is refused.

@@ -1,5 +1,5 @@
 -- The steps to an explanation.
-use Rattle.std.specs.Prelude.{◌≡◌, ◌||◌, ℕ, List, Some, map}
+use Rattle.std.specs.Prelude.{◌≡◌, ◌==◌, ◌||◌, ℕ, not, List, Some, map}
 use Rattle.std.specs.List.{All}
 use Rattle.sedck_script.specs.Program.{Program}
 use Rattle.sedck_script.specs.Names.{reads, writes}
@@ -10,9 +10,10 @@ use Rattle.sedck_report.specs.Levels.{has_warning, has_error}
 use Rattle.sedck_report.specs.Reported.{AreInOrder, HasRange}
 use Rattle.sedck_report.specs.declared.finding.Finding.{Finding}
 use Rattle.sedck_report.specs.declared.finding.NamedFile.{NamedFile}
+use Rattle.sedck_report.specs.declared.places.Position.{Position}
 use Rattle.sedck_errors.specs.declared.denied.Denied.{Denied}
 use Rattle.sedck_findings.specs.Denial.{is_denied, status_under}
-use Rattle.sedck_findings.specs.Errors.{HasErrors}
+use Rattle.sedck_findings.specs.Errors.{HasErrors, BeginsWithAnswer}
 use Rattle.sedck_findings.specs.declared.answer.Answer.{Answer}
 use Rattle.sedck_findings.specs.declared.answer.Answer.TheVariants.{Accepted}
 use Rattle.sedck_findings.specs.declared.explanation.Explanation.{Explanation}
@@ -25,6 +26,14 @@ pub record Explains (text : List ℕ) (denied : Denied) (answer : Answer) (e : E
   pub errors : HasErrors text e
   pub order : AreInOrder e.findings.items
   pub ends : All (HasRange text) e.findings.items
+
+-- a status and the findings of an answer to a caller who denies this, for a script with its verbs at these positions
+pub record Reports (text : List ℕ) (denied : Denied) (answer : Answer) (positions : List Position) (status : ℕ) (findings : List Finding) : Type 0 where
+  pub is_status : status ≡ status_under denied (has_warning findings) answer
+  pub exactly : has_error findings ≡ not (status == 0)
+  pub first : BeginsWithAnswer text positions findings answer
+  pub order : AreInOrder findings
+  pub ends : All (HasRange text) findings
 
 -- the script is kept, with its names and with the positions of these locations
 pub record KeepsLocated (text : List ℕ) (script : Program) (locations : List Location) (e : Explanation) : Type 0 where
