@@ -1,9 +1,14 @@
 //! Sources of Autoconf: the whole file is a text, without comments of M4.
 
 use crate::host::Host;
-use crate::parts::is_name_byte;
+use crate::parts::{is_name_byte, is_one_of};
 use sedck_traced::Unit;
 use std::alloc::{AllocError, Global};
+
+/// Bytes that Autoconf writes in place of one.
+static QUADRIGRAPHS: &'static [&'static [u8]] = &[
+    b"@<:@", b"@{:@", b"@:>@", b"@:}@", b"@%:@", b"@S|@", b"@&t@",
+];
 
 /// The shell text of a source of Autoconf.
 pub(crate) fn host_of_autoconf(alloc: Global, file: &[u8]) -> Result<Host, AllocError> {
@@ -24,10 +29,10 @@ pub(crate) fn host_of_autoconf(alloc: Global, file: &[u8]) -> Result<Host, Alloc
         if is_comment || index < resume {
             continue;
         }
-        let length = quadrigraph_length(rest);
-        if length > 0 {
-            resume = index.saturating_add(length);
-            units.push(Unit::Hole(index, resume))?;
+        let end = index.saturating_add(4);
+        if is_one_of(file.get(index..end).unwrap_or(&[]), QUADRIGRAPHS) {
+            resume = end;
+            units.push(Unit::Hole(index, end))?;
         } else {
             units.push(Unit::Byte(*byte, index))?;
         }
@@ -35,16 +40,4 @@ pub(crate) fn host_of_autoconf(alloc: Global, file: &[u8]) -> Result<Host, Alloc
     let mut host = Host::new(alloc);
     host.add(units)?;
     Ok(host)
-}
-
-/// The length of the quadrigraph that begins the bytes; 0 if none does.
-fn quadrigraph_length(bytes: &[u8]) -> usize {
-    match bytes {
-        [b'@', b'<' | b'{', b':', b'@', ..] => 4,
-        [b'@', b':', b'>' | b'}', b'@', ..] => 4,
-        [b'@', b'%', b':', b'@', ..] => 4,
-        [b'@', b'S', b'|', b'@', ..] => 4,
-        [b'@', b'&', b't', b'@', ..] => 4,
-        _ => 0,
-    }
 }

@@ -1,7 +1,7 @@
 //! The parts of a Dockerfile's instructions.
 
 use crate::kind::{Kind, program_kind};
-use crate::parts::{Part, between, bytes_of, is_ended, name_end};
+use crate::parts::{Part, between, bytes_of, has_byte, is_ended, name_end};
 use sedck_traced::Unit;
 
 /// A here-document of an instruction.
@@ -92,25 +92,28 @@ pub(crate) fn here_of(file: &[u8], units: &[Unit], end: usize) -> Option<Here> {
 
 /// The here-document whose redirection begins the part: `<<`, perhaps `-`, and a name, perhaps quoted.
 fn here_at(file: &[u8], whole: Part, is_first: bool) -> Option<Here> {
-    let (is_stripped, length) = match bytes_of(file, whole) {
-        [b'<', b'<', b'-', b'"' | b'\'', ..] => (true, 4usize),
-        [b'<', b'<', b'-', ..] => (true, 3),
-        [b'<', b'<', b'"' | b'\'', ..] => (false, 3),
-        [b'<', b'<', ..] => (false, 2),
-        _ => return None,
-    };
-    let start = whole.start.saturating_add(length);
+    if !bytes_of(file, whole).starts_with(b"<<") {
+        return None;
+    }
+    let hyphen = whole.start.saturating_add(2);
+    let is_stripped = has_byte(file, hyphen, b'-');
+    let start = after_quote(file, hyphen.saturating_add(usize::from(is_stripped)));
     let end = name_end(file, between(start, whole.end));
     if end == start {
         return None;
     }
-    let is_quoted = matches!(file.get(end), Some(b'"' | b'\''));
-    let behind = end.saturating_add(usize::from(is_quoted));
+    let behind = between(after_quote(file, end), whole.end);
     Some(Here {
         delimiter: between(start, end),
         is_stripped,
-        is_script: is_first && is_ended(file, between(behind, whole.end)),
+        is_script: is_first && is_ended(file, behind),
     })
+}
+
+/// The offset, or the next one if a quote is there.
+fn after_quote(file: &[u8], offset: usize) -> usize {
+    let is_quote = matches!(file.get(offset), Some(b'"' | b'\''));
+    offset.saturating_add(usize::from(is_quote))
 }
 
 /// The line without the backslash at its end that continues it, and whether there is one: blanks may follow it.
@@ -122,9 +125,8 @@ pub(crate) fn uncontinued(file: &[u8], line: Part) -> (Part, bool) {
             break;
         }
     }
-    let before = end.saturating_sub(1);
-    let is_quoted = end > line.start && file.get(before) == Some(&b'\\');
-    if end >= line.start && file.get(end) == Some(&b'\\') && end < line.end && !is_quoted {
+    let is_quoted = end > line.start && has_byte(file, end.saturating_sub(1), b'\\');
+    if end < line.end && has_byte(file, end, b'\\') && !is_quoted {
         (between(line.start, end), true)
     } else {
         (line, false)

@@ -22,20 +22,22 @@ pub enum Kind {
 impl Kind {
     /// The kind with this name on the command line: sh, make, docker, yaml, spec or m4.
     pub fn named(name: &str) -> Option<Kind> {
-        match name {
-            "sh" => Some(Kind::Shell),
-            "make" => Some(Kind::Make),
-            "docker" => Some(Kind::Docker),
-            "yaml" => Some(Kind::Yaml),
-            "spec" => Some(Kind::Spec),
-            "m4" => Some(Kind::Autoconf),
-            _ => None,
-        }
+        kind_in(LANGUAGES, name.as_bytes())
     }
 }
 
 /// A name, and the kind that it means.
 type Named = (&'static [u8], Kind);
+
+/// The names of kinds on the command line.
+static LANGUAGES: &'static [Named] = &[
+    (b"sh", Kind::Shell),
+    (b"make", Kind::Make),
+    (b"docker", Kind::Docker),
+    (b"yaml", Kind::Yaml),
+    (b"spec", Kind::Spec),
+    (b"m4", Kind::Autoconf),
+];
 
 /// Names of files that mean something only as they are.
 static WHOLE: &'static [Named] = &[

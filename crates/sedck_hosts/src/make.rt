@@ -4,7 +4,8 @@ use crate::host::{Assignment, Host};
 use crate::make_lines::{DIRECTIVES, Definition, Operator, definition_at, first_of, recipe_start};
 use crate::make_text::{Reading, conditional_end, read_make_text};
 use crate::parts::{
-    Part, after_any, after_blanks, between, bytes_of, is_one_of, lines_of, split_word,
+    Part, after_any, after_blanks, between, bytes_of, has_byte, is_ended, is_one_of, lines_of,
+    split_word,
 };
 use sedck_traced::Unit;
 use std::alloc::{AllocError, Global};
@@ -50,11 +51,11 @@ impl Make<'_> {
         if self.defines > 0 {
             return self.read_in_define(line, statement);
         }
-        let has_tab = self.file.get(line.start) == Some(&b'\t') && line.start < line.end;
+        let has_tab = bytes_of(self.file, line).starts_with(b"\t");
         if has_tab && (self.is_in_rule || definition_at(self.file, statement).is_none()) {
             return self.add(line, Reading::Recipe);
         }
-        if statement.start >= line.end || self.file.get(statement.start) == Some(&b'#') {
+        if is_ended(self.file, statement) {
             return Ok(());
         }
         self.read_statement(statement)
@@ -96,7 +97,7 @@ impl Make<'_> {
     /// Reads a line with targets, behind which an assignment or a recipe may stand.
     fn read_rule(&mut self, line: Part) -> Result<(), AllocError> {
         let colon = first_of(self.file, line, b":#;");
-        if colon >= line.end || self.file.get(colon) != Some(&b':') {
+        if !has_byte(self.file, colon, b':') {
             return self.add(line, Reading::Value);
         }
         self.is_in_rule = true;
@@ -111,7 +112,7 @@ impl Make<'_> {
         }
         let end = first_of(self.file, rest, b";#");
         self.add(between(line.start, end), Reading::Value)?;
-        if end < line.end && self.file.get(end) == Some(&b';') {
+        if has_byte(self.file, end, b';') {
             return self.add(between(end.saturating_add(1), line.end), Reading::Recipe);
         }
         Ok(())
@@ -119,7 +120,7 @@ impl Make<'_> {
 
     /// Adds a line of a recipe, and the arguments of `$(shell ..)` in a line.
     fn add(&mut self, line: Part, reading: Reading) -> Result<(), AllocError> {
-        let is_recipe = reading == Reading::Recipe;
+        let is_recipe = matches!(reading, Reading::Recipe);
         let start = if is_recipe {
             recipe_start(self.file, line)
         } else {
@@ -140,12 +141,12 @@ impl Make<'_> {
     /// Reads an assignment. With `!=` its value is shell text; after `+=` and `!=` the value of the name isn't known.
     fn read_definition(&mut self, line: Part, definition: Definition) -> Result<(), AllocError> {
         self.add(line, Reading::Value)?;
-        if definition.operator == Operator::Append {
+        if matches!(definition.operator, Operator::Append) {
             return self.assign_unknown(definition.name, line);
         }
         let value = between(definition.value, line.end);
         let (units, _) = read_make_text(self.alloc, self.file, value, Reading::Value)?;
-        if definition.operator == Operator::Shell {
+        if matches!(definition.operator, Operator::Shell) {
             self.host.add(units)?;
             return self.assign_unknown(definition.name, line);
         }

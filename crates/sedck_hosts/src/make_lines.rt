@@ -1,6 +1,6 @@
 //! The parts of a makefile's lines.
 
-use crate::parts::{Part, after_blanks, between, bytes_of, name_end};
+use crate::parts::{Part, after_blanks, between, bytes_of, has_byte, name_end};
 
 /// Words that begin a line which is neither a rule nor an assignment.
 pub(crate) static DIRECTIVES: &'static [&'static [u8]] = &[
@@ -22,7 +22,7 @@ pub(crate) static DIRECTIVES: &'static [&'static [u8]] = &[
 ];
 
 /// How an assignment sets its name.
-#[derive(Clone, Copy, PartialEq, Eq)]
+#[derive(Clone, Copy)]
 pub(crate) enum Operator {
     /// To the value, as `=`, `:=`, `::=`, `:::=` and `?=` do.
     Set,
@@ -41,11 +41,22 @@ pub(crate) struct Definition {
     pub value: usize,
 }
 
+/// The operators of assignments.
+static OPERATORS: &'static [(&'static [u8], Operator)] = &[
+    (b"=", Operator::Set),
+    (b":=", Operator::Set),
+    (b"::=", Operator::Set),
+    (b":::=", Operator::Set),
+    (b"?=", Operator::Set),
+    (b"+=", Operator::Append),
+    (b"!=", Operator::Shell),
+];
+
 /// The assignment that the part is, if it is one: a name, blanks, and an operator.
 pub(crate) fn definition_at(file: &[u8], whole: Part) -> Option<Definition> {
     let mut end = first_of(file, whole, b" \t=:;#");
     let before = end.saturating_sub(1);
-    if file.get(end) == Some(&b'=') && matches!(file.get(before), Some(b'?' | b'+' | b'!')) {
+    if has_byte(file, end, b'=') && matches!(file.get(before), Some(b'?' | b'+' | b'!')) {
         end = before;
     }
     if end <= whole.start {
@@ -63,15 +74,12 @@ pub(crate) fn definition_at(file: &[u8], whole: Part) -> Option<Definition> {
 
 /// The operator that begins the bytes, and its length.
 fn operator_of(bytes: &[u8]) -> Option<(Operator, usize)> {
-    match bytes {
-        [b'=', ..] => Some((Operator::Set, 1)),
-        [b':' | b'?', b'=', ..] => Some((Operator::Set, 2)),
-        [b':', b':', b'=', ..] => Some((Operator::Set, 3)),
-        [b':', b':', b':', b'=', ..] => Some((Operator::Set, 4)),
-        [b'+', b'=', ..] => Some((Operator::Append, 2)),
-        [b'!', b'=', ..] => Some((Operator::Shell, 2)),
-        _ => None,
+    for (written, operator) in OPERATORS {
+        if bytes.starts_with(written) {
+            return Some((*operator, written.len()));
+        }
     }
+    None
 }
 
 /// Where the first of these bytes is that stands outside of references and behind no backslash; the end of the part if there is none.
@@ -123,7 +131,7 @@ pub(crate) fn recipe_start(file: &[u8], whole: Part) -> usize {
             Some(b' ' | b'\t' | b'-' | b'+') => {}
             Some(b'@') => {
                 let end = name_end(file, between(next, whole.end));
-                if end > next && file.get(end) == Some(&b'@') {
+                if end > next && has_byte(file, end, b'@') {
                     return index;
                 }
             }

@@ -1,11 +1,13 @@
 //! What make does to a part of a makefile before the shell sees it: references are replaced, `$$` is a dollar sign, and lines are joined.
 
-use crate::parts::{Part, after_any, after_blanks, between, bytes_of, name_end, push_part};
+use crate::parts::{
+    Part, after_any, after_blanks, between, bytes_of, has_byte, name_end, push_part,
+};
 use sedck_traced::Unit;
 use std::alloc::{AllocError, Global};
 
 /// What a part of a makefile is.
-#[derive(Clone, Copy, PartialEq, Eq)]
+#[derive(Clone, Copy)]
 pub(crate) enum Reading {
     /// A line of a recipe: a backslash before a newline stays.
     Recipe,
@@ -90,7 +92,7 @@ impl MakeText<'_> {
         match byte {
             b'$' => self.read_dollar(index),
             b'\\' if is_outside => self.read_backslash(index),
-            b'#' if is_outside && self.reading == Reading::Value => {
+            b'#' if is_outside && matches!(self.reading, Reading::Value) => {
                 self.resume = self.end;
                 Ok(())
             }
@@ -129,7 +131,8 @@ impl MakeText<'_> {
             }
             Some(b'(') => self.open(index, b'(', b')'),
             Some(b'{') => self.open(index, b'{', b'}'),
-            Some(b'\\') if self.byte(after) == Some(b'\n') && self.reading != Reading::Recipe => {
+            Some(b'\\')
+                if self.byte(after) == Some(b'\n') && !matches!(self.reading, Reading::Recipe) => {
                 let start = conditional_end(self.file, between(end, self.end));
                 self.resume = after_blanks(self.file, between(start, self.end));
                 self.add(Unit::Hole(index, end))
@@ -165,7 +168,7 @@ impl MakeText<'_> {
 
     /// Where the argument begins, if a reference that begins at this offset is a call of `shell`.
     fn argument_at(&self, from: usize) -> Option<usize> {
-        if self.reading == Reading::Argument || self.shells >= SHELLS {
+        if matches!(self.reading, Reading::Argument) || self.shells >= SHELLS {
             return None;
         }
         let rest = bytes_of(self.file, between(from, self.end));
@@ -239,7 +242,7 @@ impl MakeText<'_> {
     /// Whether a hole that joins two lines is the last unit.
     fn is_joined(&self) -> bool {
         match self.units.last() {
-            Some(Unit::Hole(start, _)) => self.file.get(*start) == Some(&b'\\'),
+            Some(Unit::Hole(start, _)) => has_byte(self.file, *start, b'\\'),
             _ => false,
         }
     }
@@ -287,7 +290,7 @@ pub(crate) fn conditional_end(file: &[u8], whole: Part) -> usize {
     let mut start = whole.start;
     for _ in 0..8 {
         let name = start.saturating_add(1);
-        if file.get(start) != Some(&b'@') {
+        if !has_byte(file, start, b'@') {
             break;
         }
         let end = name_end(file, between(name, whole.end));

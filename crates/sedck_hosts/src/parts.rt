@@ -107,7 +107,15 @@ pub(crate) fn is_name_byte(byte: u8) -> bool {
 /// Whether only blanks and a comment are in the part.
 pub(crate) fn is_ended(file: &[u8], part: Part) -> bool {
     let start = after_blanks(file, part);
-    start >= part.end || file.get(start) == Some(&b'#')
+    start >= part.end || has_byte(file, start, b'#')
+}
+
+/// Whether the file has the byte at the offset.
+pub(crate) fn has_byte(file: &[u8], offset: usize, byte: u8) -> bool {
+    match file.get(offset) {
+        Some(there) => *there == byte,
+        None => false,
+    }
 }
 
 /// Adds the bytes of the part.
@@ -120,17 +128,25 @@ pub(crate) fn push_part(units: &mut Vec<Unit>, file: &[u8], part: Part) -> Resul
     Ok(())
 }
 
-/// Adds the newline that ends the line, if the file has one.
+/// Adds the newline that ends the line, if the file has one; a carriage return may stand before it.
 pub(crate) fn push_newline(
     units: &mut Vec<Unit>,
     file: &[u8],
     line: Part,
 ) -> Result<(), AllocError> {
-    let next = line.end.saturating_add(1);
-    if file.get(line.end) == Some(&b'\n') {
-        units.push(Unit::Byte(b'\n', line.end))?;
-    } else if file.get(next) == Some(&b'\n') {
-        units.push(Unit::Byte(b'\n', next))?;
+    let length = usize::from(has_byte(file, line.end, b'\r'));
+    let offset = line.end.saturating_add(length);
+    if has_byte(file, offset, b'\n') {
+        units.push(Unit::Byte(b'\n', offset))?;
     }
     Ok(())
+}
+
+/// The offset of the first byte after the unit.
+pub(crate) fn end_of(unit: Unit) -> usize {
+    match unit {
+        Unit::Byte(_, offset) => offset.saturating_add(1),
+        Unit::Escape(_, offset) => offset.saturating_add(2),
+        Unit::Hole(_, end) => end,
+    }
 }

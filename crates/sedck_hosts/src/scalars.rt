@@ -1,21 +1,8 @@
 //! Scalars of YAML on one line.
 
-use crate::parts::{Part, between, bytes_of, is_ended};
+use crate::parts::{Part, between, bytes_of, end_of, has_byte, is_ended};
 use sedck_traced::Unit;
 use std::alloc::{AllocError, Global};
-
-/// A quoted scalar.
-#[derive(Drop)]
-struct Quoted<'a> {
-    file: &'a [u8],
-    end: usize,
-    quote: u8,
-    units: Vec<Unit>,
-    /// The offset with which reading goes on.
-    resume: usize,
-    /// What is behind the quote that ends it.
-    closed: Option<usize>,
-}
 
 /// The text of a quoted scalar, whose first quote begins the part; none if it doesn't end there.
 pub(crate) fn quoted_units(
@@ -24,88 +11,69 @@ pub(crate) fn quoted_units(
     whole: Part,
     quote: u8,
 ) -> Result<Option<Vec<Unit>>, AllocError> {
+    let mut units = Vec::new(alloc);
     let from = whole.start.saturating_add(1);
-    let mut scalar = Quoted {
-        file,
-        end: whole.end,
-        quote,
-        units: Vec::new(alloc),
-        resume: from,
-        closed: None,
-    };
+    let mut resume = from;
     for index in from..whole.end {
-        if index < scalar.resume || scalar.closed.is_some() {
+        if index < resume {
             continue;
         }
-        if let Some(byte) = file.get(index) {
-            scalar.read(index, *byte)?;
-        }
-    }
-    match scalar.closed {
-        Some(after) if is_ended(file, between(after, whole.end)) => Ok(Some(scalar.units)),
-        _ => Ok(None),
-    }
-}
-
-impl Quoted<'_> {
-    /// Reads the byte at this offset.
-    fn read(&mut self, index: usize, byte: u8) -> Result<(), AllocError> {
-        let next = index.saturating_add(1);
-        if byte == self.quote {
-            if byte == b'\'' && next < self.end && self.file.get(next) == Some(&b'\'') {
-                self.resume = next.saturating_add(1);
-                self.units.push(Unit::Byte(b'\'', next))?;
-                return Ok(());
-            }
-            self.closed = Some(next);
-            return Ok(());
-        }
-        if byte == b'\\' && self.quote == b'"' {
-            return self.read_escape(index, next);
-        }
-        self.resume = push_unit(&mut self.units, self.file, between(index, self.end))?;
-        Ok(())
-    }
-
-    /// Reads an escape sequence between double quotes. One that doesn't stand for one byte is a hole.
-    fn read_escape(&mut self, index: usize, next: usize) -> Result<(), AllocError> {
-        self.resume = next.saturating_add(1);
-        if next >= self.end {
-            return Ok(());
-        }
-        let unit = match self.file.get(next) {
-            Some(b'\\') => Unit::Byte(b'\\', next),
-            Some(b'"') => Unit::Byte(b'"', next),
-            Some(b'/') => Unit::Byte(b'/', next),
-            Some(b'n') => Unit::Escape(b'\n', index),
-            Some(b't') => Unit::Escape(b'\t', index),
-            _ => Unit::Hole(index, next.saturating_add(1)),
+        let Some(unit) = quoted_unit(file, between(index, whole.end), quote) else {
+            let is_whole = is_ended(file, between(index.saturating_add(1), whole.end));
+            return Ok(if is_whole { Some(units) } else { None });
         };
-        self.units.push(unit)?;
-        Ok(())
+        resume = end_of(unit);
+        units.push(unit)?;
+    }
+    Ok(None)
+}
+
+/// The unit that begins the part, between these quotes; none if that is the quote at the end.
+fn quoted_unit(file: &[u8], part: Part, quote: u8) -> Option<Unit> {
+    let next = part.start.saturating_add(1);
+    if has_byte(file, part.start, quote) {
+        let is_pair = quote == b'\'' && next < part.end && has_byte(file, next, quote);
+        return if is_pair {
+            Some(Unit::Byte(quote, next))
+        } else {
+            None
+        };
+    }
+    if quote == b'"' && has_byte(file, part.start, b'\\') {
+        return Some(escaped_unit(file, part.start, next));
+    }
+    Some(line_unit(file, part))
+}
+
+/// The unit for which an escape sequence between double quotes stands: a hole where that isn't one byte.
+fn escaped_unit(file: &[u8], index: usize, next: usize) -> Unit {
+    match file.get(next) {
+        Some(byte) if matches!(*byte, b'\\' | b'"' | b'/') => Unit::Byte(*byte, next),
+        Some(b'n') => Unit::Escape(b'\n', index),
+        Some(b't') => Unit::Escape(b'\t', index),
+        _ => Unit::Hole(index, next.saturating_add(1)),
     }
 }
 
-/// Adds the byte that begins the part, or the expression as a hole, and answers where that ends.
-fn push_unit(units: &mut Vec<Unit>, file: &[u8], whole: Part) -> Result<usize, AllocError> {
-    let end = template_end(file, whole);
-    if end > whole.start {
-        units.push(Unit::Hole(whole.start, end))?;
-        return Ok(end);
+/// The unit that begins the part of a line: a byte, or an expression as a hole.
+fn line_unit(file: &[u8], part: Part) -> Unit {
+    let end = template_end(file, part);
+    match file.get(part.start) {
+        Some(byte) if end <= part.start => Unit::Byte(*byte, part.start),
+        _ => Unit::Hole(part.start, end),
     }
-    if let Some(byte) = file.get(whole.start) {
-        units.push(Unit::Byte(*byte, whole.start))?;
-    }
-    Ok(whole.start.saturating_add(1))
 }
 
 /// Where an expression ends that begins the part: `${{ .. }}` of GitHub's, or `$[[ .. ]]` of GitLab's, which are replaced before a
 /// shell runs; 0 if none begins there. One that isn't closed goes to the part's end.
 fn template_end(file: &[u8], part: Part) -> usize {
-    let closer = match bytes_of(file, part) {
-        [b'$', b'{', b'{', ..] => b'}',
-        [b'$', b'[', b'[', ..] => b']',
-        _ => return 0,
+    let bytes = bytes_of(file, part);
+    let closer = if bytes.starts_with(b"${{") {
+        b'}'
+    } else if bytes.starts_with(b"$[[") {
+        b']'
+    } else {
+        return 0;
     };
     let mut before = b' ';
     for index in part.start..part.end {
@@ -123,7 +91,9 @@ pub(crate) fn push_line(units: &mut Vec<Unit>, file: &[u8], line: Part) -> Resul
     let mut resume = line.start;
     for index in line.start..line.end {
         if index >= resume {
-            resume = push_unit(units, file, between(index, line.end))?;
+            let unit = line_unit(file, between(index, line.end));
+            resume = end_of(unit);
+            units.push(unit)?;
         }
     }
     Ok(())

@@ -3,7 +3,7 @@
 use crate::host::Host;
 use crate::make_lines::reference_end;
 use crate::parts::{
-    Part, between, bytes_of, is_name_byte, is_one_of, lines_of, push_newline, split_word,
+    Part, after_any, between, bytes_of, is_one_of, lines_of, name_end, push_newline, split_word,
 };
 use sedck_traced::Unit;
 use std::alloc::{AllocError, Global};
@@ -20,7 +20,7 @@ struct Open {
 }
 
 /// What a line is by the word that begins it.
-#[derive(Clone, Copy, PartialEq, Eq)]
+#[derive(Clone, Copy)]
 enum Sort {
     /// It begins a section of shell text.
     Script,
@@ -136,14 +136,24 @@ impl Spec<'_> {
     /// Reads a line.
     fn read_line(&mut self, line: Part) -> Result<(), AllocError> {
         let (word, rest) = split_word(self.file, line);
-        let sort = sort_of(word);
-        if matches!(sort, Sort::Script | Sort::Section) {
-            self.end_section()?;
-            self.is_shell = sort == Sort::Script && has_shell(self.file, rest);
-            return Ok(());
+        match sort_of(word) {
+            Sort::Script => {
+                self.is_shell = has_shell(self.file, rest);
+                self.end_section()
+            }
+            Sort::Section => {
+                self.is_shell = false;
+                self.end_section()
+            }
+            Sort::Directive => self.read_text(line, true),
+            Sort::Text => self.read_text(line, self.is_continued),
         }
-        self.is_left_out = self.is_continued || sort == Sort::Directive;
-        self.is_continued = self.is_left_out && bytes_of(self.file, line).ends_with(b"\\");
+    }
+
+    /// Reads a line of a section.
+    fn read_text(&mut self, line: Part, is_left_out: bool) -> Result<(), AllocError> {
+        self.is_left_out = is_left_out;
+        self.is_continued = is_left_out && bytes_of(self.file, line).ends_with(b"\\");
         for index in line.start..line.end {
             if index < self.resume {
                 continue;
@@ -273,20 +283,10 @@ fn command_units(alloc: Global, file: &[u8], whole: Part) -> Result<Vec<Unit>, A
 /// Where the macro's name ends that begins the part, after `?` and `!`; 0 if none does. A name begins with no digit and has three letters
 /// at least.
 fn macro_end(file: &[u8], whole: Part) -> usize {
-    let mut name = whole.start;
-    let mut end = whole.end;
-    for index in whole.start..whole.end {
-        match file.get(index) {
-            Some(b'?' | b'!') if index == name => name = index.saturating_add(1),
-            Some(byte) if byte.is_ascii_digit() && index == name => return 0,
-            Some(byte) if is_name_byte(*byte) => {}
-            _ => {
-                end = index;
-                break;
-            }
-        }
-    }
-    if end.saturating_sub(name) < 3 {
+    let name = after_any(file, whole, b"?!");
+    let end = name_end(file, between(name, whole.end));
+    let is_number = matches!(file.get(name), Some(b'0'..=b'9'));
+    if is_number || end.saturating_sub(name) < 3 {
         return 0;
     }
     end

@@ -3,8 +3,8 @@
 use crate::blocks::{block_at, header};
 use crate::host::Host;
 use crate::parts::{
-    Part, after_any, after_blanks, between, bytes_of, is_ended, is_name_byte, is_one_of, lines_of,
-    split_word,
+    Part, after_any, after_blanks, between, bytes_of, has_byte, is_ended, is_name_byte, is_one_of,
+    lines_of, split_word,
 };
 use crate::scalars::{plain_scalar, push_line, quoted_units};
 use std::alloc::{AllocError, Global};
@@ -24,6 +24,11 @@ static KEYS: &'static [&'static [u8]] = &[
     b"before_cache",
     b"bash",
     b"command",
+];
+
+/// How the values of `shell:` begin that name no shell of POSIX's.
+static FOREIGN: &'static [&'static [u8]] = &[
+    b"py", b"pw", b"po", b"pe", b"cmd", b"node", b"ruby", b"fish",
 ];
 
 /// The sequence that is the value of a key with shell text.
@@ -160,7 +165,7 @@ impl Yaml<'_> {
     /// Reads a value of shell text, in a node with this indentation; an anchor may stand before it. Nothing is there before a sequence.
     /// A folded block is a text only if it has one line, since newlines become spaces in it.
     fn read_value(&mut self, line: Line, parent: usize, value: Part) -> Result<(), AllocError> {
-        let value = if self.file.get(value.start) == Some(&b'&') {
+        let value = if has_byte(self.file, value.start, b'&') {
             let (_, rest) = split_word(self.file, value);
             rest
         } else {
@@ -267,10 +272,10 @@ fn key_end(file: &[u8], part: Part) -> Option<usize> {
 
 /// Whether a `shell:` with this value is no shell of POSIX's.
 fn is_foreign(value: &[u8]) -> bool {
-    match value {
-        [b'p', b'y' | b'w' | b'o' | b'e', ..] => true,
-        [b'c', b'm', b'd', ..] | [b'n', b'o', b'd', b'e', ..] => true,
-        [b'r', b'u', b'b', b'y', ..] | [b'f', b'i', b's', b'h', ..] => true,
-        _ => false,
+    for name in FOREIGN {
+        if value.starts_with(name) {
+            return true;
+        }
     }
+    false
 }
