@@ -11,8 +11,9 @@ from collections import Counter
 from pathlib import Path
 
 TOP = Path(__file__).resolve().parent.parent
-# What is written of a function has its path, and then names of its own, which begin with a capital; a type in the path does so, too.
-FUNCTION = re.compile(r"(?:\S+\.)?[a-z_][^.]*")
+# What is written of a function, or of those that call one another (`+name`), has its path, and then names of its own, which begin with
+# a capital; a type in the path does so, too.
+FUNCTION = re.compile(r"(?:\S+\.)?[a-z_+][^.]*")
 
 
 def function_of(module):
