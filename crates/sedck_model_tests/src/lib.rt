@@ -4,6 +4,8 @@
 #[cfg(test)]
 mod matching;
 #[cfg(test)]
+mod rows;
+#[cfg(test)]
 mod steps;
 #[cfg(test)]
 mod successors;

@@ -1,10 +1,10 @@
 //! What no clause says: that the functions answer, and within which budget.
 
+use crate::rows::{require, require_equal};
 use sedck_bre::{Expr, parse};
 use sedck_matching::{Budget, Undecided, ends, has_match, is_in_language, matches};
 use std::alloc::Global;
 use std::process::Abort;
-use std::test::Fail;
 
 /// An expression, a text, whether it is in the language, and whether some part of it is.
 type Row = (&'static str, &'static str, bool, bool);
@@ -43,45 +43,44 @@ fn expression_of(rt: &impl Abort, alloc: Global, text: &[u8]) -> Expr {
     }
 }
 
-#[test]
-fn languages(rt: HostRuntime) -> Result<(), Fail> {
-    for (written, text, whole, part) in &LANGUAGES {
-        let expression = expression_of(&rt, rt.alloc(), written.as_bytes());
-        let (body, text) = (expression.body(), text.as_bytes());
-        let mut budget = Budget { left: 10_000 };
-        let in_language = is_in_language(rt.alloc(), body, text, &mut budget);
-        let in_language = in_language.expect(&rt, *written);
-        let has_part = has_match(rt.alloc(), body, text, &mut budget);
-        let has_part = has_part.expect(&rt, *written);
-        let holds = in_language == *whole && has_part == *part;
-        assert!(rt; holds, "{written} {text:?}: {in_language} {has_part}");
-    }
-    Ok(())
+/// Whether the text is in the language of the expression, and whether some part of it is.
+fn found_in(rt: &impl Abort, alloc: Global, written: &str, text: &[u8]) -> (bool, bool) {
+    let expression = expression_of(rt, alloc, written.as_bytes());
+    let body = expression.body();
+    let mut budget = Budget { left: 10_000 };
+    let whole = is_in_language(alloc, body, text, &mut budget).expect(rt, written);
+    let part = has_match(alloc, body, text, &mut budget).expect(rt, written);
+    (whole, part)
 }
 
 #[test]
-fn every_end(rt: HostRuntime) -> Result<(), Fail> {
+fn languages(rt: HostRuntime) {
+    for (written, text, whole, part) in &LANGUAGES {
+        let found = found_in(&rt, rt.alloc(), *written, text.as_bytes());
+        require_equal(&rt, found, (*whole, *part), (*written, *text));
+    }
+}
+
+#[test]
+fn every_end(rt: HostRuntime) {
     let expression = expression_of(&rt, rt.alloc(), b"a*");
     let mut budget = Budget { left: 100 };
     let spots = ends(rt.alloc(), expression.body(), b"baaa", 1, &mut budget).expect(&rt, "ends");
-    assert_eq!(rt; spots.len(), 4);
-    Ok(())
+    require_equal(&rt, spots.len(), 4, "ends");
 }
 
 #[test]
-fn every_match(rt: HostRuntime) -> Result<(), Fail> {
+fn every_match(rt: HostRuntime) {
     let expression = expression_of(&rt, rt.alloc(), b"\\(a*\\)\\(a*\\)");
     let mut budget = Budget { left: 100 };
     let found = matches(rt.alloc(), expression.body(), b"aa", &mut budget).expect(&rt, "matches");
-    assert_eq!(rt; found.len(), 3);
-    Ok(())
+    require_equal(&rt, found.len(), 3, "matches");
 }
 
 #[test]
-fn budgets_are_used_up(rt: HostRuntime) -> Result<(), Fail> {
+fn budgets_are_used_up(rt: HostRuntime) {
     let expression = expression_of(&rt, rt.alloc(), b"a");
     let mut budget = Budget { left: 0 };
     let undecided = has_match(rt.alloc(), expression.body(), b"a", &mut budget);
-    assert_eq!(rt; undecided, Err(Undecided::OutOfBudget));
-    Ok(())
+    require(&rt, undecided == Err(Undecided::OutOfBudget), "no budget");
 }

@@ -1,11 +1,10 @@
 //! Runs and steps that are decided: no clause says that an answer is given at all.
 
+use crate::rows::{require, require_equal, script_of};
 use sedck_matching::Budget;
 use sedck_model::{Event, Machine, Move, State, follows, step};
-use sedck_script::parse;
 use std::alloc::Global;
 use std::process::Abort;
-use std::test::Fail;
 
 /// Before the command at this place, with nothing but a pattern space.
 fn machine<'a>(at: usize, pattern: &'a [u8]) -> Machine<'a, 'a> {
@@ -18,81 +17,131 @@ fn machine<'a>(at: usize, pattern: &'a [u8]) -> Machine<'a, 'a> {
     }
 }
 
-/// A step without an event to this machine.
-fn to<'a>(after: Machine<'a, 'a>) -> Move<'a> {
+/// What a step without an event leads to: the lines that are left, the place, the pattern space and the hold space.
+type Next = (Lines, usize, &'static str, &'static str);
+
+type Lines = &'static [&'static [u8]];
+
+/// A script, the lines, the steps of a run, whether one more ends it, and the first of all that is none of the model's, if there is any.
+type Run = (&'static str, Lines, &'static [Next], bool, Option<usize>);
+
+static RUNS: &'static [Run] = &[
+    ("p", &[], &[], true, None),
+    (
+        "x;G",
+        &[b"a"],
+        &[(&[], 0, "a", ""), (&[], 1, "", "a"), (&[], 2, "\na", "a")],
+        true,
+        None,
+    ),
+    (
+        "G",
+        &[b"a"],
+        &[(&[], 0, "a", ""), (&[], 1, "a", "")],
+        false,
+        Some(1),
+    ),
+    (
+        "y/ab/ba/",
+        &[b"a"],
+        &[(&[], 0, "a", ""), (&[], 1, "b", "")],
+        true,
+        None,
+    ),
+    (
+        "y/ab/cc/",
+        &[b"a"],
+        &[(&[], 0, "a", ""), (&[], 1, "b", "")],
+        true,
+        Some(1),
+    ),
+];
+
+static RUNS_ON_TWO_LINES: &'static [Run] = &[
+    (
+        "N;P;D",
+        &[b"a", b"b"],
+        &[
+            (&[b"b"], 0, "a", ""),
+            (&[], 1, "a\nb", ""),
+            (&[], 2, "a\nb", ""),
+            (&[], 0, "b", ""),
+        ],
+        true,
+        None,
+    ),
+    (
+        "n",
+        &[b"a", b"b"],
+        &[(&[b"b"], 0, "a", ""), (&[], 1, "a", "")],
+        false,
+        Some(1),
+    ),
+    ("$!q", &[b"a", b"b"], &[(&[b"b"], 0, "a", "")], true, None),
+    (
+        "$!q",
+        &[b"a", b"b"],
+        &[(&[b"b"], 0, "a", ""), (&[b"b"], 1, "a", "")],
+        false,
+        Some(1),
+    ),
+];
+
+fn move_to(next: &Next) -> Move<'static> {
+    let (unread, at, pattern, hold) = next;
+    let after = Machine {
+        unread: *unread,
+        hold: hold.as_bytes(),
+        ..machine(*at, pattern.as_bytes())
+    };
     Move {
         event: Event::Silent,
         after: State::At(after),
     }
 }
 
-fn silent<'a>(at: usize, pattern: &'a [u8]) -> Move<'a> {
-    to(machine(at, pattern))
+/// The steps, and one more where they end the run.
+fn moves_of(rt: &impl Abort, alloc: Global, steps: &[Next], is_done: bool) -> Vec<Move<'static>> {
+    let mut moves: Vec<Move> = Vec::new(alloc);
+    for next in steps {
+        moves.push(move_to(next)).expect(rt, "memory");
+    }
+    if is_done {
+        let (event, after) = (Event::Silent, State::Done);
+        moves.push(Move { event, after }).expect(rt, "memory");
+    }
+    moves
 }
 
-/// The same with these lines left.
-fn before<'a>(unread: &'a [&'a [u8]], at: usize, pattern: &'a [u8]) -> Move<'a> {
-    let after = Machine {
-        unread,
-        ..machine(at, pattern)
-    };
-    to(after)
-}
-
-/// The same with this hold space.
-fn holding<'a>(hold: &'a [u8], at: usize, pattern: &'a [u8]) -> Move<'a> {
-    let after = Machine {
-        hold,
-        ..machine(at, pattern)
-    };
-    to(after)
-}
-
-const END: Move<'static> = Move {
-    event: Event::Silent,
-    after: State::Done,
-};
-
-/// Whether this is the first step that is none of the model's, in a run of the script on these lines; none where all are.
-fn expect_wrong(
-    rt: &(impl Abort + AllocGlobal),
-    text: &[u8],
-    lines: &[&[u8]],
-    steps: &[Move],
-    wanted: Option<usize>,
-) -> Result<(), Fail> {
-    let script = parse(rt.alloc(), text)?;
+/// The first step that is none of the model's, in a run of the script on these lines; none where all are.
+fn first_wrong(
+    rt: &impl Abort,
+    alloc: Global,
+    text: &str,
+    lines: Lines,
+    moves: &[Move],
+) -> Option<usize> {
+    let script = script_of(rt, alloc, text);
     let mut budget = Budget { left: 1000 };
-    let found = follows(rt.alloc(), &script, lines, steps, &mut budget)?;
-    assert_eq!(rt; found, wanted, "{text:?}");
-    Ok(())
+    follows(alloc, &script, lines, moves, &mut budget).expect(rt, text)
+}
+
+fn are_followed(rt: &impl Abort, alloc: Global, rows: &[Run]) {
+    for (text, lines, steps, is_done, wanted) in rows {
+        let moves = moves_of(rt, alloc, *steps, *is_done);
+        let found = first_wrong(rt, alloc, *text, *lines, &moves);
+        require_equal(rt, found, *wanted, *text);
+    }
 }
 
 #[test]
-fn runs_are_followed(rt: HostRuntime) -> Result<(), Fail> {
-    expect_wrong(&rt, b"p", &[], &[END], None)?;
-    let one = silent(0, b"a");
-    let lines: [&[u8]; 1] = [b"a"];
-    let steps = [one, holding(b"a", 1, b""), holding(b"a", 2, b"\na"), END];
-    expect_wrong(&rt, b"x;G", &lines, &steps, None)?;
-    expect_wrong(&rt, b"G", &lines, &[one, silent(1, b"a")], Some(1))?;
-    let steps = [one, silent(1, b"b"), END];
-    expect_wrong(&rt, b"y/ab/ba/", &lines, &steps, None)?;
-    expect_wrong(&rt, b"y/ab/cc/", &lines, &steps, Some(1))
+fn runs_are_followed(rt: HostRuntime) {
+    are_followed(&rt, rt.alloc(), RUNS);
 }
 
 #[test]
-fn runs_on_two_lines_are_followed(rt: HostRuntime) -> Result<(), Fail> {
-    let left: [&[u8]; 1] = [b"b"];
-    let lines: [&[u8]; 2] = [b"a", b"b"];
-    let first = before(&left, 0, b"a");
-    let joined = silent(1, b"a\nb");
-    let steps = [first, joined, silent(2, b"a\nb"), silent(0, b"b"), END];
-    expect_wrong(&rt, b"N;P;D", &lines, &steps, None)?;
-    expect_wrong(&rt, b"n", &lines, &[first, silent(1, b"a")], Some(1))?;
-    expect_wrong(&rt, b"$!q", &lines, &[first, END], None)?;
-    let skipping = [first, before(&left, 1, b"a")];
-    expect_wrong(&rt, b"$!q", &lines, &skipping, Some(1))
+fn runs_on_two_lines_are_followed(rt: HostRuntime) {
+    are_followed(&rt, rt.alloc(), RUNS_ON_TWO_LINES);
 }
 
 /// A script, whether the flag is set before its first step, what that does to a file, the place and the pattern space after it (none
@@ -137,28 +186,28 @@ fn state_at<'a>(after: &Option<(usize, &'a str)>) -> State<'a, 'a> {
 
 /// Whether the model has the step of the script's first command from this machine.
 fn is_step(
+    rt: &impl Abort,
     alloc: Global,
-    text: &[u8],
+    text: &str,
     before: Machine,
     event: &Event,
     after: &State,
-) -> Result<bool, Fail> {
-    let script = parse(alloc, text)?;
+) -> bool {
+    let script = script_of(rt, alloc, text);
     let mut budget = Budget { left: 1000 };
     let start = State::At(before);
-    Ok(step(alloc, &script, &start, event, after, &mut budget)?)
+    step(alloc, &script, &start, event, after, &mut budget).expect(rt, text)
 }
 
 #[test]
-fn steps_are_decided(rt: HostRuntime) -> Result<(), Fail> {
+fn steps_are_decided(rt: HostRuntime) {
     for (text, flag, event, after, wanted) in CASES {
         let before = Machine {
             flag: *flag,
             ..machine(0, b"a")
         };
         let after = state_at(after);
-        let found = is_step(rt.alloc(), text.as_bytes(), before, event, &after)?;
-        assert!(rt; found == *wanted, "{text}");
+        let found = is_step(&rt, rt.alloc(), *text, before, event, &after);
+        require(&rt, found == *wanted, *text);
     }
-    Ok(())
 }

@@ -1,11 +1,11 @@
 //! All steps from a state, as they are expected by hand.
 
+use crate::rows::{require, require_equal, script_of};
 use sedck_matching::{Budget, Undecided};
 use sedck_model::{Event, Machine, Reached, State, Successor, step, successors};
-use sedck_script::{Script, parse};
+use sedck_script::Script;
 use std::alloc::{AllocError, Global};
 use std::process::Abort;
-use std::test::Fail;
 
 /// Before the first command, with nothing but a pattern space.
 fn machine<'a>(pattern: &'a [u8]) -> Machine<'a, 'a> {
@@ -44,8 +44,8 @@ fn shown(alloc: Global, step: &Successor) -> Result<String, AllocError> {
         line.push_str("end")?;
         return Ok(line);
     };
-    line.push_str(&format!(in alloc; "{}", machine.at)?)?;
-    line.push_str(if machine.flag { "t " } else { " " })?;
+    let flag = if machine.flag { "t" } else { "" };
+    write!(line, "{}{flag} ", machine.at)?;
     add_quoted(&mut line, &machine.pattern)?;
     if !machine.hold.is_empty() {
         line.push_str(" hold ")?;
@@ -54,120 +54,139 @@ fn shown(alloc: Global, step: &Successor) -> Result<String, AllocError> {
     Ok(line)
 }
 
+/// Whether the model has the step from the state.
+fn is_step(
+    rt: &impl Abort,
+    alloc: Global,
+    script: &Script,
+    before: &State,
+    next: &Successor,
+) -> bool {
+    let after = next.after.state();
+    let mut budget = Budget { left: 10_000 };
+    step(alloc, script, before, &next.event, &after, &mut budget).expect(rt, "a step")
+}
+
 /// The steps from the state, each of which is one of the model's.
 fn shown_from<'a>(
     rt: &impl Abort,
     alloc: Global,
     script: &'a Script<'a>,
     before: &State<'a, '_>,
-) -> Result<Vec<String>, Fail> {
+) -> Vec<String> {
     let mut budget = Budget { left: 10_000 };
     let mut lines = Vec::new(alloc);
-    for next in &successors(alloc, script, before, &mut budget)? {
-        let after = next.after.state();
-        let mut budget = Budget { left: 10_000 };
-        let is_step = step(alloc, script, before, &next.event, &after, &mut budget)?;
-        assert!(rt; is_step);
-        lines.push(shown(alloc, next)?)?;
+    for next in &successors(alloc, script, before, &mut budget).expect(rt, "steps") {
+        require(rt, is_step(rt, alloc, script, before, next), "a step");
+        let line = shown(alloc, next).expect(rt, "memory");
+        lines.push(line).expect(rt, "memory");
     }
-    Ok(lines)
+    lines
 }
 
 /// The same, where the script lives for less long than the state.
-fn shown_by(
-    rt: &impl Abort,
-    alloc: Global,
-    script: &Script,
-    before: &State,
-) -> Result<Vec<String>, Fail> {
+fn shown_by(rt: &impl Abort, alloc: Global, script: &Script, before: &State) -> Vec<String> {
     shown_from(rt, alloc, &*script, &*before)
 }
 
 /// The same by the script's text.
-fn steps_from(
-    rt: &impl Abort,
-    alloc: Global,
-    text: &[u8],
-    before: &State,
-) -> Result<Vec<String>, Fail> {
-    let script = parse(alloc, text)?;
+fn steps_from(rt: &impl Abort, alloc: Global, text: &str, before: &State) -> Vec<String> {
+    let script = script_of(rt, alloc, text);
     shown_by(rt, alloc, &script, before)
 }
 
 /// Whether these are the steps from the state, in this order.
-fn expect_from(
-    rt: &impl Abort,
-    alloc: Global,
-    text: &[u8],
-    before: &State,
-    wanted: &[&str],
-) -> Result<(), Fail> {
-    let found = steps_from(rt, alloc, text, before)?;
-    assert_eq!(rt; found.len(), wanted.len(), "{text:?}: {found:?}");
+fn have_steps(rt: &impl Abort, alloc: Global, text: &str, before: &State, wanted: &[&str]) {
+    let found = steps_from(rt, alloc, text, before);
+    require_equal(rt, found.len(), wanted.len(), text);
     for (line, wanted) in found.iter().zip(wanted) {
-        assert_eq!(rt; line.as_str(), *wanted, "{text:?}");
+        require_equal(rt, line.as_str(), *wanted, text);
     }
-    Ok(())
-}
-
-/// Whether these are the steps from the machine.
-fn expect(
-    rt: &impl Abort,
-    alloc: Global,
-    text: &[u8],
-    before: Machine,
-    wanted: &[&str],
-) -> Result<(), Fail> {
-    expect_from(rt, alloc, text, &State::At(before), wanted)
-}
-
-#[test]
-fn substitutions_are_found(rt: HostRuntime) -> Result<(), Fail> {
-    let before = State::At(machine(b"baaac"));
-    let found = steps_from(&rt, rt.alloc(), b"s/a*/x/g", &before)?;
-    assert!(rt; found.iter().any(|line| line.as_str() == "1t \"xbxcx\""));
-    assert!(rt; found.iter().all(|line| line.as_str() != "1t \"xxbxc\""));
-    let wanted = [
-        "1t \"xx\"",
-        "1t \"x\"",
-        "1t \"xax\"",
-        "1t \"xa\"",
-        "1t \"ax\"",
-        "1 \"a\"",
-    ];
-    expect(&rt, rt.alloc(), b"s/a*/x/g", machine(b"a"), &wanted)?;
-    let wanted = [
-        "writes \"f\" 1t \"xab\"",
-        "writes \"f\" 1t \"axb\"",
-        "writes \"f\" 1t \"abx\"",
-        "1 \"ab\"",
-    ];
-    expect(&rt, rt.alloc(), b"s/c*/x/w f", machine(b"ab"), &wanted)
-}
-
-#[test]
-fn flags_are_kept_and_reset(rt: HostRuntime) -> Result<(), Fail> {
-    let unread: [&[u8]; 1] = [b"b"];
-    let before = Machine {
-        flag: true,
-        unread: &unread,
-        ..machine(b"a")
-    };
-    let wanted = ["1t \"a\\nb\"", "1 \"a\\nb\""];
-    expect(&rt, rt.alloc(), b"N;D", before, &wanted)?;
-    expect(&rt, rt.alloc(), b"N;D", machine(b"a"), &["end"])?;
-    let before = Machine {
-        at: 1,
-        flag: true,
-        ..machine(b"a\nb")
-    };
-    expect(&rt, rt.alloc(), b"N;D", before, &["0t \"b\"", "0 \"b\""])?;
-    expect(&rt, rt.alloc(), b"t", before, &["end"])?;
-    expect(&rt, rt.alloc(), b"p;t", before, &["2 \"a\\nb\""])
 }
 
 /// A script, a pattern space, and the steps of the first command.
 type Row = (&'static str, &'static str, &'static [&'static str]);
+
+static SUBSTITUTED: &'static [Row] = &[
+    (
+        "s/a*/x/g",
+        "a",
+        &[
+            "1t \"xx\"",
+            "1t \"x\"",
+            "1t \"xax\"",
+            "1t \"xa\"",
+            "1t \"ax\"",
+            "1 \"a\"",
+        ],
+    ),
+    (
+        "s/c*/x/w f",
+        "ab",
+        &[
+            "writes \"f\" 1t \"xab\"",
+            "writes \"f\" 1t \"axb\"",
+            "writes \"f\" 1t \"abx\"",
+            "1 \"ab\"",
+        ],
+    ),
+];
+
+fn rows_have_steps(rt: &impl Abort, alloc: Global, rows: &[Row]) {
+    for (text, pattern, wanted) in rows {
+        let before = State::At(machine(pattern.as_bytes()));
+        have_steps(rt, alloc, *text, &before, *wanted);
+    }
+}
+
+#[test]
+fn substitutions_are_found(rt: HostRuntime) {
+    let before = State::At(machine(b"baaac"));
+    let found = steps_from(&rt, rt.alloc(), "s/a*/x/g", &before);
+    let has_all = found.iter().any(|line| line.as_str() == "1t \"xbxcx\"");
+    let has_more = found.iter().any(|line| line.as_str() == "1t \"xxbxc\"");
+    require(&rt, has_all, "each match");
+    require(&rt, !has_more, "an empty match before another one");
+    rows_have_steps(&rt, rt.alloc(), SUBSTITUTED);
+}
+
+/// A script, the place of a command, whether the flag is set before it, the lines that are left, the pattern space, and the steps.
+type FlagRow = (
+    &'static str,
+    usize,
+    bool,
+    &'static [&'static [u8]],
+    &'static str,
+    &'static [&'static str],
+);
+
+static FLAGS: &'static [FlagRow] = &[
+    (
+        "N;D",
+        0,
+        true,
+        &[b"b"],
+        "a",
+        &["1t \"a\\nb\"", "1 \"a\\nb\""],
+    ),
+    ("N;D", 0, false, &[], "a", &["end"]),
+    ("N;D", 1, true, &[], "a\nb", &["0t \"b\"", "0 \"b\""]),
+    ("t", 1, true, &[], "a\nb", &["end"]),
+    ("p;t", 1, true, &[], "a\nb", &["2 \"a\\nb\""]),
+];
+
+#[test]
+fn flags_are_kept_and_reset(rt: HostRuntime) {
+    for (text, at, flag, unread, pattern, wanted) in FLAGS {
+        let before = Machine {
+            at: *at,
+            flag: *flag,
+            unread: *unread,
+            ..machine(pattern.as_bytes())
+        };
+        have_steps(&rt, rt.alloc(), *text, &State::At(before), *wanted);
+    }
+}
 
 static ROWS: &'static [Row] = &[
     ("2,3d", "a", &["end", "1 \"a\""]),
@@ -186,20 +205,17 @@ static ROWS: &'static [Row] = &[
 ];
 
 #[test]
-fn commands_are_applied_and_skipped(rt: HostRuntime) -> Result<(), Fail> {
-    for (text, pattern, wanted) in ROWS {
-        let before = machine(pattern.as_bytes());
-        expect(&rt, rt.alloc(), text.as_bytes(), before, *wanted)?;
-    }
-    Ok(())
+fn commands_are_applied_and_skipped(rt: HostRuntime) {
+    rows_have_steps(&rt, rt.alloc(), ROWS);
 }
 
+/// The lines of a run.
+static LINES: &'static [&'static [u8]] = &[b"a"];
+
 #[test]
-fn runs_begin_and_end(rt: HostRuntime) -> Result<(), Fail> {
-    let lines: [&[u8]; 1] = [b"a"];
-    let start = State::Start(&lines);
-    expect_from(&rt, rt.alloc(), b"p", &start, &["0 \"a\""])?;
-    expect_from(&rt, rt.alloc(), b"p", &State::Done, &[])
+fn runs_begin_and_end(rt: HostRuntime) {
+    have_steps(&rt, rt.alloc(), "p", &State::Start(LINES), &["0 \"a\""]);
+    have_steps(&rt, rt.alloc(), "p", &State::Done, &[]);
 }
 
 /// What comes of so small a budget.
@@ -218,11 +234,10 @@ fn outcome(alloc: Global, script: &Script, left: u64) -> Option<Undecided> {
 }
 
 #[test]
-fn budgets_of_steps_are_used_up(rt: HostRuntime) -> Result<(), Fail> {
-    let script = parse(rt.alloc(), b"s/a*/x/g")?;
+fn budgets_of_steps_are_used_up(rt: HostRuntime) {
+    let script = script_of(&rt, rt.alloc(), "s/a*/x/g");
     for left in [0, 1, 10, 50] {
         let outcome = outcome(rt.alloc(), &script, left);
-        assert_eq!(rt; outcome, Some(Undecided::OutOfBudget));
+        require(&rt, outcome == Some(Undecided::OutOfBudget), "a budget");
     }
-    Ok(())
 }

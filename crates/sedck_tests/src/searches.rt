@@ -4,7 +4,7 @@ mod large;
 mod loops;
 mod ranks;
 
-use crate::texts::{require, require_text, script_of};
+use crate::texts::{require, require_equal, require_text, script_of};
 use sedck_cert::{Cert, Verdict, check};
 use sedck_flow::Node;
 use sedck_script::Script;
@@ -26,17 +26,22 @@ fn ranks_of(rt: &impl Abort, alloc: Global, cert: &Cert) -> String {
 
 /// The form, each edge by the node that it leaves and its kind, and the last node.
 fn loop_of(rt: &impl Abort, alloc: Global, walk: &Walk) -> String {
-    assert_eq!(rt; walk.nodes.len(), walk.kinds.len() + 1);
-    let mut lines = String::new(alloc);
+    require_equal(rt, walk.nodes.len(), walk.kinds.len() + 1, "nodes");
     let form = match walk.form {
-        Form::Idle => "idle\n",
-        Form::Growing => "growing\n",
+        Form::Idle => "idle",
+        Form::Growing => "growing",
     };
-    lines.push_str(form).expect(rt, "memory");
-    for at in 0..walk.kinds.len() {
-        writeln!(lines, "{} {}", walk.nodes[at], walk.kinds[at]).expect(rt, "memory");
+    let edges = edges_of(rt, alloc, walk);
+    let last = walk.nodes.last().expect(rt, "a node");
+    format!(in alloc; "{form}\n{edges}{last}\n").expect(rt, "memory")
+}
+
+/// Each edge by the node that it leaves and its kind.
+fn edges_of(rt: &impl Abort, alloc: Global, walk: &Walk) -> String {
+    let mut lines = String::new(alloc);
+    for (node, kind) in walk.nodes.iter().zip(&walk.kinds) {
+        writeln!(lines, "{node} {kind}").expect(rt, "memory");
     }
-    writeln!(lines, "{}", walk.nodes[walk.kinds.len()]).expect(rt, "memory");
     lines
 }
 

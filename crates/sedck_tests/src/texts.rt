@@ -1,6 +1,8 @@
 //! Long texts, made of short ones, and what is reported of texts that are read.
+use sedck_bre::Expr;
 use sedck_script::Script;
 use std::alloc::Global;
+use std::fmt::{Debug, Display};
 use std::process::Abort;
 
 /// A part of a text, and how many times it is there.
@@ -21,11 +23,16 @@ pub fn repeated(rt: &impl Abort, alloc: Global, parts: &[Part]) -> String {
 pub fn numbered(rt: &impl Abort, alloc: Global, piece: &str, first: u16, count: u16) -> String {
     let mut text = String::new(alloc);
     for at in 0..u32::from(count) {
-        let number = format!(in alloc; "{}", u32::from(first) + at).expect(rt, "memory");
-        let copy = piece.replace(alloc, "@", &number).expect(rt, "memory");
+        let copy = with_number(rt, alloc, piece, u32::from(first) + at);
         text.push_str(&copy).expect(rt, "memory");
     }
     text
+}
+
+/// The piece with the number in place of `@`.
+fn with_number(rt: &impl Abort, alloc: Global, piece: &str, number: u32) -> String {
+    let number = format!(in alloc; "{number}").expect(rt, "memory");
+    piece.replace(alloc, "@", &number).expect(rt, "memory")
 }
 
 /// Stops the test where this doesn't hold of the row. A function, since each message is proved where it is written.
@@ -33,31 +40,54 @@ pub fn require(rt: &impl Abort, holds: bool, row: &[u8]) {
     assert!(rt; holds, "{row:?}");
 }
 
+/// Stops the test where what is found isn't what is wanted in the row.
+pub fn require_equal<T: PartialEq + Debug + Copy, R: Debug + Copy>(
+    rt: &impl Abort,
+    found: T,
+    wanted: T,
+    row: R,
+) {
+    assert_eq!(rt; found, wanted, "{row:?}");
+}
+
 /// Stops the test where the bytes found aren't those wanted in the row.
 pub fn require_bytes(rt: &impl Abort, found: &[u8], wanted: &[u8], row: &[u8]) {
-    assert_eq!(rt; found, wanted, "{row:?}");
+    require_equal(rt, found, wanted, row);
 }
 
 /// The same of text.
 pub fn require_text(rt: &impl Abort, found: &str, wanted: &str, row: &str) {
-    assert_eq!(rt; found, wanted, "{row}");
+    require_equal(rt, found, wanted, row);
 }
 
 /// The same of a count.
 pub fn require_count(rt: &impl Abort, found: usize, wanted: usize, row: &[u8]) {
-    assert_eq!(rt; found, wanted, "{row:?}");
+    require_equal(rt, found, wanted, row);
 }
 
 /// The same of the number and the place of a fault.
 pub fn require_fault(rt: &impl Abort, found: (u8, usize), wanted: (u8, usize), row: &[u8]) {
-    assert_eq!(rt; found, wanted, "{row:?}");
+    require_equal(rt, found, wanted, row);
+}
+
+/// Stops the test since the text is refused.
+pub fn refused<F: Display>(rt: &impl Abort, fault: &F, text: &[u8]) -> ! {
+    panic!(rt; "{fault}: {text:?}")
 }
 
 /// The script that the text spells.
 pub fn script_of<'a>(rt: &impl Abort, alloc: Global, text: &'a [u8]) -> Script<'a> {
     match sedck_script::parse(alloc, text) {
         Ok(script) => script,
-        Err(fault) => panic!(rt; "{fault}: {text:?}"),
+        Err(fault) => refused(rt, &fault, text),
+    }
+}
+
+/// The expression that the text spells.
+pub fn expression_of(rt: &impl Abort, alloc: Global, text: &[u8]) -> Expr {
+    match sedck_bre::parse(alloc, text) {
+        Ok(expression) => expression,
+        Err(fault) => refused(rt, &fault, text),
     }
 }
 
@@ -119,6 +149,11 @@ pub fn bytes_have_faults(rt: &impl Abort, alloc: Global, kind: &Kind, rows: &[By
     for (text, number, place) in rows {
         has_fault(rt, alloc, kind, text, (*number, *place));
     }
+}
+
+/// So many items, from the first one on; stops the test where there are fewer.
+pub fn beginning<'a, T>(rt: &impl Abort, items: &'a [T], length: usize) -> &'a [T] {
+    items.get(..length).expect(rt, "a beginning")
 }
 
 /// So much of a long text that a row is known by it.

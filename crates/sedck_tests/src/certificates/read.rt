@@ -2,7 +2,8 @@
 use super::{ENDLESS, NAMED};
 use crate::engines::fakes::{Writer, sink_with};
 use crate::texts::{
-    Kind, fault_of, numbered, repeated, require, require_bytes, require_count, require_fault,
+    Kind, fault_of, numbered, refused, repeated, require, require_bytes, require_count,
+    require_equal, require_fault,
 };
 use sedck_cert::streams::{FromWrite, Sink};
 use sedck_cert::{Cert, CertFault, read_cert, write_cert};
@@ -13,17 +14,19 @@ use std::process::Abort;
 /// The text of the certificate.
 pub fn text_of(rt: &impl Abort, alloc: Global, cert: &Cert) -> Vec<u8> {
     let mut out = FromWrite::new(Vec::new(alloc));
-    assert!(rt; write_cert(cert, &mut out).is_ok());
+    require(rt, write_cert(cert, &mut out).is_ok(), b"a certificate");
     out.into_inner()
 }
 
 /// The certificate of the text, which is written as it was read.
 fn read(rt: &impl Abort, alloc: Global, text: &[u8]) -> Cert {
-    let Ok(cert) = read_cert(alloc, text) else {
-        panic!(rt; "refused: {text:?}");
-    };
-    require_bytes(rt, &text_of(rt, alloc, &cert), text, text);
-    cert
+    match read_cert(alloc, text) {
+        Ok(cert) => {
+            require_bytes(rt, &text_of(rt, alloc, &cert), text, text);
+            cert
+        }
+        Err(fault) => refused(rt, &fault, text),
+    }
 }
 
 /// Whether the write after each front of the text, which is the certificate's, is reported to have failed, and nothing
@@ -160,17 +163,27 @@ fn faults(rt: HostRuntime) {
 
 /// Whether there is a certificate with this many nodes and these names to read.
 fn is_made(rt: &impl Abort, alloc: Global, commands: u16, nodes: u16, names: &[&[u8]]) -> bool {
+    let ranks = no_ranks(rt, alloc, nodes);
+    let reads = copies_of(rt, alloc, names);
+    Cert::new(commands, ranks, reads, Vec::new(alloc)).is_some()
+}
+
+/// So many nodes without ranks.
+fn no_ranks(rt: &impl Abort, alloc: Global, nodes: u16) -> Vec<Option<(u16, u16)>> {
     let mut ranks = Vec::new(alloc);
     for _ in 0..nodes {
         ranks.push(None).expect(rt, "memory");
     }
-    let mut reads = Vec::new(alloc);
+    ranks
+}
+
+fn copies_of(rt: &impl Abort, alloc: Global, names: &[&[u8]]) -> Vec<Vec<u8>> {
+    let mut copies = Vec::new(alloc);
     for name in names {
-        reads
-            .push(Vec::from_slice(alloc, *name).expect(rt, "memory"))
-            .expect(rt, "memory");
+        let copy = Vec::from_slice(alloc, *name).expect(rt, "memory");
+        copies.push(copy).expect(rt, "memory");
     }
-    Cert::new(commands, ranks, reads, Vec::new(alloc)).is_some()
+    copies
 }
 
 /// The number of commands and of nodes, the names to read, and whether there is such a certificate.
@@ -188,6 +201,6 @@ static MADE: [(u16, u16, &'static [&'static [u8]], bool); 7] = [
 fn makes(rt: HostRuntime) {
     for (commands, nodes, names, wanted) in &MADE {
         let made = is_made(&rt, rt.alloc(), *commands, *nodes, *names);
-        assert_eq!(rt; made, *wanted, "{commands} {nodes} {names:?}");
+        require_equal(&rt, made, *wanted, (*commands, *nodes, *names));
     }
 }

@@ -1,6 +1,8 @@
 //! Texts that are no certificates: the number of the fault and its line.
 use super::{ENDLESS, NAMED};
-use crate::texts::{Kind, LongRow, has_fault, long_texts_have_faults, require_count};
+use crate::texts::{
+    Kind, LongRow, beginning, has_fault, long_texts_have_faults, require, require_count,
+};
 use bstr::ByteSlice;
 use std::alloc::Global;
 use std::process::Abort;
@@ -42,9 +44,10 @@ pub type Cut = (usize, usize, u8, usize);
 /// Whether the fronts of the text have these faults by the reader of their version, and by the reader of both.
 pub fn cut_have_faults(rt: &impl Abort, alloc: Global, kind: &Kind, text: &[u8], rows: &[Cut]) {
     for (first, last, number, line) in rows {
-        assert!(rt; *last < text.len());
-        for size in *first..*last + 1 {
-            is_refused(rt, alloc, kind, &text[..size], (*number, *line));
+        require(rt, *last < text.len(), text);
+        for size in *first..=*last {
+            let front = beginning(rt, text, size);
+            is_refused(rt, alloc, kind, front, (*number, *line));
         }
     }
 }

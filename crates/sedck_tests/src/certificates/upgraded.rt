@@ -1,25 +1,31 @@
 //! Certificates of version 1: what they are read as.
 use super::read::text_of;
 use super::{ENDLESS, ENDLESS_ONE, NAMED, NAMED_ONE};
-use crate::texts::{Kind, has_fault, numbered, require_bytes};
-use sedck_cert::{read_any, read_cert_one, upgrade};
+use crate::texts::{Kind, has_fault, numbered, refused, require_bytes};
+use sedck_cert::{CertOne, read_any, read_cert_one, upgrade};
 use std::alloc::Global;
 use std::process::Abort;
 
 /// The text of the certificate of version 1, upgraded.
 fn upgraded(rt: &impl Abort, alloc: Global, one: &[u8]) -> Vec<u8> {
-    let Ok(cert) = read_cert_one(alloc, one) else {
-        panic!(rt; "refused: {one:?}");
-    };
+    let cert = cert_of(rt, alloc, one);
     text_of(rt, alloc, &upgrade(alloc, &cert).expect(rt, "memory"))
+}
+
+/// The certificate of version 1 of the text.
+fn cert_of(rt: &impl Abort, alloc: Global, one: &[u8]) -> CertOne {
+    match read_cert_one(alloc, one) {
+        Ok(cert) => cert,
+        Err(fault) => refused(rt, &fault, one),
+    }
 }
 
 /// Whether the text of either version is read as the certificate with this text.
 fn is_read_as(rt: &impl Abort, alloc: Global, text: &[u8], two: &[u8]) {
-    let Ok(cert) = read_any(alloc, text) else {
-        panic!(rt; "refused: {text:?}");
-    };
-    require_bytes(rt, &text_of(rt, alloc, &cert), two, text);
+    match read_any(alloc, text) {
+        Ok(cert) => require_bytes(rt, &text_of(rt, alloc, &cert), two, text),
+        Err(fault) => refused(rt, &fault, text),
+    }
 }
 
 /// Whether the text of version 1 is read as the certificate with this text, which is read as itself.

@@ -7,17 +7,22 @@ use std::alloc::{AllocError, Global};
 /// The answer in words.
 fn words(alloc: Global, answer: Result<Verdict, Fault>) -> Result<String, AllocError> {
     match answer {
-        Ok(Verdict::Accepted) => format!(in alloc; "accepted"),
-        Ok(Verdict::Rejected(why)) => match why {
-            Rejection::WrongCount => format!(in alloc; "wrong count"),
-            Rejection::StartUnranked => format!(in alloc; "start unranked"),
-            Rejection::LeavesRanked(edge) => format!(in alloc; "leaves ranked {edge}"),
-            Rejection::NotLowered(edge) => format!(in alloc; "not lowered {edge}"),
-            Rejection::ReadsDiffer => format!(in alloc; "reads differ"),
-            Rejection::WritesDiffer => format!(in alloc; "writes differ"),
-        },
+        Ok(Verdict::Accepted) => String::from_str(alloc, "accepted"),
+        Ok(Verdict::Rejected(why)) => cause(alloc, why),
         Err(Fault::Script(fault)) => format!(in alloc; "script: {fault}"),
         Err(Fault::Certificate(fault)) => format!(in alloc; "certificate: {fault}"),
+    }
+}
+
+/// Why the certificate is rejected, in words.
+fn cause(alloc: Global, why: Rejection) -> Result<String, AllocError> {
+    match why {
+        Rejection::WrongCount => String::from_str(alloc, "wrong count"),
+        Rejection::StartUnranked => String::from_str(alloc, "start unranked"),
+        Rejection::LeavesRanked(edge) => format!(in alloc; "leaves ranked {edge}"),
+        Rejection::NotLowered(edge) => format!(in alloc; "not lowered {edge}"),
+        Rejection::ReadsDiffer => String::from_str(alloc, "reads differ"),
+        Rejection::WritesDiffer => String::from_str(alloc, "writes differ"),
     }
 }
 

@@ -348,14 +348,17 @@ fn changed_are_answered(rt: &impl Abort, alloc: Global, text: &str, rows: &[Row]
 fn cut_are_refused(rt: &impl Abort, alloc: Global, text: &str, rows: &[Cut]) {
     for (first, end, told) in rows {
         for length in *first..*end {
-            let Some(cut) = text.get(..length) else {
-                panic!(rt; "no beginning of {length} bytes");
-            };
-            let (texts, answer) = ((LOOP, cut), (*told, ""));
-            is_answered(rt, alloc, &Engine::Check, texts, 64, &NEVER, answer);
-            is_answered(rt, alloc, &Engine::Upgrade, texts, 64, &NEVER, answer);
+            let cut = text.get(..length).expect(rt, "a beginning");
+            is_refused(rt, alloc, cut, told);
         }
     }
+}
+
+/// Whether the certificate is refused in this way.
+fn is_refused(rt: &impl Abort, alloc: Global, certificate: &str, told: &str) {
+    let (texts, answer) = ((LOOP, certificate), (told, ""));
+    is_answered(rt, alloc, &Engine::Check, texts, 64, &NEVER, answer);
+    is_answered(rt, alloc, &Engine::Upgrade, texts, 64, &NEVER, answer);
 }
 
 #[test]

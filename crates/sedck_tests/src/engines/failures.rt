@@ -184,9 +184,7 @@ fn failing_sinks(rt: HostRuntime) {
     require_count(&rt, LOOP_TEXT.len(), 178, b"its certificate");
     for (engine, script, report) in &SINKS {
         for room in 0..report.len() {
-            let Some(front) = report.get(..room) else {
-                panic!(rt; "no beginning of {room} bytes");
-            };
+            let front = report.get(..room).expect(&rt, "a beginning");
             fails_behind(&rt, rt.alloc(), engine, *script, front);
         }
         fails_at_once(&rt, rt.alloc(), engine, *script);

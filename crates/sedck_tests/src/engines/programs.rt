@@ -4,7 +4,7 @@ use super::{
     ACCEPTED, AMPLE, EMPTY_CERTIFICATE, LOOP, LOOP_CERTIFICATE, LOOP_GRAPH, OLD_EMPTY_CERTIFICATE,
     OLD_LOOP_CERTIFICATE,
 };
-use crate::texts::{require, require_bytes, require_count};
+use crate::texts::{require, require_bytes, require_count, require_equal};
 use sedck_cert::streams::FromWrite;
 use sedck_cli::{flushed, program};
 use std::alloc::Global;
@@ -61,7 +61,7 @@ fn words_of(rt: &impl Abort, alloc: Global, folder: &str, words: &str) -> Vec<St
 fn is_fault(rt: &impl Abort, words: &str, room: usize, found: &[u8], fault: &str) {
     let is_front = fault.as_bytes().starts_with(found)
         && (room < AMPLE || fault.len() == found.len());
-    assert!(rt; is_front, "{words}: {found:?}");
+    require_equal(rt, is_front, true, (words, found));
 }
 
 /// Runs the program on the words. Whether it gives the status and prints the text, and writes the fault, or its front

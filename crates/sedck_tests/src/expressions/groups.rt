@@ -3,9 +3,8 @@
 ghost use Rattle.std.specs.Prelude.{◌≡◌, ◌≤◌, ◌^◌};
 ghost use Rattle.sedck_bre.specs.Rests.{NamesTopGroups};
 
-use crate::texts::{require, require_count};
-use sedck_bre::{Expr, parse};
-use std::alloc::Global;
+use crate::texts::{expression_of, require, require_count};
+use sedck_bre::Expr;
 use std::process::Abort;
 
 /// No group: none of an expression is named.
@@ -100,11 +99,15 @@ static ITEMS: [(&'static str, [bool; 4]); 10] = [
     ),
 ];
 
-fn expression_of(rt: &impl Abort, alloc: Global, text: &[u8]) -> Expr {
-    match parse(alloc, text) {
-        Ok(expression) => expression,
-        Err(_) => panic!(rt; "refused: {text:?}"),
+/// Whether these of the groups 1, 2, 3 and 9 are items of the expression.
+fn has_items(rt: &impl Abort, expression: &Expr, wanted: &[bool; 4], text: &[u8]) {
+    for (k, is_item) in [1, 2, 3, 9].iter().zip(wanted) {
+        require(rt, expression.top_group(*k) == *is_item, text);
     }
+    // no group has these numbers
+    let beyond = expression.groups().saturating_add(1);
+    require(rt, !expression.top_group(0), text);
+    require(rt, !expression.top_group(beyond), text);
 }
 
 #[test]
@@ -112,16 +115,7 @@ fn items(rt: HostRuntime) {
     for (text, wanted) in &ITEMS {
         let text = text.as_bytes();
         let expression = expression_of(&rt, rt.alloc(), text);
-        for (k, is_item) in [1, 2, 3, 9].iter().zip(wanted) {
-            require(&rt, expression.top_group(*k) == *is_item, text);
-        }
-        // no group has these numbers
-        require(&rt, !expression.top_group(0), text);
-        require(
-            &rt,
-            !expression.top_group(expression.groups().saturating_add(1)),
-            text,
-        );
+        has_items(&rt, &expression, wanted, text);
     }
 }
 

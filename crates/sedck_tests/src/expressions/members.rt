@@ -1,17 +1,14 @@
 //! The members of bracket lists, byte by byte, and the bytes of escapes.
 use crate::texts::{Kind, has_fault, require};
-use sedck_bre::{Bre, parse};
+use sedck_bre::{Bre, Expr, parse};
 use std::alloc::Global;
 use std::process::Abort;
 
 /// Whether the byte is in a range.
 fn is_in(ranges: &[(u8, u8)], byte: u8) -> bool {
-    for (first, last) in ranges {
-        if *first <= byte && byte <= *last {
-            return true;
-        }
-    }
-    false
+    ranges
+        .iter()
+        .any(|(first, last)| *first <= byte && byte <= *last)
 }
 
 /// Whether the set has just the bytes of the ranges, or just the others.
@@ -27,18 +24,25 @@ fn is_set(words: &[u64; 4], ranges: &[(u8, u8)], complement: bool) -> bool {
     true
 }
 
-/// Whether the text is one bracket list with just these members.
-fn has_members(alloc: Global, text: &[u8], ranges: &[(u8, u8)], complement: bool) -> bool {
-    let Ok(expression) = parse(alloc, text) else {
-        return false;
-    };
-    let Bre::Seq(items) = expression.body() else {
-        return false;
-    };
-    match items.as_slice() {
-        [Bre::Set(set)] => is_set(&set.0, ranges, complement),
+/// The item of the expression, where it is just one.
+fn only_item(expression: &Expr) -> Option<&Bre> {
+    match expression.body() {
+        Bre::Seq(items) if items.len() == 1 => items.first(),
+        _ => None,
+    }
+}
+
+/// Whether the expression is one bracket list with just these members.
+fn is_list(expression: &Expr, ranges: &[(u8, u8)], complement: bool) -> bool {
+    match only_item(expression) {
+        Some(Bre::Set(set)) => is_set(&set.0, ranges, complement),
         _ => false,
     }
+}
+
+/// The same of its text.
+fn has_members(alloc: Global, text: &[u8], ranges: &[(u8, u8)], complement: bool) -> bool {
+    parse(alloc, text).is_ok_and(|expression| is_list(&expression, ranges, complement))
 }
 
 /// A bracket list, the ranges in it, and whether they are what it leaves out.
@@ -135,15 +139,12 @@ fn members(rt: HostRuntime) {
 
 /// Whether the text is the one byte.
 fn is_byte(alloc: Global, text: &[u8], byte: u8) -> bool {
-    let Ok(expression) = parse(alloc, text) else {
-        return false;
-    };
-    match expression.body() {
-        Bre::Seq(items) => match items.as_slice() {
-            [Bre::Byte(b)] => *b == byte,
+    match parse(alloc, text) {
+        Ok(expression) => match only_item(&expression) {
+            Some(Bre::Byte(found)) => *found == byte,
             _ => false,
         },
-        _ => false,
+        Err(_) => false,
     }
 }
 

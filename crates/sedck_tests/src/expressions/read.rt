@@ -1,9 +1,9 @@
 //! The least lengths of worked expressions, the numbers of groups, the limits, and texts that are read.
 use crate::texts::{
-    BytesRow, Kind, LongRow, Row, bytes_have_faults, have_faults, long_texts_have_faults, repeated,
-    require, require_count,
+    BytesRow, Kind, LongRow, Row, bytes_have_faults, expression_of, have_faults,
+    long_texts_have_faults, repeated, require, require_count,
 };
-use sedck_bre::{ReFault, parse};
+use sedck_bre::{Expr, ReFault, parse};
 use std::alloc::Global;
 use std::process::Abort;
 
@@ -12,15 +12,18 @@ type Numbered<'a> = (&'a str, usize);
 
 fn have_numbers(rt: &impl Abort, alloc: Global, of_groups: bool, rows: &[Numbered<'_>]) {
     for (text, wanted) in rows {
-        let Ok(expression) = parse(alloc, text.as_bytes()) else {
-            panic!(rt; "refused: {text:?}");
-        };
-        let number = if of_groups {
-            usize::from(expression.groups())
-        } else {
-            expression.least() as usize
-        };
-        require_count(rt, number, *wanted, text.as_bytes());
+        let text = text.as_bytes();
+        let number = number_of(&expression_of(rt, alloc, text), of_groups);
+        require_count(rt, number, *wanted, text);
+    }
+}
+
+/// The number of the expression's groups, or its least length.
+fn number_of(expression: &Expr, of_groups: bool) -> usize {
+    if of_groups {
+        usize::from(expression.groups())
+    } else {
+        expression.least() as usize
     }
 }
 

@@ -1,6 +1,7 @@
 //! Where the commands of scripts are, counted by hand.
-use crate::texts::{require, require_count};
-use sedck_script::{Location, locate};
+use crate::texts::{refused, require, require_count};
+use sedck_script::{Located, Location, locate};
+use std::alloc::Global;
 use std::process::Abort;
 
 /// A text, and the start, the verb and the end of each command.
@@ -48,13 +49,19 @@ fn are_located(
     }
 }
 
+/// The script that the text spells, and where its commands are.
+fn located_of<'a>(rt: &impl Abort, alloc: Global, text: &'a [u8]) -> Located<'a> {
+    match locate(alloc, text) {
+        Ok(located) => located,
+        Err(fault) => refused(rt, &fault, text),
+    }
+}
+
 #[test]
 fn located(rt: HostRuntime) {
     for (text, rows) in &SCRIPTS {
         let text = text.as_bytes();
-        let Ok(located) = locate(rt.alloc(), text) else {
-            panic!(rt; "refused: {text:?}");
-        };
+        let located = located_of(&rt, rt.alloc(), text);
         require_count(&rt, located.script.commands().len(), rows.len(), text);
         are_located(&rt, &located.locations, *rows, text);
     }

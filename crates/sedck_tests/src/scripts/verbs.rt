@@ -13,23 +13,44 @@ type Wanted = (u8, &'static str, usize);
 type Row = (&'static str, &'static [Wanted]);
 
 fn word_of<'a>(verb: &Verb<'a>) -> Word<'a> {
+    (letter_of(verb), taken_by(verb), end_of(verb))
+}
+
+fn letter_of(verb: &Verb) -> u8 {
     match verb {
-        Verb::Label(name) => (b':', *name, 0),
-        Verb::Branch(at) => (b'b', b"", *at),
-        Verb::Test(at) => (b't', b"", *at),
-        Verb::Block(at) => (b'{', b"", *at),
-        Verb::Append(text) => (b'a', *text, 0),
-        Verb::Change(text) => (b'c', *text, 0),
-        Verb::Insert(text) => (b'i', *text, 0),
-        Verb::Read(name) => (b'r', *name, 0),
-        Verb::Write(name) => (b'w', *name, 0),
-        Verb::Next => (b'n', b"", 0),
-        Verb::NextAppend => (b'N', b"", 0),
-        Verb::Substitute(_) => (b's', b"", 0),
-        Verb::Print => (b'p', b"", 0),
-        Verb::Quit => (b'q', b"", 0),
-        Verb::Exchange => (b'x', b"", 0),
-        _ => (b'?', b"", 0),
+        Verb::Label(_) => b':',
+        Verb::Branch(_) => b'b',
+        Verb::Test(_) => b't',
+        Verb::Block(_) => b'{',
+        Verb::Append(_) => b'a',
+        Verb::Change(_) => b'c',
+        Verb::Insert(_) => b'i',
+        Verb::Read(_) => b'r',
+        Verb::Write(_) => b'w',
+        Verb::Next => b'n',
+        Verb::NextAppend => b'N',
+        Verb::Substitute(_) => b's',
+        Verb::Print => b'p',
+        Verb::Quit => b'q',
+        Verb::Exchange => b'x',
+        _ => b'?',
+    }
+}
+
+/// The text or the name that the command takes.
+fn taken_by<'a>(verb: &Verb<'a>) -> &'a [u8] {
+    match verb {
+        Verb::Append(text) | Verb::Change(text) | Verb::Insert(text) => *text,
+        Verb::Label(name) | Verb::Read(name) | Verb::Write(name) => *name,
+        _ => b"",
+    }
+}
+
+/// Where the command leads to.
+fn end_of(verb: &Verb) -> usize {
+    match verb {
+        Verb::Branch(at) | Verb::Test(at) | Verb::Block(at) => *at,
+        _ => 0,
     }
 }
 
@@ -139,8 +160,8 @@ fn verb_at<'a, 'b>(
     at: usize,
 ) -> &'b Verb<'a> {
     let commands = script.commands();
-    assert!(rt; commands.len() == count && at < count);
-    &commands[at].verb
+    require_count(rt, commands.len(), count, b"commands");
+    &commands.get(at).expect(rt, "a command").verb
 }
 
 /// Whether the verb is a `y` with these lists.
@@ -165,14 +186,22 @@ fn lists(rt: HostRuntime) {
 
 /// Whether the part has this letter and this text.
 fn is_part(part: &Part, word: &(u8, &str)) -> bool {
-    let (letter, text): (u8, &[u8]) = match part {
-        Part::Text(text) => (b't', *text),
-        Part::Newline => (b'n', b""),
-        Part::Tab => (b'b', b""),
-        Part::Whole => (b'w', b""),
-        Part::Group(_) => (b'g', b""),
+    let letter = match part {
+        Part::Text(_) => b't',
+        Part::Newline => b'n',
+        Part::Tab => b'b',
+        Part::Whole => b'w',
+        Part::Group(_) => b'g',
     };
-    letter == word.0 && text == word.1.as_bytes()
+    letter == word.0 && text_of(part) == word.1.as_bytes()
+}
+
+/// The text that the part is; none is empty.
+fn text_of<'a>(part: &Part<'a>) -> &'a [u8] {
+    match part {
+        Part::Text(text) => *text,
+        _ => b"",
+    }
 }
 
 /// Whether these are the parts.

@@ -1,10 +1,11 @@
 //! Counts of bits against plain arithmetic.
+use crate::texts::{beginning, require_equal};
 use sedck_search::rows::count_bits;
 use std::process::Abort;
 
 fn have_bits(rt: &impl Abort, words: &[u64], bits: u64) {
     assert!(rt; words.len() <= 256);
-    assert_eq!(rt; count_bits(words), bits, "{words:?}");
+    require_equal(rt, count_bits(words), bits, words);
 }
 
 /// A number of words, and the bits of this many full words.
@@ -36,17 +37,15 @@ fn counts_of_many_bits(rt: HostRuntime) {
     let clear = [0; 256];
     let full = [u64::MAX; 256];
     for (length, bits) in &FULL {
-        assert!(rt; *length <= 256);
-        have_bits(&rt, &clear[..*length], 0);
-        have_bits(&rt, &full[..*length], *bits);
+        have_bits(&rt, beginning(&rt, &clear, *length), 0);
+        have_bits(&rt, beginning(&rt, &full, *length), *bits);
     }
     let mut words = [0; 256];
     for at in 0..64 {
         words[at] = u64::MAX >> (63 - at);
     }
     for (length, bits) in &GROWING {
-        assert!(rt; *length <= 256);
-        have_bits(&rt, &words[..*length], *bits);
+        have_bits(&rt, beginning(&rt, &words, *length), *bits);
     }
 }
 

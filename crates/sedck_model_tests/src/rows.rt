@@ -1,0 +1,26 @@
+//! What stops a test where a row doesn't hold, and the script of a row.
+
+use sedck_script::{Script, parse};
+use std::alloc::Global;
+use std::fmt::Debug;
+use std::process::Abort;
+
+/// Stops the test where this doesn't hold of the row. A function, since each message is proved where it is written.
+pub fn require(rt: &impl Abort, holds: bool, row: &str) {
+    assert!(rt; holds, "{row}");
+}
+
+/// Stops the test where what is found isn't what is wanted in the row.
+pub fn require_equal<T: PartialEq + Debug + Copy, R: Debug + Copy>(
+    rt: &impl Abort,
+    found: T,
+    wanted: T,
+    row: R,
+) {
+    assert_eq!(rt; found, wanted, "{row:?}");
+}
+
+/// The script that the text spells.
+pub fn script_of<'a>(rt: &impl Abort, alloc: Global, text: &'a str) -> Script<'a> {
+    parse(alloc, text.as_bytes()).expect(rt, text)
+}
