@@ -27,17 +27,8 @@ fn add_byte(line: &mut String, byte: u8) -> Result<(), AllocError> {
         b'\n' => line.push_str("\\n"),
         b'\t' => line.push_str("\\t"),
         b' '..=b'~' => Ok(line.push(char::from(byte))?),
-        _ => add_octal(line, byte),
+        _ => Ok(write!(line, "\\o{byte:03o}")?),
     }
-}
-
-/// Adds the byte by its three octal digits.
-fn add_octal(line: &mut String, byte: u8) -> Result<(), AllocError> {
-    line.push_str("\\o")?;
-    line.push(char::from(b'0' + byte / 64))?;
-    line.push(char::from(b'0' + byte / 8 % 8))?;
-    line.push(char::from(b'0' + byte % 8))?;
-    Ok(())
 }
 
 /// Adds the text in quotes.
