@@ -1,5 +1,6 @@
 //! Texts that are no scripts of sed, by how they begin.
 
+use crate::hints::is_of_label;
 use crate::lists::{is_blank, without_blanks};
 
 /// What is said of a refused text that looks like something else.
@@ -23,9 +24,7 @@ pub fn other_kind(text: &[u8]) -> Option<Foreign> {
     if text.starts_with(b"#!") {
         return other_program(text);
     }
-    let mut lines = text
-        .split(|byte| *byte == b'\n')
-        .filter(|line| !is_left_out(line));
+    let mut lines = text.split(is_newline).filter(|line| !is_left_out(line));
     let first = lines.next()?;
     let second = lines.next().unwrap_or(&[]);
     other_lines(first, second)
@@ -33,7 +32,7 @@ pub fn other_kind(text: &[u8]) -> Option<Foreign> {
 
 /// By the first line, which names a program.
 fn other_program(text: &[u8]) -> Option<Foreign> {
-    let first = text.split(|byte| *byte == b'\n').next().unwrap_or(&[]);
+    let first = text.split(is_newline).next().unwrap_or(&[]);
     if names_sed(first) {
         return None;
     }
@@ -41,6 +40,10 @@ fn other_program(text: &[u8]) -> Option<Foreign> {
         message: "the first line names a program other than sed: this isn't a sed script",
         hint: INSIDE,
     })
+}
+
+fn is_newline(byte: &u8) -> bool {
+    *byte == b'\n'
 }
 
 /// By the first two lines that are neither blank nor comments.
@@ -102,7 +105,7 @@ fn is_target(line: &[u8]) -> bool {
 /// How many letters, digits, `_`, `.` and `-` the line begins with.
 fn name_length(line: &[u8]) -> usize {
     for (length, byte) in line.iter().enumerate() {
-        if !byte.is_ascii_alphanumeric() && !matches!(*byte, b'_' | b'.' | b'-') {
+        if !is_of_label(*byte) {
             return length;
         }
     }

@@ -324,7 +324,7 @@ fn text_hint(rest: &[u8]) -> &'static str {
     let Some(behind) = text.strip_prefix(b"\\") else {
         return "write `a\\` and the text on the next line";
     };
-    if behind.is_empty() || behind == b"\n".as_slice() {
+    if behind.strip_prefix(b"\n").unwrap_or(behind).is_empty() {
         return "`$a\\` adds a missing last newline, but only in GNU sed: add it before sed; for a text write `a\\` and the text on the next line";
     }
     "seds differ on a text that begins with a backslash: write `a\\`, a newline and the text"
@@ -430,7 +430,8 @@ fn ends_in_flags(text: &[u8], delimiter: u8, flags: &[u8]) -> bool {
             .all(|byte| is_blank(*byte) || flags.contains(byte))
 }
 
-fn is_of_label(byte: u8) -> bool {
+/// Whether labels, and names in general, may have the byte.
+pub(crate) fn is_of_label(byte: u8) -> bool {
     byte.is_ascii_alphanumeric() || matches!(byte, b'_' | b'.' | b'-')
 }
 

@@ -133,7 +133,7 @@ fn comma_mend(spot: Spot) -> Option<Mend> {
 
 /// Whether something is before the fault that isn't repeated yet.
 fn is_repeatable(spot: Spot) -> bool {
-    let inside = spot.before.get(spot.expression..).unwrap_or(&[]);
+    let inside = spot.inside();
     !spot.begins()
         && !inside.ends_with(b"\\}")
         && (!inside.ends_with(b"*") || inside.ends_with(b"\\*"))

@@ -41,16 +41,19 @@ impl<'a> Spot<'a> {
 
     /// Where a reader of the expression is at the fault.
     pub fn reading(self) -> Reading {
-        Reading::of(self.before.get(self.expression..).unwrap_or(&[]))
+        Reading::of(self.inside())
+    }
+
+    /// The expression up to the fault.
+    pub(crate) fn inside(self) -> &'a [u8] {
+        self.before.get(self.expression..).unwrap_or(&[])
     }
 
     /// Whether nothing precedes the fault in its expression or group, but for an anchor.
     pub fn begins(self) -> bool {
-        let inside = self.before.get(self.expression..).unwrap_or(&[]);
-        inside.is_empty()
-            || inside.ends_with(b"\\(")
-            || inside == b"^".as_slice()
-            || inside.ends_with(b"\\(^")
+        let inside = self.inside();
+        let inside = inside.strip_suffix(b"^").unwrap_or(inside);
+        inside.is_empty() || inside.ends_with(b"\\(")
     }
 
     /// The script from the byte after the fault's first one on.

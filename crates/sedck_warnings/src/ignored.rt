@@ -1,7 +1,6 @@
 //! Comments in a script that silence warnings and notes, as `# sedck: ignore absolute-name`.
 
-ghost use Rattle.std.specs.Prelude.{◌≡◌, false, IfOk, OnOk};
-ghost use Rattle.sedck_report.specs.Levels.{is_error};
+ghost use Rattle.std.specs.Prelude.{OnOk};
 ghost use Rattle.sedck_warnings.specs.Added.{AddsNoError};
 
 use sedck_hints::is_blank;
@@ -130,15 +129,20 @@ pub(crate) fn unknown_warnings(
     ensures { OnOk result (AddsNoError findings.old.items findings.new.items) }
 {
     let unknown = unknown_words(alloc, words)?;
-    let mut offsets = Vec::new(alloc);
-    for word in &unknown {
-        offsets.push(word.offset)?;
-    }
-    let places = positions(alloc, text, &offsets)?;
+    let places = word_positions(alloc, text, &unknown)?;
     for (word, position) in unknown.iter().zip(&places) {
-        findings.push(unknown_warning(alloc, text, *word, *position)?)?;
+        push_unknown(alloc, findings, text, *word, *position)?;
     }
     Ok(())
+}
+
+/// Where the words are.
+fn word_positions(alloc: Global, text: &[u8], words: &[Word]) -> Result<Vec<Position>, AllocError> {
+    let mut offsets = Vec::new(alloc);
+    for word in words {
+        offsets.push(word.offset)?;
+    }
+    positions(alloc, text, &offsets)
 }
 
 /// How many words at most are warned of, so that no report is far longer than its script.
@@ -158,17 +162,18 @@ fn unknown_words<'a>(alloc: Global, words: &[Word<'a>]) -> Result<Vec<Word<'a>>,
     Ok(unknown)
 }
 
-/// The warning on this word.
-fn unknown_warning(
+/// Adds the warning on this word.
+fn push_unknown(
     alloc: Global,
+    findings: &mut Vec<Finding>,
     text: &[u8],
     word: Word,
     position: Position,
-) -> Result<Finding, AllocError>
-    ensures { IfOk result (λ finding. is_error finding.level ≡ false) }
+) -> Result<(), AllocError>
+    ensures { OnOk result (AddsNoError findings.old.items findings.new.items) }
 {
     let name = shown_name(alloc, word.bytes)?;
-    Ok(Finding {
+    findings.push(Finding {
         level: Level::Warning,
         code: Code::UnknownCode,
         position: Some(position),
@@ -181,5 +186,6 @@ fn unknown_warning(
         ),
         fix: None,
         steps: Vec::new(alloc),
-    })
+    })?;
+    Ok(())
 }

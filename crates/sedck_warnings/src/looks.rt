@@ -1,11 +1,12 @@
 //! Scripts that are read as POSIX has them, and look as if something else was meant.
 
-ghost use Rattle.std.specs.Prelude.{◌≡◌, false, IfOk, OnOk};
-ghost use Rattle.sedck_report.specs.Levels.{is_error};
+ghost use Rattle.std.specs.Prelude.{OnOk};
 ghost use Rattle.sedck_warnings.specs.Added.{AddsNoError};
 
 use sedck_hints::{Reading, behind_part, is_blank};
-use sedck_report::{Code, Finding, Fix, Level, Position, end_behind, position_at, positions};
+use sedck_report::{
+    Code, Finding, Fix, Level, Position, end_behind, line_len, position_at, positions,
+};
 use sedck_script::Location;
 use std::alloc::{AllocError, Global};
 
@@ -19,19 +20,23 @@ pub(crate) fn look_warnings(
     ensures { OnOk result (AddsNoError findings.old.items findings.new.items) }
 {
     if has_options(text) {
-        let start = position_at(text, 0);
-        let mut found = warning(
-            alloc,
-            start,
-            Code::OptionsInFirstLine,
-            "this line gives sed options other than -n and -f, and nothing is known of runs with them",
-            "with `-E` the expressions mean something else, `-i` writes files, `-s` and `-z` divide the input differently",
-        )?;
-        found.end = Some(end_behind(text, start, text.len()));
-        findings.push(found)?;
+        push_look(alloc, findings, options_look(text))?;
     }
     brace_warnings(alloc, findings, text, locations)?;
     extended_warning(alloc, findings, text, locations)
+}
+
+/// What is said of options in the first line.
+fn options_look(text: &[u8]) -> Look {
+    let start = position_at(text, 0);
+    Look {
+        position: start,
+        end: Some(end_behind(text, start, text.len())),
+        code: Code::OptionsInFirstLine,
+        message: "this line gives sed options other than -n and -f, and nothing is known of runs with them",
+        hint: "with `-E` the expressions mean something else, `-i` writes files, `-s` and `-z` divide the input differently",
+        fix: None,
+    }
 }
 
 /// A warning for each `}` that follows a label.
@@ -43,29 +48,28 @@ fn brace_warnings(
 ) -> Result<(), AllocError>
     ensures { OnOk result (AddsNoError findings.old.items findings.new.items) }
 {
-    for position in positions(alloc, text, &braces(alloc, text, locations)?)? {
-        findings.push(brace_warning(alloc, position)?)?;
+    let offsets = braces(alloc, text, locations)?;
+    let places = positions(alloc, text, &offsets)?;
+    for position in &places {
+        push_look(alloc, findings, brace_look(*position))?;
     }
     Ok(())
 }
 
-/// A warning of a `}` that follows a label.
-fn brace_warning(alloc: Global, position: Position) -> Result<Finding, AllocError>
-    ensures { IfOk result (λ finding. is_error finding.level ≡ false) }
-{
-    let mut finding = warning(
-        alloc,
+/// What is said of a `}` that follows a label.
+fn brace_look(position: Position) -> Look {
+    Look {
         position,
-        Code::BraceBehindLabel,
-        "BusyBox reads this as part of the label, so that the block isn't closed",
-        "write a `;` or a newline before the `}`",
-    )?;
-    finding.fix = Some(Fix {
-        start: position,
-        end: position,
-        text: ";",
-    });
-    Ok(finding)
+        end: None,
+        code: Code::BraceBehindLabel,
+        message: "BusyBox reads this as part of the label, so that the block isn't closed",
+        hint: "write a `;` or a newline before the `}`",
+        fix: Some(Fix {
+            start: position,
+            end: position,
+            text: ";",
+        }),
+    }
 }
 
 /// A warning for the first expression that looks like an extended one.
@@ -79,39 +83,51 @@ fn extended_warning(
 {
     for location in locations {
         if let Some(offset) = extended_in(text, *location) {
-            findings.push(warning(
-                alloc,
-                position_at(text, offset),
-                Code::LooksExtended,
-                "in a basic regular expression this is an ordinary character: is the script meant for `sed -E`?",
-                "write `\\(` and `\\)` for a group, `\\{1,\\}` for `+` and `\\{0,1\\}` for `?`; there is no `|`. If the character is meant, put it into a bracket list, as in `[+]`",
-            )?)?;
+            push_look(alloc, findings, extended_look(position_at(text, offset)))?;
             return Ok(());
         }
     }
     Ok(())
 }
 
-/// A warning at this position.
-fn warning(
-    alloc: Global,
-    position: Position,
-    code: Code,
-    message: &str,
-    hint: &'static str,
-) -> Result<Finding, AllocError>
-    ensures { IfOk result (λ finding. is_error finding.level ≡ false) }
-{
-    Ok(Finding {
-        level: Level::Warning,
-        code,
-        position: Some(position),
+/// What is said of a sign of an extended expression.
+fn extended_look(position: Position) -> Look {
+    Look {
+        position,
         end: None,
-        message: String::from_str(alloc, message)?,
-        hint: Some(hint),
+        code: Code::LooksExtended,
+        message: "in a basic regular expression this is an ordinary character: is the script meant for `sed -E`?",
+        hint: "write `\\(` and `\\)` for a group, `\\{1,\\}` for `+` and `\\{0,1\\}` for `?`; there is no `|`. If the character is meant, put it into a bracket list, as in `[+]`",
         fix: None,
+    }
+}
+
+/// What is said of a place where something else may be meant.
+#[derive(Clone, Copy)]
+struct Look {
+    position: Position,
+    end: Option<Position>,
+    code: Code,
+    message: &'static str,
+    hint: &'static str,
+    fix: Option<Fix>,
+}
+
+/// Adds the warning that says this.
+fn push_look(alloc: Global, findings: &mut Vec<Finding>, look: Look) -> Result<(), AllocError>
+    ensures { OnOk result (AddsNoError findings.old.items findings.new.items) }
+{
+    findings.push(Finding {
+        level: Level::Warning,
+        code: look.code,
+        position: Some(look.position),
+        end: look.end,
+        message: String::from_str(alloc, look.message)?,
+        hint: Some(look.hint),
+        fix: look.fix,
         steps: Vec::new(alloc),
-    })
+    })?;
+    Ok(())
 }
 
 /// Whether the first line calls sed with other options than `-n` and `-f`.
@@ -119,7 +135,7 @@ fn has_options(text: &[u8]) -> bool {
     if !text.starts_with(b"#!") {
         return false;
     }
-    let line = text.split(|byte| *byte == b'\n').next().unwrap_or(&[]);
+    let line = &text[..line_len(text)];
     let mut is_behind = false;
     for word in line.split(|byte| is_blank(*byte)) {
         if is_behind && is_option(word) {
@@ -163,30 +179,40 @@ fn braces(alloc: Global, text: &[u8], locations: &[Location]) -> Result<Vec<usiz
 
 /// The first sign of an extended expression in what the command has of them.
 fn extended_in(text: &[u8], location: Location) -> Option<usize> {
-    let mut behind = text.get(location.start..location.verb).unwrap_or(&[]);
-    if let Some((start, delimiter)) = expression_at(text, location.start) {
-        let found = extended_at(text, start, delimiter);
-        if found.is_some() {
-            return found;
-        }
-        let rest = behind_part(text.get(start..).unwrap_or(&[]), delimiter);
-        behind = text
-            .get(text.len().saturating_sub(rest.len())..location.verb)
-            .unwrap_or(&[]);
+    if let Some(sign) = sign_in_address(text, location.start) {
+        return Some(sign);
     }
-    if let Some(second) = second_address(behind) {
-        let at = location.verb.saturating_sub(second.len());
-        if let Some((start, delimiter)) = expression_at(text, at) {
-            let found = extended_at(text, start, delimiter);
-            if found.is_some() {
-                return found;
-            }
-        }
+    if let Some(sign) = sign_in_second(text, location) {
+        return Some(sign);
     }
     match text.get(location.verb..).unwrap_or(&[]) {
         [b's', delimiter, ..] => extended_at(text, location.verb.checked_add(2)?, *delimiter),
         _ => None,
     }
+}
+
+/// The first sign in the expression of the address that is here.
+fn sign_in_address(text: &[u8], at: usize) -> Option<usize> {
+    let (start, delimiter) = expression_at(text, at)?;
+    extended_at(text, start, delimiter)
+}
+
+/// The first sign in the expression of the command's second address.
+fn sign_in_second(text: &[u8], location: Location) -> Option<usize> {
+    let behind = text
+        .get(end_of_expression(text, location.start)..location.verb)
+        .unwrap_or(&[]);
+    let second = second_address(behind)?;
+    sign_in_address(text, location.verb.saturating_sub(second.len()))
+}
+
+/// What follows the expression of the address that is here; the same place where it has none.
+fn end_of_expression(text: &[u8], at: usize) -> usize {
+    let Some((start, delimiter)) = expression_at(text, at) else {
+        return at;
+    };
+    let rest = behind_part(text.get(start..).unwrap_or(&[]), delimiter);
+    text.len().saturating_sub(rest.len())
 }
 
 /// What follows the comma after a first address, and its blanks.
@@ -212,30 +238,69 @@ fn extended_at(text: &[u8], start: usize, delimiter: u8) -> Option<usize> {
     let part = text.get(start..).unwrap_or(&[]);
     let behind = behind_part(part, delimiter);
     let length = part.len().saturating_sub(behind.len() + 1);
-    let mut reading = Reading::START;
-    let mut may_repeat = false;
-    let mut is_open = false;
-    let mut bar = None;
+    let mut seen = Seen::NOTHING;
     for (index, byte) in part.iter().take(length).enumerate() {
-        let next = reading.after(*byte);
-        let is_plain = !reading.is_in_list() && !reading.is_escaped();
-        if is_plain {
-            match *byte {
-                b'+' | b'?' if may_repeat => return start.checked_add(index),
-                b'{' if may_repeat && is_digit(part.get(index + 1)) => {
-                    return start.checked_add(index);
-                }
-                b'(' => is_open = true,
-                b'|' if is_open => bar = start.checked_add(index),
-                b')' if bar.is_some() => return bar,
-                _ => {}
-            }
+        if let Some(sign) = seen.sign_at(index, *byte, part.get(index + 1)) {
+            return start.checked_add(sign);
         }
-        may_repeat = (reading.is_in_list() && !next.is_in_list())
-            || (is_plain && matches!(*byte, b')' | b'.'));
-        reading = next;
+        seen = seen.after(index, *byte);
     }
     None
+}
+
+/// What a reader of an expression has seen, as far as a sign of an extended one depends on it.
+#[derive(Clone, Copy)]
+struct Seen {
+    reading: Reading,
+    /// Whether a sign of repetition would be next to what it repeats.
+    may_repeat: bool,
+    is_open: bool,
+    /// Where the last bar after a parenthesis is.
+    bar: Option<usize>,
+}
+
+impl Seen {
+    const NOTHING: Seen = Seen {
+        reading: Reading::START,
+        may_repeat: false,
+        is_open: false,
+        bar: None,
+    };
+
+    /// Whether the next byte is neither in a list nor escaped.
+    fn is_plain(self) -> bool {
+        !self.reading.is_in_list() && !self.reading.is_escaped()
+    }
+
+    /// Where the sign is that is complete with this byte.
+    fn sign_at(self, index: usize, byte: u8, next: Option<&u8>) -> Option<usize> {
+        if !self.is_plain() {
+            return None;
+        }
+        match byte {
+            b'+' | b'?' if self.may_repeat => Some(index),
+            b'{' if self.may_repeat && is_digit(next) => Some(index),
+            b')' => self.bar,
+            _ => None,
+        }
+    }
+
+    /// What is seen after this byte.
+    fn after(self, index: usize, byte: u8) -> Seen {
+        let is_plain = self.is_plain();
+        let reading = self.reading.after(byte);
+        Seen {
+            reading,
+            may_repeat: (self.reading.is_in_list() && !reading.is_in_list())
+                || (is_plain && matches!(byte, b')' | b'.')),
+            is_open: self.is_open || (is_plain && byte == b'('),
+            bar: if is_plain && self.is_open && byte == b'|' {
+                Some(index)
+            } else {
+                self.bar
+            },
+        }
+    }
 }
 
 fn is_digit(byte: Option<&u8>) -> bool {

@@ -1,8 +1,7 @@
 //! The files that a script names, and the names at which a reader should look twice.
 
-ghost use Rattle.std.specs.Prelude.{◌≡◌, false, IfOk, OnOk, map};
+ghost use Rattle.std.specs.Prelude.{◌≡◌, IfOk, OnOk, map};
 ghost use Rattle.sedck_report.specs.Files.{names_of};
-ghost use Rattle.sedck_report.specs.Levels.{is_error};
 ghost use Rattle.sedck_warnings.specs.Added.{AddsNoError};
 
 use sedck_report::{Code, Finding, Level, NamedFile, Position, is_printable, shown_name};
@@ -97,7 +96,7 @@ fn file_warnings(
     ];
     for doubt in doubts {
         if let Some(doubt) = doubt {
-            findings.push(warning(alloc, file, access, doubt)?)?;
+            push_warning(alloc, findings, file, access, doubt)?;
         }
     }
     Ok(())
@@ -110,14 +109,15 @@ struct Doubt {
     reason: &'static str,
 }
 
-/// The warning on the name for this reason, at the first command that names it.
-fn warning(
+/// Adds the warning on the name for this reason, at the first command that names it.
+fn push_warning(
     alloc: Global,
+    findings: &mut Vec<Finding>,
     file: &NamedFile,
     access: Access,
     doubt: Doubt,
-) -> Result<Finding, AllocError>
-    ensures { IfOk result (λ finding. is_error finding.level ≡ false) }
+) -> Result<(), AllocError>
+    ensures { OnOk result (AddsNoError findings.old.items findings.new.items) }
 {
     let does = match access {
         Access::Read => "reads",
@@ -125,7 +125,7 @@ fn warning(
     };
     let name = shown_name(alloc, file.name)?;
     let reason = doubt.reason;
-    Ok(Finding {
+    findings.push(Finding {
         level: Level::Warning,
         code: doubt.code,
         position: file.positions.first().copied(),
@@ -134,7 +134,8 @@ fn warning(
         hint: None,
         fix: None,
         steps: Vec::new(alloc),
-    })
+    })?;
+    Ok(())
 }
 
 /// Names that some seds read as streams.

@@ -1,13 +1,13 @@
 use Rattle.sedck_warnings.specs.Added.{AddsNoError}
-use Rattle.sedck_warnings.proofs.Added.{no_error_none, no_error_push, no_error_trans, ok_no_error}
+use Rattle.sedck_warnings.proofs.Added.{no_error_none, no_error_trans, ok_no_error}
 use Rattle.sedck_warnings.proofs.looks.look_warnings.Goals as goal
-use Rattle.sedck_warnings.proofs.looks.look_warnings.Goals.{then-has_options+in_ok-found+in_ok-push, else-has_options}
+use Rattle.sedck_warnings.proofs.looks.look_warnings.Goals.{then-has_options+in_ok-push_look, else-has_options}
 
 pub returns : goal.returns
 returns c =
     let options : AddsNoError c.args.findings.now.items c.if-has_options.findings.items =
     elim c.if-has_options.branch [
-      | then-has_options+in_ok-found+in_ok-push w ↦ rw w.findings-is (no_error_push _ _ _ w.in_ok-push.ensures.items w.in_ok-found.ensures)
+      | then-has_options+in_ok-push_look w ↦ rw w.findings-is w.in_ok-push_look.ensures
       | else-has_options w ↦ rw w.findings-is (no_error_none _)
     ] in
     ok_no_error _ _ _ c.extended_warning.result (no_error_trans _ _ _ options c.in_ok-brace_warnings.ensures) c.extended_warning.ensures

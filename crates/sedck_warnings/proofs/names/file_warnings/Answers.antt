@@ -1,11 +1,10 @@
-use Rattle.sedck_warnings.proofs.Added.{no_error_push, no_error_trans}
+use Rattle.sedck_warnings.proofs.Added.{no_error_trans}
 use Rattle.sedck_warnings.proofs.names.file_warnings.Goals as goal
-use Rattle.sedck_warnings.proofs.names.file_warnings.Goals.{in-Some+in_ok-warning+in_ok-push, in_default}
+use Rattle.sedck_warnings.proofs.names.file_warnings.Goals.{in-Some+in_ok-push_warning, in_default}
 
 pub loop-doubt-preserved : goal.loop-doubt-preserved
 loop-doubt-preserved c =
     elim c.match-doubt.branch [
-      | in-Some+in_ok-warning+in_ok-push w ↦
-          rw w.findings-is (no_error_trans _ _ _ c.loop-doubt.invariant (no_error_push _ _ _ w.in_ok-push.ensures.items w.in_ok-warning.ensures))
+      | in-Some+in_ok-push_warning w ↦ rw w.findings-is (no_error_trans _ _ _ c.loop-doubt.invariant w.in_ok-push_warning.ensures)
       | in_default w ↦ rw w.findings-is c.loop-doubt.invariant
     ]
