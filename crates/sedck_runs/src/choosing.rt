@@ -32,13 +32,12 @@ type Links<'a> = [Option<Link<'a>>; 2];
 
 /// Whether what was seen is a run of the model.
 pub fn decide_run(alloc: Global, script: &Script, trace: &Trace) -> Result<Verdict, AllocError> {
-    let lines: Vec<&[u8]> = trace
-        .lines
-        .iter()
-        .map(|line| line.as_slice())
-        .collect(alloc)?;
-    let lines = lines.as_slice();
-    decide_states(alloc, &*script, lines, &*trace)
+    let mut lines: Vec<&[u8]> = Vec::new(alloc);
+    for line in &trace.lines {
+        lines.push(line.as_slice())?;
+    }
+    let slices = lines.as_slice();
+    decide_states(alloc, &*script, slices, &*trace)
 }
 
 /// Whether it is one on these lines.
@@ -51,13 +50,14 @@ fn decide_states<'a>(
     let mut all: Vec<Links<'a>> = Vec::new(alloc);
     let mut undecided = 0usize;
     let mut from: Links<'a> = START;
-    let steps = trace
-        .states
-        .len()
-        .saturating_add(usize::from(trace.is_done));
-    for number in 0..steps {
+    for number in 0..=trace.states.len() {
+        if number == trace.states.len() && !trace.is_done {
+            break;
+        }
         let (links, open) = links(alloc, script, lines, trace, number, &from)?;
-        undecided = undecided.saturating_add(usize::from(open));
+        if open {
+            undecided = undecided.saturating_add(1);
+        }
         if links[0].is_none() && links[1].is_none() {
             return Ok(Verdict::Refused(number));
         }
@@ -89,46 +89,32 @@ fn state_at<'a>(
     if number == 0 {
         return State::Start(lines);
     }
-    match seen_at(trace, number) {
+    match trace.states.get(number - 1) {
         Some(seen) => State::At(machine(lines, seen, flag)),
         None => State::Done,
     }
-}
-
-/// What was seen of the state with this number.
-fn seen_at(trace: &Trace, number: usize) -> Option<&Seen> {
-    trace.states.get(number.checked_sub(1)?)
 }
 
 fn machine<'a>(lines: &'a [&'a [u8]], seen: &'a Seen, flag: bool) -> Machine<'a, 'a> {
     Machine {
         at: seen.place,
         flag,
-        unread: behind(lines, seen.read),
+        unread: lines.get(seen.read..).unwrap_or(&[]),
         pattern: &seen.pattern,
         hold: &seen.hold,
     }
 }
 
-/// The lines behind so many.
-fn behind<'a>(lines: &'a [&'a [u8]], count: usize) -> &'a [&'a [u8]] {
-    lines.get(count..).unwrap_or(&[])
-}
-
 /// The file that the command at the place of the state with this number may read or write.
 fn file_event<'a>(script: &'a Script<'a>, trace: &Trace, number: usize) -> Event<'a> {
-    let Some(seen) = seen_at(trace, number) else {
+    let place = match number.checked_sub(1) {
+        Some(before) => trace.states.get(before).map(|seen| seen.place),
+        None => None,
+    };
+    let Some(command) = place.and_then(|place| script.commands().get(place)) else {
         return Event::Silent;
     };
-    match script.commands().get(seen.place) {
-        Some(command) => event_of(&command.verb),
-        None => Event::Silent,
-    }
-}
-
-/// What the verb may do to a file.
-fn event_of<'a>(verb: &'a Verb<'a>) -> Event<'a> {
-    match verb {
+    match &command.verb {
         Verb::Read(name) => Event::Reads(name),
         Verb::Write(name) => Event::Writes(name),
         Verb::Substitute(substitution) => match substitution.file {
@@ -152,40 +138,25 @@ fn links<'a>(
     let mut open = false;
     let events = [Event::Silent, file_event(script, trace, number)];
     for flag in [false, true] {
-        if from[flag as usize].is_none() {
-            continue;
-        }
-        let before = state_at(lines, trace, number, flag);
         for flag_after in [false, true] {
-            let after = state_at(lines, trace, number.saturating_add(1), flag_after);
-            let (event, is_open) = event_between(alloc, script, &before, &events, &after)?;
-            if let Some(event) = event {
-                links[flag_after as usize] = Some(Link { flag, event });
+            if from[flag as usize].is_none() {
+                continue;
             }
-            open |= is_open;
+            let before = state_at(lines, trace, number, flag);
+            let after = state_at(lines, trace, number.saturating_add(1), flag_after);
+            for event in events {
+                match decided(alloc, script, &before, &event, &after)? {
+                    Some(false) => {}
+                    Some(true) => links[flag_after as usize] = Some(Link { flag, event }),
+                    None => {
+                        open = true;
+                        links[flag_after as usize] = Some(Link { flag, event });
+                    }
+                }
+            }
         }
     }
     Ok((links, open))
-}
-
-/// The last of the events with which it is a step of the model or may be one, and whether some of them isn't decided.
-fn event_between<'a>(
-    alloc: Global,
-    script: &Script,
-    before: &State,
-    events: &[Event<'a>],
-    after: &State,
-) -> Result<(Option<Event<'a>>, bool), AllocError> {
-    let mut last = None;
-    let mut open = false;
-    for event in events {
-        let answer = decided(alloc, script, before, event, after)?;
-        if answer != Some(false) {
-            last = Some(*event);
-        }
-        open |= answer.is_none();
-    }
-    Ok((last, open))
 }
 
 /// Whether it is a step of the model; none where that isn't decided.
@@ -213,7 +184,10 @@ fn whole_run<'a>(
     all: &[Links<'a>],
 ) -> Result<Verdict, AllocError> {
     let mut moves: Vec<Move> = Vec::new(alloc);
-    let mut flag = all.last().is_some_and(|links| links[0].is_none());
+    let mut flag = match all.last() {
+        Some(links) => links[0].is_none(),
+        None => false,
+    };
     for (number, links) in all.iter().enumerate().rev() {
         let Some(link) = links[flag as usize] else {
             return Ok(Verdict::Refused(number));
@@ -225,32 +199,13 @@ fn whole_run<'a>(
         flag = link.flag;
     }
     moves.reverse();
-    decide_moves(alloc, script, lines, &moves)
-}
-
-/// Whether these moves are a run.
-fn decide_moves(
-    alloc: Global,
-    script: &Script,
-    lines: &[&[u8]],
-    moves: &[Move],
-) -> Result<Verdict, AllocError> {
     let mut budget = Budget {
         left: STEP_BUDGET.saturating_mul(moves.len() as u64),
     };
-    let found = follows(alloc, script, lines, moves, &mut budget);
-    verdict_of(found, moves.len())
-}
-
-/// The verdict where this is found of a run of so many steps.
-fn verdict_of(
-    found: Result<Option<usize>, Undecided>,
-    steps: usize,
-) -> Result<Verdict, AllocError> {
-    match found {
+    match follows(alloc, script, lines, &moves, &mut budget) {
         Ok(None) => Ok(Verdict::Follows),
         Ok(Some(number)) => Ok(Verdict::Refused(number)),
-        Err(Undecided::OutOfBudget) => Ok(Verdict::Undecided(steps)),
+        Err(Undecided::OutOfBudget) => Ok(Verdict::Undecided(moves.len())),
         Err(Undecided::OutOfMemory) => Err(AllocError),
     }
 }

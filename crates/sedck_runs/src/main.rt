@@ -37,7 +37,6 @@ use report::Counts;
 use sedck_script::{Located, Script, Verb, locate};
 use seen::Trace;
 use std::alloc::{AllocError, Global};
-use std::fmt::Display;
 use std::io::{BufRead, BufReader};
 use std::process::ExitCode;
 use std::rt::{Env, Files};
@@ -69,48 +68,34 @@ enum Task<'a> {
     All(usize, &'a str),
 }
 
-/// Does what the arguments ask for; the exit status.
+/// Reads the script, and does what is asked for.
 fn answer(rt: &HostRuntime) -> io::Result<u8> {
     let words: Vec<String> = env::args(rt)?.skip(1).collect(rt.alloc())?;
     let words: Vec<&str> = words.iter().map(|word| word.as_str()).collect(rt.alloc())?;
-    match task_of(&words) {
-        Some((task, path)) => read_script(rt, task, path),
-        None => refuse(rt, &USAGE),
-    }
-}
-
-/// Reads the script, and does what is asked for.
-fn read_script(rt: &HostRuntime, task: Task, path: &str) -> io::Result<u8> {
+    let Some((task, path)) = task_of(words.as_slice()) else {
+        println!(rt; "{USAGE}")?;
+        return Ok(2);
+    };
     let text = fs::read(rt, path)?;
     match locate(rt.alloc(), &text) {
         Ok(located) => do_task(rt, task, &text, &located),
-        Err(fault) => refuse(rt, &fault),
+        Err(fault) => {
+            println!(rt; "{fault}")?;
+            Ok(2)
+        }
     }
-}
-
-/// Says why nothing is done; the exit status.
-fn refuse<T: Display>(rt: &impl Print, why: &T) -> io::Result<u8> {
-    println!(rt; "{why}")?;
-    Ok(2)
 }
 
 /// What the arguments ask for, and the file with the script.
 fn task_of<'a>(words: &[&'a str]) -> Option<(Task<'a>, &'a str)> {
-    match *words {
+    match words {
+        ["--places", path] => Some((Task::Places, path)),
+        ["--one", path, input] => Some((Task::One(input), path)),
+        ["--all", most, path, input] => match most.parse::<usize>() {
+            Ok(most) if most > 0 => Some((Task::All(most, input), path)),
+            _ => None,
+        },
         [path] => Some((Task::Runs, path)),
-        [option, path] if option == "--places" => Some((Task::Places, path)),
-        [option, path, input] if option == "--one" => Some((Task::One(input), path)),
-        [option, most, path, input] if option == "--all" => {
-            Some((Task::All(limit_of(most)?, input), path))
-        }
-        _ => None,
-    }
-}
-
-/// The limit on the steps that the word says, if it says one.
-fn limit_of(word: &str) -> Option<usize> {
-    match word.parse::<usize>() {
-        Ok(most) if most > 0 => Some(most),
         _ => None,
     }
 }
@@ -119,32 +104,26 @@ fn do_task(rt: &HostRuntime, task: Task, text: &[u8], located: &Located) -> io::
     match task {
         Task::Runs => answer_all(rt, &located.script),
         Task::Places => places(rt, located),
-        Task::One(name) => one_run(rt, name, text, located),
-        Task::All(most, name) => all_runs(rt, most, name, &located.script),
+        Task::One(name) => {
+            let input = fs::read(rt, name)?;
+            let lines = lines_of(rt.alloc(), &input)?;
+            let lines = lines.as_slice();
+            show_one(
+                rt,
+                Input {
+                    name,
+                    lines,
+                    text,
+                    located,
+                },
+            )
+        }
+        Task::All(most, name) => {
+            let input = fs::read(rt, name)?;
+            let lines = lines_of(rt.alloc(), &input)?;
+            walk(rt, &located.script, &lines, most)
+        }
     }
-}
-
-/// Prints one run on the lines of the file.
-fn one_run(rt: &HostRuntime, name: &str, text: &[u8], located: &Located) -> io::Result<u8> {
-    let input = fs::read(rt, name)?;
-    let lines = lines_of(rt.alloc(), &input)?;
-    let lines = lines.as_slice();
-    show_one(
-        rt,
-        Input {
-            name,
-            lines,
-            text,
-            located,
-        },
-    )
-}
-
-/// Prints all runs of at most so many steps on the lines of the file.
-fn all_runs(rt: &HostRuntime, most: usize, name: &str, script: &Script) -> io::Result<u8> {
-    let input = fs::read(rt, name)?;
-    let lines = lines_of(rt.alloc(), &input)?;
-    walk(rt, &*script, &lines, most)
 }
 
 /// The lines of the text; the last one may have no newline.
@@ -158,27 +137,17 @@ fn lines_of<'a>(alloc: Global, text: &'a [u8]) -> Result<Vec<&'a [u8]>, AllocErr
 
 /// Says where the commands are.
 fn places(rt: &HostRuntime, located: &Located) -> io::Result<u8> {
-    let commands = located.script.commands();
-    for (location, command) in located.locations.iter().zip(commands) {
-        let word = word_of(&command.verb, commands.len());
-        println!(rt; "{} {} {word}", location.start, location.end)?;
+    let count = located.script.commands().len();
+    for (location, command) in located.locations.iter().zip(located.script.commands()) {
+        let (start, end) = (location.start, location.end);
+        let word = match command.verb {
+            Verb::Label(_) => "label",
+            Verb::Branch(target) | Verb::Test(target) if target == count => "leaves",
+            _ => "command",
+        };
+        println!(rt; "{start} {end} {word}")?;
     }
     Ok(0)
-}
-
-/// What kind of command it is, in a script with so many.
-fn word_of(verb: &Verb, count: usize) -> &'static str {
-    match verb {
-        Verb::Label(_) => "label",
-        Verb::Branch(target) | Verb::Test(target) => {
-            if *target == count {
-                "leaves"
-            } else {
-                "command"
-            }
-        }
-        _ => "command",
-    }
 }
 
 /// Reads the runs line by line.
@@ -193,15 +162,10 @@ fn answer_all(rt: &HostRuntime, script: &Script) -> io::Result<u8> {
             trace = Trace::new(rt.alloc());
         }
         if !trace.add(rt.alloc(), line.as_str())? {
-            return refuse_line(rt, &line);
+            println!(rt; "not understood: {line}")?;
+            return Ok(2);
         }
     }
     counts.report(rt, script, &trace)?;
     counts.summary(rt)
-}
-
-/// Says which line can't be read; the exit status.
-fn refuse_line(rt: &impl Print, line: &str) -> io::Result<u8> {
-    println!(rt; "not understood: {line}")?;
-    Ok(2)
 }

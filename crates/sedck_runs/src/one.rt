@@ -28,40 +28,25 @@ pub struct Input<'a> {
 pub fn show_one<'a>(rt: &(impl Print + AllocGlobal), input: Input<'a>) -> io::Result<u8> {
     let mut before: Option<Reached<'a>> = None;
     for number in 0..MOST_STEPS {
-        match first_step(rt.alloc(), input, &before) {
-            Ok(Some(step)) => {
-                show_step(rt, input, &before, &step.after)?;
-                before = Some(step.after);
+        let found = match steps_from(rt.alloc(), input, &before) {
+            Ok(found) => found,
+            Err(Undecided::OutOfBudget) => {
+                println!(rt; "cut off after {number} steps: the budget was used up")?;
+                return Ok(3);
             }
-            Ok(None) => return show_end(rt, "ended", number),
-            Err(Undecided::OutOfBudget) => return show_cut(rt, number),
             Err(Undecided::OutOfMemory) => return Err(io::Error::from(AllocError)),
-        }
+        };
+        let Some(step) = found.into_iter().next() else {
+            println!(rt; "ended after {number} steps")?;
+            return Ok(0);
+        };
+        show_step(rt, input, &before, &step.after)?;
+        before = Some(step.after);
     }
     let is_over = matches!(before, Some(Reached::Done));
     let end = if is_over { "ended" } else { "cut off" };
-    show_end(rt, end, MOST_STEPS)
-}
-
-/// Says how the run ended, and after how many steps; the exit status.
-fn show_end(rt: &impl Print, end: &str, steps: usize) -> io::Result<u8> {
-    println!(rt; "{end} after {steps} steps")?;
+    println!(rt; "{end} after {MOST_STEPS} steps")?;
     Ok(0)
-}
-
-/// The same where the budget was used up.
-fn show_cut(rt: &impl Print, steps: usize) -> io::Result<u8> {
-    println!(rt; "cut off after {steps} steps: the budget was used up")?;
-    Ok(3)
-}
-
-/// The first step from the state, if there is one.
-fn first_step<'a>(
-    alloc: Global,
-    input: Input<'a>,
-    before: &Option<Reached<'a>>,
-) -> Result<Option<Successor<'a>>, Undecided> {
-    Ok(steps_from(alloc, input, before)?.into_iter().next())
 }
 
 /// All steps from the state, or from before the first line.
@@ -85,57 +70,35 @@ fn show_step(
     before: &Option<Reached>,
     after: &Reached,
 ) -> io::Result<()> {
-    match before {
-        Some(Reached::At(old)) => {
-            show_command(rt, input, old.at)?;
-            show_after(rt, input, old, after)
+    if let Some(Reached::At(machine)) = before {
+        show_command(rt, input, machine.at)?;
+        if begins_cycle(machine, after) || is_end(input, machine.at, after) {
+            println!(rt; "END-OF-CYCLE:")?;
         }
-        _ => show_cycle(rt, input, after),
     }
-}
-
-/// Prints what has changed by the command.
-fn show_after(
-    rt: &(impl Print + AllocGlobal),
-    input: Input,
-    old: &ReachedMachine,
-    after: &Reached,
-) -> io::Result<()> {
-    if begins_cycle(old, after) {
-        show_end_of_cycle(rt)?;
-        return show_cycle(rt, input, after);
-    }
-    match after {
-        Reached::At(new) => show_changes(rt, old, new),
-        Reached::Done if quits(input, old.at) => Ok(()),
-        Reached::Done => show_end_of_cycle(rt),
-    }
-}
-
-fn show_end_of_cycle(rt: &impl Print) -> io::Result<()> {
-    println!(rt; "END-OF-CYCLE:")
-}
-
-/// Prints the spaces that aren't what they were.
-fn show_changes(
-    rt: &(impl Print + AllocGlobal),
-    old: &ReachedMachine,
-    new: &ReachedMachine,
-) -> io::Result<()> {
-    if new.pattern.as_slice() != old.pattern.as_slice() {
-        show_space(rt, "PATTERN: ", &new.pattern)?;
-    }
-    if new.hold.as_slice() != old.hold.as_slice() {
-        show_space(rt, "HOLD:    ", &new.hold)?;
-    }
-    Ok(())
-}
-
-/// Prints the number of the line that was read, and the pattern space, if the run goes on.
-fn show_cycle(rt: &(impl Print + AllocGlobal), input: Input, after: &Reached) -> io::Result<()> {
-    let Reached::At(machine) = after else {
+    let Reached::At(new) = after else {
         return Ok(());
     };
+    match before {
+        Some(Reached::At(old)) if !begins_cycle(old, after) => {
+            if new.pattern.as_slice() != old.pattern.as_slice() {
+                show_space(rt, "PATTERN: ", &new.pattern)?;
+            }
+            if new.hold.as_slice() != old.hold.as_slice() {
+                show_space(rt, "HOLD:    ", &new.hold)?;
+            }
+            Ok(())
+        }
+        _ => show_cycle(rt, input, new),
+    }
+}
+
+/// Prints the number of the line that was read, and the pattern space.
+fn show_cycle(
+    rt: &(impl Print + AllocGlobal),
+    input: Input,
+    machine: &ReachedMachine,
+) -> io::Result<()> {
     let number = input.lines.len().saturating_sub(machine.unread.len());
     println!(rt; "INPUT:   '{}' line {number}", input.name)?;
     show_space(rt, "PATTERN: ", &machine.pattern)
@@ -149,12 +112,13 @@ fn begins_cycle(old: &ReachedMachine, after: &Reached) -> bool {
     }
 }
 
-/// Whether the command at the place is `q`: then no cycle ends with the run.
-fn quits(input: Input, place: usize) -> bool {
-    match input.located.script.commands().get(place) {
+/// Whether the step ended the run by a cycle that found no line, and not by `q`.
+fn is_end(input: Input, place: usize, after: &Reached) -> bool {
+    let quits = match input.located.script.commands().get(place) {
         Some(command) => matches!(command.verb, Verb::Quit),
         None => false,
-    }
+    };
+    matches!(after, Reached::Done) && !quits
 }
 
 /// Prints the command at the place as the script has it, if there is one.
@@ -164,13 +128,13 @@ fn show_command(rt: &(impl Print + AllocGlobal), input: Input, place: usize) -> 
     };
     let command = input.text.get(location.start..location.end).unwrap_or(&[]);
     let mut line = String::new(rt.alloc());
-    add_source(&mut line, command.trim_ascii_end())?;
+    add_source(rt.alloc(), &mut line, command.trim_ascii_end())?;
     println!(rt; "COMMAND: {line}")
 }
 
 /// Prints the text behind its name.
 fn show_space(rt: &(impl Print + AllocGlobal), name: &str, text: &[u8]) -> io::Result<()> {
     let mut line = String::new(rt.alloc());
-    add_text(&mut line, text)?;
+    add_text(rt.alloc(), &mut line, text)?;
     println!(rt; "{name}{line}")
 }

@@ -37,32 +37,23 @@ impl Trace {
     /// Adds what a line says; false where it can't be read.
     pub fn add(&mut self, alloc: Global, line: &str) -> Result<bool, AllocError> {
         let words: Vec<&str> = line.split(' ').collect(alloc)?;
-        match *words.as_slice() {
-            [word] if word == "done" => {
-                self.is_done = true;
-                Ok(true)
+        match words.as_slice() {
+            ["run", name] => self.name.push_str(name)?,
+            ["input", text] => match bytes_of(alloc, text)? {
+                Some(line) => self.lines.push(line)?,
+                None => return Ok(false),
+            },
+            ["state", place, read, pattern, hold] => {
+                match read_state(alloc, place, read, pattern, hold)? {
+                    Some(state) => self.states.push(state)?,
+                    None => return Ok(false),
+                }
             }
-            [word, name] if word == "run" => {
-                self.name.push_str(name)?;
-                Ok(true)
-            }
-            [word, text] if word == "input" => push_read(&mut self.lines, bytes_of(alloc, text)?),
-            [word, place, read, pattern, hold] if word == "state" => {
-                let state = read_state(alloc, place, read, pattern, hold)?;
-                push_read(&mut self.states, state)
-            }
-            _ => Ok(false),
+            ["done"] => self.is_done = true,
+            _ => return Ok(false),
         }
+        Ok(true)
     }
-}
-
-/// Adds the item; false where it couldn't be read.
-fn push_read<T: Drop>(items: &mut Vec<T>, item: Option<T>) -> Result<bool, AllocError> {
-    let Some(item) = item else {
-        return Ok(false);
-    };
-    items.push(item)?;
-    Ok(true)
 }
 
 /// The state that these words say, if they say one.
@@ -94,20 +85,15 @@ fn bytes_of(alloc: Global, word: &str) -> Result<Option<Vec<u8>>, AllocError> {
         return Ok(Some(bytes));
     }
     for pair in word.as_bytes().chunks(2) {
-        let Some(byte) = byte_of(pair) else {
+        let [high, low] = pair else {
             return Ok(None);
         };
-        bytes.push(byte)?;
+        let (Some(high), Some(low)) = (digit(*high), digit(*low)) else {
+            return Ok(None);
+        };
+        bytes.push(16 * high + low)?;
     }
     Ok(Some(bytes))
-}
-
-/// The byte that two hexadecimal digits say.
-fn byte_of(pair: &[u8]) -> Option<u8> {
-    match *pair {
-        [high, low] => Some(16 * digit(high)? + digit(low)?),
-        _ => None,
-    }
 }
 
 /// The value of a hexadecimal digit.
