@@ -38,16 +38,6 @@ finding_alone text positions (Rejected cert why) f is = (f.position, is.1, (is.0
 finding_alone text positions (Endless walk) f is = (f.position, is.1, (is.0, refl))
 finding_alone text positions NotJudged f is = (f.position, is.1, (is.0, refl))
 
--- no finding
-pub finding_none : (text : List ℕ) (positions : List Position) (answer : Answer) → IsFindingOf text positions answer None
-    → AreFindingsOf text positions answer []
-finding_none text positions (Accepted cert bound) is = refl
-finding_none text positions (ScriptRefused why) is = absurd is
-finding_none text positions (CertificateRefused why) is = absurd is
-finding_none text positions (Rejected cert why) is = absurd is
-finding_none text positions (Endless walk) is = absurd is
-finding_none text positions NotJudged is = absurd is
-
 -- ---- The errors of an explanation
 
 begins_is_error : (position : Option Position) (findings : List Finding) → BeginsWithError position findings → has_error findings ≡ true

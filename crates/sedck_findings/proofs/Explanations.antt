@@ -48,30 +48,6 @@ of_script text given p (Rejected cert why) spelled is = tt
 of_script text given p (Endless walk) spelled is = tt
 of_script text given p NotJudged spelled is = absurd is
 
--- the fault of such an answer can be reported
-pub can_be_reported : (text : List ℕ) (p : Program) (answer : Answer) → IsOfScript text p answer → CanBeReported text answer
-can_be_reported text p (ScriptRefused why) is = is
-can_be_reported text p (CertificateRefused why) is = tt
-can_be_reported text p (Accepted cert bound) is = tt
-can_be_reported text p (Rejected cert why) is = tt
-can_be_reported text p (Endless walk) is = tt
-can_be_reported text p NotJudged is = absurd is
-
--- lists with the same names both have something, or neither has
-there_by_names : (files : List NamedFile) (names : List (List ℕ)) → names_of files ≡ names → is_there names ≡ is_there files
-there_by_names files names is =
-    let same : length names ≡ length files = ap length (sym is) ∙ length-map files (λ file. file.name.now) in rw same refl
-
-pub lists_of_script : (text : List ℕ) (p : Program) (answer : Answer) (read written : List NamedFile) → IsOfScript text p answer
-    → names_of read ≡ reads p → names_of written ≡ writes p → HasLists read written answer
-lists_of_script text p (Accepted cert bound) read written is are_read are_written =
-    (there_by_names read cert.reads (are_read ∙ sym is.0), there_by_names written cert.writes (are_written ∙ sym is.1))
-lists_of_script text p (ScriptRefused why) read written is are_read are_written = tt
-lists_of_script text p (CertificateRefused why) read written is are_read are_written = tt
-lists_of_script text p (Rejected cert why) read written is are_read are_written = tt
-lists_of_script text p (Endless walk) read written is are_read are_written = tt
-lists_of_script text p NotJudged read written is are_read are_written = tt
-
 -- a script that is read is kept
 pub keeps_script : (text : List ℕ) (given : Option (List ℕ)) (p : Program) (locations : List Location) (answer : Answer) (e : Explanation)
     → SpellsOnly text p → ((items : List Item) (spelled : Items text items) → locations ≡ locations_of (length text) spelled)

@@ -1,4 +1,3 @@
-mod Calls
 mod Lists
 mod Yes
 mod Said

@@ -24,11 +24,3 @@ shown_in_line b = if b == tab then codes "    " else shown_byte b
 abbrev pub shown_in_name : ℕ → List ℕ
 shown_in_name b =
     if b == backslash then codes "\\\\" else if b == 34 then codes "\\\"" else if b == 96 then codes "\\x60" else shown_byte b
-
--- what a text has before its first newline
-abbrev pub first_line : List ℕ → List ℕ
-first_line text = take (prefix_len (λ b. not (b == newline)) text) text
-
--- the line in which a position is: what the text has from its start on up to a newline
-abbrev pub line_around : List ℕ → Position → List ℕ
-line_around text p = first_line (drop (p.offset - (p.column - 1)) text)

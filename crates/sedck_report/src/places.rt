@@ -5,7 +5,6 @@ ghost use Rattle.std.specs.List.{prefix_len};
 ghost use Rattle.sedck_text.specs.Bytes.{newline};
 ghost use Rattle.sedck_report.specs.Positions.{position_after, position_in};
 ghost use Rattle.sedck_report.specs.Reported.{EndsInLine};
-ghost use Rattle.sedck_report.specs.Shown.{line_around};
 
 use memchr::memchr;
 use std::alloc::{AllocError, Global};
@@ -92,17 +91,6 @@ fn after(position: Position, byte: u8) -> Position
         line,
         column: column + 1,
     }
-}
-
-/// The line of the text in which the position is, without its newline.
-pub fn line_at(text: &[u8], position: Position) -> &[u8]
-    ensures { result.now ≡ line_around text.now position }
-{
-    let start = position
-        .offset
-        .saturating_sub(position.column.saturating_sub(1));
-    let rest = text.get(start..).unwrap_or(&[]);
-    &rest[..line_len(rest)]
 }
 
 /// The end of this many bytes, or of the line where it has fewer.

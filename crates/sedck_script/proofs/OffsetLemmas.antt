@@ -23,13 +23,6 @@ pub stands_behind : (front tail : List ℕ) (b : ℕ) → slice_get (front ++ b 
 stands_behind [] tail b = refl
 stands_behind (x ∷ front) tail b = stands_behind front tail b
 
--- the byte at the start of a tail is where the tail begins
-pub stands_at_tail : {whole text behind : List ℕ} {b : ℕ} → EndsIn whole text → text ≡ b ∷ behind → slice_get whole (length whole - length text) ≡ Some b
-stands_at_tail {whole} {text} {behind} {b} h e =
-    let same : whole ≡ h.0 ++ b ∷ behind = h.1 ∙ ap (λ t. h.0 ++ t) e in
-    let place : length whole - length text ≡ length h.0 = omega (arith, ap length h.1, length-append h.0 text) in
-    rw (place, same) (stands_behind h.0 behind b)
-
 pub tail_cons : {text rest : List ℕ} (b : ℕ) → EndsIn text rest → EndsIn (b ∷ text) rest
 tail_cons b h = (b ∷ h.0, ap (λ t. b ∷ t) h.1)
 
