@@ -1,15 +1,15 @@
 #!/usr/bin/env python3
 """Shows both programs without a proof: python3 tools/demo.py [RT]
 
-`rt try` compiles a program from its sources and runs it in a new folder, and proves nothing. What it says itself is shown only
-where it runs nothing, and then the status is 1. Else the status is 0 where each program ended with the status that is due.
+`rt try` compiles a program from its sources and runs it in a new folder, and proves nothing. The checker comes first, and what it
+answers is shown before the other one is compiled. What `rt` says itself is shown only where it runs nothing, and then the status is 1. Else
+the status is 0 where each program ended with the status that is due.
 """
 import re
 import shlex
 import subprocess
 import sys
 import time
-from concurrent.futures import ThreadPoolExecutor
 from pathlib import Path
 
 TOP = Path(__file__).resolve().parent.parent
@@ -59,16 +59,16 @@ def shown(head, name, words, due, ran):
 def main():
     rt = sys.argv[1] if len(sys.argv) > 1 else "rt"
     print("unproved: run by `rt try`, without the proofs; `make build` proves", flush=True)
-    print("Compiling both programs (one to three minutes) ...", flush=True)
-    begun = time.monotonic()
-    with ThreadPoolExecutor() as pool:
+    begun, fine = time.monotonic(), []
+    for head, crate, name, words, due in SHOWN:
+        print("\nCompiling %s ..." % name, flush=True)
         try:
-            runs = list(pool.map(lambda row: tried(rt, row[1], row[3]), SHOWN))
+            fine.append(shown(head, name, words, due, tried(rt, crate, words)))
         except OSError as error:
             print("demo: %s can't be started: %s" % (rt, error.strerror))
             return 1
-    fine = [shown(head, name, words, due, ran) for (head, _, name, words, due), ran in zip(SHOWN, runs)]
-    print("\nThat took %d seconds. Unproved: `make build` proves the programs, and puts them into build/." % (time.monotonic() - begun))
+        print("(%d seconds so far)" % (time.monotonic() - begun), flush=True)
+    print("\nUnproved: `make build` proves the programs, and puts them into build/.")
     return 0 if all(fine) else 1
 
 

@@ -1,21 +1,36 @@
 #!/usr/bin/env python3
 """Runs the gate, `rt ci`, and says what it cost: python3 tools/gate.py [RT]
 
-The cost is printed, and kept in build/gate-cost. The status is that of `rt ci`.
+What it cost is printed, and kept in build/gate-cost: a table of processor seconds by crate, and its sum also in units, the seconds of
+the proof of `sedck_search` in the same run, which hardly changes, so that the speed of the machine goes out of the figure.
+
+The status is that of `rt ci`, but 1 where a wrong body shows nothing: where an edit can't be applied or compiled, or was refused only
+since a proof names what it took away. Edits are also looked at before anything is proved (tools/edits.py).
 
 Each crate gets one process, and as many crates are worked on at a time as there are processors, but at most four, and as far as each has
 5 GB of memory; `RT_JOBS` overrides that. Where several processes share the proof of one crate, each of them loads what the crate stands
 on, which costs a third more processor time.
 """
 import os
+import re
 import resource
 import shlex
 import subprocess
 import sys
+import threading
 import time
 from pathlib import Path
 
+import edits
+
 TOP = Path(__file__).resolve().parent.parent
+UNIT = "sedck_search"
+# What `rt` says of a wrong body that shows nothing, though it may count it as refused.
+SHOWS_NOTHING = re.compile(r"BAD EDIT|NOT REFUSED|names what the edit took away")
+TICKS = os.sysconf("SC_CLK_TCK")
+HEAD = """| crate | proof | once more | wrong bodies |
+|---|---|---|---|
+"""
 
 
 def jobs():
@@ -23,22 +38,138 @@ def jobs():
     return max(1, min(len(os.sched_getaffinity(0)), memory // 5_000_000_000, 4))
 
 
+class Seen:
+    """What was seen of one process: its words, the folder in which it works, and the processor seconds that it took."""
+
+    def __init__(self, parent, started, words, folder, seconds):
+        self.parent, self.started, self.words, self.folder, self.seconds = parent, started, words, folder, seconds
+
+
+class Watch(threading.Thread):
+    """Looks five times a second at the processes below one, and keeps what each has taken."""
+
+    def __init__(self, top):
+        super().__init__(daemon=True)
+        self.top, self.seen, self.ended = top, {}, threading.Event()
+
+    def run(self):
+        while not self.ended.wait(0.2):
+            self.look()
+
+    def look(self):
+        for entry in os.listdir("/proc"):
+            if not entry.isdigit():
+                continue
+            try:
+                after_name = Path("/proc", entry, "stat").read_text().rpartition(") ")[2].split()
+                parent, started, seconds = int(after_name[1]), int(after_name[19]), (int(after_name[11]) + int(after_name[12])) / TICKS
+                known = self.seen.get((int(entry), started))
+                words = Path("/proc", entry, "cmdline").read_bytes().decode(errors="replace").split("\0")
+                folder = os.readlink("/proc/%s/cwd" % entry)
+            except (OSError, ValueError, IndexError):
+                continue
+            if known is None:
+                self.seen[int(entry), started] = Seen(parent, started, words, folder, seconds)
+            elif seconds >= known.seconds:
+                known.words, known.folder, known.seconds = words, folder, seconds
+
+    def below(self):
+        """The processes below the top one, in the order in which they were started."""
+        found, order = {self.top}, sorted(self.seen.items(), key=lambda item: item[1].started)
+        for (number, _), seen in order:
+            if seen.parent in found:
+                found.add(number)
+                yield seen
+
+
+class Costs:
+    """Processor seconds by crate: of its proof with tests and builds, of the proof once more, and of each wrong body."""
+
+    def __init__(self, processes, top=TOP):
+        self.proofs, self.firsts, self.others, self.tried, self.rest = {}, {}, {}, {}, 0.0
+        began = set()
+        for seen in processes:
+            name = self.crate_of(seen, top)
+            if name is None:
+                self.rest += seen.seconds
+            elif "rt-edit-" not in seen.folder:
+                self.proofs[name] = self.proofs.get(name, 0.0) + seen.seconds
+            elif "--incremental" in seen.words and name not in began:
+                began.add(name)
+                self.firsts[name] = seen.seconds
+            else:
+                self.others.setdefault(name, []).append(seen.seconds)
+
+    @staticmethod
+    def crate_of(seen, top):
+        """The crate for which a process works: that of its folder, or the one that its words name."""
+        if "rt-edit-" in seen.folder:
+            named = seen.words[seen.words.index("--crate-name") + 1:] if "--crate-name" in seen.words else []
+            return named[0] if named else None
+        inside = Path(seen.folder).parts[len(Path(top).parts):] if seen.folder.startswith(str(top) + "/crates/") else ()
+        return inside[1] if len(inside) > 1 else None
+
+    def row(self, name, bodies):
+        """A crate's seconds: the proof, the proof once more with which its wrong bodies begin, and these."""
+        others = self.others.get(name, [])
+        each = sum(others) / len(others) if others else 0.0
+        once_more = max(0.0, self.firsts[name] - each) if name in self.firsts else 0.0
+        return self.proofs.get(name, 0.0), once_more, (self.firsts.get(name, 0.0) - once_more + sum(others)) if bodies else 0.0
+
+
+def table(costs, names, bodies):
+    """The table of BENCH: a row for each crate, and what all took in seconds and in units."""
+    rows = {name: costs.row(name, bodies[name]) for name in names}
+    whole, unit = sum(sum(row) for row in rows.values()), rows.get(UNIT, (0.0,))[0]
+    text = HEAD + "".join("| `%s` | %.0f | %s | %s |\n" % (
+        name, proof, "%.0f" % once_more if once_more else "", "%d, %.0f" % (bodies[name], tried) if bodies[name] else "")
+        for name, (proof, once_more, tried) in rows.items())
+    columns = [sum(row[at] for row in rows.values()) for at in range(3)]
+    text += "\n%.0f s for proofs, %.0f s once more, %.0f s for %d wrong bodies: %.0f s" % (*columns, sum(bodies.values()), whole)
+    return text + (", or %.1f units of %.0f s. %.0f s more were seen for what starts them.\n" % (whole / unit, unit, costs.rest) if unit else ".\n")
+
+
+def run(rt):
+    """Runs `rt ci` and prints what it prints: its status, the lines on wrong bodies that show nothing, and its costs if they were seen."""
+    with subprocess.Popen(shlex.split(rt) + ["ci"], cwd=TOP, stdout=subprocess.PIPE, encoding="utf-8", errors="replace") as gate:
+        watch = Watch(gate.pid)
+        if os.path.isdir("/proc/%d" % gate.pid):
+            watch.start()
+        lines = []
+        for line in gate.stdout:
+            print(line, end="", flush=True)
+            if SHOWS_NOTHING.search(line):
+                lines.append(line.rstrip("\n"))
+        status = gate.wait()
+    watch.ended.set()
+    return status, lines, Costs(watch.below())
+
+
 def main():
     rt = sys.argv[1] if len(sys.argv) > 1 else "rt"
     os.environ.setdefault("RT_JOBS", str(jobs()))
+    faults = list(edits.faults())
+    for fault in faults:
+        print("gate: " + fault)
+    if faults:
+        return 1
     begun = time.monotonic()
     try:
-        status = subprocess.run(shlex.split(rt) + ["ci"], cwd=TOP).returncode
+        status, lines, costs = run(rt)
     except OSError as error:
         print("gate: %s can't be started: %s" % (rt, error.strerror))
         return 1
+    for line in lines:
+        print("gate: a wrong body shows nothing: " + line)
     used = resource.getrusage(resource.RUSAGE_CHILDREN)
-    cost = "The gate took %.1f processor minutes, %.1f of them in the system, and %.1f minutes by the clock, with %s jobs." % (
-        (used.ru_utime + used.ru_stime) / 60, used.ru_stime / 60, (time.monotonic() - begun) / 60, os.environ["RT_JOBS"])
-    print(cost)
+    names = re.findall(r"^(\w+)[^:#\n]*:", (TOP / "crates.txt").read_text(), re.M)
+    bodies = {name: len(list((TOP / "crates" / name / "must-fail").glob("*.edit"))) for name in names}
+    cost = "%s\nThe gate took %.1f processor minutes, %.1f of them in the system, and %.1f minutes by the clock, with %s jobs.\n" % (
+        table(costs, names, bodies), (used.ru_utime + used.ru_stime) / 60, used.ru_stime / 60, (time.monotonic() - begun) / 60, os.environ["RT_JOBS"])
+    print(cost, end="")
     (TOP / "build").mkdir(exist_ok=True)
-    (TOP / "build" / "gate-cost").write_text(cost + "\n")
-    return status if 0 <= status < 256 else 1
+    (TOP / "build" / "gate-cost").write_text(cost)
+    return (status if 0 <= status < 256 else 1) or (1 if lines else 0)
 
 
 if __name__ == "__main__":

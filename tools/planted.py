@@ -1,60 +1,129 @@
 #!/usr/bin/env python3
-"""Tries the wrong bodies that the gate leaves out: python3 tools/planted.py [RT] [CRATE ..]
+"""Tries the wrong bodies that the gate leaves out: python3 tools/planted.py [RT] [--all | --behind | CRATE ..]
 
-The edits in crates/NAME/planted are like those in crates/NAME/must-fail, and the prover must refuse each one. Each takes a quarter of a
-minute or more, so the gate tries at least one for each public function, and these are for a longer run: of all crates that have some,
-or of those that are named. They are tried in a copy of the repository, which shares what was proved here. The status is 0 only where
-each one is refused.
+The edits in crates/NAME/planted are like those in crates/NAME/must-fail, and the prover must refuse each one by a goal. Each takes a
+quarter of a minute or more, so the gate tries the few that tell most, and all others are for this.
+
+The ledger `planted.sums` has for each crate a checksum of its code, definitions and planted edits as they were when all of these were
+refused. Tried are those of the crates that are behind, whose sum is another one now; with `--all` those of all crates, or those of the
+crates that are named. With `--behind` nothing is tried: the crates that are behind are printed, and the status is 1 if there are any.
+
+What a crate needs is proved first. Then as many crates are tried at a time as there are processors, each in a tree of its own. The
+status is 0 only where each edit is refused, by more than a name that a proof has and the edit took away.
 """
-import os
+import hashlib
+import re
 import shlex
 import shutil
-import signal
-import subprocess
 import sys
-import tempfile
+from concurrent.futures import ThreadPoolExecutor, as_completed
 from pathlib import Path
 
+import edits
+import prove
+
 TOP = Path(__file__).resolve().parent.parent
+LEDGER = TOP / "planted.sums"
+REFUSED = re.compile(r"^rt: must-fail \w+/(\S+)\.edit: refused, as it must be(?!.*names what the edit took away)", re.M)
 
 
-def linked(path, to):
-    """A file of `out` is shared, and any other one is copied."""
-    if "out" in Path(path).relative_to(TOP).parts:
-        os.link(path, to)
-    else:
-        shutil.copy(path, to)
-    return to
+def planted(name):
+    return sorted((TOP / "crates" / name / "planted").glob("*.edit"))
 
 
-def copy_into(folder):
-    """The crates, each with its planted edits in place of those that the gate tries."""
-    for name in ("crates.txt", "HANDLES"):
-        shutil.copy(TOP / name, folder)
-    shutil.copytree(TOP / "crates", folder / "crates", copy_function=linked, ignore=shutil.ignore_patterns("must-fail"))
-    for planted in folder.glob("crates/*/planted"):
-        planted.rename(planted.with_name("must-fail"))
+def crates():
+    """The crates that have planted edits."""
+    return sorted(path.parent.name for path in TOP.glob("crates/*/planted") if planted(path.parent.name))
+
+
+def sum_of(name):
+    """A checksum of what decides whether a crate's planted edits are refused: its code, its definitions, and they themselves."""
+    whole = hashlib.sha256()
+    for part in ("src", "specs", "planted"):
+        for path in sorted((TOP / "crates" / name / part).rglob("*")):
+            if path.is_file():
+                whole.update(b"%s\0%s\0" % (path.relative_to(TOP).as_posix().encode(), hashlib.sha256(path.read_bytes()).hexdigest().encode()))
+    return whole.hexdigest()
+
+
+def ledger():
+    lines = LEDGER.read_text().splitlines() if LEDGER.exists() else []
+    return {name: known for known, name in (line.split("  ") for line in lines)}
+
+
+def behind():
+    """The crates whose planted edits weren't tried since their code, definitions or edits changed."""
+    known = ledger()
+    return [name for name in crates() if known.get(name) != sum_of(name)]
+
+
+def entered(name, known):
+    """Writes the sum of a crate all of whose edits were refused; those of crates without edits go."""
+    sums = {other: one for other, one in {**ledger(), name: known}.items() if other in crates()}
+    LEDGER.write_text("".join("%s  %s\n" % (sums[other], other) for other in sorted(sums)))
+
+
+def tried(rt, name, room):
+    """Tries a crate's planted edits in a tree of its own: what `rt` printed, and whether each was refused."""
+    needs = prove.libraries()
+    below = [other for other in prove.ordered(needs, [name]) if other != name]
+    prove.fill(room, name, below)
+    shutil.copytree(TOP / "crates" / name / "planted", room / "crates" / name / "must-fail")
+    try:
+        status, printed = prove.called(shlex.split(rt) + ["must-fail", name], room)
+    finally:
+        shutil.rmtree(room, ignore_errors=True)
+    refused = REFUSED.findall(printed)
+    return printed, not status and sorted(refused) == sorted(edit.stem for edit in planted(name))
+
+
+def try_all(rt, names):
+    """Tries the edits of these crates; whether each was refused."""
+    needs, failed = prove.libraries(), []
+    below = [name for name in prove.ordered(needs, names) if any(name in needs[other] for other in prove.ordered(needs, names))]
+    with prove.trees("planted-") as folder:
+        if not prove.Proving(rt, below, folder).run():
+            return False
+        # The sums are taken before, so that what is changed meanwhile counts as not tried.
+        sums = {name: sum_of(name) for name in names}
+        largest = sorted(names, key=lambda name: -len(planted(name)) * prove.work_of(name))
+        with ThreadPoolExecutor(prove.lanes()) as pool:
+            running = {pool.submit(tried, rt, name, folder / name): name for name in largest}
+            for future in as_completed(running):
+                name, (text, is_refused) = running[future], future.result()
+                print(text, end="", flush=True)
+                print("planted: %s: %s" % (name, "each of %d was refused" % len(planted(name)) if is_refused else "NOT EACH WAS REFUSED"), flush=True)
+                if is_refused:
+                    entered(name, sums[name])
+                else:
+                    failed.append(name)
+    return not failed
 
 
 def main():
-    rt, names = (sys.argv[1] if len(sys.argv) > 1 else "rt"), sys.argv[2:]
-    there = sorted(path.parent.name for path in TOP.glob("crates/*/planted"))
+    rt, words = (sys.argv[1] if len(sys.argv) > 1 else "rt"), sys.argv[2:]
+    there, late = crates(), behind()
+    if words == ["--behind"]:
+        print("planted: %s" % ("tried as they are now, in %d crates" % len(there) if not late else "to be tried by `make planted`: " + ", ".join(late)))
+        return 1 if late else 0
+    names = there if words == ["--all"] else words or late
     unknown = [name for name in names if name not in there]
     if unknown:
         print("planted: no wrong bodies are planted in %s" % ", ".join(unknown))
         return 1
-    # The copy is removed also where this is stopped: the gate refuses code outside of the crates.
-    for number in (signal.SIGTERM, signal.SIGHUP):
-        signal.signal(number, lambda number, _: sys.exit(128 + number))
-    # Beside the crates, so that what was proved can be shared and not copied.
-    (TOP / "build").mkdir(exist_ok=True)
-    with tempfile.TemporaryDirectory(prefix="planted-", dir=TOP / "build") as folder:
-        copy_into(Path(folder))
-        try:
-            return 1 if subprocess.run(shlex.split(rt) + ["must-fail"] + (names or there), cwd=folder).returncode else 0
-        except OSError as error:
-            print("planted: %s can't be started: %s" % (rt, error.strerror))
-            return 1
+    unfit = list(edits.faults())
+    for fault in unfit:
+        print("planted: " + fault)
+    if unfit:
+        return 1
+    if not names:
+        print("planted: each was refused, and nothing has changed since")
+        return 0
+    try:
+        return 0 if try_all(rt, names) else 1
+    except OSError as error:
+        print("planted: %s can't be started: %s" % (rt, error.strerror))
+        return 1
 
 
 if __name__ == "__main__":
