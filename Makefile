@@ -1,10 +1,10 @@
 # sedck and sedck-explain, on a machine that has the Rattle toolchain: `make demo` shows them without a proof, `make build` proves and
-# builds them, `make test` proves and tests everything.
+# builds them, `make sedck` the checker alone, `make test` proves and tests everything.
 
 RT ?= rt
 PREFIX ?= /usr/local
 
-.PHONY: all build demo test docs examples explain-tests refusals refusals-program streams tools-tests calls-tests wrapper-tests bench planted seds states \
+.PHONY: all build sedck demo test docs examples rows explain-tests refusals refusals-program streams tools-tests calls-tests wrapper-tests bench planted seds states \
 	changes measures runs-program install dist clean
 
 # One target after the other, also under `make -j`: proofs want all processors and much memory, and tests have limits of time.
@@ -12,16 +12,20 @@ PREFIX ?= /usr/local
 
 all: build
 
-# Puts both programs into build, each at once.
+# Puts both programs that the gate built into build, each at once.
 COPY = mkdir -p build && cp crates/sedck/out/sedck build/sedck.new && mv build/sedck.new build/sedck && \
 	cp crates/sedck_explain/out/sedck_explain build/sedck-explain.new && mv build/sedck-explain.new build/sedck-explain
 
-# `rt run` proves and builds a program, and the crates that it uses, where they have changed; the script has it done crate by crate.
+# The script has `rt` prove crate by crate what has changed, as many at a time as there are processors, and puts each program in place.
 build:
-	@echo "Proving and building sedck and sedck-explain (a first build proves everything: 50 to 150 processor minutes) ..."
+	@echo "Proving and building sedck and sedck-explain (a first build proves everything: 70 to 140 processor minutes) ..."
 	@python3 tools/prove.py "$(RT)"
-	@$(COPY)
 	@echo "The programs are build/sedck and build/sedck-explain."
+
+sedck:
+	@echo "Proving and building sedck (a first build proves everything that it needs: 25 to 60 processor minutes) ..."
+	@python3 tools/prove.py "$(RT)" sedck
+	@echo "The program is build/sedck."
 
 # `rt try` runs the programs without a proof, and leaves nothing behind.
 demo:
@@ -30,15 +34,20 @@ demo:
 # The gate proves everything and builds the programs; the tests are then those that stand alone, with `build` and `refusals-program` as
 # they are, so that nothing is proved or built again. A C compiler that is missing is missed before the gate.
 test: build/refuse.so
-	@echo "Running the gate: every proof from nothing, the must-fail edits, the tests and the program (100 to 300 processor minutes) ..."
+	@echo "Running the gate: every proof from nothing, wrong bodies, the tests and the programs (90 to 200 processor minutes) ..."
 	@python3 tools/gate.py "$(RT)"
 	@$(COPY)
-	@$(MAKE) --no-print-directory -o build -o refusals-program docs explain-tests refusals streams tools-tests calls-tests wrapper-tests
+	@$(MAKE) --no-print-directory -o build -o refusals-program docs rows explain-tests refusals streams tools-tests calls-tests wrapper-tests
+	@python3 tools/planted.py "$(RT)" --behind || true
 	@cat build/gate-cost
 
 docs examples: build
 	@echo "Checking the documents: the examples and their certificates, and each command that the pages show ..."
 	sh tests/documents.sh
+
+rows: build
+	@echo "Running build/sedck on rows of scripts and certificates ..."
+	python3 tests/rows.py build/sedck
 
 explain-tests: build
 	@echo "Testing the reports of sedck-explain ..."
@@ -85,12 +94,13 @@ seds: build
 	@echo "Running every sed that is found beside build/sedck (20,000 scripts take up to ten processor minutes) ..."
 	python3 tests/seds/seds.py build/sedck $(SEDS)
 
-# More arguments in STATES, such as `--steps 1000000`, `--folder DIR` or `--sed NAME=COMMAND`.
-# Wrong bodies for a longer run than the gate.
+# The wrong bodies that the gate leaves out, of the crates that have changed since they were tried: `PLANTED=NAME` has those of one crate
+# tried, `ALL=1` all of them.
 planted:
-	@echo "Trying the wrong bodies that the gate leaves out (half an hour or more) ..."
-	python3 tools/planted.py "$(RT)" $(PLANTED)
+	@echo "Trying the wrong bodies that the gate leaves out, where crates have changed (all of them: 70 to 150 processor minutes) ..."
+	python3 tools/planted.py "$(RT)" $(if $(ALL),--all,$(PLANTED))
 
+# More arguments in STATES, such as `--steps 1000000`, `--folder DIR` or `--sed NAME=COMMAND`.
 states: runs-program
 	@echo "Holding every step of every sed that is found against the model (100,000 steps take a few minutes) ..."
 	python3 tests/seds/seds_debug.py crates/sedck_runs/out/sedck_runs

@@ -6,7 +6,7 @@
 
 Small files that are made here are read, and must give the names, the lines and the words that are
 written beside them. And the lines of each file of specs/ are counted here in another way, without
-looking at definitions at all.
+looking at definitions at all. docs/PROVED.md must name the functions that require something.
 """
 import importlib.util, re, sys, tempfile
 from pathlib import Path
@@ -184,6 +184,34 @@ def faults_of_text(tool):
         pass
 
 
+def requiring(tool):
+    """The exported functions whose contract requires something."""
+    for crate in sorted(path.parent.parent.name for path in TOP.glob("crates/*/src/lib.rt")):
+        words, modules = tool.exported(crate)
+        root = TOP / "crates" / crate / "src"
+        for path in sorted(root.rglob("*.rt")):
+            code = re.sub(r"^\s*//.*$", "", path.read_text(encoding="utf-8"), flags=re.M)
+            is_module = ".".join(path.relative_to(root).with_suffix("").parts) in modules
+            of, end = None, 0
+            for found in re.finditer(r"^\s*(?:impl\b([^{]*)\{|pub (?:const )?fn (\w+))", code, re.M):
+                if found[2] is None:
+                    of, end = re.sub(r"<.*?>", "", found[1].rpartition(" for ")[2]).strip(), tool.balanced(code, found.end() - 1)
+                    continue
+                of = of if found.start() < end else None
+                head = re.split(r"^\s*\{$|\)[^\n{;]*\{$", code[found.start():], maxsplit=1, flags=re.M)[0]
+                if re.search(r"^\s*requires\b", head, re.M) and (is_module or (of or found[2]) in words):
+                    yield f"{of}::{found[2]}" if of else found[2]
+
+
+def faults_of_requires(tool):
+    """docs/PROVED.md names just the exported functions that require something."""
+    page = (TOP / "docs" / "PROVED.md").read_text(encoding="utf-8")
+    said = re.search(r"These functions require something, and no other exported one does: (.*)\.$", page, re.M)
+    named, there = set(re.findall(r"`([^`]+)`", said[1])) if said else set(), set(requiring(tool))
+    if not there or named != there:
+        yield f"docs/PROVED.md, what functions require: {', '.join(sorted(named ^ there))}"
+
+
 def main(words):
     tool = script(Path(words[0]) if words else TOP / "tools" / "definitions.py")
     wrong = []
@@ -193,6 +221,7 @@ def main(words):
         wrong += faults_of_refused(tool, title, text, line)
     wrong += faults_of_specs(tool)
     wrong += faults_of_text(tool)
+    wrong += faults_of_requires(tool)
     for line in wrong:
         print(line)
     sys.exit(1 if wrong else 0)

@@ -3,8 +3,8 @@
 
 Each link to a file of the repository must lead to one, and to a heading of it where it names one, also those to pages of docs/ that
 the code has as texts; each page is linked from README.md; the manual pages have the version of the first entry of CHANGELOG.md; each
-edit in the table of wrong bodies of docs/PROVED.md is there; docs/MAP.md has each module of each crate. The status is 0 only where
-all of this holds.
+edit in the tables of wrong bodies of docs/PROVED.md is there, and each that the gate tries is in the first of them; docs/MAP.md has each
+module of each crate. The status is 0 only where all of this holds.
 """
 import re
 import sys
@@ -34,16 +34,16 @@ def links(page):
             yield target, (page.parent / name).resolve() if name else page, head
 
 
-def edits():
-    """The files of the edits in the table of wrong bodies: in its second column, each behind the name of its crate."""
-    table = (TOP / "docs" / "PROVED.md").read_text().partition("| wrong body | edits | refused by |")[2]
+def edits(folder, head):
+    """The files of the edits in a table of wrong bodies: in its second column, each behind the name of its crate."""
+    table = (TOP / "docs" / "PROVED.md").read_text().partition("\n%s\n" % head)[2].partition("\n\n")[0]
     for row in re.findall(r"^\| .*$", table, flags=re.M):
         crate = ""
         for word in re.findall(r"`([^`]+)`", row.split(" | ")[1]):
             if word.startswith("sedck_"):
                 crate = word
             else:
-                yield TOP / "crates" / crate / "must-fail" / (word + ".edit")
+                yield TOP / "crates" / crate / folder / (word + ".edit")
 
 
 def unmapped():
@@ -57,12 +57,12 @@ def unmapped():
 
 
 def faults():
-    wrong_bodies = list(edits())
-    if not wrong_bodies:
-        yield "docs/PROVED.md has no table of wrong bodies"
-    for file in wrong_bodies:
+    tried = list(edits("must-fail", "| wrong body | edits | refused by |"))
+    for file in tried + list(edits("planted", "| wrong body | planted edits | refused by |")):
         if not file.exists():
             yield "docs/PROVED.md: no edit %s" % file.relative_to(TOP)
+    for file in sorted({*TOP.glob("crates/*/must-fail/*.edit")} - {*tried}):
+        yield "docs/PROVED.md doesn't name %s" % file.relative_to(TOP)
     for page in PAGES:
         for target, file, head in links(page):
             if not file.exists():

@@ -560,10 +560,11 @@ def group(book, text, seen, contracts_of):
     shown = f"{size(new):,} lines:\n\n" + files(book, text, seen, new) if new else "It adds no definition."
     new_types = sorted((t for t in types - seen.types if t in book.types), key=lambda t: (CRATES.index(t[0].split(".")[1]), t[1]))
     seen.types |= types
+    sizes = {one: len(book.types[one][1].splitlines()) for one in new_types}
     if new_types:
-        names = ", ".join(f"`{module.split('.')[1]}::{name}` ({len(book.types[(module, name)][1].splitlines())})" for module, name in new_types)
+        names = ", ".join(f"`{module.split('.')[1]}::{name}` ({sizes[(module, name)]})" for module, name in new_types)
         shown += f"\n\nTypes of the code: {names}."
-    return shown, size(new)
+    return shown, size(new) + sum(sizes.values())
 
 
 def library_words(blocks):
