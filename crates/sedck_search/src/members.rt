@@ -3,6 +3,7 @@
 ghost use Rattle.std.specs.Prelude.{◌≡◌, ◌<◌, length};
 ghost use Rattle.std.specs.Bool.{OnTrue};
 ghost use Rattle.sedck_script.specs.Invariant.{IsScript};
+ghost use Rattle.sedck_search.specs.Rows.{bit_count};
 ghost use Rattle.sedck_search.specs.Private.Reaching.{ArePartlyCounted};
 ghost use Rattle.sedck_search.specs.Private.Components.{AreSets, IsMember, IsOrderOf};
 
@@ -41,19 +42,20 @@ pub(crate) fn count_component(
         let node = order.at(position);
         let link = order.linked(node);
         sets.kept.slots[node] = slot;
-        if counts[node] == UNCOUNTED && is_member(&sets.reached, counts, node, link) {
+        if counts[node] == UNCOUNTED && is_member(&sets.reached, count, counts, node, link) {
             counts[node] = count;
         }
     }
     order.pop(bottom);
 }
 
-/// Whether the node is in the set, and so is the one that it links to, which counts as many nodes as the set has.
-fn is_member(reached: &NodeSet, counts: &[u16], node: usize, link: usize) -> bool
+/// Whether the node is in the set of so many nodes, and so is the one that it links to, which counts as many.
+fn is_member(reached: &NodeSet, count: u16, counts: &[u16], node: usize, link: usize) -> bool
+    requires count { count ≡ bit_count reached.now }
     requires node { node < 16384 }
     requires link { link < 16384 }
     requires inside { link < length counts.now }
     ensures { OnTrue result (IsMember reached.now counts.now node link) }
 {
-    reached.has(node) && reached.has(link) && usize::from(counts[link]) == reached.len()
+    reached.has(node) && reached.has(link) && counts[link] == count
 }

@@ -7,47 +7,39 @@ ghost use Rattle.sedck_search.specs.Private.NodeSet.{has, IsNodeSet, IsEmpty, Ha
 use crate::rows::{both, count_bits};
 use std::marker::Model;
 
-/// A set of nodes, one bit a node: those of 4,095 commands and the script's end, four each. It knows how many nodes it has.
+/// A set of nodes, one bit a node: those of 4,095 commands and the script's end, four each.
 #[derive(Drop)]
 pub(crate) struct NodeSet {
     words: [u64; 256],
-    count: usize,
 }
 
 impl Model for NodeSet {
-    ghost use Rattle.std.specs.Prelude.{◌≡◌, ℕ, List};
+    ghost use Rattle.std.specs.Prelude.{ℕ, List};
 
     ghost Value = { List ℕ };
 
-    ghost use Rattle.sedck_search.specs.Rows.{bit_count};
     ghost use Rattle.sedck_search.specs.Private.NodeSet.{IsNodeSet};
 
     ghost view = { λ a. a.words };
 
-    ghost invariant = { λ a. IsNodeSet a.words × (a.count ≡ bit_count a.words) };
+    ghost invariant = { λ a. IsNodeSet a.words };
 }
 
 impl NodeSet {
     /// No node.
     pub(crate) fn new() -> NodeSet
         ensures nodes { IsEmpty result }
-        ensures count { bit_count result ≡ 0 }
         ensures is_set { IsNodeSet result }
     {
-        NodeSet {
-            words: [0; 256],
-            count: 0,
-        }
+        NodeSet { words: [0; 256] }
     }
 
     /// Takes all nodes out.
     pub(crate) fn clear(&mut self)
         ensures nodes { IsEmpty self.new }
-        ensures count { bit_count self.new ≡ 0 }
         ensures is_set { IsNodeSet self.new }
     {
         self.words = [0; 256];
-        self.count = 0;
     }
 
     /// Whether the node is in the set.
@@ -72,7 +64,6 @@ impl NodeSet {
             return false;
         }
         self.words[node / 64] |= 1 << (node % 64);
-        self.count += 1;
         true
     }
 
@@ -84,16 +75,12 @@ impl NodeSet {
         ensures is_set { IsNodeSet self.new }
     {
         self.words[node / 64] &= !(1 << (node % 64));
-        self.count -= 1;
     }
 
     /// The first node of the set from this one on.
     pub(crate) fn next_from(&self, from: usize) -> Option<usize>
         ensures { MatchOption result (HasNoneFrom self.now from) (λ next. IsNext self.now from next) }
     {
-        if self.count == 0 {
-            return None;
-        }
         let words = &self.words;
         let first = from / 64;
         if first >= 256 {
@@ -118,7 +105,6 @@ impl NodeSet {
         ensures is_set { IsNodeSet self.new }
     {
         self.words = other.words;
-        self.count = other.count;
     }
 
     /// Puts the nodes of another set in.
@@ -126,16 +112,14 @@ impl NodeSet {
         ensures nodes { IsUnion self.old other.now self.new }
         ensures is_set { IsNodeSet self.new }
     {
-        let words = both(&self.words, &other.words);
-        self.words = words;
-        self.count = count_bits(&words) as usize;
+        self.words = both(&self.words, &other.words);
     }
 
-    /// The number of nodes in the set.
+    /// The number of nodes in the set, which are counted each time.
     pub(crate) fn len(&self) -> usize
         ensures value { result ≡ bit_count self.now }
         ensures is_set { IsNodeSet self.now }
     {
-        self.count
+        count_bits(&self.words) as usize
     }
 }

@@ -90,10 +90,12 @@ fn start_from_target(
     for edge in edges_of(script, node) {
         if filter.follows(edge.kind)
             && let Some(set) = kept.of(edge.to.index(), counts)
-            && set.len() > size
         {
-            reached.copy_from(set);
-            size = set.len();
+            let nodes = set.len();
+            if nodes > size {
+                reached.copy_from(set);
+                size = nodes;
+            }
         }
     }
     if size == 0 {

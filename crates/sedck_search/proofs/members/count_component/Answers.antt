@@ -1,8 +1,7 @@
-use Rattle.std.proofs.Common.{◌≡◌, ◌<◌, ◌≤◌, ℕ, length, refl, sym, ap, ◌∙◌, subst, subst₂, inl, inr, arith}
+use Rattle.std.proofs.Common.{◌≡◌, ◌≤◌, length, sym, ap, ◌∙◌, subst₂, arith}
 use Rattle.std.specs.Prelude.{Some, slice_get, set}
 use Rattle.std.proofs.lemmas.List.{length-set}
-use Rattle.sedck_flow.specs.Nodes.{node_index, node_count}
-use Rattle.sedck_flow.specs.declared.graph.Node.{Node}
+use Rattle.sedck_flow.specs.Nodes.{node_count}
 use Rattle.sedck_flow.proofs.NodeLemmas.{node_at, inside_below}
 use Rattle.sedck_search.specs.Rows.{bit_count}
 use Rattle.sedck_search.specs.Private.Reaching.{ArePartlyCounted}
@@ -40,6 +39,10 @@ counted_one c = elim c.if-counts-node.branch [
       n_inside m_inside r member marked))
   | else-counts-node w ↦ rw w.counts-is c.loop-position.invariant.counted
 ]
+
+-- the stored sets come and go; the nodes that were reached last stay
+pub is_member-requires-clause-count : goal.is_member-requires-clause-count
+is_member-requires-clause-count c = c.len-count.ensures.value ∙ ap bit_count (sym c.loop-position.invariant.same)
 
 pub loop-position-preserved : goal.loop-position-preserved
 loop-position-preserved c =

@@ -1,6 +1,5 @@
-use Rattle.std.proofs.Common.{◌≡◌, ◌≤◌, ℕ, List, length, sym, subst, inl, inr}
+use Rattle.std.proofs.Common.{◌≤◌, ℕ, List, length, sym, subst, inl, inr}
 use Rattle.sedck_script.specs.Program.{Program}
-use Rattle.sedck_flow.specs.Flow.{Flow}
 use Rattle.sedck_flow.specs.declared.graph.Node.{Node}
 use Rattle.sedck_flow.specs.declared.graph.Edge.{Edge}
 use Rattle.sedck_flow.proofs.EdgesInside.{inside}
@@ -11,7 +10,7 @@ use Rattle.sedck_search.specs.Private.Frontier.{AddsTarget, AddsTargets, AreSear
 use Rattle.sedck_search.proofs.Counts.{kept_reached}
 use Rattle.sedck_search.proofs.Paths.{index_below, reaches_from}
 use Rattle.sedck_search.proofs.Scans.{AreScanned, edge_coming, scan_more}
-use Rattle.sedck_search.proofs.Frontiers.{targets_none, targets_then, targets_node, targets_kept}
+use Rattle.sedck_search.proofs.Frontiers.{targets_then, targets_node, targets_kept}
 use Rattle.sedck_search.proofs.reaching.visit.Goals as goal
 
 pub add_target-first-requires-clause-inside : goal.add_target-first-requires-clause-inside

@@ -1,5 +1,4 @@
-use Rattle.std.proofs.Common.{◌≡◌, ◌<◌, sym, subst}
-use Rattle.sedck_flow.specs.declared.graph.Node.{Node}
+use Rattle.std.proofs.Common.{◌<◌, sym, subst}
 use Rattle.sedck_flow.specs.declared.graph.Edge.{Edge}
 use Rattle.sedck_search.specs.Private.Reaching.{IsClosed, IsIn}
 use Rattle.sedck_search.specs.Private.KeptSets.{IsKeptFor}
@@ -18,8 +17,8 @@ of-requires c =
     subst (λ i. i < 16384) (sym c.index.ensures) below
 
 -- the target reaches the nodes of the set that is kept for it
-pub loop-edge-preserved-in-loop-edge : goal.loop-edge-preserved-in-loop-edge
-loop-edge-preserved-in-loop-edge c =
+pub loop-edge-preserved-then-nodes-size : goal.loop-edge-preserved-then-nodes-size
+loop-edge-preserved-then-nodes-size c =
     let p = c.args.script.now in
     let e : Edge = c.in-Some.edge in
     let scan = scan_next p c.args.node c.loop-edge.yielded c.loop-edge.edge-iterator c.next.new.self e c.in-Some.ensures.steps c.loop-edge.invariant.edges in
