@@ -1,5 +1,7 @@
 #!/usr/bin/env python3
-"""Runs the gate, `rt ci`, and says what it cost: python3 tools/gate.py [RT]
+"""Runs the gate, `rt ci`, and says what it cost: python3 tools/gate.py [RT | --bench]
+
+With --bench nothing is run: what the last run cost is put into docs/BENCH.md, in place of what is there.
 
 What it cost is printed, and kept in build/gate-cost: a table of processor seconds by crate, and its sum also in units, the seconds of
 the proof of `sedck_search` in the same run, which hardly changes, so that the speed of the machine goes out of the figure.
@@ -145,7 +147,17 @@ def run(rt):
     return status, lines, Costs(watch.below())
 
 
+def put_into_bench():
+    """Puts what the last run cost into docs/BENCH.md."""
+    page, cost = TOP / "docs" / "BENCH.md", (TOP / "build" / "gate-cost").read_text()
+    text, found = re.subn(re.escape(HEAD) + r"(?:.*\n)*?The gate took .*\n", lambda _: cost, page.read_text())
+    page.write_text(text)
+    return 0 if found == 1 else 1
+
+
 def main():
+    if sys.argv[1:] == ["--bench"]:
+        return put_into_bench()
     rt = sys.argv[1] if len(sys.argv) > 1 else "rt"
     os.environ.setdefault("RT_JOBS", str(jobs()))
     faults = list(edits.faults())
