@@ -1,6 +1,7 @@
 -- From the program's promise over two files in memory to an exact answer.
-use Rattle.std.proofs.Common.{◌≡◌, ◌⊎◌, ◌↔◌, ◌<◌, ◌≤◌, ℕ, Bool, true, false, List, [], ◌∷◌, refl, subst, sym, ◌∙◌, inl, inr, arith, String, string_bytes, codes}
-use Rattle.std.proofs.lemmas.Bool.{both_ways, cases_order}
+use Rattle.std.proofs.Common.{◌≡◌, ◌⊎◌, ◌↔◌, ◌<◌, ◌≤◌, ℕ, Bool, true, false, List, [], ◌∷◌, refl, subst, sym, ◌∙◌, ap, inl, inr, arith, Some, ◌||◌, ◌++◌, String, string_bytes, slice_index, codes}
+use Rattle.std.specs.Str.{bytes_eq}
+use Rattle.std.proofs.lemmas.Bool.{both_ways, cases_lt, cases_order, false≢true}
 use Rattle.std.specs.declared.alloc.Global.{Global}
 use Rattle.sedck_cert.specs.Ranked.{Accepts}
 use Rattle.sedck_cert.specs.Headline.{SpellBoth, IsSafe}
@@ -11,10 +12,12 @@ use Rattle.sedck_cli.specs.declared.answer.Input.TheVariants as input
 use Rattle.sedck_cli.specs.declared.answer.RunFault.TheVariants as fault
 use Rattle.sedck_cli.specs.declared.command_line.Refusal.{Refusal}
 use Rattle.sedck_cli.specs.declared.command_line.Refusal.TheVariants.{Usage, Run}
-use Rattle.sedck_cli.specs.Engines.{ChecksTo, IsRefusedScript, IsRefusedCertificate}
+use Rattle.sedck_cli.specs.Opened.{Known}
+use Rattle.sedck_cli.specs.Engines.{ChecksTo}
 use Rattle.sedck_cli.specs.Statuses.{status_of, Asked, Check, Nothing, asked, has_option, IsReportFor}
 use Rattle.sedck_cli.specs.Private.Requests.{two_files}
-use Rattle.sedck_cli.specs.Causes.{IsCause}
+use Rattle.sedck_cli.specs.Causes.{IsUnread, IsCause}
+use Rattle.sedck_cli.specs.Lines.{refusal_line, SaysRefusalFor}
 
 -- a report of yes is one of an accepted certificate
 pub yes_accepts : (text bytes report : List ℕ) → ChecksTo text bytes Yes report → SpellBoth text bytes Accepts
@@ -114,3 +117,61 @@ exact {status = status} r = elim (cases_order status 4) [
 
 pub promised : {text bytes : List ℕ} {words : List (String Global)} {status : ℕ} → Ran text bytes words status → status ≡ 0 → SpellBoth text bytes IsSafe
 promised {text} {bytes} r is = accepted_safe text bytes (ran_yes r is)
+
+-- ---- What has status 4
+
+-- both files are there, and no read of them fails
+opened_both : (text bytes path : List ℕ) → IsUnread (two_files text bytes) (Check (97 ∷ []) (98 ∷ [])) path
+    → (bytes_eq path (codes "a") || bytes_eq path (codes "b")) ≡ true → ⊥
+opened_both text bytes path (inl closed) there = false≢true (closed ∙ there)
+opened_both text bytes path (inr failing) there = failing.1
+
+-- where no write has failed, memory is all that has this status
+only_memory : (text bytes : List ℕ) (refusal : Refusal) → IsCause (two_files text bytes) (Check (97 ∷ []) (98 ∷ [])) false refusal
+    → status_of refusal ≡ 4 → refusal ≡ Run fault.OutOfMemory
+only_memory text bytes Usage is four = absurd (omega (arith, four))
+only_memory text bytes (Run (fault.Script why)) is four = absurd (omega (arith, four))
+only_memory text bytes (Run (fault.Certificate why)) is four = absurd (omega (arith, four))
+only_memory text bytes (Run (fault.Read input.Script)) is four = absurd (opened_both text bytes (97 ∷ []) is refl)
+only_memory text bytes (Run (fault.Read input.Certificate)) is four = absurd (opened_both text bytes (98 ∷ []) is.1 refl)
+only_memory text bytes (Run fault.Write) is four = absurd (false≢true is.1)
+only_memory text bytes (Run fault.OutOfMemory) is four = refl
+
+-- no refusal with another status has this line
+memory_line : (refusal : Refusal) → refusal_line refusal ≡ refusal_line (Run fault.OutOfMemory) → status_of refusal ≡ 4
+memory_line Usage same = let letter : 117 ≡ 111 = ap (λ l. slice_index l 7) same in absurd (omega (arith, letter))
+memory_line (Run (fault.Script why)) same = let letter : 115 ≡ 111 = ap (λ l. slice_index l 7) same in absurd (omega (arith, letter))
+memory_line (Run (fault.Certificate why)) same = let letter : 99 ≡ 111 = ap (λ l. slice_index l 7) same in absurd (omega (arith, letter))
+memory_line (Run (fault.Read read)) same = refl
+memory_line (Run fault.Write) same = refl
+memory_line (Run fault.OutOfMemory) same = refl
+
+-- the same of what is on standard error, where it was empty and no write has failed
+pub said_line : (k : Known) (asked : Asked) (failed : Bool) (status : ℕ) (before after error : List ℕ) → failed ≡ false → before ≡ []
+    → error ≡ after → SaysRefusalFor k asked failed status (Some before) (Some after) → SaysRefusalFor k asked false status (Some []) (Some error)
+said_line k asked failed status before after error none empty same why =
+    (why.0, why.1, subst (λ f. IsCause k asked f why.0) none why.2, same ∙ why.3 ∙ ap (λ b. b ++ refusal_line why.0) empty)
+
+-- what is known of a run on two files in memory, of which no write has failed, and what is on standard error
+pub record Said (text bytes : List ℕ) (words : List (String Global)) (status : ℕ) (error : List ℕ) : Type 0 where
+  pub is_check : asked words ≡ Check (97 ∷ []) (98 ∷ [])
+  pub said : 1 < status → SaysRefusalFor (two_files text bytes) (asked words) false status (Some []) (Some error)
+  pub silent : status < 2 → error ≡ []
+
+pub memory : {text bytes : List ℕ} {words : List (String Global)} {status : ℕ} {error : List ℕ} → Said text bytes words status error
+    → (status ≡ 4) ↔ (error ≡ refusal_line (Run fault.OutOfMemory))
+memory {text} {bytes} {words} {status} {error} s = (
+  λ four.
+      let why = s.said (omega (arith, four)) in
+      let is = subst (λ a. IsCause (two_files text bytes) a false why.0) s.is_check why.2 in
+      why.3 ∙ ap refusal_line (only_memory text bytes why.0 is (why.1 ∙ four)),
+  λ says. elim (cases_lt status 2) [
+    | inl below ↦ absurd (no_line (sym (s.silent below) ∙ says))
+    | inr above ↦
+        let why = s.said (omega (arith, above)) in
+        sym why.1 ∙ memory_line why.0 (sym why.3 ∙ says)
+  ],
+)
+  where
+    no_line : [] ≡ refusal_line (Run fault.OutOfMemory) → ⊥
+    no_line e = cc e

@@ -24,11 +24,8 @@ refusal_words (Run fault.OutOfMemory) = codes "out of memory"
 abbrev pub refusal_line : Refusal → List ℕ
 refusal_line refusal = line (codes "sedck: " ++ refusal_words refusal)
 
--- the line of a refusal with this status was written
-abbrev pub SaysRefusal : ℕ → Option (List ℕ) → Option (List ℕ) → Type 0
-SaysRefusal status before after = (refusal : Refusal) × (status_of refusal ≡ status) × Appends before after (refusal_line refusal)
-
--- and the refusal is right: it speaks of what was asked for, and of the bytes of its files
+-- the line of a refusal with this status was written, and the refusal is right: it speaks of what was asked for, and of the bytes of its
+-- files
 abbrev pub SaysRefusalFor : Known → Asked → Bool → ℕ → Option (List ℕ) → Option (List ℕ) → Type 0
 SaysRefusalFor k asked failed status before after =
     (refusal : Refusal) × (status_of refusal ≡ status) × IsCause k asked failed refusal × Appends before after (refusal_line refusal)

@@ -5,7 +5,7 @@ ghost use Rattle.std.specs.Io.KnownBytes.{Keeps, Appends};
 ghost use Rattle.sedck_cli.specs.Opened.{unknown};
 ghost use Rattle.sedck_cli.specs.Statuses.{status_of, asked, asked_of_one, Check, Upgrade, Nothing, MayBeNo, Reports, BreaksOff, IsOfWords, begins_with_hyphen, has_option};
 ghost use Rattle.sedck_cli.specs.Causes.{AreOpened, IsCause};
-ghost use Rattle.sedck_cli.specs.Lines.{refusal_line, SaysRefusal, SaysRefusalFor};
+ghost use Rattle.sedck_cli.specs.Lines.{refusal_line, SaysRefusalFor};
 ghost use Rattle.sedck_cli.specs.Private.Requests.{report_asked, request_asks, asked_by, Leaves};
 ghost use Rattle.sedck_cli.specs.declared.command_line.Refusal.TheVariants.{Run};
 ghost use Rattle.sedck_cli.specs.declared.answer.RunFault.TheVariants as fault;
@@ -160,7 +160,7 @@ pub fn program_over<O: Opener, W: Sink, E: Sink>(
 pub fn flushed<W: Write + Drop, E: Sink>(status: u8, mut out: W, err: &mut E) -> u8
     ensures kept { 1 < status → result ≡ status }
     ensures within { (result ≡ status) ⊎ (result ≡ 4) }
-    ensures reported { result ≢ status → E.has_failed err.new ≡ false → SaysRefusal result (E.taken err.old) (E.taken err.new) }
+    ensures reported { result ≢ status → E.has_failed err.new ≡ false → Appends (E.taken err.old) (E.taken err.new) (refusal_line (Refusal.Run RunFault.Write)) }
     ensures silent { result ≢ 4 → Keeps (E.taken err.old) (E.taken err.new) }
 {
     if status > 1 {

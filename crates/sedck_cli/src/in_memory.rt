@@ -1,15 +1,16 @@
 //! The program over texts in memory: what it promises of its words, its files and its output, with nothing left open but memory.
 
-ghost use Rattle.std.specs.Prelude.{◌≡◌, ◌⊎◌, ◌↔◌, Some, false, IfOk};
+ghost use Rattle.std.specs.Prelude.{◌≡◌, ◌⊎◌, ◌↔◌, [], None, Some, false, is_some, IfOk};
 ghost use Rattle.sedck_cert.specs.Ranked.{Accepts};
 ghost use Rattle.sedck_cert.specs.Headline.{SpellBoth, IsSafe};
 ghost use Rattle.sedck_cli.specs.Engines.{ChecksTo};
+ghost use Rattle.sedck_cli.specs.Lines.{refusal_line};
 ghost use Rattle.sedck_cli.specs.Private.Requests.{two_files};
 
-use crate::answer::Outcome;
-use crate::command_line::program_over;
+use crate::answer::{Outcome, RunFault};
+use crate::command_line::{Refusal, program_over};
 use crate::opener::Opener;
-use sedck_cert::streams::{Failed, FromWrite, Source};
+use sedck_cert::streams::{Failed, Sink, Source};
 use std::alloc::{AllocError, Global};
 
 /// What is left to read of a text in memory. No read fails.
@@ -57,11 +58,61 @@ impl<'a> Opener for TwoFiles<'a> {
     }
 }
 
-/// What a run of the program leaves: its exit status, and what is on its output.
+/// Bytes that are written to memory. A write fails only where the vector is refused memory.
+#[derive(Drop)]
+struct ToMemory {
+    bytes: Vec<u8>,
+    refused: Option<AllocError>,
+}
+
+impl ToMemory {
+    /// No bytes.
+    fn new(alloc: Global) -> ToMemory
+        ensures { (result.bytes.items ≡ []) × (result.refused ≡ None) }
+    {
+        ToMemory {
+            bytes: Vec::new(alloc),
+            refused: None,
+        }
+    }
+
+    /// The bytes, if memory was never refused.
+    fn into_bytes(self) -> Result<Vec<u8>, AllocError>
+        ensures { IfOk result (λ bytes. (bytes ≡ self.bytes) × (self.refused ≡ None)) }
+    {
+        match self.refused {
+            None => Ok(self.bytes),
+            Some(error) => Err(error),
+        }
+    }
+}
+
+impl Sink for ToMemory {
+    ghost taken = { λ sink. Some sink.bytes.items };
+
+    ghost has_failed = { λ sink. is_some sink.refused };
+
+    fn write(&mut self, bytes: &[u8]) -> Result<usize, Failed> {
+        match self.bytes.extend_from_slice(bytes) {
+            Ok(()) => Ok(bytes.len()),
+            Err(error) => {
+                self.refused = Some(error);
+                Err(Failed)
+            }
+        }
+    }
+
+    fn failed(&self) -> bool {
+        self.refused.is_some()
+    }
+}
+
+/// What a run of the program leaves: its exit status, and what is on its output and on standard error.
 #[derive(Drop)]
 pub struct Ended {
     pub status: u8,
     pub output: Vec<u8>,
+    pub error: Vec<u8>,
 }
 
 /// `sedck check a b`, where the files `a` and `b` have these bytes.
@@ -72,7 +123,9 @@ pub fn check_in_memory(
 ) -> Result<Ended, AllocError>
     // Yes exactly where the bytes spell a script and a certificate that is accepted for it. Memory may run out: that is status 4.
     ensures exact { IfOk result (λ ended. (ended.status ≡ 4) ⊎ ((ended.status ≡ 0) ↔ SpellBoth script.now certificate.now Accepts)) }
-    // Then the script's runs end, and their files are listed.
+    // Nothing else is: status 4 comes with this very line.
+    ensures memory { IfOk result (λ ended. (ended.status ≡ 4) ↔ (ended.error.items ≡ refusal_line (Refusal.Run RunFault.OutOfMemory))) }
+    // At a yes the script's runs end, and their files are listed.
     ensures promise { IfOk result (λ ended. ended.status ≡ 0 → SpellBoth script.now certificate.now IsSafe) }
     // And the output is `accepted`, the limit on steps if there is one, and the files.
     ensures report { IfOk result (λ ended. ended.status ≡ 0 → ChecksTo script.now certificate.now Outcome.Yes ended.output.items) }
@@ -86,11 +139,12 @@ pub fn check_in_memory(
         String::from_str(alloc, "a")?,
         String::from_str(alloc, "b")?,
     ];
-    let mut out = FromWrite::new(Vec::new(alloc));
-    let mut err = FromWrite::new(Vec::new(alloc));
+    let mut out = ToMemory::new(alloc);
+    let mut err = ToMemory::new(alloc);
     let status = program_over(alloc, &files, &words, &mut out, &mut err);
     Ok(Ended {
         status,
-        output: out.into_inner(),
+        output: out.into_bytes()?,
+        error: err.into_bytes()?,
     })
 }

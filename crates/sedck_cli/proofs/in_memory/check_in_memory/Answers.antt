@@ -1,5 +1,6 @@
-use Rattle.std.proofs.Common.{[], ◌∷◌}
-use Rattle.sedck_cli.proofs.ExactAnswers.{words_check, words_plain, exact, promised}
+use Rattle.std.proofs.Common.{[], ◌∷◌, ◌∙◌, ap, is_some}
+use Rattle.sedck_cli.proofs.ExactAnswers.{words_check, words_plain, exact, promised, said_line, memory}
+use Rattle.sedck_cli.specs.Private.Requests.{two_files}
 use Rattle.sedck_cli.proofs.in_memory.check_in_memory.Goals as goal
 
 pub returns-clause-exact : goal.returns-clause-exact
@@ -12,7 +13,7 @@ returns-clause-exact c = exact {words = (c.in_ok-from_str.field-0 ∷ c.in_ok-fr
   yes = λ is. let report = c.program_over-status.ensures.yes is in (report.0, report.1);
   negative = λ is. let report = c.program_over-status.ensures.no is in (report.0, report.1);
   usage = c.program_over-status.ensures.usage;
-  cause = λ above. let why = c.program_over-status.ensures.cause above in (c.program_over-status.new.out.failed, why.0, why.1, why.2);
+  cause = λ above. let why = c.program_over-status.ensures.cause above in (is_some c.program_over-status.new.out.refused, why.0, why.1, why.2);
 })
 
 pub returns-clause-promise : goal.returns-clause-promise
@@ -25,5 +26,18 @@ returns-clause-promise c = promised {words = (c.in_ok-from_str.field-0 ∷ c.in_
   yes = λ is. let report = c.program_over-status.ensures.yes is in (report.0, report.1);
   negative = λ is. let report = c.program_over-status.ensures.no is in (report.0, report.1);
   usage = c.program_over-status.ensures.usage;
-  cause = λ above. let why = c.program_over-status.ensures.cause above in (c.program_over-status.new.out.failed, why.0, why.1, why.2);
+  cause = λ above. let why = c.program_over-status.ensures.cause above in (is_some c.program_over-status.new.out.refused, why.0, why.1, why.2);
 })
+
+pub returns-clause-memory : goal.returns-clause-memory
+returns-clause-memory c =
+    let ran = c.program_over-status in
+    let same = ap (λ bytes. bytes.items) c.in_ok-into_bytes-2.ensures.0 in
+    memory {words = (c.in_ok-from_str.field-0 ∷ c.in_ok-from_str-2.field-0 ∷ c.in_ok-from_str-3.field-0 ∷ [])} (record {
+      is_check = words_check c.in_ok-from_str.field-0 c.in_ok-from_str-2.field-0 c.in_ok-from_str-3.field-0 c.in_ok-from_str.ensures.ok
+          c.in_ok-from_str-2.ensures.ok c.in_ok-from_str-3.ensures.ok;
+      said = λ above. said_line (two_files c.args.script.now c.args.certificate.now) _ (is_some ran.new.out.refused) ran.result
+          c.new-err.result.bytes.items ran.new.err.bytes.items c.in_ok-into_bytes-2.field-0.items (ap is_some c.in_ok-into_bytes.ensures.1)
+          c.new-err.ensures.0 same (ran.ensures.reported above (ap is_some c.in_ok-into_bytes-2.ensures.1));
+      silent = λ below. same ∙ ran.ensures.silent below ∙ c.new-err.ensures.0;
+    })
