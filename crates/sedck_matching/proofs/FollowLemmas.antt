@@ -143,13 +143,3 @@ repeat_up_to t least most order x y = (
       let (between, first, rest) = (steps_added (Leads t) least (n - least) x y).0 (subst (λ m. Steps (Leads t) m x y) whole steps) in
       (between, first, (n - least, omega arith, rest)),
 )
-
--- no number of times is in the bounds
-pub repeat_never : (t : Tree) (least most : ℕ) → most < least → (text : List ℕ) (from : List Spot) → AreLed (Leads (Repeat t least (Some most))) text from []
-repeat_never t least most order text from to = (
-  λ (s, there, leads).
-      let (n, within, steps) = (repeat_leads t least (Some most) (reached text s) to).0 leads in
-      let enough : least ≤ n = within.0 in
-      let few : n ≤ most = within.1 in absurd (omega arith),
-  λ (s, there, is). absurd (none_contained s there),
-)

@@ -33,12 +33,6 @@ has_added P us others vs adds = (
   λ h. elim h [ inl (s, there, p) ↦ (s, (adds s).1 (inl there), p) | inr (s, there, p) ↦ (s, (adds s).1 (inr there), p) ],
 )
 
-pub AddsLed-none : (leads : Relation) (text : List ℕ) (us : List Spot) → AddsLed leads text us [] us
-AddsLed-none leads text us to = (
-  λ h. inl h,
-  λ h. elim h [ inl old ↦ old | inr led ↦ absurd (has_none (λ s. leads (reached text s) to) led) ],
-)
-
 pub AddsLed-both : (leads : Relation) (text : List ℕ) (old xs us ys vs : List Spot) → AddsLed leads text old xs us → AddsLed leads text us ys vs
     → AddsLed leads text old (xs ++ ys) vs
 AddsLed-both leads text old xs us ys vs first second to =
@@ -93,9 +87,6 @@ AreLed-same a b text from us same led to = (
   λ (s, there, leads). (led to).0 (s, there, (same (reached text s) to).1 leads),
   λ among. let (s, there, leads) = (led to).1 among in (s, there, (same (reached text s) to).0 leads),
 )
-
-pub AreWithin-none : (text : List ℕ) → AreWithin text []
-AreWithin-none text s there = absurd (none_contained s there)
 
 pub AreWithin-one : (text : List ℕ) (s : Spot) → s.at ≤ length text → AreWithin text (s ∷ [])
 AreWithin-one text s within x there = subst (λ (y : Spot). y.at ≤ length text) (sym (only_contained s x there)) within

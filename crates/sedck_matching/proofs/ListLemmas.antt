@@ -23,15 +23,6 @@ module _ {X : Type 0} where
   pub only_contained : (x y : X) → Contains (x ∷ []) y → y ≡ x
   only_contained x y h = elim (contained_cases x y [] h) [ inl same ↦ same | inr later ↦ absurd (none_contained y later) ]
 
-pub Adds-none : (xs : List Spot) → Adds xs [] xs
-Adds-none xs s = (λ h. inl h, λ h. elim h [ inl old ↦ old | inr other ↦ absurd (none_contained s other) ])
-
-pub Adds-push : (xs : List Spot) (x : Spot) → Adds xs (x ∷ []) (xs ++ x ∷ [])
-Adds-push xs x s = (
-  λ h. elim (Contains-append_cases xs (x ∷ []) s h) [ inl old ↦ inl old | inr other ↦ inr other ],
-  λ h. elim h [ inl old ↦ Contains-append_left xs (x ∷ []) s old | inr other ↦ Contains-append_right xs (x ∷ []) s other ],
-)
-
 pub Adds-kept : (xs : List Spot) (x : Spot) → Contains xs x → Adds xs (x ∷ []) xs
 Adds-kept xs x has s = (λ h. inl h, λ h. elim h [ inl old ↦ old | inr other ↦ subst (Contains xs) (sym (only_contained x s other)) has ])
 
@@ -55,13 +46,6 @@ pub Adds-more : (xs others us vs : List Spot) (i : ℕ) (d : Spot) → i < lengt
     → Adds xs (take (i + 1) others) vs
 Adds-more xs others us vs i d below first second =
     subst (λ ys. Adds xs ys vs) (sym (take_more others i d below)) (Adds-both xs (take i others) (get_or others i d ∷ []) us vs first second)
-
-pub without_none : (others : List Spot) → IsWithout [] others []
-without_none others = record {
-  only = λ s there. there;
-  new = λ s there _. none_contained s there;
-  all = λ s there. absurd (none_contained s there);
-}
 
 -- the next one is kept
 pub without_kept : (xs others left : List Spot) (x : Spot) → IsWithout xs others left → (Contains others x → ⊥) → IsWithout (xs ++ x ∷ []) others (left ++ x ∷ [])

@@ -24,9 +24,6 @@ led_through a b text from mid led to = (
       let (s, there, first) = (led (reached text x)).1 (x, among, refl) in (s, there, (reached text x, first, second)),
 )
 
-pub AreLed-after : (a b : Relation) (text : List ℕ) (from mid last : List Spot) → AreLed a text from mid → AreLed b text mid last → AreLed (After a b) text from last
-AreLed-after a b text from mid last first second to = both_ways (led_through a b text from mid first to) (second to)
-
 pub steps_added : (leads : Relation) (a b : ℕ) (from to : Reached) → Steps leads (a + b) from to ↔ After (Steps leads a) (Steps leads b) from to
 steps_added leads zero b from to = (
   λ steps. (from, refl, rw zero-add at steps),

@@ -1,7 +1,5 @@
 mod Contained
-mod AddLemmas
 mod Replacing
-mod MakeLemmas
 mod TextLemmas
 mod TransliterateLemmas
 mod SelectLemmas

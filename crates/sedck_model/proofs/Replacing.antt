@@ -315,10 +315,6 @@ rest_whole k xs = take_all (length xs - k) (drop k xs) (simp length-drop (omega 
 pub shared_take : (k n : ℕ) (xs ys : List ℕ) → k ≤ n → take n xs ≡ take n ys → take k xs ≡ take k ys
 shared_take k n xs ys le is = sym (take-take k n xs le) ∙ ap (take k) is ∙ take-take k n ys le
 
-pub shorter_or_same : (n i : ℕ) (xs ys : List ℕ) → take n xs ≡ take n ys → (get_or xs i 0 ≡ get_or ys i 0 → ⊥) → n ≤ i
-shorter_or_same n i xs ys is apart =
-    let differs : i < n → ⊥ = λ lt. apart (sym (get_or-take n xs i 0 lt) ∙ ap (λ zs. get_or zs i 0) is ∙ get_or-take n ys i 0 lt) in omega arith
-
 -- ---- Behind a text with which both begin
 
 pub replaces_in_at : (t : Tree) (s : Substitution) (k : ℕ) (old new : List ℕ) → take k old ≡ take k new → Replaces t s (drop k old) (drop k new) → ReplacesIn t s old new

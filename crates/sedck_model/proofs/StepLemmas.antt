@@ -26,11 +26,6 @@ command_behind cs commands at all past =
     let long : length (map command_of commands) ≡ length commands = length-map commands command_of in
     rw (← all) (slice_get_past (map command_of commands) at (omega (arith, past, long)))
 
--- past a verb that is no block the step goes on
-pub skips_on : (v : Verb) (m : Machine) → ((behind : ℕ) → v ≡ verb.Block behind → ⊥) → skip (verb_of v) m ≡ onward m
-skips_on (verb.Block behind) m never = absurd (never behind refl)
-skips_on _ m never = refl
-
 -- ---- Answers that decide more
 
 -- what is known to hold may be asked for too
