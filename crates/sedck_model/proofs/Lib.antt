@@ -1,3 +1,13 @@
+mod ListLemmas
+mod SameSpots
+mod LedLemmas
+mod GroupLemmas
+mod SingleLemmas
+mod ViewLemmas
+mod StepsLemmas
+mod LeadsLemmas
+mod FollowLemmas
+mod EndLemmas
 mod Contained
 mod Replacing
 mod TextLemmas

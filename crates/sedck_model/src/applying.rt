@@ -14,9 +14,9 @@ use crate::changing::{
 };
 use crate::events::{is_file_event, is_read, is_silent, is_written};
 use crate::reading::{adds_line, drops_first_line, takes_line};
+use crate::spending::{Budget, Undecided};
 use crate::states::{Event, Machine, State};
 use crate::substituting::substitutes;
-use sedck_matching::{Budget, Undecided};
 use sedck_script::{Address, Command, Script, Substitution, Verb};
 use std::alloc::Global;
 

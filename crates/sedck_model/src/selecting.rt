@@ -8,8 +8,9 @@ ghost use Rattle.sedck_flow.specs.Run.{MaySelect, MayNotSelect, MayApply, MaySki
 ghost use Rattle.sedck_model.specs.States.{machine_of};
 
 use crate::candidates::candidates;
+use crate::reaching::has_match;
+use crate::spending::{Budget, Undecided};
 use crate::states::Machine;
-use sedck_matching::{Budget, Undecided, has_match};
 use sedck_script::{Address, Command, Pattern, Place, Script};
 use std::alloc::Global;
 

@@ -11,8 +11,8 @@ use crate::applying::{branches, does};
 use crate::arriving::{begins_cycle, goes_on};
 use crate::events::is_silent;
 use crate::selecting::{may_apply, may_skip};
+use crate::spending::{Budget, Undecided};
 use crate::states::{Event, Machine, State};
-use sedck_matching::{Budget, Undecided};
 use sedck_script::{Command, Script, Verb};
 use std::alloc::Global;
 

@@ -4,12 +4,14 @@ ghost use Rattle.std.specs.Prelude.{◌≡◌, ◌≤◌, ◌-◌, ℕ, ◌↔�
 ghost use Rattle.sedck_bre.specs.View.{tree};
 ghost use Rattle.sedck_script.specs.View.{substitution_of, part_of};
 ghost use Rattle.sedck_flow.specs.Substitutes.{Substitutes, part_text as text_of_part};
-ghost use Rattle.sedck_matching.specs.Spots.{groups_of};
+ghost use Rattle.sedck_model.specs.Spots.{groups_of};
 ghost use Rattle.sedck_model.specs.Private.Replacing.{ReplacesIn, Replaces, ReplacesAt, Continues, occurrence, text_for};
 
 use crate::candidates::candidates;
+use crate::reaching::ends;
+use crate::spending::{Budget, Undecided};
+use crate::spots::Spot;
 use sedck_bre::Bre;
-use sedck_matching::{Budget, Spot, Undecided, ends};
 use sedck_script::{Part, Script, Substitution};
 use std::alloc::{AllocError, Global};
 
@@ -181,7 +183,7 @@ fn shared_length(one: &[u8], other: &[u8]) -> usize
 }
 
 /// What takes the place of the match that ends at the spot.
-pub(crate) fn replacement_text(
+fn replacement_text(
     alloc: Global,
     parts: &[Part],
     text: &[u8],

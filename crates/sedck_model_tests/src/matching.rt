@@ -2,7 +2,7 @@
 
 use crate::rows::{require, require_equal};
 use sedck_bre::{Expr, parse};
-use sedck_matching::{Budget, Undecided, ends, has_match, is_in_language, matches};
+use sedck_model::{Budget, Spot, Undecided, ends, has_match};
 use std::alloc::Global;
 use std::process::Abort;
 
@@ -43,14 +43,24 @@ fn expression_of(rt: &impl Abort, alloc: Global, text: &[u8]) -> Expr {
     }
 }
 
+/// Whether a match ends there.
+fn has_end(spots: &[Spot], end: usize) -> bool {
+    for spot in spots {
+        if spot.at == end {
+            return true;
+        }
+    }
+    false
+}
+
 /// Whether the text is in the language of the expression, and whether some part of it is.
 fn found_in(rt: &impl Abort, alloc: Global, written: &str, text: &[u8]) -> (bool, bool) {
     let expression = expression_of(rt, alloc, written.as_bytes());
     let body = expression.body();
     let mut budget = Budget { left: 10_000 };
-    let whole = is_in_language(alloc, body, text, &mut budget).expect(rt, written);
+    let spots = ends(alloc, body, text, 0, &mut budget).expect(rt, written);
     let part = has_match(alloc, body, text, &mut budget).expect(rt, written);
-    (whole, part)
+    (has_end(&spots, text.len()), part)
 }
 
 #[test]
@@ -61,20 +71,32 @@ fn languages(rt: HostRuntime) {
     }
 }
 
-#[test]
-fn every_end(rt: HostRuntime) {
-    let expression = expression_of(&rt, rt.alloc(), b"a*");
+/// An expression, a text, where matches begin in it, and how many ends they have.
+static ENDS: [(&'static str, &'static str, usize, usize); 2] = [
+    ("a*", "baaa", 1, 4),
+    // one for each way to cut what is matched
+    ("\\(a*\\)\\(a*\\)", "aa", 0, 6),
+];
+
+fn count_ends(rt: &impl Abort, alloc: Global, written: &str, text: &str, from: usize) -> usize {
+    let expression = expression_of(rt, alloc, written.as_bytes());
     let mut budget = Budget { left: 100 };
-    let spots = ends(rt.alloc(), expression.body(), b"baaa", 1, &mut budget).expect(&rt, "ends");
-    require_equal(&rt, spots.len(), 4, "ends");
+    let spots = ends(
+        alloc,
+        expression.body(),
+        text.as_bytes(),
+        from.min(text.len()),
+        &mut budget,
+    );
+    spots.expect(rt, written).len()
 }
 
 #[test]
-fn every_match(rt: HostRuntime) {
-    let expression = expression_of(&rt, rt.alloc(), b"\\(a*\\)\\(a*\\)");
-    let mut budget = Budget { left: 100 };
-    let found = matches(rt.alloc(), expression.body(), b"aa", &mut budget).expect(&rt, "matches");
-    require_equal(&rt, found.len(), 3, "matches");
+fn every_end(rt: HostRuntime) {
+    for (written, text, from, count) in &ENDS {
+        let found = count_ends(&rt, rt.alloc(), *written, *text, *from);
+        require_equal(&rt, found, *count, *written);
+    }
 }
 
 #[test]

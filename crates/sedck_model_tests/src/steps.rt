@@ -1,8 +1,7 @@
 //! Runs and steps that are decided: no clause says that an answer is given at all.
 
 use crate::rows::{require, require_equal, script_of};
-use sedck_matching::Budget;
-use sedck_model::{Event, Machine, Move, State, follows, step};
+use sedck_model::{Budget, Event, Machine, Move, State, follows, step};
 use std::alloc::Global;
 use std::process::Abort;
 
@@ -209,5 +208,33 @@ fn steps_are_decided(rt: HostRuntime) {
         let after = state_at(after);
         let found = is_step(&rt, rt.alloc(), *text, before, event, &after);
         require(&rt, found == *wanted, *text);
+    }
+}
+
+/// A script, a pattern space, what its first command may make of it, and whether it may. The flag is set by it.
+static SUBSTITUTED: &'static [(&'static str, &'static str, &'static str, bool)] = &[
+    ("s/a*/x/g", "a", "xx", true),
+    ("s/a*/x/g", "a", "x", true),
+    ("s/a*/x/g", "a", "xax", true),
+    ("s/a*/x/g", "a", "ax", true),
+    ("s/a*/x/g", "a", "a", false),
+    ("s/a*/x/g", "baaac", "xbxcx", true),
+    // an empty match isn't directly followed by another one
+    ("s/a*/x/g", "baaac", "xxbxc", false),
+    ("s/c*/x/", "ab", "axb", true),
+    ("s/c*/x/", "ab", "xaxb", false),
+    ("s/\\(a\\)\\(b\\)/\\2\\n\\1&/", "ab", "b\naab", true),
+];
+
+#[test]
+fn substitutions_are_decided(rt: HostRuntime) {
+    for (text, old, new, wanted) in SUBSTITUTED {
+        let after = State::At(Machine {
+            flag: true,
+            ..machine(1, new.as_bytes())
+        });
+        let before = machine(0, old.as_bytes());
+        let found = is_step(&rt, rt.alloc(), *text, before, &Event::Silent, &after);
+        require_equal(&rt, found, *wanted, (*text, *new));
     }
 }

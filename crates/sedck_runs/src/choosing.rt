@@ -1,8 +1,7 @@
 //! What can't be seen of a run, chosen so that it is one of the model's: the flag that `t` tests, and what each step does to a file.
 
 use crate::seen::{Seen, Trace};
-use sedck_matching::{Budget, Undecided};
-use sedck_model::{Event, Machine, Move, State, follows, step};
+use sedck_model::{Budget, Event, Machine, Move, State, Undecided, follows, step};
 use sedck_script::{Script, Verb};
 use std::alloc::{AllocError, Global};
 
