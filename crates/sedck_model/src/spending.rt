@@ -6,7 +6,7 @@ ghost use Rattle.sedck_model.specs.declared.spending.Undecided.TheVariants.{OutO
 use std::alloc::{AllocError, AllocFailed};
 
 /// How many steps may still be made.
-#[derive(Debug, Drop, Clone, Copy, PartialEq, Eq)]
+#[derive(Drop)]
 pub struct Budget {
     pub left: u64,
 }

@@ -5,14 +5,14 @@ ghost use Rattle.sedck_bre.specs.Match.{text_of};
 ghost use Rattle.sedck_model.specs.Spots.{groups_of};
 
 /// A part of a text, from one offset to before another one.
-#[derive(Debug, Clone, Copy, PartialEq, Eq)]
+#[derive(Clone, Copy, PartialEq, Eq)]
 pub struct Span {
     pub start: usize,
     pub end: usize,
 }
 
 /// Where a match has come to in a text.
-#[derive(Debug, Clone, Copy, PartialEq, Eq)]
+#[derive(Clone, Copy, PartialEq, Eq)]
 pub struct Spot {
     /// The offset.
     pub at: usize,

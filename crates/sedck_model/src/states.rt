@@ -1,7 +1,7 @@
 //! States of a run, and what its steps do to files.
 
 /// A run between its first line and its end. The lines that are left may outlive the spaces.
-#[derive(Debug, Clone, Copy)]
+#[derive(Clone, Copy)]
 pub struct Machine<'lines, 'spaces> {
     /// The place of the next command, or the number of commands.
     pub at: usize,
@@ -16,7 +16,7 @@ pub struct Machine<'lines, 'spaces> {
 }
 
 /// A state of a run.
-#[derive(Debug, Clone, Copy)]
+#[derive(Clone, Copy)]
 pub enum State<'lines, 'spaces> {
     /// Before the first line is read; all lines.
     Start(&'lines [&'lines [u8]]),
@@ -27,7 +27,7 @@ pub enum State<'lines, 'spaces> {
 }
 
 /// The file that a step reads or writes, if any.
-#[derive(Debug, Clone, Copy)]
+#[derive(Clone, Copy)]
 pub enum Event<'a> {
     Silent,
     /// The file with this name is read.
@@ -37,7 +37,7 @@ pub enum Event<'a> {
 }
 
 /// A step: its event, and the state that it leads to.
-#[derive(Debug, Clone, Copy)]
+#[derive(Clone, Copy)]
 pub struct Move<'a> {
     pub event: Event<'a>,
     pub after: State<'a, 'a>,

@@ -92,16 +92,29 @@ fn answer_all(rt: &HostRuntime, script: &Script) -> io::Result<u8> {
     let mut trace = Trace::new(rt.alloc());
     let lines = BufReader::new(rt.alloc(), rt.reader())?.lines(rt.alloc());
     for line in lines {
-        let line = line?;
-        if line.starts_with("run ") {
-            counts.report(rt, script, &trace)?;
-            trace = Trace::new(rt.alloc());
-        }
-        if !trace.add(rt.alloc(), line.as_str())? {
-            println!(rt; "not understood: {line}")?;
+        if !take_line(rt, script, &mut counts, &mut trace, line?.as_str())? {
             return Ok(2);
         }
     }
     counts.report(rt, script, &trace)?;
     counts.summary(rt)
+}
+
+/// Reports the run before, where a run begins, and adds what the line says; false where that can't be read.
+fn take_line(
+    rt: &HostRuntime,
+    script: &Script,
+    counts: &mut Counts,
+    trace: &mut Trace,
+    line: &str,
+) -> io::Result<bool> {
+    if line.starts_with("run ") {
+        counts.report(rt, script, trace)?;
+        *trace = Trace::new(rt.alloc());
+    }
+    let is_read = trace.add(rt.alloc(), line)?;
+    if !is_read {
+        println!(rt; "not understood: {line}")?;
+    }
+    Ok(is_read)
 }

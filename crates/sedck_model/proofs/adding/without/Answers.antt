@@ -2,11 +2,11 @@ use Rattle.std.proofs.Common.{◌≡◌, ◌∷◌, [], ◌++◌, ◌+◌, ◌�
 use Rattle.std.specs.Prelude.{Contains}
 use Rattle.std.proofs.lemmas.List.{take_more}
 use Rattle.std.proofs.lemmas.Bool.{false≢true}
-use Rattle.sedck_matching.specs.declared.spots.Spot.{Spot}
-use Rattle.sedck_matching.proofs.SameSpots.{same_spot, equal_spots}
-use Rattle.sedck_matching.proofs.ListLemmas.{without_kept, without_left}
-use Rattle.sedck_matching.proofs.adding.without.Goals as goal
-use Rattle.sedck_matching.proofs.adding.without.Goals.{then-not-contains+in_ok-push, else-not-contains}
+use Rattle.sedck_model.specs.declared.spots.Spot.{Spot}
+use Rattle.sedck_model.proofs.SameSpots.{same_spot, equal_spots}
+use Rattle.sedck_model.proofs.ListLemmas.{without_kept, without_left}
+use Rattle.sedck_model.proofs.adding.without.Goals as goal
+use Rattle.sedck_model.proofs.adding.without.Goals.{then-not-contains+in_ok-push, else-not-contains}
 
 pub loop-spot-preserved : goal.loop-spot-preserved
 loop-spot-preserved c =
