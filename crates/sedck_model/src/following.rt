@@ -14,12 +14,10 @@ use crate::single::pass;
 use crate::spending::{Budget, Undecided};
 use crate::spots::Spot;
 use sedck_bre::Bre;
-use std::alloc::Global;
 
 /// Where the tree leads from the spots. Each call spends one of the budget, unless there is no spot: so the budget bounds the work.
 #[cycle(following)]
 pub(crate) fn follow(
-    alloc: Global,
     expression: &Bre,
     text: &[u8],
     from: &[Spot],
@@ -32,24 +30,24 @@ pub(crate) fn follow(
     ensures spent { budget.new.left ≤ budget.old.left }
 {
     if from.is_empty() {
-        return Ok(Vec::new(alloc));
+        return Ok(Vec::new(budget.alloc));
     }
     budget.spend()?;
     match expression {
-        Bre::Start | Bre::End => Ok(Vec::from_slice(alloc, from)?),
+        Bre::Start | Bre::End => Ok(Vec::from_slice(budget.alloc, from)?),
         Bre::Byte(_) | Bre::Any | Bre::Set(_) | Bre::Ref(_) => {
-            pass(alloc, expression, text, from, budget)
+            pass(expression, text, from, budget)
         }
         Bre::Maybe(_) => {
-            let mut spots = Vec::from_slice(alloc, from)?;
-            let passed = pass(alloc, expression, text, from, budget)?;
+            let mut spots = Vec::from_slice(budget.alloc, from)?;
+            let passed = pass(expression, text, from, budget)?;
             add_all(&mut spots, &passed, budget)?;
             Ok(spots)
         }
-        Bre::Group(group, body) => follow_group(alloc, *group, body, text, from, budget),
-        Bre::Seq(items) => follow_all(alloc, items, text, from, budget),
+        Bre::Group(group, body) => follow_group(*group, body, text, from, budget),
+        Bre::Seq(items) => follow_all(items, text, from, budget),
         Bre::Repeat { body, least, most } => {
-            follow_repeat(alloc, body, *least, *most, text, from, budget)
+            follow_repeat(body, *least, *most, text, from, budget)
         }
     }
 }
@@ -57,7 +55,6 @@ pub(crate) fn follow(
 /// Where the items lead, one after another.
 #[cycle(following)]
 fn follow_all(
-    alloc: Global,
     items: &[Bre],
     text: &[u8],
     from: &[Spot],
@@ -69,9 +66,9 @@ fn follow_all(
     ensures used { result ≡ Err Undecided.OutOfBudget → budget.new.left ≡ 0 }
     ensures spent { budget.new.left ≤ budget.old.left }
 {
-    let mut spots = Vec::from_slice(alloc, from)?;
+    let mut spots = Vec::from_slice(budget.alloc, from)?;
     for item in items {
-        spots = follow(alloc, item, text, &spots, budget)?;
+        spots = follow(item, text, &spots, budget)?;
     }
     Ok(spots)
 }
@@ -79,7 +76,6 @@ fn follow_all(
 /// Where the group leads. Each spot is followed alone, since the text of the group begins there.
 #[cycle(following)]
 fn follow_group(
-    alloc: Global,
     group: u8,
     body: &Bre,
     text: &[u8],
@@ -92,10 +88,10 @@ fn follow_group(
     ensures used { result ≡ Err Undecided.OutOfBudget → budget.new.left ≡ 0 }
     ensures spent { budget.new.left ≤ budget.old.left }
 {
-    let mut spots = Vec::new(alloc);
+    let mut spots = Vec::new(budget.alloc);
     for spot in from {
         let starts = [*spot, entered(body, spot)];
-        let ends = follow(alloc, body, text, &starts, budget)?;
+        let ends = follow(body, text, &starts, budget)?;
         add_closed(&mut spots, group, spot, &ends, budget)?;
     }
     Ok(spots)
@@ -104,7 +100,6 @@ fn follow_group(
 /// Where the body leads, repeated as often as the bounds allow.
 #[cycle(following)]
 fn follow_repeat(
-    alloc: Global,
     body: &Bre,
     least: u8,
     most: Option<u8>,
@@ -118,14 +113,14 @@ fn follow_repeat(
     ensures used { result ≡ Err Undecided.OutOfBudget → budget.new.left ≡ 0 }
     ensures spent { budget.new.left ≤ budget.old.left }
 {
-    let spots = follow_times(alloc, body, least, text, from, budget)?;
+    let spots = follow_times(body, least, text, from, budget)?;
     match most {
-        None => follow_many(alloc, body, text, &spots, budget),
+        None => follow_many(body, text, &spots, budget),
         Some(most) => {
             if most < least {
-                Ok(Vec::new(alloc))
+                Ok(Vec::new(budget.alloc))
             } else {
-                follow_up_to(alloc, body, most - least, text, &spots, budget)
+                follow_up_to(body, most - least, text, &spots, budget)
             }
         }
     }
@@ -134,7 +129,6 @@ fn follow_repeat(
 /// Where the body leads, so many times.
 #[cycle(following)]
 fn follow_times(
-    alloc: Global,
     body: &Bre,
     times: u8,
     text: &[u8],
@@ -147,9 +141,9 @@ fn follow_times(
     ensures used { result ≡ Err Undecided.OutOfBudget → budget.new.left ≡ 0 }
     ensures spent { budget.new.left ≤ budget.old.left }
 {
-    let mut spots = Vec::from_slice(alloc, from)?;
+    let mut spots = Vec::from_slice(budget.alloc, from)?;
     for _round in 0..times {
-        spots = follow(alloc, body, text, &spots, budget)?;
+        spots = follow(body, text, &spots, budget)?;
     }
     Ok(spots)
 }
@@ -157,7 +151,6 @@ fn follow_times(
 /// Where the body leads, at most so many times.
 #[cycle(following)]
 fn follow_up_to(
-    alloc: Global,
     body: &Bre,
     most: u8,
     text: &[u8],
@@ -170,10 +163,10 @@ fn follow_up_to(
     ensures used { result ≡ Err Undecided.OutOfBudget → budget.new.left ≡ 0 }
     ensures spent { budget.new.left ≤ budget.old.left }
 {
-    let mut spots = Vec::from_slice(alloc, from)?;
-    let mut newest = Vec::from_slice(alloc, from)?;
+    let mut spots = Vec::from_slice(budget.alloc, from)?;
+    let mut newest = Vec::from_slice(budget.alloc, from)?;
     for _round in 0..most {
-        newest = follow(alloc, body, text, &newest, budget)?;
+        newest = follow(body, text, &newest, budget)?;
         add_all(&mut spots, &newest, budget)?;
     }
     Ok(spots)
@@ -182,7 +175,6 @@ fn follow_up_to(
 /// Where the body leads, any number of times. What is new in one round is followed in the next one.
 #[cycle(following)]
 fn follow_many(
-    alloc: Global,
     body: &Bre,
     text: &[u8],
     from: &[Spot],
@@ -194,12 +186,12 @@ fn follow_many(
     ensures used { result ≡ Err Undecided.OutOfBudget → budget.new.left ≡ 0 }
     ensures spent { budget.new.left ≤ budget.old.left }
 {
-    let mut spots = Vec::from_slice(alloc, from)?;
-    let mut newest = Vec::from_slice(alloc, from)?;
+    let mut spots = Vec::from_slice(budget.alloc, from)?;
+    let mut newest = Vec::from_slice(budget.alloc, from)?;
     'rounds: while !newest.is_empty() {
         budget.spend()?;
-        let after = follow(alloc, body, text, &newest, budget)?;
-        newest = without(alloc, &after, &spots)?;
+        let after = follow(body, text, &newest, budget)?;
+        newest = without(budget.alloc, &after, &spots)?;
         add_all(&mut spots, &newest, budget)?;
     }
     Ok(spots)

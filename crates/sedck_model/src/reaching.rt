@@ -9,11 +9,9 @@ use crate::following::follow;
 use crate::spending::{Budget, Undecided};
 use crate::spots::Spot;
 use sedck_bre::Bre;
-use std::alloc::Global;
 
 /// Where the matches of the tree that begin at the offset end, each with the texts of the groups; no group has a text at the beginning.
 pub fn ends(
-    alloc: Global,
     expression: &Bre,
     text: &[u8],
     from: usize,
@@ -29,22 +27,17 @@ pub fn ends(
         at: from,
         groups: [None; 256],
     };
-    follow(alloc, expression, text, &[start], budget)
+    follow(expression, text, &[start], budget)
 }
 
 /// Whether some part of the text is in the language of the tree.
-pub fn has_match(
-    alloc: Global,
-    expression: &Bre,
-    text: &[u8],
-    budget: &mut Budget,
-) -> Result<bool, Undecided>
+pub fn has_match(expression: &Bre, text: &[u8], budget: &mut Budget) -> Result<bool, Undecided>
     ensures exact { IfOk result (λ yes. IsTrue yes ↔ HasPartIn (tree expression.now) text.now) }
     ensures used { result ≡ Err Undecided.OutOfBudget → budget.new.left ≡ 0 }
     ensures spent { budget.new.left ≤ budget.old.left }
 {
     for from in 0..=text.len() {
-        let spots = ends(alloc, expression, text, from, budget)?;
+        let spots = ends(expression, text, from, budget)?;
         if !spots.is_empty() {
             return Ok(true);
         }

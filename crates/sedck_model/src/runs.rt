@@ -8,11 +8,9 @@ use crate::spending::{Budget, Undecided};
 use crate::states::{Move, State};
 use crate::stepping::step;
 use sedck_script::Script;
-use std::alloc::Global;
 
 /// Whether these steps are a run on these lines, finished or not: none, or the number of the first step that is none of the model's.
 pub fn follows(
-    alloc: Global,
     script: &Script,
     lines: &[&[u8]],
     steps: &[Move],
@@ -24,7 +22,7 @@ pub fn follows(
 {
     let mut before = State::Start(lines);
     for (i, next) in steps.iter().enumerate() {
-        if !step(alloc, script, &before, &next.event, &next.after, budget)? {
+        if !step(script, &before, next, budget)? {
             return Ok(Some(i));
         }
         before = next.after;

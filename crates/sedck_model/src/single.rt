@@ -10,11 +10,9 @@ use crate::adding::add;
 use crate::spending::{Budget, Undecided};
 use crate::spots::Spot;
 use sedck_bre::{Bre, ByteSet};
-use std::alloc::Global;
 
 /// Where an item leads that leads to one place at most, and where a `Maybe` leads by its byte.
 pub(crate) fn pass(
-    alloc: Global,
     expression: &Bre,
     text: &[u8],
     from: &[Spot],
@@ -26,7 +24,7 @@ pub(crate) fn pass(
     ensures used { result ≡ Err Undecided.OutOfBudget → budget.new.left ≡ 0 }
     ensures spent { budget.new.left ≤ budget.old.left }
 {
-    let mut spots = Vec::new(alloc);
+    let mut spots = Vec::new(budget.alloc);
     for spot in from {
         if let Some(after) = next(expression, text, spot) {
             add(&mut spots, after, budget)?;

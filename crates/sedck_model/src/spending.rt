@@ -1,13 +1,14 @@
-//! How much matching a call may do.
+//! What a call may use.
 
 ghost use Rattle.std.specs.Prelude.{◌≡◌, ◌+◌, ◌≤◌, ◌↔◌, OnOk, OnErr};
 ghost use Rattle.sedck_model.specs.declared.spending.Undecided.TheVariants.{OutOfMemory};
 
-use std::alloc::{AllocError, AllocFailed};
+use std::alloc::{AllocError, AllocFailed, Global};
 
-/// How many steps may still be made.
-#[derive(Drop)]
+/// What a call may use: where its memory comes from, and how many steps it may still make.
+#[derive(Clone, Copy)]
 pub struct Budget {
+    pub alloc: Global,
     pub left: u64,
 }
 

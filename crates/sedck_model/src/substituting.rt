@@ -17,7 +17,6 @@ use std::alloc::{AllocError, Global};
 
 /// Whether the substitution may make the new text of the old one, by any choice of matches.
 pub fn substitutes(
-    alloc: Global,
     script: &Script,
     substitution: &Substitution,
     old_text: &[u8],
@@ -28,9 +27,9 @@ pub fn substitutes(
     ensures used { result ≡ Err Undecided.OutOfBudget → budget.new.left ≡ 0 }
     ensures spent { budget.new.left ≤ budget.old.left }
 {
-    let expressions = candidates(alloc, script, &substitution.pattern)?;
+    let expressions = candidates(budget.alloc, script, &substitution.pattern)?;
     for expression in &expressions {
-        if replaces_in(alloc, expression, substitution, old_text, new_text, budget)? {
+        if replaces_in(expression, substitution, old_text, new_text, budget)? {
             return Ok(true);
         }
     }
@@ -39,7 +38,6 @@ pub fn substitutes(
 
 /// Whether behind a text with which both begin the old one begins with a match, and is replaced from it on by the new one.
 fn replaces_in(
-    alloc: Global,
     expression: &Bre,
     substitution: &Substitution,
     old_text: &[u8],
@@ -53,7 +51,6 @@ fn replaces_in(
     let shared = shared_length(old_text, new_text);
     for length in 0..shared + 1 {
         if replaces(
-            alloc,
             expression,
             substitution,
             &old_text[length..],
@@ -69,7 +66,6 @@ fn replaces_in(
 /// Whether the old text begins with a match, and is replaced from it on by the new one.
 #[cycle(replacing)]
 fn replaces(
-    alloc: Global,
     expression: &Bre,
     substitution: &Substitution,
     old_text: &[u8],
@@ -80,17 +76,9 @@ fn replaces(
     ensures used { result ≡ Err Undecided.OutOfBudget → budget.new.left ≡ 0 }
     ensures spent { budget.new.left ≤ budget.old.left }
 {
-    let spots = ends(alloc, expression, old_text, 0, budget)?;
+    let spots = ends(expression, old_text, 0, budget)?;
     for spot in &spots {
-        if replaces_at(
-            alloc,
-            expression,
-            substitution,
-            old_text,
-            new_text,
-            spot,
-            budget,
-        )? {
+        if replaces_at(expression, substitution, old_text, new_text, spot, budget)? {
             return Ok(true);
         }
     }
@@ -100,7 +88,6 @@ fn replaces(
 /// Whether the same holds with the match that ends at this spot.
 #[cycle(replacing)]
 fn replaces_at(
-    alloc: Global,
     expression: &Bre,
     substitution: &Substitution,
     old_text: &[u8],
@@ -113,10 +100,9 @@ fn replaces_at(
     ensures used { result ≡ Err Undecided.OutOfBudget → budget.new.left ≡ 0 }
     ensures spent { budget.new.left ≤ budget.old.left }
 {
-    let text = replacement_text(alloc, &substitution.parts, old_text, spot)?;
+    let text = replacement_text(budget.alloc, &substitution.parts, old_text, spot)?;
     match new_text.strip_prefix(&text) {
         Some(rest) => continues(
-            alloc,
             expression,
             substitution,
             1usize.saturating_sub(spot.at),
@@ -131,7 +117,6 @@ fn replaces_at(
 /// Whether what is after a match stays, up to the end or to another match, with at least so many bytes before that one.
 #[cycle(replacing)]
 fn continues(
-    alloc: Global,
     expression: &Bre,
     substitution: &Substitution,
     least: usize,
@@ -153,7 +138,6 @@ fn continues(
     let shared = shared_length(old_text, new_text);
     for length in least..shared + 1 {
         if replaces(
-            alloc,
             expression,
             substitution,
             &old_text[length..],

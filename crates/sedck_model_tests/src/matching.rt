@@ -57,9 +57,12 @@ fn has_end(spots: &[Spot], end: usize) -> bool {
 fn found_in(rt: &impl Abort, alloc: Global, written: &str, text: &[u8]) -> (bool, bool) {
     let expression = expression_of(rt, alloc, written.as_bytes());
     let body = expression.body();
-    let mut budget = Budget { left: 10_000 };
-    let spots = ends(alloc, body, text, 0, &mut budget).expect(rt, written);
-    let part = has_match(alloc, body, text, &mut budget).expect(rt, written);
+    let mut budget = Budget {
+        alloc,
+        left: 10_000,
+    };
+    let spots = ends(body, text, 0, &mut budget).expect(rt, written);
+    let part = has_match(body, text, &mut budget).expect(rt, written);
     (has_end(&spots, text.len()), part)
 }
 
@@ -80,9 +83,8 @@ static ENDS: [(&'static str, &'static str, usize, usize); 2] = [
 
 fn count_ends(rt: &impl Abort, alloc: Global, written: &str, text: &str, from: usize) -> usize {
     let expression = expression_of(rt, alloc, written.as_bytes());
-    let mut budget = Budget { left: 100 };
+    let mut budget = Budget { alloc, left: 100 };
     let spots = ends(
-        alloc,
         expression.body(),
         text.as_bytes(),
         from.min(text.len()),
@@ -102,7 +104,10 @@ fn every_end(rt: HostRuntime) {
 #[test]
 fn budgets_are_used_up(rt: HostRuntime) {
     let expression = expression_of(&rt, rt.alloc(), b"a");
-    let mut budget = Budget { left: 0 };
-    let undecided = has_match(rt.alloc(), expression.body(), b"a", &mut budget);
+    let mut budget = Budget {
+        alloc: rt.alloc(),
+        left: 0,
+    };
+    let undecided = has_match(expression.body(), b"a", &mut budget);
     require(&rt, undecided == Err(Undecided::OutOfBudget), "no budget");
 }

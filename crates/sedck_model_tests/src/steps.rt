@@ -121,8 +121,8 @@ fn first_wrong(
     moves: &[Move],
 ) -> Option<usize> {
     let script = script_of(rt, alloc, text);
-    let mut budget = Budget { left: 1000 };
-    follows(alloc, &script, lines, moves, &mut budget).expect(rt, text)
+    let mut budget = Budget { alloc, left: 1000 };
+    follows(&script, lines, moves, &mut budget).expect(rt, text)
 }
 
 fn are_followed(rt: &impl Abort, alloc: Global, rows: &[Run]) {
@@ -184,18 +184,11 @@ fn state_at<'a>(after: &Option<(usize, &'a str)>) -> State<'a, 'a> {
 }
 
 /// Whether the model has the step of the script's first command from this machine.
-fn is_step(
-    rt: &impl Abort,
-    alloc: Global,
-    text: &str,
-    before: Machine,
-    event: &Event,
-    after: &State,
-) -> bool {
+fn is_step(rt: &impl Abort, alloc: Global, text: &str, before: Machine, next: &Move) -> bool {
     let script = script_of(rt, alloc, text);
-    let mut budget = Budget { left: 1000 };
+    let mut budget = Budget { alloc, left: 1000 };
     let start = State::At(before);
-    step(alloc, &script, &start, event, after, &mut budget).expect(rt, text)
+    step(&script, &start, next, &mut budget).expect(rt, text)
 }
 
 #[test]
@@ -205,8 +198,11 @@ fn steps_are_decided(rt: HostRuntime) {
             flag: *flag,
             ..machine(0, b"a")
         };
-        let after = state_at(after);
-        let found = is_step(&rt, rt.alloc(), *text, before, event, &after);
+        let next = Move {
+            event: *event,
+            after: state_at(after),
+        };
+        let found = is_step(&rt, rt.alloc(), *text, before, &next);
         require(&rt, found == *wanted, *text);
     }
 }
@@ -233,8 +229,12 @@ fn substitutions_are_decided(rt: HostRuntime) {
             flag: true,
             ..machine(1, new.as_bytes())
         });
+        let next = Move {
+            event: Event::Silent,
+            after,
+        };
         let before = machine(0, old.as_bytes());
-        let found = is_step(&rt, rt.alloc(), *text, before, &Event::Silent, &after);
+        let found = is_step(&rt, rt.alloc(), *text, before, &next);
         require_equal(&rt, found, *wanted, (*text, *new));
     }
 }

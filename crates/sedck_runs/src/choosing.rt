@@ -159,10 +159,12 @@ impl<'a> Run<'a> {
         flag: bool,
     ) -> Result<Option<bool>, AllocError> {
         let before = self.state_at(number, way.flag);
-        let event = self.event_at(number, way.uses_file);
-        let after = self.state_at(number.saturating_add(1), flag);
-        let mut budget = Budget { left: STEP_BUDGET };
-        match step(alloc, self.script, &before, &event, &after, &mut budget) {
+        let next = self.move_at(number, way, flag);
+        let mut budget = Budget {
+            alloc,
+            left: STEP_BUDGET,
+        };
+        match step(self.script, &before, &next, &mut budget) {
             Ok(yes) => Ok(Some(yes)),
             Err(Undecided::OutOfBudget) => Ok(None),
             Err(Undecided::OutOfMemory) => Err(AllocError),
@@ -180,10 +182,7 @@ impl<'a> Run<'a> {
             let Some(way) = ways.to(flag).way else {
                 return Ok(Verdict::Refused(number));
             };
-            moves.push(Move {
-                event: self.event_at(number, way.uses_file),
-                after: self.state_at(number.saturating_add(1), flag),
-            })?;
+            moves.push(self.move_at(number, way, flag))?;
             flag = way.flag;
         }
         moves.reverse();
@@ -192,13 +191,22 @@ impl<'a> Run<'a> {
 
     fn decide_moves(&self, alloc: Global, moves: &[Move]) -> Result<Verdict, AllocError> {
         let mut budget = Budget {
+            alloc,
             left: STEP_BUDGET.saturating_mul(moves.len() as u64),
         };
-        match follows(alloc, self.script, self.lines, moves, &mut budget) {
+        match follows(self.script, self.lines, moves, &mut budget) {
             Ok(None) => Ok(Verdict::Follows),
             Ok(Some(number)) => Ok(Verdict::Refused(number)),
             Err(Undecided::OutOfBudget) => Ok(Verdict::Undecided(moves.len())),
             Err(Undecided::OutOfMemory) => Err(AllocError),
+        }
+    }
+
+    /// The step from the state with this number to the next one, which has this flag.
+    fn move_at(&self, number: usize, way: Way, flag: bool) -> Move<'a> {
+        Move {
+            event: self.event_at(number, way.uses_file),
+            after: self.state_at(number.saturating_add(1), flag),
         }
     }
 
