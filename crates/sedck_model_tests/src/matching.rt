@@ -9,7 +9,7 @@ use std::process::Abort;
 /// An expression, a text, whether it is in the language, and whether some part of it is.
 type Row = (&'static str, &'static str, bool, bool);
 
-static LANGUAGES: [Row; 15] = [
+static LANGUAGES: &'static [Row] = &[
     ("a*", "aaa", true, true),
     ("b*", "aaa", false, true),
     ("b", "aaa", false, false),
@@ -68,14 +68,14 @@ fn found_in(rt: &impl Abort, alloc: Global, written: &str, text: &[u8]) -> (bool
 
 #[test]
 fn languages(rt: HostRuntime) {
-    for (written, text, whole, part) in &LANGUAGES {
+    for (written, text, whole, part) in LANGUAGES {
         let found = found_in(&rt, rt.alloc(), *written, text.as_bytes());
         require_equal(&rt, found, (*whole, *part), (*written, *text));
     }
 }
 
 /// An expression, a text, where matches begin in it, and how many ends they have.
-static ENDS: [(&'static str, &'static str, usize, usize); 2] = [
+static ENDS: &'static [(&'static str, &'static str, usize, usize)] = &[
     ("a*", "baaa", 1, 4),
     // one for each way to cut what is matched
     ("\\(a*\\)\\(a*\\)", "aa", 0, 6),
@@ -95,7 +95,7 @@ fn count_ends(rt: &impl Abort, alloc: Global, written: &str, text: &str, from: u
 
 #[test]
 fn every_end(rt: HostRuntime) {
-    for (written, text, from, count) in &ENDS {
+    for (written, text, from, count) in ENDS {
         let found = count_ends(&rt, rt.alloc(), *written, *text, *from);
         require_equal(&rt, found, *count, *written);
     }
@@ -104,10 +104,8 @@ fn every_end(rt: HostRuntime) {
 #[test]
 fn budgets_are_used_up(rt: HostRuntime) {
     let expression = expression_of(&rt, rt.alloc(), b"a");
-    let mut budget = Budget {
-        alloc: rt.alloc(),
-        left: 0,
-    };
+    let alloc = rt.alloc();
+    let mut budget = Budget { alloc, left: 0 };
     let undecided = has_match(expression.body(), b"a", &mut budget);
     require(&rt, undecided == Err(Undecided::OutOfBudget), "no budget");
 }

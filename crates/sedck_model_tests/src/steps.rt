@@ -6,7 +6,7 @@ use std::alloc::Global;
 use std::process::Abort;
 
 /// Before the command at this place, with nothing but a pattern space.
-fn machine<'a>(at: usize, pattern: &'a [u8]) -> Machine<'a, 'a> {
+fn machine<'a>(at: usize, pattern: &'a [u8]) -> Machine<'a> {
     Machine {
         at,
         flag: false,
@@ -176,7 +176,7 @@ static CASES: &'static [Case] = &[
 ];
 
 /// The state before the command at this place, or at the end of the run.
-fn state_at<'a>(after: &Option<(usize, &'a str)>) -> State<'a, 'a> {
+fn state_at<'a>(after: &Option<(usize, &'a str)>) -> State<'a> {
     match after {
         Some((at, pattern)) => State::At(machine(*at, pattern.as_bytes())),
         None => State::Done,

@@ -211,7 +211,7 @@ impl<'a> Run<'a> {
     }
 
     /// The state with this number: 0 is before the first line, then come those that were seen, and then the end.
-    fn state_at(&self, number: usize, flag: bool) -> State<'a, 'a> {
+    fn state_at(&self, number: usize, flag: bool) -> State<'a> {
         if number == 0 {
             return State::Start(self.lines);
         }
@@ -221,7 +221,7 @@ impl<'a> Run<'a> {
         }
     }
 
-    fn machine(&self, seen: &'a Seen, flag: bool) -> Machine<'a, 'a> {
+    fn machine(&self, seen: &'a Seen, flag: bool) -> Machine<'a> {
         Machine {
             at: seen.place,
             flag,
