@@ -103,7 +103,6 @@ planted:
 # More arguments in STATES, such as `--steps 1000000`, `--folder DIR` or `--sed NAME=COMMAND`.
 states: runs-program
 	@echo "Holding every step of every sed that is found against the model (100,000 steps take a few minutes) ..."
-	python3 tests/seds/seds_debug.py crates/sedck_runs/out/sedck_runs
 	python3 tests/seds/seds_states.py crates/sedck_runs/out/sedck_runs $(STATES)
 
 measures:

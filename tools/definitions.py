@@ -360,7 +360,7 @@ cert.Ranked flow.Flow flow.Nodes script.References bre.Rests
 cert.Certificate cert.Text cert.Versions cert.VersionOne flow.Words flow.VersionOne flow.LiteralKinds
 cert.Rejections
 cert.Bounds cert.StepLimit flow.Spaces
-text.Cursors matching.Spots model.States model.Successors
+text.Cursors model.Spots model.States
 search.Found search.Obstacle search.Rows search.NodeSet search.VersionOne
 script.Locations
 script.Faults bre.Faults cert.Faults
@@ -393,7 +393,7 @@ PARTS = [
         ("What is explained", [("sedck_findings", "*", None), ("sedck_report", "*", None), ("sedck_errors", "*", None), ("sedck_warnings", "*", None), ("sedck_explaining", "*", None),
          ("sedck_explain_cli", "*", None), ("sedck_escapes", "*", None),
          ("sedck_words", "*", None), ("sedck_judging", "*", None), ("sedck_scan", "*", None)]),
-        ("The model, decided", [("sedck_matching", "*", None), ("sedck_model", "*", None)]),
+        ("The model, decided", [("sedck_model", "*", None)]),
         ("Certificates of version 1", [("sedck_cert", "read_cert_one", None), ("sedck_cert", "upgrade*", None), ("sedck_cert", "CertOne*", None),
          ("sedck_flow", "edges_were_there", None), ("sedck_flow", "kinds_agree", None), ("sedck_flow", "literal_kinds_stay", None), ("sedck_search", "obstacles_were_there", None)]),
         ("The parts, and laws", [(crate, "*", None) for crate in CRATES]),

@@ -1,9 +1,9 @@
 #!/usr/bin/env python3
 """Shows that a wrong definition of the model would be found: python3 tests/seds/seds_changes.py SEDCK_RUNS [--rt RT] [--only WORD]
 
-Each change below is an edit of the crates that decide the model, in their must-fail/: the gate has the prover refuse it. Here it is
-taken out of the proof: the changed crates are built unproved, and what real seds do with the telling scripts below (seds_states.py)
-is decided by them. Prints a table with the seds of which some run isn't one of the changed model, and the scripts. The status is 0
+Each change below is an edit of the crate that decides the model, in its must-fail/ or planted/: the prover refuses it. Here it is
+taken out of the proof: the changed crate is built unproved, and what real seds do with the telling scripts below (seds_states.py)
+is decided by it. Prints a table with the seds of which some run isn't one of the changed model, and the scripts. The status is 0
 where each run is one of the model as it is, and where just those changes are found that should be.
 
 SEDCK_RUNS is the program as it is, which says where the commands are.
@@ -73,16 +73,16 @@ CHANGES = [
     ("sedck_model", "t-keeps-the-flag", "`t` doesn't reset the flag", True),
     ("sedck_model", "x-copies", "`x` copies the pattern space", True),
     ("sedck_model", "y-leaves-newlines", "`y` leaves newlines as they are", True),
-    ("sedck_matching", "any-leaves-newlines-out", "`.` matches no newline", True),
-    ("sedck_matching", "match-at-the-beginning-is-missed", "an address selects no line that begins with a match", True),
-    ("sedck_matching", "ends-begin-at-zero", "an address is matched at the beginning of the line", True),
-    ("sedck_matching", "group-keeps-its-old-text", "a group's text is kept as another one's", True),
-    ("sedck_matching", "group-text-is-empty", "a group in a replacement is empty", True),
-    ("sedck_matching", "reference-takes-nothing", "a reference takes nothing of the text", True),
-    ("sedck_matching", "repetition-stops-after-a-round", "`*` stops after a round", True),
-    ("sedck_matching", "upper-bound-is-one-less", "the upper bound of an interval is one less", True),
+    ("sedck_model", "any-leaves-newlines-out", "`.` matches no newline", True),
+    ("sedck_model", "match-at-the-beginning-is-missed", "an address selects no line that begins with a match", True),
+    ("sedck_model", "ends-begin-at-zero", "an address is matched at the beginning of the line", True),
+    ("sedck_model", "group-keeps-its-old-text", "a group's text is kept as another one's", True),
+    ("sedck_model", "group-text-is-empty", "a group in a replacement is empty", True),
+    ("sedck_model", "reference-takes-nothing", "a reference takes nothing of the text", True),
+    ("sedck_model", "repetition-stops-after-a-round", "`*` stops after a round", True),
+    ("sedck_model", "upper-bound-is-one-less", "the upper bound of an interval is one less", True),
     ("sedck_model", "c-in-a-range-always-deletes", "`c` at a range always begins the next cycle", False),
-    ("sedck_matching", "groups-in-a-repetition-keep-their-texts", "groups in a repetition keep their texts from the round before", False),
+    ("sedck_model", "groups-in-a-repetition-keep-their-texts", "groups in a repetition keep their texts from the round before", False),
     ("sedck_model", "s-needs-the-leftmost-match", "`s` needs the leftmost match", False),
     ("sedck_model", "empty-match-directly-before-the-next-one", "an empty match may be directly followed by the next one", False),
     ("sedck_model", "without-g-anything-may-follow-the-match", "without `g` anything may follow the match", False),
@@ -159,10 +159,11 @@ class Cases:
 def changed(crates, folder, crate, edit):
     """A copy of the crates with the edit."""
     to = os.path.join(folder, edit)
-    shutil.copytree(crates, os.path.join(to, "crates"), ignore=shutil.ignore_patterns("out", "must-fail"))
+    shutil.copytree(crates, os.path.join(to, "crates"), ignore=shutil.ignore_patterns("out", "must-fail", "planted"))
     for name in ("crates.txt", "HANDLES"):
         shutil.copy(os.path.join(TOP, name), to)
-    file, pairs = edit_pairs(os.path.join(crates, crate, "must-fail", edit + ".edit"))
+    places = [os.path.join(crates, crate, part, edit + ".edit") for part in ("must-fail", "planted")]
+    file, pairs = edit_pairs(next(filter(os.path.exists, places)))
     path = os.path.join(to, "crates", crate, file)
     with open(path) as text:
         code = text.read()

@@ -1,7 +1,15 @@
+mod ListLemmas
+mod SameSpots
+mod LedLemmas
+mod GroupLemmas
+mod SingleLemmas
+mod ViewLemmas
+mod StepsLemmas
+mod LeadsLemmas
+mod FollowLemmas
+mod EndLemmas
 mod Contained
-mod AddLemmas
 mod Replacing
-mod MakeLemmas
 mod TextLemmas
 mod TransliterateLemmas
 mod SelectLemmas

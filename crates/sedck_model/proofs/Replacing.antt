@@ -1,6 +1,6 @@
 -- A substitution is its first match, what is after that, and the rest.
 use Rattle.std.proofs.Common.{◌≡◌, ◌∙◌, ◌⊎◌, inl, inr, ℕ, ◌+◌, ◌-◌, ◌<◌, ◌≤◌, Bool, true, false, List, [], ◌∷◌, ◌++◌, length, take, drop, refl, sym, ap, subst, arith, append_assoc, length-append, length-take, length-drop, map, get_or, All, Contains}
-use Rattle.std.proofs.lemmas.List.{append_cancel_right, take-append-drop, append-nil, take_all, take-take, take_more, get_or-take, map-append}
+use Rattle.std.proofs.lemmas.List.{append_cancel_right, take-append-drop, append-nil, take_all, take-take, take_more, map-append}
 use Rattle.std.proofs.lemmas.List.Elements.{All-contains}
 use Rattle.std.proofs.Math.Seq.{take-append_seam, drop-append_seam}
 use Rattle.sedck_model.proofs.Contained.{contains_mapped, mapped_contains}
@@ -11,8 +11,8 @@ use Rattle.sedck_script.specs.View.{part_of}
 use Rattle.sedck_script.specs.declared.script.Part as code
 use Rattle.sedck_flow.specs.Patterns.{StandsFor}
 use Rattle.sedck_flow.specs.Substitutes.{Occurrence, part_text, replacement, matched, replaced, AreMatches, AreApart, Substitutes}
-use Rattle.sedck_matching.specs.Spots.{Reached, Leads, groups_of, reached, beginning, AreEnds}
-use Rattle.sedck_matching.specs.declared.spots.Spot.{Spot}
+use Rattle.sedck_model.specs.Spots.{Reached, Leads, groups_of, reached, beginning, AreEnds}
+use Rattle.sedck_model.specs.declared.spots.Spot.{Spot}
 use Rattle.sedck_model.specs.Private.Replacing.{ReplacesIn, Replaces, ReplacesAt, Continues, occurrence, text_for}
 
 -- ---- What takes the place of a match doesn't depend on what is after it
@@ -314,10 +314,6 @@ rest_whole k xs = take_all (length xs - k) (drop k xs) (simp length-drop (omega 
 
 pub shared_take : (k n : ℕ) (xs ys : List ℕ) → k ≤ n → take n xs ≡ take n ys → take k xs ≡ take k ys
 shared_take k n xs ys le is = sym (take-take k n xs le) ∙ ap (take k) is ∙ take-take k n ys le
-
-pub shorter_or_same : (n i : ℕ) (xs ys : List ℕ) → take n xs ≡ take n ys → (get_or xs i 0 ≡ get_or ys i 0 → ⊥) → n ≤ i
-shorter_or_same n i xs ys is apart =
-    let differs : i < n → ⊥ = λ lt. apart (sym (get_or-take n xs i 0 lt) ∙ ap (λ zs. get_or zs i 0) is ∙ get_or-take n ys i 0 lt) in omega arith
 
 -- ---- Behind a text with which both begin
 

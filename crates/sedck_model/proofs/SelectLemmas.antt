@@ -9,7 +9,7 @@ use Rattle.sedck_bre.specs.View.{tree}
 use Rattle.sedck_bre.specs.declared.tree.Bre.{Bre}
 use Rattle.sedck_script.specs.Program.{Program, Pattern}
 use Rattle.sedck_flow.specs.Patterns.{StandsFor, HasMatch}
-use Rattle.sedck_matching.specs.Spots.{HasPartIn}
+use Rattle.sedck_model.specs.Spots.{HasPartIn}
 use Rattle.sedck_model.specs.Private.Candidates.{trees_in}
 
 abbrev pub HasNone : List ℕ → List Tree → Type 0

@@ -5,10 +5,7 @@ use Rattle.std.specs.List.{slice_get}
 use Rattle.std.proofs.lemmas.List.{length-map, get_or-map}
 use Rattle.std.proofs.lemmas.Option.{slice_get_read, slice_get_past}
 use Rattle.sedck_script.specs.Program.{Command as Plain}
-use Rattle.sedck_script.specs.View.{command_of, verb_of}
-use Rattle.sedck_script.specs.declared.script.Verb.{Verb}
-use Rattle.sedck_script.specs.declared.script.Verb.TheVariants as verb
-use Rattle.sedck_flow.specs.Run.{Machine, onward, skip}
+use Rattle.sedck_script.specs.View.{command_of}
 use Rattle.sedck_script.specs.declared.script.Command.{Command}
 
 -- the command at a place
@@ -25,11 +22,6 @@ pub command_behind : (cs : List Plain) (commands : List Command) (at : ℕ) → 
 command_behind cs commands at all past =
     let long : length (map command_of commands) ≡ length commands = length-map commands command_of in
     rw (← all) (slice_get_past (map command_of commands) at (omega (arith, past, long)))
-
--- past a verb that is no block the step goes on
-pub skips_on : (v : Verb) (m : Machine) → ((behind : ℕ) → v ≡ verb.Block behind → ⊥) → skip (verb_of v) m ≡ onward m
-skips_on (verb.Block behind) m never = absurd (never behind refl)
-skips_on _ m never = refl
 
 -- ---- Answers that decide more
 

@@ -1,14 +1,10 @@
 -- Texts that `y` makes of one another, place by place.
-use Rattle.std.proofs.Common.{◌≡◌, ◌∙◌, ◌↔◌, ℕ, zero, suc, ◌+◌, ◌<◌, min, Bool, true, false, IsTrue, List, [], ◌∷◌, ◌++◌, length, take, get_or, refl, sym, ap, subst, inl, inr, arith, Some, below_more, Contains}
-use Rattle.std.proofs.lemmas.List.{take_more}
-use Rattle.std.proofs.lemmas.List.Elements.{Contains-append_left, Contains-get_or, Contains-push, Contains-push_cases}
+use Rattle.std.proofs.Common.{◌≡◌, ◌↔◌, ℕ, zero, suc, ◌<◌, min, Bool, true, false, IsTrue, List, [], ◌∷◌, length, get_or, refl, sym, ap, inl, inr, arith, Some}
 use Rattle.std.specs.Prelude.{not}
 use Rattle.std.specs.List.{slice_get}
 use Rattle.std.proofs.lemmas.Bool.{false≢true}
-use Rattle.std.proofs.lemmas.Option.{slice_get_cases, slice_get-get_or, get_or_from_slice_get}
+use Rattle.std.proofs.lemmas.Option.{slice_get_cases}
 use Rattle.sedck_flow.specs.Run.{IsPartner, MayBecome, Transliterates}
-use Rattle.sedck_model.specs.Private.Lengthening.{IsLonger}
-use Rattle.sedck_model.proofs.AddLemmas.{none_contained}
 
 -- where there is an element the place is inside
 inside : (xs : List ℕ) (k x : ℕ) → slice_get xs k ≡ Some x → k < length xs
@@ -49,109 +45,3 @@ from_each from to [] (c ∷ cs) long each = absurd (omega (arith, long))
 from_each from to (b ∷ bs) [] long each = absurd (omega (arith, long))
 from_each from to (b ∷ bs) (c ∷ cs) long each =
     (each 0 (omega arith), from_each from to bs cs (omega (arith, long)) (λ k below. each (suc k) (omega (arith, below))))
-
--- ---- The partners of a byte, place by place
-
-abbrev pub ArePartners : List ℕ → List ℕ → ℕ → ℕ → List ℕ → Type 0
-ArePartners from to b n found =
-    (c : ℕ) → Contains found c ↔ ((k : ℕ) × (k < n) × (slice_get from k ≡ Some b) × (slice_get to k ≡ Some c))
-
-pub no_partners : (from to : List ℕ) (b : ℕ) → ArePartners from to b 0 []
-no_partners from to b c = (λ h. absurd (none_contained c h), λ h. let never : h.0 < 0 = h.1 in absurd (omega arith))
-
-pub one_partner : (from to : List ℕ) (b i : ℕ) (found : List ℕ) → i < length from → i < length to → get_or from i 0 ≡ b
-    → ArePartners from to b i found → ArePartners from to b (i + 1) (found ++ get_or to i 0 ∷ [])
-one_partner from to b i found below also is before c =
-    let x = get_or to i 0 in (
-      λ h. elim (Contains-push_cases found x c h) [
-        | inl old ↦ let h = (before c).0 old in let k_below : h.0 < i = h.1 in (h.0, omega arith, h.2, h.3)
-        | inr same ↦ (i, omega arith, slice_get-get_or from i 0 below ∙ ap Some is, slice_get-get_or to i 0 also ∙ ap Some same)
-      ],
-      λ h. below_more (λ k. slice_get from k ≡ Some b → slice_get to k ≡ Some c → Contains (found ++ x ∷ []) c) i
-          (λ k k_below here there. Contains-append_left found (x ∷ []) c ((before c).1 (k, k_below, here, there)))
-          (λ here there. subst (λ (d : ℕ). Contains (found ++ x ∷ []) d) (get_or_from_slice_get to i c 0 there) (Contains-push found x))
-          h.0 h.1 h.2 h.3,
-    )
-
-pub other_byte : (from to : List ℕ) (b i : ℕ) (found : List ℕ) → (get_or from i 0 ≡ b → ⊥) → ArePartners from to b i found
-    → ArePartners from to b (i + 1) found
-other_byte from to b i found other before c = (
-  λ h. let h' = (before c).0 h in let k_below : h'.0 < i = h'.1 in (h'.0, omega arith, h'.2, h'.3),
-  λ h. below_more (λ k. slice_get from k ≡ Some b → slice_get to k ≡ Some c → Contains found c) i
-      (λ k k_below here there. (before c).1 (k, k_below, here, there))
-      (λ here there. absurd (other (get_or_from_slice_get from i b 0 here)))
-      h.0 h.1 h.2 h.3,
-)
-
-pub all_partners : (from to : List ℕ) (b n : ℕ) (found : List ℕ) → n ≡ min (length from) (length to) → ArePartners from to b n found
-    → (c : ℕ) → Contains found c ↔ IsPartner from to b c
-all_partners from to b n found is each c = (
-  λ h. let h' = (each c).0 h in (h'.0, h'.2, h'.3),
-  λ h.
-      let below = inside from h.0 b h.1 in
-      let also = inside to h.0 c h.2 in
-      (each c).1 (h.0, omega arith, h.1, h.2),
-)
-
--- ---- What a byte may become
-
-pub itself_only : (from to : List ℕ) (b : ℕ) → ((c : ℕ) → Contains [] c ↔ IsPartner from to b c) → (c : ℕ) → Contains (b ∷ []) c ↔ MayBecome from to b c
-itself_only from to b none c =
-    let alone : (d : ℕ) → IsPartner from to b d → ⊥ = λ d h. none_contained d ((none d).1 h) in (
-      λ h. elim (Contains-push_cases [] b c h) [ inl never ↦ absurd (none_contained c never) | inr same ↦ inr (alone, sym same) ],
-      λ h. elim h [ inl partner ↦ absurd (alone c partner) | inr itself ↦ subst (λ (d : ℕ). Contains (b ∷ []) d) (sym itself.1) (Contains-push [] b) ],
-    )
-
-pub partners_only : (from to : List ℕ) (b : ℕ) (found : List ℕ) → 0 < length found → ((c : ℕ) → Contains found c ↔ IsPartner from to b c)
-    → (c : ℕ) → Contains found c ↔ MayBecome from to b c
-partners_only from to b found some each c = (
-  λ h. inl ((each c).0 h),
-  λ h. elim h [ inl partner ↦ (each c).1 partner | inr itself ↦ absurd (itself.0 (get_or found 0 0) ((each (get_or found 0 0)).0 (Contains-get_or found 0 0 some))) ],
-)
-
--- ---- Texts, byte by byte
-
-more_becomes : (from to old new : List ℕ) (b c : ℕ) → Transliterates from to old new → MayBecome from to b c → Transliterates from to (old ++ b ∷ []) (new ++ c ∷ [])
-more_becomes from to [] [] b c all one = (one, tt)
-more_becomes from to [] (d ∷ ds) b c all one = absurd all
-more_becomes from to (x ∷ xs) [] b c all one = absurd all
-more_becomes from to (x ∷ xs) (y ∷ ys) b c all one = (all.0, more_becomes from to xs ys b c all.1 one)
-
--- what becomes of a text is what becomes of all but its last byte, and of that one
-record Split (from to old : List ℕ) (b : ℕ) (new : List ℕ) : Type 0 where
-  front : List ℕ
-  last : ℕ
-  all : Transliterates from to old front
-  one : MayBecome from to b last
-  is : new ≡ front ++ last ∷ []
-
-split : (from to old new : List ℕ) (b : ℕ) → Transliterates from to (old ++ b ∷ []) new → Split from to old b new
-split from to [] [] b h = absurd h
-split from to [] (c ∷ []) b h = record { front = []; last = c; all = tt; one = h.0; is = refl }
-split from to [] (c ∷ d ∷ ds) b h = absurd h.1
-split from to (x ∷ xs) [] b h = absurd h
-split from to (x ∷ xs) (y ∷ ys) b h =
-    let more = split from to xs ys b h.1 in
-    record { front = y ∷ more.front; last = more.last; all = (h.0, more.all); one = more.one; is = ap (λ (zs : List ℕ). y ∷ zs) more.is }
-
-pub nothing_becomes : (from to : List ℕ) (made : List (List ℕ)) → ((new : List ℕ) → Contains made new ↔ (new ≡ [])) → (new : List ℕ)
-    → Contains made new ↔ Transliterates from to [] new
-nothing_becomes from to made each [] = (λ _. tt, λ _. (each []).1 refl)
-nothing_becomes from to made each (c ∷ cs) = (λ h. let is = (each (c ∷ cs)).0 h in absurd (cc is), λ h. absurd h)
-
-pub one_byte_more : (from to text : List ℕ) (i : ℕ) (bytes : List ℕ) (before after : List (List ℕ)) → i < length text
-    → ((c : ℕ) → Contains bytes c ↔ MayBecome from to (get_or text i 0) c) → ((new : List ℕ) → Contains before new ↔ Transliterates from to (take i text) new)
-    → ((new : List ℕ) → Contains after new ↔ ((front : List ℕ) × Contains before front × IsLonger bytes front new)) → (new : List ℕ)
-    → Contains after new ↔ Transliterates from to (take (i + 1) text) new
-one_byte_more from to text i bytes before after below each so_far longer new =
-    let b = get_or text i 0 in
-    let more : take (i + 1) text ≡ take i text ++ b ∷ [] = take_more text i 0 below in (
-      λ h.
-          let l = (longer new).0 h in
-          subst (λ (old : List ℕ). Transliterates from to old new) (sym more)
-          (subst (λ (made : List ℕ). Transliterates from to (take i text ++ b ∷ []) made) (sym l.2.2)
-          (more_becomes from to (take i text) l.0 b l.2.0 ((so_far l.0).0 l.1) ((each l.2.0).0 l.2.1))),
-      λ h.
-          let parts = split from to (take i text) new b (subst (λ (old : List ℕ). Transliterates from to old new) more h) in
-          (longer new).1 (parts.front, (so_far parts.front).1 parts.all, (parts.last, (each parts.last).1 parts.one, parts.is)),
-    )

@@ -1,6 +1,5 @@
-pub mod Adding
+pub mod Lists
+pub mod Relations
 pub mod Candidates
-pub mod Lengthening
-pub mod Making
 pub mod Replacing
 pub mod Verbs

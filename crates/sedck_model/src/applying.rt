@@ -14,11 +14,10 @@ use crate::changing::{
 };
 use crate::events::{is_file_event, is_read, is_silent, is_written};
 use crate::reading::{adds_line, drops_first_line, takes_line};
-use crate::states::{Event, Machine, State};
+use crate::spending::{Budget, Undecided};
+use crate::states::{Machine, Move, State};
 use crate::substituting::substitutes;
-use sedck_matching::{Budget, Undecided};
 use sedck_script::{Address, Command, Script, Substitution, Verb};
-use std::alloc::Global;
 
 /// `b`, and `t` where the flag is set: whether the step leads to the target.
 pub(crate) fn branches(target: usize, before: &Machine, after: &State) -> bool
@@ -86,24 +85,22 @@ fn plainly_does(address: &Address, verb: &Verb, before: &Machine, after: &State)
 
 /// `s`: whether it finds nothing, or substitutes and sets the flag.
 fn substitutes_on(
-    alloc: Global,
     script: &Script,
     substitution: &Substitution,
     before: &Machine,
-    event: &Event,
-    after: &State,
+    next: &Move,
     budget: &mut Budget,
 ) -> Result<bool, Undecided>
     requires { before.now.at + 1 < 2 ^ 64 }
     ensures decided { IfOk result (λ yes. IsTrue yes ↔ SubstituteStep script.now (substitution_of substitution.now)
-        (machine_of before.now) (event_of event.now) (state_of after.now)) }
+        (machine_of before.now) (event_of next.now.event) (state_of next.now.after)) }
     ensures used { result ≡ Err Undecided.OutOfBudget → budget.new.left ≡ 0 }
     ensures spent { budget.new.left ≤ budget.old.left }
 {
-    if is_silent(event) && goes_on(before, after) {
+    if is_silent(&next.event) && goes_on(before, &next.after) {
         return Ok(true);
     }
-    let State::At(found) = after else {
+    let State::At(found) = &next.after else {
         return Ok(false);
     };
     let expected = Machine {
@@ -112,40 +109,32 @@ fn substitutes_on(
         pattern: found.pattern,
         ..*before
     };
-    if !is_file_event(event, &substitution.file) || !is_same(found, &expected) {
+    if !is_file_event(&next.event, &substitution.file) || !is_same(found, &expected) {
         return Ok(false);
     }
-    substitutes(
-        alloc,
-        script,
-        substitution,
-        before.pattern,
-        found.pattern,
-        budget,
-    )
+    substitutes(script, substitution, before.pattern, found.pattern, budget)
 }
 
 /// Whether the command, applied, may lead to the state, with the event.
 pub(crate) fn does(
-    alloc: Global,
     script: &Script,
     command: &Command,
     before: &Machine,
-    event: &Event,
-    after: &State,
+    next: &Move,
     budget: &mut Budget,
 ) -> Result<bool, Undecided>
     requires { before.now.at + 1 < 2 ^ 64 }
     ensures decided { IfOk result (λ yes. IsTrue yes ↔ Does script.now (address_of command.now.address)
-        (verb_of command.now.verb) (machine_of before.now) (event_of event.now) (state_of after.now)) }
+        (verb_of command.now.verb) (machine_of before.now) (event_of next.now.event) (state_of next.now.after)) }
     ensures used { result ≡ Err Undecided.OutOfBudget → budget.new.left ≡ 0 }
     ensures spent { budget.new.left ≤ budget.old.left }
 {
+    let Move { event, after } = next;
     match &command.verb {
         Verb::Read(name) => Ok(is_read(event, name) && goes_on(before, after)),
         Verb::Write(name) => Ok(is_written(event, name) && goes_on(before, after)),
         Verb::Substitute(substitution) => {
-            substitutes_on(alloc, script, substitution, before, event, after, budget)
+            substitutes_on(script, substitution, before, next, budget)
         }
         verb => Ok(is_silent(event) && plainly_does(&command.address, verb, before, after)),
     }

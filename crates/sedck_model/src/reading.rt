@@ -5,7 +5,7 @@ ghost use Rattle.sedck_text.specs.Bytes.{newline};
 ghost use Rattle.sedck_flow.specs.Run.{TakesLine, DropsFirstLine, behind_newline as rest_of};
 ghost use Rattle.sedck_model.specs.States.{lines_of, machine_of, state_of};
 
-use crate::arriving::{begins_cycle, is_at, is_done, is_kept_or_reset, is_same};
+use crate::arriving::{begins_cycle, is_done, is_kept_or_reset, is_same};
 use crate::states::{Machine, State};
 use crate::texts::{behind_newline, is_joined};
 

@@ -8,14 +8,13 @@ ghost use Rattle.sedck_flow.specs.Run.{MaySelect, MayNotSelect, MayApply, MaySki
 ghost use Rattle.sedck_model.specs.States.{machine_of};
 
 use crate::candidates::candidates;
+use crate::reaching::has_match;
+use crate::spending::{Budget, Undecided};
 use crate::states::Machine;
-use sedck_matching::{Budget, Undecided, has_match};
 use sedck_script::{Address, Command, Pattern, Place, Script};
-use std::alloc::Global;
 
 /// Whether some part of the text is matched by the pattern, or where it is empty by an expression of the script.
 fn is_matched(
-    alloc: Global,
     script: &Script,
     pattern: &Pattern,
     text: &[u8],
@@ -25,9 +24,9 @@ fn is_matched(
     ensures used { result ≡ Err Undecided.OutOfBudget → budget.new.left ≡ 0 }
     ensures spent { budget.new.left ≤ budget.old.left }
 {
-    let found = candidates(alloc, script, pattern)?;
+    let found = candidates(budget.alloc, script, pattern)?;
     for expression in &found {
-        if has_match(alloc, expression, text, budget)? {
+        if has_match(expression, text, budget)? {
             return Ok(true);
         }
     }
@@ -36,7 +35,6 @@ fn is_matched(
 
 /// Whether this address alone may select.
 fn may_select_at(
-    alloc: Global,
     script: &Script,
     place: &Place,
     machine: &Machine,
@@ -50,13 +48,12 @@ fn may_select_at(
     match place {
         Place::Line(_) => Ok(true),
         Place::Last => Ok(machine.unread.is_empty()),
-        Place::Context(pattern) => is_matched(alloc, script, pattern, machine.pattern, budget),
+        Place::Context(pattern) => is_matched(script, pattern, machine.pattern, budget),
     }
 }
 
 /// Whether the address may select.
 fn may_select(
-    alloc: Global,
     script: &Script,
     address: &Address,
     machine: &Machine,
@@ -69,7 +66,7 @@ fn may_select(
 {
     match address {
         Address::None => Ok(true),
-        Address::One(place) => may_select_at(alloc, script, place, machine, budget),
+        Address::One(place) => may_select_at(script, place, machine, budget),
         Address::Two(_, _) => Ok(true),
     }
 }
@@ -89,7 +86,6 @@ fn may_not_select(address: &Address, machine: &Machine) -> bool
 
 /// Whether the command may be applied.
 pub(crate) fn may_apply(
-    alloc: Global,
     script: &Script,
     command: &Command,
     machine: &Machine,
@@ -103,7 +99,7 @@ pub(crate) fn may_apply(
     if command.negated {
         return Ok(may_not_select(&command.address, machine));
     }
-    may_select(alloc, script, &command.address, machine, budget)
+    may_select(script, &command.address, machine, budget)
 }
 
 /// Whether the command has an address or a `!`.
@@ -119,7 +115,6 @@ fn is_conditional(command: &Command) -> bool
 
 /// Whether the command may be skipped.
 pub(crate) fn may_skip(
-    alloc: Global,
     script: &Script,
     command: &Command,
     machine: &Machine,
@@ -134,7 +129,7 @@ pub(crate) fn may_skip(
         return Ok(false);
     }
     if command.negated {
-        return may_select(alloc, script, &command.address, machine, budget);
+        return may_select(script, &command.address, machine, budget);
     }
     Ok(may_not_select(&command.address, machine))
 }

@@ -11,10 +11,9 @@ use crate::applying::{branches, does};
 use crate::arriving::{begins_cycle, goes_on};
 use crate::events::is_silent;
 use crate::selecting::{may_apply, may_skip};
-use crate::states::{Event, Machine, State};
-use sedck_matching::{Budget, Undecided};
+use crate::spending::{Budget, Undecided};
+use crate::states::{Machine, Move, State};
 use sedck_script::{Command, Script, Verb};
-use std::alloc::Global;
 
 /// Whether the step goes past the verb; a block is left out whole.
 fn goes_past(verb: &Verb, before: &Machine, after: &State) -> bool
@@ -29,117 +28,107 @@ fn goes_past(verb: &Verb, before: &Machine, after: &State) -> bool
 
 /// Whether this step applies the command.
 fn is_applied(
-    alloc: Global,
     script: &Script,
     command: &Command,
     before: &Machine,
-    event: &Event,
-    after: &State,
+    next: &Move,
     budget: &mut Budget,
 ) -> Result<bool, Undecided>
     requires { before.now.at + 1 < 2 ^ 64 }
     ensures decided { IfOk result (λ yes. IsTrue yes ↔ Applies script.now (command_of command.now) (machine_of before.now)
-        (event_of event.now) (state_of after.now)) }
+        (event_of next.now.event) (state_of next.now.after)) }
     ensures used { result ≡ Err Undecided.OutOfBudget → budget.new.left ≡ 0 }
     ensures spent { budget.new.left ≤ budget.old.left }
 {
-    if !does(alloc, script, command, before, event, after, budget)? {
+    if !does(script, command, before, next, budget)? {
         return Ok(false);
     }
-    may_apply(alloc, script, command, before, budget)
+    may_apply(script, command, before, budget)
 }
 
 /// Whether this step skips the command.
 fn is_skipped(
-    alloc: Global,
     script: &Script,
     command: &Command,
     before: &Machine,
-    event: &Event,
-    after: &State,
+    next: &Move,
     budget: &mut Budget,
 ) -> Result<bool, Undecided>
     requires { before.now.at + 1 < 2 ^ 64 }
     ensures decided { IfOk result (λ yes. IsTrue yes ↔ Skips script.now (command_of command.now) (machine_of before.now)
-        (event_of event.now) (state_of after.now)) }
+        (event_of next.now.event) (state_of next.now.after)) }
     ensures used { result ≡ Err Undecided.OutOfBudget → budget.new.left ≡ 0 }
     ensures spent { budget.new.left ≤ budget.old.left }
 {
-    if !is_silent(event) || !goes_past(&command.verb, before, after) {
+    if !is_silent(&next.event) || !goes_past(&command.verb, before, &next.after) {
         return Ok(false);
     }
-    may_skip(alloc, script, command, before, budget)
+    may_skip(script, command, before, budget)
 }
 
 /// Whether this step applies or skips the command.
 fn step_at(
-    alloc: Global,
     script: &Script,
     command: &Command,
     before: &Machine,
-    event: &Event,
-    after: &State,
+    next: &Move,
     budget: &mut Budget,
 ) -> Result<bool, Undecided>
     requires { before.now.at + 1 < 2 ^ 64 }
     ensures decided { IfOk result (λ yes. IsTrue yes ↔ StepAt script.now (command_of command.now) (machine_of before.now)
-        (event_of event.now) (state_of after.now)) }
+        (event_of next.now.event) (state_of next.now.after)) }
     ensures used { result ≡ Err Undecided.OutOfBudget → budget.new.left ≡ 0 }
     ensures spent { budget.new.left ≤ budget.old.left }
 {
-    if is_applied(alloc, script, command, before, event, after, budget)? {
+    if is_applied(script, command, before, next, budget)? {
         return Ok(true);
     }
-    is_skipped(alloc, script, command, before, event, after, budget)
+    is_skipped(script, command, before, next, budget)
 }
 
 /// Whether this is a step from after the last command.
-fn step_behind(script: &Script, before: &Machine, event: &Event, after: &State) -> bool
-    ensures { IsTrue result ↔ StepBehind script.now (machine_of before.now) (event_of event.now) (state_of after.now) }
+fn step_behind(script: &Script, before: &Machine, next: &Move) -> bool
+    ensures { IsTrue result ↔ StepBehind script.now (machine_of before.now) (event_of next.now.event) (state_of next.now.after) }
 {
     before.at == script.commands().len()
-        && is_silent(event)
-        && begins_cycle(before.unread, before.hold, after)
+        && is_silent(&next.event)
+        && begins_cycle(before.unread, before.hold, &next.after)
 }
 
 /// Whether this is a step from before a command, or from after the last one.
 fn step_from(
-    alloc: Global,
     script: &Script,
     before: &Machine,
-    event: &Event,
-    after: &State,
+    next: &Move,
     budget: &mut Budget,
 ) -> Result<bool, Undecided>
     ensures decided { IfOk result (λ yes. IsTrue yes
-        ↔ Step script.now (model.At (machine_of before.now)) (event_of event.now) (state_of after.now)) }
+        ↔ Step script.now (model.At (machine_of before.now)) (event_of next.now.event) (state_of next.now.after)) }
     ensures used { result ≡ Err Undecided.OutOfBudget → budget.new.left ≡ 0 }
     ensures spent { budget.new.left ≤ budget.old.left }
 {
     let commands = script.commands();
     if before.at >= commands.len() {
-        return Ok(step_behind(script, before, event, after));
+        return Ok(step_behind(script, before, next));
     }
     let command = &commands[before.at];
-    step_at(alloc, script, command, before, event, after, budget)
+    step_at(script, command, before, next, budget)
 }
 
 /// Whether a step with this event may lead from the one state to the other.
 pub fn step(
-    alloc: Global,
     script: &Script,
     before: &State,
-    event: &Event,
-    after: &State,
+    next: &Move,
     budget: &mut Budget,
 ) -> Result<bool, Undecided>
-    ensures decided { IfOk result (λ yes. IsTrue yes ↔ Step script.now (state_of before.now) (event_of event.now) (state_of after.now)) }
+    ensures decided { IfOk result (λ yes. IsTrue yes ↔ Step script.now (state_of before.now) (event_of next.now.event) (state_of next.now.after)) }
     ensures used { result ≡ Err Undecided.OutOfBudget → budget.new.left ≡ 0 }
     ensures spent { budget.new.left ≤ budget.old.left }
 {
     match before {
-        State::Start(lines) => Ok(is_silent(event) && begins_cycle(lines, &[], after)),
-        State::At(machine) => step_from(alloc, script, machine, event, after, budget),
+        State::Start(lines) => Ok(is_silent(&next.event) && begins_cycle(lines, &[], &next.after)),
+        State::At(machine) => step_from(script, machine, next, budget),
         State::Done => Ok(false),
     }
 }

@@ -4,18 +4,19 @@ ghost use Rattle.std.specs.Prelude.{◌≡◌, ◌≤◌, ◌-◌, ℕ, ◌↔�
 ghost use Rattle.sedck_bre.specs.View.{tree};
 ghost use Rattle.sedck_script.specs.View.{substitution_of, part_of};
 ghost use Rattle.sedck_flow.specs.Substitutes.{Substitutes, part_text as text_of_part};
-ghost use Rattle.sedck_matching.specs.Spots.{groups_of};
+ghost use Rattle.sedck_model.specs.Spots.{groups_of};
 ghost use Rattle.sedck_model.specs.Private.Replacing.{ReplacesIn, Replaces, ReplacesAt, Continues, occurrence, text_for};
 
 use crate::candidates::candidates;
+use crate::reaching::ends;
+use crate::spending::{Budget, Undecided};
+use crate::spots::Spot;
 use sedck_bre::Bre;
-use sedck_matching::{Budget, Spot, Undecided, ends};
 use sedck_script::{Part, Script, Substitution};
 use std::alloc::{AllocError, Global};
 
 /// Whether the substitution may make the new text of the old one, by any choice of matches.
 pub fn substitutes(
-    alloc: Global,
     script: &Script,
     substitution: &Substitution,
     old_text: &[u8],
@@ -26,9 +27,9 @@ pub fn substitutes(
     ensures used { result ≡ Err Undecided.OutOfBudget → budget.new.left ≡ 0 }
     ensures spent { budget.new.left ≤ budget.old.left }
 {
-    let expressions = candidates(alloc, script, &substitution.pattern)?;
+    let expressions = candidates(budget.alloc, script, &substitution.pattern)?;
     for expression in &expressions {
-        if replaces_in(alloc, expression, substitution, old_text, new_text, budget)? {
+        if replaces_in(expression, substitution, old_text, new_text, budget)? {
             return Ok(true);
         }
     }
@@ -37,7 +38,6 @@ pub fn substitutes(
 
 /// Whether behind a text with which both begin the old one begins with a match, and is replaced from it on by the new one.
 fn replaces_in(
-    alloc: Global,
     expression: &Bre,
     substitution: &Substitution,
     old_text: &[u8],
@@ -51,7 +51,6 @@ fn replaces_in(
     let shared = shared_length(old_text, new_text);
     for length in 0..shared + 1 {
         if replaces(
-            alloc,
             expression,
             substitution,
             &old_text[length..],
@@ -67,7 +66,6 @@ fn replaces_in(
 /// Whether the old text begins with a match, and is replaced from it on by the new one.
 #[cycle(replacing)]
 fn replaces(
-    alloc: Global,
     expression: &Bre,
     substitution: &Substitution,
     old_text: &[u8],
@@ -78,17 +76,9 @@ fn replaces(
     ensures used { result ≡ Err Undecided.OutOfBudget → budget.new.left ≡ 0 }
     ensures spent { budget.new.left ≤ budget.old.left }
 {
-    let spots = ends(alloc, expression, old_text, 0, budget)?;
+    let spots = ends(expression, old_text, 0, budget)?;
     for spot in &spots {
-        if replaces_at(
-            alloc,
-            expression,
-            substitution,
-            old_text,
-            new_text,
-            spot,
-            budget,
-        )? {
+        if replaces_at(expression, substitution, old_text, new_text, spot, budget)? {
             return Ok(true);
         }
     }
@@ -98,7 +88,6 @@ fn replaces(
 /// Whether the same holds with the match that ends at this spot.
 #[cycle(replacing)]
 fn replaces_at(
-    alloc: Global,
     expression: &Bre,
     substitution: &Substitution,
     old_text: &[u8],
@@ -111,10 +100,9 @@ fn replaces_at(
     ensures used { result ≡ Err Undecided.OutOfBudget → budget.new.left ≡ 0 }
     ensures spent { budget.new.left ≤ budget.old.left }
 {
-    let text = replacement_text(alloc, &substitution.parts, old_text, spot)?;
+    let text = replacement_text(budget.alloc, &substitution.parts, old_text, spot)?;
     match new_text.strip_prefix(&text) {
         Some(rest) => continues(
-            alloc,
             expression,
             substitution,
             1usize.saturating_sub(spot.at),
@@ -129,7 +117,6 @@ fn replaces_at(
 /// Whether what is after a match stays, up to the end or to another match, with at least so many bytes before that one.
 #[cycle(replacing)]
 fn continues(
-    alloc: Global,
     expression: &Bre,
     substitution: &Substitution,
     least: usize,
@@ -151,7 +138,6 @@ fn continues(
     let shared = shared_length(old_text, new_text);
     for length in least..shared + 1 {
         if replaces(
-            alloc,
             expression,
             substitution,
             &old_text[length..],
@@ -181,7 +167,7 @@ fn shared_length(one: &[u8], other: &[u8]) -> usize
 }
 
 /// What takes the place of the match that ends at the spot.
-pub(crate) fn replacement_text(
+fn replacement_text(
     alloc: Global,
     parts: &[Part],
     text: &[u8],

@@ -1,4 +1,4 @@
-//! Tests of what no clause of `sedck_matching` and `sedck_model` says: that the functions answer, and within which budget.
+//! Tests of what no clause of `sedck_model` says: that the functions answer, and within which budget.
 #![tactic(auto)]
 
 #[cfg(test)]
@@ -7,5 +7,3 @@ mod matching;
 mod rows;
 #[cfg(test)]
 mod steps;
-#[cfg(test)]
-mod successors;

@@ -1,13 +1,12 @@
 //! Runs and steps that are decided: no clause says that an answer is given at all.
 
 use crate::rows::{require, require_equal, script_of};
-use sedck_matching::Budget;
-use sedck_model::{Event, Machine, Move, State, follows, step};
+use sedck_model::{Budget, Event, Machine, Move, State, follows, step};
 use std::alloc::Global;
 use std::process::Abort;
 
 /// Before the command at this place, with nothing but a pattern space.
-fn machine<'a>(at: usize, pattern: &'a [u8]) -> Machine<'a, 'a> {
+fn machine<'a>(at: usize, pattern: &'a [u8]) -> Machine<'a> {
     Machine {
         at,
         flag: false,
@@ -122,8 +121,8 @@ fn first_wrong(
     moves: &[Move],
 ) -> Option<usize> {
     let script = script_of(rt, alloc, text);
-    let mut budget = Budget { left: 1000 };
-    follows(alloc, &script, lines, moves, &mut budget).expect(rt, text)
+    let mut budget = Budget { alloc, left: 1000 };
+    follows(&script, lines, moves, &mut budget).expect(rt, text)
 }
 
 fn are_followed(rt: &impl Abort, alloc: Global, rows: &[Run]) {
@@ -177,7 +176,7 @@ static CASES: &'static [Case] = &[
 ];
 
 /// The state before the command at this place, or at the end of the run.
-fn state_at<'a>(after: &Option<(usize, &'a str)>) -> State<'a, 'a> {
+fn state_at<'a>(after: &Option<(usize, &'a str)>) -> State<'a> {
     match after {
         Some((at, pattern)) => State::At(machine(*at, pattern.as_bytes())),
         None => State::Done,
@@ -185,18 +184,11 @@ fn state_at<'a>(after: &Option<(usize, &'a str)>) -> State<'a, 'a> {
 }
 
 /// Whether the model has the step of the script's first command from this machine.
-fn is_step(
-    rt: &impl Abort,
-    alloc: Global,
-    text: &str,
-    before: Machine,
-    event: &Event,
-    after: &State,
-) -> bool {
+fn is_step(rt: &impl Abort, alloc: Global, text: &str, before: Machine, next: &Move) -> bool {
     let script = script_of(rt, alloc, text);
-    let mut budget = Budget { left: 1000 };
+    let mut budget = Budget { alloc, left: 1000 };
     let start = State::At(before);
-    step(alloc, &script, &start, event, after, &mut budget).expect(rt, text)
+    step(&script, &start, next, &mut budget).expect(rt, text)
 }
 
 #[test]
@@ -206,8 +198,43 @@ fn steps_are_decided(rt: HostRuntime) {
             flag: *flag,
             ..machine(0, b"a")
         };
-        let after = state_at(after);
-        let found = is_step(&rt, rt.alloc(), *text, before, event, &after);
+        let next = Move {
+            event: *event,
+            after: state_at(after),
+        };
+        let found = is_step(&rt, rt.alloc(), *text, before, &next);
         require(&rt, found == *wanted, *text);
+    }
+}
+
+/// A script, a pattern space, what its first command may make of it, and whether it may. The flag is set by it.
+static SUBSTITUTED: &'static [(&'static str, &'static str, &'static str, bool)] = &[
+    ("s/a*/x/g", "a", "xx", true),
+    ("s/a*/x/g", "a", "x", true),
+    ("s/a*/x/g", "a", "xax", true),
+    ("s/a*/x/g", "a", "ax", true),
+    ("s/a*/x/g", "a", "a", false),
+    ("s/a*/x/g", "baaac", "xbxcx", true),
+    // an empty match isn't directly followed by another one
+    ("s/a*/x/g", "baaac", "xxbxc", false),
+    ("s/c*/x/", "ab", "axb", true),
+    ("s/c*/x/", "ab", "xaxb", false),
+    ("s/\\(a\\)\\(b\\)/\\2\\n\\1&/", "ab", "b\naab", true),
+];
+
+#[test]
+fn substitutions_are_decided(rt: HostRuntime) {
+    for (text, old, new, wanted) in SUBSTITUTED {
+        let after = State::At(Machine {
+            flag: true,
+            ..machine(1, new.as_bytes())
+        });
+        let next = Move {
+            event: Event::Silent,
+            after,
+        };
+        let before = machine(0, old.as_bytes());
+        let found = is_step(&rt, rt.alloc(), *text, before, &next);
+        require_equal(&rt, found, *wanted, (*text, *new));
     }
 }

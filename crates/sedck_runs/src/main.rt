@@ -14,34 +14,19 @@
 //!
 //! `sedck_runs --places SCRIPT` says where each command begins in the script and where it ends, in bytes; which ones are labels, and which
 //! ones branch to the end of the script.
-//!
-//! `sedck_runs --one SCRIPT INPUT` prints one run of the model on the lines of the file INPUT, in the layout of the option `--debug` of GNU
-//! sed: at each state the first of its steps is taken. It says at the end whether the run ended or was cut off.
-//!
-//! `sedck_runs --all N SCRIPT INPUT` prints every run of at most N steps, each in a line with its states: the place, with a `t` where the
-//! flag is set, the pattern space, and the hold space where it isn't empty; what a step does to a file is before the state that it leads
-//! to. A run that isn't over after N steps ends with `..`. Then it says how many runs ended, and how many were cut off.
-//!
-//! The status of these two is 0, or 3 where the budget was used up.
 #![tactic(auto)]
 
 mod choosing;
-mod one;
 mod report;
 mod seen;
-mod showing;
-mod walking;
 
-use one::{Input, show_one};
 use report::Counts;
-use sedck_script::{Located, Script, Verb, locate};
+use sedck_script::{Located, Location, Script, Verb, locate};
 use seen::Trace;
-use std::alloc::{AllocError, Global};
 use std::io::{BufRead, BufReader};
 use std::process::ExitCode;
 use std::rt::{Env, Files};
 use std::{env, fs, io};
-use walking::walk;
 
 fn main(rt: HostRuntime) -> ExitCode {
     match answer(&rt) {
@@ -51,34 +36,27 @@ fn main(rt: HostRuntime) -> ExitCode {
 }
 
 const USAGE: &str = "usage: sedck_runs SCRIPT < RUNS
-       sedck_runs --places SCRIPT
-       sedck_runs --one SCRIPT INPUT
-       sedck_runs --all N SCRIPT INPUT";
+       sedck_runs --places SCRIPT";
 
-/// What is asked for.
-#[derive(Clone, Copy)]
-enum Task<'a> {
-    /// Whether the runs that are read are runs of the model.
-    Runs,
-    /// Where the commands are.
-    Places,
-    /// One run on this input.
-    One(&'a str),
-    /// All runs of at most so many steps on this input.
-    All(usize, &'a str),
+/// Does what the arguments ask for; the exit status.
+fn answer(rt: &HostRuntime) -> io::Result<u8> {
+    let words: Vec<String> = env::args(rt)?.collect(rt.alloc())?;
+    if words.len() == 2 {
+        return answer_script(rt, words[1].as_str(), false);
+    }
+    if words.len() == 3 && words[1].as_str() == "--places" {
+        return answer_script(rt, words[2].as_str(), true);
+    }
+    println!(rt; "{USAGE}")?;
+    Ok(2)
 }
 
-/// Reads the script, and does what is asked for.
-fn answer(rt: &HostRuntime) -> io::Result<u8> {
-    let words: Vec<String> = env::args(rt)?.skip(1).collect(rt.alloc())?;
-    let words: Vec<&str> = words.iter().map(|word| word.as_str()).collect(rt.alloc())?;
-    let Some((task, path)) = task_of(words.as_slice()) else {
-        println!(rt; "{USAGE}")?;
-        return Ok(2);
-    };
+/// Reads the script, and says where its commands are, or whether the runs that are read are runs of the model.
+fn answer_script(rt: &HostRuntime, path: &str, shows_places: bool) -> io::Result<u8> {
     let text = fs::read(rt, path)?;
     match locate(rt.alloc(), &text) {
-        Ok(located) => do_task(rt, task, &text, &located),
+        Ok(located) if shows_places => show_places(rt, &located),
+        Ok(located) => answer_all(rt, &located.script),
         Err(fault) => {
             println!(rt; "{fault}")?;
             Ok(2)
@@ -86,68 +64,26 @@ fn answer(rt: &HostRuntime) -> io::Result<u8> {
     }
 }
 
-/// What the arguments ask for, and the file with the script.
-fn task_of<'a>(words: &[&'a str]) -> Option<(Task<'a>, &'a str)> {
-    match words {
-        ["--places", path] => Some((Task::Places, path)),
-        ["--one", path, input] => Some((Task::One(input), path)),
-        ["--all", most, path, input] => match most.parse::<usize>() {
-            Ok(most) if most > 0 => Some((Task::All(most, input), path)),
-            _ => None,
-        },
-        [path] => Some((Task::Runs, path)),
-        _ => None,
-    }
-}
-
-fn do_task(rt: &HostRuntime, task: Task, text: &[u8], located: &Located) -> io::Result<u8> {
-    match task {
-        Task::Runs => answer_all(rt, &located.script),
-        Task::Places => places(rt, located),
-        Task::One(name) => {
-            let input = fs::read(rt, name)?;
-            let lines = lines_of(rt.alloc(), &input)?;
-            let lines = lines.as_slice();
-            show_one(
-                rt,
-                Input {
-                    name,
-                    lines,
-                    text,
-                    located,
-                },
-            )
-        }
-        Task::All(most, name) => {
-            let input = fs::read(rt, name)?;
-            let lines = lines_of(rt.alloc(), &input)?;
-            walk(rt, &located.script, &lines, most)
-        }
-    }
-}
-
-/// The lines of the text; the last one may have no newline.
-fn lines_of<'a>(alloc: Global, text: &'a [u8]) -> Result<Vec<&'a [u8]>, AllocError> {
-    let mut lines = Vec::new(alloc);
-    for line in text.split_inclusive(|byte| *byte == b'\n') {
-        lines.push(line.strip_suffix(b"\n").unwrap_or(line))?;
-    }
-    Ok(lines)
-}
-
 /// Says where the commands are.
-fn places(rt: &HostRuntime, located: &Located) -> io::Result<u8> {
-    let count = located.script.commands().len();
-    for (location, command) in located.locations.iter().zip(located.script.commands()) {
-        let (start, end) = (location.start, location.end);
-        let word = match command.verb {
-            Verb::Label(_) => "label",
-            Verb::Branch(target) | Verb::Test(target) if target == count => "leaves",
-            _ => "command",
-        };
-        println!(rt; "{start} {end} {word}")?;
+fn show_places(rt: &HostRuntime, located: &Located) -> io::Result<u8> {
+    let commands = located.script.commands();
+    for (location, command) in located.locations.iter().zip(commands) {
+        show_place(rt, location, word_of(&command.verb, commands.len()))?;
     }
     Ok(0)
+}
+
+fn show_place(rt: &impl Print, location: &Location, word: &str) -> io::Result<()> {
+    println!(rt; "{} {} {word}", location.start, location.end)
+}
+
+/// What is said of the verb, in a script with so many commands.
+fn word_of(verb: &Verb, count: usize) -> &'static str {
+    match verb {
+        Verb::Label(_) => "label",
+        Verb::Branch(target) | Verb::Test(target) if *target == count => "leaves",
+        _ => "command",
+    }
 }
 
 /// Reads the runs line by line.
@@ -156,16 +92,29 @@ fn answer_all(rt: &HostRuntime, script: &Script) -> io::Result<u8> {
     let mut trace = Trace::new(rt.alloc());
     let lines = BufReader::new(rt.alloc(), rt.reader())?.lines(rt.alloc());
     for line in lines {
-        let line = line?;
-        if line.starts_with("run ") {
-            counts.report(rt, script, &trace)?;
-            trace = Trace::new(rt.alloc());
-        }
-        if !trace.add(rt.alloc(), line.as_str())? {
-            println!(rt; "not understood: {line}")?;
+        if !take_line(rt, script, &mut counts, &mut trace, line?.as_str())? {
             return Ok(2);
         }
     }
     counts.report(rt, script, &trace)?;
     counts.summary(rt)
+}
+
+/// Reports the run before, where a run begins, and adds what the line says; false where that can't be read.
+fn take_line(
+    rt: &HostRuntime,
+    script: &Script,
+    counts: &mut Counts,
+    trace: &mut Trace,
+    line: &str,
+) -> io::Result<bool> {
+    if line.starts_with("run ") {
+        counts.report(rt, script, trace)?;
+        *trace = Trace::new(rt.alloc());
+    }
+    let is_read = trace.add(rt.alloc(), line)?;
+    if !is_read {
+        println!(rt; "not understood: {line}")?;
+    }
+    Ok(is_read)
 }

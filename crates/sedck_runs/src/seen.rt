@@ -1,6 +1,6 @@
 //! What was seen of a run.
 
-ghost use Rattle.std.specs.Prelude.{◌<◌, IfSome};
+ghost use Rattle.std.specs.Prelude.{◌≡◌, ◌<◌, length, IfSome};
 
 use std::alloc::{AllocError, Global};
 
@@ -37,45 +37,54 @@ impl Trace {
     /// Adds what a line says; false where it can't be read.
     pub fn add(&mut self, alloc: Global, line: &str) -> Result<bool, AllocError> {
         let words: Vec<&str> = line.split(' ').collect(alloc)?;
-        match words.as_slice() {
-            ["run", name] => self.name.push_str(name)?,
-            ["input", text] => match bytes_of(alloc, text)? {
-                Some(line) => self.lines.push(line)?,
-                None => return Ok(false),
-            },
-            ["state", place, read, pattern, hold] => {
-                match read_state(alloc, place, read, pattern, hold)? {
-                    Some(state) => self.states.push(state)?,
-                    None => return Ok(false),
-                }
-            }
-            ["done"] => self.is_done = true,
-            _ => return Ok(false),
+        match words.len() {
+            1 => Ok(self.add_end(words[0])),
+            2 if words[0] == "run" => self.add_name(words[1]),
+            2 if words[0] == "input" => self.add_input(alloc, words[1]),
+            5 if words[0] == "state" => self.add_state(alloc, &words[1..]),
+            _ => Ok(false),
         }
+    }
+
+    fn add_end(&mut self, word: &str) -> bool {
+        self.is_done = word == "done";
+        self.is_done
+    }
+
+    fn add_name(&mut self, name: &str) -> Result<bool, AllocError> {
+        self.name.push_str(name)?;
         Ok(true)
     }
-}
 
-/// The state that these words say, if they say one.
-fn read_state(
-    alloc: Global,
-    place: &str,
-    read: &str,
-    pattern: &str,
-    hold: &str,
-) -> Result<Option<Seen>, AllocError> {
-    let (Ok(place), Ok(read)) = (place.parse::<usize>(), read.parse::<usize>()) else {
-        return Ok(None);
-    };
-    let (Some(pattern), Some(hold)) = (bytes_of(alloc, pattern)?, bytes_of(alloc, hold)?) else {
-        return Ok(None);
-    };
-    Ok(Some(Seen {
-        place,
-        read,
-        pattern,
-        hold,
-    }))
+    fn add_input(&mut self, alloc: Global, text: &str) -> Result<bool, AllocError> {
+        let Some(line) = bytes_of(alloc, text)? else {
+            return Ok(false);
+        };
+        self.lines.push(line)?;
+        Ok(true)
+    }
+
+    /// Adds the state with this place, these lines read, and these spaces.
+    fn add_state(&mut self, alloc: Global, words: &[&str]) -> Result<bool, AllocError>
+        requires { length words.now ≡ 4 }
+    {
+        let (Ok(place), Ok(read)) = (words[0].parse::<usize>(), words[1].parse::<usize>()) else {
+            return Ok(false);
+        };
+        let Some(pattern) = bytes_of(alloc, words[2])? else {
+            return Ok(false);
+        };
+        let Some(hold) = bytes_of(alloc, words[3])? else {
+            return Ok(false);
+        };
+        self.states.push(Seen {
+            place,
+            read,
+            pattern,
+            hold,
+        })?;
+        Ok(true)
+    }
 }
 
 /// The bytes that the word says in hexadecimal; `-` is the empty text.
@@ -85,15 +94,21 @@ fn bytes_of(alloc: Global, word: &str) -> Result<Option<Vec<u8>>, AllocError> {
         return Ok(Some(bytes));
     }
     for pair in word.as_bytes().chunks(2) {
-        let [high, low] = pair else {
+        let Some(byte) = byte_of(pair) else {
             return Ok(None);
         };
-        let (Some(high), Some(low)) = (digit(*high), digit(*low)) else {
-            return Ok(None);
-        };
-        bytes.push(16 * high + low)?;
+        bytes.push(byte)?;
     }
     Ok(Some(bytes))
+}
+
+/// The byte that two digits say.
+fn byte_of(pair: &[u8]) -> Option<u8> {
+    if pair.len() != 2 {
+        return None;
+    }
+    let (high, low) = (digit(pair[0])?, digit(pair[1])?);
+    Some(16 * high + low)
 }
 
 /// The value of a hexadecimal digit.

@@ -4,8 +4,8 @@ use Rattle.sedck_bre.specs.Tree.{Tree}
 use Rattle.sedck_bre.specs.Match.{Groups}
 use Rattle.sedck_script.specs.Program.{Part, Substitution}
 use Rattle.sedck_flow.specs.Substitutes.{Occurrence, replacement, matched, replaced, AreMatches, AreApart}
-use Rattle.sedck_matching.specs.Spots.{groups_of}
-use Rattle.sedck_matching.specs.declared.spots.Spot.{Spot}
+use Rattle.sedck_model.specs.Spots.{groups_of}
+use Rattle.sedck_model.specs.declared.spots.Spot.{Spot}
 
 -- The old text is matches with what is after each, and the new one the same with each match replaced.
 pub record Replaces (t : Tree) (s : Substitution) (old new : List ℕ) : Type 0 where

@@ -1,6 +1,6 @@
 use Rattle.std.proofs.Common.{◌≤◌, take}
 use Rattle.std.specs.List.{All}
-use Rattle.sedck_matching.specs.Spots.{HasPartIn}
+use Rattle.sedck_model.specs.Spots.{HasPartIn}
 use Rattle.sedck_model.specs.Private.Candidates.{trees_in}
 use Rattle.sedck_model.proofs.selecting.is_matched.Given as goal
 

@@ -1,7 +1,7 @@
 use Rattle.std.proofs.Common.{◌≤◌, ◌<◌, ◌+◌, ◌-◌, ◌*◌, ℕ, length, take, drop, Contains}
 use Rattle.sedck_bre.specs.View.{tree}
 use Rattle.sedck_script.specs.View.{substitution_of}
-use Rattle.sedck_matching.specs.declared.spots.Spot.{Spot}
+use Rattle.sedck_model.specs.declared.spots.Spot.{Spot}
 use Rattle.sedck_model.specs.Private.Replacing.{Replaces, ReplacesAt}
 use Rattle.sedck_model.proofs.substituting.+replacing.Given as goal
 

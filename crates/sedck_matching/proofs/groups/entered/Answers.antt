@@ -1,6 +1,0 @@
-use Rattle.sedck_bre.specs.View.{tree}
-use Rattle.sedck_matching.proofs.GroupLemmas.{unset_groups}
-use Rattle.sedck_matching.proofs.groups.entered.Goals as goal
-
-pub returns-clause-groups : goal.returns-clause-groups
-returns-clause-groups c text = unset_groups text (tree c.args.body.now) c.args.spot.now.groups c.clear.new.groups c.clear.ensures

@@ -1,0 +1,6 @@
+use Rattle.std.proofs.Common.{take}
+use Rattle.sedck_model.specs.Private.Lists.{IsWithout}
+use Rattle.sedck_model.proofs.adding.without.Given as goal
+
+abbrev pub invariant-loop-spot : goal.invariant-loop-spot
+invariant-loop-spot l = IsWithout (take l.spot-index l.spots) l.others l.left.items

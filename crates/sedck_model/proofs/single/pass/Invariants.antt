@@ -1,0 +1,12 @@
+use Rattle.std.proofs.Common.{◌≤◌, [], take}
+use Rattle.sedck_bre.specs.View.{tree}
+use Rattle.sedck_model.specs.Private.Lists.{AddsLed, AreWithin}
+use Rattle.sedck_model.specs.Private.Relations.{Passes}
+use Rattle.sedck_model.proofs.single.pass.Given as goal
+
+abbrev pub invariant-loop-spot : goal.invariant-loop-spot
+invariant-loop-spot l = record {
+  led : AddsLed (Passes (tree l.expression)) l.text [] (take l.spot-index l.from) l.spots.items;
+  within : AreWithin l.text l.spots.items;
+  spent : l.budget.left ≤ l.initial.budget.left;
+}
