@@ -1,5 +1,5 @@
 #!/usr/bin/env python3
-"""Runs sedck on rows of data: python3 tests/rows.py build/sedck [--jobs N]
+"""Runs sedck on rows of data: python3 tests/rows.py build/sedck crates/sedck_refusals/out/sedck_refusals [--jobs N]
 
 The rows are in tests/rows/*.json, a file for each subject, with texts that have names, and tables. A string among a table's rows is a
 remark on the rows after it. What a table has beside its rows holds for each row that doesn't say otherwise. A row has:
@@ -8,10 +8,14 @@ remark on the rows after it. What a table has beside its rows holds for each row
     rank, check, ..       what this verb must answer: a text is printed, with status 0; {"no": TEXT} is printed with status 1;
                           {"begins": TEXT} begins what is printed, with status 0; {"fault": LINE} is said on standard error, with
                           status 2; after {} it is only asked that the status is 0
-    verbs                 that each of these verbs must answer the same: the row's fault, or where it has none status 0
+    expression, locate,   what this call of the second program must answer, for functions that sedck doesn't show: the text that it
+    verify, reader, ..    prints, or {"fault": LINE}; it makes each call twice. `reader` and `old` read a certificate of version 2 and 1
+    verbs                 that each of these must answer the same: the row's fault, or where it has none that there is no fault
+    for                   that the row is one for each of these characters, in place of `@` in the script
     lengths               [FIRST, LAST]: this of each beginning of the certificate with so many bytes
     beginnings            that each beginning of the script is read, or refused for a fault that lies in it or at its end
     bytes                 how long the certificate is
+    endless               this text, again and again for ever, as both files
     words                 the arguments in place of a verb: a word after `@` is the file of the named text, or missing. Then `status`,
                           `stdout` and `stderr` are wanted, and the same status also where nothing can be written to standard error
 
@@ -32,7 +36,8 @@ from pathlib import Path
 
 FOLDER = Path(__file__).resolve().parent / "rows"
 VERBS = {"rank": "s", "files": "s", "graph": "s", "check": "sc", "upgrade": "c"}
-KEYS = {"about", "script", "certificate", "verbs", "fault", "lengths", "beginnings", "bytes", "words", "status", "stdout", "stderr", *VERBS}
+CALLS = {"expression": "s", "locate": "s", "verify": "sc", "reader": "c", "old": "c", "either": "c"}
+KEYS = {"about", "script", "certificate", "verbs", "fault", "lengths", "beginnings", "endless", "bytes", "words", "status", "stdout", "stderr", *VERBS, *CALLS}
 LINEAR = re.compile(r"\{(-?\d*)n([+-]\d+)?\}")
 FAULT = re.compile(rb"sedck: script fault (\d+) [a-z-]+ at (\d+)(: expression fault \d+ [a-z-]+ at \d+)?\n")
 OUT_OF_MEMORY = 23
@@ -106,13 +111,13 @@ def short(data):
 
 
 class Rows:
-    """Runs of the program on rows, and what was not as it is due."""
+    """Runs of the programs on rows, and what was not as it is due."""
 
-    def __init__(self, program, folder):
-        self.program, self.folder = os.path.abspath(program), folder
+    def __init__(self, program, calls, folder):
+        self.program, self.calls, self.folder = os.path.abspath(program), os.path.abspath(calls), folder
 
-    def run(self, words, stderr=subprocess.PIPE):
-        done = subprocess.run([self.program, *words], cwd=self.folder, stdout=subprocess.PIPE, stderr=stderr, timeout=120, check=False)
+    def run(self, words, stderr=subprocess.PIPE, program=None):
+        done = subprocess.run([program or self.program, *words], cwd=self.folder, stdout=subprocess.PIPE, stderr=stderr, timeout=120, check=False)
         return done.returncode, done.stdout, done.stderr
 
     def write(self, name, data):
@@ -131,14 +136,31 @@ class Rows:
         wanted = "status %d, %s%s, %s" % (status, short(printed), "" if is_whole else " and more", short(said))
         return ["%s: due: %s; came: status %d, %s, %s" % (words[0] if words else "no words", wanted, found[0], short(found[1]), short(found[2]))]
 
-    def verbs(self, row, named, paths):
-        """What is wrong with the answers of each verb of the row, and how many there are."""
-        answers = {verb: row[verb] for verb in VERBS if verb in row}
+    def call(self, call, texts, answer, named):
+        """The same of a call by the second program."""
+        status, printed, said = self.run([{"reader": "certificate"}.get(call, call), *texts], program=self.calls)
+        first, _, again = printed.removeprefix(b"first\n").partition(b"again\n")
+        if answer == {}:
+            due, holds = "no fault", not first.startswith(b"fault ")
+        else:
+            is_fault = isinstance(answer, dict) and "fault" in answer
+            due = answer["fault"].split(" ", 1)[1].encode() + b"\n" if is_fault else bytes_of(answer, named)
+            holds = first == due
+        if holds and (status, again, said) == (0, first, b"") and printed.startswith(b"first\n"):
+            return []
+        return ["%s: due: %s; came: status %d, %s, %s" % (call, short(due), status, short(printed), short(said))]
+
+    def answers(self, row, named, texts, paths):
+        """What is wrong with the answers of each verb and each call of the row, and how many there are."""
+        answers = {verb: row[verb] for verb in (*VERBS, *CALLS) if verb in row}
         for verb in row.get("verbs", []):
             answers.setdefault(verb, {"fault": row["fault"]} if "fault" in row else {})
         failures = []
         for verb, answer in answers.items():
-            failures += self.compare([verb, *(paths[file] for file in VERBS[verb])], due_of(answer, named))
+            if verb in VERBS:
+                failures += self.compare([verb, *(paths[file] for file in VERBS[verb])], due_of(answer, named))
+            else:
+                failures += self.call(verb, [texts[file] for file in CALLS[verb]], answer, named)
         return failures, len(answers)
 
     def beginnings(self, script, path):
@@ -154,17 +176,34 @@ class Rows:
                 failures.append("%r: status %d, %s, %s" % (script[:length], status, short(printed), short(said)))
         return failures, len(script)
 
-    def lengths(self, row, named, paths):
+    def lengths(self, row, named, texts, paths):
         """The same of beginnings of a certificate."""
-        whole, failures, count = bytes_of(row["certificate"], named), [], 0
+        failures, count = [], 0
         first, last = row["lengths"]
-        assert first <= last < len(whole), row
+        assert first <= last < len(texts["c"]), row
         for length in range(first, last + 1):
-            self.write(paths["c"], whole[:length])
-            wrong, runs = self.verbs(row, named, paths)
+            front = {**texts, "c": texts["c"][:length]}
+            self.write(paths["c"], front["c"])
+            wrong, runs = self.answers(row, named, front, paths)
             failures += ["%d bytes: %s" % (length, failure) for failure in wrong]
             count += runs
         return failures, count
+
+    def endless(self, row, named):
+        """The same of files that never end, as standard input."""
+        failures = []
+        for verb in row["verbs"]:
+            words = [self.program, verb, *("/dev/stdin" for _ in VERBS[verb])]
+            with subprocess.Popen(words, stdin=subprocess.PIPE, stdout=subprocess.PIPE, stderr=subprocess.PIPE, bufsize=0) as run:
+                try:
+                    while True:
+                        run.stdin.write(row["endless"].encode() * 65536)
+                except BrokenPipeError:
+                    pass
+                printed, said = run.communicate(timeout=120)
+            if (run.returncode, printed, True, said) != due_of({"fault": row["fault"]}, named):
+                failures.append("%s: due: %s; came: status %d, %s, %s" % (verb, row["fault"], run.returncode, short(printed), short(said)))
+        return failures, len(row["verbs"])
 
     def words(self, row, named, folder):
         """The same of arguments in place of a verb, also where standard error is full."""
@@ -186,20 +225,26 @@ class Rows:
         assert not unknown, unknown
         if "words" in row:
             return self.words(row, named, os.path.join(self.folder, "%d" % number))
-        paths = {"s": os.path.join(self.folder, "%d.sed" % number), "c": os.path.join(self.folder, "%d.cert" % number)}
         named = {**named, "certificate": row.get("certificate", "")}
-        script = bytes_of(row.get("script", ""), named)
-        self.write(paths["s"], script)
+        texts = {"s": bytes_of(row.get("script", ""), named), "c": bytes_of(named["certificate"], named)}
+        paths = {file: self.write("%d.%s" % (number, file), texts[file]) for file in texts}
+        if "endless" in row:
+            return self.endless(row, named)
         if "beginnings" in row:
-            return self.beginnings(script, paths["s"])
+            return self.beginnings(texts["s"], paths["s"])
         if "lengths" in row:
-            return self.lengths(row, named, paths)
-        given = bytes_of(row.get("certificate", ""), named)
-        self.write(paths["c"], given)
-        failures, count = self.verbs(row, named, paths)
-        if row.get("bytes", len(given)) != len(given):
-            failures.append("the certificate has %d bytes, and not %d" % (len(given), row["bytes"]))
+            return self.lengths(row, named, texts, paths)
+        failures, count = self.answers(row, named, texts, paths)
+        if row.get("bytes", len(texts["c"])) != len(texts["c"]):
+            failures.append("the certificate has %d bytes, and not %d" % (len(texts["c"]), row["bytes"]))
         return failures, count
+
+
+def each_of(row):
+    """The rows for which this one stands."""
+    if "for" not in row:
+        return [row]
+    return [{**{key: row[key] for key in row if key != "for"}, "script": row["script"].replace("@", byte)} for byte in row["for"]]
 
 
 def rows_of(path):
@@ -208,7 +253,7 @@ def rows_of(path):
     assert set(data) <= {"about", "texts", "tables"}, path
     for table in data["tables"]:
         shared = {key: value for key, value in table.items() if key != "rows"}
-        rows = [row for row in table["rows"] if not isinstance(row, str)]
+        rows = [row for given in table["rows"] if not isinstance(given, str) for row in each_of(given)]
         assert rows, "%s: %s: no rows" % (path, table["about"])
         for number, row in enumerate(rows, 1):
             yield "%s: %s Row %d" % (path.name, table["about"], number), {**shared, **row}, data.get("texts", {})
@@ -217,12 +262,13 @@ def rows_of(path):
 def main():
     words = argparse.ArgumentParser()
     words.add_argument("program")
+    words.add_argument("calls")
     words.add_argument("--jobs", type=int, default=os.cpu_count())
     asked = words.parse_args()
     rows = [row for path in sorted(FOLDER.glob("*.json")) for row in rows_of(path)]
     failed, count = 0, 0
     with tempfile.TemporaryDirectory(prefix="sedck-rows-") as folder, ThreadPoolExecutor(asked.jobs) as pool:
-        runs = Rows(asked.program, folder)
+        runs = Rows(asked.program, asked.calls, folder)
         answers = pool.map(lambda item: runs.row(item[0], *item[1][1:]), enumerate(rows))
         for (where, row, _), (failures, comparisons) in zip(rows, answers):
             if not comparisons:
