@@ -16,6 +16,7 @@ import explain_listed
 import explain_pages
 import explain_refused
 import explain_sarif
+import explain_streams
 import explain_texts
 import explain_words
 from explain_tools import Tools
@@ -36,6 +37,7 @@ def main():
         explain_denied.check(tools)
         explain_findings.check(tools)
         explain_listed.check(tools)
+        explain_streams.check(tools)
         explain_sarif.check(tools, 100)
         has_graphviz = explain_pages.check(tools)
     for failure in tools.failures:

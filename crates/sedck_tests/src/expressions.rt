@@ -1,5 +1,3 @@
-//! Expressions as tables: what is read, what is refused and where, and the members of sets.
+//! Expressions: the members of sets, and the groups that are items.
 mod groups;
 mod members;
-mod read;
-mod refused;

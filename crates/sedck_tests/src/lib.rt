@@ -1,15 +1,16 @@
-//! Tests of what no clause says, over the public functions of the crates below.
+//! Tests of what neither a clause nor a built program shows: streams that fail, and functions that no program calls or whose answers none
+//! prints. What programs print is tested by the rows in `tests/rows`.
 #![tactic(auto)]
 
 #[cfg(test)]
 mod certificates;
 #[cfg(test)]
+mod counts;
+#[cfg(test)]
 mod engines;
 #[cfg(test)]
 mod expressions;
 #[cfg(test)]
-mod scripts;
-#[cfg(test)]
-mod searches;
-#[cfg(test)]
 mod texts;
+#[cfg(test)]
+mod verbs;

@@ -1,42 +1,51 @@
-//! Streams that fail or never end, and texts that are too long.
-use super::fakes::{Endless, Reader, sink_with, source_of};
+//! What the engines answer and write, where streams fail after each byte and where none fails, and of texts that are too long.
+use super::fakes::{Reader, sink_with, source_of};
 use super::runs::{Ends, Engine, is_answered, is_answered_over_std, outcome};
 use super::{ACCEPTED, AMPLE, LOOP, LOOP_CERTIFICATE, LOOP_TEXT};
-use crate::texts::{repeated, require_bytes, require_count};
+use crate::texts::require;
 use sedck_cert::streams::FromRead;
 use std::alloc::Global;
 use std::io::ErrorKind;
 use std::process::Abort;
 
-/// The engine, a script, whether the certificate's reads fail and not the script's, and how many bytes there are to read.
-static SOURCES: [(Engine, &'static str, bool, usize); 9] = [
-    (Engine::Check, LOOP, false, 8),
-    (Engine::Check, "b z", false, 3),
-    (Engine::Check, LOOP, true, 178),
-    (Engine::Check, "b z", true, 178),
-    (Engine::Files, LOOP, false, 8),
-    (Engine::Graph, LOOP, false, 8),
-    (Engine::Rank, LOOP, false, 8),
-    (Engine::Rank, "b z", false, 3),
-    (Engine::Upgrade, LOOP, true, 178),
+/// The engine, a script, and whether the certificate's reads fail and not the script's. The certificate is the loop's.
+static SOURCES: [(Engine, &'static str, bool); 9] = [
+    (Engine::Check, LOOP, false),
+    (Engine::Check, "b z", false),
+    (Engine::Check, LOOP, true),
+    (Engine::Check, "b z", true),
+    (Engine::Files, LOOP, false),
+    (Engine::Graph, LOOP, false),
+    (Engine::Rank, LOOP, false),
+    (Engine::Rank, "b z", false),
+    (Engine::Upgrade, LOOP, true),
 ];
 
-/// The engine, a script, and the report; the certificate is the loop's.
-static SINKS: [(Engine, &'static str, &'static str); 6] = [
-    (Engine::Check, LOOP, ACCEPTED),
-    (Engine::Files, "#", "read 0\nwrite 0\n"),
+/// The engine, a script, the outcome and the report.
+static SINKS: [(Engine, &'static str, &'static str, &'static str); 7] = [
+    (Engine::Check, LOOP, "yes", ACCEPTED),
+    (Engine::Check, "", "no", "rejected 1 wrong-count\n"),
+    (
+        Engine::Files,
+        "s/x/y/w out\nr in",
+        "yes",
+        "read 1\nin\nwrite 1\nout\n",
+    ),
     (
         Engine::Graph,
         "#",
+        "yes",
         "commands 0\n0 0 0 0 0 0 consume\n0 0 0 0 0 1 consume\n0 1 0 0 0 0 consume\n0 1 0 0 0 1 consume\n",
     ),
-    (Engine::Rank, LOOP, LOOP_CERTIFICATE),
+    (Engine::Rank, LOOP, "yes", LOOP_CERTIFICATE),
     (
         Engine::Rank,
         ":a\nb a",
+        "no",
         "loop idle\n0 0 0 keep\n1 0 0 keep\n0 0 0\n",
     ),
-    (Engine::Upgrade, "b z", LOOP_CERTIFICATE),
+    // the script isn't read
+    (Engine::Upgrade, "b z", "yes", LOOP_CERTIFICATE),
 ];
 
 /// How a call of std may fail.
@@ -120,10 +129,9 @@ fn fails_with_each_kind(
 
 #[test]
 fn failing_sources(rt: HostRuntime) {
-    require_count(&rt, LOOP.len(), 8, b"the loop");
-    require_count(&rt, LOOP_TEXT.len(), 178, b"its certificate");
-    for (engine, script, is_certificate, length) in &SOURCES {
-        for before in 0..*length + 1 {
+    for (engine, script, is_certificate) in &SOURCES {
+        let text = if *is_certificate { LOOP_TEXT } else { *script };
+        for before in 0..text.len() + 1 {
             // where the script's reads fail, the certificate's would fail at once
             let (ends, fault) = if *is_certificate {
                 ((AMPLE, before, AMPLE), "cannot read certificate")
@@ -154,14 +162,13 @@ fn sources_that_failed_before(rt: HostRuntime) {
             &mut unused,
             &mut out,
         );
-        require_bytes(&rt, found.as_bytes(), wanted.as_bytes(), b"read twice");
+        require(&rt, found.as_str() == wanted, b"read twice");
     }
 }
 
-/// Whether the write after a prefix of a report is said to have failed, and nothing more went out.
-fn fails_behind(rt: &impl Abort, alloc: Global, engine: &Engine, script: &str, front: &str) {
-    let (texts, ends) = ((script, LOOP_TEXT), (AMPLE, AMPLE, front.len()));
-    let answer = ("cannot write", front);
+/// Whether just the front of a report goes out where there is no more room, and this is said.
+fn goes_out(rt: &impl Abort, alloc: Global, engine: &Engine, script: &str, answer: (&str, &str)) {
+    let (texts, ends) = ((script, LOOP_TEXT), (AMPLE, AMPLE, answer.1.len()));
     is_answered(rt, alloc, engine, texts, 1, &ends, answer);
     is_answered(rt, alloc, engine, texts, 4, &ends, answer);
     // a call that takes no byte, and one that is interrupted
@@ -181,12 +188,12 @@ fn fails_at_once(rt: &impl Abort, alloc: Global, engine: &Engine, script: &str) 
 
 #[test]
 fn failing_sinks(rt: HostRuntime) {
-    require_count(&rt, LOOP_TEXT.len(), 178, b"its certificate");
-    for (engine, script, report) in &SINKS {
+    for (engine, script, told, report) in &SINKS {
         for room in 0..report.len() {
             let front = report.get(..room).expect(&rt, "a beginning");
-            fails_behind(&rt, rt.alloc(), engine, *script, front);
+            goes_out(&rt, rt.alloc(), engine, *script, ("cannot write", front));
         }
+        goes_out(&rt, rt.alloc(), engine, *script, (*told, *report));
         fails_at_once(&rt, rt.alloc(), engine, *script);
     }
 }
@@ -241,7 +248,7 @@ static LIMITS: [(Engine, bool, usize, usize, &'static str); 7] = [
 
 #[test]
 fn limits(rt: HostRuntime) {
-    let long = repeated(&rt, rt.alloc(), &[("\n", 1_700_000)]);
+    let long = "\n".repeat(rt.alloc(), 1_700_000).expect(&rt, "memory");
     for (engine, is_certificate, script_end, certificate_end, fault) in &LIMITS {
         let texts = if *is_certificate {
             ("", long.as_str())
@@ -250,40 +257,5 @@ fn limits(rt: HostRuntime) {
         };
         let (ends, answer) = ((*script_end, *certificate_end, 0), (*fault, ""));
         is_answered(&rt, rt.alloc(), engine, texts, 100_000, &ends, answer);
-    }
-}
-
-/// The engine, the byte that the script's reader gives for ever, and the fault.
-static ENDLESS: [(Engine, u8, &'static str); 7] = [
-    (Engine::Check, b'\n', "script fault 1 too-long at 1048576"),
-    (Engine::Check, b' ', "script fault 1 too-long at 1048576"),
-    (Engine::Files, b'\n', "script fault 1 too-long at 1048576"),
-    (Engine::Graph, b' ', "script fault 1 too-long at 1048576"),
-    (Engine::Rank, b'\n', "script fault 1 too-long at 1048576"),
-    (Engine::Rank, b'\0', "script fault 1 too-long at 1048576"),
-    (
-        Engine::Upgrade,
-        b'\n',
-        "certificate fault 1 bad-header at line 1",
-    ),
-];
-
-/// A script and a certificate that never end.
-#[test]
-fn endless_sources(rt: HostRuntime) {
-    for (engine, byte, fault) in &ENDLESS {
-        let mut script = Endless { byte: *byte };
-        let mut certificate = Endless { byte: b'\n' };
-        let mut out = sink_with(rt.alloc(), 1, AMPLE);
-        let answer = outcome(
-            &rt,
-            rt.alloc(),
-            engine,
-            &mut script,
-            &mut certificate,
-            &mut out,
-        );
-        require_bytes(&rt, answer.as_bytes(), fault.as_bytes(), fault.as_bytes());
-        require_bytes(&rt, &out.bytes, b"", fault.as_bytes());
     }
 }

@@ -1,6 +1,6 @@
 //! Sources and sinks, and readers and writers of std, that fail when they are asked to.
 
-ghost use Rattle.std.specs.Prelude.{None, false};
+ghost use Rattle.std.specs.Prelude.{None};
 
 use sedck_cert::streams::{Failed, Sink, Source};
 use std::alloc::Global;
@@ -49,27 +49,6 @@ impl Source for Given<'_> {
 
     fn failed(&self) -> bool {
         self.failed
-    }
-}
-
-/// Gives one byte for ever.
-#[derive(Drop)]
-pub struct Endless {
-    pub byte: u8,
-}
-
-impl Source for Endless {
-    ghost left = { λ _. None };
-
-    ghost has_failed = { λ _. false };
-
-    fn read(&mut self, buf: &mut [u8]) -> Result<usize, Failed> {
-        buf.fill(self.byte);
-        Ok(buf.len())
-    }
-
-    fn failed(&self) -> bool {
-        false
     }
 }
 

@@ -1,7 +1,6 @@
 //! Runs of the engines over streams in memory.
-use super::AMPLE;
 use super::fakes::{Reader, Writer, sink_with, source_of};
-use crate::texts::{require, require_bytes, require_text};
+use crate::texts::require;
 use sedck_cert::streams::{FromRead, FromWrite, Sink, Source};
 use sedck_cli::{Outcome, RunFault, run_check, run_files, run_graph, run_rank, run_upgrade};
 use std::alloc::Global;
@@ -20,9 +19,6 @@ pub enum Engine {
 
 /// After how many bytes the reads of the script fail, those of the certificate, and the writes.
 pub type Ends = (usize, usize, usize);
-
-/// Nothing fails.
-pub const NEVER: Ends = (AMPLE, AMPLE, AMPLE);
 
 /// The outcome in a word, or the fault as it is printed.
 pub fn outcome<R: Source, C: Source, W: Sink>(
@@ -61,10 +57,10 @@ fn require_answer(
     failed: (bool, bool),
     answer: (&str, &str),
 ) {
-    require_text(rt, reported.0, answer.0, script);
-    require_bytes(rt, reported.1, answer.1.as_bytes(), script.as_bytes());
-    let holds = failed.0 == reported.0.starts_with("cannot read")
-        && failed.1 == reported.0.starts_with("cannot write");
+    let is_told = reported.0 == answer.0 && reported.1 == answer.1.as_bytes();
+    require(rt, is_told, script.as_bytes());
+    let holds = failed.0 == answer.0.starts_with("cannot read")
+        && failed.1 == answer.0.starts_with("cannot write");
     require(rt, holds, script.as_bytes());
 }
 

@@ -1,59 +1,51 @@
 //! The members of bracket lists, byte by byte, and the bytes of escapes.
-use crate::texts::{Kind, has_fault, require};
-use sedck_bre::{Bre, Expr, parse};
+use crate::texts::require;
+use sedck_bre::{Bre, ReFault, parse};
 use std::alloc::Global;
 use std::process::Abort;
 
 /// Whether the byte is in a range.
 fn is_in(ranges: &[(u8, u8)], byte: u8) -> bool {
-    ranges
-        .iter()
-        .any(|(first, last)| *first <= byte && byte <= *last)
+    for (first, last) in ranges {
+        if *first <= byte && byte <= *last {
+            return true;
+        }
+    }
+    false
 }
 
-/// Whether the set has just the bytes of the ranges, or just the others.
-fn is_set(words: &[u64; 4], ranges: &[(u8, u8)], complement: bool) -> bool {
+/// Whether the item is matched by this byte.
+fn has_member(item: &Bre, byte: u8) -> bool {
+    match item {
+        Bre::Byte(found) => *found == byte,
+        Bre::Set(set) => (set.0[usize::from(byte / 64)] >> (byte % 64)) & 1 == 1,
+        _ => false,
+    }
+}
+
+/// Whether the item is matched by just the bytes of the ranges, or by just the others.
+fn has_members(item: &Bre, ranges: &[(u8, u8)], complement: bool) -> bool {
     for byte in 0..=255u8 {
-        let word = words[usize::from(byte / 64)];
-        let is_member = (word >> (byte % 64)) & 1 == 1;
-        let is_wanted = is_in(ranges, byte) != complement;
-        if is_member != is_wanted {
+        if has_member(item, byte) != (is_in(ranges, byte) != complement) {
             return false;
         }
     }
     true
 }
 
-/// The item of the expression, where it is just one.
-fn only_item(expression: &Expr) -> Option<&Bre> {
+/// Whether the text is an expression of one item with these members.
+fn is_item(alloc: Global, text: &[u8], ranges: &[(u8, u8)], complement: bool) -> bool {
+    let Ok(expression) = parse(alloc, text) else {
+        return false;
+    };
     match expression.body() {
-        Bre::Seq(items) if items.len() == 1 => items.first(),
-        _ => None,
-    }
-}
-
-/// Whether the expression is one bracket list with just these members.
-fn is_list(expression: &Expr, ranges: &[(u8, u8)], complement: bool) -> bool {
-    match only_item(expression) {
-        Some(Bre::Set(set)) => is_set(&set.0, ranges, complement),
+        Bre::Seq(items) if items.len() == 1 => has_members(&items[0], ranges, complement),
         _ => false,
     }
 }
 
-/// The same of its text.
-fn has_members(alloc: Global, text: &[u8], ranges: &[(u8, u8)], complement: bool) -> bool {
-    parse(alloc, text).is_ok_and(|expression| is_list(&expression, ranges, complement))
-}
-
 /// A bracket list, the ranges in it, and whether they are what it leaves out.
 type Row = (&'static str, &'static [(u8, u8)], bool);
-
-fn have_members(rt: &impl Abort, alloc: Global, rows: &[Row]) {
-    for (text, ranges, complement) in rows {
-        let text = text.as_bytes();
-        require(rt, has_members(alloc, text, ranges, *complement), text);
-    }
-}
 
 static CLASSES: [Row; 12] = [
     ("[[:upper:]]", &[(b'A', b'Z')], false),
@@ -129,51 +121,47 @@ static LISTS: [Row; 34] = [
     ),
 ];
 
+fn have_members(rt: &impl Abort, alloc: Global, rows: &[Row]) {
+    for (text, ranges, complement) in rows {
+        let text = text.as_bytes();
+        require(rt, is_item(alloc, text, ranges, *complement), text);
+    }
+}
+
 #[test]
 fn members(rt: HostRuntime) {
     have_members(&rt, rt.alloc(), &CLASSES);
     have_members(&rt, rt.alloc(), &LISTS);
-    let all = b"[\0-\xff]";
-    require(&rt, has_members(rt.alloc(), all, &[(0, 255)], false), all);
-}
-
-/// Whether the text is the one byte.
-fn is_byte(alloc: Global, text: &[u8], byte: u8) -> bool {
-    match parse(alloc, text) {
-        Ok(expression) => match only_item(&expression) {
-            Some(Bre::Byte(found)) => *found == byte,
-            _ => false,
-        },
-        Err(_) => false,
-    }
 }
 
 /// Whether the text means the one byte.
 fn means(rt: &impl Abort, alloc: Global, text: &[u8], byte: u8) {
-    require(rt, is_byte(alloc, text, byte), text);
+    require(rt, is_item(alloc, text, &[(byte, byte)], false), text);
 }
 
 /// Bytes that mean themselves after a backslash.
-static ESCAPED: [u8; 22] = *b".[\\*^$]/-\"&,;:!@#%=~_ ";
+static ESCAPED: &'static str = ".[\\*^$]/-\"&,;:!@#%=~_ ";
 
-/// Bytes that have a meaning after a backslash.
-static KNOWN: [u8; 36] = *b".[\\*^$]/-\"&,;:!@#%=~_ nt(){123456789";
+/// Bytes that have a meaning without one.
+static SPECIAL: [u8; 5] = *b".[\\^$";
 
-/// Escapes of bytes that mean themselves, the refused ones, and bytes without meaning.
+/// Escapes, and bytes without meaning.
 #[test]
 fn bytes(rt: HostRuntime) {
-    for byte in &ESCAPED {
+    for byte in ESCAPED.as_bytes() {
         means(&rt, rt.alloc(), &[b'\\', *byte], *byte);
     }
     means(&rt, rt.alloc(), b"\\n", 10);
     means(&rt, rt.alloc(), b"\\t", 9);
     for byte in 0..=255u8 {
-        if !KNOWN.contains(&byte) {
-            let text = [b'a', b'\\', byte];
-            has_fault(&rt, rt.alloc(), &Kind::Expression, &text, (2, 1));
-        }
-        if !b".[\\^$".contains(&byte) {
+        if !SPECIAL.contains(&byte) {
             means(&rt, rt.alloc(), &[byte], byte);
         }
     }
+    // bytes that no word of a command line has
+    let all = is_item(rt.alloc(), b"[\0-\xff]", &[(0, 255)], false);
+    require(&rt, all, b"all bytes");
+    let refused = parse(rt.alloc(), b"a\\\0");
+    let is_bad = matches!(refused, Err(ReFault::BadEscape { place: 1 }));
+    require(&rt, is_bad, b"an escaped NUL");
 }
