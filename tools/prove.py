@@ -230,9 +230,9 @@ def trees(prefix):
 
 def main():
     rt, names = (sys.argv[1] if len(sys.argv) > 1 else "rt"), sys.argv[2:] or list(PROGRAMS)
-    unknown = [name for name in names if name not in libraries()]
-    if unknown:
-        print("prove: crates.txt doesn't name %s" % ", ".join(unknown))
+    unfit = [name for name in names if name not in libraries() or name not in PROGRAMS and (TOP / "crates" / name / "src" / "main.rt").exists()]
+    if unfit:
+        print("prove: no library and no program for users: %s" % ", ".join(unfit))
         return 1
     with trees("prove-") as folder:
         return 0 if Proving(rt, names, folder).run() else 1
