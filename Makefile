@@ -45,9 +45,9 @@ docs examples: build
 	@echo "Checking the documents: the examples and their certificates, and each command that the pages show ..."
 	sh tests/documents.sh
 
-rows: build
+rows: build refusals-program
 	@echo "Running build/sedck on rows of scripts and certificates ..."
-	python3 tests/rows.py build/sedck
+	python3 tests/rows.py build/sedck crates/sedck_refusals/out/sedck_refusals
 
 explain-tests: build
 	@echo "Testing the reports of sedck-explain ..."
@@ -55,7 +55,7 @@ explain-tests: build
 	python3 tests/hints.py build/sedck-explain build/sedck
 	python3 tests/fixes.py build/sedck-explain
 
-# `sedck_refusals` makes one call twice; the library refuses one request for memory of the program that it is loaded into.
+# `sedck_refusals` makes one call twice, also those that sedck doesn't show; the library refuses one request for memory of the program that it is loaded into.
 refusals: build refusals-program build/refuse.so
 	@echo "Refusing each request for memory in turn ..."
 	python3 tests/refusals.py crates/sedck_refusals/out/sedck_refusals build/sedck build/refuse.so build/sedck-explain
