@@ -17,7 +17,7 @@ remark on the rows after it. What a table has beside its rows holds for each row
     bytes                 how long the certificate is
     endless               this text, again and again for ever, as both files
     words                 the arguments in place of a verb: a word after `@` is the file of the named text, or missing. Then `status`,
-                          `stdout` and `stderr` are wanted, and the same status also where nothing can be written to standard error
+                          `stdout` and `stderr` are wanted, and the same status and output where standard error has room for 0 or 7 bytes
 
 A text is a string, whose characters are bytes; a list of texts, one after another; {"named": NAME}, with `old` replaced by `new` where
 they are there (`certificate` is the row's own); {"text": TEXT, "times": N}; {"text": TEXT, "from": M, "count": N}: copies for n from M
@@ -41,6 +41,8 @@ KEYS = {"about", "script", "certificate", "verbs", "fault", "lengths", "beginnin
 LINEAR = re.compile(r"\{(-?\d*)n([+-]\d+)?\}")
 FAULT = re.compile(rb"sedck: script fault (\d+) [a-z-]+ at (\d+)(: expression fault \d+ [a-z-]+ at \d+)?\n")
 OUT_OF_MEMORY = 23
+# Runs a program whose files may have no more bytes than this. Python ignores the signal for it, and so does the program then.
+LIMITED = "import os, resource, sys; room = int(sys.argv[1]); resource.setrlimit(resource.RLIMIT_FSIZE, (room, room)); os.execv(sys.argv[2], sys.argv[2:])"
 
 
 def numbered(text, number):
@@ -139,14 +141,14 @@ class Rows:
     def call(self, call, texts, answer, named):
         """The same of a call by the second program."""
         status, printed, said = self.run([{"reader": "certificate"}.get(call, call), *texts], program=self.calls)
-        first, _, again = printed.removeprefix(b"first\n").partition(b"again\n")
+        parts = re.split(rb"^(?:first|again)\n", printed, flags=re.M)
         if answer == {}:
-            due, holds = "no fault", not first.startswith(b"fault ")
+            due, holds = "no fault", len(parts) == 3 and parts[1] == parts[2] and not parts[1].startswith(b"fault ")
         else:
             is_fault = isinstance(answer, dict) and "fault" in answer
             due = answer["fault"].split(" ", 1)[1].encode() + b"\n" if is_fault else bytes_of(answer, named)
-            holds = first == due
-        if holds and (status, again, said) == (0, first, b"") and printed.startswith(b"first\n"):
+            holds = parts == [b"", due, due]
+        if holds and (status, said) == (0, b""):
             return []
         return ["%s: due: %s; came: status %d, %s, %s" % (call, short(due), status, short(printed), short(said))]
 
@@ -206,18 +208,21 @@ class Rows:
         return failures, len(row["verbs"])
 
     def words(self, row, named, folder):
-        """The same of arguments in place of a verb, also where standard error is full."""
+        """The same of arguments in place of a verb, also where standard error is full after some bytes."""
         os.mkdir(folder)
         for name in named:
             self.write(os.path.join(folder, name), bytes_of(named[name], named))
         words = [os.path.join(folder, word[1:]) if word.startswith("@") else word for word in row["words"].split()]
-        printed = bytes_of(row.get("stdout", ""), named)
-        failures = self.compare(words, (row["status"], printed, True, row.get("stderr", "").encode()))
-        with open("/dev/full", "wb") as full:
-            status, found, _ = self.run(words, full)
-        if (status, found) != (row["status"], printed):
-            failures.append("standard error is full: status %d, %s" % (status, short(found)))
-        return failures, 2
+        printed, said = bytes_of(row.get("stdout", ""), named), row.get("stderr", "").encode()
+        failures = self.compare(words, (row["status"], printed, True, said))
+        for room in (0, 7):
+            with open(os.path.join(folder, "errors"), "w+b") as errors:
+                status, found, _ = self.run(["-S", "-c", LIMITED, str(room), self.program, *words], errors, sys.executable)
+                errors.seek(0)
+                front = errors.read()
+            if (status, found, front) != (row["status"], printed, said[:room]):
+                failures.append("room for %d bytes: status %d, %s, %s" % (room, status, short(found), short(front)))
+        return failures, 3
 
     def row(self, number, row, named):
         """The same of one row, whose files have its number."""
