@@ -1,2 +1,3 @@
 -- What the public contracts cite.
 pub mod Explained
+pub mod CallStatus

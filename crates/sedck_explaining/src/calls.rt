@@ -1,7 +1,8 @@
 //! A call of sed, explained by its words.
 
-ghost use Rattle.std.specs.Prelude.{◌≡◌, ◌≤◌, map, IfOk};
+ghost use Rattle.std.specs.Prelude.{◌≡◌, ◌≢◌, ◌≤◌, map, IfOk, OnOk};
 ghost use Rattle.sedck_called.specs.Called.{IsAcceptedCall};
+ghost use Rattle.sedck_explaining.specs.CallStatus.{HasCallStatus};
 
 use crate::format::Style;
 use crate::part_names::part_names;
@@ -28,6 +29,7 @@ pub fn explain_words<O: Opener, R: Input, W: Sink>(
     out: &mut W,
 ) -> Result<u8, Unexplained>
     ensures few { IfOk result (λ status. status ≤ 2) }
+    ensures status { IfOk result (HasCallStatus (O.known files.now) denied (map (λ word. word.now) words.now)) }
     ensures yes { IfOk result (λ status. status ≡ 0 → IsAcceptedCall (O.known files.now) denied (map (λ word. word.now) words.now)) }
 {
     let call = match call_of(alloc, words) {
@@ -52,8 +54,12 @@ fn refuse<W: Sink>(
     fault: CallFault,
     out: &mut W,
 ) -> Result<u8, Unexplained>
-    ensures { IfOk result (λ status. status ≡ 2) }
+    ensures status { IfOk result (λ status. status ≡ 2) }
+    ensures refused { OnOk result (fault ≢ CallFault.OutOfMemory) }
 {
+    if matches!(fault, CallFault::OutOfMemory) {
+        return Err(Unexplained::OutOfMemory);
+    }
     let explanation = not_judged(alloc, &[], refusal_of(alloc, words, fault)?);
     report(
         out,
