@@ -366,7 +366,7 @@ script.Locations
 script.Faults bre.Faults cert.Faults
 script.FaultWords bre.FaultWords cert.FaultText cli.Lines
 cli.Reports cli.Engines cli.Statuses cli.Causes cli.Faults cert.Streams cli.Inputs cli.Opened
-findings.Answers findings.Denial findings.Explanations findings.Errors errors.Errors explaining.Explained explain_cli.Statuses explain_cli.Lines explaining.CallStatus report.Positions report.Shown report.Codes report.Levels report.Files report.Reported warnings.Added escapes.Html escapes.Ascii
+findings.Answers findings.Denial findings.Explanations findings.Errors errors.Errors explaining.Explained explain_cli.Statuses explain_cli.Lines explaining.CallStatus request.Readings request.Requests explain_cli.Answers report.Positions report.Shown report.Codes report.Levels report.Files report.Reported warnings.Added escapes.Html escapes.Ascii
 called.Called judging.Judged judging.Placed scan.Scanned traced.Traced traced.Texts calls.Words calls.Options calls.Calls calls.Origins calls.Scripts
 words.Names
 bre.Lengths script.Shortest script.Invariant

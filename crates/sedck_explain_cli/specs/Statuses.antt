@@ -1,12 +1,12 @@
 -- The exit status of several scripts, by what is known of their files, this project's own.
-use Rattle.std.specs.Prelude.{◌≡◌, ℕ, List, [], ◌∷◌, map, Option, Some, None, codes, max, if◌then◌else◌}
+use Rattle.std.specs.Prelude.{◌≡◌, ℕ, List, [], ◌∷◌, Option, Some, None, codes, max, if◌then◌else◌}
 use Rattle.std.specs.Str.{bytes_eq}
-use Rattle.std.specs.Option.{option_map}
 use Rattle.sedck_cli.specs.Inputs.{IsRead}
 use Rattle.sedck_cli.specs.Opened.{Known}
 use Rattle.sedck_errors.specs.declared.denied.Denied.{Denied}
 use Rattle.sedck_findings.specs.Explanations.{IsExplanation}
 use Rattle.sedck_findings.specs.declared.explanation.Explanation.{Explanation}
+use Rattle.sedck_request.specs.Requests.{certificate_of}
 use Rattle.sedck_request.specs.declared.request.Request.{Request}
 
 -- the bytes that the script at the path has, where they are known: `-` is standard input, of which nothing is
@@ -27,14 +27,6 @@ pub record HasStatus (k : Known) (denied : Denied) (certificate : Option (List �
   pub explanation : Explanation
   pub is_explanation : IsExplanation text given denied explanation
   pub is_status : status ≡ explanation.status
-
--- the path of the request's certificate, if it has one
-abbrev pub certificate_of : Request → Option (List ℕ)
-certificate_of request = option_map (λ path. path.now) request.certificate
-
--- the paths of its scripts, in their order
-abbrev pub scripts_of : Request → List (List ℕ)
-scripts_of request = map (λ path. path.now) request.scripts.items
 
 -- the status of the script at the path
 abbrev pub StatusAt : Known → Request → List ℕ → ℕ → Type 0

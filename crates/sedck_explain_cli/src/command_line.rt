@@ -1,11 +1,15 @@
 //! The program `sedck-explain` for its arguments.
 
-ghost use Rattle.std.specs.Prelude.{◌≡◌, ◌≢◌, ◌⊎◌, ◌<◌, ◌≤◌, ◌++◌, false, codes, map, IfOk, OnOk};
+ghost use Rattle.std.specs.Prelude.{◌≡◌, ◌≢◌, ◌⊎◌, ◌<◌, ◌≤◌, ◌++◌, true, false, codes, map, IfOk, OnOk};
 ghost use Rattle.std.specs.Io.KnownBytes.{Keeps, Appends};
 ghost use Rattle.sedck_cert.specs.Streams.{ReportsFailure};
 ghost use Rattle.sedck_called.specs.Called.{IsAcceptedCall};
+ghost use Rattle.sedck_cli.specs.Opened.{unknown};
+ghost use Rattle.sedck_explaining.specs.CallStatus.{HasCallStatus};
 ghost use Rattle.sedck_explain_cli.specs.Lines.{error_line};
-ghost use Rattle.sedck_explain_cli.specs.Statuses.{certificate_of, scripts_of, HasStatus, StatusAt, IsGreatest};
+ghost use Rattle.sedck_request.specs.Requests.{certificate_of, scripts_of};
+ghost use Rattle.sedck_explain_cli.specs.Statuses.{HasStatus, StatusAt, IsGreatest};
+ghost use Rattle.sedck_explain_cli.specs.Answers.{call_of, asks_for_help, is_help as is_help_text, IsStatusOfCall, HasStatusFor, IsAnswered};
 
 use crate::scanning::explain_files;
 use crate::unread::{unread_of, unread_part};
@@ -30,6 +34,8 @@ const NAME: &[u8] = b"sedck-explain: ";
 /// runs out, 5 where something of a call in a file isn't known before a run.
 ///
 /// A script that can't be read is reported, and the next one follows. After a failed write, or where memory runs out, none does.
+///
+/// It is `program_over` the files of the system, of which nothing is known: the statuses are those of some bytes.
 pub fn program<R: Files + Input + AllocGlobal + Clone + Drop, W: Sink, E: Sink>(
     rt: &R,
     words: &Words,
@@ -38,22 +44,58 @@ pub fn program<R: Files + Input + AllocGlobal + Clone + Drop, W: Sink, E: Sink>(
     err: &mut E,
 ) -> u8
     ensures within { result ≤ 5 }
+    ensures answered { result < 3 → IsAnswered unknown words.now result }
+    ensures refused { result ≡ 3 → Keeps (W.taken out.old) (W.taken out.new) }
+    ensures silent { result < 3 → Keeps (E.taken err.old) (E.taken err.new) }
+{
+    program_over(rt, &FromFiles::new(rt), words, colour, out, err)
+}
+
+/// The whole program over scripts, certificates and parts of scripts that an opener opens; files with calls of sed are the system's.
+pub fn program_over<R: Files + Input + AllocGlobal + Clone + Drop, O: Opener, W: Sink, E: Sink>(
+    rt: &R,
+    files: &O,
+    words: &Words,
+    colour: bool,
+    out: &mut W,
+    err: &mut E,
+) -> u8
+    ensures within { result ≤ 5 }
+    // The status of what the words ask for, of the bytes of the files at the paths that they name.
+    ensures answered { result < 3 → IsAnswered (O.known files.now) words.now result }
     // Invalid arguments write nothing to the output.
     ensures refused { result ≡ 3 → Keeps (W.taken out.old) (W.taken out.new) }
     ensures silent { result < 3 → Keeps (E.taken err.old) (E.taken err.new) }
 {
-    let request = match request_of(rt.alloc(), &words.own) {
-        Ok(request) => request,
-        Err(error) => return refuse_words(rt.alloc(), error, out, err),
-    };
+    match request_of(rt.alloc(), &words.own) {
+        Ok(request) => answer(rt, files, &request, words, colour, out, err),
+        Err(error) => refuse_words(rt.alloc(), &words.own, error, out, err),
+    }
+}
+
+/// Explains what is asked for, and answers the exit status.
+fn answer<R: Files + Input + AllocGlobal + Clone + Drop, O: Opener, W: Sink, E: Sink>(
+    rt: &R,
+    files: &O,
+    request: &Request,
+    words: &Words,
+    colour: bool,
+    out: &mut W,
+    err: &mut E,
+) -> u8
+    ensures within { result ≤ 5 }
+    ensures status { result < 3 → HasStatusFor (O.known files.now) request.now (call_of words.now) result }
+    ensures refused { result ≡ 3 → Keeps (W.taken out.old) (W.taken out.new) }
+    ensures silent { result < 3 → Keeps (E.taken err.old) (E.taken err.new) }
+{
     if request.calls {
-        return explain_files(rt, &request, colour, out, err);
+        return explain_files(rt, request, colour, out, err);
     }
     if request.kind.is_some() || !request.assumed.is_empty() {
         return end(err, b"--as and --assume are for --calls\n", 3);
     }
     if request.sed {
-        return explain_given(rt, &request, words, colour, out, err);
+        return explain_given(rt, files, request, words, colour, out, err);
     }
     if request.scripts.len() > 1 {
         if request.certificate.is_some() {
@@ -63,20 +105,13 @@ pub fn program<R: Files + Input + AllocGlobal + Clone + Drop, W: Sink, E: Sink>(
             return end(err, b"this format is for one script\n", 3);
         }
     }
-    explain_all(
-        rt.alloc(),
-        &FromFiles::new(rt),
-        rt,
-        &request,
-        colour,
-        out,
-        err,
-    )
+    explain_all(rt.alloc(), files, rt, request, colour, out, err)
 }
 
 /// Explains the call of sed that is given, if one is.
-fn explain_given<R: Files + Input + AllocGlobal, W: Sink, E: Sink>(
+fn explain_given<R: Files + Input + AllocGlobal, O: Opener, W: Sink, E: Sink>(
     rt: &R,
+    files: &O,
     request: &Request,
     words: &Words,
     colour: bool,
@@ -84,6 +119,7 @@ fn explain_given<R: Files + Input + AllocGlobal, W: Sink, E: Sink>(
     err: &mut E,
 ) -> u8
     ensures within { result ≤ 4 }
+    ensures status { result < 3 → IsStatusOfCall (O.known files.now) request.now.denied (call_of words.now) result }
     ensures refused { result ≡ 3 → Keeps (W.taken out.old) (W.taken out.new) }
     ensures silent { result < 3 → Keeps (E.taken err.old) (E.taken err.new) }
 {
@@ -98,7 +134,7 @@ fn explain_given<R: Files + Input + AllocGlobal, W: Sink, E: Sink>(
     };
     explain_call(
         rt.alloc(),
-        &FromFiles::new(rt),
+        files,
         rt,
         &request.style(colour),
         request.denied,
@@ -122,6 +158,7 @@ pub fn explain_call<O: Opener, R: Input, W: Sink, E: Sink>(
 ) -> u8
     ensures within { result ≤ 4 }
     ensures known { result ≢ 3 }
+    ensures status { result < 3 → HasCallStatus (O.known files.now) denied (map (λ word. word.items) call.now) result }
     ensures yes { result ≡ 0 → IsAcceptedCall (O.known files.now) denied (map (λ word. word.items) call.now) }
     ensures silent { result < 3 → Keeps (E.taken err.old) (E.taken err.new) }
 {
@@ -391,21 +428,51 @@ fn write_refusal<E: Sink>(err: &mut E, words: &[u8]) -> Result<(), Failed>
 
 /// Writes what `clap` says of the words: the help or the version to the output, a refusal to standard error. Answers the exit
 /// status.
-fn refuse_words<W: Sink, E: Sink>(alloc: Global, error: Error, out: &mut W, err: &mut E) -> u8
+fn refuse_words<W: Sink, E: Sink>(
+    alloc: Global,
+    words: &[String],
+    error: Error,
+    out: &mut W,
+    err: &mut E,
+) -> u8
     ensures within { result ≤ 4 }
+    ensures help { result < 3 → (result ≡ 0) × (asks_for_help words.now ≡ true) }
     ensures refused { result ≡ 3 → Keeps (W.taken out.old) (W.taken out.new) }
     ensures silent { result < 3 → Keeps (E.taken err.old) (E.taken err.new) }
 {
-    let Ok(words) = words_of(alloc, &error) else {
+    let Ok(text) = words_of(alloc, &error) else {
         return out_of_memory(err);
     };
-    if !error.use_stderr() {
-        return match write_all(out, words.as_bytes()) {
+    // `clap` says more than why it refuses only where it is asked to.
+    if !error.use_stderr() && contains_help(words) {
+        return match write_all(out, text.as_bytes()) {
             Ok(()) => 0,
             Err(_) => unwritten(err),
         };
     }
-    end(err, words.as_bytes(), 3)
+    end(err, text.as_bytes(), 3)
+}
+
+/// Whether a word asks for the help or the version.
+fn contains_help(words: &[String]) -> bool
+    ensures { result ≡ asks_for_help words.now }
+{
+    for word in words {
+        if is_help(word) {
+            return true;
+        }
+    }
+    false
+}
+
+/// Whether the word asks for the help or the version.
+fn is_help(word: &str) -> bool
+    ensures { result ≡ is_help_text word.now }
+{
+    match word.as_bytes() {
+        [b'-', b'h' | b'V', ..] => true,
+        _ => word == "--help" || word == "--version",
+    }
 }
 
 /// The text of an error of `clap`.

@@ -8,7 +8,7 @@ mod command_line;
 mod scanning;
 mod unread;
 
-pub use command_line::{explain_all, explain_call, flushed, out_of_memory, program};
+pub use command_line::{explain_all, explain_call, flushed, out_of_memory, program, program_over};
 pub use sedck_explaining::{Format, Reporter, Style, explain_alone, explain_with, explain_words};
 pub use sedck_findings::{Denied, Level};
 pub use sedck_request::{Request, Words, arguments};

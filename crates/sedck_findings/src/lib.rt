@@ -18,6 +18,6 @@ pub use explaining::{explain, explain_call};
 pub use explanation::Explanation;
 pub use sedck_errors::Denied;
 pub use sedck_report::{
-    Code, Finding, Fix, Level, NamedFile, Position, Step, is_printable, position_at,
-    position_from, shown_line, shown_name,
+    Code, Finding, Fix, Level, NamedFile, Position, Step, is_printable, position_at, position_from,
+    shown_line, shown_name,
 };

@@ -10,7 +10,5 @@ mod shown;
 
 pub use code::Code;
 pub use finding::{Finding, Fix, Level, NamedFile, Step};
-pub use places::{
-    Position, end_behind, line_len, position_at, position_from, positions, skipped,
-};
+pub use places::{Position, end_behind, line_len, position_at, position_from, positions, skipped};
 pub use shown::{is_printable, shown_line, shown_name};

@@ -1,6 +1,7 @@
 //! The arguments of `sedck-explain`, and what they ask for.
 #![tactic(auto)]
 
+mod reading;
 mod request;
 mod words;
 

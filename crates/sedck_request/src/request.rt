@@ -1,5 +1,10 @@
 //! What the arguments ask for.
 
+ghost use Rattle.std.specs.Prelude.{◌≡◌, map, IfOk, option_map};
+ghost use Rattle.sedck_request.specs.Readings.{texts_of};
+ghost use Rattle.sedck_request.specs.Requests.{IsRequest, denied_by, paths_of};
+
+use crate::reading::{Reading, names, read_words};
 use clap::{Arg, ArgAction, ArgMatches, Command, Error};
 use sedck_explaining::{Format, NAMES, Style};
 use sedck_findings::{Denied, Level};
@@ -44,21 +49,32 @@ impl Request<'_> {
     }
 }
 
-/// What the arguments ask for, or why nothing, in words of `clap`.
-pub fn request_of<'a>(alloc: Global, words: &'a [String]) -> Result<Request<'a>, Error> {
+/// What the arguments ask for, or why nothing, in words of `clap`, which reads all of them. What the exit status depends on is
+/// read once more, so that no theorem on it rests on `clap`.
+pub fn request_of<'a>(alloc: Global, words: &'a [String]) -> Result<Request<'a>, Error>
+    ensures { IfOk result (IsRequest (texts_of words.now)) }
+{
     let matches = command(alloc)?.try_get_matches_from(words)?;
+    let Reading {
+        certificate,
+        denied,
+        sed,
+        calls,
+        paths,
+        ..
+    } = read_words(alloc, words)?;
     let format = format_of(&matches);
     Ok(Request {
         format,
         least: level_of(&matches, format),
-        denied: denied_of(&matches),
-        certificate: matches.get_str("cert"),
+        denied: denied_of(denied),
+        certificate,
         stdin_name: matches.get_str("stdin-filename").unwrap_or("-"),
-        sed: matches.get_flag("sed"),
-        calls: matches.get_flag("calls"),
+        sed,
+        calls,
         kind: kind_of(&matches),
         assumed: assumed_of(alloc, &matches)?,
-        scripts: scripts_of(alloc, &matches)?,
+        scripts: scripts_of(paths, sed || calls)?,
     })
 }
 
@@ -80,15 +96,12 @@ fn level_of(matches: &ArgMatches, format: Format) -> Level {
     }
 }
 
-/// The scripts' paths, or that of standard input.
-fn scripts_of<'a>(alloc: Global, matches: &ArgMatches<'a>) -> Result<Vec<&'a str>, AllocError> {
-    let mut scripts = Vec::new(alloc);
-    if let Some(paths) = matches.get_strs("script") {
-        for path in paths {
-            scripts.push(*path)?;
-        }
-    }
-    if scripts.is_empty() && !matches.get_flag("sed") && !matches.get_flag("calls") {
+/// The scripts' paths, or that of standard input, unless there may be none.
+fn scripts_of<'a>(paths: Vec<&'a str>, may_be_none: bool) -> Result<Vec<&'a str>, AllocError>
+    ensures { IfOk result (λ scripts. map (λ path. path.now) scripts.items ≡ paths_of may_be_none (map (λ path. path.now) paths.entry.items)) }
+{
+    let mut scripts = paths;
+    if scripts.is_empty() && !may_be_none {
         scripts.push("-")?;
     }
     Ok(scripts)
@@ -114,27 +127,19 @@ fn assumed_of<'a>(alloc: Global, matches: &ArgMatches<'a>) -> Result<Vec<Assumed
     Ok(assumed)
 }
 
-/// What is denied.
-fn denied_of(matches: &ArgMatches) -> Denied {
-    match matches.get_strs("deny") {
-        Some(words) => Denied {
-            reads: has(words, "reads"),
-            writes: has(words, "writes"),
-            warnings: has(words, "warnings"),
-            unbounded: has(words, "unbounded"),
+/// What is denied, by these names.
+fn denied_of(given: Option<&str>) -> Denied
+    ensures { result ≡ denied_by (option_map (λ list. list.now) given.entry) }
+{
+    match given {
+        Some(list) => Denied {
+            reads: names(list.as_bytes(), b"reads"),
+            writes: names(list.as_bytes(), b"writes"),
+            warnings: names(list.as_bytes(), b"warnings"),
+            unbounded: names(list.as_bytes(), b"unbounded"),
         },
         None => Denied::NOTHING,
     }
-}
-
-/// Whether the word is among the words.
-fn has(words: &[&str], word: &str) -> bool {
-    for other in words {
-        if *other == word {
-            return true;
-        }
-    }
-    false
 }
 
 /// The kinds of files, by name.

@@ -1,5 +1,6 @@
 use Rattle.std.proofs.Common.{◌∙◌, sym}
-use Rattle.sedck_explain_cli.specs.Statuses.{certificate_of, script_bytes}
+use Rattle.sedck_request.specs.Requests.{certificate_of}
+use Rattle.sedck_explain_cli.specs.Statuses.{script_bytes}
 use Rattle.sedck_explain_cli.proofs.Greatest.{known_status, input_bytes, file_bytes}
 use Rattle.sedck_explain_cli.proofs.command_line.explain_path.Goals as goal
 

@@ -1,0 +1,58 @@
+-- The exit status of the program, by its arguments and by what is known of the files that they name, this project's own.
+use Rattle.std.specs.Prelude.{◌≡◌, ◌⊎◌, ◌==◌, ◌&&◌, ◌||◌, ℕ, Bool, true, false, MatchBool, List, ◌∷◌, map, Option, Some, None, codes, String, string_bytes}
+use Rattle.std.specs.List.{list_any}
+use Rattle.std.specs.Option.{option_map}
+use Rattle.std.specs.Str.{bytes_eq}
+use Rattle.std.specs.declared.alloc.Global.{Global}
+use Rattle.sedck_cli.specs.Opened.{Known}
+use Rattle.sedck_errors.specs.declared.denied.Denied.{Denied}
+use Rattle.sedck_explaining.specs.CallStatus.{HasCallStatus}
+use Rattle.sedck_request.specs.Readings.{texts_of}
+use Rattle.sedck_request.specs.Requests.{scripts_of, IsRequest}
+use Rattle.sedck_request.specs.declared.request.Request.{Request}
+use Rattle.sedck_request.specs.declared.words.Words.{Words}
+use Rattle.sedck_explain_cli.specs.Statuses.{IsGreatest, StatusAt}
+
+-- ---- The words
+
+-- those of the program itself
+abbrev pub own_of : Words → List (List ℕ)
+own_of words = texts_of words.own.items
+
+-- those of a call of sed, if they are given
+abbrev pub call_of : Words → Option (List (List ℕ))
+call_of words = option_map (λ call. map (λ word. word.items) call.items) words.call
+
+-- `-h` or `-V`, whatever follows
+abbrev pub is_short_help : List ℕ → Bool
+is_short_help (b ∷ c ∷ rest) = (b == 45) && ((c == 104) || (c == 86))
+is_short_help _ = false
+
+-- the word asks for the help or the version
+abbrev pub is_help : List ℕ → Bool
+is_help word = is_short_help word || (bytes_eq word (codes "--help") || bytes_eq word (codes "--version"))
+
+abbrev pub is_help_word : String Global → Bool
+is_help_word word = is_help (string_bytes word)
+
+abbrev pub asks_for_help : List (String Global) → Bool
+asks_for_help words = list_any is_help_word words
+
+-- ---- The status
+
+-- the words of a call are given, and it has this status
+abbrev pub IsStatusOfCall : Known → Denied → Option (List (List ℕ)) → ℕ → Type 0
+IsStatusOfCall k denied None status = ⊥
+IsStatusOfCall k denied (Some words) status = HasCallStatus k denied words status
+
+-- the status of what is asked for: of the call with these words, or of scripts. Of calls of sed in files nothing is said here.
+abbrev pub HasStatusFor : Known → Request → Option (List (List ℕ)) → ℕ → Type 0
+HasStatusFor k request call status =
+    MatchBool request.calls (Unit {0})
+    (MatchBool request.sed (IsStatusOfCall k request.denied call status) (IsGreatest (StatusAt k request) (scripts_of request) status))
+
+-- the words are a request, and this is its status; or a word asks for the help or the version, and it is 0
+abbrev pub IsAnswered : Known → Words → ℕ → Type 0
+IsAnswered k words status =
+    ((request : Request) × IsRequest (own_of words) request × HasStatusFor k request (call_of words) status)
+    ⊎ ((status ≡ 0) × (asks_for_help words.own.items ≡ true))

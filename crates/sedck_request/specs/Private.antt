@@ -1,0 +1,2 @@
+-- What contracts inside the crate and proofs cite.
+pub mod Readings
