@@ -43,8 +43,9 @@ def jobs():
 class Seen:
     """What was seen of one process: its words, the folder in which it works, and the processor seconds that it took."""
 
-    def __init__(self, parent, started, words, folder, seconds):
-        self.parent, self.started, self.words, self.folder, self.seconds = parent, started, words, folder, seconds
+    def __init__(self, number, parent, started, words, folder, seconds):
+        self.number, self.parent, self.started = number, parent, started
+        self.words, self.folder, self.seconds = words, folder, seconds
 
 
 class Watch(threading.Thread):
@@ -71,16 +72,17 @@ class Watch(threading.Thread):
             except (OSError, ValueError, IndexError):
                 continue
             if known is None:
-                self.seen[int(entry), started] = Seen(parent, started, words, folder, seconds)
+                self.seen[int(entry), started] = Seen(int(entry), parent, started, words, folder, seconds)
             elif seconds >= known.seconds:
-                known.words, known.folder, known.seconds = words, folder, seconds
+                # A process that ends has no words any more, while its memory is given back.
+                known.words, known.folder, known.seconds = words if any(words) else known.words, folder, seconds
 
     def below(self):
         """The processes below the top one, in the order in which they were started."""
-        found, order = {self.top}, sorted(self.seen.items(), key=lambda item: item[1].started)
-        for (number, _), seen in order:
+        found = {self.top}
+        for seen in sorted(self.seen.values(), key=lambda seen: seen.started):
             if seen.parent in found:
-                found.add(number)
+                found.add(seen.number)
                 yield seen
 
 
@@ -88,28 +90,29 @@ class Costs:
     """Processor seconds by crate: of its proof with tests and builds, of the proof once more, and of each wrong body."""
 
     def __init__(self, processes, top=TOP):
-        self.proofs, self.firsts, self.others, self.tried, self.rest = {}, {}, {}, {}, 0.0
-        began = set()
+        self.proofs, self.firsts, self.others, self.rest = {}, {}, {}, 0.0
+        # Each check of an edit has a folder of its own: its first process, and the seconds of all.
+        checks = {}
         for seen in processes:
-            name = self.crate_of(seen, top)
-            if name is None:
-                self.rest += seen.seconds
-            elif "rt-edit-" not in seen.folder:
-                self.proofs[name] = self.proofs.get(name, 0.0) + seen.seconds
-            elif "--incremental" in seen.words and name not in began:
-                began.add(name)
-                self.firsts[name] = seen.seconds
+            inside = Path(seen.folder).parts[len(Path(top).parts):] if seen.folder.startswith(str(top) + "/crates/") else ()
+            if "rt-edit-" in seen.folder:
+                checks.setdefault(seen.folder.split()[0], [seen, 0.0])[1] += seen.seconds
+            elif len(inside) > 1:
+                self.proofs[inside[1]] = self.proofs.get(inside[1], 0.0) + seen.seconds
             else:
-                self.others.setdefault(name, []).append(seen.seconds)
+                self.rest += seen.seconds
+        for first, seconds in checks.values():
+            self.add_edit(first, seconds)
 
-    @staticmethod
-    def crate_of(seen, top):
-        """The crate for which a process works: that of its folder, or the one that its words name."""
-        if "rt-edit-" in seen.folder:
-            named = seen.words[seen.words.index("--crate-name") + 1:] if "--crate-name" in seen.words else []
-            return named[0] if named else None
-        inside = Path(seen.folder).parts[len(Path(top).parts):] if seen.folder.startswith(str(top) + "/crates/") else ()
-        return inside[1] if len(inside) > 1 else None
+    def add_edit(self, first, seconds):
+        """Adds one check of an edit. The first one of a crate with several proves the crate once more."""
+        name = first.words[first.words.index("--crate-name") + 1] if "--crate-name" in first.words[:-1] else None
+        if name is None:
+            self.rest += seconds
+        elif "--incremental" in first.words and name not in self.firsts:
+            self.firsts[name] = seconds
+        else:
+            self.others.setdefault(name, []).append(seconds)
 
     def row(self, name, bodies):
         """A crate's seconds: the proof, the proof once more with which its wrong bodies begin, and these."""
