@@ -82,7 +82,7 @@ def headings():
 
 def check_headings(tools):
     """Each page that a code has, whether it is printed here or not; how `Code` and the table fit is for the compiler."""
-    with open(os.path.join(TOP, "crates", "sedck_words", "src", "pages.rt")) as file:
+    with open(os.path.join(TOP, "crates", "sedck_formats", "src", "pages.rt")) as file:
         pages = re.findall(r'"(\w+\.md#[^"]*)"', file.read())
     tools.holds("pages", len(pages) > 30)
     for page in pages:

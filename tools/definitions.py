@@ -365,10 +365,10 @@ search.Found search.Obstacle search.Rows search.NodeSet search.VersionOne
 script.Locations
 script.Faults bre.Faults cert.Faults
 script.FaultWords bre.FaultWords cert.FaultText cli.Lines
-cli.Reports cli.Engines cli.Statuses cli.Causes cli.Faults cert.Streams cli.Inputs cli.Opened
-findings.Answers findings.Denial findings.Explanations findings.Errors errors.Errors explaining.Explained explain_cli.Statuses explain_cli.Lines explaining.CallStatus request.Readings request.Requests explain_cli.Answers report.Positions report.Shown report.Codes report.Levels report.Files report.Reported warnings.Added escapes.Html escapes.Ascii
-called.Called judging.Judged judging.Placed scan.Scanned traced.Traced traced.Texts calls.Words calls.Options calls.Calls calls.Origins calls.Scripts
-words.Names
+engines.Reports engines.Engines cli.Statuses cli.Causes engines.Faults cert.Streams engines.Inputs engines.Opened
+explanation.Answers explanation.Denial explanation.Explanations explanation.Errors errors.Errors explain_cli.Explained explain_cli.Statuses explain_cli.Lines explain_cli.CallStatus explain_cli.Readings explain_cli.Requests explain_cli.Answers report.Positions report.Shown report.Codes report.Levels report.Files report.Reported advice.Added report.Html report.Ascii
+explanation.Called calls_in_files.Judged calls_in_files.Placed calls_in_files.Scanned traced.Traced traced.Texts calls.Words calls.Options calls.Calls calls.Origins calls.Scripts
+formats.Names
 bre.Lengths script.Shortest script.Invariant
 bre.View script.View script.ReplacementView cert.View
 bre.Laws bre.Examples script.Laws script.First script.Examples flow.Laws flow.Examples cert.Laws search.Laws
@@ -389,10 +389,9 @@ PARTS = [
         ("Readers and faults", [("sedck_bre", "parse", None), ("sedck_script", "parse", None), ("sedck_cert", "read_cert", None), ("sedck_cert", "read_any", None),
          ("sedck_bre", "ReFault*", None), ("sedck_script", "ScriptFault*", None), ("sedck_cert", "CertFault*", None)]),
         ("Where commands are", [("sedck_script", "locate", ("count", "locations", "order"))]),
-        ("Reports and statuses", [("sedck_cli", "*", None), ("sedck_cert", "write_cert", None)]),
-        ("What is explained", [("sedck_findings", "*", None), ("sedck_report", "*", None), ("sedck_errors", "*", None), ("sedck_warnings", "*", None), ("sedck_explaining", "*", None),
-         ("sedck_explain_cli", "*", None), ("sedck_escapes", "*", None),
-         ("sedck_words", "*", None), ("sedck_judging", "*", None), ("sedck_scan", "*", None)]),
+        ("Reports and statuses", [("sedck_engines", "*", None), ("sedck_cli", "*", None), ("sedck_cert", "write_cert", None)]),
+        ("What is explained", [("sedck_explanation", "*", None), ("sedck_report", "*", None), ("sedck_errors", "*", None), ("sedck_advice", "*", None),
+         ("sedck_explain_cli", "*", None), ("sedck_formats", "*", None), ("sedck_calls_in_files", "*", None)]),
         ("The model, decided", [("sedck_model", "*", None)]),
         ("Certificates of version 1", [("sedck_cert", "read_cert_one", None), ("sedck_cert", "upgrade*", None), ("sedck_cert", "CertOne*", None),
          ("sedck_flow", "edges_were_there", None), ("sedck_flow", "kinds_agree", None), ("sedck_flow", "literal_kinds_stay", None), ("sedck_search", "obstacles_were_there", None)]),

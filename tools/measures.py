@@ -14,7 +14,7 @@ from pathlib import Path
 TOP = Path(__file__).resolve().parent.parent
 PARAMETERS, LINES, FUNCTIONS, READERS, RATIO = 5, 30, 100, 3000, 2.4
 READING = ["sedck_text", "sedck_bre", "sedck_script"]
-PROVED = READING + ["sedck_flow", "sedck_cert", "sedck_search", "sedck_cli", "sedck"]
+PROVED = READING + ["sedck_flow", "sedck_cert", "sedck_search", "sedck_engines", "sedck_cli", "sedck"]
 FUNCTION = re.compile(r"^ *(?:pub(?:\(crate\))? )?fn (\w+)", re.M)
 
 

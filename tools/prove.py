@@ -6,7 +6,7 @@ is proved by `rt lib`, a program by `rt run`; both prove only what has changed.
 
 `rt` keeps the folders of a crate and of all that it needs for itself while it works, so two crates that need the same one would wait for
 each other. So each is proved in a tree of its own below `build`, which shares the files of this one, and what was made comes back from
-there. Crates come in the order of dependence, those with the longest chain of others behind them first. A crate on the chain that all
+there. Crates come in the order of dependence, a program before others that are ready, then those with the longest chain of others behind them. A crate on the chain that all
 wait for gets three processes (what one proves, the others needn't), the others one each, as many as there are processors and 4 GB of
 memory for each. What `rt` prints is shown where it fails; then no other crate is begun, and the status is 1.
 """
@@ -174,8 +174,9 @@ class Proving:
         return min(idle, CHAIN_PROCESSES) if self.chains[name] * self.lanes > left and self.waiting[0] == name else 1
 
     def begin(self, pool):
-        """Begins each crate that is ready and for which there is room."""
+        """Begins each crate that is ready and for which there is room: a program at once, since somebody waits for it."""
         ready = [name for name in self.waiting if self.done.issuperset(self.needs[name])]
+        ready.sort(key=lambda name: name not in PROGRAMS)
         for at, name in enumerate(ready):
             idle = self.lanes - sum(processes for _, processes in self.running.values())
             if idle < 1:

@@ -2,21 +2,20 @@
 use Rattle.std.proofs.Common.{◌≡◌, ◌⊎◌, ◌<◌, ℕ, true, List, Option, Some, None, IfSome, Ok, Err, refl, inl, inr, lit<, subst, arith}
 use Rattle.std.specs.Prelude.{IsTrue}
 use Rattle.std.specs.Io.KnownBytes.{Keeps, Appends}
-use Rattle.sedck_cli.specs.declared.answer.Outcome.{Outcome}
-use Rattle.sedck_cli.specs.declared.answer.Outcome.TheVariants.{No}
-use Rattle.sedck_cli.specs.declared.answer.Input.TheVariants as input
-use Rattle.sedck_cli.specs.declared.answer.RunFault.{RunFault}
-use Rattle.sedck_cli.specs.declared.answer.RunFault.TheVariants as fault
+use Rattle.sedck_engines.specs.declared.answer.Outcome.{Outcome}
+use Rattle.sedck_engines.specs.declared.answer.Outcome.TheVariants.{No}
+use Rattle.sedck_engines.specs.declared.answer.Input.TheVariants as input
+use Rattle.sedck_engines.specs.declared.answer.RunFault.{RunFault}
+use Rattle.sedck_engines.specs.declared.answer.RunFault.TheVariants as fault
 use Rattle.sedck_cli.specs.declared.command_line.Refusal.{Refusal}
 use Rattle.sedck_cli.specs.declared.command_line.Refusal.TheVariants.{Usage, Run}
 use Rattle.sedck_script.specs.Program.{Program}
 use Rattle.sedck_script.specs.Spelling.{Spells}
-use Rattle.sedck_cli.specs.Opened.{Known}
-use Rattle.sedck_cli.specs.Engines.{ChecksTo, ListsFilesTo, ListsGraphTo, RanksTo, UpgradesTo, EngineAnswers, Reading, Writing, OfBytes, OfInput, IsScript, IsRefusedScript, IsRefusedCertificate}
+use Rattle.sedck_engines.specs.Opened.{Known}
+use Rattle.sedck_engines.specs.Engines.{ReportsScriptTo, ChecksTo, ListsFilesTo, ListsGraphTo, RanksTo, UpgradesTo, EngineAnswers, Reading, Writing, OfBytes, OfInput, IsScript, IsRefusedScript, IsRefusedCertificate}
 use Rattle.sedck_cli.specs.Causes.{OfPath, IsOpened, AreOpened, IsUnread, IsCause}
-use Rattle.sedck_cli.specs.Private.Engines.{ReportsScriptTo}
-use Rattle.sedck_cli.specs.declared.engines.ScriptReport.{ScriptReport}
-use Rattle.sedck_cli.specs.declared.engines.ScriptReport.TheVariants.{Files, Graph, Rank}
+use Rattle.sedck_engines.specs.declared.engines.ScriptReport.{ScriptReport}
+use Rattle.sedck_engines.specs.declared.engines.ScriptReport.TheVariants.{Files, Graph, Rank}
 use Rattle.sedck_cli.specs.Statuses.{status_of, Asked, Check, Files as the_files, Graph as the_graph, Rank as the_rank, Upgrade, Nothing, script_of, certificate_of, MayBeNo, IsReportFor, Reports, BreaksOff}
 use Rattle.sedck_cli.specs.Private.Requests.{report_asked, IsReadingAt, Leaves}
 

@@ -7,13 +7,13 @@ use Rattle.sedck_cert.specs.Ranked.{Accepts}
 use Rattle.sedck_cert.specs.Headline.{SpellBoth, IsSafe}
 use Rattle.sedck_cert.specs.declared.checking.Verdict.TheVariants.{Accepted, Rejected}
 use Rattle.sedck_cert.proofs.Promise.{safe, not_accepted}
-use Rattle.sedck_cli.specs.declared.answer.Outcome.TheVariants.{Yes, No}
-use Rattle.sedck_cli.specs.declared.answer.Input.TheVariants as input
-use Rattle.sedck_cli.specs.declared.answer.RunFault.TheVariants as fault
+use Rattle.sedck_engines.specs.declared.answer.Outcome.TheVariants.{Yes, No}
+use Rattle.sedck_engines.specs.declared.answer.Input.TheVariants as input
+use Rattle.sedck_engines.specs.declared.answer.RunFault.TheVariants as fault
 use Rattle.sedck_cli.specs.declared.command_line.Refusal.{Refusal}
 use Rattle.sedck_cli.specs.declared.command_line.Refusal.TheVariants.{Usage, Run}
-use Rattle.sedck_cli.specs.Opened.{Known}
-use Rattle.sedck_cli.specs.Engines.{ChecksTo}
+use Rattle.sedck_engines.specs.Opened.{Known}
+use Rattle.sedck_engines.specs.Engines.{ChecksTo}
 use Rattle.sedck_cli.specs.Statuses.{status_of, Asked, Check, Nothing, asked, has_option, IsReportFor}
 use Rattle.sedck_cli.specs.Private.Requests.{two_files}
 use Rattle.sedck_cli.specs.Causes.{IsUnread, IsCause}

@@ -2,11 +2,11 @@
 use Rattle.std.specs.Prelude.{ℕ, Bool, true, false, IsTrue, List, Option, Some, None, IfSome, ◌⊎◌}
 use Rattle.sedck_script.specs.Program.{Program}
 use Rattle.sedck_script.specs.Spelling.{Spells}
-use Rattle.sedck_cli.specs.Opened.{Known}
-use Rattle.sedck_cli.specs.Engines.{OfBytes, IsRefusedScript, IsRefusedCertificate}
+use Rattle.sedck_engines.specs.Opened.{Known}
+use Rattle.sedck_engines.specs.Engines.{OfBytes, IsRefusedScript, IsRefusedCertificate}
 use Rattle.sedck_cli.specs.Statuses.{Asked, script_of, certificate_of}
-use Rattle.sedck_cli.specs.declared.answer.Input.TheVariants as input
-use Rattle.sedck_cli.specs.declared.answer.RunFault.TheVariants as fault
+use Rattle.sedck_engines.specs.declared.answer.Input.TheVariants as input
+use Rattle.sedck_engines.specs.declared.answer.RunFault.TheVariants as fault
 use Rattle.sedck_cli.specs.declared.command_line.Refusal.{Refusal}
 use Rattle.sedck_cli.specs.declared.command_line.Refusal.TheVariants.{Usage, Run}
 

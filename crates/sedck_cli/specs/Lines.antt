@@ -4,11 +4,11 @@ use Rattle.std.specs.Io.KnownBytes.{Appends}
 use Rattle.sedck_script.specs.FaultWords.{fault_words}
 use Rattle.sedck_cert.specs.FaultText.{fault_text}
 use Rattle.sedck_cert.specs.Text.{line}
-use Rattle.sedck_cli.specs.declared.answer.RunFault.TheVariants as fault
+use Rattle.sedck_engines.specs.declared.answer.RunFault.TheVariants as fault
 use Rattle.sedck_cli.specs.declared.command_line.Refusal.{Refusal}
 use Rattle.sedck_cli.specs.declared.command_line.Refusal.TheVariants.{Usage, Run}
-use Rattle.sedck_cli.specs.Reports.{input_text}
-use Rattle.sedck_cli.specs.Opened.{Known}
+use Rattle.sedck_engines.specs.Reports.{input_text}
+use Rattle.sedck_engines.specs.Opened.{Known}
 use Rattle.sedck_cli.specs.Statuses.{status_of, Asked}
 use Rattle.sedck_cli.specs.Causes.{IsCause}
 

@@ -1,4 +1,2 @@
-pub mod Engines
-pub mod Reports
 pub mod Requests
 pub mod Places

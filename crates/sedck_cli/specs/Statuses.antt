@@ -5,10 +5,10 @@ use Rattle.std.specs.Str.{bytes_eq}
 use Rattle.std.specs.declared.alloc.Global.{Global}
 use Rattle.std.specs.Io.KnownBytes.{Appends}
 use Rattle.sedck_cert.specs.Streams.{AppendsPrefix}
-use Rattle.sedck_cli.specs.Opened.{Known}
-use Rattle.sedck_cli.specs.Engines.{OfBytes, ChecksTo, ListsFilesTo, ListsGraphTo, RanksTo, UpgradesTo}
-use Rattle.sedck_cli.specs.declared.answer.Outcome.{Outcome}
-use Rattle.sedck_cli.specs.declared.answer.RunFault.TheVariants as fault
+use Rattle.sedck_engines.specs.Opened.{Known}
+use Rattle.sedck_engines.specs.Engines.{OfBytes, ChecksTo, ListsFilesTo, ListsGraphTo, RanksTo, UpgradesTo}
+use Rattle.sedck_engines.specs.declared.answer.Outcome.{Outcome}
+use Rattle.sedck_engines.specs.declared.answer.RunFault.TheVariants as fault
 use Rattle.sedck_cli.specs.declared.command_line.Refusal.{Refusal}
 use Rattle.sedck_cli.specs.declared.command_line.Refusal.TheVariants.{Usage, Run}
 

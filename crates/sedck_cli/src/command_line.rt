@@ -2,21 +2,21 @@
 
 ghost use Rattle.std.specs.Prelude.{◌≡◌, ◌≢◌, ◌⊎◌, ◌<◌, ◌≤◌, true, false, Ok, Err, Some, IsTrue, IfOk, IfErr, IfSome, OnErr};
 ghost use Rattle.std.specs.Io.KnownBytes.{Keeps, Appends};
-ghost use Rattle.sedck_cli.specs.Opened.{unknown};
+ghost use Rattle.sedck_engines.specs.Opened.{unknown};
 ghost use Rattle.sedck_cli.specs.Statuses.{status_of, asked, asked_of_one, Check, Upgrade, Nothing, MayBeNo, Reports, BreaksOff, IsOfWords, begins_with_hyphen, has_option};
 ghost use Rattle.sedck_cli.specs.Causes.{AreOpened, IsCause};
 ghost use Rattle.sedck_cli.specs.Lines.{refusal_line, SaysRefusalFor};
 ghost use Rattle.sedck_cli.specs.Private.Requests.{report_asked, request_asks, asked_by, Leaves};
 ghost use Rattle.sedck_cli.specs.declared.command_line.Refusal.TheVariants.{Run};
-ghost use Rattle.sedck_cli.specs.declared.answer.RunFault.TheVariants as fault;
+ghost use Rattle.sedck_engines.specs.declared.answer.RunFault.TheVariants as fault;
 
-use crate::answer::{Input, Outcome, RunFault};
-use crate::engines::{ScriptReport, run_check, run_script, run_upgrade};
-use crate::opener::{FromFiles, Opener};
 use crate::refusal_line::write_refusal;
 use clap::error::ErrorKind;
 use clap::{Arg, Command};
 use sedck_cert::streams::Sink;
+use sedck_engines::{
+    FromFiles, Input, Opener, Outcome, RunFault, ScriptReport, run_check, run_script, run_upgrade,
+};
 use std::alloc::{AllocError, Global};
 use std::fs::Files;
 use std::io::Write;

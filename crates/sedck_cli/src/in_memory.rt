@@ -3,14 +3,13 @@
 ghost use Rattle.std.specs.Prelude.{◌≡◌, ◌⊎◌, ◌↔◌, [], None, Some, false, is_some, IfOk};
 ghost use Rattle.sedck_cert.specs.Ranked.{Accepts};
 ghost use Rattle.sedck_cert.specs.Headline.{SpellBoth, IsSafe};
-ghost use Rattle.sedck_cli.specs.Engines.{ChecksTo};
+ghost use Rattle.sedck_engines.specs.Engines.{ChecksTo};
 ghost use Rattle.sedck_cli.specs.Lines.{refusal_line};
 ghost use Rattle.sedck_cli.specs.Private.Requests.{two_files};
 
-use crate::answer::{Outcome, RunFault};
 use crate::command_line::{Refusal, program_over};
-use crate::opener::Opener;
 use sedck_cert::streams::{Failed, Sink, Source};
+use sedck_engines::{Opener, Outcome, RunFault};
 use std::alloc::{AllocError, Global};
 
 /// What is left to read of a text in memory. No read fails.

@@ -7,12 +7,12 @@ ghost use Rattle.sedck_cert.specs.FaultText.{fault_text};
 ghost use Rattle.sedck_cert.specs.Streams.{ReportsFailure};
 ghost use Rattle.sedck_cli.specs.Lines.{refusal_words, refusal_line};
 ghost use Rattle.sedck_cli.specs.Private.Places.{place_behind};
-ghost use Rattle.sedck_cli.specs.Reports.{input_text};
+ghost use Rattle.sedck_engines.specs.Reports.{input_text};
 
-use crate::answer::{Input, RunFault};
 use crate::command_line::Refusal;
 use sedck_cert::CertFault;
 use sedck_cert::streams::{Failed, Sink, write_all, write_decimal};
+use sedck_engines::{Input, RunFault};
 use sedck_script::ScriptFault;
 
 /// Writes the refusal's line.

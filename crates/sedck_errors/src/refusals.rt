@@ -10,10 +10,10 @@ ghost use Rattle.sedck_errors.specs.Private.Errors.{is_escaped, is_pair};
 
 use crate::ends::fault_length;
 use crate::faults::script_fault_code;
-use sedck_bre::ReFault;
-use sedck_hints::{
+use sedck_advice::{
     Mend, Spot, has_escaped_text, has_open_class, other_kind, script_hint, script_mend,
 };
+use sedck_bre::ReFault;
 use sedck_report::{Finding, Fix, Level, end_behind, position_at, skipped};
 use sedck_script::ScriptFault;
 use std::alloc::{AllocError, Global};

@@ -1,7 +1,7 @@
 //! The program `sedck-explain`: its arguments, its standard streams and its exit status. All else is in `sedck_explain_cli`.
 #![tactic(auto)]
 
-use sedck_cli::FromWrite;
+use sedck_cert::streams::FromWrite;
 use sedck_explain_cli::{arguments, flushed, out_of_memory, program};
 use std::env;
 use std::env::VarError;

@@ -1,21 +1,14 @@
 -- From what was explained to the statuses of scripts.
-use Rattle.std.proofs.Common.{◌≡◌, ◌∙◌, ◌<◌, ◌+◌, ℕ, suc, max, true, false, codes, List, [], ◌∷◌, ◌++◌, map, take, length, get_or, Option, Some, None, Result, IfOk, IfSome, refl, sym, ap, subst, take-suc, arith}
-use Rattle.std.specs.Str.{bytes_eq}
+use Rattle.std.proofs.Common.{◌≡◌, ◌∙◌, ◌<◌, ◌+◌, ℕ, suc, max, List, [], ◌∷◌, ◌++◌, map, take, length, get_or, Option, Some, None, Result, IfOk, IfSome, refl, sym, ap, subst, take-suc, arith}
 use Rattle.std.proofs.lemmas.List.{length-map, get_or-map}
-use Rattle.sedck_cli.specs.Inputs.{IsRead}
-use Rattle.sedck_cli.specs.Opened.{Known}
-use Rattle.sedck_cli.specs.declared.answer.RunFault.{RunFault}
+use Rattle.sedck_engines.specs.Opened.{Known}
+use Rattle.sedck_engines.specs.declared.answer.RunFault.{RunFault}
 use Rattle.sedck_errors.specs.declared.denied.Denied.{Denied}
-use Rattle.sedck_findings.specs.declared.explanation.Explanation.{Explanation}
-use Rattle.sedck_findings.proofs.Answering.{on_ok}
-use Rattle.sedck_explaining.specs.Explained.{Output, IsExplained, IsExplainedWith}
-use Rattle.sedck_explain_cli.specs.Statuses.{script_bytes, IsGiven, HasStatus, IsGreatest}
-
--- what was read of an open file was read of the bytes that it is known to have
-pub read_known : (limit : ℕ) (known left : Option (List ℕ)) (text : List ℕ) → IfSome known (λ bytes. left ≡ Some bytes)
-    → IsRead limit left text → IsRead limit known text
-read_known limit None left text same is = record { prefix = tt; within = is.within }
-read_known limit (Some bytes) left text same is = subst (λ k. IsRead limit k text) same is
+use Rattle.sedck_explanation.specs.declared.explanation.Explanation.{Explanation}
+use Rattle.sedck_explanation.proofs.Answering.{on_ok}
+use Rattle.sedck_explanation.proofs.KnownBytes.{read_known}
+use Rattle.sedck_explain_cli.specs.Explained.{Output, IsExplained, IsExplainedWith}
+use Rattle.sedck_explain_cli.specs.Statuses.{IsGiven, HasStatus, IsGreatest}
 
 pub known_status : (k : Known) (denied : Denied) (certificate known left : Option (List ℕ)) (r : Result ℕ RunFault)
     → IfSome known (λ bytes. left ≡ Some bytes) → IfOk r (HasStatus k denied certificate left) → IfOk r (HasStatus k denied certificate known)
@@ -87,13 +80,3 @@ greatest_item Has f given items index status one d same below is has =
     let within = subst (λ l. index < length l) same below in
     greatest_next Has (map f items) index status one (subst (λ n. index < n) (sym (length-map items f)) within) is
     (subst (λ path. Has path one) (sym (get_or-map f items index d [] within)) (subst (λ l. Has (f (get_or l index d)) one) same has))
-
--- nothing is known of standard input
-pub input_bytes : (k : Known) (path : List ℕ) (left : Option (List ℕ)) → bytes_eq path (codes "-") ≡ true
-    → IfSome (script_bytes k path) (λ bytes. left ≡ Some bytes)
-input_bytes k path left is = rw is tt
-
--- of a file what is known of its path
-pub file_bytes : (k : Known) (path : List ℕ) (left : Option (List ℕ)) → bytes_eq path (codes "-") ≡ false
-    → IfSome (k.bytes_at path) (λ bytes. left ≡ Some bytes) → IfSome (script_bytes k path) (λ bytes. left ≡ Some bytes)
-file_bytes k path left is same = rw is same

@@ -1,2 +1,5 @@
+mod Writing
+mod CallStatuses
+mod Readings
 mod Greatest
 mod Answered

@@ -4,13 +4,15 @@ use Rattle.std.specs.List.{list_any}
 use Rattle.std.specs.Option.{option_map}
 use Rattle.std.specs.Str.{bytes_eq}
 use Rattle.std.specs.declared.alloc.Global.{Global}
-use Rattle.sedck_cli.specs.Opened.{Known}
+use Rattle.sedck_engines.specs.Opened.{Known}
 use Rattle.sedck_errors.specs.declared.denied.Denied.{Denied}
-use Rattle.sedck_explaining.specs.CallStatus.{HasCallStatus}
-use Rattle.sedck_request.specs.Readings.{texts_of}
-use Rattle.sedck_request.specs.Requests.{scripts_of, IsRequest}
-use Rattle.sedck_request.specs.declared.request.Request.{Request}
-use Rattle.sedck_request.specs.declared.words.Words.{Words}
+use Rattle.sedck_found.specs.declared.found.FoundCall.{FoundCall}
+use Rattle.sedck_calls_in_files.specs.Scanned.{PathStatus, IsWorstOf}
+use Rattle.sedck_explain_cli.specs.CallStatus.{HasCallStatus}
+use Rattle.sedck_explain_cli.specs.Readings.{texts_of}
+use Rattle.sedck_explain_cli.specs.Requests.{scripts_of, IsRequest}
+use Rattle.sedck_explain_cli.specs.declared.request.Request.{Request}
+use Rattle.sedck_explain_cli.specs.declared.words.Words.{Words}
 use Rattle.sedck_explain_cli.specs.Statuses.{IsGreatest, StatusAt}
 
 -- ---- The words
@@ -45,14 +47,14 @@ abbrev pub IsStatusOfCall : Known → Denied → Option (List (List ℕ)) → �
 IsStatusOfCall k denied None status = ⊥
 IsStatusOfCall k denied (Some words) status = HasCallStatus k denied words status
 
--- the status of what is asked for: of the call with these words, or of scripts. Of calls of sed in files nothing is said here.
-abbrev pub HasStatusFor : Known → Request → Option (List (List ℕ)) → ℕ → Type 0
-HasStatusFor k request call status =
-    MatchBool request.calls (Unit {0})
+-- the status of what is asked for: of the calls of sed in files, which are found so; of the call with these words; or of scripts
+abbrev pub HasStatusFor : Known → (List ℕ → List ℕ → Option (List FoundCall)) → Request → Option (List (List ℕ)) → ℕ → Type 0
+HasStatusFor k found request call status =
+    MatchBool request.calls (IsWorstOf (PathStatus k found request.denied) 0 (scripts_of request) status)
     (MatchBool request.sed (IsStatusOfCall k request.denied call status) (IsGreatest (StatusAt k request) (scripts_of request) status))
 
 -- the words are a request, and this is its status; or a word asks for the help or the version, and it is 0
-abbrev pub IsAnswered : Known → Words → ℕ → Type 0
-IsAnswered k words status =
-    ((request : Request) × IsRequest (own_of words) request × HasStatusFor k request (call_of words) status)
+abbrev pub IsAnswered : Known → (List ℕ → List ℕ → Option (List FoundCall)) → Words → ℕ → Type 0
+IsAnswered k found words status =
+    ((request : Request) × IsRequest (own_of words) request × HasStatusFor k found request (call_of words) status)
     ⊎ ((status ≡ 0) × (asks_for_help words.own.items ≡ true))

@@ -1,4 +1,10 @@
 -- What the public contracts cite.
+pub mod Explained
+pub mod CallStatus
+pub mod Readings
+pub mod Requests
+-- What functions inside the crate promise each other.
+pub mod Private
 pub mod Lines
 pub mod Statuses
 pub mod Answers

@@ -1,17 +1,13 @@
 -- The exit status of several scripts, by what is known of their files, this project's own.
-use Rattle.std.specs.Prelude.{◌≡◌, ℕ, List, [], ◌∷◌, Option, Some, None, codes, max, if◌then◌else◌}
-use Rattle.std.specs.Str.{bytes_eq}
-use Rattle.sedck_cli.specs.Inputs.{IsRead}
-use Rattle.sedck_cli.specs.Opened.{Known}
+use Rattle.std.specs.Prelude.{◌≡◌, ℕ, List, [], ◌∷◌, Option, Some, None, max}
+use Rattle.sedck_engines.specs.Inputs.{IsRead}
+use Rattle.sedck_engines.specs.Opened.{Known}
 use Rattle.sedck_errors.specs.declared.denied.Denied.{Denied}
-use Rattle.sedck_findings.specs.Explanations.{IsExplanation}
-use Rattle.sedck_findings.specs.declared.explanation.Explanation.{Explanation}
-use Rattle.sedck_request.specs.Requests.{certificate_of}
-use Rattle.sedck_request.specs.declared.request.Request.{Request}
-
--- the bytes that the script at the path has, where they are known: `-` is standard input, of which nothing is
-abbrev pub script_bytes : Known → List ℕ → Option (List ℕ)
-script_bytes k path = if bytes_eq path (codes "-") then None else k.bytes_at path
+use Rattle.sedck_explanation.specs.Called.{known_bytes}
+use Rattle.sedck_explanation.specs.Explanations.{IsExplanation}
+use Rattle.sedck_explanation.specs.declared.explanation.Explanation.{Explanation}
+use Rattle.sedck_explain_cli.specs.Requests.{certificate_of}
+use Rattle.sedck_explain_cli.specs.declared.request.Request.{Request}
 
 -- what was read of the certificate at the path, where one is given
 abbrev pub IsGiven : Known → Option (List ℕ) → Option (List ℕ) → Type 0
@@ -30,7 +26,7 @@ pub record HasStatus (k : Known) (denied : Denied) (certificate : Option (List �
 
 -- the status of the script at the path
 abbrev pub StatusAt : Known → Request → List ℕ → ℕ → Type 0
-StatusAt k request path = HasStatus k request.denied (certificate_of request) (script_bytes k path)
+StatusAt k request path = HasStatus k request.denied (certificate_of request) (known_bytes k path)
 
 -- the greatest of the statuses of the scripts at these paths, and 0 where there are none
 abbrev pub IsGreatest : (List ℕ → ℕ → Type 0) → List (List ℕ) → ℕ → Type 0

@@ -1,27 +1,30 @@
 //! The program `sedck-explain` for its arguments.
 
-ghost use Rattle.std.specs.Prelude.{◌≡◌, ◌≢◌, ◌⊎◌, ◌<◌, ◌≤◌, ◌++◌, true, false, codes, map, IfOk, OnOk};
+ghost use Rattle.std.specs.Prelude.{◌≡◌, ◌≢◌, ◌⊎◌, ◌<◌, ◌≤◌, ◌++◌, true, false, codes, map, None, IfOk, OnOk};
 ghost use Rattle.std.specs.Io.KnownBytes.{Keeps, Appends};
 ghost use Rattle.sedck_cert.specs.Streams.{ReportsFailure};
-ghost use Rattle.sedck_called.specs.Called.{IsAcceptedCall};
-ghost use Rattle.sedck_cli.specs.Opened.{unknown};
-ghost use Rattle.sedck_explaining.specs.CallStatus.{HasCallStatus};
+ghost use Rattle.sedck_explanation.specs.Called.{IsAcceptedCall};
+ghost use Rattle.sedck_engines.specs.Opened.{unknown};
+ghost use Rattle.sedck_explain_cli.specs.CallStatus.{HasCallStatus};
 ghost use Rattle.sedck_explain_cli.specs.Lines.{error_line};
-ghost use Rattle.sedck_request.specs.Requests.{certificate_of, scripts_of};
+ghost use Rattle.sedck_explain_cli.specs.Requests.{certificate_of, scripts_of};
 ghost use Rattle.sedck_explain_cli.specs.Statuses.{HasStatus, StatusAt, IsGreatest};
 ghost use Rattle.sedck_explain_cli.specs.Answers.{call_of, asks_for_help, is_help as is_help_text, IsStatusOfCall, HasStatusFor, IsAnswered};
 
+use crate::calls::explain_words;
+use crate::explaining::{explain_alone, explain_with};
+use crate::format::{Format, Style};
+use crate::request::{Request, request_of};
 use crate::scanning::explain_files;
 use crate::unread::{unread_of, unread_part};
+use crate::words::Words;
 use clap::Error;
 use clap::error::ErrorKind;
-use sedck_called::Unexplained;
+use sedck_calls_in_files::{AsTheShell, Finder};
 use sedck_cert::streams::{Failed, FromRead, Sink, Source, write_all};
-use sedck_cli::{FromFiles, Input as InputOf, Opener, RunFault};
-use sedck_explaining::{Format, Style, explain_alone, explain_with, explain_words};
-use sedck_findings::Denied;
-use sedck_render::json_unreadable;
-use sedck_request::{Request, Words, request_of};
+use sedck_engines::{FromFiles, Input as InputOf, Opener, RunFault};
+use sedck_explanation::{Denied, Unexplained};
+use sedck_formats::json_unreadable;
 use std::alloc::{AllocError, Global};
 use std::fs::Files;
 use std::io::{Input, Write};
@@ -44,39 +47,47 @@ pub fn program<R: Files + Input + AllocGlobal + Clone + Drop, W: Sink, E: Sink>(
     err: &mut E,
 ) -> u8
     ensures within { result ≤ 5 }
-    ensures answered { result < 3 → IsAnswered unknown words.now result }
+    ensures answered { result ≢ 3 → result ≢ 4 → IsAnswered unknown (λ _ _. None) words.now result }
     ensures refused { result ≡ 3 → Keeps (W.taken out.old) (W.taken out.new) }
-    ensures silent { result < 3 → Keeps (E.taken err.old) (E.taken err.new) }
+    ensures silent { result ≢ 3 → result ≢ 4 → Keeps (E.taken err.old) (E.taken err.new) }
 {
-    program_over(rt, &FromFiles::new(rt), words, colour, out, err)
+    program_over(
+        rt,
+        &FromFiles::new(rt),
+        &AsTheShell,
+        words,
+        colour,
+        out,
+        err,
+    )
 }
 
-/// The whole program over scripts, certificates and parts of scripts that an opener opens; files with calls of sed are the system's.
-pub fn program_over<R: Files + Input + AllocGlobal + Clone + Drop, O: Opener, W: Sink, E: Sink>(
-    rt: &R,
-    files: &O,
-    words: &Words,
-    colour: bool,
-    out: &mut W,
-    err: &mut E,
-) -> u8
+/// The whole program over files that an opener opens, in which a finder finds calls of sed; folders are those of the system.
+pub fn program_over<
+    R: Files + Input + AllocGlobal + Clone + Drop,
+    O: Opener,
+    F: Finder,
+    W: Sink,
+    E: Sink,
+>(rt: &R, files: &O, finder: &F, words: &Words, colour: bool, out: &mut W, err: &mut E) -> u8
     ensures within { result ≤ 5 }
     // The status of what the words ask for, of the bytes of the files at the paths that they name.
-    ensures answered { result < 3 → IsAnswered (O.known files.now) words.now result }
+    ensures answered { result ≢ 3 → result ≢ 4 → IsAnswered (O.known files.now) (F.found finder.now) words.now result }
     // Invalid arguments write nothing to the output.
     ensures refused { result ≡ 3 → Keeps (W.taken out.old) (W.taken out.new) }
-    ensures silent { result < 3 → Keeps (E.taken err.old) (E.taken err.new) }
+    ensures silent { result ≢ 3 → result ≢ 4 → Keeps (E.taken err.old) (E.taken err.new) }
 {
     match request_of(rt.alloc(), &words.own) {
-        Ok(request) => answer(rt, files, &request, words, colour, out, err),
+        Ok(request) => answer(rt, files, finder, &request, words, colour, out, err),
         Err(error) => refuse_words(rt.alloc(), &words.own, error, out, err),
     }
 }
 
 /// Explains what is asked for, and answers the exit status.
-fn answer<R: Files + Input + AllocGlobal + Clone + Drop, O: Opener, W: Sink, E: Sink>(
+fn answer<R: Files + Input + AllocGlobal + Clone + Drop, O: Opener, F: Finder, W: Sink, E: Sink>(
     rt: &R,
     files: &O,
+    finder: &F,
     request: &Request,
     words: &Words,
     colour: bool,
@@ -84,12 +95,12 @@ fn answer<R: Files + Input + AllocGlobal + Clone + Drop, O: Opener, W: Sink, E: 
     err: &mut E,
 ) -> u8
     ensures within { result ≤ 5 }
-    ensures status { result < 3 → HasStatusFor (O.known files.now) request.now (call_of words.now) result }
+    ensures status { result ≢ 3 → result ≢ 4 → HasStatusFor (O.known files.now) (F.found finder.now) request.now (call_of words.now) result }
     ensures refused { result ≡ 3 → Keeps (W.taken out.old) (W.taken out.new) }
-    ensures silent { result < 3 → Keeps (E.taken err.old) (E.taken err.new) }
+    ensures silent { result ≢ 3 → result ≢ 4 → Keeps (E.taken err.old) (E.taken err.new) }
 {
     if request.calls {
-        return explain_files(rt, request, colour, out, err);
+        return explain_files(rt, files, finder, request, colour, out, err);
     }
     if request.kind.is_some() || !request.assumed.is_empty() {
         return end(err, b"--as and --assume are for --calls\n", 3);

@@ -1,14 +1,27 @@
-//! The program `sedck-explain`, but for its streams.
+//! The program `sedck-explain`, but for its streams: what its arguments ask for, read and explained, with the report written.
 //!
-//! `explain_all` explains several scripts, `explain_call` the call of sed that is given, and `program` does what the arguments of a
-//! command line ask for. Their exit status is proved to be the greatest of what is said of the scripts and the call that were read.
+//! `explain_alone` and `explain_with` explain a script, alone or with a certificate, `explain_all` several scripts, `explain_words` and
+//! `explain_call` a call of sed, and `program` does what the arguments ask for. Their exit status is proved to be that of what is said of
+//! what was read: the greatest of several scripts', and the worst of all calls in files.
 #![tactic(auto)]
 
+mod calls;
 mod command_line;
+mod explaining;
+mod format;
+mod part_names;
+mod reading;
+mod reporter;
+mod request;
 mod scanning;
 mod unread;
+mod words;
 
+pub use calls::explain_words;
 pub use command_line::{explain_all, explain_call, flushed, out_of_memory, program, program_over};
-pub use sedck_explaining::{Format, Reporter, Style, explain_alone, explain_with, explain_words};
-pub use sedck_findings::{Denied, Level};
-pub use sedck_request::{Request, Words, arguments};
+pub use explaining::{explain_alone, explain_with};
+pub use format::{Format, NAMES, Style};
+pub use reporter::Reporter;
+pub use request::{Request, request_of};
+pub use sedck_explanation::{Denied, Level};
+pub use words::{Words, arguments};

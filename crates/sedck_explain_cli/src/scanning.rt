@@ -1,27 +1,31 @@
 //! Calls of sed in files and folders.
 
-ghost use Rattle.std.specs.Prelude.{◌≡◌, ◌<◌, ◌≤◌};
+ghost use Rattle.std.specs.Prelude.{◌≡◌, ◌≢◌, ◌≤◌};
 ghost use Rattle.std.specs.Io.KnownBytes.{Keeps};
+ghost use Rattle.sedck_calls_in_files.specs.Scanned.{PathStatus, IsWorstOf};
+ghost use Rattle.sedck_explain_cli.specs.Requests.{scripts_of};
 
 use crate::command_line::end;
+use crate::format::Format;
+use crate::request::Request;
+use sedck_calls_in_files::{Finder, Look, Scan, scan_files};
 use sedck_cert::streams::Sink;
-use sedck_explaining::Format;
-use sedck_request::Request;
-use sedck_scan::{Look, Scan, scan_files};
+use sedck_engines::Opener;
 use std::fs::Files;
 use std::io::Input;
 
 /// Explains the calls of sed in the files of the request and below its folders, and answers the exit status.
-pub(crate) fn explain_files<R: Files + Input + AllocGlobal + Clone + Drop, W: Sink, E: Sink>(
-    rt: &R,
-    request: &Request,
-    colour: bool,
-    out: &mut W,
-    err: &mut E,
-) -> u8
+pub(crate) fn explain_files<
+    R: Files + Input + AllocGlobal + Clone + Drop,
+    O: Opener,
+    F: Finder,
+    W: Sink,
+    E: Sink,
+>(rt: &R, files: &O, finder: &F, request: &Request, colour: bool, out: &mut W, err: &mut E) -> u8
     ensures within { result ≤ 5 }
+    ensures status { result ≢ 3 → result ≢ 4 → IsWorstOf (PathStatus (O.known files.now) (F.found finder.now) request.now.denied) 0 (scripts_of request.now) result }
     ensures refused { result ≡ 3 → Keeps (W.taken out.old) (W.taken out.new) }
-    ensures silent { result < 3 → Keeps (E.taken err.old) (E.taken err.new) }
+    ensures silent { result ≢ 3 → result ≢ 4 → Keeps (E.taken err.old) (E.taken err.new) }
 {
     if request.sed {
         return end(err, b"--calls and --sed are two things\n", 3);
@@ -43,7 +47,7 @@ pub(crate) fn explain_files<R: Files + Input + AllocGlobal + Clone + Drop, W: Si
         look,
         least: request.least,
     };
-    scan_files(rt, &asked, out, err)
+    scan_files(rt, files, finder, &asked, out, err)
 }
 
 /// How the reports look in the format, where it is one for several scripts.

@@ -1,9 +1,9 @@
 //! Files that can't be read, and why.
 
+use crate::request::Request;
 use sedck_cert::streams::{Failed, Sink, write_all};
-use sedck_cli::{Input, Opener};
-use sedck_request::Request;
-use sedck_words::shown_letter;
+use sedck_engines::{Input, Opener};
+use sedck_formats::shown_letter;
 use std::alloc::{AllocError, Global};
 
 /// A file that can't be read.

@@ -1,7 +1,7 @@
 //! Arrows: the edges of a flow graph, put together where they have the same ends and the same kind.
 
 use crate::flow::{Flow, flow_of, is_of_loop};
-use sedck_findings::{Explanation, Position};
+use sedck_explanation::{Explanation, Position};
 use sedck_flow::{Edge, Kind};
 use std::alloc::{AllocError, Global};
 

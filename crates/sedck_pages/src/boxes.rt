@@ -1,8 +1,8 @@
 //! A finding in a page.
 
 use crate::markup::{push_place, push_prose};
-use sedck_findings::{Finding, Step};
-use sedck_words::{Shown, Written, command_line, level_word};
+use sedck_explanation::{Finding, Step};
+use sedck_formats::{Shown, Written, command_line, level_word};
 
 /// The most characters of a line that are shown beside a step.
 const STEP_WIDTH: usize = 60;

@@ -3,9 +3,9 @@
 use crate::arrows::{Arrow, arrows_of};
 use crate::flow::flow_of;
 use crate::graph_parts::{push_box, push_head, push_refusal, style};
-use sedck_findings::Explanation;
+use sedck_explanation::Explanation;
 use sedck_flow::Node;
-use sedck_words::{Names, Shown, Written, kind_word, shown_of};
+use sedck_formats::{Names, Shown, Written, kind_word, shown_of};
 use std::alloc::{AllocError, Global};
 
 /// The commands that a run may reach, and the steps between them. A box has the place of a command and its line. Kinds of steps

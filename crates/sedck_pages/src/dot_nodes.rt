@@ -2,9 +2,9 @@
 
 use crate::flow::{Flow, flow_of, is_of_loop};
 use crate::graph_parts::{push_box, push_head, push_refusal, style};
-use sedck_findings::Explanation;
+use sedck_explanation::Explanation;
 use sedck_flow::{Edge, Node};
-use sedck_words::{Names, Shown, Written, kind_word, shown_of};
+use sedck_formats::{Names, Shown, Written, kind_word, shown_of};
 use std::alloc::{AllocError, Global};
 
 /// The nodes of the flow graph that a run may reach, and its edges. A box has the place of a command and its line, `[t]` where the

@@ -1,8 +1,8 @@
 //! The parts of a graph for Graphviz: its head, boxes and styles.
 
-use sedck_findings::{Explanation, Finding};
+use sedck_explanation::{Explanation, Finding};
 use sedck_flow::Kind;
-use sedck_words::{Names, Shown, Written, answer_word, command_line, place_words};
+use sedck_formats::{Names, Shown, Written, answer_word, command_line, place_words};
 use std::alloc::AllocError;
 
 /// The most characters of a line that are shown in a box.

@@ -4,8 +4,8 @@ use crate::arrows::{Arrow, line_jumps};
 use crate::boxes::push_box;
 use crate::margin::{Margin, Spot, margin_of};
 use crate::strokes::{drawing_width, push_strokes};
-use sedck_findings::{Explanation, Finding, Level, shown_line};
-use sedck_words::{Shown, Written};
+use sedck_explanation::{Explanation, Finding, Level, shown_line};
+use sedck_formats::{Shown, Written};
 use std::alloc::AllocError;
 
 /// What the kinds of jumps look like.

@@ -2,8 +2,8 @@
 
 use crate::arrows::{Arrow, line_of};
 use crate::lanes::{Drawing, drawing_of};
-use sedck_findings::{Answer, Explanation, Level};
-use sedck_words::is_listed;
+use sedck_explanation::{Answer, Explanation, Level};
+use sedck_formats::is_listed;
 use std::alloc::{AllocError, Global};
 
 /// How many lines apart the ends of a jump back are at least, where it has a label.

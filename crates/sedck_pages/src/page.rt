@@ -5,8 +5,8 @@ use crate::listing::push_listing;
 use crate::page_style::STYLE;
 use crate::tables::{push_files, push_jumps, push_ranks};
 use crate::top::push_top;
-use sedck_findings::{Explanation, Level};
-use sedck_words::{Names, VERSION, Written, answer_word, shown_of};
+use sedck_explanation::{Explanation, Level};
+use sedck_formats::{Names, VERSION, Written, answer_word, shown_of};
 use std::alloc::{AllocError, Global};
 
 /// What precedes the title: no script and nothing from elsewhere is loaded.

@@ -2,7 +2,7 @@
 
 use crate::arrows::Arrow;
 use crate::lanes::Drawing;
-use sedck_words::{Written, kind_word};
+use sedck_formats::{Written, kind_word};
 
 /// How far lanes are apart.
 const STEP: usize = 10;

@@ -2,8 +2,8 @@
 
 use crate::arrows::Arrow;
 use crate::markup::push_place;
-use sedck_findings::{Answer, Explanation, NamedFile, shown_name};
-use sedck_words::{Names, Shown, Written, kind_word};
+use sedck_explanation::{Answer, Explanation, NamedFile, shown_name};
+use sedck_formats::{Names, Shown, Written, kind_word};
 
 /// What precedes the rows of files.
 const FILES_HEAD: &str = "<div class=\"wide\"><table>

@@ -2,8 +2,8 @@
 
 use crate::boxes::push_box;
 use crate::markup::push_prose;
-use sedck_findings::{Answer, Explanation, Finding, Level};
-use sedck_words::{Names, Shown, Written, is_listed, level_word, place_words, push_limit};
+use sedck_explanation::{Answer, Explanation, Finding, Level};
+use sedck_formats::{Names, Shown, Written, is_listed, level_word, place_words, push_limit};
 
 /// What precedes the list of the findings.
 const LIST: &str = "<h2>Findings</h2>\n<ul>\n";

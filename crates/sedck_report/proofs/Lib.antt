@@ -1,3 +1,4 @@
+mod HtmlLemmas
 mod Lines
 mod After
 mod Prefixes

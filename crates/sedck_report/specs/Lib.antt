@@ -1,3 +1,5 @@
+pub mod Ascii
+pub mod Html
 -- What the public contracts cite, in reading order.
 pub mod Positions
 pub mod Codes

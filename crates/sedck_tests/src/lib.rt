@@ -1,5 +1,5 @@
 //! Tests of what neither a clause nor a built program shows: streams that fail, and functions that no program calls or whose answers none
-//! prints. What programs print is tested by the rows in `tests/rows`.
+//! prints, such as those of the model. What programs print is tested by the rows in `tests/rows`.
 #![tactic(auto)]
 
 #[cfg(test)]
@@ -10,6 +10,8 @@ mod counts;
 mod engines;
 #[cfg(test)]
 mod expressions;
+#[cfg(test)]
+mod model;
 #[cfg(test)]
 mod texts;
 #[cfg(test)]

@@ -2,16 +2,16 @@
 use Rattle.std.specs.Prelude.{◌||◌, if◌then◌else◌, codes, ◌≡◌, ℕ, IsTrue, List, Option, Some, None, IfSome, Result, Ok, Err}
 use Rattle.std.specs.Str.{bytes_eq}
 use Rattle.std.specs.Io.KnownBytes.{Keeps}
-use Rattle.sedck_cli.specs.Opened.{Known}
-use Rattle.sedck_cli.specs.Engines.{Reading, Writing}
+use Rattle.sedck_engines.specs.Opened.{Known}
+use Rattle.sedck_engines.specs.Engines.{Reading, Writing}
 use Rattle.sedck_cli.specs.Statuses.{Asked, Check, Files, Graph, Rank, Upgrade, Nothing, Reports, BreaksOff}
 use Rattle.sedck_cli.specs.Causes.{IsOpened, AreOpened, IsCause}
-use Rattle.sedck_cli.specs.declared.answer.Outcome.{Outcome}
-use Rattle.sedck_cli.specs.declared.answer.RunFault.TheVariants as fault
+use Rattle.sedck_engines.specs.declared.answer.Outcome.{Outcome}
+use Rattle.sedck_engines.specs.declared.answer.RunFault.TheVariants as fault
 use Rattle.sedck_cli.specs.declared.command_line.Refusal.{Refusal}
 use Rattle.sedck_cli.specs.declared.command_line.Refusal.TheVariants.{Run}
-use Rattle.sedck_cli.specs.declared.engines.ScriptReport.{ScriptReport}
-use Rattle.sedck_cli.specs.declared.engines.ScriptReport.TheVariants as kind
+use Rattle.sedck_engines.specs.declared.engines.ScriptReport.{ScriptReport}
+use Rattle.sedck_engines.specs.declared.engines.ScriptReport.TheVariants as kind
 use Rattle.sedck_cli.specs.declared.command_line.Request.{Request}
 use Rattle.sedck_cli.specs.declared.command_line.Request.TheVariants as request
 

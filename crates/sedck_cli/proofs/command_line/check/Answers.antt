@@ -1,5 +1,5 @@
 use Rattle.sedck_cli.specs.declared.command_line.Refusal.TheVariants.{Run}
-use Rattle.sedck_cli.proofs.Answering.{err_is}
+use Rattle.sedck_engines.proofs.Answering.{err_is}
 use Rattle.sedck_cli.proofs.Ending.{check_answered, check_stopped}
 use Rattle.sedck_cli.proofs.command_line.check.Goals as goal
 

@@ -1,6 +1,6 @@
 use Rattle.std.proofs.Common.{◌≢◌, ◌<◌, ◌≤◌, take}
 use Rattle.std.specs.Io.KnownBytes.{Keeps}
-use Rattle.sedck_request.specs.Requests.{scripts_of}
+use Rattle.sedck_explain_cli.specs.Requests.{scripts_of}
 use Rattle.sedck_explain_cli.specs.Statuses.{StatusAt, IsGreatest}
 use Rattle.sedck_explain_cli.proofs.command_line.explain_all.Given as goal
 

@@ -1,6 +1,6 @@
 use Rattle.std.proofs.Common.{◌∙◌, ap, map, subst}
-use Rattle.sedck_called.specs.Called.{IsAcceptedCall}
-use Rattle.sedck_explaining.specs.CallStatus.{HasCallStatus}
+use Rattle.sedck_explanation.specs.Called.{IsAcceptedCall}
+use Rattle.sedck_explain_cli.specs.CallStatus.{HasCallStatus}
 use Rattle.sedck_explain_cli.proofs.command_line.explain_call.Goals as goal
 
 pub returns-in-Ok-explain_words-clause-yes : goal.returns-in-Ok-explain_words-clause-yes

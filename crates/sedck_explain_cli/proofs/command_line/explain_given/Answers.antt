@@ -1,6 +1,6 @@
 use Rattle.std.proofs.Common.{ap, map, subst}
 use Rattle.std.specs.Option.{option_map}
-use Rattle.sedck_explaining.specs.CallStatus.{HasCallStatus}
+use Rattle.sedck_explain_cli.specs.CallStatus.{HasCallStatus}
 use Rattle.sedck_explain_cli.specs.Answers.{call_of}
 use Rattle.sedck_explain_cli.proofs.Answered.{given_status}
 use Rattle.sedck_explain_cli.proofs.command_line.explain_given.Goals as goal

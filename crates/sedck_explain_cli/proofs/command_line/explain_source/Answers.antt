@@ -1,6 +1,6 @@
 use Rattle.std.proofs.Common.{ap}
 use Rattle.std.specs.Option.{option_map}
-use Rattle.sedck_request.specs.Requests.{certificate_of}
+use Rattle.sedck_explain_cli.specs.Requests.{certificate_of}
 use Rattle.sedck_explain_cli.proofs.Greatest.{alone_status, with_status}
 use Rattle.sedck_explain_cli.proofs.command_line.explain_source.Goals as goal
 

@@ -1,12 +1,13 @@
+use Rattle.std.proofs.Common.{arith}
 use Rattle.sedck_explain_cli.proofs.Answered.{answered, helped}
 use Rattle.sedck_explain_cli.proofs.command_line.program_over.Goals as goal
 
 pub returns-in-Ok-clause-answered : goal.returns-in-Ok-clause-answered
-returns-in-Ok-clause-answered g c small =
-    answered (g.O.Opener.known c.args.files.now) c.args.words.now c.deref.result.now c.in-Ok.request c.answer.result c.deref.ensures.value
-    c.in-Ok.ensures (c.answer.ensures.status small)
+returns-in-Ok-clause-answered g c valid whole =
+    answered (g.O.Opener.known c.args.files.now) (g.F.Finder.found c.args.finder.now) c.args.words.now c.deref.result.now c.in-Ok.request c.answer.result c.deref.ensures.value
+    c.in-Ok.ensures (c.answer.ensures.status valid whole)
 
 pub returns-in-Err-clause-answered : goal.returns-in-Err-clause-answered
-returns-in-Err-clause-answered g c small =
-    helped (g.O.Opener.known c.args.files.now) c.args.words.now c.deref-in-Err.result.now c.refuse_words.result c.deref-in-Err.ensures.value
-    (c.refuse_words.ensures.help small)
+returns-in-Err-clause-answered g c valid whole =
+    helped (g.O.Opener.known c.args.files.now) (g.F.Finder.found c.args.finder.now) c.args.words.now c.deref-in-Err.result.now c.refuse_words.result c.deref-in-Err.ensures.value
+    (c.refuse_words.ensures.help (omega (arith, valid, whole, c.refuse_words.ensures.within)))

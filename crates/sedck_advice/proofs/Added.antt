@@ -1,0 +1,67 @@
+-- Findings that are added.
+use Rattle.std.proofs.Common.{◌≡◌, ◌∙◌, ◌||◌, Bool, true, false, List, [], ◌∷◌, ◌++◌, Option, Result, Ok, Err, OnOk, refl, sym, ap, subst}
+use Rattle.std.proofs.lemmas.List.Folds.{list_any-append}
+use Rattle.sedck_report.specs.Levels.{is_error, has_error, is_warning, has_warning, BeginsWithError}
+use Rattle.sedck_report.specs.declared.finding.Finding.{Finding}
+use Rattle.sedck_report.specs.declared.places.Position.{Position}
+use Rattle.sedck_advice.specs.Added.{AddsNoError}
+
+pub no_error_none : (old : List Finding) → AddsNoError old old
+no_error_none old = record { errors = refl; warned = λ warned. warned; first = λ position begins. begins }
+
+begins-append : (position : Option Position) (old more : List Finding) → BeginsWithError position old → BeginsWithError position (old ++ more)
+begins-append position [] more begins = absurd begins
+begins-append position (f ∷ old) more begins = begins
+
+or-false : (a b : Bool) → b ≡ false → (a || (b || false)) ≡ a
+or-false true b is = refl
+or-false false b is = rw is refl
+
+or_none : (a : Bool) → (a || false) ≡ a
+or_none true = refl
+or_none false = refl
+
+or-kept : (a b : Bool) → a ≡ true → (a || b) ≡ true
+or-kept a b is = rw is refl
+
+-- a warning stays where findings are added
+warned-append : (old new more : List Finding) → new ≡ old ++ more → has_warning old ≡ true → has_warning new ≡ true
+warned-append old new more is warned =
+    ap has_warning is ∙ list_any-append (λ finding. is_warning finding.level) old more ∙ or-kept (has_warning old) (has_warning more) warned
+
+or-behind : (a b : Bool) → b ≡ true → (a || b) ≡ true
+or-behind true b is = refl
+or-behind false b is = is
+
+-- a warning is there where it is added
+pub warned_behind : (old new more : List Finding) → new ≡ old ++ more → has_warning more ≡ true → has_warning new ≡ true
+warned_behind old new more is warned =
+    ap has_warning is ∙ list_any-append (λ finding. is_warning finding.level) old more ∙ or-behind (has_warning old) (has_warning more) warned
+
+-- a finding that is no error
+pub no_error_push : (old new : List Finding) (f : Finding) → new ≡ old ++ (f ∷ []) → is_error f.level ≡ false → AddsNoError old new
+no_error_push old new f is none = record {
+  errors = ap has_error is ∙ list_any-append (λ finding. is_error finding.level) old (f ∷ []) ∙ or-false (has_error old) (is_error f.level) none;
+  warned = warned-append old new (f ∷ []) is;
+  first = λ position begins. subst (BeginsWithError position) (sym is) (begins-append position old (f ∷ []) begins);
+}
+
+-- several findings, none of which is an error
+pub no_error_append : (old new more : List Finding) → new ≡ old ++ more → has_error more ≡ false → AddsNoError old new
+no_error_append old new more is none = record {
+  errors = ap has_error is ∙ list_any-append (λ finding. is_error finding.level) old more ∙ ap (λ b. has_error old || b) none ∙ or_none (has_error old);
+  warned = warned-append old new more is;
+  first = λ position begins. subst (BeginsWithError position) (sym is) (begins-append position old more begins);
+}
+
+pub no_error_trans : (a b c : List Finding) → AddsNoError a b → AddsNoError b c → AddsNoError a c
+no_error_trans a b c one two = record {
+  errors = two.errors ∙ one.errors;
+  warned = λ warned. two.warned (one.warned warned);
+  first = λ position begins. two.first position (one.first position begins);
+}
+
+-- the same where a call ends well
+pub ok_no_error : {T E : Type 0} (a b c : List Finding) (r : Result T E) → AddsNoError a b → OnOk r (AddsNoError b c) → OnOk r (AddsNoError a c)
+ok_no_error a b c (Ok x) one two = no_error_trans a b c one two
+ok_no_error a b c (Err e) one two = two

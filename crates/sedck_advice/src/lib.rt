@@ -1,0 +1,26 @@
+//! What a reader of a script is advised: what to write in place of what is refused, by the fault and by what is around it; which files
+//! it names; and warnings of what looks as if something else was meant.
+//!
+//! Nothing is promised of these words by a contract, but that no warning is an error: tests follow each hint, and compare what sed makes
+//! of both scripts. What is wrong with a script is said in `sedck_errors`.
+#![tactic(auto)]
+
+mod adding;
+mod escapes;
+mod foreign;
+mod hints;
+mod ignored;
+mod lists;
+mod looks;
+mod mends;
+mod names;
+mod spot;
+
+pub use adding::add_warnings;
+pub use foreign::{Foreign, other_kind};
+pub use hints::{has_escaped_text, has_open_class, script_hint};
+pub use ignored::{Word, ignoring_words};
+pub use lists::{Reading, is_blank};
+pub use mends::{Mend, script_mend};
+pub use names::named_files;
+pub use spot::{Purpose, Spot, behind_part};

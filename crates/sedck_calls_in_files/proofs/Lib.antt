@@ -1,0 +1,5 @@
+mod Lists
+mod Yes
+mod Said
+mod Worst
+mod Contents

@@ -1,0 +1,89 @@
+-- What a status of 0 says of a call.
+use Rattle.std.proofs.Common.{◌≡◌, ◌∙◌, ◌⊎◌, inl, inr, ◌==◌, ℕ, suc, Bool, true, false, MatchBool, List, None, if◌then◌else◌, refl, sym, ap, arith}
+use Rattle.std.proofs.lemmas.Bool.{true≢false}
+use Rattle.sedck_calls.specs.Calls.{IsCall}
+use Rattle.sedck_calls.specs.declared.call.Call.{Call}
+use Rattle.sedck_explanation.specs.Called.{has_foreign, is_denied_call, IsDenied, IsCalled}
+use Rattle.sedck_errors.specs.declared.denied.Denied.{Denied}
+use Rattle.sedck_explanation.specs.Explanations.{IsExplanation}
+use Rattle.sedck_explanation.specs.declared.explanation.Explanation.{Explanation}
+use Rattle.sedck_found.specs.declared.found.FoundScript.{FoundScript}
+use Rattle.sedck_found.specs.declared.found.FoundScript.TheVariants.{Text, Foreign, Refused, Unknown}
+use Rattle.sedck_traced.specs.Traced.{has_hole}
+use Rattle.sedck_traced.specs.declared.origin.Traced.{Traced}
+use Rattle.sedck_calls_in_files.specs.Judged.{words_of, is_in_file, status_with, IsUnjudged, IsJudged, IsSaidOfCall, IsSaidOfText, IsSaidOf, IsAcceptedText, IsAcceptedScript}
+
+by_test : (b : Bool) (A B : Type 0) → MatchBool b A B → ((b ≡ true) × A) ⊎ ((b ≡ false) × B)
+by_test true A B holds = inl (refl, holds)
+by_test false A B holds = inr (refl, holds)
+
+-- a yes is one of a script that is known
+yes_is_known : (partly : Bool) (status : ℕ) → status_with partly status ≡ 0 → (partly ≡ false) × (status ≡ 0)
+yes_is_known false status is = (refl, is)
+yes_is_known true status is = absurd (by_status (status == 0) refl is)
+  where
+    by_status : (b : Bool) → (status == 0) ≡ b → (if b then 5 else status) ≡ 0 → ⊥
+    by_status true zero five = omega (arith, five)
+    by_status false other none = true≢false (ap (λ n. n == 0) (sym none) ∙ other)
+
+yes_is_judged : (status : ℕ) (e : Explanation) → IsUnjudged (suc status) e → e.status ≡ 0 → ⊥
+yes_is_judged status e said is =
+    let positive = said.is_status in
+    omega (arith, positive, is)
+
+-- the script of a call that is explained with a yes
+yes_explained : (text : List ℕ) (denied : Denied) (call : Call) (e : Explanation) → IsCalled text denied call e → e.status ≡ 0
+    → (judged : Explanation) × IsExplanation text None denied judged × (judged.status ≡ 0)
+yes_explained text denied call e called is = by_cases (by_test _ _ _ called.said)
+  where
+    by_cases : ((is_denied_call denied call called.judged.status ≡ true) × IsDenied text called.judged e)
+        ⊎ ((is_denied_call denied call called.judged.status ≡ false) × (e ≡ called.judged))
+        → (judged : Explanation) × IsExplanation text None denied judged × (judged.status ≡ 0)
+    by_cases (inl denial) =
+        let one = denial.1.status in
+        absurd (omega (arith, one, is))
+    by_cases (inr same) = (called.judged, called.is_explanation, sym (ap (λ x. x.status) same.1) ∙ is)
+
+yes_of_call : (file : List ℕ) (denied : Denied) (words : List Traced) (call : Call) (text : Traced) (e : Explanation)
+    → IsCall (words_of words) call → IsSaidOfCall file denied words call text e → e.status ≡ 0 → IsAcceptedText file denied words text
+yes_of_call file denied words call text e is_call said is = by_language (by_test _ _ _ said)
+  where
+    accepted : has_foreign call.given.items ≡ false → is_in_file file words call text ≡ true → IsJudged denied call text e
+        → IsAcceptedText file denied words text
+    accepted judged in_file by =
+        let known = yes_is_known (has_hole text.origins.items) by.called.status (sym by.is_status ∙ is) in
+        let explained = yes_explained text.bytes.items denied call by.called by.is_called known.1 in
+        record {
+          call = call;
+          is_call = is_call;
+          is_judged = judged;
+          in_file = in_file;
+          known = known.0;
+          explanation = explained.0;
+          is_explanation = explained.1;
+          is_yes = explained.2;
+        }
+
+    by_file : has_foreign call.given.items ≡ false
+        → ((is_in_file file words call text ≡ true) × IsJudged denied call text e) ⊎ ((is_in_file file words call text ≡ false) × IsUnjudged 5 e)
+        → IsAcceptedText file denied words text
+    by_file judged (inl traced) = accepted judged traced.0 traced.1
+    by_file judged (inr other) = absurd (yes_is_judged 4 e other.1 is)
+
+    by_language : ((has_foreign call.given.items ≡ true) × IsUnjudged 2 e)
+        ⊎ ((has_foreign call.given.items ≡ false) × MatchBool (is_in_file file words call text) (IsJudged denied call text e) (IsUnjudged 5 e))
+        → IsAcceptedText file denied words text
+    by_language (inl foreign) = absurd (yes_is_judged 1 e foreign.1 is)
+    by_language (inr judged) = by_file judged.0 (by_test _ _ _ judged.1)
+
+yes_of_text : (file : List ℕ) (denied : Denied) (words : List Traced) (text : Traced) (e : Explanation) → IsSaidOfText file denied words text e
+    → e.status ≡ 0 → IsAcceptedText file denied words text
+yes_of_text file denied words text e (inl known) is = yes_of_call file denied words known.0 text e known.1 known.2 is
+yes_of_text file denied words text e (inr none) is = absurd (yes_is_judged 4 e none.1 is)
+
+pub yes_of_found : (file : List ℕ) (denied : Denied) (words : List Traced) (script : FoundScript) (e : Explanation)
+    → IsSaidOf file denied words script e → e.status ≡ 0 → IsAcceptedScript file denied words script
+yes_of_found file denied words (Text call text holes) e said is = yes_of_text file denied words text e said is
+yes_of_found file denied words (Foreign call) e said is = absurd (yes_is_judged 1 e said is)
+yes_of_found file denied words (Refused fault) e said is = absurd (yes_is_judged 1 e said is)
+yes_of_found file denied words (Unknown why) e said is = absurd (yes_is_judged 4 e said is)

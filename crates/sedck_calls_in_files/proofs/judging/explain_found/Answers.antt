@@ -1,0 +1,27 @@
+use Rattle.std.proofs.Common.{◌≡◌}
+use Rattle.sedck_calls_in_files.specs.Judged.{Agrees, IsSaidOf, IsAcceptedScript}
+use Rattle.sedck_calls_in_files.proofs.Lists.{if_ok_both}
+use Rattle.sedck_calls_in_files.proofs.Said.{said_on}
+use Rattle.sedck_calls_in_files.proofs.Yes.{yes_of_found}
+use Rattle.sedck_calls_in_files.proofs.judging.explain_found.Goals as goal
+
+pub returns-clause-said : goal.returns-clause-said
+returns-clause-said c =
+    let file = c.args.file.now in
+    let words = c.args.found.now.words.items in
+    let script = c.args.found.now.script in
+    let before = c.in_ok-explanation.explanation in
+    if_ok_both (Agrees before) (λ e. e.status ≡ before.status) (IsSaidOf file c.args.denied words script) c.with_values.result
+    (λ e agrees status. said_on file c.args.denied words script before e agrees status c.in_ok-explanation.ensures.said)
+    c.with_values.ensures.agrees c.with_values.ensures.status
+
+pub returns-clause-yes : goal.returns-clause-yes
+returns-clause-yes c =
+    let file = c.args.file.now in
+    let words = c.args.found.now.words.items in
+    let script = c.args.found.now.script in
+    let before = c.in_ok-explanation.explanation in
+    if_ok_both (Agrees before) (λ e. e.status ≡ before.status) (λ e. e.status ≡ 0 → IsAcceptedScript file c.args.denied words script) c.with_values.result
+    (λ e agrees status yes. yes_of_found file c.args.denied words script e
+    (said_on file c.args.denied words script before e agrees status c.in_ok-explanation.ensures.said) yes)
+    c.with_values.ensures.agrees c.with_values.ensures.status

@@ -1,0 +1,113 @@
+-- What is said of a call of sed in a file, this project's own.
+use Rattle.std.specs.Prelude.{◌≡◌, ◌⊎◌, ◌==◌, ◌&&◌, ◌||◌, ℕ, Bool, true, false, MatchBool, List, [], map, None, if◌then◌else◌}
+use Rattle.std.specs.List.{list_all, list_any}
+use Rattle.std.specs.Str.{bytes_eq}
+use Rattle.sedck_calls.specs.Calls.{IsCall}
+use Rattle.sedck_calls.specs.Origins.{end_of_word}
+use Rattle.sedck_calls.specs.Scripts.{joined_texts}
+use Rattle.sedck_calls.specs.declared.call.Call.{Call}
+use Rattle.sedck_calls.specs.declared.call.Piece.{Piece}
+use Rattle.sedck_calls.specs.declared.call.Piece.TheVariants as piece
+use Rattle.sedck_explanation.specs.Called.{has_foreign, IsCalled}
+use Rattle.sedck_report.specs.Files.{names_of}
+use Rattle.sedck_errors.specs.declared.denied.Denied.{Denied}
+use Rattle.sedck_explanation.specs.Explanations.{IsExplanation}
+use Rattle.sedck_explanation.specs.declared.answer.Answer.TheVariants.{NotJudged}
+use Rattle.sedck_explanation.specs.declared.explanation.Explanation.{Explanation}
+use Rattle.sedck_found.specs.declared.found.FoundScript.{FoundScript}
+use Rattle.sedck_found.specs.declared.found.FoundScript.TheVariants.{Text, Foreign, Refused, Unknown}
+use Rattle.sedck_traced.specs.Traced.{is_traced, has_hole}
+use Rattle.sedck_traced.specs.declared.origin.Traced.{Traced}
+
+-- ---- What was read, against the file
+
+-- the file has each byte of these texts where the byte's origin says
+abbrev pub are_traced : List ℕ → List Traced → Bool
+are_traced file texts = list_all (λ text. is_traced file text.bytes.items text.origins.items) texts
+
+abbrev pub words_of : List Traced → List (List ℕ)
+words_of words = map (λ word. word.bytes.items) words
+
+-- the text of a part of the script that is in a word
+abbrev pub piece_text : List (List ℕ) → Piece → List ℕ
+piece_text words (piece.Text at) = end_of_word words at
+piece_text words (piece.File at) = []
+
+abbrev pub is_file : Piece → Bool
+is_file (piece.Text at) = false
+is_file (piece.File at) = true
+
+-- the script that the words give, where all of its parts are in them
+abbrev pub script_in : List (List ℕ) → List Piece → List ℕ
+script_in words pieces = joined_texts (map (piece_text words) pieces)
+
+-- The file has the words and the script where their origins say. The script is just what the words give, but where a part of it is a
+-- here-document, or a byte takes the place of what isn't known.
+abbrev pub is_in_file : List ℕ → List Traced → Call → Traced → Bool
+is_in_file file words call text =
+    (are_traced file words && is_traced file text.bytes.items text.origins.items)
+    && ((has_hole text.origins.items || list_any is_file call.pieces.items)
+    || bytes_eq (script_in (words_of words) call.pieces.items) text.bytes.items)
+
+-- ---- What is said
+
+-- it isn't judged
+pub record IsUnjudged (status : ℕ) (e : Explanation) : Type 0 where
+  pub answer : e.answer ≡ NotJudged
+  pub is_status : e.status ≡ status
+
+-- the same answer, script and files, whatever the findings and positions are
+pub record Agrees (before e : Explanation) : Type 0 where
+  pub answer : e.answer ≡ before.answer
+  pub script : e.script ≡ before.script
+  pub reads : names_of e.reads.items ≡ names_of before.reads.items
+  pub writes : names_of e.writes.items ≡ names_of before.writes.items
+
+-- what isn't known before a run makes no yes
+abbrev pub status_with : Bool → ℕ → ℕ
+status_with partly status = if partly && (status == 0) then 5 else status
+
+-- it is explained as a call with this script
+pub record IsJudged (denied : Denied) (call : Call) (text : Traced) (e : Explanation) : Type 0 where
+  pub called : Explanation
+  pub is_called : IsCalled text.bytes.items denied call called
+  pub agrees : Agrees called e
+  pub is_status : e.status ≡ status_with (has_hole text.origins.items) called.status
+
+-- with another language it isn't judged (2); nor where the file doesn't have what was read (5)
+abbrev pub IsSaidOfCall : List ℕ → Denied → List Traced → Call → Traced → Explanation → Type 0
+IsSaidOfCall file denied words call text e =
+    MatchBool (has_foreign call.given.items) (IsUnjudged 2 e)
+    (MatchBool (is_in_file file words call text) (IsJudged denied call text e) (IsUnjudged 5 e))
+
+-- the words are a call
+abbrev pub IsSaidOfText : List ℕ → Denied → List Traced → Traced → Explanation → Type 0
+IsSaidOfText file denied words text e =
+    ((call : Call) × IsCall (words_of words) call × IsSaidOfCall file denied words call text e)
+    ⊎ (((call : Call) → IsCall (words_of words) call → ⊥) × IsUnjudged 5 e)
+
+-- what is said of a call, by what was found of its script
+abbrev pub IsSaidOf : List ℕ → Denied → List Traced → FoundScript → Explanation → Type 0
+IsSaidOf file denied words (Text call text holes) e = IsSaidOfText file denied words text e
+IsSaidOf file denied words (Foreign call) e = IsUnjudged 2 e
+IsSaidOf file denied words (Refused fault) e = IsUnjudged 2 e
+IsSaidOf file denied words (Unknown why) e = IsUnjudged 5 e
+
+-- ---- A yes
+
+-- The call is accepted: its words are a call, none of whose options changes the language; the file has the words and the script where
+-- their origins say; nothing of the script is unknown; and it is explained with the status 0.
+pub record IsAcceptedText (file : List ℕ) (denied : Denied) (words : List Traced) (text : Traced) : Type 0 where
+  pub call : Call
+  pub is_call : IsCall (words_of words) call
+  pub is_judged : has_foreign call.given.items ≡ false
+  pub in_file : is_in_file file words call text ≡ true
+  pub known : has_hole text.origins.items ≡ false
+  pub explanation : Explanation
+  pub is_explanation : IsExplanation text.bytes.items None denied explanation
+  pub is_yes : explanation.status ≡ 0
+
+-- the call has a script, and is accepted
+abbrev pub IsAcceptedScript : List ℕ → Denied → List Traced → FoundScript → Type 0
+IsAcceptedScript file denied words (Text call text holes) = IsAcceptedText file denied words text
+IsAcceptedScript file denied words _ = ⊥

@@ -1,0 +1,6 @@
+-- What the public contracts cite.
+pub mod Placed
+pub mod Judged
+pub mod Scanned
+-- What functions inside the crate promise each other.
+pub mod Private

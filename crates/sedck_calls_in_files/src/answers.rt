@@ -1,0 +1,80 @@
+//! The reports of calls, one after another.
+
+use crate::request::{Look, Scan};
+use sedck_explanation::{Explanation, Level, Position, shown_name};
+use sedck_formats::{CallAt, Names, gcc_report, json_call, shown_path, text_answer, text_findings};
+use sedck_found::FoundCall;
+use std::alloc::{AllocError, Global};
+
+/// The report on a call of the file with this path.
+pub(crate) fn call_report(
+    alloc: Global,
+    scan: &Scan,
+    path: &str,
+    position: Position,
+    found: &FoundCall,
+    explanation: &Explanation,
+) -> Result<Vec<u8>, AllocError> {
+    match scan.look {
+        Look::Json => {
+            let call = CallAt {
+                file: path,
+                position,
+                words: shown_words(alloc, found)?,
+            };
+            json_call(alloc, call, explanation, scan.least)
+        }
+        Look::Gcc => {
+            let shown = shown_path(alloc, path)?;
+            gcc_report(
+                alloc,
+                Names::of_file(shown.as_str()),
+                explanation,
+                scan.least,
+            )
+        }
+        Look::Text { colour } => {
+            let shown = shown_path(alloc, path)?;
+            text_report(
+                alloc,
+                scan.least,
+                colour,
+                shown.as_str(),
+                position,
+                explanation,
+            )
+        }
+    }
+}
+
+/// The report for people: the findings, and a line with the answer where notes are reported, or where it isn't a plain yes.
+fn text_report(
+    alloc: Global,
+    least: Level,
+    colour: bool,
+    path: &str,
+    position: Position,
+    explanation: &Explanation,
+) -> Result<Vec<u8>, AllocError> {
+    let mut report = text_findings(alloc, Names::of_file(path), explanation, least, colour)?;
+    if least != Level::Note && explanation.status == 0 {
+        return Ok(report);
+    }
+    let call = CallAt {
+        file: path,
+        position,
+        words: Vec::new(alloc),
+    };
+    let answer = text_answer(alloc, &call, explanation, colour)?;
+    report.extend_from_slice(&answer)?;
+    Ok(report)
+}
+
+/// The words of the call as they can be shown.
+fn shown_words(alloc: Global, found: &FoundCall) -> Result<Vec<String>, AllocError> {
+    let mut words = Vec::new(alloc);
+    for word in &found.words {
+        words.push(shown_name(alloc, &word.bytes)?)?;
+    }
+    Ok(words)
+}

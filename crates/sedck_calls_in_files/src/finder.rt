@@ -1,0 +1,44 @@
+//! What finds the calls in a file.
+
+ghost use Rattle.std.specs.Prelude.{◌≡◌, List, ℕ, Option, None, IfOk, IfSome};
+ghost use Rattle.sedck_found.specs.declared.found.FoundCall.{FoundCall};
+
+use sedck_found::{Assumed, Found, FoundCall, calls_in, dialect_of};
+use sedck_hosts::Kind;
+use std::alloc::{AllocError, Global};
+
+/// What finds the calls of sed in a file.
+pub trait Finder {
+    /// The calls that it finds in the file at this path with these bytes, where they are known.
+    ghost found: { Self → List ℕ → List ℕ → Option (List FoundCall) };
+
+    /// The calls in the file at the path, which is of this kind and has this text; the values of these variables are known.
+    fn find(
+        &self,
+        alloc: Global,
+        path: &str,
+        kind: Kind,
+        text: &[u8],
+        assumed: &[Assumed],
+    ) -> Result<Found, AllocError>
+        ensures { IfOk result (λ all. IfSome (found self.now path.now text.now) (λ known. all.calls.items ≡ known)) };
+}
+
+/// Finds what the shell would run. Which calls these are isn't known: that they are all of them is tested.
+#[derive(Clone, Copy)]
+pub struct AsTheShell;
+
+impl Finder for AsTheShell {
+    ghost found = { λ _ _ _. None };
+
+    fn find(
+        &self,
+        alloc: Global,
+        path: &str,
+        kind: Kind,
+        text: &[u8],
+        assumed: &[Assumed],
+    ) -> Result<Found, AllocError> {
+        calls_in(alloc, kind, dialect_of(kind, path), text, assumed)
+    }
+}

@@ -1,0 +1,272 @@
+//! What is said of a call of sed that was found in a file.
+
+ghost use Rattle.std.specs.Prelude.{◌≡◌, ◌≤◌, true, length, IfOk};
+ghost use Rattle.std.specs.List.{All};
+ghost use Rattle.sedck_report.specs.Positions.{position_in};
+ghost use Rattle.sedck_calls_in_files.specs.Placed.{IsFindingIn};
+ghost use Rattle.sedck_calls_in_files.specs.Judged.{Agrees, IsUnjudged, status_with, words_of, IsSaidOf, IsSaidOfText, IsSaidOfCall, IsJudged, IsAcceptedScript};
+
+use crate::holes::{open_warnings, unknown_warning, value_notes, written_words};
+use crate::placed::{place_findings, placed};
+use crate::places::Places;
+use crate::tracing::{bytes_of, is_in_file};
+use sedck_calls::{Call, CallFault, call_of};
+use sedck_explanation::{
+    Denied, Explanation, Finding, Position, explain_called, foreign_findings, has_foreign,
+    not_judged, refusal_of,
+};
+use sedck_found::{Followed, FoundCall, FoundScript, OpenHole, Unknown};
+use sedck_traced::{Traced, has_hole};
+use std::alloc::{AllocError, Global};
+
+/// The status of a call of which something isn't known before a run.
+const UNKNOWN: u8 = 5;
+
+/// Explains a call that was found in the file, which has it at this position. The explanation's positions are those of the file.
+///
+/// Its status is 0 only where the words and the script are in the file, nothing of the script is unknown, and it is accepted; 5 where
+/// something isn't known before a run, and nothing worse is found; else that of a call that is given by its words.
+pub fn explain_found<'a>(
+    alloc: Global,
+    file: &'a [u8],
+    position: Position,
+    found: &'a FoundCall,
+    denied: Denied,
+) -> Result<Explanation<'a>, AllocError>
+    requires { position ≡ position_in file.now position.offset }
+    ensures said { IfOk result (IsSaidOf file.now denied found.now.words.items found.now.script) }
+    ensures places { IfOk result (λ e. All (IsFindingIn file.now) e.findings.items) }
+    ensures yes { IfOk result (λ e. e.status ≡ 0 → IsAcceptedScript file.now denied found.now.words.items found.now.script) }
+{
+    let written = written_words(alloc, file, &found.words)?;
+    let shown = slices_of(alloc, &written)?;
+    let explanation = explain_found_script(alloc, file, position, &shown, found, denied)?;
+    with_values(alloc, file, position, explanation, &found.followed)
+}
+
+/// Explains the call by what was found of its script. Its words are shown as these.
+fn explain_found_script<'a>(
+    alloc: Global,
+    file: &'a [u8],
+    position: Position,
+    shown: &[&[u8]],
+    found: &'a FoundCall,
+    denied: Denied,
+) -> Result<Explanation<'a>, AllocError>
+    requires { position ≡ position_in file.now position.offset }
+    ensures said { IfOk result (IsSaidOf file.now denied found.now.words.items found.now.script) }
+    ensures places { IfOk result (λ e. All (IsFindingIn file.now) e.findings.items) }
+{
+    match &found.script {
+        FoundScript::Text { text, holes, .. } => explain_words(
+            alloc,
+            file,
+            position,
+            &found.words,
+            shown,
+            text,
+            holes,
+            denied,
+        ),
+        FoundScript::Foreign(call) => {
+            let findings = foreign_findings(alloc, shown, &call.given)?;
+            reasons(alloc, file, position, findings)
+        }
+        FoundScript::Refused(fault) => refused(alloc, file, position, shown, *fault),
+        FoundScript::Unknown(why) => unknown(alloc, file, position, *why),
+    }
+}
+
+/// The explanation with a note for each variable that is replaced by its value.
+fn with_values<'a>(
+    alloc: Global,
+    file: &[u8],
+    position: Position,
+    explanation: Explanation<'a>,
+    followed: &[Followed],
+) -> Result<Explanation<'a>, AllocError>
+    requires position { position ≡ position_in file.now position.offset }
+    requires findings { All (IsFindingIn file.now) explanation.findings.items }
+    ensures agrees { IfOk result (Agrees explanation.entry) }
+    ensures status { IfOk result (λ e. e.status ≡ explanation.entry.status) }
+    ensures places { IfOk result (λ e. All (IsFindingIn file.now) e.findings.items) }
+{
+    let mut explanation = explanation;
+    let mut places = Places::new(alloc, file, position, &[])?;
+    let mut notes = value_notes(alloc, file, &mut places, followed)?;
+    explanation.findings.append(&mut notes)?;
+    Ok(explanation)
+}
+
+/// The words as slices.
+fn slices_of<'a>(alloc: Global, words: &'a [Vec<u8>]) -> Result<Vec<&'a [u8]>, AllocError> {
+    let mut slices = Vec::new(alloc);
+    for word in words {
+        slices.push(word.as_slice())?;
+    }
+    Ok(slices)
+}
+
+/// Explains a call with these words whose script is this text.
+fn explain_words<'a>(
+    alloc: Global,
+    file: &'a [u8],
+    position: Position,
+    words: &[Traced],
+    shown: &[&[u8]],
+    text: &'a Traced,
+    holes: &[OpenHole],
+    denied: Denied,
+) -> Result<Explanation<'a>, AllocError>
+    requires { position ≡ position_in file.now position.offset }
+    ensures said { IfOk result (IsSaidOfText file.now denied words.now text.now) }
+    ensures places { IfOk result (λ e. All (IsFindingIn file.now) e.findings.items) }
+{
+    let bytes = bytes_of(alloc, words)?;
+    match call_of(alloc, &bytes) {
+        Ok(call) => explain_script(
+            alloc, file, position, words, shown, &call, text, holes, denied,
+        ),
+        Err(CallFault::OutOfMemory) => Err(AllocError),
+        Err(_) => unknown(alloc, file, position, Unknown::Words),
+    }
+}
+
+/// Explains this call.
+fn explain_script<'a>(
+    alloc: Global,
+    file: &'a [u8],
+    position: Position,
+    words: &[Traced],
+    shown: &[&[u8]],
+    call: &Call,
+    text: &'a Traced,
+    holes: &[OpenHole],
+    denied: Denied,
+) -> Result<Explanation<'a>, AllocError>
+    requires { position ≡ position_in file.now position.offset }
+    ensures said { IfOk result (IsSaidOfCall file.now denied words.now call.now text.now) }
+    ensures places { IfOk result (λ e. All (IsFindingIn file.now) e.findings.items) }
+{
+    if has_foreign(&call.given) {
+        let findings = foreign_findings(alloc, shown, &call.given)?;
+        return reasons(alloc, file, position, findings);
+    }
+    if !is_in_file(alloc, file, words, call, text)? {
+        return unknown(alloc, file, position, Unknown::Part);
+    }
+    judged(alloc, file, position, shown, call, text, holes, denied)
+}
+
+/// Explains this call, whose script is known but for holes.
+fn judged<'a>(
+    alloc: Global,
+    file: &'a [u8],
+    position: Position,
+    shown: &[&[u8]],
+    call: &Call,
+    text: &'a Traced,
+    holes: &[OpenHole],
+    denied: Denied,
+) -> Result<Explanation<'a>, AllocError>
+    requires { position ≡ position_in file.now position.offset }
+    ensures said { IfOk result (IsJudged denied call.now text.now) }
+    ensures places { IfOk result (λ e. All (IsFindingIn file.now) e.findings.items) }
+{
+    let explanation = explain_called(alloc, &text.bytes, shown, call, denied)?;
+    let mut places = Places::new(alloc, file, position, &text.origins)?;
+    let explanation = placed(file, &mut places, explanation);
+    if has_hole(&text.origins) {
+        let warnings = open_warnings(alloc, file, &mut places, holes)?;
+        return opened(alloc, file, explanation, warnings);
+    }
+    Ok(explanation)
+}
+
+/// The explanation of a script of which something isn't known, with these warnings after its errors.
+fn opened<'a>(
+    alloc: Global,
+    file: &[u8],
+    explanation: Explanation<'a>,
+    warnings: Vec<Finding>,
+) -> Result<Explanation<'a>, AllocError>
+    requires findings { All (IsFindingIn file.now) explanation.findings.items }
+    requires warnings { All (IsFindingIn file.now) warnings.items }
+    ensures agrees { IfOk result (Agrees explanation.entry) }
+    ensures status { IfOk result (λ e. e.status ≡ status_with true explanation.entry.status) }
+    ensures places { IfOk result (λ e. All (IsFindingIn file.now) e.findings.items) }
+{
+    let mut explanation = explanation;
+    let mut warnings = warnings;
+    let errors = error_count(&explanation.findings);
+    let mut rest = explanation.findings.split_off(errors)?;
+    explanation.findings.append(&mut warnings)?;
+    explanation.findings.append(&mut rest)?;
+    if explanation.status == 0 {
+        explanation.status = UNKNOWN;
+    }
+    Ok(explanation)
+}
+
+/// How many findings at the beginning are errors.
+fn error_count(findings: &[Finding]) -> usize
+    ensures { result ≤ length findings.now }
+{
+    let mut count = 0;
+    for finding in findings {
+        if !finding.is_error() {
+            break;
+        }
+        count += 1;
+    }
+    count
+}
+
+/// The explanation of words that no sed takes.
+fn refused<'a>(
+    alloc: Global,
+    file: &'a [u8],
+    position: Position,
+    words: &[&[u8]],
+    fault: CallFault,
+) -> Result<Explanation<'a>, AllocError>
+    requires { position ≡ position_in file.now position.offset }
+    ensures said { IfOk result (IsUnjudged 2) }
+    ensures places { IfOk result (λ e. All (IsFindingIn file.now) e.findings.items) }
+{
+    let findings = refusal_of(alloc, words, fault)?;
+    reasons(alloc, file, position, findings)
+}
+
+/// The explanation of a script that isn't judged, for these reasons at the call.
+fn reasons<'a>(
+    alloc: Global,
+    file: &'a [u8],
+    position: Position,
+    findings: Vec<Finding>,
+) -> Result<Explanation<'a>, AllocError>
+    requires { position ≡ position_in file.now position.offset }
+    ensures said { IfOk result (IsUnjudged 2) }
+    ensures places { IfOk result (λ e. All (IsFindingIn file.now) e.findings.items) }
+{
+    let mut findings = findings;
+    let mut places = Places::new(alloc, file, position, &[])?;
+    place_findings(&mut places, &mut findings);
+    Ok(not_judged(alloc, file, findings))
+}
+
+/// The explanation of a script that isn't known.
+fn unknown<'a>(
+    alloc: Global,
+    file: &'a [u8],
+    position: Position,
+    why: Unknown,
+) -> Result<Explanation<'a>, AllocError>
+    requires { position ≡ position_in file.now position.offset }
+    ensures said { IfOk result (IsUnjudged 5) }
+    ensures places { IfOk result (λ e. All (IsFindingIn file.now) e.findings.items) }
+{
+    let mut explanation = not_judged(alloc, file, unknown_warning(alloc, file, position, why)?);
+    explanation.status = UNKNOWN;
+    Ok(explanation)
+}

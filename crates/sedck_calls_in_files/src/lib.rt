@@ -1,0 +1,24 @@
+//! The calls of sed in files and folders: what is found in them is explained and reported.
+//!
+//! What is read of a call isn't trusted: `explain_found` compares it with the file, and its answer and the lines and columns of its
+//! findings are proved. So is which status the calls of a file have, and those of the files that are given. Which calls a file has is
+//! what a `Finder` says, and that of the program, in `sedck_found`, is tested; so is what is written.
+#![tactic(auto)]
+
+mod answers;
+mod file;
+mod finder;
+mod holes;
+mod judging;
+mod placed;
+mod places;
+mod reading;
+mod request;
+mod tracing;
+mod walk;
+
+pub use file::{explain_calls, explain_text};
+pub use finder::{AsTheShell, Finder};
+pub use judging::explain_found;
+pub use request::{Look, Scan};
+pub use walk::scan_files;

@@ -1,0 +1,30 @@
+//! What is asked of a scan.
+
+use sedck_explanation::{Denied, Level};
+use sedck_found::Assumed;
+use sedck_hosts::Kind;
+
+/// How the reports of a scan look.
+#[derive(Clone, Copy, Debug, PartialEq, Eq)]
+pub enum Look {
+    /// For people, in colours of ANSI terminals or without.
+    Text { colour: bool },
+    Gcc,
+    Json,
+}
+
+/// What is asked for.
+#[derive(Drop)]
+pub struct Scan<'a> {
+    /// Files and folders.
+    pub paths: &'a [&'a str],
+    /// What all files are taken for; none where each is taken for what its name and its first line say.
+    pub kind: Option<Kind>,
+    /// Values of variables.
+    pub assumed: &'a [Assumed<'a>],
+    /// What a script may not have.
+    pub denied: Denied,
+    pub look: Look,
+    /// The least level of findings that are reported.
+    pub least: Level,
+}

@@ -1,0 +1,105 @@
+//! Whether the file has what was read of a call, which isn't trusted.
+
+ghost use Rattle.std.specs.Prelude.{◌≡◌, map, IfOk};
+ghost use Rattle.std.specs.List.{list_any};
+ghost use Rattle.sedck_calls_in_files.specs.Judged.{words_of, piece_text, script_in, is_file as is_file_piece, are_traced as are_traced_texts, is_in_file as is_call_in_file};
+
+use sedck_calls::{Call, Piece, joined};
+use sedck_traced::{Traced, has_hole, is_traced};
+use std::alloc::{AllocError, Global};
+
+/// The bytes of the words.
+pub(crate) fn bytes_of<'a>(alloc: Global, words: &'a [Traced]) -> Result<Vec<&'a [u8]>, AllocError>
+    ensures { IfOk result (λ slices. map (λ slice. slice.now) slices.items ≡ words_of words.now) }
+{
+    let mut slices = Vec::new(alloc);
+    for word in words {
+        slices.push(word.bytes.as_slice())?;
+    }
+    Ok(slices)
+}
+
+/// Whether the file has the words and the script where their origins say, and the words give just this script.
+pub(crate) fn is_in_file(
+    alloc: Global,
+    file: &[u8],
+    words: &[Traced],
+    call: &Call,
+    text: &Traced,
+) -> Result<bool, AllocError>
+    ensures { IfOk result (λ is. is ≡ is_call_in_file file.now words.now call.now text.now) }
+{
+    if !are_traced(file, words) || !is_traced(file, &text.bytes, &text.origins) {
+        return Ok(false);
+    }
+    if has_hole(&text.origins) || has_file(&call.pieces) {
+        return Ok(true);
+    }
+    let slices = bytes_of(alloc, words)?;
+    let script = script_of(alloc, &slices, &call.pieces)?;
+    Ok(script.as_slice() == text.bytes.as_slice())
+}
+
+/// Whether the file has each byte of the texts where its origin says.
+fn are_traced(file: &[u8], texts: &[Traced]) -> bool
+    ensures { result ≡ are_traced_texts file.now texts.now }
+{
+    for text in texts {
+        if !is_traced(file, &text.bytes, &text.origins) {
+            return false;
+        }
+    }
+    true
+}
+
+/// Whether a part of the script is a file.
+fn has_file(pieces: &[Piece]) -> bool
+    ensures { result ≡ list_any is_file_piece pieces.now }
+{
+    for piece in pieces {
+        if is_file(*piece) {
+            return true;
+        }
+    }
+    false
+}
+
+/// Whether the part of the script is a file.
+fn is_file(piece: Piece) -> bool
+    ensures { result ≡ is_file_piece piece }
+{
+    match piece {
+        Piece::Text(_) => false,
+        Piece::File(_) => true,
+    }
+}
+
+/// The script that the words give.
+fn script_of(alloc: Global, words: &[&[u8]], pieces: &[Piece]) -> Result<Vec<u8>, AllocError>
+    ensures { IfOk result (λ script. script.items ≡ script_in (map (λ word. word.now) words.now) pieces.now) }
+{
+    let parts = parts_of(alloc, words, pieces)?;
+    joined(alloc, &parts)
+}
+
+/// The parts of the script that are in words.
+fn parts_of(alloc: Global, words: &[&[u8]], pieces: &[Piece]) -> Result<Vec<Vec<u8>>, AllocError>
+    ensures { IfOk result (λ parts. map (λ part. part.items) parts.items ≡ map (piece_text (map (λ word. word.now) words.now)) pieces.now) }
+{
+    let mut parts = Vec::new(alloc);
+    for piece in pieces {
+        parts.push(part_of(alloc, words, *piece)?)?;
+    }
+    Ok(parts)
+}
+
+/// The part of the script that is in a word.
+fn part_of(alloc: Global, words: &[&[u8]], piece: Piece) -> Result<Vec<u8>, AllocError>
+    ensures { IfOk result (λ part. part.items ≡ piece_text (map (λ word. word.now) words.now) piece) }
+{
+    let mut part = Vec::new(alloc);
+    if let Piece::Text(origin) = piece {
+        part.extend_from_slice(origin.text(words))?;
+    }
+    Ok(part)
+}

@@ -1,0 +1,378 @@
+//! Files and folders, one after another.
+
+ghost use Rattle.std.specs.Prelude.{◌≡◌, ◌≢◌, ◌≤◌, map, IfOk};
+ghost use Rattle.std.specs.Io.KnownBytes.{Keeps};
+ghost use Rattle.sedck_calls_in_files.specs.Scanned.{PathStatus, IsWorstOf};
+ghost use Rattle.sedck_calls_in_files.specs.Private.Contents.{ContentsStatus, SourceStatus};
+
+use crate::file::{explain_text, greater};
+use crate::finder::Finder;
+use crate::reading::{Contents, contents_of};
+use crate::request::{Look, Scan};
+use sedck_cert::streams::{Failed, FromRead, Sink, Source, write_all};
+use sedck_engines::Opener;
+use sedck_explanation::Unexplained;
+use sedck_formats::{Counts, json_counts, json_unreadable, shown_letter};
+use std::alloc::{AllocError, Global};
+use std::fs;
+use std::fs::Files;
+use std::io::{Error, ErrorKind, Input};
+
+/// Folders of version control, which aren't walked.
+static HIDDEN: [&'static str; 5] = [".git", ".hg", ".svn", ".bzr", "_darcs"];
+
+/// What is known so far.
+#[derive(Drop)]
+struct Pass {
+    counts: Counts,
+    /// What can't be read, and why.
+    unread: Vec<String>,
+}
+
+/// What the files and folders are visited with.
+#[derive(Drop)]
+struct Walk<'a, R, O, F> {
+    rt: &'a R,
+    files: &'a O,
+    finder: &'a F,
+    scan: &'a Scan<'a>,
+}
+
+/// Explains each call in the files and in those below the folders, in sorted order, writes the reports and at the end how many there
+/// are, and answers the exit status: that of the calls which tells most, in the order 2, 1, 5, 0, or 4 where a file can't be read, a
+/// write fails or memory runs out. Links in folders aren't followed. What can't be read is reported at the end.
+///
+/// Files are opened by the opener, and folders are those of the system.
+pub fn scan_files<
+    R: Files + Input + AllocGlobal + Clone + Drop,
+    O: Opener,
+    F: Finder,
+    W: Sink,
+    E: Sink,
+>(rt: &R, files: &O, finder: &F, scan: &Scan, out: &mut W, err: &mut E) -> u8
+    ensures within { result ≤ 5 }
+    ensures known { result ≢ 3 }
+    ensures worst { result ≢ 4 → IsWorstOf (PathStatus (O.known files.now) (F.found finder.now) scan.now.denied) 0 (map (λ path. path.now) scan.now.paths.now) result }
+    ensures silent { result ≢ 4 → Keeps (E.taken err.old) (E.taken err.new) }
+{
+    let mut pass = Pass {
+        counts: Counts::NONE,
+        unread: Vec::new(rt.alloc()),
+    };
+    let walk = Walk {
+        rt,
+        files,
+        finder,
+        scan,
+    };
+    match walk.visit_all(&mut pass, out) {
+        Ok(status) if pass.unread.is_empty() => status_of(status),
+        Ok(_) => {
+            let _ = write_unread(err, &pass.unread);
+            4
+        }
+        Err(fault) => {
+            let _ = write_fault(err, fault);
+            4
+        }
+    }
+}
+
+/// The status where all was read and written.
+fn status_of(status: u8) -> u8
+    ensures within { result ≤ 5 }
+    ensures known { result ≢ 3 }
+    ensures same { result ≢ 4 → result ≡ status }
+{
+    match status {
+        0 | 1 | 2 | 5 => status,
+        _ => 4,
+    }
+}
+
+impl<R: Files + Input + AllocGlobal + Clone + Drop, O: Opener, F: Finder> Walk<'_, R, O, F> {
+    /// Visits all that is given, and writes how many calls there are. Answers the status that tells most.
+    fn visit_all<W: Sink>(&self, pass: &mut Pass, out: &mut W) -> Result<u8, Unexplained>
+        ensures { IfOk result (IsWorstOf (PathStatus (O.known self.now.files.now) (F.found self.now.finder.now) self.now.scan.now.denied) 0
+            (map (λ path. path.now) self.now.scan.now.paths.now)) }
+    {
+        let mut status = 0;
+        for path in self.scan.paths {
+            let one = self.visit_path(path, pass, out)?;
+            status = greater(status, one);
+        }
+        write_counts(self.rt.alloc(), self.scan.look, pass.counts, status, out)?;
+        Ok(status)
+    }
+
+    /// Visits a file that is given, or a folder with all that is below it: the status that tells most, 4 where something can't be
+    /// read. The path `-` is standard input.
+    fn visit_path<W: Sink>(
+        &self,
+        path: &str,
+        pass: &mut Pass,
+        out: &mut W,
+    ) -> Result<u8, Unexplained>
+        ensures { IfOk result (PathStatus (O.known self.now.files.now) (F.found self.now.finder.now) self.now.scan.now.denied path.now) }
+    {
+        if path == "-" {
+            return self.visit_source(path, &mut FromRead::new(self.rt.reader()), pass, out);
+        }
+        match self.files.open(path) {
+            Ok(mut file) => self.visit_source(path, &mut file, pass, out),
+            Err(_) => self.skip(path, pass, out),
+        }
+    }
+
+    /// Visits what is open at a path that is given: a file, or a folder, of which nothing can be read.
+    fn visit_source<S: Source, W: Sink>(
+        &self,
+        path: &str,
+        source: &mut S,
+        pass: &mut Pass,
+        out: &mut W,
+    ) -> Result<u8, Unexplained>
+        ensures { IfOk result (SourceStatus (S.left source.old) (S.has_failed source.new) (F.found self.now.finder.now path.now) self.now.scan.now.denied) }
+    {
+        let contents = contents_of(self.rt.alloc(), path, self.scan.kind, true, source)?;
+        if matches!(&contents, Contents::Unreadable) && path != "-" && self.is_folder(path) {
+            return self.visit_folder(path, pass, out);
+        }
+        self.explain(path, &contents, pass, out)
+    }
+
+    /// Explains the calls of a file that holds this.
+    fn explain<W: Sink>(
+        &self,
+        path: &str,
+        contents: &Contents,
+        pass: &mut Pass,
+        out: &mut W,
+    ) -> Result<u8, Unexplained>
+        ensures { IfOk result (ContentsStatus (F.found self.now.finder.now path.now) self.now.scan.now.denied contents.now) }
+    {
+        match contents {
+            Contents::Text(kind, text) => explain_text(
+                self.rt.alloc(),
+                self.finder,
+                self.scan,
+                path,
+                *kind,
+                text,
+                &mut pass.counts,
+                out,
+            ),
+            Contents::Other => Ok(0),
+            Contents::TooLong => {
+                let reason = Some("it has more than 67,108,864 bytes");
+                report_unread(self.rt.alloc(), self.scan.look, path, reason, pass, out)
+            }
+            Contents::Unreadable => self.skip(path, pass, out),
+        }
+    }
+
+    /// Whether a folder is at the path.
+    fn is_folder(&self, path: &str) -> bool {
+        match fs::metadata(self.rt, path) {
+            Ok(metadata) => metadata.is_dir(),
+            Err(_) => false,
+        }
+    }
+
+    /// Visits all that is in the folder, in sorted order: the status that tells most.
+    fn visit_folder<W: Sink>(
+        &self,
+        folder: &str,
+        pass: &mut Pass,
+        out: &mut W,
+    ) -> Result<u8, Unexplained> {
+        let mut pending = Vec::new(self.rt.alloc());
+        let mut status = self.enter(folder, &mut pending, pass, out)?;
+        for _ in 0..u64::MAX {
+            let Some(next) = pending.pop() else {
+                break;
+            };
+            let one = self.visit_entry(next.as_str(), &mut pending, pass, out)?;
+            status = greater(status, one);
+        }
+        Ok(status)
+    }
+
+    /// Visits an entry of a folder. The entries of a folder are added to what is pending.
+    fn visit_entry<W: Sink>(
+        &self,
+        path: &str,
+        pending: &mut Vec<String>,
+        pass: &mut Pass,
+        out: &mut W,
+    ) -> Result<u8, Unexplained> {
+        let Ok(metadata) = fs::symlink_metadata(self.rt, path) else {
+            return self.skip(path, pass, out);
+        };
+        if metadata.is_dir() {
+            return self.enter(path, pending, pass, out);
+        }
+        if !metadata.is_file() {
+            return Ok(0);
+        }
+        let Ok(mut file) = self.files.open(path) else {
+            return self.skip(path, pass, out);
+        };
+        let contents = contents_of(self.rt.alloc(), path, None, false, &mut file)?;
+        self.explain(path, &contents, pass, out)
+    }
+
+    /// Adds the entries of the folder to what is pending: status 0, or 4 where not all of their names can be read.
+    fn enter<W: Sink>(
+        &self,
+        folder: &str,
+        pending: &mut Vec<String>,
+        pass: &mut Pass,
+        out: &mut W,
+    ) -> Result<u8, Unexplained> {
+        if add_entries(self.rt, folder, pending)? {
+            return Ok(0);
+        }
+        self.skip(folder, pass, out)
+    }
+
+    /// Keeps that the file or folder can't be read: status 4.
+    fn skip<W: Sink>(&self, path: &str, pass: &mut Pass, out: &mut W) -> Result<u8, Unexplained>
+        ensures { IfOk result (λ status. status ≡ 4) }
+    {
+        let reason = match self.files.why_unreadable(path) {
+            Some("it is a directory") => Some("not all of its names can be read"),
+            other => other,
+        };
+        report_unread(self.rt.alloc(), self.scan.look, path, reason, pass, out)
+    }
+}
+
+/// Writes how many calls there are, where the look has such a line.
+fn write_counts<W: Sink>(
+    alloc: Global,
+    look: Look,
+    counts: Counts,
+    status: u8,
+    out: &mut W,
+) -> Result<(), Unexplained> {
+    match look {
+        Look::Text { .. } => written(out, &counts.text(alloc)?),
+        Look::Json => written(out, &json_counts(alloc, counts, status)?),
+        Look::Gcc => Ok(()),
+    }
+}
+
+/// Adds the entries of the folder, of which the first in order comes last. Whether all of its names could be read.
+fn add_entries<R: Files + AllocGlobal + Clone + Drop>(
+    rt: &R,
+    folder: &str,
+    pending: &mut Vec<String>,
+) -> Result<bool, AllocError> {
+    let alloc = rt.alloc();
+    let entries = match fs::read_dir(rt, folder) {
+        Ok(entries) => entries,
+        Err(error) => return failed(&error),
+    };
+    let mut is_whole = true;
+    let mut paths: Vec<String> = Vec::new(alloc);
+    for entry in entries {
+        match entry {
+            Ok(entry) => {
+                let name = entry.file_name();
+                if !HIDDEN.contains(&name) {
+                    paths.push(joined(alloc, folder, name)?)?;
+                }
+            }
+            Err(error) => is_whole = failed(&error)?,
+        }
+    }
+    paths.sort()?;
+    paths.reverse();
+    pending.append(&mut paths)?;
+    Ok(is_whole)
+}
+
+/// That a folder's names can't all be read, unless it is memory that lacks.
+fn failed(error: &Error) -> Result<bool, AllocError> {
+    if error.kind() == ErrorKind::OutOfMemory {
+        return Err(AllocError);
+    }
+    Ok(false)
+}
+
+/// The path of an entry of the folder.
+fn joined(alloc: Global, folder: &str, name: &str) -> Result<String, AllocError> {
+    if folder.ends_with('/') {
+        return format!(in alloc; "{folder}{name}");
+    }
+    format!(in alloc; "{folder}/{name}")
+}
+
+/// Keeps what can't be read and why, and writes its object where objects are asked for: status 4.
+fn report_unread<W: Sink>(
+    alloc: Global,
+    look: Look,
+    path: &str,
+    reason: Option<&'static str>,
+    pass: &mut Pass,
+    out: &mut W,
+) -> Result<u8, Unexplained>
+    ensures { IfOk result (λ status. status ≡ 4) }
+{
+    let message = unread_words(alloc, path, reason)?;
+    pass.counts.unreadable = pass.counts.unreadable.saturating_add(1);
+    if look == Look::Json {
+        written(out, &json_unreadable(alloc, path, message.as_str())?)?;
+    }
+    keep(&mut pass.unread, message)?;
+    Ok(4)
+}
+
+/// Keeps the words.
+fn keep(unread: &mut Vec<String>, words: String) -> Result<(), AllocError> {
+    Ok(unread.push(words)?)
+}
+
+/// What can't be read and why, in words.
+fn unread_words(
+    alloc: Global,
+    path: &str,
+    reason: Option<&'static str>,
+) -> Result<String, AllocError> {
+    let mut words = String::from_str(alloc, "cannot read ")?;
+    for letter in path.chars() {
+        words.push(shown_letter(letter))?;
+    }
+    if let Some(reason) = reason {
+        words.push_str(": ")?;
+        words.push_str(reason)?;
+    }
+    Ok(words)
+}
+
+/// Writes the bytes.
+fn written<W: Sink>(out: &mut W, bytes: &[u8]) -> Result<(), Unexplained> {
+    match write_all(out, bytes) {
+        Ok(()) => Ok(()),
+        Err(_) => Err(Unexplained::Write),
+    }
+}
+
+/// Writes why the scan ends.
+fn write_fault<E: Sink>(err: &mut E, fault: Unexplained) -> Result<(), Failed> {
+    match fault {
+        Unexplained::Write => write_all(err, b"sedck-explain: cannot write\n"),
+        _ => write_all(err, b"sedck-explain: out of memory\n"),
+    }
+}
+
+/// Writes a line for each that can't be read.
+fn write_unread<E: Sink>(err: &mut E, unread: &[String]) -> Result<(), Failed> {
+    for words in unread {
+        write_all(err, b"sedck-explain: ")?;
+        write_all(err, words.as_bytes())?;
+        write_all(err, b"\n")?;
+    }
+    Ok(())
+}

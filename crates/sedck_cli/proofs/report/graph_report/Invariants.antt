@@ -1,5 +1,0 @@
-use Rattle.sedck_cli.proofs.GraphLines.{IsGraphUpTo}
-use Rattle.sedck_cli.proofs.report.graph_report.Given as goal
-
-abbrev pub invariant-loop-index : goal.invariant-loop-index
-invariant-loop-index l = IsGraphUpTo l.script l.index l.initial.report.items l.report.items

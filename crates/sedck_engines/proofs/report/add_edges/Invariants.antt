@@ -1,0 +1,7 @@
+use Rattle.std.proofs.Common.{◌≡◌, ◌++◌}
+use Rattle.sedck_engines.specs.Reports.{edge_lines}
+use Rattle.sedck_engines.proofs.report.add_edges.Given as goal
+
+-- the report so far, and the edges to come
+abbrev pub invariant-loop-edge : goal.invariant-loop-edge
+invariant-loop-edge l = l.report.items ++ edge_lines l.edge-iterator ≡ l.initial.report.items ++ edge_lines l.initial.edge-iterator

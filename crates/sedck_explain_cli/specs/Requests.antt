@@ -1,0 +1,40 @@
+-- The request that the words of the command line are, this project's own.
+use Rattle.std.specs.Prelude.{◌≡◌, ◌||◌, ℕ, Bool, false, List, [], ◌∷◌, map, Option, Some, None, option_map, codes}
+use Rattle.sedck_errors.specs.declared.denied.Denied.{Denied}
+use Rattle.sedck_explain_cli.specs.Readings.{Asked, is_named, read}
+use Rattle.sedck_explain_cli.specs.declared.request.Request.{Request}
+
+-- the path of the request's certificate, if it has one
+abbrev pub certificate_of : Request → Option (List ℕ)
+certificate_of request = option_map (λ path. path.now) request.certificate
+
+-- the paths of its scripts, in their order
+abbrev pub scripts_of : Request → List (List ℕ)
+scripts_of request = map (λ path. path.now) request.scripts.items
+
+-- what is denied by these names, which have commas between
+abbrev pub denied_by : Option (List ℕ) → Denied
+denied_by None = record { reads = false; writes = false; warnings = false; unbounded = false }
+denied_by (Some names) = record {
+  reads = is_named names (codes "reads");
+  writes = is_named names (codes "writes");
+  warnings = is_named names (codes "warnings");
+  unbounded = is_named names (codes "unbounded");
+}
+
+-- where a script is missing, it is standard input
+abbrev pub paths_of : Bool → List (List ℕ) → List (List ℕ)
+paths_of false [] = codes "-" ∷ []
+paths_of may_be_none paths = paths
+
+-- the request is for this: it has all that its status depends on
+pub record AsksFor (asked : Asked) (request : Request) : Type 0 where
+  pub certificate : certificate_of request ≡ asked.certificate
+  pub denied : request.denied ≡ denied_by asked.denied
+  pub sed : request.sed ≡ asked.sed
+  pub calls : request.calls ≡ asked.calls
+  pub scripts : scripts_of request ≡ paths_of (asked.sed || asked.calls) asked.paths
+
+-- the request that these words are
+abbrev pub IsRequest : List (List ℕ) → Request → Type 0
+IsRequest words request = AsksFor (read words) request

@@ -1,0 +1,83 @@
+//! From sources to a report on a sink.
+
+ghost use Rattle.std.specs.Prelude.{◌≡◌, ◌≢◌, ◌≤◌, true, false, IsTrue, Some, None, IfOk, IfErr, OnOk};
+ghost use Rattle.std.specs.Option.{option_map};
+ghost use Rattle.std.specs.Io.KnownBytes.{Keeps, Appends};
+ghost use Rattle.sedck_engines.specs.declared.answer.RunFault.TheVariants as fault;
+ghost use Rattle.sedck_explain_cli.specs.Explained.{IsReport, IsExplained, IsExplainedWith, IsReason};
+
+use crate::reporter::Reporter;
+use sedck_cert::streams::{Sink, Source, write_all};
+use sedck_engines::{RunFault, read_certificate, read_script};
+use sedck_explanation::{Denied, explain};
+use std::alloc::{AllocError, Global};
+
+/// Reads a script, writes the report on it, and answers its exit status, which is 1 where the script is accepted and has what is
+/// denied.
+pub fn explain_alone<F: Reporter, R: Source, W: Sink>(
+    alloc: Global,
+    reporter: &F,
+    name: &str,
+    denied: Denied,
+    script: &mut R,
+    out: &mut W,
+) -> Result<u8, RunFault>
+    ensures status { IfOk result (IsExplained (F.reported reporter.now name.now) denied (R.left script.old) (record { before = W.taken out.old; after = W.taken out.new })) }
+    ensures few { IfOk result (λ status. status ≤ 2) }
+    ensures reason { IfErr result (IsReason (R.has_failed script.new) false (W.has_failed out.new)) }
+    ensures kept { IfErr result (λ why. why ≢ fault.Write → Keeps (W.taken out.old) (W.taken out.new)) }
+{
+    let text = read_script(alloc, script)?;
+    let (report, status) = report_of(alloc, reporter, name, &text, None, denied)?;
+    written(out, &report, status)
+}
+
+/// Reads a script and a certificate, writes the report on both, and answers its exit status.
+pub fn explain_with<F: Reporter, R: Source, C: Source, W: Sink>(
+    alloc: Global,
+    reporter: &F,
+    name: &str,
+    denied: Denied,
+    script: &mut R,
+    cert: &mut C,
+    out: &mut W,
+) -> Result<u8, RunFault>
+    ensures status { IfOk result (IsExplainedWith (F.reported reporter.now name.now) denied (R.left script.old) (C.left cert.old) (record { before = W.taken out.old; after = W.taken out.new })) }
+    ensures few { IfOk result (λ status. status ≤ 2) }
+    ensures reason { IfErr result (IsReason (R.has_failed script.new) (C.has_failed cert.new) (W.has_failed out.new)) }
+    ensures kept { IfErr result (λ why. why ≢ fault.Write → Keeps (W.taken out.old) (W.taken out.new)) }
+{
+    let text = read_script(alloc, script)?;
+    let bytes = read_certificate(alloc, cert)?;
+    let (report, status) = report_of(alloc, reporter, name, &text, Some(&bytes), denied)?;
+    written(out, &report, status)
+}
+
+/// The report on what was read, and its exit status.
+fn report_of<F: Reporter>(
+    alloc: Global,
+    reporter: &F,
+    name: &str,
+    text: &[u8],
+    certificate: Option<&[u8]>,
+    denied: Denied,
+) -> Result<(Vec<u8>, u8), AllocError>
+    ensures few { IfOk result (λ made. made.1 ≤ 2) }
+    ensures report { IfOk result (λ made. IsReport (F.reported reporter.now name.now) text.now (option_map (λ bytes. bytes.now) certificate.entry) denied made.0.items made.1) }
+{
+    let explanation = explain(alloc, text, certificate, denied)?;
+    let status = explanation.status;
+    Ok((reporter.report(alloc, name, &explanation)?, status))
+}
+
+/// Writes the report, and answers the status.
+fn written<W: Sink>(out: &mut W, report: &[u8], status: u8) -> Result<u8, RunFault>
+    ensures status { IfOk result (λ answered. answered ≡ status) }
+    ensures whole { OnOk result (Appends (W.taken out.old) (W.taken out.new) report.now) }
+    ensures fault { IfErr result (λ why. (why ≡ fault.Write) × IsTrue (W.has_failed out.new)) }
+{
+    match write_all(out, report) {
+        Ok(()) => Ok(status),
+        Err(_) => Err(RunFault::Write),
+    }
+}

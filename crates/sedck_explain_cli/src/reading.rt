@@ -1,0 +1,131 @@
+//! What the words ask for, as far as the exit status depends on it: which option each word is, or whose value, and the paths.
+//!
+//! `clap` has read the words before, and refuses what isn't valid: so each word is read alone here, and no theorem rests on `clap`.
+
+ghost use Rattle.std.specs.Prelude.{◌≡◌, IfOk, OnOk, option_map};
+ghost use Rattle.sedck_explain_cli.specs.Readings.{texts_of, after, after_any, behind, is_option as is_option_text, read, is_named};
+ghost use Rattle.sedck_explain_cli.specs.Private.Readings.{asked_of};
+
+use std::alloc::{AllocError, Global};
+
+/// What the words so far ask for.
+#[derive(Drop)]
+pub(crate) struct Reading<'a> {
+    pub(crate) certificate: Option<&'a str>,
+    /// What is denied, with commas between.
+    pub(crate) denied: Option<&'a str>,
+    pub(crate) sed: bool,
+    pub(crate) calls: bool,
+    pub(crate) paths: Vec<&'a str>,
+    pub(crate) next: Next,
+}
+
+/// What the next word is.
+#[derive(Clone, Copy)]
+pub(crate) enum Next {
+    /// An option, or a path.
+    Any,
+    /// The certificate's path.
+    Certificate,
+    /// What is denied.
+    Denied,
+    /// The value of an option on which the status doesn't depend.
+    Other,
+    /// A path, whatever it begins with.
+    Path,
+}
+
+/// What the words ask for.
+pub(crate) fn read_words<'a>(alloc: Global, words: &'a [String]) -> Result<Reading<'a>, AllocError>
+    ensures { IfOk result (λ reading. asked_of reading ≡ read (texts_of words.now)) }
+{
+    let mut reading = Reading {
+        certificate: None,
+        denied: None,
+        sed: false,
+        calls: false,
+        paths: Vec::new(alloc),
+        next: Next::Any,
+    };
+    for word in words {
+        reading.add(word)?;
+    }
+    Ok(reading)
+}
+
+impl<'a> Reading<'a> {
+    /// Reads one word more.
+    fn add(&mut self, word: &'a str) -> Result<(), AllocError>
+        ensures { OnOk result (asked_of self.new ≡ after (asked_of self.old) word.entry.now) }
+    {
+        match self.next {
+            Next::Any => return self.add_any(word),
+            Next::Certificate => self.certificate = Some(word),
+            Next::Denied => self.denied = Some(word),
+            Next::Other => {}
+            Next::Path => return Ok(self.paths.push(word)?),
+        }
+        self.next = Next::Any;
+        Ok(())
+    }
+
+    /// Reads a word that is no option's value.
+    fn add_any(&mut self, word: &'a str) -> Result<(), AllocError>
+        ensures { OnOk result (asked_of self.new ≡ after_any (asked_of self.old) word.entry.now) }
+    {
+        if let Some(path) = rest_behind("--cert=", word) {
+            self.certificate = Some(path);
+            return Ok(());
+        }
+        if let Some(names) = rest_behind("--deny=", word) {
+            self.denied = Some(names);
+            return Ok(());
+        }
+        match word {
+            "--cert" => self.next = Next::Certificate,
+            "--deny" => self.next = Next::Denied,
+            "--sed" => self.sed = true,
+            "--calls" => self.calls = true,
+            "--" => self.next = Next::Path,
+            "--format" | "--level" | "--stdin-filename" | "--as" | "--assume" => {
+                self.next = Next::Other
+            }
+            _ => {
+                if !is_option(word) {
+                    self.paths.push(word)?;
+                }
+            }
+        }
+        Ok(())
+    }
+}
+
+/// What follows the prefix, if the word begins with it.
+fn rest_behind<'a>(prefix: &str, word: &'a str) -> Option<&'a str>
+    ensures { option_map (λ rest. rest.now) result ≡ behind prefix.now word.entry.now }
+{
+    word.strip_prefix(prefix)
+}
+
+/// Whether the word begins with a hyphen, and isn't just one.
+fn is_option(word: &str) -> bool
+    ensures { result ≡ is_option_text word.now }
+{
+    matches!(word.as_bytes(), [b'-', _, ..])
+}
+
+/// Whether this is one of the names, which have commas between.
+pub(crate) fn names(list: &[u8], name: &[u8]) -> bool
+    ensures { result ≡ is_named list.now name.now }
+{
+    let mut start = 0;
+    for at in 0..list.len() {
+        if list[at] == b',' {
+            if &list[start..at] == name {
+                return true;
+            }
+            start = at + 1;
+        }
+    }
+    &list[start..] == name
+}

@@ -1,0 +1,269 @@
+//! What the arguments ask for.
+
+ghost use Rattle.std.specs.Prelude.{◌≡◌, map, IfOk, option_map};
+ghost use Rattle.sedck_explain_cli.specs.Readings.{texts_of};
+ghost use Rattle.sedck_explain_cli.specs.Requests.{IsRequest, denied_by, paths_of};
+
+use crate::format::{Format, NAMES, Style};
+use crate::reading::{Reading, names, read_words};
+use clap::{Arg, ArgAction, ArgMatches, Command, Error};
+use sedck_explanation::{Denied, Level};
+use sedck_formats::VERSION;
+use sedck_found::Assumed;
+use sedck_hosts::Kind;
+use std::alloc::{AllocError, Global};
+
+/// What is asked for.
+#[derive(Drop)]
+pub struct Request<'a> {
+    pub format: Format,
+    /// The least level of findings that are reported.
+    pub least: Level,
+    /// What a script may not have.
+    pub denied: Denied,
+    /// The certificate's path.
+    pub certificate: Option<&'a str>,
+    /// The name of standard input in reports.
+    pub stdin_name: &'a str,
+    /// Whether the words of a call of sed follow.
+    pub sed: bool,
+    /// Whether calls of sed in files and folders are explained, and not scripts.
+    pub calls: bool,
+    /// What those files are taken for.
+    pub kind: Option<Kind>,
+    /// Values of variables in them.
+    pub assumed: Vec<Assumed<'a>>,
+    /// The scripts' paths, at least one; `-` is standard input. Where the words of a call follow, or calls in files are explained, those
+    /// that were given.
+    pub scripts: Vec<&'a str>,
+}
+
+impl Request<'_> {
+    /// How reports look.
+    pub fn style(&self, colour: bool) -> Style {
+        Style {
+            format: self.format,
+            colour,
+            least: self.least,
+        }
+    }
+}
+
+/// What the arguments ask for, or why nothing, in words of `clap`, which reads all of them. What the exit status depends on is
+/// read once more, so that no theorem on it rests on `clap`.
+pub fn request_of<'a>(alloc: Global, words: &'a [String]) -> Result<Request<'a>, Error>
+    ensures { IfOk result (IsRequest (texts_of words.now)) }
+{
+    let matches = command(alloc)?.try_get_matches_from(words)?;
+    let Reading {
+        certificate,
+        denied,
+        sed,
+        calls,
+        paths,
+        ..
+    } = read_words(alloc, words)?;
+    let format = format_of(&matches);
+    Ok(Request {
+        format,
+        least: level_of(&matches, format),
+        denied: denied_of(denied),
+        certificate,
+        stdin_name: matches.get_str("stdin-filename").unwrap_or("-"),
+        sed,
+        calls,
+        kind: kind_of(&matches),
+        assumed: assumed_of(alloc, &matches)?,
+        scripts: scripts_of(paths, sed || calls)?,
+    })
+}
+
+/// The format that is asked for, or text.
+fn format_of(matches: &ArgMatches) -> Format {
+    match matches.get_str("format") {
+        Some(name) => Format::named(name).unwrap_or(Format::Text),
+        None => Format::Text,
+    }
+}
+
+/// The least level of findings that is asked for, or that of the format.
+fn level_of(matches: &ArgMatches, format: Format) -> Level {
+    match matches.get_str("level") {
+        Some("error") => Level::Error,
+        Some("warning") => Level::Warning,
+        Some(_) => Level::Note,
+        None => format.least(),
+    }
+}
+
+/// The scripts' paths, or that of standard input, unless there may be none.
+fn scripts_of<'a>(paths: Vec<&'a str>, may_be_none: bool) -> Result<Vec<&'a str>, AllocError>
+    ensures { IfOk result (λ scripts. map (λ path. path.now) scripts.items ≡ paths_of may_be_none (map (λ path. path.now) paths.entry.items)) }
+{
+    let mut scripts = paths;
+    if scripts.is_empty() && !may_be_none {
+        scripts.push("-")?;
+    }
+    Ok(scripts)
+}
+
+/// What files are taken for, or none.
+fn kind_of(matches: &ArgMatches) -> Option<Kind> {
+    Kind::named(matches.get_str("as")?)
+}
+
+/// The values of variables. What has no `=` is a name with an empty value.
+fn assumed_of<'a>(alloc: Global, matches: &ArgMatches<'a>) -> Result<Vec<Assumed<'a>>, AllocError> {
+    let mut assumed = Vec::new(alloc);
+    if let Some(words) = matches.get_strs("assume") {
+        for word in words {
+            let (name, value) = word.split_once('=').unwrap_or((*word, ""));
+            assumed.push(Assumed {
+                name: name.as_bytes(),
+                value: value.as_bytes(),
+            })?;
+        }
+    }
+    Ok(assumed)
+}
+
+/// What is denied, by these names.
+fn denied_of(given: Option<&str>) -> Denied
+    ensures { result ≡ denied_by (option_map (λ list. list.now) given.entry) }
+{
+    match given {
+        Some(list) => Denied {
+            reads: names(list.as_bytes(), b"reads"),
+            writes: names(list.as_bytes(), b"writes"),
+            warnings: names(list.as_bytes(), b"warnings"),
+            unbounded: names(list.as_bytes(), b"unbounded"),
+        },
+        None => Denied::NOTHING,
+    }
+}
+
+/// The kinds of files, by name.
+const KINDS: &[&str] = &["sh", "make", "docker", "yaml", "spec", "m4"];
+
+/// The levels, by name.
+const LEVELS: &[&str] = &["error", "warning", "note"];
+
+/// What a script may be denied, by name.
+const DENIALS: &[&str] = &["reads", "writes", "warnings", "unbounded"];
+
+/// What follows an option; the first word is what the help calls it.
+#[derive(Clone, Copy)]
+enum Takes {
+    /// Nothing: it is there or not.
+    Nothing,
+    Value(&'static str),
+    OneOf(&'static str, &'static [&'static str]),
+    /// Some of these, with commas between.
+    SomeOf(&'static str, &'static [&'static str]),
+    /// A value each time that it is given.
+    Each(&'static str),
+}
+
+/// An option.
+struct Choice {
+    name: &'static str,
+    takes: Takes,
+    /// What the help says of it.
+    help: &'static str,
+}
+
+/// The options, in the order of the help.
+static CHOICES: [Choice; 9] = [
+    Choice {
+        name: "format",
+        takes: Takes::OneOf("FORMAT", NAMES),
+        help: "How the report is printed [default: text]",
+    },
+    Choice {
+        name: "level",
+        takes: Takes::OneOf("LEVEL", LEVELS),
+        help: "The least level of findings that are reported: error, warning or note [default: note; warning for gcc]; the exit status stays the same",
+    },
+    Choice {
+        name: "cert",
+        takes: Takes::Value("CERT"),
+        help: "Judge this certificate instead of searching for one; for one script",
+    },
+    Choice {
+        name: "deny",
+        takes: Takes::SomeOf("WHAT", DENIALS),
+        help: "What makes an accepted script end with status 1, with commas between: reads, writes, warnings, unbounded",
+    },
+    Choice {
+        name: "stdin-filename",
+        takes: Takes::Value("NAME"),
+        help: "The name of standard input in reports [default: -]",
+    },
+    Choice {
+        name: "sed",
+        takes: Takes::Nothing,
+        help: "Explain a call of sed: the words after `--` are those after its name",
+    },
+    Choice {
+        name: "calls",
+        takes: Takes::Nothing,
+        help: "Explain the calls of sed in shell scripts, makefiles and other files, and below folders",
+    },
+    Choice {
+        name: "as",
+        takes: Takes::OneOf("KIND", KINDS),
+        help: "What the files of --calls are, where their names don't say",
+    },
+    Choice {
+        name: "assume",
+        takes: Takes::Each("NAME=VALUE"),
+        help: "The value of a variable in the files of --calls",
+    },
+];
+
+/// The valid arguments.
+fn command<'a>(alloc: Global) -> Result<Command<'a>, AllocError> {
+    let mut command = described(alloc);
+    for choice in &CHOICES {
+        command = command.arg(option(alloc, choice))?;
+    }
+    command.arg(scripts(alloc))
+}
+
+/// The program, with what its help says of it.
+fn described<'a>(alloc: Global) -> Command<'a> {
+    Command::new(alloc, "sedck-explain")
+        .no_binary_name(true)
+        .version(VERSION)
+        .about(
+            "Says where and why a sed script is refused or may run for ever, which files it touches, and what to write instead",
+        )
+        .after_help(
+            "Exit status: 0 accepted, 1 rejected, a loop or what `--deny` names, 2 a script or certificate that is refused, 3 a wrong command line, 4 a file that can't be read or a report that can't be written, 5 a call in a file of which something isn't known before a run; of several scripts the greatest.",
+        )
+}
+
+/// The option as `clap` has it.
+fn option<'a>(alloc: Global, choice: &Choice) -> Arg<'a> {
+    let arg = Arg::new(alloc, choice.name)
+        .long(choice.name)
+        .help(choice.help);
+    match choice.takes {
+        Takes::Nothing => arg.action(ArgAction::SetTrue),
+        Takes::Value(value) => arg.value_name(value),
+        Takes::OneOf(value, names) => arg.value_name(value).value_parser(names),
+        Takes::SomeOf(value, names) => arg
+            .value_name(value)
+            .value_parser(names)
+            .value_delimiter(','),
+        Takes::Each(value) => arg.value_name(value).action(ArgAction::Append),
+    }
+}
+
+fn scripts<'a>(alloc: Global) -> Arg<'a> {
+    Arg::new(alloc, "script")
+        .value_name("SCRIPT")
+        .action(ArgAction::Append)
+        .num_args(0..)
+        .help("Scripts of sed, or with --calls files and folders; none or `-` is standard input")
+}

@@ -1,0 +1,75 @@
+-- Errors among findings.
+use Rattle.std.proofs.Common.{◌≡◌, ◌∙◌, ◌==◌, ◌||◌, if◌then◌else◌, ℕ, Bool, true, false, not, List, [], ◌∷◌, Option, Some, refl}
+use Rattle.sedck_report.specs.Levels.{has_warning, is_error, has_error, BeginsWithError}
+use Rattle.sedck_report.specs.declared.finding.Finding.{Finding}
+use Rattle.sedck_report.specs.declared.places.Position.{Position}
+use Rattle.sedck_errors.specs.declared.denied.Denied.{Denied}
+use Rattle.sedck_advice.specs.Added.{AddsNoError}
+use Rattle.sedck_explanation.specs.Denial.{is_denied, status_under}
+use Rattle.sedck_explanation.specs.Errors.{BeginsWithAnswer}
+use Rattle.sedck_explanation.specs.Private.Errors.{IsRefused, AreFindingsOf, IsFindingOf}
+use Rattle.sedck_explanation.specs.Private.Explaining.{AreDeniedFindings}
+use Rattle.sedck_explanation.specs.declared.answer.Answer.{Answer}
+use Rattle.sedck_explanation.specs.declared.answer.Answer.TheVariants.{ScriptRefused, CertificateRefused, Accepted, Rejected, Endless, NotJudged}
+
+or-false : (a b : Bool) → b ≡ false → (a || (b || false)) ≡ a
+or-false true b is = refl
+or-false false b is = rw is refl
+
+-- ---- From the finding of the answer to all findings
+
+-- the findings stay those of the answer where none that is added is an error
+pub findings_stay : (text : List ℕ) (positions : List Position) (answer : Answer) (old new : List Finding) → AddsNoError old new
+    → AreFindingsOf text positions answer old → AreFindingsOf text positions answer new
+findings_stay text positions (Accepted cert bound) old new adds found = adds.errors ∙ found
+findings_stay text positions (ScriptRefused why) old new adds found = (found.0, found.1, adds.first found.0 found.2)
+findings_stay text positions (CertificateRefused why) old new adds found = (found.0, found.1, adds.first found.0 found.2)
+findings_stay text positions (Rejected cert why) old new adds found = (found.0, found.1, adds.first found.0 found.2)
+findings_stay text positions (Endless walk) old new adds found = (found.0, found.1, adds.first found.0 found.2)
+findings_stay text positions NotJudged old new adds found = (found.0, found.1, adds.first found.0 found.2)
+
+-- one finding
+pub finding_alone : (text : List ℕ) (positions : List Position) (answer : Answer) (f : Finding) → IsFindingOf text positions answer (Some f)
+    → AreFindingsOf text positions answer (f ∷ [])
+finding_alone text positions (Accepted cert bound) f is = or-false false (is_error f.level) is
+finding_alone text positions (ScriptRefused why) f is = (f.position, is.1, (is.0, refl))
+finding_alone text positions (CertificateRefused why) f is = (f.position, is.1, (is.0, refl))
+finding_alone text positions (Rejected cert why) f is = (f.position, is.1, (is.0, refl))
+finding_alone text positions (Endless walk) f is = (f.position, is.1, (is.0, refl))
+finding_alone text positions NotJudged f is = (f.position, is.1, (is.0, refl))
+
+-- ---- The errors of an explanation
+
+begins_is_error : (position : Option Position) (findings : List Finding) → BeginsWithError position findings → has_error findings ≡ true
+begins_is_error position [] begins = absurd begins
+begins_is_error position (f ∷ more) begins = rw begins.0 refl
+
+denied_is_error : (is_denied error_before error : Bool) (status : ℕ) → error ≡ (is_denied || error_before) → error_before ≡ false
+    → status ≡ (if is_denied then 1 else 0) → error ≡ not (status == 0)
+denied_is_error true before error status is none is_status = rw (is_status, is) refl
+denied_is_error false before error status is none is_status = rw (is_status, is, none) refl
+
+-- there is an error exactly where the status isn't 0, and the first is that of the answer
+pub errors_of : (text : List ℕ) (positions : List Position) (denied : Denied) (answer : Answer) (before all : List Finding) (status : ℕ)
+    → AreFindingsOf text positions answer before → AreDeniedFindings denied before all answer → status ≡ status_under denied (has_warning all) answer
+    → (has_error all ≡ not (status == 0)) × BeginsWithAnswer text positions all answer
+errors_of text positions denied (Accepted cert bound) before all status found denials is =
+    (denied_is_error (is_denied denied (has_warning all) (Accepted cert bound)) (has_error before) (has_error all) status denials found is, tt)
+errors_of text positions denied (ScriptRefused why) before all status found denials is =
+    rw denials ((rw is (begins_is_error found.0 before found.2)), found)
+errors_of text positions denied (CertificateRefused why) before all status found denials is =
+    rw denials ((rw is (begins_is_error found.0 before found.2)), found)
+errors_of text positions denied (Rejected cert why) before all status found denials is =
+    rw denials ((rw is (begins_is_error found.0 before found.2)), found)
+errors_of text positions denied (Endless walk) before all status found denials is =
+    rw denials ((rw is (begins_is_error found.0 before found.2)), found)
+errors_of text positions denied NotJudged before all status found denials is =
+    rw denials ((rw is (begins_is_error found.0 before found.2)), found)
+
+-- the same of a script that is refused, where nothing is denied
+pub errors_of_refusal : (text : List ℕ) (denied : Denied) (answer : Answer) (findings : List Finding) (status : ℕ) → IsRefused text answer
+    → AreFindingsOf text [] answer findings → status ≡ status_under denied (has_warning findings) answer
+    → (has_error findings ≡ not (status == 0)) × BeginsWithAnswer text [] findings answer
+errors_of_refusal text denied (ScriptRefused why) findings status refused found is =
+    errors_of text [] denied (ScriptRefused why) findings findings status found refl is
+errors_of_refusal text denied _ findings status refused found is = absurd refused

@@ -1,0 +1,90 @@
+-- What stays of the findings where some are ignored.
+use Rattle.std.proofs.Common.{◌≡◌, ◌∙◌, ◌==◌, ◌||◌, ◌&&◌, not, ℕ, Bool, true, false, List, [], ◌∷◌, ◌++◌, Option, map, refl, sym, ap, subst}
+use Rattle.std.specs.Prelude.{cond}
+use Rattle.std.proofs.lemmas.List.Elements.{All-head}
+use Rattle.sedck_report.specs.Levels.{has_warning, is_error, has_error, BeginsWithError}
+use Rattle.sedck_report.specs.Reported.{AreOf, AreInOrder, head_of}
+use Rattle.sedck_report.specs.declared.code.Code.{Code}
+use Rattle.sedck_report.specs.declared.finding.Finding.{Finding}
+use Rattle.sedck_report.specs.declared.finding.Level.TheVariants.{Error}
+use Rattle.sedck_report.specs.declared.places.Position.{Position}
+use Rattle.sedck_errors.specs.declared.denied.Denied.{Denied}
+use Rattle.sedck_explanation.specs.Denial.{status_under}
+use Rattle.sedck_explanation.specs.Errors.{BeginsWithAnswer}
+use Rattle.sedck_explanation.specs.Private.Reporting.{errors_in, KeepsErrors, AreReported}
+use Rattle.sedck_explanation.specs.declared.answer.Answer.{Answer}
+use Rattle.sedck_explanation.specs.declared.answer.Answer.TheVariants.{ScriptRefused, CertificateRefused, Accepted, Rejected, Endless, NotJudged}
+use Rattle.sedck_explanation.proofs.Reports.{errors_of_ordered}
+
+-- a list has something
+abbrev any_in : {A : Type 0} → List A → Bool
+any_in [] = false
+any_in (x ∷ more) = true
+
+there_by : (is : Bool) (f : Finding) (more : List Finding) → has_error more ≡ any_in (map head_of (errors_in more))
+    → (is || has_error more) ≡ any_in (map head_of (cond is (f ∷ errors_in more) (errors_in more)))
+there_by true f more there = refl
+there_by false f more there = there
+
+error_there : (findings : List Finding) → has_error findings ≡ any_in (map head_of (errors_in findings))
+error_there [] = refl
+error_there (f ∷ more) = there_by (is_error f.level) f more (error_there more)
+
+-- whether there is an error
+pub error_kept : (found all : List Finding) → KeepsErrors found all → has_error all ≡ has_error found
+error_kept found all keeps = error_there all ∙ ap (λ (heads : List (Code × Option Position)). any_in heads) keeps ∙ sym (error_there found)
+
+first_of : (errors rest : List Finding) (code : Code) (position : Option Position) (heads : List (Code × Option Position)) → AreOf Error errors
+    → map head_of errors ≡ (code, position) ∷ heads → BeginsWithError position (errors ++ rest)
+first_of [] rest code position heads are is = absurd (cc)
+first_of (e ∷ more) rest code position heads are is =
+    let head : head_of e ≡ (code, position) = cc in
+    (All-head (λ (f : Finding). f.level ≡ Error) e more are, ap (λ h. h.1) head)
+
+-- the first error
+pub first_kept : (position : Option Position) (found all : List Finding) → KeepsErrors found all → AreInOrder all
+    → BeginsWithError position found → BeginsWithError position all
+first_kept position [] all keeps order begins = absurd begins
+first_kept position (f ∷ more) all keeps order begins =
+    let error : is_error f.level ≡ true = ap is_error begins.0 in
+    let heads : map head_of (errors_in (f ∷ more)) ≡ (f.code, position) ∷ map head_of (errors_in more) =
+    rw error (ap (λ p. (f.code, p) ∷ map head_of (errors_in more)) begins.1) in
+    subst (BeginsWithError position) (sym order.parts)
+    (first_of order.errors (order.warnings ++ order.notes) f.code position (map head_of (errors_in more)) order.are_errors
+    (ap (map head_of) (sym (errors_of_ordered all order)) ∙ keeps ∙ heads))
+
+answer_kept : (text : List ℕ) (positions : List Position) (answer : Answer) (found all : List Finding) → KeepsErrors found all → AreInOrder all
+    → BeginsWithAnswer text positions found answer → BeginsWithAnswer text positions all answer
+answer_kept text positions (Accepted cert bound) found all keeps order begins = tt
+answer_kept text positions (ScriptRefused why) found all keeps order begins = (begins.0, begins.1, first_kept begins.0 found all keeps order begins.2)
+answer_kept text positions (CertificateRefused why) found all keeps order begins = (begins.0, begins.1, first_kept begins.0 found all keeps order begins.2)
+answer_kept text positions (Rejected cert why) found all keeps order begins = (begins.0, begins.1, first_kept begins.0 found all keeps order begins.2)
+answer_kept text positions (Endless walk) found all keeps order begins = (begins.0, begins.1, first_kept begins.0 found all keeps order begins.2)
+answer_kept text positions NotJudged found all keeps order begins = (begins.0, begins.1, first_kept begins.0 found all keeps order begins.2)
+
+warned_same : (counts was now : Bool) → (counts ≡ true → now ≡ was) → (counts && was) ≡ (counts && now)
+warned_same true was now same = sym (same refl)
+warned_same false was now same = refl
+
+-- the status
+pub status_kept : (denied : Denied) (answer : Answer) (was now : Bool) → (denied.warnings ≡ true → now ≡ was)
+    → status_under denied was answer ≡ status_under denied now answer
+status_kept denied (Accepted cert bound) was now same = rw (warned_same denied.warnings was now same) refl
+status_kept denied (ScriptRefused why) was now same = refl
+status_kept denied (CertificateRefused why) was now same = refl
+status_kept denied (Rejected cert why) was now same = refl
+status_kept denied (Endless walk) was now same = refl
+status_kept denied NotJudged was now same = refl
+
+-- what holds of the errors that were found holds of those that are reported
+pub errors_reported : (text : List ℕ) (positions : List Position) (answer : Answer) (ignored : List Code) (found all : List Finding) (status : ℕ)
+    → AreReported text ignored found all → (has_error found ≡ not (status == 0)) × BeginsWithAnswer text positions found answer
+    → (has_error all ≡ not (status == 0)) × BeginsWithAnswer text positions all answer
+errors_reported text positions answer ignored found all status reported errors =
+    (error_kept found all reported.errors ∙ errors.0, answer_kept text positions answer found all reported.errors reported.order errors.1)
+
+pub status_reported : (text : List ℕ) (denied : Denied) (answer : Answer) (ignored : List Code) (found all : List Finding) (status : ℕ)
+    → AreReported text ignored found all → (denied.warnings ≡ true → ignored ≡ []) → status ≡ status_under denied (has_warning found) answer
+    → status ≡ status_under denied (has_warning all) answer
+status_reported text denied answer ignored found all status reported none is =
+    is ∙ status_kept denied answer (has_warning found) (has_warning all) (λ counts. reported.warnings (none counts))

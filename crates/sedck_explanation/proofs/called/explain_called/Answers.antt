@@ -1,0 +1,15 @@
+use Rattle.std.proofs.Common.{◌∙◌, sym}
+use Rattle.sedck_explanation.proofs.SaidOfCalls.{called_denied, called_plain}
+use Rattle.sedck_explanation.proofs.called.explain_called.Goals as goal
+
+pub returns-then-is_denied_call-clause-called : goal.returns-then-is_denied_call-clause-called
+returns-then-is_denied_call-clause-called c =
+    called_denied c.args.text.now c.args.denied c.args.call.now c.in_ok-explanation.explanation c.denied_call.result
+    c.in_ok-explanation.ensures.explanation (λ denied placed. c.in_ok-explanation.ensures.warned denied (c.in_ok-warnings.ensures.warnings ∙ placed))
+    (sym c.is_denied_call.ensures ∙ c.if-is_denied_call.true) c.denied_call.ensures
+
+pub returns-clause-called : goal.returns-clause-called
+returns-clause-called c =
+    called_plain c.args.text.now c.args.denied c.args.call.now c.in_ok-explanation.explanation
+    c.in_ok-explanation.ensures.explanation (λ denied placed. c.in_ok-explanation.ensures.warned denied (c.in_ok-warnings.ensures.warnings ∙ placed))
+    (sym c.is_denied_call.ensures ∙ c.if-is_denied_call.false)

@@ -1,0 +1,44 @@
+use Rattle.std.proofs.Common.{◌≡◌, ◌∙◌, [], refl, ap, sym, subst}
+use Rattle.sedck_report.specs.Levels.{has_warning}
+use Rattle.sedck_explanation.specs.Denial.{status_under}
+use Rattle.sedck_explanation.specs.Errors.{BeginsWithAnswer}
+use Rattle.sedck_explanation.specs.Private.Errors.{AreFindingsOf}
+use Rattle.sedck_explanation.specs.Private.Reporting.{AreReported}
+use Rattle.sedck_advice.proofs.Added.{no_error_append, warned_behind}
+use Rattle.sedck_explanation.proofs.Errors.{errors_of_refusal, findings_stay}
+use Rattle.sedck_explanation.proofs.Kept.{errors_reported, status_reported}
+use Rattle.sedck_explanation.proofs.explaining.refused.Goals as goal
+
+pub returns-clause-explains : goal.returns-clause-explains
+returns-clause-explains c =
+    let text = c.args.text.now in
+    let answer = c.args.answer in
+    let begun = c.in_ok-found.found.items in
+    let found = c.append.new.self.items in
+    let all = c.in_ok-findings.findings.items in
+    let status : c.status_under-status.result ≡ status_under c.args.denied (has_warning found) answer =
+    c.status_under-status.ensures.value
+    ∙ ap (λ warned. status_under c.args.denied warned answer) (c.any_warning.ensures ∙ ap has_warning c.deref.ensures.value) in
+    let of_answer : AreFindingsOf text [] answer found =
+    findings_stay text [] answer begun found (no_error_append begun found c.args.warnings.items c.in_ok-append.ensures.items c.requires.warned) c.in_ok-found.ensures in
+    let reported : AreReported text [] found all = c.in_ok-findings.ensures in
+    let errors = errors_reported text [] answer [] found all c.status_under-status.result reported
+    (errors_of_refusal text c.args.denied answer found c.status_under-status.result c.requires.refusal of_answer status) in
+    record {
+      is_text = refl;
+      is_answer = refl;
+      is_status = status_reported text c.args.denied answer [] found all c.status_under-status.result reported (λ _. refl) status;
+      errors = record {
+        exactly = errors.0;
+        first = subst (λ positions. BeginsWithAnswer text positions all answer) (sym c.new.ensures.items) errors.1;
+      };
+      order = reported.order;
+      ends = reported.ends;
+    }
+
+pub returns-clause-warned : goal.returns-clause-warned
+returns-clause-warned c = λ denied warned.
+    let begun = c.in_ok-found.found.items in
+    let given = c.append.new.self.items in
+    let reported : AreReported c.args.text.now [] given c.in_ok-findings.findings.items = c.in_ok-findings.ensures in
+    reported.warnings refl ∙ warned_behind begun given c.args.warnings.items c.in_ok-append.ensures.items warned

@@ -1,0 +1,42 @@
+-- What the engines answer of a script's text, alone or with a certificate's, this project's own: the verdict of `judge`, or what
+-- `search` finds.
+use Rattle.std.specs.Prelude.{◌≡◌, ◌≢◌, ℕ, List, Option, Some, None}
+use Rattle.sedck_script.specs.Program.{Program}
+use Rattle.sedck_script.specs.Spelling.{Spells}
+use Rattle.sedck_script.specs.declared.fault.ScriptFault.TheVariants.{OutOfMemory}
+use Rattle.sedck_cert.specs.Certificate.{Certificate}
+use Rattle.sedck_cert.specs.Versions.{SpellsCertificate, IsFaultIn}
+use Rattle.sedck_cert.specs.Ranked.{Accepts}
+use Rattle.sedck_cert.specs.Rejections.{IsRejection}
+use Rattle.sedck_cert.specs.Headline.{SpellsOnly, SpellBoth, IsLimit, IsScriptFaultOf}
+use Rattle.sedck_search.specs.Found.{IsLoop}
+use Rattle.sedck_explanation.specs.declared.answer.Answer.{Answer}
+use Rattle.sedck_explanation.specs.declared.answer.Answer.TheVariants.{ScriptRefused, CertificateRefused, Accepted, Rejected, Endless, NotJudged}
+
+-- the text spells one script alone, for which this holds
+abbrev pub SpellsOneWith : List ℕ → (Program → Type 0) → Type 0
+SpellsOneWith text Holds = (p : Program) × SpellsOnly text p × Holds p
+
+-- the answer for a script's text and a certificate's text, where there is one
+abbrev pub IsAnswer : List ℕ → Option (List ℕ) → Answer → Type 0
+IsAnswer text given (ScriptRefused why) = (why ≢ OutOfMemory) × ((p : Program) → ¬ Spells text p) × IsScriptFaultOf text why
+IsAnswer text (Some bytes) (CertificateRefused why) =
+    ((p : Program) × Spells text p) × ((c : Certificate) → ¬ SpellsCertificate bytes c) × IsFaultIn bytes why
+IsAnswer text None (CertificateRefused why) = ⊥
+IsAnswer text (Some bytes) (Accepted cert bound) = SpellBoth text bytes (λ p c. (c ≡ cert) × Accepts p c × IsLimit p c bound)
+IsAnswer text None (Accepted cert bound) = SpellsOneWith text (λ p. Accepts p cert × IsLimit p cert bound)
+IsAnswer text (Some bytes) (Rejected cert why) = SpellBoth text bytes (λ p c. (c ≡ cert) × IsRejection p c why)
+IsAnswer text None (Rejected cert why) = ⊥
+IsAnswer text (Some bytes) (Endless walk) = ⊥
+IsAnswer text None (Endless walk) = SpellsOneWith text (λ p. IsLoop p walk)
+IsAnswer text given NotJudged = ⊥
+
+-- the exit status: 0 for accepted, 1 for a rejection or a loop, 2 for a text that is refused and for
+-- one that is not judged
+abbrev pub status_of : Answer → ℕ
+status_of (Accepted cert bound) = 0
+status_of (Rejected cert why) = 1
+status_of (Endless walk) = 1
+status_of (ScriptRefused why) = 2
+status_of (CertificateRefused why) = 2
+status_of NotJudged = 2

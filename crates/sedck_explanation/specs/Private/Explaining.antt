@@ -1,0 +1,54 @@
+-- The steps to an explanation.
+use Rattle.std.specs.Prelude.{◌≡◌, ◌==◌, ◌||◌, ℕ, not, List, Some, map}
+use Rattle.std.specs.List.{All}
+use Rattle.sedck_script.specs.Program.{Program}
+use Rattle.sedck_script.specs.Names.{reads, writes}
+use Rattle.sedck_script.specs.declared.location.Location.{Location}
+use Rattle.sedck_report.specs.Positions.{position_in}
+use Rattle.sedck_report.specs.Files.{is_there, names_of}
+use Rattle.sedck_report.specs.Levels.{has_warning, has_error}
+use Rattle.sedck_report.specs.Reported.{AreInOrder, HasRange}
+use Rattle.sedck_report.specs.declared.finding.Finding.{Finding}
+use Rattle.sedck_report.specs.declared.finding.NamedFile.{NamedFile}
+use Rattle.sedck_report.specs.declared.places.Position.{Position}
+use Rattle.sedck_errors.specs.declared.denied.Denied.{Denied}
+use Rattle.sedck_explanation.specs.Denial.{is_denied, status_under}
+use Rattle.sedck_explanation.specs.Errors.{HasErrors, BeginsWithAnswer}
+use Rattle.sedck_explanation.specs.declared.answer.Answer.{Answer}
+use Rattle.sedck_explanation.specs.declared.answer.Answer.TheVariants.{Accepted}
+use Rattle.sedck_explanation.specs.declared.explanation.Explanation.{Explanation}
+
+-- the explanation of this answer, but for what it keeps of the script
+pub record Explains (text : List ℕ) (denied : Denied) (answer : Answer) (e : Explanation) : Type 0 where
+  pub is_text : e.text.now ≡ text
+  pub is_answer : e.answer ≡ answer
+  pub is_status : e.status ≡ status_under denied (has_warning e.findings.items) e.answer
+  pub errors : HasErrors text e
+  pub order : AreInOrder e.findings.items
+  pub ends : All (HasRange text) e.findings.items
+
+-- a status and the findings of an answer to a caller who denies this, for a script with its verbs at these positions
+pub record Reports (text : List ℕ) (denied : Denied) (answer : Answer) (positions : List Position) (status : ℕ) (findings : List Finding) : Type 0 where
+  pub is_status : status ≡ status_under denied (has_warning findings) answer
+  pub exactly : has_error findings ≡ not (status == 0)
+  pub first : BeginsWithAnswer text positions findings answer
+  pub order : AreInOrder findings
+  pub ends : All (HasRange text) findings
+
+-- the script is kept, with its names and with the positions of these locations
+pub record KeepsLocated (text : List ℕ) (script : Program) (locations : List Location) (e : Explanation) : Type 0 where
+  pub is_kept : e.script ≡ Some script
+  pub reads : names_of e.reads.items ≡ reads script
+  pub writes : names_of e.writes.items ≡ writes script
+  pub positions : e.positions.items ≡ map (λ location. position_in text location.verb) locations
+
+-- the lists of files have something where those of an accepted certificate do
+abbrev pub HasLists : List NamedFile → List NamedFile → Answer → Type 0
+HasLists reads writes (Accepted cert bound) = (is_there cert.reads ≡ is_there reads) × (is_there cert.writes ≡ is_there writes)
+HasLists reads writes _ = Unit {0}
+
+-- what is denied adds errors to the findings of a script that is accepted
+abbrev pub AreDeniedFindings : Denied → List Finding → List Finding → Answer → Type 0
+AreDeniedFindings denied before all (Accepted cert bound) =
+    has_error all ≡ (is_denied denied (has_warning all) (Accepted cert bound) || has_error before)
+AreDeniedFindings denied before all _ = all ≡ before

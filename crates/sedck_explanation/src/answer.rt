@@ -1,0 +1,180 @@
+//! What the engines answer of a script, alone or with a certificate.
+
+ghost use Rattle.std.specs.Prelude.{◌≡◌, ◌≤◌, ◌&&◌, ◌||◌, ℕ, List, IfOk, IfSome, Some, None, length};
+ghost use Rattle.std.specs.Option.{option_map};
+ghost use Rattle.sedck_script.specs.Locations.{locations_of};
+ghost use Rattle.sedck_script.specs.Items.{Item, Items};
+ghost use Rattle.sedck_cert.specs.Ranked.{Accepts};
+ghost use Rattle.sedck_cert.specs.Headline.{SpellsOnly};
+ghost use Rattle.sedck_cert.specs.declared.verifying.Fault.TheVariants as below;
+ghost use Rattle.sedck_report.specs.Files.{is_there};
+ghost use Rattle.sedck_explanation.specs.Answers.{IsAnswer, status_of};
+ghost use Rattle.sedck_explanation.specs.Denial.{nothing, status_under};
+ghost use Rattle.sedck_explanation.specs.Private.Answering.{IsFoundAnswer, IsJudgedAnswer, IsAcceptedAnswer, refusal};
+ghost use Rattle.sedck_explanation.specs.Private.Errors.{IsRefused};
+
+use sedck_cert::{Bound, Cert, CertFault, Rejection, Verdict, check, limit, read_any};
+use sedck_errors::{Denied, has_reads, has_writes};
+use sedck_script::{Located, Script, ScriptFault, locate};
+use sedck_search::{Found, Walk, search};
+use std::alloc::{AllocError, Global};
+
+/// What is known of a script.
+#[derive(Drop)]
+pub enum Answer {
+    /// The script's text is refused. This is never `OutOfMemory`.
+    ScriptRefused(ScriptFault),
+    /// The certificate's text is refused. This is never `OutOfMemory`.
+    CertificateRefused(CertFault),
+    /// This certificate is accepted: the one that was given, or else one that was found.
+    Accepted {
+        cert: Cert,
+        /// The limit on the steps of the script's runs, where it has one.
+        bound: Option<Bound>,
+    },
+    /// The certificate that was given is rejected.
+    Rejected {
+        cert: Cert,
+        /// The first reason.
+        why: Rejection,
+    },
+    /// A loop rules all certificates out.
+    Endless(Walk),
+    /// The words of a call of sed are refused, or one of its options changes what the script means.
+    NotJudged,
+}
+
+impl Answer {
+    /// The exit status: 0 for accepted, 1 for rejected or a loop, 2 for a refused text and for one that is not judged.
+    pub fn status(&self) -> u8
+        ensures { result ≡ status_of self.now }
+    {
+        match self {
+            Answer::Accepted { .. } => 0,
+            Answer::Rejected { .. } | Answer::Endless(_) => 1,
+            Answer::ScriptRefused(_) | Answer::CertificateRefused(_) | Answer::NotJudged => 2,
+        }
+    }
+
+    /// The exit status where this is denied: 1 for a script that is accepted and has what is denied, else as `status`. One of the
+    /// findings is a warning where `has_warning` says so.
+    pub fn status_under(&self, denied: Denied, has_warning: bool) -> u8
+        ensures value { result ≡ status_under denied has_warning self.now }
+        ensures few { result ≤ 2 }
+        // A no stays what it is, and without a denial a yes does too.
+        ensures never_a_yes { result ≡ 0 → status_of self.now ≡ 0 }
+        ensures same { denied ≡ nothing → result ≡ status_of self.now }
+    {
+        match self {
+            Answer::Accepted { cert, bound } => {
+                if has_denied(denied, has_warning, cert, bound.is_none()) {
+                    1
+                } else {
+                    0
+                }
+            }
+            _ => self.status(),
+        }
+    }
+}
+
+/// Whether what is denied is there, of a script that is accepted with this certificate.
+fn has_denied(denied: Denied, has_warning: bool, cert: &Cert, is_unbounded: bool) -> bool
+    ensures { result ≡ ((denied.reads && is_there cert.now.reads) || (denied.writes && is_there cert.now.writes)
+        || (denied.unbounded && is_unbounded) || (denied.warnings && has_warning)) }
+{
+    (denied.reads && has_reads(cert))
+        || (denied.writes && has_writes(cert))
+        || (denied.unbounded && is_unbounded)
+        || (denied.warnings && has_warning)
+}
+
+/// An answer, and the script with the places of its commands where it isn't refused.
+pub(crate) struct Answered<'a> {
+    pub answer: Answer,
+    pub located: Option<Located<'a>>,
+}
+
+/// Judges the certificate for the script, or searches for one where none is given.
+pub(crate) fn answer_of<'a>(
+    alloc: Global,
+    text: &'a [u8],
+    certificate: Option<&[u8]>,
+) -> Result<Answered<'a>, AllocError>
+    ensures answer { IfOk result (λ a. IsAnswer text.now (option_map (λ bytes. bytes.now) certificate.entry) a.answer) }
+    ensures script { IfOk result (λ a. IfSome a.located (λ located. SpellsOnly text.now located.script)) }
+    ensures locations { IfOk result (λ a. IfSome a.located (λ located. (items : List Item) (spelled : Items text.now items)
+        → located.locations.items ≡ locations_of (length text.now) spelled)) }
+    ensures refused { IfOk result (λ a. a.located ≡ None → IsRefused text.now a.answer) }
+{
+    let located = match locate(alloc, text) {
+        Ok(located) => located,
+        Err(fault) => {
+            return Ok(Answered {
+                answer: refused_script(fault)?,
+                located: None,
+            });
+        }
+    };
+    let answer = match certificate {
+        Some(certificate) => judged_answer(alloc, &located.script, certificate)?,
+        None => found_answer(alloc, &located.script)?,
+    };
+    Ok(Answered {
+        answer,
+        located: Some(located),
+    })
+}
+
+/// The answer for a script that was read, with this certificate's text.
+fn judged_answer(alloc: Global, script: &Script, certificate: &[u8]) -> Result<Answer, AllocError>
+    ensures { IfOk result (IsJudgedAnswer script.now certificate.now) }
+{
+    let cert = match read_any(alloc, certificate) {
+        Ok(cert) => cert,
+        Err(fault) => return refused_certificate(fault),
+    };
+    match check(script, &cert) {
+        Verdict::Accepted => Ok(accepted(script, cert)),
+        Verdict::Rejected(why) => Ok(Answer::Rejected { cert, why }),
+    }
+}
+
+/// The answer for a certificate that is accepted.
+fn accepted(script: &Script, cert: Cert) -> Answer
+    requires { Accepts script.now cert }
+    ensures { IsAcceptedAnswer script.now cert result }
+{
+    let bound = limit(script, &cert);
+    Answer::Accepted { cert, bound }
+}
+
+/// The answer for a script's text that is refused.
+fn refused_script(fault: ScriptFault) -> Result<Answer, AllocError>
+    ensures { IfOk result (λ answer. refusal (below.Script fault) ≡ Some answer) }
+{
+    match fault {
+        ScriptFault::OutOfMemory => Err(AllocError),
+        fault => Ok(Answer::ScriptRefused(fault)),
+    }
+}
+
+/// The answer for a certificate's text that is refused.
+fn refused_certificate(fault: CertFault) -> Result<Answer, AllocError>
+    ensures { IfOk result (λ answer. refusal (below.Certificate fault) ≡ Some answer) }
+{
+    match fault {
+        CertFault::OutOfMemory => Err(AllocError),
+        fault => Ok(Answer::CertificateRefused(fault)),
+    }
+}
+
+/// The answer of the search.
+fn found_answer(alloc: Global, script: &Script) -> Result<Answer, AllocError>
+    ensures { IfOk result (IsFoundAnswer script.now) }
+{
+    match search(alloc, script)? {
+        Found::Ranks(cert) => Ok(accepted(script, cert)),
+        Found::Loop(walk) => Ok(Answer::Endless(walk)),
+    }
+}

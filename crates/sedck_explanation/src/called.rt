@@ -1,0 +1,57 @@
+//! What is said of a call that can be judged.
+
+ghost use Rattle.std.specs.Prelude.{◌≡◌, ◌≤◌, None, IfOk};
+ghost use Rattle.sedck_explanation.specs.Called.{IsCalled, IsDenied, is_denied_call as is_denied};
+ghost use Rattle.sedck_explanation.specs.Explanations.{IsExplanation, Keeps};
+
+use crate::explaining::explain_call;
+use crate::explanation::Explanation;
+use crate::options::{call_warnings, denied_overwriting, is_in_place};
+use sedck_calls::Call;
+use sedck_errors::Denied;
+use std::alloc::{AllocError, Global};
+
+/// Explains a call whose script is this text: as the text is explained, with a warning where the call overwrites operands, which is an
+/// error where writing is denied.
+pub fn explain_called<'a>(
+    alloc: Global,
+    text: &'a [u8],
+    words: &[&[u8]],
+    call: &Call,
+    denied: Denied,
+) -> Result<Explanation<'a>, AllocError>
+    ensures few { IfOk result (λ e. e.status ≤ 2) }
+    ensures called { IfOk result (IsCalled text.now denied call.now) }
+    ensures yes { IfOk result (λ e. e.status ≡ 0 → IsExplanation text.now None denied e) }
+{
+    let warnings = call_warnings(alloc, words, call)?;
+    let explanation = explain_call(alloc, text, warnings, denied)?;
+    if is_denied_call(denied, call, explanation.status) {
+        return denied_call(alloc, words, call, explanation);
+    }
+    Ok(explanation)
+}
+
+/// Whether the script is accepted, but the call overwrites operands where writing is denied.
+fn is_denied_call(denied: Denied, call: &Call, status: u8) -> bool
+    ensures { result ≡ is_denied denied call.now status }
+{
+    status == 0 && denied.writes && is_in_place(call)
+}
+
+/// The explanation of an accepted script whose call overwrites operands where writing is denied.
+fn denied_call<'a>(
+    alloc: Global,
+    words: &[&[u8]],
+    call: &Call,
+    explanation: Explanation<'a>,
+) -> Result<Explanation<'a>, AllocError>
+    requires { Keeps explanation.text.now explanation.answer explanation }
+    ensures { IfOk result (IsDenied explanation.entry.text.now explanation.entry) }
+{
+    let mut explanation = explanation;
+    explanation.status = 1;
+    let error = denied_overwriting(alloc, words, call)?;
+    explanation.findings.insert(0, error)?;
+    Ok(explanation)
+}

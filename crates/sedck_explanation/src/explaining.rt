@@ -1,0 +1,294 @@
+//! All that is reported of a script.
+
+ghost use Rattle.std.specs.Prelude.{◌≡◌, ◌≤◌, true, false, None, [], IfOk, map};
+ghost use Rattle.std.specs.Option.{option_map};
+ghost use Rattle.sedck_script.specs.Names.{reads, writes};
+ghost use Rattle.sedck_report.specs.Files.{names_of};
+ghost use Rattle.sedck_report.specs.Levels.{has_warning, has_error};
+ghost use Rattle.sedck_report.specs.Positions.{position_in};
+ghost use Rattle.sedck_explanation.specs.Explanations.{IsExplanation, KeepsNothing, WarnedWith};
+ghost use Rattle.sedck_explanation.specs.Private.Errors.{IsOfScript, IsRefused, CanBeReported, AreFindingsOf, IsFindingOf};
+ghost use Rattle.sedck_explanation.specs.Private.Explaining.{Explains, Reports, KeepsLocated, HasLists, AreDeniedFindings};
+
+use crate::answer::{Answer, Answered, answer_of};
+use crate::explanation::Explanation;
+use crate::ignored::ignored_codes;
+use crate::reporting::reported;
+use sedck_advice::{add_warnings, ignoring_words, named_files};
+use sedck_errors::{
+    Denied, any_warning, certificate_refusal, loop_finding, rejection, script_refusal, unbounded,
+    with_denials,
+};
+use sedck_report::{Finding, NamedFile, Position, positions};
+use sedck_script::{Access, Located, Location, Script};
+use std::alloc::{AllocError, Global};
+
+/// Explains what the engines answer of the script, alone or with a certificate: `judge`'s verdict, or what `search` finds. What is
+/// denied changes the status of an accepted script that has it, and adds errors.
+pub fn explain<'a>(
+    alloc: Global,
+    text: &'a [u8],
+    certificate: Option<&[u8]>,
+    denied: Denied,
+) -> Result<Explanation<'a>, AllocError>
+    ensures explanation { IfOk result (IsExplanation text.now (option_map (λ bytes. bytes.now) certificate.entry) denied) }
+    ensures few { IfOk result (λ e. e.status ≤ 2) }
+{
+    explained_with(alloc, text, certificate, Vec::new(alloc), denied)
+}
+
+/// Explains the script of a call of sed, as `explain` does without a certificate. What is warned of the call is reported with the
+/// script's own warnings, and is denied with them.
+pub fn explain_call<'a>(
+    alloc: Global,
+    text: &'a [u8],
+    warnings: Vec<Finding>,
+    denied: Denied,
+) -> Result<Explanation<'a>, AllocError>
+    requires { has_error warnings.items ≡ false }
+    ensures explanation { IfOk result (IsExplanation text.now None denied) }
+    ensures few { IfOk result (λ e. e.status ≤ 2) }
+    ensures warned { IfOk result (WarnedWith denied warnings.items) }
+{
+    explained_with(alloc, text, None, warnings, denied)
+}
+
+/// Explains a script, with these warnings beside its own.
+fn explained_with<'a>(
+    alloc: Global,
+    text: &'a [u8],
+    certificate: Option<&[u8]>,
+    warnings: Vec<Finding>,
+    denied: Denied,
+) -> Result<Explanation<'a>, AllocError>
+    requires { has_error warnings.items ≡ false }
+    ensures explanation { IfOk result (IsExplanation text.now (option_map (λ bytes. bytes.now) certificate.entry) denied) }
+    ensures few { IfOk result (λ e. e.status ≤ 2) }
+    ensures warned { IfOk result (WarnedWith denied warnings.items) }
+{
+    let Answered { answer, located } = answer_of(alloc, text, certificate)?;
+    match located {
+        Some(located) => explained(alloc, text, answer, located, warnings, denied),
+        None => refused(alloc, text, answer, warnings, denied),
+    }
+}
+
+/// What is reported of a script that was read.
+fn explained<'a>(
+    alloc: Global,
+    text: &'a [u8],
+    answer: Answer,
+    located: Located<'a>,
+    warnings: Vec<Finding>,
+    denied: Denied,
+) -> Result<Explanation<'a>, AllocError>
+    requires script { IsOfScript text.now located.script answer }
+    requires warned { has_error warnings.items ≡ false }
+    ensures explains { IfOk result (Explains text.now denied answer) }
+    ensures keeps { IfOk result (KeepsLocated text.now located.entry.script located.entry.locations.items) }
+    ensures few { IfOk result (λ e. e.status ≤ 2) }
+    ensures warned { IfOk result (WarnedWith denied warnings.items) }
+{
+    let lists = lists_of(alloc, text, &located)?;
+    let (status, findings) = reports(alloc, text, &answer, &located, &lists, warnings, denied)?;
+    let Lists {
+        positions,
+        reads,
+        writes,
+    } = lists;
+    Ok(Explanation {
+        text,
+        answer,
+        status,
+        script: Some(located.script),
+        positions,
+        findings,
+        reads,
+        writes,
+    })
+}
+
+/// Where the verbs of a script are, and the files that it names.
+#[derive(Drop)]
+struct Lists<'a> {
+    positions: Vec<Position>,
+    reads: Vec<NamedFile<'a>>,
+    writes: Vec<NamedFile<'a>>,
+}
+
+fn lists_of<'a>(alloc: Global, text: &[u8], located: &Located<'a>) -> Result<Lists<'a>, AllocError>
+    ensures reads { IfOk result (λ lists. names_of lists.reads.items ≡ reads located.entry.now.script) }
+    ensures writes { IfOk result (λ lists. names_of lists.writes.items ≡ writes located.entry.now.script) }
+    ensures positions { IfOk result (λ lists. lists.positions.items ≡ map (λ location. position_in text.now location.verb) located.entry.now.locations.items) }
+{
+    let script = &located.script;
+    let positions = verb_positions(alloc, text, &located.locations)?;
+    let reads = named_files(alloc, script.reads(), script, &positions, Access::Read)?;
+    let writes = named_files(alloc, script.writes(), script, &positions, Access::Write)?;
+    Ok(Lists {
+        positions,
+        reads,
+        writes,
+    })
+}
+
+/// The status, and the findings: those of the answer, these warnings and the script's own, and what is denied, but for those that the
+/// script ignores.
+fn reports(
+    alloc: Global,
+    text: &[u8],
+    answer: &Answer,
+    located: &Located,
+    lists: &Lists,
+    mut warnings: Vec<Finding>,
+    denied: Denied,
+) -> Result<(u8, Vec<Finding>), AllocError>
+    requires script { IsOfScript text.now located.now.script answer.now }
+    requires warned { has_error warnings.items ≡ false }
+    requires reads { names_of lists.now.reads.items ≡ reads located.now.script }
+    requires writes { names_of lists.now.writes.items ≡ writes located.now.script }
+    ensures reports { IfOk result (λ r. Reports text.now denied answer.now lists.now.positions.items r.0 r.1.items) }
+    ensures few { IfOk result (λ r. r.0 ≤ 2) }
+    ensures warned { IfOk result (λ r. denied.warnings ≡ true → has_warning warnings.items ≡ true → has_warning r.1.items ≡ true) }
+{
+    let locations = &located.locations;
+    let words = ignoring_words(alloc, text, locations)?;
+    let mut found = answer_findings(alloc, text, &located.script, &lists.positions, answer)?;
+    found.append(&mut warnings)?;
+    add_warnings(
+        alloc,
+        &mut found,
+        text,
+        locations,
+        &lists.reads,
+        &lists.writes,
+        &words,
+    )?;
+    let all = denied_findings(alloc, found, denied, answer, &lists.reads, &lists.writes)?;
+    let status = answer.status_under(denied, any_warning(&all));
+    let ignored = ignored_codes(alloc, &words, denied)?;
+    let findings = reported(alloc, text, locations, all, &ignored)?;
+    Ok((status, findings))
+}
+
+/// What is reported of a script that is refused.
+fn refused<'a>(
+    alloc: Global,
+    text: &'a [u8],
+    answer: Answer,
+    mut warnings: Vec<Finding>,
+    denied: Denied,
+) -> Result<Explanation<'a>, AllocError>
+    requires refusal { IsRefused text.now answer }
+    requires warned { has_error warnings.items ≡ false }
+    ensures explains { IfOk result (Explains text.now denied answer) }
+    ensures keeps { IfOk result KeepsNothing }
+    ensures few { IfOk result (λ e. e.status ≤ 2) }
+    ensures warned { IfOk result (WarnedWith denied warnings.items) }
+{
+    let mut found = refusal_findings(alloc, text, &answer)?;
+    found.append(&mut warnings)?;
+    let status = answer.status_under(denied, any_warning(&found));
+    let findings = reported(alloc, text, &[], found, &[])?;
+    Ok(Explanation {
+        text,
+        answer,
+        status,
+        script: None,
+        positions: Vec::new(alloc),
+        findings,
+        reads: Vec::new(alloc),
+        writes: Vec::new(alloc),
+    })
+}
+
+/// What is reported of the answer that a script is refused.
+fn refusal_findings(alloc: Global, text: &[u8], answer: &Answer) -> Result<Vec<Finding>, AllocError>
+    requires { IsRefused text.now answer.now }
+    ensures { IfOk result (λ findings. AreFindingsOf text.now [] answer.now findings.items) }
+{
+    let mut findings = Vec::new(alloc);
+    let Answer::ScriptRefused(fault) = answer else {
+        return Ok(findings);
+    };
+    findings.push(script_refusal(alloc, text, *fault)?)?;
+    Ok(findings)
+}
+
+/// The findings, after an error for each thing that is denied where the script is accepted.
+fn denied_findings(
+    alloc: Global,
+    findings: Vec<Finding>,
+    denied: Denied,
+    answer: &Answer,
+    reads: &[NamedFile],
+    writes: &[NamedFile],
+) -> Result<Vec<Finding>, AllocError>
+    requires { HasLists reads.now writes.now answer.now }
+    ensures errors { IfOk result (λ all. AreDeniedFindings denied findings.items all.items answer.now) }
+    ensures warnings { IfOk result (λ all. has_warning all.items ≡ has_warning findings.items) }
+{
+    match answer {
+        Answer::Accepted { bound, .. } => {
+            with_denials(alloc, findings, denied, reads, writes, bound.is_some())
+        }
+        _ => Ok(findings),
+    }
+}
+
+/// The position of each command's verb.
+fn verb_positions(
+    alloc: Global,
+    text: &[u8],
+    locations: &[Location],
+) -> Result<Vec<Position>, AllocError>
+    ensures { IfOk result (λ positions. positions.items ≡ map (λ location. position_in text.now location.verb) locations.now) }
+{
+    let mut offsets = Vec::new(alloc);
+    for location in locations {
+        offsets.push(location.verb)?;
+    }
+    positions(alloc, text, &offsets)
+}
+
+/// What is reported of the answer, alone.
+fn answer_findings(
+    alloc: Global,
+    text: &[u8],
+    script: &Script,
+    positions: &[Position],
+    answer: &Answer,
+) -> Result<Vec<Finding>, AllocError>
+    requires { CanBeReported text.now answer.now }
+    ensures { IfOk result (λ findings. AreFindingsOf text.now positions.now answer.now findings.items) }
+{
+    let mut findings = Vec::new(alloc);
+    let Some(finding) = answer_finding(alloc, text, script, positions, answer)? else {
+        return Ok(findings);
+    };
+    findings.push(finding)?;
+    Ok(findings)
+}
+
+/// What is reported of the answer, where there is something to be said.
+fn answer_finding(
+    alloc: Global,
+    text: &[u8],
+    script: &Script,
+    positions: &[Position],
+    answer: &Answer,
+) -> Result<Option<Finding>, AllocError>
+    requires { CanBeReported text.now answer.now }
+    ensures { IfOk result (IsFindingOf text.now positions.now answer.now) }
+{
+    match answer {
+        Answer::ScriptRefused(fault) => Ok(Some(script_refusal(alloc, text, *fault)?)),
+        Answer::CertificateRefused(fault) => Ok(Some(certificate_refusal(alloc, *fault)?)),
+        Answer::Rejected { cert, why } => {
+            Ok(Some(rejection(alloc, script, positions, cert, *why)?))
+        }
+        Answer::Endless(walk) => Ok(Some(loop_finding(alloc, script, positions, walk)?)),
+        Answer::Accepted { cert, bound: None } => unbounded(alloc, script, positions, cert),
+        Answer::Accepted { .. } | Answer::NotJudged => Ok(None),
+    }
+}

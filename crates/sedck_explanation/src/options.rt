@@ -1,0 +1,210 @@
+//! What is said of the options of a call, and of words that no sed takes.
+
+ghost use Rattle.std.specs.Prelude.{◌≡◌, true, false, IfOk};
+ghost use Rattle.std.specs.List.{list_any};
+ghost use Rattle.sedck_report.specs.Levels.{has_warning, is_error, has_error};
+ghost use Rattle.sedck_explanation.specs.Called.{changes_language as is_language_option, is_foreign as is_foreign_option, has_foreign as has_foreign_option};
+ghost use Rattle.sedck_explanation.specs.Called.{is_overwriting as is_overwriting_option, is_in_place as is_in_place_call};
+
+use crate::calls::call_finding;
+use sedck_calls::{Call, CallFault, CallOption, Given, Origin};
+use sedck_report::{Code, Finding, Level, shown_name};
+use std::alloc::{AllocError, Global};
+
+/// Whether sed reads another language, or other lines, with the option.
+fn changes_language(option: CallOption) -> bool
+    ensures { result ≡ is_language_option option }
+{
+    matches!(
+        option,
+        CallOption::Extended | CallOption::NullData | CallOption::Separate
+    )
+}
+
+/// The option and its word's number, from 0; none for an operand.
+fn option_of(given: Given) -> Option<(CallOption, usize)> {
+    match given {
+        Given::Alone(option, word) => Some((option, word)),
+        Given::With(option, origin) => Some((option, origin.word)),
+        Given::Operand(_) => None,
+    }
+}
+
+/// Whether one of the options changes the language or the lines.
+pub fn has_foreign(given: &[Given]) -> bool
+    ensures { result ≡ has_foreign_option given.now }
+{
+    for item in given {
+        if is_foreign(*item) {
+            return true;
+        }
+    }
+    false
+}
+
+/// Whether the option changes the language or the lines.
+fn is_foreign(given: Given) -> bool
+    ensures { result ≡ is_foreign_option given }
+{
+    match given {
+        Given::Alone(option, _) | Given::With(option, _) => changes_language(option),
+        Given::Operand(_) => false,
+    }
+}
+
+/// An error for each option that changes the language or the lines.
+pub fn foreign_findings(
+    alloc: Global,
+    words: &[&[u8]],
+    given: &[Given],
+) -> Result<Vec<Finding>, AllocError> {
+    let mut findings = Vec::new(alloc);
+    for item in given {
+        let Some((option, word)) = option_of(*item) else {
+            continue;
+        };
+        if let Some((what, hint)) = foreign_words(option) {
+            let number = word.saturating_add(1);
+            let text = Origin { word, from: 0 }.text(words);
+            let shown = shown_name(alloc, text)?;
+            let shown = shown.as_str();
+            let message = format!(in alloc;
+                "word {number}, \"{shown}\": {what}, so the script is not judged"
+            )?;
+            findings.push(call_finding(
+                alloc,
+                Level::Error,
+                Code::OtherLanguage,
+                message,
+                Some(hint),
+            ))?;
+        }
+    }
+    Ok(findings)
+}
+
+/// What the option changes, and what to write instead.
+fn foreign_words(option: CallOption) -> Option<(&'static str, &'static str)> {
+    match option {
+        CallOption::Extended => Some((
+            "with this option regular expressions are extended ones",
+            "write basic expressions: `\\(`, `\\)`, `\\{` and `\\}` for groups and intervals, `x\\{1,\\}` for `x+`, and several commands for `|`",
+        )),
+        CallOption::NullData => Some((
+            "with this option lines end with a byte 0",
+            "swap newlines and bytes 0 with `tr '\\n\\0' '\\0\\n'` before and after",
+        )),
+        CallOption::Separate => Some((
+            "with this option each operand is an input of its own",
+            "call sed once for each file",
+        )),
+        _ => None,
+    }
+}
+
+/// A warning of the operands that `-i` overwrites, if there are any.
+pub(crate) fn call_warnings(
+    alloc: Global,
+    words: &[&[u8]],
+    call: &Call,
+) -> Result<Vec<Finding>, AllocError>
+    ensures errors { IfOk result (λ findings. has_error findings.items ≡ false) }
+    ensures warnings { IfOk result (λ findings. has_warning findings.items ≡ is_in_place_call call.now) }
+{
+    let mut findings = Vec::new(alloc);
+    if is_in_place(call) {
+        let message = overwritten(alloc, words, call)?;
+        findings.push(call_finding(alloc, Level::Warning, Code::InPlace, message, None))?;
+    }
+    Ok(findings)
+}
+
+/// The error of a call that overwrites its operands where writing is denied.
+pub(crate) fn denied_overwriting(
+    alloc: Global,
+    words: &[&[u8]],
+    call: &Call,
+) -> Result<Finding, AllocError>
+    ensures { IfOk result (λ finding. is_error finding.level ≡ true) }
+{
+    let message = overwritten(alloc, words, call)?;
+    Ok(call_finding(alloc, Level::Error, Code::DeniedWrites, message, None))
+}
+
+/// Whether the call overwrites an operand.
+pub(crate) fn is_in_place(call: &Call) -> bool
+    ensures { result ≡ is_in_place_call call.now }
+{
+    !call.inputs.is_empty() && has_overwriting(&call.given)
+}
+
+/// Whether one of the options makes sed overwrite its operands.
+fn has_overwriting(given: &[Given]) -> bool
+    ensures { result ≡ list_any is_overwriting_option given.now }
+{
+    for item in given {
+        if is_overwriting(*item) {
+            return true;
+        }
+    }
+    false
+}
+
+/// Whether it is `-i`, or `-I` of the BSDs.
+fn is_overwriting(given: Given) -> bool
+    ensures { result ≡ is_overwriting_option given }
+{
+    match given {
+        Given::Alone(option, _) | Given::With(option, _) => matches!(
+            option,
+            CallOption::InPlace | CallOption::InPlaceSuffix
+        ),
+        Given::Operand(_) => false,
+    }
+}
+
+/// Which operands are overwritten, in words.
+fn overwritten(alloc: Global, words: &[&[u8]], call: &Call) -> Result<String, AllocError> {
+    let mut message = String::from_str(alloc, "`-i` overwrites")?;
+    for (index, number) in call.inputs.iter().enumerate() {
+        message.push_str(if index > 0 { ", \"" } else { " \"" })?;
+        if let Some(word) = words.get(*number) {
+            message.push_str(shown_name(alloc, word)?.as_str())?;
+        }
+        message.push('"')?;
+    }
+    Ok(message)
+}
+
+/// The error of words that no sed takes.
+pub fn refusal_of(
+    alloc: Global,
+    words: &[&[u8]],
+    fault: CallFault,
+) -> Result<Vec<Finding>, AllocError> {
+    let (message, hint) = match fault {
+        CallFault::OutOfMemory => return Err(AllocError),
+        CallFault::NoScript => (
+            String::from_str(alloc, "there is no script")?,
+            "a script is the first operand, or what `-e` or `-f` gives",
+        ),
+        CallFault::BadWord(number) => (
+            bad_word(alloc, words, number)?,
+            "put operands that begin with a hyphen after `--`",
+        ),
+    };
+    let mut findings = Vec::new(alloc);
+    findings.push(call_finding(alloc, Level::Error, Code::BadCall, message, Some(hint)))?;
+    Ok(findings)
+}
+
+/// Which word no sed takes, in words.
+fn bad_word(alloc: Global, words: &[&[u8]], number: usize) -> Result<String, AllocError> {
+    let counted = number.saturating_add(1);
+    let mut message = format!(in alloc; "word {counted}: no sed takes \"")?;
+    if let Some(word) = words.get(number) {
+        message.push_str(shown_name(alloc, word)?.as_str())?;
+    }
+    message.push_str("\", or it lacks its argument")?;
+    Ok(message)
+}

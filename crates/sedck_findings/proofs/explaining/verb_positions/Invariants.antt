@@ -1,5 +1,0 @@
-use Rattle.std.proofs.Common.{◌≡◌, map, take}
-use Rattle.sedck_findings.proofs.explaining.verb_positions.Given as goal
-
-abbrev pub invariant-loop-location : goal.invariant-loop-location
-invariant-loop-location l = l.offsets.items ≡ map (λ location. location.verb) (take l.location-index l.locations)

@@ -1,5 +1,0 @@
-use Rattle.sedck_findings.proofs.Reports.{IsSortedOut}
-use Rattle.sedck_findings.proofs.reporting.reported.Given as goal
-
-abbrev pub invariant-loop-finding : goal.invariant-loop-finding
-invariant-loop-finding l = IsSortedOut l.text l.ignored l.yielded l.errors.items l.warnings.items l.notes.items

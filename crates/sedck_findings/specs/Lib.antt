@@ -1,7 +1,0 @@
--- What the public contracts cite, in reading order.
-pub mod Answers
-pub mod Denial
-pub mod Errors
-pub mod Explanations
--- What functions inside the crate promise each other.
-pub mod Private

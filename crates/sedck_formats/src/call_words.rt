@@ -1,0 +1,108 @@
+//! A call of sed in a file, in words.
+
+use crate::parts::{Ink, NO_INK};
+use crate::written::Written;
+use sedck_explanation::{Answer, Explanation, NamedFile, Position, shown_name};
+use std::alloc::{AllocError, Global};
+
+/// A call of sed in a file.
+#[derive(Drop)]
+pub struct CallAt<'a> {
+    /// The file's path.
+    pub file: &'a str,
+    /// Where the command's name is in the file.
+    pub position: Position,
+    /// The words after the name, as they can be shown.
+    pub words: Vec<String>,
+}
+
+/// The answer on a call in a file.
+#[derive(Clone, Copy)]
+pub enum CallAnswer {
+    Accepted,
+    /// Accepted for values that keep to what is said of them.
+    AcceptedIf,
+    Denied,
+    Loop,
+    Refused,
+    NotJudged,
+    Unknown,
+}
+
+impl CallAnswer {
+    /// The answer of the explanation, by its status: 5 says that something isn't known before a run.
+    pub fn of(explanation: &Explanation) -> CallAnswer {
+        match (&explanation.answer, explanation.status) {
+            (Answer::Accepted { .. }, 0) => CallAnswer::Accepted,
+            (Answer::Accepted { .. }, 5) => CallAnswer::AcceptedIf,
+            (Answer::Accepted { .. }, _) => CallAnswer::Denied,
+            (Answer::Endless(_) | Answer::Rejected { .. }, _) => CallAnswer::Loop,
+            (Answer::ScriptRefused(_) | Answer::CertificateRefused(_), _) => CallAnswer::Refused,
+            (Answer::NotJudged, 5) => CallAnswer::Unknown,
+            (Answer::NotJudged, _) => CallAnswer::NotJudged,
+        }
+    }
+
+    /// The word for it.
+    pub fn word(self) -> &'static str {
+        match self {
+            CallAnswer::Accepted => "accepted",
+            CallAnswer::AcceptedIf => "accepted-if",
+            CallAnswer::Denied => "denied",
+            CallAnswer::Loop => "loop",
+            CallAnswer::Refused => "script-refused",
+            CallAnswer::NotJudged => "not-judged",
+            CallAnswer::Unknown => "unknown",
+        }
+    }
+}
+
+/// A line with the answer and the files: `FILE:LINE:COLUMN: accepted, no file`.
+pub fn text_answer(
+    alloc: Global,
+    call: &CallAt,
+    explanation: &Explanation,
+    colour: bool,
+) -> Result<Vec<u8>, AllocError> {
+    let mut out = Written::new(alloc);
+    let Position { line, column, .. } = call.position;
+    out.text(call.file).text(":").number(line);
+    out.text(":").number(column).text(": ");
+    let answer = CallAnswer::of(explanation);
+    let ink = if colour { ink_of(answer) } else { NO_INK };
+    ink.push(&mut out, answer.word());
+    if explanation.script.is_some() {
+        push_files(&mut out, explanation);
+    }
+    out.text("\n");
+    out.finished()
+}
+
+/// The colour of an answer.
+fn ink_of(answer: CallAnswer) -> Ink {
+    let on = match answer {
+        CallAnswer::Accepted => "\x1b[1;32m",
+        CallAnswer::AcceptedIf | CallAnswer::Unknown => "\x1b[1;33m",
+        _ => "\x1b[1;31m",
+    };
+    Ink { on, off: "\x1b[0m" }
+}
+
+/// Adds which files the script reads and writes.
+fn push_files(out: &mut Written, explanation: &Explanation) {
+    if explanation.reads.is_empty() && explanation.writes.is_empty() {
+        out.text(", no file");
+    }
+    push_names(out, ", reads ", &explanation.reads);
+    push_names(out, ", writes ", &explanation.writes);
+}
+
+/// Adds the names, each in quotes, after these words.
+fn push_names(out: &mut Written, what: &str, files: &[NamedFile]) {
+    let mut before = what;
+    for file in files {
+        let name = shown_name(out.alloc(), file.name);
+        out.text(before).text("\"").words(name).text("\"");
+        before = " ";
+    }
+}

@@ -1,0 +1,99 @@
+//! How many calls were found, by their answers.
+
+use crate::call_words::CallAnswer;
+use crate::written::Written;
+use std::alloc::{AllocError, Global};
+
+/// How many calls were found, by their answers.
+#[derive(Clone, Copy)]
+pub struct Counts {
+    pub calls: usize,
+    /// Files in which calls were looked for.
+    pub files: usize,
+    pub accepted: usize,
+    pub accepted_if: usize,
+    pub denied: usize,
+    pub loops: usize,
+    pub refused: usize,
+    pub not_judged: usize,
+    pub unknown: usize,
+    /// Places where a file wasn't understood, and reading went on at a next line.
+    pub unread: usize,
+    /// Files and folders that can't be read.
+    pub unreadable: usize,
+}
+
+impl Counts {
+    /// No calls in no files.
+    pub const NONE: Counts = Counts {
+        calls: 0,
+        files: 0,
+        accepted: 0,
+        accepted_if: 0,
+        denied: 0,
+        loops: 0,
+        refused: 0,
+        not_judged: 0,
+        unknown: 0,
+        unread: 0,
+        unreadable: 0,
+    };
+
+    /// Counts a call with this answer.
+    pub fn add(&mut self, answer: CallAnswer) {
+        self.calls = self.calls.saturating_add(1);
+        match answer {
+            CallAnswer::Accepted => self.accepted = self.accepted.saturating_add(1),
+            CallAnswer::AcceptedIf => self.accepted_if = self.accepted_if.saturating_add(1),
+            CallAnswer::Denied => self.denied = self.denied.saturating_add(1),
+            CallAnswer::Loop => self.loops = self.loops.saturating_add(1),
+            CallAnswer::Refused => self.refused = self.refused.saturating_add(1),
+            CallAnswer::NotJudged => self.not_judged = self.not_judged.saturating_add(1),
+            CallAnswer::Unknown => self.unknown = self.unknown.saturating_add(1),
+        }
+    }
+
+    /// A line that says how many calls were found, and then how many there are of each answer that there is.
+    pub fn text(self, alloc: Global) -> Result<Vec<u8>, AllocError> {
+        let mut out = Written::new(alloc);
+        let calls = if self.calls == 1 {
+            " call of sed in "
+        } else {
+            " calls of sed in "
+        };
+        let files = if self.files == 1 { " file" } else { " files" };
+        out.grouped(self.calls as u64).text(calls);
+        out.grouped(self.files as u64).text(files);
+        self.push_parts(&mut out);
+        out.text("\n");
+        out.finished()
+    }
+
+    /// Adds how many there are of each answer that there is.
+    fn push_parts(&self, out: &mut Written) {
+        let places = if self.unread == 1 {
+            " place not understood"
+        } else {
+            " places not understood"
+        };
+        let parts = [
+            (self.accepted, " accepted"),
+            (self.accepted_if, " accepted if what isn't known is as said"),
+            (self.denied, " denied"),
+            (self.loops, " with a loop"),
+            (self.refused, " refused"),
+            (self.not_judged, " not judged"),
+            (self.unknown, " unknown"),
+            (self.unread, places),
+            (self.unreadable, " not readable"),
+        ];
+        let mut is_first = true;
+        for (count, words) in parts {
+            if count > 0 {
+                out.text(if is_first { ": " } else { ", " });
+                out.grouped(count as u64).text(words);
+                is_first = false;
+            }
+        }
+    }
+}

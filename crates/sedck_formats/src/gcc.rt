@@ -1,0 +1,72 @@
+//! One line for each finding, as compilers print them, for editors and continuous integration.
+
+use crate::lines::{Shown, command_line, shown_of};
+use crate::listed::{ListedSteps, is_listed, listed_steps};
+use crate::names::Names;
+use crate::parts::{NO_INK, prefix, push_headline, push_left_out};
+use crate::written::Written;
+use sedck_explanation::{Explanation, Finding, Level, Step};
+use std::alloc::{AllocError, Global};
+
+/// The most characters of a line that are shown in a note.
+const NOTE_WIDTH: usize = 40;
+
+/// `FILE:LINE:COLUMN: LEVEL: MESSAGE [code]` for each finding of at least this level, and a `note` for each of its steps and for its
+/// hint. A finding without a position has none. Nothing is printed where nothing was found.
+pub fn gcc_report(
+    alloc: Global,
+    names: Names,
+    explanation: &Explanation,
+    least: Level,
+) -> Result<Vec<u8>, AllocError> {
+    let mut out = Written::new(alloc);
+    let shown = shown_of(names, explanation);
+    for finding in &explanation.findings {
+        if is_listed(finding, least) {
+            let place = prefix(alloc, names, finding.position)?;
+            push_finding(&mut out, &shown, place.as_str(), finding);
+        }
+    }
+    out.finished()
+}
+
+/// Adds the finding with its steps and its hint.
+fn push_finding(out: &mut Written, shown: &Shown, place: &str, finding: &Finding) {
+    push_headline(out, place, NO_INK, finding);
+    let ListedSteps {
+        first,
+        left_out,
+        last,
+    } = listed_steps(&finding.steps);
+    push_steps(out, shown, first);
+    if left_out > 0 {
+        out.text(place).text("note: ");
+        push_left_out(out, left_out);
+    }
+    push_steps(out, shown, last);
+    if let Some(hint) = finding.hint {
+        out.text(place).text("note: hint: ").text(hint).text("\n");
+    }
+}
+
+/// Adds a note for each step: the line of its command between backquotes, or the script's end, and what it does.
+fn push_steps(out: &mut Written, shown: &Shown, steps: &[Step]) {
+    for step in steps {
+        out.words(prefix(out.alloc(), shown.names, step.position));
+        out.text("note: ");
+        match step.position {
+            Some(position) => {
+                let line = command_line(
+                    out.alloc(),
+                    shown.source,
+                    step.node.at,
+                    position,
+                    NOTE_WIDTH,
+                );
+                out.text("`").words(line).text("`")
+            }
+            None => out.text("the script's end"),
+        };
+        out.text(" ").text(step.message.as_str()).text("\n");
+    }
+}

@@ -1,0 +1,98 @@
+//! Findings in JSON.
+
+use crate::json_places::{push_place, push_position};
+use crate::json_text::Json;
+use crate::listed::is_listed;
+use crate::names::Names;
+use crate::pages::page_of;
+use crate::words::{kind_word, level_word};
+use sedck_explanation::{Finding, Fix, Level, Step};
+
+/// What explains that a script can't be read.
+const UNREADABLE_PAGE: &str = "FORMATS.md#the-formats-and-statuses-of-sedck-explain";
+
+/// Adds the findings of at least this level.
+pub(crate) fn push_findings(out: &mut Json, names: Names, findings: &[Finding], least: Level) {
+    out.list("findings");
+    for finding in findings {
+        if is_listed(finding, least) {
+            push_finding(out, names, finding);
+        }
+    }
+    out.close("]");
+}
+
+/// Adds the list of the one finding that a script can't be read.
+pub(crate) fn push_unreadable(out: &mut Json, message: &str) {
+    out.list("findings")
+        .open()
+        .text("level", level_word(Level::Error))
+        .text("code", "unreadable")
+        .text("message", message)
+        .null("hint")
+        .null("position");
+    out.list("steps")
+        .close("]")
+        .text("page", UNREADABLE_PAGE)
+        .null("end")
+        .null("fix")
+        .close("}]");
+}
+
+/// Adds a finding.
+///
+/// - `level`: `error`, `warning` or `note`.
+/// - `code`: a name that stays the same, such as `bad-flag`.
+/// - `message`: a sentence without its full stop.
+/// - `hint`: what to write instead; null where there is none.
+/// - `position`: null where it is of the certificate, or of the script as a whole.
+/// - `steps`: those of a loop, or the ends of an edge.
+/// - `page`: the page that explains the code, and its heading: a link from the folder `docs`.
+/// - `end`: the first byte after what is meant; null where it isn't known.
+/// - `fix`: a change of the script that mends it; null where there is none.
+fn push_finding(out: &mut Json, names: Names, finding: &Finding) {
+    out.open()
+        .text("level", level_word(finding.level))
+        .text("code", finding.code.name())
+        .text("message", finding.message.as_str())
+        .text_or_null("hint", finding.hint);
+    push_place(out, "position", names, finding.position);
+    out.list("steps");
+    for step in &finding.steps {
+        push_step(out, names, step);
+    }
+    out.close("]").text("page", page_of(finding.code));
+    push_place(out, "end", names, finding.end);
+    push_fix(out, names, finding.fix);
+    out.close("}");
+}
+
+/// Adds the text to write in place of a part of the script, whose `end` is the first byte after it.
+fn push_fix(out: &mut Json, names: Names, fix: Option<Fix>) {
+    let Some(Fix { start, end, text }) = fix else {
+        out.null("fix");
+        return;
+    };
+    out.object("fix");
+    push_position(out, "start", names, start);
+    push_position(out, "end", names, end);
+    out.text("text", text).close("}");
+}
+
+/// Adds a step of a loop or along an edge.
+///
+/// - `command`: the command's number, from 0; the number of commands for the script's end.
+/// - `flag`: the flag that `t` tests.
+/// - `last`: no line is left to read.
+/// - `kind`: `consume`, `shorten`, `keep` or `grow`; null where the node is only reached.
+/// - `position`: null for the script's end.
+fn push_step(out: &mut Json, names: Names, step: &Step) {
+    out.open()
+        .number("command", u64::from(step.node.at))
+        .boolean("flag", step.node.flag)
+        .boolean("last", step.node.last)
+        .text_or_null("kind", step.kind.map(kind_word))
+        .text("message", step.message.as_str());
+    push_place(out, "position", names, step.position);
+    out.close("}");
+}

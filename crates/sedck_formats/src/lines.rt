@@ -1,0 +1,187 @@
+//! A line of a script around one of its bytes.
+
+use crate::names::Names;
+use sedck_explanation::{Explanation, Position, is_printable, shown_line};
+use std::alloc::{AllocError, Global};
+
+/// What stands for a part of a line that is left out.
+const CUT: &str = "...";
+
+/// The text of a script, and where its commands are.
+#[derive(Clone, Copy)]
+pub struct Source<'a> {
+    pub text: &'a [u8],
+    pub positions: &'a [Position],
+}
+
+/// A script as reports name it and show it.
+#[derive(Clone, Copy)]
+pub struct Shown<'a> {
+    pub names: Names<'a>,
+    pub source: Source<'a>,
+}
+
+/// The script of what is explained, by these names.
+pub fn shown_of<'a>(names: Names<'a>, explanation: &'a Explanation) -> Shown<'a> {
+    Shown {
+        names,
+        source: Source {
+            text: explanation.text,
+            positions: &explanation.positions,
+        },
+    }
+}
+
+/// A line around one of its bytes, as it is shown: in printable ASCII.
+#[derive(Drop)]
+pub struct LinePart {
+    pub shown: String,
+    /// How many shown characters precede the byte.
+    pub before: usize,
+}
+
+/// The line in which the position is, around it: whole where that is at most `limit` characters wide, else so much of it, with
+/// dots for what is left out. The time doesn't depend on the line's length.
+pub fn excerpt(
+    alloc: Global,
+    text: &[u8],
+    position: Position,
+    limit: usize,
+) -> Result<LinePart, AllocError> {
+    let before = before(text, position);
+    let behind = behind(text, position, limit);
+    let needed = width(last_part(before, limit));
+    let room = limit.saturating_sub(width(behind)).max(limit / 2);
+    let left = fitting_end(before, room.min(needed));
+    let right = fitting_start(behind, limit.saturating_sub(width(left)));
+    let shown_left = shown_line(alloc, left)?;
+    let shown_right = shown_line(alloc, right)?;
+    let front = cut_where(left.len() < before.len());
+    let back = cut_where(right.len() < behind.len());
+    joined(alloc, front, &shown_left, &shown_right, back)
+}
+
+/// Dots where something is left out.
+fn cut_where(is_cut: bool) -> &'static str {
+    if is_cut { CUT } else { "" }
+}
+
+/// The parts on both sides of the byte as one line.
+fn joined(
+    alloc: Global,
+    front: &str,
+    left: &str,
+    right: &str,
+    back: &str,
+) -> Result<LinePart, AllocError> {
+    Ok(LinePart {
+        shown: format!(in alloc; "{front}{left}{right}{back}")?,
+        before: front.len().saturating_add(left.len()),
+    })
+}
+
+/// The line of a command, cut to `limit` characters and without the blanks around it. Where other commands precede the command in
+/// its line, it begins at the command's verb.
+pub fn command_line(
+    alloc: Global,
+    source: Source,
+    command: u16,
+    position: Position,
+    limit: usize,
+) -> Result<String, AllocError> {
+    if is_preceded(source.positions, command, position.line) {
+        return rest_of_line(alloc, source.text, position, limit);
+    }
+    let whole = excerpt(alloc, source.text, position, limit)?;
+    String::from_str(alloc, whole.shown.as_str().trim_ascii())
+}
+
+/// The line from the position on, cut to `limit` characters.
+fn rest_of_line(
+    alloc: Global,
+    text: &[u8],
+    position: Position,
+    limit: usize,
+) -> Result<String, AllocError> {
+    let rest = behind(text, position, limit);
+    let part = fitting_start(rest, limit);
+    let shown = shown_line(alloc, part)?;
+    let words = shown.as_str().trim_ascii_end();
+    let back = cut_where(part.len() < rest.len());
+    format!(in alloc; "{CUT}{words}{back}")
+}
+
+/// Whether the command before this one is in the same line.
+fn is_preceded(positions: &[Position], command: u16, line: usize) -> bool {
+    let Some(before) = usize::from(command).checked_sub(1) else {
+        return false;
+    };
+    match positions.get(before) {
+        Some(position) => position.line == line,
+        None => false,
+    }
+}
+
+/// What precedes the position in its line.
+fn before(text: &[u8], position: Position) -> &[u8] {
+    let start = position
+        .offset
+        .saturating_sub(position.column.saturating_sub(1));
+    text.get(start..position.offset).unwrap_or(&[])
+}
+
+/// What follows the position in its line, from the byte there: no more than one byte over the limit.
+fn behind(text: &[u8], position: Position, limit: usize) -> &[u8] {
+    let rest = text.get(position.offset..).unwrap_or(&[]);
+    let part = rest.get(..limit.saturating_add(1)).unwrap_or(rest);
+    match part.iter().position(|byte| *byte == b'\n') {
+        Some(end) => part.get(..end).unwrap_or(part),
+        None => part,
+    }
+}
+
+/// The last bytes, no more than one over the limit.
+fn last_part(bytes: &[u8], limit: usize) -> &[u8] {
+    let start = bytes.len().saturating_sub(limit.saturating_add(1));
+    bytes.get(start..).unwrap_or(bytes)
+}
+
+/// The most bytes from the start that are shown in the room.
+fn fitting_start(bytes: &[u8], room: usize) -> &[u8] {
+    let mut used = 0usize;
+    for (count, byte) in bytes.iter().enumerate() {
+        used = used.saturating_add(width_of(*byte));
+        if used > room {
+            return bytes.get(..count).unwrap_or(&[]);
+        }
+    }
+    bytes
+}
+
+/// The most bytes before the end that are shown in the room.
+fn fitting_end(bytes: &[u8], room: usize) -> &[u8] {
+    let mut used = 0usize;
+    for (count, byte) in bytes.iter().rev().enumerate() {
+        used = used.saturating_add(width_of(*byte));
+        if used > room {
+            return bytes
+                .get(bytes.len().saturating_sub(count)..)
+                .unwrap_or(&[]);
+        }
+    }
+    bytes
+}
+
+/// How many characters the bytes are shown as.
+fn width(bytes: &[u8]) -> usize {
+    let mut sum = 0usize;
+    for byte in bytes {
+        sum = sum.saturating_add(width_of(*byte));
+    }
+    sum
+}
+
+/// How many characters the byte is shown as.
+fn width_of(byte: u8) -> usize {
+    if is_printable(byte) { 1 } else { 4 }
+}

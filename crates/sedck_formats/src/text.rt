@@ -1,0 +1,222 @@
+//! The report for people at a terminal: each finding with its line, and what an accepted script may do.
+
+use crate::lines::{Shown, command_line, excerpt, shown_of};
+use crate::listed::{ListedSteps, is_listed, listed_steps};
+use crate::names::Names;
+use crate::parts::{Ink, NO_INK, prefix, push_headline, push_left_out};
+use crate::summary::{Inks, push_summary};
+use crate::words::place_words;
+use crate::written::Written;
+use sedck_explanation::{Explanation, Finding, Level, Position, Step};
+use std::alloc::{AllocError, Global};
+
+/// The most characters of a line that are shown above a caret.
+const LINE_WIDTH: usize = 160;
+
+/// The most characters of a line that are shown beside a step.
+const STEP_WIDTH: usize = 40;
+
+/// Colours of a terminal.
+const RED: &str = "\x1b[1;31m";
+
+const YELLOW: &str = "\x1b[1;33m";
+
+const CYAN: &str = "\x1b[1;36m";
+
+const GREEN: &str = "\x1b[1;32m";
+
+const PLAIN: &str = "\x1b[0m";
+
+/// Each finding of at least this level with its line, a caret under the byte that is meant, its steps and its hint; then the answer
+/// with the limit on steps and the files, but for what is refused or not judged. `colour` adds the colours of ANSI terminals.
+pub fn text_report(
+    alloc: Global,
+    names: Names,
+    explanation: &Explanation,
+    least: Level,
+    colour: bool,
+) -> Result<Vec<u8>, AllocError> {
+    let mut out = Written::new(alloc);
+    push_findings(&mut out, names, explanation, least, colour)?;
+    let inks = Inks {
+        yes: ink_where(colour, GREEN),
+        no: ink_where(colour, RED),
+    };
+    push_summary(&mut out, names, explanation, inks);
+    out.finished()
+}
+
+/// Each finding of at least this level with its line, a caret under the byte that is meant, its steps and its hint.
+pub fn text_findings(
+    alloc: Global,
+    names: Names,
+    explanation: &Explanation,
+    least: Level,
+    colour: bool,
+) -> Result<Vec<u8>, AllocError> {
+    let mut out = Written::new(alloc);
+    push_findings(&mut out, names, explanation, least, colour)?;
+    out.finished()
+}
+
+/// Adds the findings of at least this level.
+fn push_findings(
+    out: &mut Written,
+    names: Names,
+    explanation: &Explanation,
+    least: Level,
+    colour: bool,
+) -> Result<(), AllocError> {
+    let shown = shown_of(names, explanation);
+    for finding in &explanation.findings {
+        if is_listed(finding, least) {
+            push_finding(out, &shown, finding, colour)?;
+        }
+    }
+    Ok(())
+}
+
+/// The colour, where colours are wanted.
+fn ink_where(colour: bool, on: &'static str) -> Ink {
+    if colour {
+        Ink { on, off: PLAIN }
+    } else {
+        NO_INK
+    }
+}
+
+/// The colour of a level.
+fn level_colour(level: Level) -> &'static str {
+    match level {
+        Level::Error => RED,
+        Level::Warning => YELLOW,
+        Level::Note => CYAN,
+    }
+}
+
+/// Adds a finding.
+fn push_finding(
+    out: &mut Written,
+    shown: &Shown,
+    finding: &Finding,
+    colour: bool,
+) -> Result<(), AllocError> {
+    let ink = ink_where(colour, level_colour(finding.level));
+    let place = prefix(out.alloc(), shown.names, finding.position)?;
+    push_headline(out, place.as_str(), ink, finding);
+    let gutter = match finding.position {
+        Some(position) => push_line(out, shown, position, ink)?,
+        None => 4,
+    };
+    let rows = rows_of(out.alloc(), shown, &finding.steps)?;
+    push_rows(out, &rows, &finding.steps, gutter);
+    if let Some(hint) = finding.hint {
+        out.spaces(gutter);
+        out.text(" = ");
+        ink_where(colour, CYAN).push(out, "hint");
+        out.text(": ").text(hint).text("\n");
+    }
+    Ok(())
+}
+
+/// Adds the line in which the position is, behind its number, and a caret under the byte; how wide the number's column is.
+fn push_line(
+    out: &mut Written,
+    shown: &Shown,
+    position: Position,
+    ink: Ink,
+) -> Result<usize, AllocError> {
+    let line = shown.names.place_of(position).line;
+    let number = format!(in out.alloc(); "{line}")?;
+    let gutter = number.len().saturating_add(2).max(4);
+    let part = excerpt(out.alloc(), shown.source.text, position, LINE_WIDTH)?;
+    push_aligned(out, number.as_str(), gutter);
+    out.text(" | ").text(part.shown.as_str()).text("\n");
+    out.spaces(gutter);
+    out.text(" | ");
+    out.spaces(part.before);
+    ink.push(out, "^");
+    out.text("\n");
+    Ok(gutter)
+}
+
+/// A step as it is printed.
+#[derive(Drop)]
+struct Row<'a> {
+    place: String,
+    source: String,
+    message: &'a str,
+}
+
+/// The steps that are listed, as they are printed.
+fn rows_of<'a>(
+    alloc: Global,
+    shown: &Shown,
+    steps: &'a [Step],
+) -> Result<Vec<Row<'a>>, AllocError> {
+    let ListedSteps { first, last, .. } = listed_steps(steps);
+    let mut rows = Vec::new(alloc);
+    for step in first.iter().chain(last.iter()) {
+        rows.push(row_of(alloc, shown, step)?)?;
+    }
+    Ok(rows)
+}
+
+/// The parts of a step's line.
+fn row_of<'a>(alloc: Global, shown: &Shown, step: &'a Step) -> Result<Row<'a>, AllocError> {
+    Ok(Row {
+        place: place_words(alloc, shown.names, step.position)?,
+        source: match step.position {
+            Some(position) => {
+                command_line(alloc, shown.source, step.node.at, position, STEP_WIDTH)?
+            }
+            None => String::new(alloc),
+        },
+        message: step.message.as_str(),
+    })
+}
+
+/// Adds the rows of steps in columns, and how many steps are left out.
+fn push_rows(out: &mut Written, rows: &[Row], steps: &[Step], gutter: usize) {
+    let ListedSteps {
+        first,
+        left_out,
+        ..
+    } = listed_steps(steps);
+    let before = gutter.saturating_add(3);
+    let (place, source) = widths(rows);
+    for (index, row) in rows.iter().enumerate() {
+        out.spaces(before);
+        if left_out > 0 && index == first.len() {
+            out.text("... ");
+            push_left_out(out, left_out);
+            out.spaces(before);
+        }
+        push_aligned(out, row.place.as_str(), place);
+        out.text("  ").text(row.source.as_str());
+        out.spaces(source.saturating_sub(row.source.len()));
+        out.text("  ").text(row.message).text("\n");
+    }
+}
+
+/// How wide the places and the lines are.
+fn widths(rows: &[Row]) -> (usize, usize) {
+    let mut place = 0;
+    let mut source = 0;
+    for row in rows {
+        place = width_of(row.place.as_str()).max(place);
+        source = row.source.len().max(source);
+    }
+    (place, source)
+}
+
+/// Adds spaces up to the width, and the words.
+fn push_aligned(out: &mut Written, words: &str, width: usize) {
+    out.spaces(width.saturating_sub(width_of(words)));
+    out.text(words);
+}
+
+/// How many characters the words have.
+fn width_of(words: &str) -> usize {
+    words.chars().count()
+}

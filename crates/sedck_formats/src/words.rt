@@ -1,0 +1,82 @@
+//! Words and numbers that several formats share.
+
+use crate::names::{Names, Place};
+use sedck_explanation::{Answer, Explanation, Level, Position};
+use sedck_flow::Kind;
+use std::alloc::{AllocError, Global};
+
+/// The version of the program and of its formats.
+pub const VERSION: &str = "1.1.0";
+
+/// The word for a level.
+pub fn level_word(level: Level) -> &'static str {
+    match level {
+        Level::Error => "error",
+        Level::Warning => "warning",
+        Level::Note => "note",
+    }
+}
+
+/// The word for the answer, or that an accepted script has what is denied.
+pub fn answer_word(explanation: &Explanation) -> &'static str {
+    if explanation.is_denied() {
+        return "denied";
+    }
+    match &explanation.answer {
+        Answer::Accepted { .. } => "accepted",
+        Answer::Rejected { .. } => "rejected",
+        Answer::Endless(_) => "loop",
+        Answer::ScriptRefused(_) => "script-refused",
+        Answer::CertificateRefused(_) => "certificate-refused",
+        Answer::NotJudged => "not-judged",
+    }
+}
+
+/// The word for the kind.
+pub fn kind_word(kind: Kind) -> &'static str {
+    match kind {
+        Kind::Consume => "consume",
+        Kind::Shorten => "shorten",
+        Kind::Keep => "keep",
+        Kind::Grow => "grow",
+    }
+}
+
+/// `LINE:COLUMN`, or `end` for the script's end. Where the script has several parts, the part's name precedes it.
+pub fn place_words(
+    alloc: Global,
+    names: Names,
+    position: Option<Position>,
+) -> Result<String, AllocError> {
+    let Some(position) = position else {
+        return String::from_str(alloc, "end");
+    };
+    let Place { name, line, column } = names.place_of(position);
+    if names.part_count() > 1 {
+        return format!(in alloc; "{name}:{line}:{column}");
+    }
+    format!(in alloc; "{line}:{column}")
+}
+
+/// A path as it is shown.
+pub fn shown_path(alloc: Global, path: &str) -> Result<String, AllocError> {
+    let mut shown = String::new(alloc);
+    for letter in path.chars() {
+        shown.push(shown_letter(letter))?;
+    }
+    Ok(shown)
+}
+
+/// `?` for a character that could move a terminal's cursor, end a line, or turn or hide what is around it; any other as it is.
+pub fn shown_letter(letter: char) -> char {
+    let is_hidden = letter.is_control()
+        || matches!(
+            letter,
+            '\u{61c}'
+                | '\u{200b}'..='\u{200f}'
+                | '\u{2028}'..='\u{202e}'
+                | '\u{2060}'..='\u{2069}'
+                | '\u{feff}'
+        );
+    if is_hidden { '?' } else { letter }
+}

@@ -1,6 +1,0 @@
-use Rattle.std.proofs.Common.{◌≡◌, All}
-use Rattle.sedck_judging.specs.Placed.{IsFindingIn}
-use Rattle.sedck_judging.proofs.holes.open_warnings.Given as goal
-
-abbrev pub invariant-loop-hole : goal.invariant-loop-hole
-invariant-loop-hole l = (l.places.file.now ≡ l.file) × All (IsFindingIn l.file) l.findings.items

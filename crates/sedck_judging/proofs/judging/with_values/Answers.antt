@@ -1,9 +1,0 @@
-use Rattle.std.proofs.Common.{All, sym, subst}
-use Rattle.std.proofs.lemmas.List.Elements.{All-append}
-use Rattle.sedck_judging.specs.Placed.{IsFindingIn}
-use Rattle.sedck_judging.proofs.judging.with_values.Goals as goal
-
-pub returns-clause-places : goal.returns-clause-places
-returns-clause-places c =
-    subst (All (IsFindingIn c.args.file.now)) (sym c.in_ok-append.ensures.items)
-    (All-append (IsFindingIn c.args.file.now) c.args.explanation.findings.items c.in_ok-notes.notes.items c.requires.findings c.in_ok-notes.ensures)

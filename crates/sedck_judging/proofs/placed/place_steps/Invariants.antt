@@ -1,8 +1,0 @@
-use Rattle.std.proofs.Common.{◌≡◌, All, take}
-use Rattle.sedck_judging.specs.Placed.{IsSomeIn}
-use Rattle.sedck_judging.proofs.placed.place_steps.Given as goal
-
--- those so far
-abbrev pub invariant-loop-step : goal.invariant-loop-step
-invariant-loop-step l =
-    (l.places.file ≡ l.initial.places.file) × All (λ step. IsSomeIn l.initial.places.file.now step.position) (take l.step-index l.step-items)

@@ -1,7 +1,0 @@
-use Rattle.std.proofs.Common.{◌≡◌, map, take}
-use Rattle.sedck_judging.specs.Judged.{words_of}
-use Rattle.sedck_judging.proofs.tracing.bytes_of.Given as goal
-
--- those so far
-abbrev pub invariant-loop-word : goal.invariant-loop-word
-invariant-loop-word l = map (λ slice. slice.now) l.slices.items ≡ words_of (take l.word-index l.words)

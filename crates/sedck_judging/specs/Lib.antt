@@ -1,3 +1,0 @@
--- What the public contracts cite.
-pub mod Placed
-pub mod Judged

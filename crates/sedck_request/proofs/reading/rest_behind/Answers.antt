@@ -1,5 +1,0 @@
-use Rattle.sedck_request.proofs.Readings.{stripped}
-use Rattle.sedck_request.proofs.reading.rest_behind.Goals as goal
-
-pub returns : goal.returns
-returns c = stripped c.args.prefix.now c.args.word.now c.strip_prefix.result c.strip_prefix.ensures.cases

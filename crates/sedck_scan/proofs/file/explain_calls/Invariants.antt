@@ -1,9 +1,0 @@
-use Rattle.std.proofs.Common.{◌≡◌, take}
-use Rattle.sedck_report.specs.Positions.{position_in}
-use Rattle.sedck_scan.specs.Scanned.{IsWorst}
-use Rattle.sedck_scan.proofs.file.explain_calls.Given as goal
-
--- the status so far, at a position of the text
-abbrev pub invariant-loop-call : goal.invariant-loop-call
-invariant-loop-call g l =
-    IsWorst l.text l.scan.denied 0 (take l.call-index l.calls) l.status × (l.position ≡ position_in l.text l.position.offset)

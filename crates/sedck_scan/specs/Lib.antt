@@ -1,2 +1,0 @@
--- What the public contracts cite.
-pub mod Scanned

@@ -1,6 +1,0 @@
-use Rattle.sedck_warnings.proofs.Added.{no_error_trans, ok_no_error}
-use Rattle.sedck_warnings.proofs.adding.add_warnings.Goals as goal
-
-pub returns : goal.returns
-returns c =
-    ok_no_error _ _ _ c.unknown_warnings.result (no_error_trans _ _ _ c.in_ok-look_warnings.ensures c.in_ok-name_warnings.ensures) c.unknown_warnings.ensures

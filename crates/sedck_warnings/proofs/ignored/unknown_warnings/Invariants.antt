@@ -1,5 +1,0 @@
-use Rattle.sedck_warnings.specs.Added.{AddsNoError}
-use Rattle.sedck_warnings.proofs.ignored.unknown_warnings.Given as goal
-
-abbrev pub invariant-loop-word : goal.invariant-loop-word
-invariant-loop-word l = AddsNoError l.initial.findings.items l.findings.items

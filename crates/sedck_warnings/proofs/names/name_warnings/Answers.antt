@@ -1,5 +1,0 @@
-use Rattle.sedck_warnings.proofs.Added.{ok_no_error}
-use Rattle.sedck_warnings.proofs.names.name_warnings.Goals as goal
-
-pub returns : goal.returns
-returns c = ok_no_error _ _ _ c.side_warnings-2.result c.in_ok-side_warnings.ensures c.side_warnings-2.ensures

@@ -1,6 +1,0 @@
-use Rattle.std.proofs.Common.{◌≡◌, map, take}
-use Rattle.sedck_report.specs.Files.{names_of}
-use Rattle.sedck_warnings.proofs.names.unplaced_files.Given as goal
-
-abbrev pub invariant-loop-name : goal.invariant-loop-name
-invariant-loop-name l = names_of l.files.items ≡ map (λ name. name.now) (take l.name-index l.names)
