@@ -369,7 +369,7 @@ def calls_of_tree(scratch):
     """The step over a tree, and the hook: a loop and a refused script fail, an open hole passes, and each is named."""
     step = block("The calls of sed in a tree", "sh")
     entry = shlex.split({hook["id"]: hook for hook in yaml.safe_load(read(".pre-commit-hooks.yaml"))}["sedck-calls"]["entry"])
-    rows = [("a.sh", "sed s/a/b/ f\n", True, ""), ("b.sh", 'sed "s/$a/b/" f\n', True, "b.sh:1:8: warning: "), ("Makefile", "a:\n\tsed ':x;bx' f\n", False, "Makefile:2:7: error: "),
+    rows = [("a.sh", "sed s/a/b/ f\n", True, ""), ("-h.sh", "sed ':x;bx' f\n", False, "-h.sh:1:6: error: "), ("b.sh", 'sed "s/$a/b/" f\n', True, "b.sh:1:8: warning: "), ("Makefile", "a:\n\tsed ':x;bx' f\n", False, "Makefile:2:7: error: "),
             ("d/e.sh", "sed 's/a' f\n", False, "e.sh:1:6: error: ")]
     for name, text, passes, said in rows:
         scratch.write(name, text)
@@ -399,6 +399,11 @@ def pre_commit(scratch):
         holds(all("scripts/%s.sed:" % name in says for name in failing), "%s doesn't name %s:\n%s" % (hook, failing, says))
         holds(not any("scripts/%s.sed:" % name in says for name in passing), "%s names %s" % (hook, passing))
         scratch.run(0, *words, *[name for name in asked if name.split("/")[1].split(".")[0] in passing])
+        # A name that looks like an option is a name: a loop in such a file doesn't pass, and a script that ends does.
+        for name, text, passes in (("-h.sed", ENDLESS, False), ("--help.sed", ENDLESS, False), ("-V.sed", "n\n", hook != "sedck")):
+            scratch.write(name, text)
+            says = scratch.run(0 if passes else 1, *words, name)
+            holds((name in says) != passes, "%s says of %s:\n%s" % (hook, name, says))
 
 
 # Each recipe with the programs that it needs.
