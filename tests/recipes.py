@@ -161,7 +161,14 @@ def stranger(scratch):
         holds(code in scratch.run(125, "sh", "-c", "sh run-stranger.sh bad.sed < mail"), "%s isn't shown" % code)
     os.mkfifo(os.path.join(scratch.folder, "pipe"))
     scratch.run(125, "sh", "-c", "sh run-stranger.sh pipe < mail")
-    holds(sorted(os.listdir(scratch.folder)) == ["bad.sed", "good.sed", "mail", "pipe", "run-stranger.sh"], "a file is left over")
+    scratch.write("secret", "s/a/b/\nthe secret\n")
+    os.symlink("secret", os.path.join(scratch.folder, "link.sed"))
+    holds(scratch.run(125, "sh", "-c", "sh run-stranger.sh link.sed < mail") == "", "a line of the file behind a link is shown")
+    # A run that a clock ends leaves no copy behind.
+    os.mkdir(os.path.join(scratch.folder, "tmp"))
+    scratch.run(124, "sh", "-c", "sleep 2 | TMPDIR=$PWD/tmp timeout 1 sh run-stranger.sh good.sed")
+    holds(os.listdir(os.path.join(scratch.folder, "tmp")) == [], "the copy is left over where a clock ends the run")
+    holds(sorted(os.listdir(scratch.folder)) == ["bad.sed", "good.sed", "link.sed", "mail", "pipe", "run-stranger.sh", "secret", "tmp"], "a file is left over")
 
 
 def vim(scratch):
