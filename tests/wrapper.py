@@ -73,7 +73,7 @@ class Place:
         """The status, and the bytes on both streams. Variables whose name is `SHORT` are named SEDCK_SHORT, others as they are."""
         words = [word if isinstance(word, bytes) else word.encode() for word in words]
         environment = {**os.environ, "PATH": self.path, "NOTES": str(self.top), "CHANGES": "", "STATUS": "0", "REPORT": report(),
-                       "TMPDIR": str(self.top / "temporary"), "SEDCK_MODE": mode, "SEDCK_LOG": str(self.log)}
+                       "TMPDIR": str(self.top / "temporary"), "LC_ALL": "C", "SEDCK_MODE": mode, "SEDCK_LOG": str(self.log)}
         environment.update({name if name in environment else "SEDCK_" + name: str(value) for name, value in variables.items()})
         # What `env` finds on the path, as a shell does.
         done = subprocess.run([b"/usr/bin/env", program.encode(), *words], cwd=self.here, env=environment, input=given, stdout=shown or subprocess.PIPE,
@@ -93,8 +93,8 @@ class Place:
         return text
 
 
-def real(*words, given=b"", here=None):
-    done = subprocess.run(["/usr/bin/env", "sed", *words], input=given, cwd=here, capture_output=True)
+def real(*words, given=b"", here=None, **variables):
+    done = subprocess.run(["/usr/bin/env", "sed", *words], input=given, cwd=here, capture_output=True, env={**os.environ, **variables})
     return done.returncode, done.stdout, done.stderr
 
 
@@ -124,6 +124,17 @@ def check_answers(place):
     expect(status == 120 and said.startswith(b"x.sed:2:1: error: "), "refuse: the file isn't named: %s" % said)
     status, _, said = place.call("-f", "none.sed", mode="refuse")
     expect(status == 120 and b"none.sed" in said, "refuse: the file that can't be read isn't named: %s" % said)
+    (place.here / "in").write_text("a\n")
+    status, _, said = place.call("w g", "in", "g", mode="refuse", SED="/bin/true")
+    expect(status == 120 and b"[same-file]\n" in said, "refuse: a file that the script makes is an operand: %d, %s" % (status, said))
+    # In bytes each round takes one away, and in UTF-8 none.
+    loop = ":a;s/xé*/x/;ta"
+    due = real(loop, given="xéé\n".encode(), here=place.here, LC_ALL="C")
+    for mode in ("log", "refuse"):
+        found = place.call(loop, mode=mode, given="xéé\n".encode())
+        expect(found == due, "%s, bytes above 127 in the locale C: %s" % (mode, found))
+    status, _, said = place.call(loop, mode="refuse", LC_ALL="C.UTF-8", SED="/bin/true")
+    expect(status == 120 and b"[locale]\n" in said, "refuse: bytes above 127 in UTF-8: %d, %s" % (status, said))
 
 
 def check_words(place):
@@ -167,6 +178,14 @@ def check_files(place):
     for words, due in ((["-e", "p", "in", "-e", "d"], 120), (["p", "in", "--", "d"], 120), (["-e", "p", "--", "in", "-e"], 0), (["-e", "p", "in", "-"], 0)):
         found = place.call("POSIXLY_CORRECT=1", "sed", *words, mode="refuse", program="env", SED="/bin/true")
         expect(found[0] == due and (b"[option-after-operand]" in found[2]) == bool(due), "files, %s: %s" % (words, found))
+    expect(place.call("-f", "0.sed", "posix-in", mode="refuse", SED="/bin/true")[0] == 0, "files: the name of an operand is taken for an option")
+    for words in (["-f", "later.sed"], ["-nflater.sed"], ["--file=later.sed"], ["-f", "0.sed", "-f", "later.sed"], ["-e", "p", "--fi", "later.sed"]):
+        found = place.call(*words, mode="refuse", given=b"a\n", CHANGES="later.sed", GNU=0)
+        expect(found[:2] == (120, b"") and b"[not-copied]\n" in found[2], "files, %s: what isn't copied runs: %s" % (words, found))
+        (place.here / "later.sed").unlink()
+    for words in (["-f", "/dev/null"], ["-f", "0.sed", "-f", "/dev/null"]):
+        found = place.call(*words, mode="refuse", given=b"a\n", GNU=0)
+        expect(found == real(*words, given=b"a\n", here=place.here), "files, %s: %s" % (words, found))
     expect(not list(place.here.glob("touched")) and not os.listdir(place.top / "temporary"), "files: something is left")
     (place.here / "p").write_text("d\n")
     (place.here / "edited").write_text("a\n")
@@ -301,6 +320,95 @@ def check_places(place):
             expect(place.call(*words, mode="refuse", shown=out, SED="/bin/true")[0] == code, "places: %s" % words)
 
 
+def check_absent(place):
+    """A file that the script makes, and an operand that isn't there yet."""
+    for name in ("big", "there", "0.sed"):
+        (place.here / name).write_text("p\n")
+    (place.here / "folder").mkdir()
+    (place.here / "same").symlink_to(".")
+    (place.here / "to-none").symlink_to("none")
+    whole = str(place.here / "g")
+    rows = [(["p", "big", "g"], "g", True), (["p", "big", "g"], "./g", True), (["p", "big", ".//./g"], "g", True), (["p", "big", "g"], ".//g", True),
+            (["p", "big", whole], "g", True), (["p", "big", "g"], whole, True), (["p", "big", "folder/../g"], "g", True), (["p", "big", "same/g"], "g", True),
+            (["-n", "-e", "p", "g", "big"], "g", True), (["g", "big", "-e", "p"], "g", True), (["p", "big", "--", "g"], "g", True),
+            (["-l", "5", "--exp", "p", "g"], "g", True), (["-f", "0.sed", "big", "g"], "g", True), (["-i", "p", "big", "g"], "g", True),
+            (["p", "big", "none"], "to-none", True), (["p", "big", "to-none"], "none", True), (["p", "big", "/dev/fd/7"], "there", True),
+            (["p", "big", "h"], "g", False), (["p", "big", "gg"], "g", False), (["p", "big"], "g", False), (["p", "big"], "to-none", False),
+            (["s,a,b,w folder/g", "big"], "folder/g", False), (["g", "big"], "g", False), (["-e", "g", "big"], "g", False)]
+    for words, name, is_due in rows:
+        for given, code in (({"writes": named("there") + "," + named(name)}, is_due), ({"reads": named(name)}, False)):
+            status, _, said = place.call(*words, mode="refuse", REPORT=report(**given), SED="/bin/true")
+            expect((status, b"[same-file]\n" in said) == (120 if code else 0, code), "absent, %s, %s: %d, %s" % (words, given, status, said))
+    found = place.call("POSIXLY_CORRECT=1", "sed", "p", "big", "g", program="env", mode="refuse", REPORT=report(writes=named("g")), SED="/bin/true")
+    expect(found[0] == 120 and b"[same-file]\n" in found[2], "absent, POSIXLY_CORRECT: %s" % (found,))
+    found = place.call("-f", "g", "big", mode="warn", REPORT=report(writes=named("g")), SED="/bin/true")
+    expect(found == (0, b"", b""), "absent: a file of -f is taken for an operand: %s" % (found,))
+
+
+def check_pipes(place):
+    """A pipe that is read and written, and standard error."""
+    place.lines()
+    for name in ("z", "other"):
+        os.mkfifo(place.here / name)
+    for script, writes, is_due in (("exec 3<> z; sed -u p z >&3", "", True), ("exec 3<> z; sed p big ./z >&3", "", True), ("exec 3<> z; sed p <&3 >&3", "", True),
+                                   ("exec 3<> z 4<> other; sed p <&3 >&4", "", False), ("exec 3<> z; sed p other >&3", "", False),
+                                   ("echo a | sed p | cat", "", False), ("echo a | sed p /dev/stdin | cat", "", False), ("sed p /dev/stdout | cat", "", True),
+                                   ("sed p big 2>> big", "", False), ("sed p big 2>> big", "/dev/stderr", True), ("sed p < big 2>> big", "/dev/stderr", True),
+                                   ("exec 3<> z; sed p z 2>&3", "/dev/stderr", True), ("sed p big 2>> there", "/dev/stderr", False)):
+        place.call("-c", script, program="sh", mode="refuse", REPORT=report(writes=writes and named(writes)), SED="/bin/true")
+        line, = place.lines()
+        expect(line["accepted"] != is_due and len(line["problems"]) == is_due, "pipes, %s: %s" % (script, line["problems"]))
+
+
+def check_locale(place):
+    """A script with bytes of which sed may take several for a character; and sed runs in the locale of its caller."""
+    (place.here / "é").write_text("p\n")
+    (place.here / "high.sed").write_text("s/é*/x/\n", encoding="utf-8")
+    (place.here / "low.sed").write_bytes(b"s/\x01\x7f\t/x/\n")
+    (place.here / "comment.sed").write_bytes(b"p\n" * 9000 + b"# \xff")
+
+    def call(*words, mode="refuse", sed="/bin/true", locale={}, **given):
+        settings = ["%s=%s" % pair for pair in locale.items()]
+        return place.call("-u", "LC_ALL", "-u", "LC_CTYPE", "-u", "LANG", *settings, "sed", *words, program="env", mode=mode, SED=sed, **given)
+
+    utf_8 = {"LC_ALL": "C.UTF-8"}
+    for locale, is_due in (({}, False), ({"LANG": "C"}, False), ({"LANG": "C.UTF-8"}, True), ({"LC_CTYPE": "C.UTF-8", "LANG": "C"}, True), ({"LC_CTYPE": "POSIX", "LANG": "C.UTF-8"}, False),
+                           ({"LC_ALL": "C", "LC_CTYPE": "C.UTF-8", "LANG": "C.UTF-8"}, False), ({"LC_ALL": "C.UTF-8", "LC_CTYPE": "C", "LANG": "C"}, True),
+                           ({"LC_ALL": "", "LC_CTYPE": "", "LANG": "C.UTF-8"}, True), ({"LC_ALL": "", "LC_CTYPE": "C", "LANG": "C.UTF-8"}, False), ({"LC_ALL": "POSIX"}, False),
+                           ({"LC_ALL": ""}, False), ({"LC_ALL": "ja_JP.SJIS"}, True), ({"LANG": "zh_CN.GB18030"}, True), ({"LANG": "de_DE@euro"}, True), ({"LC_MESSAGES": "C.UTF-8"}, False)):
+        for words in (["s/é*/x/"], ["-f", "high.sed"], ["s/a*/x/"], ["-f", "low.sed"]):
+            status, _, said = call(*words, locale=locale)
+            is_high = is_due and words[-1] in ("s/é*/x/", "high.sed")
+            expect((status, b"[locale]\n" in said) == (120 if is_high else 0, is_high), "locale, %s, %s: %d, %s" % (locale, words, status, said))
+    rows = [(words, True) for words in (["-e", "s/é//"], ["-es/é//"], ["-ne", "s/é//"], ["--expression=s/é//"], ["--exp", "s/é//"], ["-e", "p", "-e", "é"], ["-f", "high.sed"], ["-nfhigh.sed"],
+                                        ["--file=high.sed"], ["--fi", "high.sed"], ["-f", "low.sed", "-f", "high.sed"], ["big", "-e", "é"], ["--", "é"], ["-f", "comment.sed"], ["-e", "p", "-f", "high.sed"])]
+    rows += [(words, False) for words in (["p", "é"], ["-e", "p", "é"], ["é", "-e", "p"], ["-f", "low.sed"], ["-f", "é"], ["-nfé"], ["--file=é"], ["-f", "low.sed", "é"], [bytes(range(1, 128))],
+                                          ["-e", bytes(range(1, 128)), "é"], ["-l", "5", "p", "é"], ["-f", "/dev/null", "é"])]
+    place.lines()
+    for words, is_due in rows:
+        for mode in ("log", "warn", "refuse"):
+            status, _, said = call(*words, mode=mode, locale=utf_8)
+            found = (status, b"[locale]\n" in said)
+            expect(found == (120 if is_due and mode == "refuse" else 0, is_due and mode != "log"), "locale, %s, %s: %d, %s" % (mode, words, status, said))
+            line, = place.lines()
+            expect(line["accepted"] != is_due and ["the locale" in problem for problem in line["problems"]] == [True] * is_due, "locale, %s, %s: the log has %s" % (mode, words, line["problems"]))
+    for byte in range(128, 256):
+        expect(call(b"s/%c//" % byte, locale=utf_8)[0] == 120, "locale: the byte %d isn't seen" % byte)
+    place.lines()
+    for locale in ({}, utf_8) * 2:
+        call("s/é/e/", mode="log", locale=locale, ONCE=place.top / "once")
+        call("-f", "high.sed", mode="log", locale=locale, ONCE=place.top / "once")
+    found = [line["accepted"] for line in place.lines()]
+    expect(found == [True, True, False, False], "locale, once: the log has %s" % found)
+    for value in (None, "", "C", "C.UTF-8", "none.UTF-8"):
+        locale = {} if value is None else {"LC_ALL": value}
+        for given in ({"mode": "log", "LOG": ""}, {"mode": "log"}, {"mode": "refuse"}):
+            for sed in ("", place.top / "real/sed"):
+                place.install(place.top / "real/sed", "#!/bin/sh\nenv | grep ^LC_ALL= || echo none\n")
+                found = call("p", locale=locale, sed=sed, PATH=place.first + ":" + str(place.top / "real") + ":" + os.environ["PATH"], GNU=0, **given)[1]
+                expect(found == (b"none\n" if value is None else b"LC_ALL=%s\n" % value.encode()), "locale, %s, %s: sed runs in %s" % (value, given, found))
+
+
 def check_sandbox(place):
     """--sandbox comes where GNU sed runs an accepted call without names, and only in the mode `refuse`."""
     name = named("x")
@@ -335,7 +443,8 @@ def main():
         with tempfile.TemporaryDirectory(prefix="sedck-wrapper-") as folder:
             check_answers(Place(os.path.join(folder, "a"), shell, os.path.abspath(sys.argv[1])))
             place = Place(os.path.join(folder, "b"), shell)
-            for check in (check_words, check_files, check_streams, check_failing, check_recursion, check_log, check_places, check_sandbox, check_own):
+            for check in (check_words, check_files, check_streams, check_failing, check_recursion, check_log, check_places, check_absent, check_pipes,
+                          check_locale, check_sandbox, check_own):
                 check(place)
         failures[before:] = ["%s: %s" % (shell, failure) for failure in failures[before:]]
     for failure in failures:
