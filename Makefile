@@ -79,6 +79,7 @@ calls-tests: build
 	@echo "Comparing what is made of the words of a call with two other readers, and the calls in files with the shell ..."
 	python3 tests/calls.py build/sedck-explain
 	python3 tests/calls_in_files.py build/sedck-explain
+	python3 tests/attacks.py build/sedck-explain
 
 wrapper-tests: build
 	@echo "Testing the sed that has its calls judged ..."

@@ -39,7 +39,7 @@ def explained(text, name, *options, limit=120):
         if err:
             fail("%s: %s" % (name, err.decode()))
         lines = [json.loads(line) for line in out.decode().splitlines()]
-        return status, lines[:-1], lines[-1]
+        return status, [line for line in lines[:-1] if "call" in line], lines[-1]
 
 
 # The name of a file, options, its text, the status, and for each call its line and column, its answer and its words.
@@ -50,7 +50,8 @@ ROWS = [
     ("a.sh", [], "sed 's/a b/$c/' \"f g\"\n", 0, [("1:1", A, ["s/a b/$c/", "f g"])]),
     ("a.sh", [], "sed s/a\\ b/c/ 'it'\\''s'\n", 0, [("1:1", A, ["s/a b/c/", "it's"])]),
     ("a.sh", [], "sed \"s/\\\\/\\$x/;s/\\a/b/\"\n", 2, [("1:1", REFUSED, ["s/\\/$x/;s/\\a/b/"])]),
-    ("a.sh", [], "sed $'s/a\\tb/c\\'d/'\n", 0, [("1:1", A, ["s/a\tb/c'd/"])]),
+    ("a.bash", [], "sed $'s/a\\tb/c\\'d/'\n", 0, [("1:1", A, ["s/a\tb/c'd/"])]),
+    ("a.sh", [], "sed $'s/a\\tb/c/'\n", 5, [("1:1", UNKNOWN, None)]),
     ("a.sh", [], "sed -e 's/a/b/' \\\n  -e 's/c/d/'\n", 0, [("1:1", A, ["-e", "s/a/b/", "-e", "s/c/d/"])]),
     ("a.sh", [], "sed '\n  s/a/b/\n  p\n' f\n", 0, [("1:1", A, ["\n  s/a/b/\n  p\n", "f"])]),
     ("a.sh", [], "sed \"s/a/b/;\\\np\"\n", 0, [("1:1", A, ["s/a/b/;p"])]),
@@ -59,16 +60,17 @@ ROWS = [
     ("a.sh", [], "cat f | sed p > out 2>&1 && ! sed d\n", 0, [("1:9", A, ["p"]), ("1:31", A, ["d"])]),
     ("a.sh", [], "f() { sed p; }; (sed d); { sed = ; }\n", 0, [("1:7", A, ["p"]), ("1:18", A, ["d"]), ("1:28", A, ["="])]),
     ("a.sh", [], "case $x in a|b) sed p;; (c) sed d;; *) sed =;; esac\nsed x\n", 0, [("1:17", A, ["p"]), ("1:29", A, ["d"]), ("1:40", A, ["="]), ("2:1", A, ["x"])]),
-    ("a.sh", [], "for f in sed b; do sed p $f; done\nwhile read l; do sed d; done\n", 0, [("1:20", A, ["p", "x"]), ("2:18", A, ["d"])]),
+    ("a.sh", [], "for f in sed b; do sed p $f; done\nwhile read l; do sed d; done\n", 5, [("1:20", IF, ["p", "x"]), ("2:18", A, ["d"])]),
     ("a.sh", [], "# sed p\necho sed p # sed d\necho 'sed p' \"sed d\"\nsedation p\n", 0, []),
     ("a.sh", [], "cat <<EOF\nsed p\nEOF\nsed d <<'E'\nsed x\nE\nsh <<E\nsed =\nE\n", 0, [("4:1", A, ["d"]), ("8:1", A, ["="])]),
     ("a.sh", [], "cat <<EOF\n$(sed p)\nEOF\n", 0, [("2:3", A, ["p"])]),
-    ("a.sh", [], "x=\"$(sed \"s/a/b/\" \"$f\")\"\n", 0, [("1:6", A, ["s/a/b/", "x"])]),
+    ("a.sh", [], "x=\"$(sed \"s/a/b/\" \"$f\")\"\n", 5, [("1:6", IF, ["s/a/b/", "x"])]),
     ("a.sh", [], "sh -c 'sed p; sed \"s/a b/c/\"'\neval 'sed d'\n", 0, [("1:8", A, ["p"]), ("1:15", A, ["s/a b/c/"]), ("2:7", A, ["d"])]),
     # Names.
-    ("a.sh", [], "/usr/bin/sed p; gsed d; $SED x; ${SED-sed} =; \"$SED\" g; busybox sed h\n", 0, [("1:1", A, ["p"]), ("1:17", A, ["d"]), ("1:25", A, ["x"]), ("1:33", A, ["="]), ("1:47", A, ["g"]), ("1:65", A, ["h"])]),
+    ("a.sh", [], "/usr/bin/sed p; gsed d; $SED x; ${SED-sed} =; \"$SED\" g; busybox sed h\n", 5, [("1:1", A, ["p"]), ("1:17", A, ["d"]), ("1:25", IF, ["x"]), ("1:33", IF, ["="]), ("1:47", A, ["g"]), ("1:65", A, ["h"])]),
     ("a.sh", [], "LC_ALL=C sed p; env A=b sed d; exec sed x; command sed =; sudo -u me sed g\n", 0, [("1:10", A, ["p"]), ("1:25", A, ["d"]), ("1:37", A, ["x"]), ("1:52", A, ["="]), ("1:70", A, ["g"])]),
-    ("a.sh", [], "xargs -0 -n 1 sed -n p; find . -name '*.c' -exec sed -n '1p' {} + -o -exec sed d {} \\;\n", 0, [("1:15", A, ["-n", "p"]), ("1:50", A, ["-n", "1p", "{}"]), ("1:76", A, ["d", "{}"])]),
+    ("a.sh", [], "xargs -0 -n 1 sed -n p; find . -name '*.c' -exec sed -n '1p' {} + -o -exec sed d {} \\;\n", 5, [("1:15", IF, ["-n", "p"]), ("1:50", A, ["-n", "1p", "xx"]), ("1:76", A, ["d", "xx"])]),
+    ("a.sh", [], "xargs sed -e p --\nxargs -P$N -n1 sed -n p\nxargs -I% sed 's/a/%/' %\n", 5, [("1:7", A, ["-e", "p", "--"]), ("2:16", IF, ["-n", "p"]), ("3:11", IF, None)]),
     ("a.sh", [], "time -p sed p; timeout 5 sed d; nice -n 3 sed x; nohup sed =\n", 0, [("1:9", A, ["p"]), ("1:26", A, ["d"]), ("1:43", A, ["x"]), ("1:56", A, ["="])]),
     ("a.sh", [], "command -v sed p; which sed; type sed\n", 0, []),
     # What isn't known.
@@ -82,17 +84,30 @@ ROWS = [
     ("a.sh", [], 'sed "b $l"\n', 5, [("1:1", UNKNOWN, None)]),
     ("a.sh", [], 'sed "s/a/b/$f"\n', 5, [("1:1", UNKNOWN, None)]),
     ("a.sh", [], "sed -f x.sed f\n", 5, [("1:1", UNKNOWN, ["-f", "x.sed", "f"])]),
-    ("a.sh", [], 'sed -n p "$f" $g\n', 0, [("1:1", A, None)]),
+    ("a.sh", [], 'sed -n p "$f" $g\n', 5, [("1:1", IF, None)]),
+    ("a.sh", [], 'sed -n p "d/$f" ./* f* <(cat)\n', 0, [("1:1", A, None)]),
+    ("a.sh", [], 'sed -n -e p -- "$f" $g "$@" * ~\n', 0, [("1:1", A, None)]),
+    ("a.sh", [], 'sed p "$@"\nsed p *\nsed p ~/f\nsed p {a,b}\nsed p d/$f\nsed -l5$x p f\nsed s/a*/b/\n', 5, [("%d:1" % line, IF, None) for line in range(1, 8)]),
+    ("a.sh", [], 'sed -l$x p f\nsed "a $@"\nsed -n $x p\nsed p"$@"\n', 5, [("%d:1" % line, UNKNOWN, None) for line in range(1, 5)]),
+    ("a.sh", [], "sed p -e d\nsed -e d p\n", 5, [("1:1", IF, ["p", "-e", "d"]), ("2:1", A, ["-e", "d", "p"])]),
+    ("a.sh", [], "sed() { command sed p; }\nsed d\n", 5, [("1:17", A, ["p"]), ("2:1", UNKNOWN, ["d"])]),
+    ("a.sh", [], "$SUDO sed p f\n", 5, [("1:7", IF, ["p", "f"])]),
     ("a.sh", [], 'sed ":x;s/$a/b/;bx"\n', 1, [("1:1", LOOP, None)]),
     ("a.sh", [], 'sed "# $x\np"\n', 5, [("1:1", IF, None)]),
     # Values.
     ("a.sh", [], 'a=u\nsed "s/$a/b/"\n', 0, [("2:1", A, ["s/u/b/"])]),
+    ("a.sh", [], 'a=u\nif c; then sed "s/$a/b/"; fi\nf() { sed "s/$a/c/"; }\n', 0, [("2:12", A, ["s/u/b/"]), ("3:7", A, ["s/u/c/"])]),
+    ("a.sh", [], 'f() { a=u; sed "s/$a/b/"; }\nsed "s/$a/b/"\n', 5, [("1:12", A, ["s/u/b/"]), ("2:1", IF, None)]),
+    ("a.sh", [], 'a=u\nsed "s/$a/b/"\n. ./c\nsed "s/$a/b/"\n', 5, [("2:1", A, ["s/u/b/"]), ("4:1", IF, None)]),
+    ("a.sh", [], 'a=u\nf() { sed "s/$a/b/"; }\n. ./c\n', 5, [("2:7", IF, None)]),
+    ("a.sh", [], 'if c; then a=u; fi\nb && a2=u\n(a3=u)\na4=u | c\na5=u &\nwhile c; do a6=u; done\n{ a7=u; }\ncase c in c) a8=u;; esac\n' + "".join('sed "s/$a%s/b/"\n' % n for n in ("", 2, 3, 4, 5, 6, 7, 8)), 5, [("%d:1" % line, IF, None) for line in range(9, 17)]),
     ("a.sh", [], 'a=u\na=v\nsed "s/$a/b/"\n', 5, [("3:1", IF, None)]),
     ("a.sh", [], 'a=u\nread a\nsed "s/$a/b/"\n', 5, [("3:1", IF, None)]),
     ("a.sh", [], "a=u; bash -c 'sed \"s/$a/b/\"'\n", 5, [("1:15", IF, None)]),
     ("a.sh", ["--assume", "a=u"], 'sed "s/$a/b/"\n', 0, [("1:1", A, ["s/u/b/"])]),
     ("a.sh", ["--assume", "a=u/"], 'sed "s/$a/b/"\n', 2, [("1:1", REFUSED, ["s/u//b/"])]),
     ("a.sh", [], "SED='sed -n'\n$SED p\n", 0, [("2:1", A, ["-n", "p"])]),
+    ("a.sh", [], "SED=sed\nSED='sed -E'\n$SED p\n\"$SED\" p\n", 5, [("3:1", IF, ["p"]), ("4:1", A, ["p"])]),
     # What is refused, rejected or not judged.
     ("a.sh", [], "sed 's/a' f\n", 2, [("1:1", REFUSED, ["s/a", "f"])]),
     ("a.sh", [], "sed ':x;bx' f\n", 1, [("1:1", LOOP, [":x;bx", "f"])]),
@@ -100,15 +115,18 @@ ROWS = [
     ("a.sh", [], "sed --what p\n", 2, [("1:1", NOT, ["--what", "p"])]),
     ("a.sh", ["--deny", "writes"], "sed 'w out' f\n", 1, [("1:1", "denied", ["w out", "f"])]),
     # Makefiles.
-    ("Makefile", [], "all:\n\t@sed 's/a$$/b/' $< > $@\n\t-sed -n \\\n\t  p f\nX = $(shell sed 1d f)\n", 0, [("2:3", A, ["s/a$/b/", "x"]), ("3:3", A, ["-n", "p", "f"]), ("5:13", A, ["1d", "f"])]),
+    ("Makefile", [], "all:\n\t@sed 's/a$$/b/' $< > $@\n\t-sed -n \\\n\t  p f\nX = $(shell sed 1d f)\n", 5, [("2:3", IF, ["s/a$/b/", "x"]), ("3:3", A, ["-n", "p", "f"]), ("5:13", A, ["1d", "f"])]),
     ("Makefile", [], "SED = sed\nP = u\nall: ; $(SED) 's/$(P)/$(Q)/'\n", 5, [("3:8", IF, None)]),
     ("x.mk", [], "ifdef A\nall:\n\tif sed p; then \\\n\t  sed d; fi\nendif\n", 0, [("3:5", A, ["p"]), ("4:4", A, ["d"])]),
     ("Makefile.in", [], "all:\n\t@SED@ 's/@a@/b/'\n", 5, [("2:2", IF, None)]),
     # Dockerfiles, files of continuous integration, spec files, sources of Autoconf.
-    ("Dockerfile", [], "FROM a\nRUN a && \\\n    # b\n    sed -i 's/a/b/' f\nRUN [\"sed\", \"p\"]\n", 0, [("4:5", A, ["-i", "s/a/b/", "f"])]),
+    ("Dockerfile", [], "FROM a\nRUN a && \\\n    # b\n    sed -i 's/a/b/' f\nRUN [\"sed\", \"p\"]\n", 5, [("4:5", A, ["-i", "s/a/b/", "f"])]),
     ("ci.yml", [], "jobs:\n  a:\n    steps:\n      - run: sed p f\n      - name: x\n        run: |\n          sed 's/a/b/' f\n          sed d\n", 0, [("4:14", A, ["p", "f"]), ("7:11", A, ["s/a/b/", "f"]), ("8:11", A, ["d"])]),
     ("ci.yml", [], "a:\n  script:\n    - sed p f\n    - \"sed \\\"s/a/b/\\\"\"\n    - 'sed ''s/c/d/'''\n", 0, [("3:7", A, ["p", "f"]), ("4:8", A, ["s/a/b/"]), ("5:8", A, ["s/c/d/"])]),
     ("a.spec", [], "Name: a\n%prep\nsed -i 's/%%a/b/' f\n%build\nsed p\n%files\nsed\n", 0, [("3:1", A, ["-i", "s/%a/b/", "f"]), ("5:1", A, ["p"])]),
+    ("Makefile.in", [], "SED = @SED@\nX = @X@\nall:\n\t$(SED) 1d f\n\tsed 's/$(X)/b/' f\n", 5, [("4:2", IF, ["1d", "f"]), ("5:2", IF, None)]),
+    ("Makefile", [], "X = a ;\\\n\tsed -i 1d f\nY ?= b\nall:\n\tsed 's/$(Y)/c/' f\n", 5, [("2:2", A, ["-i", "1d", "f"]), ("5:2", IF, None)]),
+    ("Makefile.SH", [], "#!/bin/sh\nsed 's/$/x/' f\n", 0, [("2:1", A, ["s/$/x/", "f"])]),
     ("configure.ac", [], "AC_INIT([a])\ndnl sed d\nx=`sed -n p f`\ny=`sed -n ['p'] f`\nAC_OUTPUT\n", 5, [("3:4", A, ["-n", "p", "f"]), ("4:4", UNKNOWN, None)]),
     # Names of files.
     ("debian/rules", [], "#!/usr/bin/make -f\nall:\n\tsed p\n", 0, [("3:2", A, ["p"])]),
@@ -146,6 +164,7 @@ PLACES = [
     ("x\nsed -n '\n  :a\n  p\n  b a\n'\n", ["3:3 loop-idle"]),
     ("sed 'w /etc/x' f\n", ["1:6 absolute-name"]),
     ("sed \"s/a/$b/;s/$c/d/\"\n", ["1:10 open-hole", "1:16 open-hole", "1:6 no-bound"]),
+    ("sed p \"$f\" -l5$x g\n", ["1:8 open-hole", "1:15 open-hole"]),
     ("sed -e p -e \"$x\"\n", ["1:1 unknowable"]),
     ("a='s/x'\nsed \"$a\"\n", ["1:4 unterminated", "2:6 known-value"]),
     ("a=u\nb=\nsed \"s/$a/$b/\" f\nsed p\n", ["3:8 known-value", "3:11 known-value"]),
@@ -173,8 +192,10 @@ def places():
 
 def values():
     """Each variable that is followed is listed, with where its value comes from."""
-    _, calls, _ = explained("a=u\nb=\nsed \"s/$a/$c$b/\" f\n", "a.sh", "--assume", "c=v")
-    got = [finding["message"] for finding in calls[0]["findings"] if finding["level"] == "note"]
+    status, calls, _ = explained("a=u\nb=\nsed \"s/$a/$c$b/\" f\n", "a.sh", "--assume", "c=v")
+    if status != 0 or any(finding["level"] != "warning" for finding in calls[0]["findings"] if finding["code"] == "known-value"):
+        fail("values: %d %s" % (status, calls))
+    got = [finding["message"] for finding in calls[0]["findings"] if finding["code"] == "known-value"]
     if got != ['"$a" has the value that line 1 sets', '"$c" has the value that is assumed', '"$b" is empty: so the file sets it']:
         fail("values: %s" % got)
 
@@ -201,7 +222,7 @@ def folders():
         status, out, err = run(folder, "--format", "json", "--calls", ".")
         lines = [json.loads(line) for line in out.decode().splitlines()]
         got = [line["file"] for line in lines[:-1]]
-        if status != 0 or got != ["./a.sh", "./b/c/Makefile", "./b/x.sh", "./run"] or lines[-1]["files"] != 4:
+        if status != 5 or got != ["./a.sh", "./b/c/Makefile", "./b/x.sh", "./bin.sh", "./bin.sh", "./run"] or lines[-1]["files"] != 5 or lines[-1]["unread"] != 1:
             fail("a folder: %d %s %s" % (status, got, lines[-1]))
         status, out, err = run(folder, "--format", "json", "--calls", "none.sh", "b", "a.sh")
         lines = [json.loads(line) for line in out.decode().splitlines()]
@@ -215,6 +236,55 @@ def folders():
         done = subprocess.run([PROGRAM, "--format", "json", "--calls", "-"], input=b"sed p\n", capture_output=True)
         if done.returncode != 0 or json.loads(done.stdout.splitlines()[0])["words"] != ["p"]:
             fail("standard input: %d %r" % (done.returncode, done.stdout))
+
+
+# Texts that aren't understood, with the places.
+UNREAD = [
+    ("a.sh", "sed p\nsed ':x;bx\n", ["2:5"]), ("a.sh", "x=`sed p\n", ["1:3"]), ("a.sh", "sed p)\n", ["1:6"]), ("a.sh", "cat <<E\nsed p\n", ["1:7"]),
+    ("a.sh", "c=(sed p)\n\"${c[@]}\"\n", ["1:4"]), ("a.sh", ". /dev/stdin <<E\nsed p\nE\n", ["1:1"]), ("a.sh", "run sed -n p\n", ["1:5"]), ("a.sh", "sed p\0\n", ["1:6"]),
+    ("a.sh", "echo sed -n p; which sed; apt-get install sed\ngrep sed -n f\n", []), ("a.sh", "sed $'a\\'\n'\n", ["1:8"]),
+    ("Dockerfile", "FROM a\nRUN [\"sed\", \"p\", \"f\"]\n", ["2:7"]), ("ci.yml", "a:\n  - run: >\n      sed p f\n      g\n", ["3:7"]),
+    ("configure.ac", "AC_MSG_ERROR([sed not found])\nx=`sed -n p f`\n", []),
+]
+
+
+def unread():
+    """What isn't understood is a finding in each format, and makes the status 5."""
+    for name, text, due in UNREAD:
+        with tempfile.TemporaryDirectory() as folder:
+            Path(folder, name).write_bytes(text.encode())
+            status, out, err = run(folder, "--format", "json", "--calls", name)
+            lines = [json.loads(line) for line in out.decode().splitlines()]
+            places = [line for line in lines if line.get("answer") == "not-understood"]
+            got = ["%d:%d" % (place["findings"][0]["position"]["line"], place["findings"][0]["position"]["column"]) for place in places]
+            if got != due or (status == 0) == bool(due) or lines[-1]["unread"] != len(due) or any(place["findings"][0]["code"] != "not-understood" for place in places):
+                fail("%s %r: status %d, not understood at %s" % (name, text, status, got))
+            _, out, _ = run(folder, "--format", "gcc", "--calls", name)
+            shown = [line for line in out.decode().splitlines() if line.endswith("[not-understood]")]
+            if [":".join(line.split(":")[1:3]) for line in shown] != due:
+                fail("%s %r: gcc %r" % (name, text, out))
+            _, out, _ = run(folder, "--calls", name)
+            if out.count(b"[not-understood]") != len(due):
+                fail("%s %r: text %r" % (name, text, out))
+
+
+def scripts_below():
+    """Scripts of sed below a folder are explained by themselves."""
+    with tempfile.TemporaryDirectory() as folder:
+        Path(folder, "a.sh").write_text("sed p\n")
+        Path(folder, "b.sed").write_text(":a\nba\n")
+        for form in ("text", "gcc", "json"):
+            status, out, err = run(folder, "--format", form, "--calls", ".")
+            if status != 1 or err or b"b.sed" not in out or b"loop" not in out:
+                fail("a script below a folder: %s %d %r" % (form, status, out))
+        Path(folder, "b.sed").write_text("p\n")
+        status, out, err = run(folder, "--calls", ".")
+        if status != 0 or not out.decode().splitlines()[-1].endswith("; 1 script"):
+            fail("a script below a folder: %d %r" % (status, out))
+        Path(folder, "c.sh").write_bytes(b"sed p\n" * 700000)
+        status, out, err = run(folder, "--format", "json", "--calls", "c.sh")
+        if status != 4 or b"it has more than 4,194,304 bytes" not in err:
+            fail("a file that is too long: %d %r" % (status, err))
 
 
 # A literal call: words of single quotes, of double ones without expansions, and of bytes that mean nothing to the shell.
@@ -326,7 +396,8 @@ def hostile():
         slowest = max(slowest, (took, "%s, %s" % (name, words)))
         if status not in (0, 1, 2, 5):
             fail("%s, %s: status %d" % (name, words, status))
-        if words == "calls" and counts["accepted"] != len(text) // 6:
+        # Of more commands than are kept the first one is reported.
+        if words == "calls" and (counts["accepted"], counts["unread"], status) != (100000, 1, 5):
             fail("%s, %s: counts %s" % (name, words, counts))
     print("calls in files: %d texts of up to a megabyte, the slowest (%s) in %.1f s" % (len(HOSTILE), slowest[1], slowest[0]))
 
@@ -348,7 +419,7 @@ def many():
 
 
 def main():
-    for part in (table, places, values, refused_words, folders, judged_by_the_shell, hostile, many):
+    for part in (table, places, values, unread, scripts_below, refused_words, folders, judged_by_the_shell, hostile, many):
         part()
     if not failures:
         print("calls in files: %d rows are as they should be" % (len(ROWS) + len(PLACES)))

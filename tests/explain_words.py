@@ -30,7 +30,10 @@ def check_help(tools):
     """The help, which names what can be given, and the version."""
     for words in (["--version"], ["-V"]):
         tools.same("version", tools.explain(*words), (0, b"sedck-explain %s\n" % VERSION.encode(), b""))
-    for words in (["--help"], ["-h"], ["--help", "s.sed"]):
+    for words in (["--help", "s.sed"], ["-h", "s.sed"], ["-h.sed"], ["s.sed", "-V.sed"], ["--format", "gcc", "-h.sed", "s.sed"], ["--version", "--help"]):
+        status, report, errors = tools.explain(*words)
+        tools.same("help beside other words: %s" % words, (status, report, errors), (3, b"", b"sedck-explain: --help and --version stand alone\n"))
+    for words in (["--help"], ["-h"]):
         status, report, errors = tools.explain(*words)
         tools.same("help", (status, errors), (0, b""))
         for part in (*FORMATS, "--format", "--level", "--cert", "--deny", "--stdin-filename", "--help", "--version", "SCRIPT", "standard input", "0 accepted", "4 a file"):

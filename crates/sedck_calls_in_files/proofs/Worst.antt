@@ -15,12 +15,12 @@ worst_snoc file denied known [] found status e worst said = (e, said, ap (λ s. 
 worst_snoc file denied known (first ∷ calls) found status e worst said =
     (worst.0, worst.1, worst_snoc file denied (worse known worst.0.status) calls found status e worst.2 said)
 
-pub next_worst : (file : List ℕ) (denied : Denied) (calls : List FoundCall) (i : ℕ) (d : FoundCall) (status : ℕ) (e : Explanation)
-    → i < length calls → IsWorst file denied 0 (take i calls) status → IsSaidOf file denied (get_or calls i d).words.items (get_or calls i d).script e
-    → IsWorst file denied 0 (take (i + 1) calls) (worse status e.status)
-next_worst file denied calls i d status e within worst said =
-    subst (λ front. IsWorst file denied 0 front (worse status e.status)) (sym (take_more calls i d within))
-    (worst_snoc file denied 0 (take i calls) (get_or calls i d) status e worst said)
+pub next_worst : (file : List ℕ) (denied : Denied) (known : ℕ) (calls : List FoundCall) (i : ℕ) (d : FoundCall) (status : ℕ) (e : Explanation)
+    → i < length calls → IsWorst file denied known (take i calls) status → IsSaidOf file denied (get_or calls i d).words.items (get_or calls i d).script e
+    → IsWorst file denied known (take (i + 1) calls) (worse status e.status)
+next_worst file denied known calls i d status e within worst said =
+    subst (λ front. IsWorst file denied known front (worse status e.status)) (sym (take_more calls i d within))
+    (worst_snoc file denied known (take i calls) (get_or calls i d) status e worst said)
 
 -- ---- Paths
 

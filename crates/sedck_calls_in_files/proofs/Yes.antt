@@ -1,5 +1,5 @@
 -- What a status of 0 says of a call.
-use Rattle.std.proofs.Common.{◌≡◌, ◌∙◌, ◌⊎◌, inl, inr, ◌==◌, ℕ, suc, Bool, true, false, MatchBool, List, None, if◌then◌else◌, refl, sym, ap, arith}
+use Rattle.std.proofs.Common.{◌≡◌, ◌∙◌, ◌⊎◌, inl, inr, ◌==◌, ℕ, suc, Bool, true, false, MatchBool, List, [], ◌∷◌, None, if◌then◌else◌, refl, sym, ap, arith}
 use Rattle.std.proofs.lemmas.Bool.{true≢false}
 use Rattle.sedck_calls.specs.Calls.{IsCall}
 use Rattle.sedck_calls.specs.declared.call.Call.{Call}
@@ -8,10 +8,11 @@ use Rattle.sedck_errors.specs.declared.denied.Denied.{Denied}
 use Rattle.sedck_explanation.specs.Explanations.{IsExplanation}
 use Rattle.sedck_explanation.specs.declared.explanation.Explanation.{Explanation}
 use Rattle.sedck_found.specs.declared.found.FoundScript.{FoundScript}
+use Rattle.sedck_found.specs.declared.found.OpenHole.{OpenHole}
 use Rattle.sedck_found.specs.declared.found.FoundScript.TheVariants.{Text, Foreign, Refused, Unknown}
 use Rattle.sedck_traced.specs.Traced.{has_hole}
 use Rattle.sedck_traced.specs.declared.origin.Traced.{Traced}
-use Rattle.sedck_calls_in_files.specs.Judged.{words_of, is_in_file, status_with, IsUnjudged, IsJudged, IsSaidOfCall, IsSaidOfText, IsSaidOf, IsAcceptedText, IsAcceptedScript}
+use Rattle.sedck_calls_in_files.specs.Judged.{words_of, is_in_file, is_open, status_with, IsUnjudged, IsJudged, IsSaidOfCall, IsSaidOfText, IsSaidOf, IsAcceptedText, IsAcceptedScript}
 
 by_test : (b : Bool) (A B : Type 0) → MatchBool b A B → ((b ≡ true) × A) ⊎ ((b ≡ false) × B)
 by_test true A B holds = inl (refl, holds)
@@ -44,46 +45,54 @@ yes_explained text denied call e called is = by_cases (by_test _ _ _ called.said
         absurd (omega (arith, one, is))
     by_cases (inr same) = (called.judged, called.is_explanation, sym (ap (λ x. x.status) same.1) ∙ is)
 
-yes_of_call : (file : List ℕ) (denied : Denied) (words : List Traced) (call : Call) (text : Traced) (e : Explanation)
-    → IsCall (words_of words) call → IsSaidOfCall file denied words call text e → e.status ≡ 0 → IsAcceptedText file denied words text
-yes_of_call file denied words call text e is_call said is = by_language (by_test _ _ _ said)
+-- where nothing is open, nothing is in any of the two ways
+closed : (text : Traced) (holes : List OpenHole) → is_open text holes ≡ false → (has_hole text.origins.items ≡ false) × (holes ≡ [])
+closed text [] is = (is, refl)
+closed text (hole ∷ holes) is = absurd (true≢false is)
+
+yes_of_call : (file : List ℕ) (denied : Denied) (words : List Traced) (call : Call) (text : Traced) (holes : List OpenHole) (e : Explanation)
+    → IsCall (words_of words) call → IsSaidOfCall file denied words call text holes e → e.status ≡ 0
+    → IsAcceptedText file denied words text holes
+yes_of_call file denied words call text holes e is_call said is = by_language (by_test _ _ _ said)
   where
-    accepted : has_foreign call.given.items ≡ false → is_in_file file words call text ≡ true → IsJudged denied call text e
-        → IsAcceptedText file denied words text
+    accepted : has_foreign call.given.items ≡ false → is_in_file file words call text ≡ true → IsJudged denied call text holes e
+        → IsAcceptedText file denied words text holes
     accepted judged in_file by =
-        let known = yes_is_known (has_hole text.origins.items) by.called.status (sym by.is_status ∙ is) in
+        let known = yes_is_known (is_open text holes) by.called.status (sym by.is_status ∙ is) in
+        let shut = closed text holes known.0 in
         let explained = yes_explained text.bytes.items denied call by.called by.is_called known.1 in
         record {
           call = call;
           is_call = is_call;
           is_judged = judged;
           in_file = in_file;
-          known = known.0;
+          known = shut.0;
+          unconditional = shut.1;
           explanation = explained.0;
           is_explanation = explained.1;
           is_yes = explained.2;
         }
 
     by_file : has_foreign call.given.items ≡ false
-        → ((is_in_file file words call text ≡ true) × IsJudged denied call text e) ⊎ ((is_in_file file words call text ≡ false) × IsUnjudged 5 e)
-        → IsAcceptedText file denied words text
+        → ((is_in_file file words call text ≡ true) × IsJudged denied call text holes e) ⊎ ((is_in_file file words call text ≡ false) × IsUnjudged 5 e)
+        → IsAcceptedText file denied words text holes
     by_file judged (inl traced) = accepted judged traced.0 traced.1
     by_file judged (inr other) = absurd (yes_is_judged 4 e other.1 is)
 
     by_language : ((has_foreign call.given.items ≡ true) × IsUnjudged 2 e)
-        ⊎ ((has_foreign call.given.items ≡ false) × MatchBool (is_in_file file words call text) (IsJudged denied call text e) (IsUnjudged 5 e))
-        → IsAcceptedText file denied words text
+        ⊎ ((has_foreign call.given.items ≡ false) × MatchBool (is_in_file file words call text) (IsJudged denied call text holes e) (IsUnjudged 5 e))
+        → IsAcceptedText file denied words text holes
     by_language (inl foreign) = absurd (yes_is_judged 1 e foreign.1 is)
     by_language (inr judged) = by_file judged.0 (by_test _ _ _ judged.1)
 
-yes_of_text : (file : List ℕ) (denied : Denied) (words : List Traced) (text : Traced) (e : Explanation) → IsSaidOfText file denied words text e
-    → e.status ≡ 0 → IsAcceptedText file denied words text
-yes_of_text file denied words text e (inl known) is = yes_of_call file denied words known.0 text e known.1 known.2 is
-yes_of_text file denied words text e (inr none) is = absurd (yes_is_judged 4 e none.1 is)
+yes_of_text : (file : List ℕ) (denied : Denied) (words : List Traced) (text : Traced) (holes : List OpenHole) (e : Explanation)
+    → IsSaidOfText file denied words text holes e → e.status ≡ 0 → IsAcceptedText file denied words text holes
+yes_of_text file denied words text holes e (inl known) is = yes_of_call file denied words known.0 text holes e known.1 known.2 is
+yes_of_text file denied words text holes e (inr none) is = absurd (yes_is_judged 4 e none.1 is)
 
 pub yes_of_found : (file : List ℕ) (denied : Denied) (words : List Traced) (script : FoundScript) (e : Explanation)
     → IsSaidOf file denied words script e → e.status ≡ 0 → IsAcceptedScript file denied words script
-yes_of_found file denied words (Text call text holes) e said is = yes_of_text file denied words text e said is
+yes_of_found file denied words (Text call text holes) e said is = yes_of_text file denied words text holes.items e said is
 yes_of_found file denied words (Foreign call) e said is = absurd (yes_is_judged 1 e said is)
 yes_of_found file denied words (Refused fault) e said is = absurd (yes_is_judged 1 e said is)
 yes_of_found file denied words (Unknown why) e said is = absurd (yes_is_judged 4 e said is)

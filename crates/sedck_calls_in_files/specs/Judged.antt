@@ -1,5 +1,5 @@
 -- What is said of a call of sed in a file, this project's own.
-use Rattle.std.specs.Prelude.{◌≡◌, ◌⊎◌, ◌==◌, ◌&&◌, ◌||◌, ℕ, Bool, true, false, MatchBool, List, [], map, None, if◌then◌else◌}
+use Rattle.std.specs.Prelude.{◌≡◌, ◌⊎◌, ◌==◌, ◌&&◌, ◌||◌, ℕ, Bool, true, false, MatchBool, List, [], ◌∷◌, map, None, if◌then◌else◌}
 use Rattle.std.specs.List.{list_all, list_any}
 use Rattle.std.specs.Str.{bytes_eq}
 use Rattle.sedck_calls.specs.Calls.{IsCall}
@@ -15,6 +15,7 @@ use Rattle.sedck_explanation.specs.Explanations.{IsExplanation}
 use Rattle.sedck_explanation.specs.declared.answer.Answer.TheVariants.{NotJudged}
 use Rattle.sedck_explanation.specs.declared.explanation.Explanation.{Explanation}
 use Rattle.sedck_found.specs.declared.found.FoundScript.{FoundScript}
+use Rattle.sedck_found.specs.declared.found.OpenHole.{OpenHole}
 use Rattle.sedck_found.specs.declared.found.FoundScript.TheVariants.{Text, Foreign, Refused, Unknown}
 use Rattle.sedck_traced.specs.Traced.{is_traced, has_hole}
 use Rattle.sedck_traced.specs.declared.origin.Traced.{Traced}
@@ -67,28 +68,33 @@ pub record Agrees (before e : Explanation) : Type 0 where
 abbrev pub status_with : Bool → ℕ → ℕ
 status_with partly status = if partly && (status == 0) then 5 else status
 
+-- something isn't known: a byte of the script takes the place of it, or it is one of what the words depend on
+abbrev pub is_open : Traced → List OpenHole → Bool
+is_open text [] = has_hole text.origins.items
+is_open text (hole ∷ holes) = true
+
 -- it is explained as a call with this script
-pub record IsJudged (denied : Denied) (call : Call) (text : Traced) (e : Explanation) : Type 0 where
+pub record IsJudged (denied : Denied) (call : Call) (text : Traced) (holes : List OpenHole) (e : Explanation) : Type 0 where
   pub called : Explanation
   pub is_called : IsCalled text.bytes.items denied call called
   pub agrees : Agrees called e
-  pub is_status : e.status ≡ status_with (has_hole text.origins.items) called.status
+  pub is_status : e.status ≡ status_with (is_open text holes) called.status
 
 -- with another language it isn't judged (2); nor where the file doesn't have what was read (5)
-abbrev pub IsSaidOfCall : List ℕ → Denied → List Traced → Call → Traced → Explanation → Type 0
-IsSaidOfCall file denied words call text e =
+abbrev pub IsSaidOfCall : List ℕ → Denied → List Traced → Call → Traced → List OpenHole → Explanation → Type 0
+IsSaidOfCall file denied words call text holes e =
     MatchBool (has_foreign call.given.items) (IsUnjudged 2 e)
-    (MatchBool (is_in_file file words call text) (IsJudged denied call text e) (IsUnjudged 5 e))
+    (MatchBool (is_in_file file words call text) (IsJudged denied call text holes e) (IsUnjudged 5 e))
 
 -- the words are a call
-abbrev pub IsSaidOfText : List ℕ → Denied → List Traced → Traced → Explanation → Type 0
-IsSaidOfText file denied words text e =
-    ((call : Call) × IsCall (words_of words) call × IsSaidOfCall file denied words call text e)
+abbrev pub IsSaidOfText : List ℕ → Denied → List Traced → Traced → List OpenHole → Explanation → Type 0
+IsSaidOfText file denied words text holes e =
+    ((call : Call) × IsCall (words_of words) call × IsSaidOfCall file denied words call text holes e)
     ⊎ (((call : Call) → IsCall (words_of words) call → ⊥) × IsUnjudged 5 e)
 
 -- what is said of a call, by what was found of its script
 abbrev pub IsSaidOf : List ℕ → Denied → List Traced → FoundScript → Explanation → Type 0
-IsSaidOf file denied words (Text call text holes) e = IsSaidOfText file denied words text e
+IsSaidOf file denied words (Text call text holes) e = IsSaidOfText file denied words text holes.items e
 IsSaidOf file denied words (Foreign call) e = IsUnjudged 2 e
 IsSaidOf file denied words (Refused fault) e = IsUnjudged 2 e
 IsSaidOf file denied words (Unknown why) e = IsUnjudged 5 e
@@ -96,18 +102,19 @@ IsSaidOf file denied words (Unknown why) e = IsUnjudged 5 e
 -- ---- A yes
 
 -- The call is accepted: its words are a call, none of whose options changes the language; the file has the words and the script where
--- their origins say; nothing of the script is unknown; and it is explained with the status 0.
-pub record IsAcceptedText (file : List ℕ) (denied : Denied) (words : List Traced) (text : Traced) : Type 0 where
+-- their origins say; nothing of the script is unknown, and nothing that the words depend on; and it is explained with the status 0.
+pub record IsAcceptedText (file : List ℕ) (denied : Denied) (words : List Traced) (text : Traced) (holes : List OpenHole) : Type 0 where
   pub call : Call
   pub is_call : IsCall (words_of words) call
   pub is_judged : has_foreign call.given.items ≡ false
   pub in_file : is_in_file file words call text ≡ true
   pub known : has_hole text.origins.items ≡ false
+  pub unconditional : holes ≡ []
   pub explanation : Explanation
   pub is_explanation : IsExplanation text.bytes.items None denied explanation
   pub is_yes : explanation.status ≡ 0
 
 -- the call has a script, and is accepted
 abbrev pub IsAcceptedScript : List ℕ → Denied → List Traced → FoundScript → Type 0
-IsAcceptedScript file denied words (Text call text holes) = IsAcceptedText file denied words text
+IsAcceptedScript file denied words (Text call text holes) = IsAcceptedText file denied words text holes.items
 IsAcceptedScript file denied words _ = ⊥

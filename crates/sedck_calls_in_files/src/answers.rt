@@ -2,7 +2,10 @@
 
 use crate::request::{Look, Scan};
 use sedck_explanation::{Explanation, Level, Position, shown_name};
-use sedck_formats::{CallAt, Names, gcc_report, json_call, shown_path, text_answer, text_findings};
+use sedck_formats::{
+    CallAt, Names, gcc_report, json_call, json_place, json_report, shown_path, text_answer,
+    text_findings, text_report as text_report_of,
+};
 use sedck_found::FoundCall;
 use std::alloc::{AllocError, Global};
 
@@ -44,6 +47,38 @@ pub(crate) fn call_report(
                 explanation,
             )
         }
+    }
+}
+
+/// The report on a place that isn't understood.
+pub(crate) fn place_report(
+    alloc: Global,
+    scan: &Scan,
+    path: &str,
+    explanation: &Explanation,
+) -> Result<Vec<u8>, AllocError> {
+    let shown = shown_path(alloc, path)?;
+    let names = Names::of_file(shown.as_str());
+    match scan.look {
+        Look::Json => json_place(alloc, path, explanation, scan.least),
+        Look::Gcc => gcc_report(alloc, names, explanation, scan.least),
+        Look::Text { colour } => text_findings(alloc, names, explanation, scan.least, colour),
+    }
+}
+
+/// The report on a script below a folder.
+pub(crate) fn script_report(
+    alloc: Global,
+    scan: &Scan,
+    path: &str,
+    explanation: &Explanation,
+) -> Result<Vec<u8>, AllocError> {
+    let shown = shown_path(alloc, path)?;
+    let names = Names::of_file(shown.as_str());
+    match scan.look {
+        Look::Json => json_report(alloc, Names::of_file(path), explanation, scan.least),
+        Look::Gcc => gcc_report(alloc, names, explanation, scan.least),
+        Look::Text { colour } => text_report_of(alloc, names, explanation, scan.least, colour),
     }
 }
 

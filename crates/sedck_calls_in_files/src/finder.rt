@@ -1,16 +1,16 @@
 //! What finds the calls in a file.
 
 ghost use Rattle.std.specs.Prelude.{◌≡◌, List, ℕ, Option, None, IfOk, IfSome};
-ghost use Rattle.sedck_found.specs.declared.found.FoundCall.{FoundCall};
+ghost use Rattle.sedck_calls_in_files.specs.Scanned.{Holds, IsFound};
 
-use sedck_found::{Assumed, Found, FoundCall, calls_in, dialect_of};
+use sedck_found::{Assumed, Found, calls_in};
 use sedck_hosts::Kind;
 use std::alloc::{AllocError, Global};
 
 /// What finds the calls of sed in a file.
 pub trait Finder {
-    /// The calls that it finds in the file at this path with these bytes, where they are known.
-    ghost found: { Self → List ℕ → List ℕ → Option (List FoundCall) };
+    /// What it finds in the file at this path with these bytes, where that is known.
+    ghost found: { Self → List ℕ → List ℕ → Option Holds };
 
     /// The calls in the file at the path, which is of this kind and has this text; the values of these variables are known.
     fn find(
@@ -21,7 +21,7 @@ pub trait Finder {
         text: &[u8],
         assumed: &[Assumed],
     ) -> Result<Found, AllocError>
-        ensures { IfOk result (λ all. IfSome (found self.now path.now text.now) (λ known. all.calls.items ≡ known)) };
+        ensures { IfOk result (λ all. IfSome (found self.now path.now text.now) (IsFound all)) };
 }
 
 /// Finds what the shell would run. Which calls these are isn't known: that they are all of them is tested.
@@ -39,6 +39,6 @@ impl Finder for AsTheShell {
         text: &[u8],
         assumed: &[Assumed],
     ) -> Result<Found, AllocError> {
-        calls_in(alloc, kind, dialect_of(kind, path), text, assumed)
+        calls_in(alloc, kind, path, text, assumed)
     }
 }

@@ -8,7 +8,7 @@ ghost use Rattle.sedck_calls_in_files.specs.Placed.{IsFindingIn};
 use crate::places::Places;
 use sedck_explanation::{Code, Finding, Level, Position, call_finding, shown_name};
 use sedck_found::{Followed, KnownValue, OpenHole, Role, Unknown};
-use sedck_traced::{Origin, Traced};
+use sedck_traced::{Hole, Origin, Traced, Way};
 use std::alloc::{AllocError, Global};
 
 /// The most bytes of a hole that are shown.
@@ -16,7 +16,14 @@ const SHOWN: usize = 40;
 
 /// How a value is made sure of in the shell.
 const CASE: &str =
-    "before it in the shell: case $value in *[!A-Za-z0-9_]*) exit 1;; esac; or give the value with --assume NAME=VALUE";
+    "before it in the shell: case $value in '' | *[!A-Za-z0-9_]*) exit 1;; esac; or give the value with --assume NAME=VALUE";
+
+/// How operands are kept from being options.
+const DASHES: &str =
+    "give the script with -e, and put -- before the operands: sed -e p -- \"$file\"";
+
+/// How a call says which sed runs.
+const NAMED: &str = "write the name of the sed, or quote the variable that has it";
 
 /// A warning for each hole: what its value may not have, so that the answer holds.
 pub(crate) fn open_warnings(
@@ -46,14 +53,17 @@ fn open_warning(
     ensures file { places.new.file ≡ places.old.file }
     ensures finding { IfOk result (IsFindingIn file.now) }
 {
-    let message = condition(alloc, file, hole)?;
-    let mut finding = call_finding(alloc, Level::Warning, Code::OpenHole, message, Some(CASE));
-    finding.position = Some(places.place_offset(hole.start));
-    finding.end = Some(places.place_offset(hole.end));
+    let Hole { start, end, .. } = hole.hole;
+    let written = shown_part(alloc, file, start, end)?;
+    let message = condition(alloc, written.as_str(), hole)?;
+    let hint = Some(hint_of(hole.role));
+    let mut finding = call_finding(alloc, Level::Warning, Code::OpenHole, message, hint);
+    finding.position = Some(places.place_offset(start));
+    finding.end = Some(places.place_offset(end));
     Ok(finding)
 }
 
-/// A note for each variable that is replaced by its value.
+/// A warning for each variable that is replaced by its value.
 pub(crate) fn value_notes(
     alloc: Global,
     file: &[u8],
@@ -70,7 +80,7 @@ pub(crate) fn value_notes(
     Ok(findings)
 }
 
-/// The note for one variable.
+/// The warning for one variable.
 fn value_note(
     alloc: Global,
     file: &[u8],
@@ -82,55 +92,95 @@ fn value_note(
     ensures finding { IfOk result (IsFindingIn file.now) }
 {
     let written = shown_part(alloc, file, followed.start, followed.end)?;
-    let message = value_words(alloc, places, written.as_str(), followed.value)?;
-    let mut finding = call_finding(alloc, Level::Note, Code::KnownValue, message, None);
+    let message = value_words(alloc, written.as_str(), followed.value)?;
+    let mut finding = call_finding(alloc, Level::Warning, Code::KnownValue, message, None);
     finding.position = Some(places.place_offset(followed.start));
     finding.end = Some(places.place_offset(followed.end));
     Ok(finding)
 }
 
 /// Where the value of what is written comes from, in words.
-fn value_words(
-    alloc: Global,
-    places: &mut Places,
-    written: &str,
-    value: KnownValue,
-) -> Result<String, AllocError>
-    ensures { places.new.file ≡ places.old.file }
-{
+fn value_words(alloc: Global, written: &str, value: KnownValue) -> Result<String, AllocError> {
     match value {
-        KnownValue::At(offset) => {
-            let line = places.place_offset(offset).line;
+        KnownValue::Line(line) => {
             format!(in alloc; "\"{written}\" has the value that line {line} sets")
         }
+        KnownValue::Made(line) => format!(in alloc;
+            "\"{written}\" has the value that line {line} sets, unless make is called with another one"
+        ),
         KnownValue::Empty => format!(in alloc; "\"{written}\" is empty: so the file sets it"),
         KnownValue::Given => format!(in alloc; "\"{written}\" has the value that is assumed"),
     }
 }
 
-/// For which values of the hole the answer holds, in words. An empty list would go on behind its bracket.
-fn condition(alloc: Global, file: &[u8], hole: OpenHole) -> Result<String, AllocError> {
-    let written = shown_part(alloc, file, hole.start, hole.end)?;
-    let shown = written.as_str();
+/// On what the answer depends, in words. An empty expression is the one before, and an empty list would go on behind its bracket.
+fn condition(alloc: Global, written: &str, hole: OpenHole) -> Result<String, AllocError> {
     let delimiter = shown_name(alloc, &[hole.delimiter])?;
     let mark = delimiter.as_str();
-    let head = format!(in alloc; "\"{shown}\" isn't known: the answer holds if it ")?;
+    let mut message = format!(in alloc; "\"{written}\" isn't known: the answer holds if ")?;
     let rest = match hole.role {
         Role::Expression => format!(in alloc;
-            "has no `{mark}`, no newline, and none of `\\[.*^$`"
+            "it isn't empty, and has no `{mark}`, no newline, and none of `\\[.*^$`"
         )?,
-        Role::List => {
-            format!(in alloc; "isn't empty, and has no `{mark}`, no newline, and none of `\\[]^-`")?
+        Role::List => format!(in alloc;
+            "it isn't empty, and has no `{mark}`, no newline, and none of `\\[]^-`"
+        )?,
+        Role::Replacement => {
+            format!(in alloc; "it has no `{mark}`, no newline, and none of `\\&`")?
         }
-        Role::Replacement => format!(in alloc; "has no `{mark}`, no newline, and none of `\\&`")?,
-        Role::Text => String::from_str(alloc, "has no newline and no `\\`")?,
+        role => String::from_str(alloc, words_of_role(role))?,
     };
-    let mut message = head;
     message.push_str(rest.as_str())?;
-    if hole.is_split {
-        message.push_str(", and, as it isn't quoted, no blank and none of `*?[`")?;
-    }
+    message.push_str(words_of_way(hole.hole.way, hole.role))?;
     Ok(message)
+}
+
+/// What a hole must be that isn't in an expression or a replacement.
+fn words_of_role(role: Role) -> &'static str {
+    match role {
+        Role::TextBegin => "it isn't empty, begins with no blank, and has no newline and no `\\`",
+        Role::Word => "it is a part of one word",
+        Role::Operand => "no word of it begins with `-`",
+        Role::Pattern => "no file's name matches it",
+        Role::Names => "no file's name that matches it begins with `-`",
+        Role::Sed => "it is the name of a sed, without options",
+        Role::Runner => "it is nothing, or what runs the words behind it",
+        Role::Added => "no operand that xargs adds begins with `-`",
+        Role::Options =>
+            "POSIXLY_CORRECT isn't set, with which an option behind an operand is none",
+        _ => "it has no newline and no `\\`",
+    }
+}
+
+/// What the value must not have by how it becomes a part of the word.
+fn words_of_way(way: Way, role: Role) -> &'static str {
+    match (way, role) {
+        (_, Role::Pattern | Role::Names | Role::Added | Role::Options | Role::Runner) => "",
+        (Way::MadeQuoted, _) => {
+            "; and, since it is put in before a shell reads the line, it has none of `'\"\\$` and no backquote"
+        }
+        (Way::MadeBare, Role::Operand) => {
+            "; and, since it is put in before a shell reads the line, it has none of `'\"\\$;&|<>()#{~` and no backquote"
+        }
+        (Way::MadeBare, _) => {
+            "; and, since it is put in before a shell reads the line, it has no blank, none of `'\"\\$;&|<>()#*?[{~` and no backquote"
+        }
+        (Way::Bare, Role::Operand | Role::Sed) | (Way::Several | Way::Quoted, _) => "",
+        (Way::Bare, _) => {
+            "; and, since it isn't quoted, it has no blank, no other byte of `IFS`, and none of `*?[`"
+        }
+    }
+}
+
+/// How the call is mended.
+fn hint_of(role: Role) -> &'static str {
+    match role {
+        Role::Word | Role::Pattern => "quote it",
+        Role::Operand | Role::Names | Role::Added => DASHES,
+        Role::Options => "write the options before the operands",
+        Role::Sed | Role::Runner => NAMED,
+        _ => CASE,
+    }
 }
 
 /// The part of the file as it is shown, cut where it is long.
@@ -160,15 +210,47 @@ pub(crate) fn written_words(
 /// The same of a word.
 fn written_word(alloc: Global, file: &[u8], word: &Traced) -> Result<Vec<u8>, AllocError> {
     let mut written = Vec::new(alloc);
+    let mut last = None;
     for (byte, origin) in word.bytes.iter().zip(word.origins.iter()) {
-        if let Origin::Hole(start, end) = *origin {
-            let limit = start.saturating_add(SHOWN);
-            written.extend_from_slice(file.get(start..end.min(limit)).unwrap_or(&[]))?;
+        if let Origin::Hole(hole) = *origin {
+            // Several bytes may be in the place of one hole.
+            if last != Some(hole) {
+                let limit = hole.start.saturating_add(SHOWN);
+                let part = file.get(hole.start..hole.end.min(limit)).unwrap_or(&[]);
+                written.extend_from_slice(part)?;
+            }
+            last = Some(hole);
         } else {
             written.push(*byte)?;
         }
     }
     Ok(written)
+}
+
+/// The warning of what isn't understood.
+pub(crate) fn unread_warning(
+    alloc: Global,
+    file: &[u8],
+    position: Position,
+) -> Result<Vec<Finding>, AllocError>
+    requires { position ≡ position_in file.now position.offset }
+    ensures { IfOk result (λ findings. All (IsFindingIn file.now) findings.items) }
+{
+    let words =
+        "what begins here isn't understood, and calls of sed in it or behind it may be missed";
+    let hint = "close what is open, or write the call where it can be read";
+    let message = String::from_str(alloc, words)?;
+    let mut finding = call_finding(
+        alloc,
+        Level::Warning,
+        Code::NotUnderstood,
+        message,
+        Some(hint),
+    );
+    finding.position = Some(position);
+    let mut findings = Vec::new(alloc);
+    findings.push(finding)?;
+    Ok(findings)
 }
 
 /// The warning of a script that isn't known.
@@ -197,6 +279,10 @@ pub(crate) fn unknown_warning(
         Unknown::Macro => (
             "macros of M4 may change this script, so it is not judged",
             "explain the script that M4 makes of this file",
+        ),
+        Unknown::Function => (
+            "a function or an alias of this file has the name of the sed, so the call is not judged",
+            "write `command sed` where the sed itself is called",
         ),
     };
     let message = String::from_str(alloc, words)?;

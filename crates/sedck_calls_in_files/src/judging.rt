@@ -4,9 +4,9 @@ ghost use Rattle.std.specs.Prelude.{◌≡◌, ◌≤◌, true, length, IfOk};
 ghost use Rattle.std.specs.List.{All};
 ghost use Rattle.sedck_report.specs.Positions.{position_in};
 ghost use Rattle.sedck_calls_in_files.specs.Placed.{IsFindingIn};
-ghost use Rattle.sedck_calls_in_files.specs.Judged.{Agrees, IsUnjudged, status_with, words_of, IsSaidOf, IsSaidOfText, IsSaidOfCall, IsJudged, IsAcceptedScript};
+ghost use Rattle.sedck_calls_in_files.specs.Judged.{Agrees, IsUnjudged, status_with, words_of, IsSaidOf, IsSaidOfText, IsSaidOfCall, IsJudged, IsAcceptedScript, is_open as is_open_script};
 
-use crate::holes::{open_warnings, unknown_warning, value_notes, written_words};
+use crate::holes::{open_warnings, unknown_warning, unread_warning, value_notes, written_words};
 use crate::placed::{place_findings, placed};
 use crate::places::Places;
 use crate::tracing::{bytes_of, is_in_file};
@@ -24,8 +24,9 @@ const UNKNOWN: u8 = 5;
 
 /// Explains a call that was found in the file, which has it at this position. The explanation's positions are those of the file.
 ///
-/// Its status is 0 only where the words and the script are in the file, nothing of the script is unknown, and it is accepted; 5 where
-/// something isn't known before a run, and nothing worse is found; else that of a call that is given by its words.
+/// Its status is 0 only where the words and the script are in the file, nothing of the script is unknown, nothing must hold so that the
+/// words are as they are read, and it is accepted; 5 where something isn't known before a run, and nothing worse is found; else that of a
+/// call that is given by its words.
 pub fn explain_found<'a>(
     alloc: Global,
     file: &'a [u8],
@@ -77,7 +78,7 @@ fn explain_found_script<'a>(
     }
 }
 
-/// The explanation with a note for each variable that is replaced by its value.
+/// The explanation with a warning for each variable that is replaced by its value.
 fn with_values<'a>(
     alloc: Global,
     file: &[u8],
@@ -119,7 +120,7 @@ fn explain_words<'a>(
     denied: Denied,
 ) -> Result<Explanation<'a>, AllocError>
     requires { position ≡ position_in file.now position.offset }
-    ensures said { IfOk result (IsSaidOfText file.now denied words.now text.now) }
+    ensures said { IfOk result (IsSaidOfText file.now denied words.now text.now holes.now) }
     ensures places { IfOk result (λ e. All (IsFindingIn file.now) e.findings.items) }
 {
     let bytes = bytes_of(alloc, words)?;
@@ -145,7 +146,7 @@ fn explain_script<'a>(
     denied: Denied,
 ) -> Result<Explanation<'a>, AllocError>
     requires { position ≡ position_in file.now position.offset }
-    ensures said { IfOk result (IsSaidOfCall file.now denied words.now call.now text.now) }
+    ensures said { IfOk result (IsSaidOfCall file.now denied words.now call.now text.now holes.now) }
     ensures places { IfOk result (λ e. All (IsFindingIn file.now) e.findings.items) }
 {
     if has_foreign(&call.given) {
@@ -170,17 +171,27 @@ fn judged<'a>(
     denied: Denied,
 ) -> Result<Explanation<'a>, AllocError>
     requires { position ≡ position_in file.now position.offset }
-    ensures said { IfOk result (IsJudged denied call.now text.now) }
+    ensures said { IfOk result (IsJudged denied call.now text.now holes.now) }
     ensures places { IfOk result (λ e. All (IsFindingIn file.now) e.findings.items) }
 {
     let explanation = explain_called(alloc, &text.bytes, shown, call, denied)?;
     let mut places = Places::new(alloc, file, position, &text.origins)?;
     let explanation = placed(file, &mut places, explanation);
-    if has_hole(&text.origins) {
+    if is_open(text, holes) {
         let warnings = open_warnings(alloc, file, &mut places, holes)?;
         return opened(alloc, file, explanation, warnings);
     }
     Ok(explanation)
+}
+
+/// Whether something isn't known of the script, or of what its words depend on.
+fn is_open(text: &Traced, holes: &[OpenHole]) -> bool
+    ensures { result ≡ is_open_script text.now holes.now }
+{
+    match holes {
+        [] => has_hole(&text.origins),
+        [_, ..] => true,
+    }
 }
 
 /// The explanation of a script of which something isn't known, with these warnings after its errors.
@@ -253,6 +264,21 @@ fn reasons<'a>(
     let mut places = Places::new(alloc, file, position, &[])?;
     place_findings(&mut places, &mut findings);
     Ok(not_judged(alloc, file, findings))
+}
+
+/// The explanation of a place that isn't understood.
+pub(crate) fn explain_unread<'a>(
+    alloc: Global,
+    file: &'a [u8],
+    position: Position,
+) -> Result<Explanation<'a>, AllocError>
+    requires { position ≡ position_in file.now position.offset }
+    ensures status { IfOk result (λ e. e.status ≡ 5) }
+    ensures places { IfOk result (λ e. All (IsFindingIn file.now) e.findings.items) }
+{
+    let mut explanation = not_judged(alloc, file, unread_warning(alloc, file, position)?);
+    explanation.status = UNKNOWN;
+    Ok(explanation)
 }
 
 /// The explanation of a script that isn't known.

@@ -102,7 +102,7 @@ fn offsets_of(alloc: Global, call: usize, origins: &[Origin]) -> Result<Vec<usiz
         let (start, end) = match *origin {
             Origin::At(offset) | Origin::Value(offset) => (offset, offset.saturating_add(1)),
             Origin::Escape(offset) => (offset, offset.saturating_add(2)),
-            Origin::Hole(start, end) => (start, end),
+            Origin::Hole(hole) => (hole.start, hole.end),
             Origin::Given | Origin::Between => (next, next),
         };
         offsets.push(start)?;

@@ -1,7 +1,6 @@
 //! What a file holds.
 
-ghost use Rattle.std.specs.Prelude.{◌≡◌, true, false, IfOk, MatchOption};
-ghost use Rattle.sedck_calls_in_files.specs.Scanned.{contains_zero};
+ghost use Rattle.std.specs.Prelude.{◌≡◌, false, IfOk, MatchOption};
 ghost use Rattle.sedck_calls_in_files.specs.Private.Contents.{IsContents};
 
 use sedck_cert::streams::Source;
@@ -10,7 +9,7 @@ use sedck_hosts::{Kind, kind_of};
 use std::alloc::{AllocError, Global};
 
 /// The most bytes of a file that are read.
-const LIMIT: usize = 67_108_864;
+const LIMIT: usize = 4_194_304;
 
 /// How many bytes say of which kind a file is.
 const HEAD: usize = 16_384;
@@ -20,7 +19,7 @@ const HEAD: usize = 16_384;
 pub(crate) enum Contents {
     /// A text of this kind.
     Text(Kind, Vec<u8>),
-    /// No text, or none in which calls are looked for.
+    /// What calls aren't looked for in.
     Other,
     TooLong,
     Unreadable,
@@ -57,13 +56,10 @@ pub(crate) fn contents_of<S: Source>(
     Ok(Contents::Text(kind, text))
 }
 
-/// The kind of a file that begins with these bytes: none where one of them is 0.
+/// The kind of a file that begins with these bytes. One that is given and has no other kind is shell text.
 fn kind_among(path: &str, head: &[u8], asked: Option<Kind>, is_given: bool) -> Option<Kind>
-    ensures { MatchOption result (is_given ≡ true → contains_zero head.now ≡ true) (λ kind. contains_zero head.now ≡ false) }
+    ensures { MatchOption result (is_given ≡ false) (λ kind. Unit {0}) }
 {
-    if has_zero(head) {
-        return None;
-    }
     if asked.is_some() {
         return asked;
     }
@@ -72,16 +68,4 @@ fn kind_among(path: &str, head: &[u8], asked: Option<Kind>, is_given: bool) -> O
         None if is_given => Some(Kind::Shell),
         None => None,
     }
-}
-
-/// Whether a byte is 0.
-fn has_zero(bytes: &[u8]) -> bool
-    ensures { result ≡ contains_zero bytes.now }
-{
-    for byte in bytes {
-        if *byte == 0 {
-            return true;
-        }
-    }
-    false
 }

@@ -5,18 +5,22 @@ ghost use Rattle.std.specs.Io.KnownBytes.{Keeps};
 ghost use Rattle.sedck_calls_in_files.specs.Scanned.{PathStatus, IsWorstOf};
 ghost use Rattle.sedck_calls_in_files.specs.Private.Contents.{ContentsStatus, SourceStatus};
 
+use crate::answers::script_report;
 use crate::file::{explain_text, greater};
 use crate::finder::Finder;
 use crate::reading::{Contents, contents_of};
 use crate::request::{Look, Scan};
 use sedck_cert::streams::{Failed, FromRead, Sink, Source, write_all};
-use sedck_engines::Opener;
-use sedck_explanation::Unexplained;
+use sedck_engines::{Input as InputOf, Opener, read_up_to};
+use sedck_explanation::{Unexplained, explain};
 use sedck_formats::{Counts, json_counts, json_unreadable, shown_letter};
 use std::alloc::{AllocError, Global};
 use std::fs;
 use std::fs::Files;
 use std::io::{Error, ErrorKind, Input};
+
+/// The most bytes of a script that are read: one more than scripts may have.
+const LONGEST_SCRIPT: usize = 1_048_577;
 
 /// Folders of version control, which aren't walked.
 static HIDDEN: [&'static str; 5] = [".git", ".hg", ".svn", ".bzr", "_darcs"];
@@ -164,7 +168,7 @@ impl<R: Files + Input + AllocGlobal + Clone + Drop, O: Opener, F: Finder> Walk<'
             ),
             Contents::Other => Ok(0),
             Contents::TooLong => {
-                let reason = Some("it has more than 67,108,864 bytes");
+                let reason = Some("it has more than 4,194,304 bytes");
                 report_unread(self.rt.alloc(), self.scan.look, path, reason, pass, out)
             }
             Contents::Unreadable => self.skip(path, pass, out),
@@ -218,8 +222,29 @@ impl<R: Files + Input + AllocGlobal + Clone + Drop, O: Opener, F: Finder> Walk<'
         let Ok(mut file) = self.files.open(path) else {
             return self.skip(path, pass, out);
         };
+        if path.ends_with(".sed") {
+            return self.explain_script(path, &mut file, pass, out);
+        }
         let contents = contents_of(self.rt.alloc(), path, None, false, &mut file)?;
         self.explain(path, &contents, pass, out)
+    }
+
+    /// Explains a script below a folder.
+    fn explain_script<S: Source, W: Sink>(
+        &self,
+        path: &str,
+        source: &mut S,
+        pass: &mut Pass,
+        out: &mut W,
+    ) -> Result<u8, Unexplained> {
+        let alloc = self.rt.alloc();
+        let Ok(text) = read_up_to(alloc, source, LONGEST_SCRIPT, InputOf::Script) else {
+            return self.skip(path, pass, out);
+        };
+        let explanation = explain(alloc, &text, None, self.scan.denied)?;
+        pass.counts.scripts = pass.counts.scripts.saturating_add(1);
+        written(out, &script_report(alloc, self.scan, path, &explanation)?)?;
+        Ok(explanation.status)
     }
 
     /// Adds the entries of the folder to what is pending: status 0, or 4 where not all of their names can be read.

@@ -3,8 +3,7 @@ use Rattle.std.proofs.Common.{◌≡◌, ℕ, true, false, List, Option, Some, i
 use Rattle.std.specs.declared.alloc.Global.{Global}
 use Rattle.sedck_engines.specs.Opened.{Known}
 use Rattle.sedck_errors.specs.declared.denied.Denied.{Denied}
-use Rattle.sedck_found.specs.declared.found.FoundCall.{FoundCall}
-use Rattle.sedck_calls_in_files.specs.Scanned.{PathStatus, IsWorstOf}
+use Rattle.sedck_calls_in_files.specs.Scanned.{Holds, PathStatus, IsWorstOf}
 use Rattle.sedck_explain_cli.specs.CallStatus.{HasCallStatus}
 use Rattle.sedck_explain_cli.specs.Readings.{texts_of}
 use Rattle.sedck_explain_cli.specs.Requests.{scripts_of, IsRequest}
@@ -15,15 +14,15 @@ use Rattle.sedck_explain_cli.specs.Answers.{call_of, asks_for_help, IsStatusOfCa
 
 -- ---- By what is asked for
 
-pub files_status : (k : Known) (found : List ℕ → List ℕ → Option (List FoundCall)) (request : Request) (call : Option (List (List ℕ))) (status : ℕ)
+pub files_status : (k : Known) (found : List ℕ → List ℕ → Option Holds) (request : Request) (call : Option (List (List ℕ))) (status : ℕ)
     → request.calls ≡ true → IsWorstOf (PathStatus k found request.denied) 0 (scripts_of request) status → HasStatusFor k found request call status
 files_status k found request call status calls has = rw calls has
 
-pub call_status : (k : Known) (found : List ℕ → List ℕ → Option (List FoundCall)) (request : Request) (call : Option (List (List ℕ))) (status : ℕ)
+pub call_status : (k : Known) (found : List ℕ → List ℕ → Option Holds) (request : Request) (call : Option (List (List ℕ))) (status : ℕ)
     → request.calls ≡ false → request.sed ≡ true → IsStatusOfCall k request.denied call status → HasStatusFor k found request call status
 call_status k found request call status calls sed has = rw (calls, sed) has
 
-pub scripts_status : (k : Known) (found : List ℕ → List ℕ → Option (List FoundCall)) (request : Request) (call : Option (List (List ℕ))) (status : ℕ)
+pub scripts_status : (k : Known) (found : List ℕ → List ℕ → Option Holds) (request : Request) (call : Option (List (List ℕ))) (status : ℕ)
     → request.calls ≡ false → request.sed ≡ false → IsGreatest (StatusAt k request) (scripts_of request) status
     → HasStatusFor k found request call status
 scripts_status k found request call status calls sed has = rw (calls, sed) has
@@ -34,11 +33,11 @@ given_status k denied call words status is has = rw is has
 
 -- ---- By the words
 
-pub answered : (k : Known) (found : List ℕ → List ℕ → Option (List FoundCall)) (words : Words) (own : List (String Global)) (request : Request) (status : ℕ)
+pub answered : (k : Known) (found : List ℕ → List ℕ → Option Holds) (words : Words) (own : List (String Global)) (request : Request) (status : ℕ)
     → own ≡ words.own.items → IsRequest (texts_of own) request → HasStatusFor k found request (call_of words) status
     → IsAnswered k found words status
 answered k found words own request status same is has = inl (request, subst (λ own. IsRequest (texts_of own) request) same is, has)
 
-pub helped : (k : Known) (found : List ℕ → List ℕ → Option (List FoundCall)) (words : Words) (own : List (String Global)) (status : ℕ)
+pub helped : (k : Known) (found : List ℕ → List ℕ → Option Holds) (words : Words) (own : List (String Global)) (status : ℕ)
     → own ≡ words.own.items → (status ≡ 0) × (asks_for_help own ≡ true) → IsAnswered k found words status
 helped k found words own status same help = inr (help.0, subst (λ own. asks_for_help own ≡ true) same help.1)

@@ -1,13 +1,11 @@
 -- The exit status of the program, by its arguments and by what is known of the files that they name, this project's own.
-use Rattle.std.specs.Prelude.{◌≡◌, ◌⊎◌, ◌==◌, ◌&&◌, ◌||◌, ℕ, Bool, true, false, MatchBool, List, ◌∷◌, map, Option, Some, None, codes, String, string_bytes}
-use Rattle.std.specs.List.{list_any}
+use Rattle.std.specs.Prelude.{◌≡◌, ◌⊎◌, ◌||◌, ℕ, Bool, true, false, MatchBool, List, [], ◌∷◌, map, Option, Some, None, codes, String, string_bytes}
 use Rattle.std.specs.Option.{option_map}
 use Rattle.std.specs.Str.{bytes_eq}
 use Rattle.std.specs.declared.alloc.Global.{Global}
 use Rattle.sedck_engines.specs.Opened.{Known}
 use Rattle.sedck_errors.specs.declared.denied.Denied.{Denied}
-use Rattle.sedck_found.specs.declared.found.FoundCall.{FoundCall}
-use Rattle.sedck_calls_in_files.specs.Scanned.{PathStatus, IsWorstOf}
+use Rattle.sedck_calls_in_files.specs.Scanned.{Holds, PathStatus, IsWorstOf}
 use Rattle.sedck_explain_cli.specs.CallStatus.{HasCallStatus}
 use Rattle.sedck_explain_cli.specs.Readings.{texts_of}
 use Rattle.sedck_explain_cli.specs.Requests.{scripts_of, IsRequest}
@@ -25,20 +23,17 @@ own_of words = texts_of words.own.items
 abbrev pub call_of : Words → Option (List (List ℕ))
 call_of words = option_map (λ call. map (λ word. word.items) call.items) words.call
 
--- `-h` or `-V`, whatever follows
-abbrev pub is_short_help : List ℕ → Bool
-is_short_help (b ∷ c ∷ rest) = (b == 45) && ((c == 104) || (c == 86))
-is_short_help _ = false
-
 -- the word asks for the help or the version
 abbrev pub is_help : List ℕ → Bool
-is_help word = is_short_help word || (bytes_eq word (codes "--help") || bytes_eq word (codes "--version"))
+is_help word = bytes_eq word (codes "-h") || bytes_eq word (codes "-V") || bytes_eq word (codes "--help") || bytes_eq word (codes "--version")
 
 abbrev pub is_help_word : String Global → Bool
 is_help_word word = is_help (string_bytes word)
 
+-- that is the only word
 abbrev pub asks_for_help : List (String Global) → Bool
-asks_for_help words = list_any is_help_word words
+asks_for_help (word ∷ []) = is_help_word word
+asks_for_help _ = false
 
 -- ---- The status
 
@@ -48,13 +43,13 @@ IsStatusOfCall k denied None status = ⊥
 IsStatusOfCall k denied (Some words) status = HasCallStatus k denied words status
 
 -- the status of what is asked for: of the calls of sed in files, which are found so; of the call with these words; or of scripts
-abbrev pub HasStatusFor : Known → (List ℕ → List ℕ → Option (List FoundCall)) → Request → Option (List (List ℕ)) → ℕ → Type 0
+abbrev pub HasStatusFor : Known → (List ℕ → List ℕ → Option Holds) → Request → Option (List (List ℕ)) → ℕ → Type 0
 HasStatusFor k found request call status =
     MatchBool request.calls (IsWorstOf (PathStatus k found request.denied) 0 (scripts_of request) status)
     (MatchBool request.sed (IsStatusOfCall k request.denied call status) (IsGreatest (StatusAt k request) (scripts_of request) status))
 
--- the words are a request, and this is its status; or a word asks for the help or the version, and it is 0
-abbrev pub IsAnswered : Known → (List ℕ → List ℕ → Option (List FoundCall)) → Words → ℕ → Type 0
+-- the words are a request, and this is its status; or they ask for the help or the version, and it is 0
+abbrev pub IsAnswered : Known → (List ℕ → List ℕ → Option Holds) → Words → ℕ → Type 0
 IsAnswered k found words status =
     ((request : Request) × IsRequest (own_of words) request × HasStatusFor k found request (call_of words) status)
     ⊎ ((status ≡ 0) × (asks_for_help words.own.items ≡ true))

@@ -454,36 +454,34 @@ fn refuse_words<W: Sink, E: Sink>(
     let Ok(text) = words_of(alloc, &error) else {
         return out_of_memory(err);
     };
-    // `clap` says more than why it refuses only where it is asked to.
-    if !error.use_stderr() && contains_help(words) {
-        return match write_all(out, text.as_bytes()) {
-            Ok(()) => 0,
-            Err(_) => unwritten(err),
-        };
+    if error.use_stderr() {
+        return end(err, text.as_bytes(), 3);
     }
-    end(err, text.as_bytes(), 3)
+    // Beside others such a word may be the name of a script.
+    if !is_for_help(words) {
+        return end(err, b"--help and --version stand alone\n", 3);
+    }
+    match write_all(out, text.as_bytes()) {
+        Ok(()) => 0,
+        Err(_) => unwritten(err),
+    }
 }
 
-/// Whether a word asks for the help or the version.
-fn contains_help(words: &[String]) -> bool
+/// Whether the words are just one that asks for the help or the version.
+fn is_for_help(words: &[String]) -> bool
     ensures { result ≡ asks_for_help words.now }
 {
-    for word in words {
-        if is_help(word) {
-            return true;
-        }
+    match words {
+        [word] => is_help(word),
+        _ => false,
     }
-    false
 }
 
 /// Whether the word asks for the help or the version.
 fn is_help(word: &str) -> bool
     ensures { result ≡ is_help_text word.now }
 {
-    match word.as_bytes() {
-        [b'-', b'h' | b'V', ..] => true,
-        _ => word == "--help" || word == "--version",
-    }
+    word == "-h" || word == "-V" || word == "--help" || word == "--version"
 }
 
 /// The text of an error of `clap`.

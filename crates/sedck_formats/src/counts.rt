@@ -19,6 +19,8 @@ pub struct Counts {
     pub unknown: usize,
     /// Places where a file wasn't understood, and reading went on at a next line.
     pub unread: usize,
+    /// Scripts in files of their own.
+    pub scripts: usize,
     /// Files and folders that can't be read.
     pub unreadable: usize,
 }
@@ -36,6 +38,7 @@ impl Counts {
         not_judged: 0,
         unknown: 0,
         unread: 0,
+        scripts: 0,
         unreadable: 0,
     };
 
@@ -65,6 +68,14 @@ impl Counts {
         out.grouped(self.calls as u64).text(calls);
         out.grouped(self.files as u64).text(files);
         self.push_parts(&mut out);
+        if self.scripts > 0 {
+            out.text("; ").grouped(self.scripts as u64);
+            out.text(if self.scripts == 1 {
+                " script"
+            } else {
+                " scripts"
+            });
+        }
         out.text("\n");
         out.finished()
     }

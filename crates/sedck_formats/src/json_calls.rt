@@ -42,6 +42,26 @@ pub fn json_call(
     out.finished()
 }
 
+/// The object of a place that isn't understood, as that of a call without `call` and `words`: its `answer` is `not-understood`, and its
+/// finding says where it begins.
+pub fn json_place(
+    alloc: Global,
+    file: &str,
+    explanation: &Explanation,
+    least: Level,
+) -> Result<Vec<u8>, AllocError>
+    ensures ascii { IfOk result (λ line. IsAscii line.items) }
+    ensures line { IfOk result (λ line. IsPrintableLine line.items) }
+{
+    let names = Names::of_file(file);
+    let mut out = Json::new(alloc);
+    out.open().text("file", file);
+    out.number("status", u64::from(explanation.status))
+        .text("answer", "not-understood");
+    push_details(&mut out, names, explanation, least);
+    out.finished()
+}
+
 /// Adds the words of the call.
 fn push_words(out: &mut Json, words: &[String]) {
     out.list("words");
@@ -55,6 +75,7 @@ fn push_words(out: &mut Json, words: &[String]) {
 ///
 /// - `files`: those in which calls were looked for.
 /// - `unread`: places where a file wasn't understood, and reading went on at a next line.
+/// - `scripts`: scripts in files of their own, which are below a folder.
 /// - `unreadable`: files and folders that can't be read.
 /// - `status`: the exit status.
 pub fn json_counts(alloc: Global, counts: Counts, status: u8) -> Result<Vec<u8>, AllocError>
@@ -82,5 +103,6 @@ fn push_counts(out: &mut Json, counts: &Counts) {
         .number("not_judged", counts.not_judged as u64)
         .number("unknown", counts.unknown as u64)
         .number("unread", counts.unread as u64)
+        .number("scripts", counts.scripts as u64)
         .number("unreadable", counts.unreadable as u64);
 }

@@ -30,7 +30,7 @@ mod written;
 pub use call_words::{CallAnswer, CallAt, text_answer};
 pub use counts::Counts;
 pub use gcc::gcc_report;
-pub use json_calls::{json_call, json_counts};
+pub use json_calls::{json_call, json_counts, json_place};
 pub use json_line::{json_report, json_unreadable};
 pub use limit::push_limit;
 pub use lines::{LinePart, Shown, Source, command_line, excerpt, shown_of};

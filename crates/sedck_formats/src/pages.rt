@@ -66,6 +66,8 @@ pub fn page_of(code: Code) -> &'static str {
         Code::OtherLanguage => "CALLS.md#other-languages",
         Code::BadCall => "CALLS.md#words-that-are-refused",
         Code::InPlace => "CALLS.md#in-place",
-        Code::OpenHole | Code::Unknowable | Code::KnownValue => "CALLS.md#what-isnt-known",
+        Code::OpenHole | Code::Unknowable | Code::KnownValue | Code::NotUnderstood => {
+            "CALLS.md#what-isnt-known"
+        }
     }
 }

@@ -1,7 +1,7 @@
 //! What is found in a file.
 
 use sedck_calls::{Call, CallFault};
-use sedck_traced::Traced;
+use sedck_traced::{Hole, Traced};
 
 /// A variable with a value that was given with the call of this program.
 #[derive(Clone, Copy)]
@@ -35,8 +35,10 @@ pub struct Followed {
 /// Where a value comes from.
 #[derive(Clone, Copy, Debug, PartialEq, Eq)]
 pub enum KnownValue {
-    /// The file sets it to what is at this offset.
-    At(usize),
+    /// The file sets it to what begins on the line of this number, from 1.
+    Line(usize),
+    /// The same of make's, for which another value may be given with the call of make.
+    Made(usize),
     /// The file sets it to nothing.
     Empty,
     /// It was given with the call of this program.
@@ -46,7 +48,7 @@ pub enum KnownValue {
 /// The script of a call.
 #[derive(Drop)]
 pub enum FoundScript {
-    /// Its text, where each hole has letters in its place that fit its role.
+    /// Its text, where each hole has letters in its place that fit its role, with all on which the words depend.
     Text {
         call: Call,
         text: Traced,
@@ -71,32 +73,48 @@ pub enum Unknown {
     File,
     /// Macros of M4 change the script.
     Macro,
+    /// The file has a function or an alias with the name of the sed.
+    Function,
 }
 
-/// A hole of a script.
+/// What isn't known of a call, on which its words depend.
 #[derive(Clone, Copy, Debug, PartialEq, Eq)]
 pub struct OpenHole {
-    /// The file has what is replaced from this offset on ..
-    pub start: usize,
-    /// .. to before this one.
-    pub end: usize,
+    /// Where the file has it, and how it becomes a part of a word.
+    pub hole: Hole,
     pub role: Role,
     /// The delimiter of the expression or the replacement.
     pub delimiter: u8,
-    /// Whether it is outside of double quotes, so that it must have no blanks.
-    pub is_split: bool,
 }
 
-/// Where in a script a hole is.
+/// What a hole may change.
 #[derive(Clone, Copy, Debug, PartialEq, Eq)]
 pub enum Role {
-    /// In an expression, outside of its lists.
+    /// An expression, outside of its lists.
     Expression,
-    /// In a bracket list.
+    /// A bracket list.
     List,
     Replacement,
-    /// In the text of `a`, `i` or `c`.
+    /// The text of `a`, `i` or `c`.
     Text,
+    /// The beginning of such a text.
+    TextBegin,
+    /// A word of the call that isn't the script: there must be just one.
+    Word,
+    /// A word that must be an operand, and no option.
+    Operand,
+    /// A pattern, which no file's name may match.
+    Pattern,
+    /// A pattern in place of an operand.
+    Names,
+    /// The name of the sed, behind which options may be.
+    Sed,
+    /// What runs the sed, or nothing.
+    Runner,
+    /// The operands that `xargs` adds.
+    Added,
+    /// The options behind an operand, which are none where POSIXLY_CORRECT is set.
+    Options,
 }
 
 /// What is found in a file.
@@ -104,6 +122,6 @@ pub enum Role {
 pub struct Found {
     /// In the file's order.
     pub calls: Vec<FoundCall>,
-    /// How often something wasn't understood, and reading went on at a next line.
-    pub unread: usize,
+    /// The offsets of what wasn't understood, in the file's order. Reading went on at a next line.
+    pub unread: Vec<usize>,
 }

@@ -4,8 +4,11 @@ use crate::found::{OpenHole, Role};
 use crate::roles::{Place, Places};
 use crate::words::{CallWord, add, empty};
 use sedck_calls::{Call, Piece};
-use sedck_traced::{Origin, Traced};
+use sedck_traced::{Hole, Origin, Traced, Way};
 use std::alloc::{AllocError, Global};
+
+/// The most holes of a script.
+const MOST: usize = 1000;
 
 /// The state of giving holes their roles.
 #[derive(Drop)]
@@ -19,7 +22,8 @@ struct Roles {
     follows_hole: bool,
     /// Whether a hyphen ends here that may make a range of a list.
     follows_hyphen: bool,
-    is_split: bool,
+    /// The hole that was read last, in whose place several bytes may be.
+    last: Option<Hole>,
 }
 
 /// The text of the script of a call with letters in place of the holes, and the holes; none if a hole has no role.
@@ -41,7 +45,7 @@ pub(crate) fn roles_of(
         is_unknown: false,
         follows_hole: false,
         follows_hyphen: false,
-        is_split: false,
+        last: None,
     };
     for (index, piece) in call.pieces.iter().enumerate() {
         if index > 0 {
@@ -62,7 +66,7 @@ pub(crate) fn roles_of(
         is_unknown,
         follows_hole: _,
         follows_hyphen: _,
-        is_split: _,
+        last: _,
     } = roles;
     if is_unknown {
         return Ok(None);
@@ -73,7 +77,6 @@ pub(crate) fn roles_of(
 impl Roles {
     /// Reads a word from this byte on.
     fn read_part(&mut self, word: &CallWord, from: usize) -> Result<(), AllocError> {
-        self.is_split = word.is_split;
         let bytes = word.traced.bytes.get(from..).unwrap_or(&[]);
         let origins = word.traced.origins.get(from..).unwrap_or(&[]);
         for (byte, origin) in bytes.iter().zip(origins.iter()) {
@@ -84,8 +87,12 @@ impl Roles {
 
     /// Reads a byte, or a hole.
     fn read(&mut self, byte: u8, origin: Origin) -> Result<(), AllocError> {
-        if let Origin::Hole(start, end) = origin {
-            return self.read_hole(start, end);
+        if let Origin::Hole(hole) = origin {
+            if self.last == Some(hole) {
+                return Ok(());
+            }
+            self.last = Some(hole);
+            return self.read_hole(hole);
         }
         if self.follows_hole && self.changes_hole(byte) {
             self.is_unknown = true;
@@ -109,48 +116,49 @@ impl Roles {
     }
 
     /// Reads a hole.
-    fn read_hole(&mut self, start: usize, end: usize) -> Result<(), AllocError> {
-        let origin = Origin::Hole(start, end);
+    fn read_hole(&mut self, hole: Hole) -> Result<(), AllocError> {
+        if hole.way == Way::Several || self.holes.len() > MOST {
+            self.is_unknown = true;
+        }
         match self.places.place {
-            Place::Expression => self.fill(origin, Role::Expression, b"x*")?,
+            Place::Expression => self.fill(hole, Role::Expression, b"x*")?,
             Place::List | Place::ListBegin | Place::ListNegated => {
                 if self.follows_hyphen {
                     self.is_unknown = true;
                 }
                 self.places.place = Place::List;
-                self.fill(origin, Role::List, b"x")?;
+                self.fill(hole, Role::List, b"x")?;
             }
-            Place::Replacement => self.fill(origin, Role::Replacement, b"&x")?,
-            Place::Text | Place::TextBegin => {
-                self.places.place = Place::Text;
-                self.places.delimiter = 0;
-                self.fill(origin, Role::Text, b"x")?;
-            }
+            Place::Replacement => self.fill(hole, Role::Replacement, b"&x")?,
+            Place::Text => self.fill_text(hole, Role::Text)?,
+            Place::TextBegin => self.fill_text(hole, Role::TextBegin)?,
             // A newline in the value would end the comment.
-            Place::Comment => self.fill(origin, Role::Text, b"x")?,
+            Place::Comment => self.fill(hole, Role::Text, b"x")?,
             _ => self.is_unknown = true,
         }
         Ok(())
     }
 
+    /// Puts a letter in place of a hole in the text of a command.
+    fn fill_text(&mut self, hole: Hole, role: Role) -> Result<(), AllocError> {
+        self.places.place = Place::Text;
+        self.places.delimiter = 0;
+        self.fill(hole, role, b"x")
+    }
+
     /// Puts the letters in place of a hole that has this role.
-    fn fill(&mut self, origin: Origin, role: Role, letters: &[u8]) -> Result<(), AllocError> {
-        let Origin::Hole(start, end) = origin else {
-            return Ok(());
-        };
+    fn fill(&mut self, hole: Hole, role: Role, letters: &[u8]) -> Result<(), AllocError> {
         let delimiter = self.places.delimiter;
         if letters.contains(&delimiter) {
             self.is_unknown = true;
         }
         for letter in letters {
-            add(&mut self.text, *letter, origin)?;
+            add(&mut self.text, *letter, Origin::Hole(hole))?;
         }
         self.holes.push(OpenHole {
-            start,
-            end,
+            hole,
             role,
             delimiter,
-            is_split: self.is_split,
         })?;
         self.follows_hole = true;
         self.follows_hyphen = false;

@@ -6,19 +6,24 @@
 
 mod assigning;
 mod calls;
+mod conditions;
+mod following;
 mod found;
 mod holes;
+mod mentions;
 mod names;
 mod parts;
 mod programs;
 mod roles;
 mod script;
 mod seds;
+mod setting;
 mod texts;
 mod units;
+mod values;
 mod words;
 
-pub use calls::{calls_in, dialect_of};
+pub use calls::calls_in;
 pub use found::{
     Assumed, Followed, Found, FoundCall, FoundScript, KnownValue, OpenHole, Role, Unknown,
 };

@@ -1,9 +1,11 @@
 //! What is known of the values of variables.
 
-use crate::found::{Assumed, KnownValue};
-use crate::units::is_name_byte;
+use crate::following::{Fact, Spot, is_followed, is_set_by_shell};
+use crate::found::Assumed;
+use crate::values::Value;
 use sedck_hosts::Kind;
-use sedck_traced::{Origin, Unit, hole_name};
+use sedck_shell::{Form, Site};
+use sedck_traced::{Hole, Unit, hole_name};
 use std::alloc::{AllocError, Global};
 use std::collections::BTreeMap;
 
@@ -26,32 +28,19 @@ impl Scope {
             Scope::Other => None,
         }
     }
-}
 
-/// The value of a variable.
-#[derive(Clone, Copy)]
-pub(crate) enum Value<'a> {
-    /// It was given with the call of this program.
-    Given(&'a [u8]),
-    /// The file has it.
-    Written(&'a [Unit]),
-}
-
-/// What replaces a hole.
-#[derive(Clone, Copy)]
-pub(crate) struct Filling<'a> {
-    pub value: Value<'a>,
-    /// Whether a shell reads the value as a part of its text, so that quotes in it would count.
-    pub is_read: bool,
-}
-
-/// What is known of a variable that the file sets.
-#[derive(Drop)]
-pub(crate) struct Fact {
-    /// Its value; none if that isn't written, or it is set more than once.
-    value: Option<Vec<Unit>>,
-    /// The number of the text that sets it.
-    text: Option<usize>,
+    /// The spot with this offset, of a command that is there in its text.
+    pub fn spot(self, site: Site, at: usize) -> Spot {
+        let is_own = matches!(self, Scope::Own(_));
+        Spot {
+            scope: self,
+            site: Site {
+                body: site.body,
+                is_certain: site.is_certain && is_own,
+            },
+            at,
+        }
+    }
 }
 
 /// What is known of the variables of a file.
@@ -59,24 +48,77 @@ pub(crate) struct Fact {
 pub(crate) struct Names<'a> {
     pub alloc: Global,
     pub kind: Kind,
+    pub form: Form,
     pub file: &'a [u8],
     pub assumed: &'a [Assumed<'a>],
     pub facts: BTreeMap<Vec<u8>, Fact>,
+    /// For each text the offset of the first command that may set variables which it doesn't name.
+    pub open: BTreeMap<usize, usize>,
+    /// Whether variables of any text may be set so.
+    pub is_open: bool,
+    /// The names of functions and of aliases.
+    pub functions: Vec<Vec<u8>>,
+    /// The offset of each line's first byte.
+    pub lines: Vec<usize>,
 }
 
 impl<'a> Names<'a> {
-    /// Notes that the variable is set, to this value if it is known.
+    /// Notes that the variable is set there, to this value if it is known.
     pub fn note(
         &mut self,
         name: Vec<u8>,
         value: Option<Vec<Unit>>,
-        text: Option<usize>,
+        spot: Spot,
     ) -> Result<(), AllocError> {
         if let Some(fact) = self.facts.get_mut(name.as_slice()) {
             fact.value = None;
             return Ok(());
         }
-        self.facts.insert(name, Fact { value, text })?;
+        let fact = Fact {
+            value,
+            spot,
+            is_sed: false,
+        };
+        self.facts.insert(name, fact)?;
+        Ok(())
+    }
+
+    /// Notes that a value which the variable is given somewhere begins with the name of a sed.
+    pub fn note_sed(&mut self, name: &[u8]) {
+        if let Some(fact) = self.facts.get_mut(name) {
+            fact.is_sed = true;
+        }
+    }
+
+    /// Whether the variable may have the name of a sed, which the file gives it somewhere.
+    pub fn may_be_sed(&self, name: &[u8]) -> bool {
+        match self.facts.get(name) {
+            Some(fact) => fact.is_sed,
+            None => false,
+        }
+    }
+
+    /// Notes that the variable is set to what isn't known.
+    pub fn note_unknown(&mut self, name: Vec<u8>) -> Result<(), AllocError> {
+        let site = Site {
+            body: 0,
+            is_certain: false,
+        };
+        self.note(name, None, Scope::Other.spot(site, 0))
+    }
+
+    /// Notes that a command there may set variables which it doesn't name.
+    pub fn note_open(&mut self, spot: Spot) -> Result<(), AllocError> {
+        let Some(text) = spot.scope.text() else {
+            return Ok(());
+        };
+        if let Some(first) = self.open.get_mut(&text) {
+            if spot.at < *first {
+                *first = spot.at;
+            }
+            return Ok(());
+        }
+        self.open.insert(text, spot.at)?;
         Ok(())
     }
 
@@ -85,23 +127,34 @@ impl<'a> Names<'a> {
         self.file.get(start..end).unwrap_or(&[])
     }
 
-    /// What replaces what the file has between these offsets.
-    pub fn filling_of(&self, start: usize, end: usize, scope: Scope) -> Option<Filling<'_>> {
-        let written = self.written(start, end);
-        let name = replaced_name(written, self.kind)?;
-        let is_made = self.kind == Kind::Make && !is_doubled(self.file, start);
-        if scope == Scope::Other && !is_made {
-            return None;
-        }
-        let value = self.named(name, written, is_made, scope)?;
-        Some(Filling {
-            value,
-            is_read: is_made || matches!(scope, Scope::Again(_)),
-        })
+    /// What the file has in place of the hole.
+    pub fn written_hole(&self, hole: Hole) -> &'a [u8] {
+        self.written(hole.start, hole.end)
     }
 
-    /// The value of the variable with this name.
-    fn named(&self, name: &[u8], written: &[u8], is_made: bool, scope: Scope) -> Option<Value<'_>> {
+    /// Whether the file sets the variable.
+    pub fn is_set(&self, name: &[u8]) -> bool {
+        self.facts.get(name).is_some()
+    }
+
+    /// Whether a function or an alias has the name.
+    pub fn is_function(&self, name: &[u8]) -> bool {
+        for other in &self.functions {
+            if other.as_slice() == name {
+                return true;
+            }
+        }
+        false
+    }
+
+    /// The value that replaces the hole, which is there.
+    pub fn value_of(&self, hole: Hole, spot: Spot) -> Option<Value<'_>> {
+        let written = self.written_hole(hole);
+        let name = replaced_name(written, self.kind)?;
+        let is_made = self.kind == Kind::Make && !is_doubled(self.file, hole.start);
+        if spot.scope == Scope::Other && !is_made {
+            return None;
+        }
         for one in self.assumed {
             if one.name == name {
                 return Some(Value::Given(one.value));
@@ -112,8 +165,8 @@ impl<'a> Names<'a> {
         }
         let fact = self.facts.get(name)?;
         let is_there = match self.kind {
-            Kind::Make => is_made,
-            _ => fact.text == scope.text(),
+            Kind::Make => is_made && fact.spot.site.is_certain && !self.is_open,
+            _ => self.is_followed(fact, name, hole, spot),
         };
         if !is_there {
             return None;
@@ -122,6 +175,21 @@ impl<'a> Names<'a> {
             Some(value) => Some(Value::Written(value)),
             None => None,
         }
+    }
+
+    /// Whether the variable with this name has the value there that the file writes.
+    fn is_followed(&self, fact: &Fact, name: &[u8], hole: Hole, spot: Spot) -> bool {
+        let open = match spot.scope.text() {
+            Some(text) => self.open.get(&text).copied(),
+            None => None,
+        };
+        // Where the file sets IFS, a value may be split at any byte.
+        let may_split = hole.way.is_split() && self.is_set(b"IFS");
+        let used = Spot {
+            at: hole.start,
+            ..spot
+        };
+        !self.is_open && !may_split && !is_set_by_shell(name) && is_followed(fact, used, open)
     }
 }
 
@@ -156,152 +224,3 @@ fn is_doubled(file: &[u8], offset: usize) -> bool {
 
 /// How many dollar signs are looked at.
 const DOLLARS: usize = 16;
-
-impl Filling<'_> {
-    /// Whether a shell leaves the value as it is, also where it isn't quoted if `is_split`.
-    pub fn is_kept(self, is_split: bool) -> bool {
-        for index in 0..self.value.len() {
-            if let Some((byte, _)) = self.value.get(index) {
-                if (self.is_read && is_quoting(byte)) || (is_split && is_splitting(byte)) {
-                    return false;
-                }
-            }
-        }
-        true
-    }
-}
-
-impl Value<'_> {
-    /// How many bytes the value has.
-    pub fn len(self) -> usize {
-        match self {
-            Value::Given(bytes) => bytes.len(),
-            Value::Written(units) => units.len(),
-        }
-    }
-
-    /// Where it comes from.
-    pub fn source(self) -> KnownValue {
-        match self {
-            Value::Given(_) => KnownValue::Given,
-            Value::Written(units) => match units.first() {
-                Some(Unit::Byte(_, offset)) => KnownValue::At(*offset),
-                _ => KnownValue::Empty,
-            },
-        }
-    }
-
-    /// Its byte of this number, with its origin.
-    pub fn get(self, index: usize) -> Option<(u8, Origin)> {
-        match self {
-            Value::Given(bytes) => match bytes.get(index) {
-                Some(byte) => Some((*byte, Origin::Given)),
-                None => None,
-            },
-            Value::Written(units) => match units.get(index) {
-                Some(Unit::Byte(byte, offset)) => Some((*byte, Origin::Value(*offset))),
-                _ => None,
-            },
-        }
-    }
-}
-
-/// Whether the byte changes what a shell reads, also between double quotes.
-fn is_quoting(byte: u8) -> bool {
-    matches!(byte, b'\'' | b'"' | b'\\' | b'$' | b'`' | b'\n')
-}
-
-/// Whether the byte separates the words of a value.
-pub(crate) fn is_blank(byte: u8) -> bool {
-    matches!(byte, b' ' | b'\t' | b'\n')
-}
-
-/// Whether the byte may split a value, match names of files, or be an operator where the value is read.
-fn is_splitting(byte: u8) -> bool {
-    is_blank(byte)
-        || matches!(
-            byte,
-            b'*' | b'?' | b'[' | b';' | b'&' | b'|' | b'<' | b'>' | b'(' | b')' | b'#' | b'~'
-        )
-}
-
-/// A value, if the file has each of its bytes.
-pub(crate) fn written_value(
-    alloc: Global,
-    units: &[Unit],
-) -> Result<Option<Vec<Unit>>, AllocError> {
-    if let Some(Unit::Byte(b'~', _)) = units.first() {
-        return Ok(None);
-    }
-    let mut value = Vec::new(alloc);
-    for unit in units {
-        match *unit {
-            Unit::Byte(_, _) => value.push(*unit)?,
-            _ => return Ok(None),
-        }
-    }
-    Ok(Some(value))
-}
-
-/// The state of looking for expansions that set variables.
-#[derive(Clone, Copy)]
-struct Looking {
-    /// Where the name begins that is being read.
-    from: usize,
-    is_arithmetic: bool,
-}
-
-impl Names<'_> {
-    /// Notes the variables that `${NAME=..}`, `${NAME:=..}` and arithmetic may set (XCU 2.6.2 and 2.6.4).
-    pub fn note_expansions(&mut self) -> Result<(), AllocError> {
-        let file = self.file;
-        let mut looking = Looking {
-            from: 0,
-            is_arithmetic: false,
-        };
-        for (index, byte) in file.iter().enumerate() {
-            if is_name_byte(*byte) {
-                continue;
-            }
-            if looking.sets_name(file, index) {
-                let mut name = Vec::new(self.alloc);
-                name.extend_from_slice(file.get(looking.from..index).unwrap_or(&[]))?;
-                self.note(name, None, None)?;
-            }
-            looking.pass(file, index, *byte);
-        }
-        Ok(())
-    }
-}
-
-impl Looking {
-    /// Whether the name that ends before the index may be set there.
-    fn sets_name(self, file: &[u8], index: usize) -> bool {
-        if self.from >= index {
-            return false;
-        }
-        let before = file
-            .get(self.from.saturating_sub(2)..self.from)
-            .unwrap_or(&[]);
-        match before {
-            [b'$', b'{'] => match file.get(index..) {
-                Some([b'=', ..] | [b':', b'=', ..]) => true,
-                _ => false,
-            },
-            [.., b'$'] | [.., b'{'] => false,
-            _ => self.is_arithmetic,
-        }
-    }
-
-    /// Goes on behind a byte that is no part of a name.
-    fn pass(&mut self, file: &[u8], index: usize, byte: u8) {
-        let is_second = file.get(index.saturating_sub(1)) == Some(&byte) && index > 0;
-        match byte {
-            b'(' if is_second => self.is_arithmetic = true,
-            b')' if is_second => self.is_arithmetic = false,
-            b'\n' => self.is_arithmetic = false,
-            _ => {}
-        }
-        self.from = index.saturating_add(1);
-    }
-}

@@ -1,9 +1,10 @@
 //! The commands in the words of a command, which may run others.
 
 use crate::assigning::is_assignment;
-use crate::names::{Names, Scope};
+use crate::following::Spot;
+use crate::names::Names;
 use crate::programs::{Before, Program, Wrapper, before_command, program_of};
-use crate::units::{bytes_of, is_among, is_text};
+use crate::units::{byte_at, bytes_of, is_among, is_text};
 use sedck_shell::ShellWord;
 use std::alloc::{AllocError, Global};
 
@@ -21,6 +22,26 @@ pub(crate) struct Part {
     pub name: usize,
     /// Its last word is before the one of this number.
     pub end: usize,
+    pub runner: Runner,
+    /// Whether no other command runs it, so that a function may be called.
+    pub is_direct: bool,
+    /// The number of the word that may be a runner or nothing, where that isn't known.
+    pub unknown: Option<usize>,
+}
+
+/// What runs a command, by what it does to the words.
+#[derive(Clone, Copy, PartialEq, Eq)]
+pub(crate) enum Runner {
+    /// Nothing.
+    Plain,
+    /// `find` puts the name of a file in place of `{}`.
+    Find,
+    /// `xargs` adds operands.
+    Adding,
+    /// `xargs` puts a line in place of what the word of this number has from this unit on.
+    Replacing(usize, usize),
+    /// `xargs` puts a line in place of `{}`.
+    Braces,
 }
 
 /// What the next word is.
@@ -46,8 +67,10 @@ enum State {
 #[derive(Drop)]
 struct Finder<'a> {
     names: &'a Names<'a>,
-    scope: Scope,
+    spot: Spot,
     parts: Vec<Part>,
+    runner: Runner,
+    unknown: Option<usize>,
     state: State,
     /// Whether the command is run by `find`.
     is_found: bool,
@@ -62,12 +85,14 @@ pub(crate) fn parts_of(
     alloc: Global,
     names: &Names<'_>,
     words: &[ShellWord],
-    scope: Scope,
+    spot: Spot,
 ) -> Result<Vec<Part>, AllocError> {
     let mut finder = Finder {
         names,
-        scope,
+        spot,
         parts: Vec::new(alloc),
+        runner: Runner::Plain,
+        unknown: None,
         state: State::Name,
         is_found: false,
         wrappers: 0,
@@ -111,15 +136,26 @@ impl Finder<'_> {
         if is_time || is_assignment(&word.units) {
             return Ok(());
         }
-        let program = program_of(self.names, word, self.scope)?;
+        let program = program_of(self.names, word, self.spot)?;
         self.state = match program {
-            Program::Wrapper(wrapper) if self.wrappers < WRAPPED => State::Option(wrapper),
+            Program::Wrapper(wrapper) if self.wrappers < WRAPPED => {
+                if wrapper.is_adding {
+                    self.runner = Runner::Adding;
+                }
+                if wrapper.is_unknown {
+                    self.unknown = Some(index);
+                }
+                State::Option(wrapper)
+            }
             Program::Wrapper(_) | Program::Other => State::Other,
             Program::Find => State::Find,
             _ => State::Word(Part {
                 program,
                 name: index,
                 end: index,
+                runner: self.runner,
+                is_direct: self.runner == Runner::Plain && self.wrappers == 0,
+                unknown: self.unknown,
             }),
         };
         self.wrappers = self.wrappers.saturating_add(1);
@@ -134,7 +170,12 @@ impl Finder<'_> {
         wrapper: Wrapper,
     ) -> Result<(), AllocError> {
         let before = match bytes_of(self.names.alloc, &word.units)? {
-            Some(bytes) => before_command(wrapper, &bytes),
+            Some(bytes) => {
+                self.note_replacing(index, wrapper, &bytes);
+                before_command(wrapper, &bytes)
+            }
+            // An option with a value that isn't known, as `-P$N`.
+            None if byte_at(&word.units, 0) == Some(b'-') => Before::Option,
             None => Before::Word,
         };
         match before {
@@ -148,6 +189,20 @@ impl Finder<'_> {
         Ok(())
     }
 
+    /// Notes an option with which `xargs` puts lines into the words.
+    fn note_replacing(&mut self, index: usize, wrapper: Wrapper, option: &[u8]) {
+        if !wrapper.is_adding {
+            return;
+        }
+        self.runner = match option {
+            b"-I" | b"-J" => Runner::Replacing(index.saturating_add(1), 0),
+            [b'-', b'I' | b'J' | b'i', _, ..] => Runner::Replacing(index, 2),
+            b"-i" | b"--replace" => Runner::Braces,
+            _ if option.starts_with(b"--replace=") => Runner::Replacing(index, 10),
+            _ => self.runner,
+        };
+    }
+
     /// Reads a word of `find`.
     fn read_primary(&mut self, word: &ShellWord) -> Result<(), AllocError> {
         let Some(bytes) = bytes_of(self.names.alloc, &word.units)? else {
@@ -156,6 +211,7 @@ impl Finder<'_> {
         if is_among(&bytes, EXECUTING) {
             self.state = State::Name;
             self.is_found = true;
+            self.runner = Runner::Find;
             self.wrappers = 0;
         }
         Ok(())

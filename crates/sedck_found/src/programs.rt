@@ -1,6 +1,7 @@
 //! What the name of a command calls.
 
-use crate::names::{Names, Scope};
+use crate::following::Spot;
+use crate::names::Names;
 use crate::seds::{Called, called_by, is_sed_path};
 use crate::units::{bytes_of, is_among, last_part};
 use sedck_shell::ShellWord;
@@ -17,6 +18,8 @@ pub(crate) enum Program {
     User,
     /// `eval` or `trap`, whose first operand is text for the same shell.
     Again,
+    /// `.`, which reads a file's text in the same shell.
+    Sourcing,
     Find,
     /// A command that runs the one which its words name.
     Wrapper(Wrapper),
@@ -32,6 +35,10 @@ pub(crate) struct Wrapper {
     stops: &'static [u8],
     /// How many operands precede the command.
     pub operands: usize,
+    /// Whether it is `xargs`, which adds operands.
+    pub is_adding: bool,
+    /// Whether it is what isn't known, which may run the command.
+    pub is_unknown: bool,
 }
 
 /// The name of a command that runs another one, and what `Wrapper` says of it.
@@ -56,6 +63,14 @@ static WRAPPERS: &'static [Named] = &[
     (b"chroot", b"", b"", 1),
     (b"fakeroot", b"lisb", b"", 0),
     (b"busybox", b"", b"", 0),
+    (b"toybox", b"", b"", 0),
+    (b"builtin", b"", b"", 0),
+    (b"flock", b"wEc", b"", 1),
+    (b"strace", b"eoOpPsSuaIbX", b"", 0),
+    (b"ltrace", b"eolpsuaxADFn", b"", 0),
+    (b"unshare", b"SGR", b"", 0),
+    (b"taskset", b"", b"", 1),
+    (b"chrt", b"TPD", b"", 1),
 ];
 
 /// A command that comes before the one which it runs.
@@ -63,6 +78,8 @@ const PREFIX: Wrapper = Wrapper {
     letters: b"",
     stops: b"",
     operands: 0,
+    is_adding: false,
+    is_unknown: true,
 };
 
 /// Long options that take the next word.
@@ -98,6 +115,8 @@ static PROGRAMS: &'static [(&'static [u8], Program)] = &[
     (b"ksh93", Program::Shell),
     (b"eval", Program::Again),
     (b"trap", Program::Again),
+    (b".", Program::Sourcing),
+    (b"source", Program::Sourcing),
     (b"su", Program::User),
     (b"runuser", Program::User),
     (b"find", Program::Find),
@@ -153,11 +172,10 @@ impl Wrapper {
 pub(crate) fn program_of(
     names: &Names<'_>,
     word: &ShellWord,
-    scope: Scope,
+    spot: Spot,
 ) -> Result<Program, AllocError> {
-    if let [Unit::Hole(start, end)] = *word.units.as_slice() {
-        let called = called_by(names, word, start, end, scope)?;
-        return Ok(match called {
+    if let [Unit::Hole(hole)] = *word.units.as_slice() {
+        return Ok(match called_by(names, hole, spot)? {
             Called::Sed => Program::Sed,
             Called::Shell => Program::Shell,
             Called::Sudo => Program::Wrapper(PREFIX),
@@ -194,6 +212,8 @@ fn wrapper_named(name: &[u8]) -> Option<Wrapper> {
                 letters,
                 stops,
                 operands: *operands,
+                is_adding: is_among(name, &[b"xargs"]),
+                is_unknown: false,
             });
         }
     }

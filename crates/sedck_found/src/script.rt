@@ -1,22 +1,42 @@
 //! The script of a call.
 
-use crate::found::{FoundScript, Unknown};
+use crate::conditions::Conditions;
+use crate::found::{FoundScript, OpenHole, Unknown};
 use crate::holes::roles_of;
+use crate::parts::Runner;
 use crate::units::is_among;
-use crate::words::CallWord;
+use crate::words::{CallWord, LONGEST};
 use sedck_calls::{Call, CallFault, CallOption, Given, Piece, call_of};
 use sedck_shell::Dialect;
-use sedck_traced::{Origin, has_hole};
+use sedck_traced::{Hole, Origin, Way, has_hole};
 use std::alloc::{AllocError, Global};
 
-/// The script of a call with these words, and with this text as its standard input.
+/// What is known of a call beside its words.
+#[derive(Clone, Copy)]
+pub(crate) struct Around<'a> {
+    pub file: &'a [u8],
+    pub dialect: Dialect,
+    /// Where the name of the sed is.
+    pub name: Hole,
+    pub runner: Runner,
+    /// The text that is its standard input.
+    pub here: Option<&'a CallWord>,
+    /// What must hold of the name of the sed, and of what runs it.
+    pub named: &'a [OpenHole],
+}
+
+/// The script of a call with these words.
 pub(crate) fn script_of(
     alloc: Global,
-    file: &[u8],
     words: &[CallWord],
-    here: Option<&CallWord>,
-    dialect: Dialect,
+    around: Around<'_>,
 ) -> Result<FoundScript, AllocError> {
+    let Around {
+        file,
+        dialect,
+        here,
+        ..
+    } = around;
     let mut slices = Vec::new(alloc);
     let mut length = 0usize;
     let mut is_open = false;
@@ -25,6 +45,8 @@ pub(crate) fn script_of(
         length = length.saturating_add(word.traced.bytes.len());
         is_open = is_open || has_hole(&word.traced.origins);
     }
+    // What xargs adds may be the script.
+    is_open = is_open || around.runner == Runner::Adding;
     if length > LONGEST {
         return Ok(FoundScript::Unknown(Unknown::Words));
     }
@@ -42,9 +64,15 @@ pub(crate) fn script_of(
     if let Some(unknown) = unknown_words(&call, words, here) {
         return Ok(FoundScript::Unknown(unknown));
     }
-    let Some((text, holes)) = roles_of(alloc, &call, words, here)? else {
+    let Some((text, mut holes)) = roles_of(alloc, &call, words, here)? else {
         return Ok(FoundScript::Unknown(Unknown::Part));
     };
+    let conditions = Conditions::of(alloc, &call, words, around.name, around.runner)?;
+    if conditions.is_unknown {
+        return Ok(FoundScript::Unknown(Unknown::Words));
+    }
+    holes.extend_from_slice(&conditions.holes)?;
+    holes.extend_from_slice(around.named)?;
     let is_macro = dialect == Dialect::Macros
         && (has_macro_name(&text.bytes) || has_macro_hole(file, &text.origins));
     if is_macro {
@@ -52,9 +80,6 @@ pub(crate) fn script_of(
     }
     Ok(FoundScript::Text { call, text, holes })
 }
-
-/// The most bytes that the words of a call have.
-const LONGEST: usize = 1_048_576;
 
 /// Whether an option changes the language or the lines.
 fn has_foreign(given: &[Given]) -> bool {
@@ -92,7 +117,7 @@ fn unknown_words(call: &Call, words: &[CallWord], here: Option<&CallWord>) -> Op
 /// Whether a word before the script begins with a hole, so that it may be another option, and isn't what an option takes.
 fn has_open_word(given: &[Given], words: &[CallWord], first: usize) -> bool {
     for word in words.iter().take(first) {
-        if word.is_split && word.is_hole(0) {
+        if word.hole_at(0).is_some_and(|hole| hole.way != Way::Quoted) {
             return true;
         }
     }
@@ -163,8 +188,8 @@ fn is_macro_name(text: &[u8]) -> bool {
 /// Whether a hole is a quadrigraph of Autoconf, or a parameter of a macro.
 fn has_macro_hole(file: &[u8], origins: &[Origin]) -> bool {
     for origin in origins {
-        if let Origin::Hole(start, end) = *origin {
-            match file.get(start..end) {
+        if let Origin::Hole(hole) = *origin {
+            match file.get(hole.start..hole.end) {
                 Some([b'@', ..] | [b'$', b'0'..=b'9' | b'@' | b'*' | b'#']) => return true,
                 _ => {}
             }

@@ -1,9 +1,10 @@
 //! The names by which sed and shells are called.
 
-use crate::names::{Names, Scope, Value, is_blank, replaced_name};
+use crate::following::Spot;
+use crate::names::{Names, replaced_name};
 use crate::units::is_among;
-use sedck_shell::ShellWord;
-use sedck_traced::hole_name;
+use crate::values::{Value, is_blank};
+use sedck_traced::{Hole, hole_name};
 use std::alloc::{AllocError, Global};
 
 /// The names of variables that have the path of a sed.
@@ -32,9 +33,6 @@ static PATHS: &'static [&'static [u8]] = &[
 /// The longest text of a hole, and the longest path, that is looked at, so that the time stays linear.
 const LONGEST: usize = 256;
 
-/// The longest value in which quotes are looked for.
-const LONGEST_READ: usize = 1024;
-
 /// What a hole calls.
 #[derive(Clone, Copy)]
 pub(crate) enum Called {
@@ -47,25 +45,28 @@ pub(crate) enum Called {
 
 /// Whether the last part of the path is the name of a sed.
 pub(crate) fn is_sed_path(path: &[u8]) -> bool {
-    is_among(path, &[b"sed", b"gsed"]) || path.ends_with(b"/sed") || path.ends_with(b"/gsed")
+    let name = match path.iter().rposition(|byte| *byte == b'/') {
+        Some(slash) => path.get(slash.saturating_add(1)..).unwrap_or(&[]),
+        None => path,
+    };
+    is_among(name, SEDS)
 }
 
-/// What the hole between these offsets calls, which is the whole word.
-pub(crate) fn called_by(
-    names: &Names<'_>,
-    word: &ShellWord,
-    start: usize,
-    end: usize,
-    scope: Scope,
-) -> Result<Called, AllocError> {
-    if let Some(filling) = names.filling_of(start, end, scope) {
-        let is_kept = !filling.is_read
-            || (filling.value.len() <= LONGEST_READ && filling.is_kept(false));
-        let is_sed = is_kept
-            && is_sed_path(&first_word(names.alloc, filling.value, word.is_split)?);
+/// The names of seds.
+static SEDS: &'static [&'static [u8]] = &[b"sed", b"gsed", b"ssed"];
+
+/// Whether a variable of this name has the path of a sed.
+pub(crate) fn is_sed_variable(name: &[u8]) -> bool {
+    is_among(name, SED_VARIABLES)
+}
+
+/// What the hole calls, which is the whole word.
+pub(crate) fn called_by(names: &Names<'_>, hole: Hole, spot: Spot) -> Result<Called, AllocError> {
+    if let Some(value) = names.value_of(hole, spot) {
+        let is_sed = is_sed_path(&first_word(names.alloc, value, hole.way.is_split())?);
         return Ok(if is_sed { Called::Sed } else { Called::Other });
     }
-    let written = names.written(start, end);
+    let written = names.written_hole(hole);
     if written.len() > LONGEST {
         return Ok(Called::Other);
     }
@@ -91,7 +92,7 @@ fn first_word(alloc: Global, value: Value<'_>, is_split: bool) -> Result<Vec<u8>
 
 /// What is called by what is written, if no value is known.
 fn called_by_name(written: &[u8], names: &Names<'_>) -> Called {
-    if is_path_command(written) {
+    if is_path_command(written) || is_among(written, &[b"%{__sed}", b"%__sed"]) {
         return Called::Sed;
     }
     let Some(name) = hole_name(written) else {
@@ -99,7 +100,9 @@ fn called_by_name(written: &[u8], names: &Names<'_>) -> Called {
     };
     let is_made = matches!(written, [b'$', b'(', inner @ .., b')'] if inner.len() == name.len());
     let is_whole = is_made || replaced_name(written, names.kind).is_some();
-    if is_among(name, SED_VARIABLES) && (is_whole || has_sed_default(written, name)) {
+    if is_whole && names.may_be_sed(name) {
+        Called::Sed
+    } else if is_sed_variable(name) && (is_whole || has_sed_default(written, name)) {
         Called::Sed
     } else if is_among(name, SHELL_VARIABLES) && is_whole {
         Called::Shell

@@ -1,11 +1,12 @@
 //! The texts of a file, and those in them that are handed to a shell.
 
+use crate::mentions::mention_in;
 use crate::names::{Names, Scope};
 use crate::parts::{Part, parts_of};
 use crate::programs::Program;
-use crate::units::{byte_at, byte_of, is_text};
+use crate::units::{byte_at, byte_of, bytes_of, end_of, is_text, start_of};
 use sedck_hosts::Kind;
-use sedck_shell::{Dialect, ShellCommand, ShellWord, read_shell};
+use sedck_shell::{ShellCommand, ShellWord, read_shell};
 use sedck_traced::{Text, Unit};
 use std::alloc::{AllocError, Global};
 
@@ -33,30 +34,59 @@ pub(crate) struct Inner {
 #[derive(Drop)]
 pub(crate) struct Reading<'a> {
     pub names: Names<'a>,
-    pub dialect: Dialect,
+    /// The commands that may call sed.
     pub held: Vec<Held>,
     pub inner: Vec<Inner>,
     /// How many units texts in texts may have yet.
     pub left: usize,
-    pub unread: usize,
+    /// The offsets of what isn't understood.
+    pub unread: Vec<usize>,
 }
 
 impl Reading<'_> {
     /// Reads a text.
     pub fn read(&mut self, text: Text, scope: Scope, is_value: bool) -> Result<(), AllocError> {
-        let read = read_shell(self.names.alloc, text, self.dialect)?;
+        let read = read_shell(self.names.alloc, text, self.names.form)?;
         if !is_value {
-            self.unread = self.unread.saturating_add(read.unread);
+            self.unread.extend_from_slice(&read.unread)?;
+        }
+        for name in &read.functions {
+            if let Some(name) = bytes_of(self.names.alloc, &name.units)? {
+                self.names.functions.push(name)?;
+            }
         }
         for command in read.commands {
             self.note(&command, scope)?;
+            self.hold(command, scope, is_value)?;
+        }
+        Ok(())
+    }
+
+    /// Keeps a command that may call sed.
+    fn hold(
+        &mut self,
+        command: ShellCommand,
+        scope: Scope,
+        is_value: bool,
+    ) -> Result<(), AllocError> {
+        if !may_call(&command.words) {
+            return Ok(());
+        }
+        Ok(
             self.held.push(Held {
                 command,
                 scope,
                 is_value,
-            })?;
+            })?,
+        )
+    }
+
+    /// Notes that the command isn't understood.
+    fn note_start(&mut self, command: &ShellCommand) -> Result<(), AllocError> {
+        match command.words.first() {
+            Some(first) => Ok(self.unread.push(first.start)?),
+            None => Ok(()),
         }
-        Ok(())
     }
 
     /// Reads the texts in what was read, and those in them.
@@ -67,27 +97,47 @@ impl Reading<'_> {
                 self.read(Text::Units(&text.units), text.scope, text.is_value)?;
             }
         }
+        for text in &self.inner {
+            if let Some(first) = text.units.first() {
+                self.unread.push(start_of(*first))?;
+            }
+        }
         Ok(())
     }
 
     /// Notes what a command sets, and the texts in it.
     fn note(&mut self, command: &ShellCommand, scope: Scope) -> Result<(), AllocError> {
         if self.names.kind != Kind::Make {
-            self.names.note_command(&command.words, scope)?;
+            self.names.note_command(command, scope)?;
         }
         let alloc = self.names.alloc;
-        let parts = parts_of(alloc, &self.names, &command.words, Scope::Other)?;
+        let spot = Scope::Other.spot(command.site, 0);
+        let parts = parts_of(alloc, &self.names, &command.words, spot)?;
+        if parts.is_empty() {
+            if let Some(offset) = mention_in(alloc, &command.words)? {
+                self.unread.push(offset)?;
+            }
+        }
         for part in &parts {
             let from = part.name.saturating_add(1);
             let words = command.words.get(from..part.end).unwrap_or(&[]);
             match part.program {
                 Program::Shell => self.note_shell(words, command)?,
                 Program::User => self.note_text(user_text(words), Scope::Other)?,
+                Program::Sourcing => self.note_sourced(command)?,
                 Program::Again => self.note_again(words, *part, command, scope)?,
                 _ => {}
             }
         }
         Ok(())
+    }
+
+    /// Notes a here-document that `.` reads.
+    fn note_sourced(&mut self, command: &ShellCommand) -> Result<(), AllocError> {
+        match &command.here {
+            Some(_) => self.note_start(command),
+            None => Ok(()),
+        }
     }
 
     /// Notes the text that a shell is called with.
@@ -118,7 +168,7 @@ impl Reading<'_> {
             return Ok(());
         };
         let is_trap = is_text(&name.units, b"trap");
-        if is_trap != (words.len() > 1) {
+        if is_trap && words.len() < 2 {
             return Ok(());
         }
         let scope = match scope {
@@ -126,8 +176,13 @@ impl Reading<'_> {
             Scope::Other => Scope::Other,
         };
         match words {
-            [first, ..] => self.note_text(Some(&first.units), scope),
-            _ => Ok(()),
+            [first] => self.note_text(Some(&first.units), scope),
+            [first, ..] if is_trap => self.note_text(Some(&first.units), scope),
+            [] => Ok(()),
+            _ => {
+                let text = joined(self.names.alloc, words)?;
+                self.note_text(Some(&text), scope)
+            }
         }
     }
 
@@ -137,8 +192,10 @@ impl Reading<'_> {
             return Ok(());
         };
         if text.len() > self.left {
-            self.unread = self.unread.saturating_add(1);
-            return Ok(());
+            return match text.first() {
+                Some(first) => Ok(self.unread.push(start_of(*first))?),
+                None => Ok(()),
+            };
         }
         self.left = self.left.saturating_sub(text.len());
         let mut units = Vec::new(self.names.alloc);
@@ -150,6 +207,33 @@ impl Reading<'_> {
         })?;
         Ok(())
     }
+}
+
+/// Whether a command with these words may call sed: one of them has that name, or is a name that isn't known.
+fn may_call(words: &[ShellWord]) -> bool {
+    words.iter().any(|word| match *word.units.as_slice() {
+        [Unit::Hole(_)] => true,
+        _ => ends_with_sed(&word.units),
+    })
+}
+
+/// Whether the units end with `sed`.
+fn ends_with_sed(units: &[Unit]) -> bool {
+    let from = units.len().saturating_sub(3);
+    is_text(units.get(from..).unwrap_or(&[]), b"sed")
+}
+
+/// The words with a space between, as `eval` joins them.
+fn joined(alloc: Global, words: &[ShellWord]) -> Result<Vec<Unit>, AllocError> {
+    let mut text = Vec::new(alloc);
+    for word in words {
+        if let Some(last) = text.last() {
+            let offset = end_of(*last);
+            text.push(Unit::Byte(b' ', offset))?;
+        }
+        text.extend_from_slice(&word.units)?;
+    }
+    Ok(text)
 }
 
 /// Where a shell has its text from.

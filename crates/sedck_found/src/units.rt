@@ -7,7 +7,7 @@ use std::alloc::{AllocError, Global};
 pub(crate) fn byte_of(unit: Unit) -> Option<u8> {
     match unit {
         Unit::Byte(byte, _) | Unit::Escape(byte, _) => Some(byte),
-        Unit::Hole(_, _) => None,
+        Unit::Hole(_) => None,
     }
 }
 
@@ -16,6 +16,23 @@ pub(crate) fn byte_at(units: &[Unit], index: usize) -> Option<u8> {
     match units.get(index) {
         Some(unit) => byte_of(*unit),
         None => None,
+    }
+}
+
+/// The offset in the file where the unit begins.
+pub(crate) fn start_of(unit: Unit) -> usize {
+    match unit {
+        Unit::Byte(_, offset) | Unit::Escape(_, offset) => offset,
+        Unit::Hole(hole) => hole.start,
+    }
+}
+
+/// The offset in the file of the first byte after the unit.
+pub(crate) fn end_of(unit: Unit) -> usize {
+    match unit {
+        Unit::Byte(_, offset) => offset.saturating_add(1),
+        Unit::Escape(_, offset) => offset.saturating_add(2),
+        Unit::Hole(hole) => hole.end,
     }
 }
 

@@ -32,7 +32,7 @@ pub(crate) fn host_of_autoconf(alloc: Global, file: &[u8]) -> Result<Host, Alloc
         let end = index.saturating_add(4);
         if is_one_of(file.get(index..end).unwrap_or(&[]), QUADRIGRAPHS) {
             resume = end;
-            units.push(Unit::Hole(index, end))?;
+            units.push(Unit::made(index, end))?;
         } else {
             units.push(Unit::Byte(*byte, index))?;
         }

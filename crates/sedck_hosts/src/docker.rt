@@ -1,13 +1,14 @@
 //! Dockerfiles: the commands of `RUN`, and those of `CMD`, `ENTRYPOINT` and `HEALTHCHECK`.
 
 use crate::docker_lines::{
-    Here, after_first, after_options, here_of, is_foreign, is_list, uncontinued,
+    Here, after_first, after_options, here_of, is_escape, is_foreign, uncontinued,
 };
+use crate::docker_lists::{is_list, sed_in_list};
 use crate::host::Host;
 use crate::kind::{Kind, interpreter_kind};
 use crate::parts::{
-    Part, after_any, after_blanks, between, bytes_of, is_ended, is_one_of, lines_of, push_newline,
-    push_part, split_word,
+    Part, after_any, after_blanks, between, bytes_of, is_ended, lines_of, push_newline, push_part,
+    split_word,
 };
 use sedck_traced::Unit;
 use std::alloc::{AllocError, Global};
@@ -29,10 +30,7 @@ struct Docker<'a> {
     is_foreign: bool,
 }
 
-/// Lines that change how lines are continued.
-static ESCAPES: &'static [&'static [u8]] = &[b"# escape=`", b"#escape=`"];
-
-/// The shell text of a Dockerfile; none where a directive changes how lines are continued.
+/// The shell text of a Dockerfile; none behind a directive that changes how lines are continued.
 pub(crate) fn host_of_docker(alloc: Global, file: &[u8]) -> Result<Host, AllocError> {
     let mut docker = Docker {
         alloc,
@@ -46,7 +44,10 @@ pub(crate) fn host_of_docker(alloc: Global, file: &[u8]) -> Result<Host, AllocEr
     };
     let lines = lines_of(alloc, file, false)?;
     for line in &lines {
-        if is_one_of(bytes_of(file, *line), ESCAPES) {
+        if is_escape(bytes_of(file, *line)) {
+            docker
+                .host
+                .note_unread(file, between(line.end, file.len()))?;
             return Ok(docker.host);
         }
         docker.read_line(*line)?;
@@ -164,9 +165,15 @@ impl Docker<'_> {
         self.add(&units)
     }
 
-    /// Adds a command that isn't a list of JSON's.
+    /// Adds a command. A list of JSON's isn't read, since no shell reads it.
     fn add(&mut self, command: &[Unit]) -> Result<(), AllocError> {
-        if self.is_foreign || is_list(command) {
+        if is_list(command) {
+            if let Some(offset) = sed_in_list(self.alloc, command)? {
+                self.host.unread.push(offset)?;
+            }
+            return Ok(());
+        }
+        if self.is_foreign {
             return Ok(());
         }
         let mut units = Vec::new(self.alloc);

@@ -40,21 +40,6 @@ pub(crate) fn after_options(units: &[Unit]) -> &[Unit] {
     rest
 }
 
-/// Whether the units are a list of JSON's, and no command of a shell.
-pub(crate) fn is_list(units: &[Unit]) -> bool {
-    let [Unit::Byte(b'[', _), inner @ ..] = units else {
-        return false;
-    };
-    for unit in inner {
-        match *unit {
-            Unit::Byte(b' ' | b'\t', _) => {}
-            Unit::Byte(b'"' | b']', _) => return true,
-            _ => return false,
-        }
-    }
-    true
-}
-
 /// Whether the words of `SHELL` name another shell than one of POSIX's.
 pub(crate) fn is_foreign(words: &[u8]) -> bool {
     let mut from = 0usize;
@@ -114,6 +99,21 @@ fn here_at(file: &[u8], whole: Part, is_first: bool) -> Option<Here> {
 fn after_quote(file: &[u8], offset: usize) -> usize {
     let is_quote = matches!(file.get(offset), Some(b'"' | b'\''));
     offset.saturating_add(usize::from(is_quote))
+}
+
+/// Whether the line is a directive that has a backquote continue lines.
+pub(crate) fn is_escape(line: &[u8]) -> bool {
+    let mut rest: &[u8] = b"#escape=`";
+    for byte in line {
+        if matches!(*byte, b' ' | b'\t') {
+            continue;
+        }
+        match rest {
+            [first, others @ ..] if byte.to_ascii_lowercase() == *first => rest = others,
+            _ => return false,
+        }
+    }
+    rest.is_empty()
 }
 
 /// The line without the backslash at its end that continues it, and whether there is one: blanks may follow it.

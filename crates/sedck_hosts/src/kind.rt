@@ -55,6 +55,13 @@ static IN_FOLDERS: &'static [(&'static [u8], &'static [Named])] = &[
     (b"DEBIAN", &[(b"config", Kind::Shell)]),
 ];
 
+/// The names of folders, with what names of files in them begin with.
+static PREFIXES: &'static [(&'static [u8], &'static [u8], Kind)] = &[(
+    b"po",
+    b"Rules-",
+    Kind::Make,
+)];
+
 /// Names of files, or what is behind the last dot of one. The scripts are those of Debian's packages but for one.
 static NAMES: &'static [Named] = &[
     (b"preinst", Kind::Shell),
@@ -65,6 +72,9 @@ static NAMES: &'static [Named] = &[
     (b"Makefile", Kind::Make),
     (b"makefile", Kind::Make),
     (b"GNUmakefile", Kind::Make),
+    (b"Kbuild", Kind::Make),
+    (b"Make-in", Kind::Make),
+    (b"Makevars", Kind::Make),
     (b"Dockerfile", Kind::Docker),
     (b"dockerfile", Kind::Docker),
     (b"Containerfile", Kind::Docker),
@@ -88,7 +98,24 @@ static SUFFIXES: &'static [Named] = &[
 ];
 
 /// What may be before a dot, whatever is behind it.
-static STEMS: &'static [Named] = &[(b"Makefile", Kind::Make), (b"Dockerfile", Kind::Docker)];
+static STEMS: &'static [Named] = &[
+    (b"Makefile", Kind::Make),
+    (b"makefile", Kind::Make),
+    (b"GNUmakefile", Kind::Make),
+    (b"Kbuild", Kind::Make),
+    (b"Makevars", Kind::Make),
+    (b"Rules", Kind::Make),
+    (b"Dockerfile", Kind::Docker),
+];
+
+/// What is behind the last dot of files in other languages, which no makefile has there: `Makefile.PL` is a script of Perl's.
+static OTHERS: &'static [&'static [u8]] = &[
+    b"PL", b"pl", b"pm", b"py", b"rb", b"js", b"ts", b"java", b"c", b"h", b"cc", b"cpp", b"hs",
+    b"html", b"xml", b"json", b"md",
+];
+
+/// What may be before `.m4` in a source of Autoconf, behind another dot.
+static BEFORE_M4: &'static [&'static [u8]] = &[b"ac", b"in", b"sh"];
 
 /// Names of programs. Shells are there also as they are named when a package is configured.
 static PROGRAMS: &'static [Named] = &[
@@ -96,6 +123,7 @@ static PROGRAMS: &'static [Named] = &[
     (b"bash", Kind::Shell),
     (b"dash", Kind::Shell),
     (b"ksh", Kind::Shell),
+    (b"ksh93", Kind::Shell),
     (b"mksh", Kind::Shell),
     (b"zsh", Kind::Shell),
     (b"ash", Kind::Shell),
@@ -105,31 +133,46 @@ static PROGRAMS: &'static [Named] = &[
     (b"@SH@", Kind::Shell),
     (b"make", Kind::Make),
     (b"gmake", Kind::Make),
+    (b"bmake", Kind::Make),
+];
+
+/// Names of shells that read `$'..'`.
+static DOLLAR_QUOTING: &'static [&'static [u8]] = &[
+    b"bash", b"@BASH@", b"ksh", b"ksh93", b"mksh", b"zsh",
 ];
 
 /// Names of programs that run the one that is named next.
 static RUNNERS: &'static [&'static [u8]] = &[b"env", b"busybox"];
 
-/// How many bytes are looked at for a NUL byte, which no text has.
-const LOOKED_AT: usize = 8000;
-
-/// The kind of a file with this path and these bytes, where it is known by its name or its first line.
+/// The kind of a file with this path and these bytes, where it is known by its name or its first line. A shell or make in the first line
+/// says more than the name of a script or a makefile.
 pub fn kind_of(path: &str, bytes: &[u8]) -> Option<Kind> {
-    let head = bytes.get(..LOOKED_AT).unwrap_or(bytes);
-    if head.contains(&0) {
-        return None;
-    }
     let (folders, name) = split_last(path.as_bytes(), b'/');
     let (_, folder) = split_last(folders, b'/');
-    match named_kind(folder, name) {
-        Some(Kind::Shell) if head.starts_with(b"#!") => interpreter_kind(head),
-        Some(kind) => Some(kind),
-        None => interpreter_kind(head),
+    match (named_kind(folder, name), interpreter_kind(bytes)) {
+        (Some(Kind::Shell), found) if bytes.starts_with(b"#!") => found,
+        (Some(Kind::Make), Some(found)) => Some(found),
+        (Some(kind), _) => Some(kind),
+        (None, found) => found,
     }
 }
 
+/// Whether the shell that runs a file with this path and these bytes reads `$'..'`: by its first line, or by its name where it has none
+/// with an interpreter. A plain `sh` needn't read it.
+pub fn reads_dollar_quotes(path: &str, bytes: &[u8]) -> bool {
+    if bytes.starts_with(b"#!") {
+        return match interpreter(bytes) {
+            Some(name) => is_one_of(name, DOLLAR_QUOTING),
+            None => false,
+        };
+    }
+    let path = path.as_bytes();
+    let path = path.strip_suffix(b".in").unwrap_or(path);
+    path.ends_with(b".bash") || path.ends_with(b".ksh")
+}
+
 /// What is before the last such byte, and what is behind it; nothing and all if there is none.
-fn split_last(bytes: &[u8], byte: u8) -> (&[u8], &[u8]) {
+pub(crate) fn split_last(bytes: &[u8], byte: u8) -> (&[u8], &[u8]) {
     let mut count = 0usize;
     for found in bytes.iter().rev() {
         if *found == byte {
@@ -161,6 +204,11 @@ fn kind_in_folder(folder: &[u8], name: &[u8]) -> Option<Kind> {
             return kind_in(files, name);
         }
     }
+    for (other, prefix, kind) in PREFIXES {
+        if *other == folder && name.starts_with(prefix) {
+            return Some(*kind);
+        }
+    }
     None
 }
 
@@ -181,18 +229,33 @@ fn named_kind(folder: &[u8], name: &[u8]) -> Option<Kind> {
     }
 }
 
-/// The kind by what is before the last dot of the name, and what is behind it. `Makefile.PL` is a script of Perl's.
+/// The kind by what is before the last dot of the name, and what is behind it. A text with macros of M4 may be of another language, as
+/// `a.html.m4`, but `a-2.0.m4` has a version in its name.
 fn dotted_kind(stem: &[u8], last: &[u8]) -> Option<Kind> {
     let (before, first) = split_last(stem, b'.');
+    let is_lettered = matches!(first.first(), Some(byte) if byte.is_ascii_alphabetic());
     match kind_in(STEMS, first) {
-        Some(Kind::Make) if matches!(last, b"PL") => None,
+        Some(Kind::Make) if is_one_of(last, OTHERS) => None,
         Some(kind) if before.is_empty() => Some(kind),
+        _
+            if matches!(last, b"m4")
+                && !before.is_empty()
+                && is_lettered
+                && !is_one_of(first, BEFORE_M4) => None,
         _ => kind_in(SUFFIXES, last),
     }
 }
 
 /// The kind by the first line, which names an interpreter behind `#!`.
 pub(crate) fn interpreter_kind(bytes: &[u8]) -> Option<Kind> {
+    match interpreter(bytes) {
+        Some(name) => program_kind(name),
+        None => None,
+    }
+}
+
+/// The name of the interpreter in the first line, without the path to it.
+fn interpreter(bytes: &[u8]) -> Option<&[u8]> {
     let [b'#', b'!', line @ ..] = bytes else {
         return None;
     };
@@ -209,7 +272,7 @@ pub(crate) fn interpreter_kind(bytes: &[u8]) -> Option<Kind> {
         let (_, name) = split_last(word, b'/');
         let is_passed = is_one_of(name, RUNNERS) || name.starts_with(b"-") || name.contains(&b'=');
         if !is_passed {
-            return program_kind(name);
+            return Some(name);
         }
         rest = next;
     }

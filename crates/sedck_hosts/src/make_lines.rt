@@ -1,6 +1,6 @@
 //! The parts of a makefile's lines.
 
-use crate::parts::{Part, after_blanks, between, bytes_of, has_byte, name_end};
+use crate::parts::{Part, after_any, after_blanks, between, bytes_of, has_byte, name_end};
 
 /// Words that begin a line which is neither a rule nor an assignment.
 pub(crate) static DIRECTIVES: &'static [&'static [u8]] = &[
@@ -15,6 +15,7 @@ pub(crate) static DIRECTIVES: &'static [&'static [u8]] = &[
     b"-include",
     b"sinclude",
     b"load",
+    b"-load",
     b"vpath",
     b"undefine",
     b"unexport",
@@ -24,8 +25,10 @@ pub(crate) static DIRECTIVES: &'static [&'static [u8]] = &[
 /// How an assignment sets its name.
 #[derive(Clone, Copy)]
 pub(crate) enum Operator {
-    /// To the value, as `=`, `:=`, `::=`, `:::=` and `?=` do.
+    /// To the value, as `=`, `:=`, `::=` and `:::=` do.
     Set,
+    /// `?=`: to the value, if nothing else sets it.
+    Conditional,
     /// `+=`.
     Append,
     /// `!=`: to what the shell writes.
@@ -47,10 +50,89 @@ static OPERATORS: &'static [(&'static [u8], Operator)] = &[
     (b":=", Operator::Set),
     (b"::=", Operator::Set),
     (b":::=", Operator::Set),
-    (b"?=", Operator::Set),
+    (b"?=", Operator::Conditional),
     (b"+=", Operator::Append),
     (b"!=", Operator::Shell),
 ];
+
+/// What a directive does to the lines behind it.
+#[derive(Clone, Copy)]
+pub(crate) enum Effect {
+    /// They count under a condition only.
+    Begin,
+    /// They count for each value of a name.
+    Loop,
+    /// Those behind it don't any more.
+    End,
+    /// Others count with them that aren't read.
+    Include,
+}
+
+/// Directives of GNU make, and those of Automake.
+static EFFECTS: &'static [(&'static [u8], Effect)] = &[
+    (b"ifeq", Effect::Begin),
+    (b"ifneq", Effect::Begin),
+    (b"ifdef", Effect::Begin),
+    (b"ifndef", Effect::Begin),
+    (b"if", Effect::Begin),
+    (b"endif", Effect::End),
+    (b"include", Effect::Include),
+    (b"-include", Effect::Include),
+    (b"sinclude", Effect::Include),
+    (b"load", Effect::Include),
+    (b"-load", Effect::Include),
+];
+
+/// Directives of BSD's make, without the dot.
+static DOTTED: &'static [(&'static [u8], Effect)] = &[
+    (b"if", Effect::Begin),
+    (b"ifdef", Effect::Begin),
+    (b"ifndef", Effect::Begin),
+    (b"ifmake", Effect::Begin),
+    (b"ifnmake", Effect::Begin),
+    (b"for", Effect::Loop),
+    (b"endif", Effect::End),
+    (b"endfor", Effect::End),
+    (b"include", Effect::Include),
+    (b"-include", Effect::Include),
+    (b"sinclude", Effect::Include),
+    (b"dinclude", Effect::Include),
+];
+
+/// What the line does to those behind it, if it is a directive.
+pub(crate) fn effect_of(file: &[u8], line: Part) -> Option<Effect> {
+    if !has_byte(file, line.start, b'.') {
+        let end = first_of(file, line, b" \t#");
+        return effect_in(EFFECTS, bytes_of(file, between(line.start, end)));
+    }
+    let dot = line.start.saturating_add(1);
+    let start = after_blanks(file, between(dot, line.end));
+    let name = after_any(file, between(start, line.end), b"-");
+    let end = name_end(file, between(name, line.end));
+    effect_in(DOTTED, bytes_of(file, between(start, end)))
+}
+
+/// The effect that the list has for the word.
+fn effect_in(list: &[(&'static [u8], Effect)], word: &[u8]) -> Option<Effect> {
+    for (other, effect) in list {
+        if *other == word {
+            return Some(*effect);
+        }
+    }
+    None
+}
+
+/// The name in whose place Autoconf puts an assignment to `MAKE`.
+const SET_MAKE: &[u8] = b"SET_MAKE";
+
+/// Whether the line begins with a name with `@` around it in whose place any lines may stand.
+pub(crate) fn begins_placeholder(file: &[u8], line: Part) -> bool {
+    let start = line.start.saturating_add(1);
+    let end = name_end(file, between(start, line.end));
+    has_byte(file, line.start, b'@')
+        && has_byte(file, end, b'@')
+        && bytes_of(file, between(start, end)) != SET_MAKE
+}
 
 /// The assignment that the part is, if it is one: a name, blanks, and an operator.
 pub(crate) fn definition_at(file: &[u8], whole: Part) -> Option<Definition> {

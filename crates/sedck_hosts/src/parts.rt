@@ -1,4 +1,4 @@
-//! Parts of a file, and its lines.
+//! Parts of a file, its lines, and where calls of sed seem to begin.
 
 use sedck_traced::Unit;
 use std::alloc::{AllocError, Global};
@@ -142,11 +142,77 @@ pub(crate) fn push_newline(
     Ok(())
 }
 
+/// How the name of sed is written where a call begins.
+static SEDS: &'static [&'static [u8]] = &[
+    b"sed",
+    b"gsed",
+    b"$(SED)",
+    b"${SED}",
+    b"$SED",
+    b"$${SED}",
+    b"$$SED",
+    b"$(GSED)",
+    b"${GSED}",
+    b"$GSED",
+    b"@SED@",
+    b"%{__sed}",
+    b"%__sed",
+];
+
+/// What may close a word behind the name of sed.
+pub(crate) const QUOTES: &[u8] = b"\"'";
+
+/// Where the first call of sed in the part seems to begin.
+pub(crate) fn mention_of_sed(file: &[u8], part: Part) -> Option<usize> {
+    for index in part.start..part.end {
+        if is_call_at(file, between(index, part.end), QUOTES) {
+            return Some(index);
+        }
+    }
+    None
+}
+
+/// Whether a call of sed seems to begin the part: its name, perhaps some of the closers, and blanks with more behind them.
+pub(crate) fn is_call_at(file: &[u8], part: Part, closers: &[u8]) -> bool {
+    let length = sed_length(bytes_of(file, part));
+    if length == 0 || follows_name(file, part.start) {
+        return false;
+    }
+    let behind = between(part.start.saturating_add(length), part.end);
+    let end = after_any(file, behind, closers);
+    let is_continued = bytes_of(file, between(end, part.end)).starts_with(b"\\\n");
+    let from = end.saturating_add(usize::from(is_continued));
+    let next = after_any(file, between(from, part.end), b" \t\r\n");
+    next > from && next < part.end
+}
+
+/// How long the name of sed is that begins the bytes; 0 if none does.
+fn sed_length(bytes: &[u8]) -> usize {
+    match bytes.first() {
+        Some(b's' | b'g' | b'$' | b'@' | b'%') => {}
+        _ => return 0,
+    }
+    for name in SEDS {
+        if bytes.starts_with(name) {
+            return name.len();
+        }
+    }
+    0
+}
+
+/// Whether the byte before the offset belongs to the same name, as in `used` and `a.sed`.
+fn follows_name(file: &[u8], offset: usize) -> bool {
+    match file.get(..offset) {
+        Some([.., byte]) => is_name_byte(*byte) || *byte == b'.',
+        _ => false,
+    }
+}
+
 /// The offset of the first byte after the unit.
 pub(crate) fn end_of(unit: Unit) -> usize {
     match unit {
         Unit::Byte(_, offset) => offset.saturating_add(1),
         Unit::Escape(_, offset) => offset.saturating_add(2),
-        Unit::Hole(_, end) => end,
+        Unit::Hole(hole) => hole.end,
     }
 }

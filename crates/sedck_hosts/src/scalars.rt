@@ -51,7 +51,7 @@ fn escaped_unit(file: &[u8], index: usize, next: usize) -> Unit {
         Some(byte) if matches!(*byte, b'\\' | b'"' | b'/') => Unit::Byte(*byte, next),
         Some(b'n') => Unit::Escape(b'\n', index),
         Some(b't') => Unit::Escape(b'\t', index),
-        _ => Unit::Hole(index, next.saturating_add(1)),
+        _ => Unit::made(index, next.saturating_add(1)),
     }
 }
 
@@ -60,7 +60,7 @@ fn line_unit(file: &[u8], part: Part) -> Unit {
     let end = template_end(file, part);
     match file.get(part.start) {
         Some(byte) if end <= part.start => Unit::Byte(*byte, part.start),
-        _ => Unit::Hole(part.start, end),
+        _ => Unit::made(part.start, end),
     }
 }
 

@@ -3,7 +3,8 @@
 use crate::host::Host;
 use crate::make_lines::reference_end;
 use crate::parts::{
-    Part, after_any, between, bytes_of, is_one_of, lines_of, name_end, push_newline, split_word,
+    Part, QUOTES, after_any, after_blanks, between, bytes_of, is_call_at, is_one_of, lines_of,
+    name_end, push_newline, split_word,
 };
 use sedck_traced::Unit;
 use std::alloc::{AllocError, Global};
@@ -19,15 +20,13 @@ struct Open {
     count: usize,
 }
 
-/// What a line is by the word that begins it.
+/// What a line that is no directive is by the word that begins it.
 #[derive(Clone, Copy)]
 enum Sort {
     /// It begins a section of shell text.
     Script,
     /// It begins another section.
     Section,
-    /// It is left out of a section's text.
-    Directive,
     Text,
 }
 
@@ -92,6 +91,9 @@ static DIRECTIVES: &'static [&'static [u8]] = &[
     b"%dnl",
 ];
 
+/// Those that give a macro its text.
+static DEFINITIONS: &'static [&'static [u8]] = &[b"%define", b"%global"];
+
 /// The state of reading a spec file.
 #[derive(Drop)]
 struct Spec<'a> {
@@ -102,8 +104,12 @@ struct Spec<'a> {
     units: Vec<Unit>,
     /// Whether the section is shell text.
     is_shell: bool,
+    /// Whether it is another section than that, so that calls of sed in its macros aren't noted.
+    is_other: bool,
     /// Whether the line is left out.
     is_left_out: bool,
+    /// Whether the last line that a directive began gives a macro its text.
+    is_definition: bool,
     /// Whether the next one is left out with it.
     is_continued: bool,
     open: Option<Open>,
@@ -119,7 +125,9 @@ pub(crate) fn host_of_spec(alloc: Global, file: &[u8]) -> Result<Host, AllocErro
         host: Host::new(alloc),
         units: Vec::new(alloc),
         is_shell: false,
+        is_other: false,
         is_left_out: false,
+        is_definition: false,
         is_continued: false,
         open: None,
         resume: 0,
@@ -128,26 +136,33 @@ pub(crate) fn host_of_spec(alloc: Global, file: &[u8]) -> Result<Host, AllocErro
     for line in &lines {
         spec.read_line(*line)?;
     }
-    spec.end_section()?;
+    spec.end_section(file.len())?;
     Ok(spec.host)
 }
 
 impl Spec<'_> {
-    /// Reads a line.
+    /// Reads a line. Blanks may stand before a directive.
     fn read_line(&mut self, line: Part) -> Result<(), AllocError> {
         let (word, rest) = split_word(self.file, line);
+        let start = after_blanks(self.file, line);
+        let (directive, _) = split_word(self.file, between(start, line.end));
+        if is_one_of(directive, DIRECTIVES) {
+            self.is_definition = is_one_of(directive, DEFINITIONS);
+            return self.read_text(line, true);
+        }
         match sort_of(word) {
-            Sort::Script => {
-                self.is_shell = has_shell(self.file, rest);
-                self.end_section()
-            }
-            Sort::Section => {
-                self.is_shell = false;
-                self.end_section()
-            }
-            Sort::Directive => self.read_text(line, true),
+            Sort::Script => self.begin_section(line, has_shell(self.file, rest)),
+            Sort::Section => self.begin_section(line, false),
             Sort::Text => self.read_text(line, self.is_continued),
         }
+    }
+
+    /// Begins a section with this line.
+    fn begin_section(&mut self, line: Part, is_shell: bool) -> Result<(), AllocError> {
+        self.end_section(line.start)?;
+        self.is_shell = is_shell;
+        self.is_other = !is_shell;
+        Ok(())
     }
 
     /// Reads a line of a section.
@@ -168,13 +183,26 @@ impl Spec<'_> {
         Ok(())
     }
 
-    /// Ends the section, and what is open in it.
-    fn end_section(&mut self) -> Result<(), AllocError> {
+    /// Ends the section at this offset, and what is open in it.
+    fn end_section(&mut self, end: usize) -> Result<(), AllocError> {
         let units = std::mem::replace(&mut self.units, Vec::new(self.alloc));
         self.host.add(units)?;
+        if let Some(open) = self.open {
+            self.note_macro(open, end)?;
+        }
         self.is_continued = false;
         self.open = None;
         Ok(())
+    }
+
+    /// Notes a call of sed in a macro with brackets that ends before this offset.
+    fn note_macro(&mut self, open: Open, end: usize) -> Result<(), AllocError> {
+        let is_definition = self.is_left_out && self.is_definition;
+        if self.is_other && !is_definition {
+            return Ok(());
+        }
+        let inner = between(open.start.saturating_add(2), end);
+        self.host.note_unread(self.file, inner)
     }
 
     /// Whether what is read is shell text: outside of macros in a section of it.
@@ -195,6 +223,7 @@ impl Spec<'_> {
         if let Some(open) = self.open {
             return self.read_in_macro(open, index, byte);
         }
+        self.note_defined(between(index, end))?;
         if byte != b'%' {
             return self.add(Unit::Byte(byte, index));
         }
@@ -225,9 +254,18 @@ impl Spec<'_> {
                     return self.add(Unit::Byte(b'%', index));
                 }
                 self.resume = after;
-                self.add(Unit::Hole(index, after))
+                self.add(Unit::made(index, after))
             }
         }
+    }
+
+    /// Notes a call of sed that begins this part of a line in the text of a macro, which isn't read.
+    fn note_defined(&mut self, rest: Part) -> Result<(), AllocError> {
+        let is_definition = self.is_left_out && self.is_definition;
+        if is_definition && is_call_at(self.file, rest, QUOTES) {
+            self.host.unread.push(rest.start)?;
+        }
+        Ok(())
     }
 
     /// Reads a byte of a macro with brackets, which may close it. What is in `%(..)` is read by the shell when it is replaced.
@@ -236,10 +274,11 @@ impl Spec<'_> {
         if byte == open.closer && count == 0 {
             self.open = None;
             if byte == b')' {
-                let inner = between(open.start.saturating_add(2), index);
-                self.host.add(command_units(self.alloc, self.file, inner)?)?;
+                self.add_command(between(open.start.saturating_add(2), index))?;
+            } else {
+                self.note_macro(open, index)?;
             }
-            return self.add(Unit::Hole(open.start, index.saturating_add(1)));
+            return self.add(Unit::made(open.start, index.saturating_add(1)));
         }
         if byte == open.opener {
             count = count.saturating_add(1);
@@ -248,6 +287,18 @@ impl Spec<'_> {
         }
         self.open = Some(Open { count, ..open });
         Ok(())
+    }
+
+    /// Adds what is in `%(..)`; calls of sed in macros there aren't read.
+    fn add_command(&mut self, inner: Part) -> Result<(), AllocError> {
+        let units = command_units(self.alloc, self.file, inner)?;
+        for unit in &units {
+            if let Unit::Hole(hole) = *unit {
+                let within = between(hole.start.saturating_add(2), hole.end);
+                self.host.note_unread(self.file, within)?;
+            }
+        }
+        self.host.add(units)
     }
 }
 
@@ -267,11 +318,11 @@ fn command_units(alloc: Global, file: &[u8], whole: Part) -> Result<Vec<Unit>, A
             }
             [b'%', b'{' | b'(', ..] => {
                 resume = reference_end(file, index, whole.end);
-                units.push(Unit::Hole(index, resume))?;
+                units.push(Unit::made(index, resume))?;
             }
             [b'%', ..] if macro_end(file, between(next, whole.end)) > index => {
                 resume = macro_end(file, between(next, whole.end));
-                units.push(Unit::Hole(index, resume))?;
+                units.push(Unit::made(index, resume))?;
             }
             [byte, ..] => units.push(Unit::Byte(*byte, index))?,
             [] => {}
@@ -292,14 +343,12 @@ fn macro_end(file: &[u8], whole: Part) -> usize {
     end
 }
 
-/// What a line is by the word that begins it.
+/// What a line that is no directive is by the word that begins it.
 fn sort_of(word: &[u8]) -> Sort {
     if is_one_of(word, SCRIPTS) {
         Sort::Script
     } else if is_one_of(word, SECTIONS) {
         Sort::Section
-    } else if is_one_of(word, DIRECTIVES) {
-        Sort::Directive
     } else {
         Sort::Text
     }

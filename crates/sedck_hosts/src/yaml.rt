@@ -1,5 +1,6 @@
 //! Files of continuous integration: the shell text of the keys that have it.
 
+use crate::anchors::Anchors;
 use crate::blocks::{block_at, header};
 use crate::host::Host;
 use crate::parts::{
@@ -61,6 +62,7 @@ struct Yaml<'a> {
     lines: Vec<Part>,
     host: Host,
     list: Option<List>,
+    anchors: Anchors,
     /// The indentation of the keys of a step whose `shell:` is no shell of POSIX's.
     foreign: Option<usize>,
     /// The number of the line with which reading goes on.
@@ -77,6 +79,7 @@ pub(crate) fn host_of_yaml(alloc: Global, file: &[u8]) -> Result<Host, AllocErro
         lines,
         host: Host::new(alloc),
         list: None,
+        anchors: Anchors::new(alloc, file.len()),
         foreign: None,
         resume: 0,
     };
@@ -99,11 +102,25 @@ impl Yaml<'_> {
             return Ok(());
         }
         let line = after_dashes(self.file, number, whole);
-        if self.is_item(line) {
-            let dash = line.dash.unwrap_or(0);
-            if key_end(self.file, line.text).is_none() {
-                return self.read_value(line, dash, line.text);
+        let list = self.list;
+        let is_item = self.is_item(line);
+        if key_end(self.file, line.text).is_none() {
+            if is_item {
+                return self.read_value(line, line.dash.unwrap_or(0), line.text);
             }
+            if let Some(list) = list {
+                return self.read_within(line, list);
+            }
+        }
+        self.read_key(line)
+    }
+
+    /// Reads a line without a key behind a key with shell text, which isn't an item of its sequence: the value itself, or a part of an
+    /// item.
+    fn read_within(&mut self, line: Line, list: List) -> Result<(), AllocError> {
+        let outer = list.items.unwrap_or(list.key);
+        if line.indentation > outer {
+            return self.read_value(line, line.dash.unwrap_or(outer), line.text);
         }
         self.read_key(line)
     }
@@ -131,9 +148,9 @@ impl Yaml<'_> {
     /// Reads a line with a key.
     fn read_key(&mut self, line: Line) -> Result<(), AllocError> {
         let Some(end) = key_end(self.file, line.text) else {
-            return Ok(());
+            return self.note_mapping(line);
         };
-        let key = bytes_of(self.file, between(line.text.start, end));
+        let key = unquoted(bytes_of(self.file, between(line.text.start, end)));
         let after = between(end.saturating_add(1), line.text.end);
         let value = between(after_blanks(self.file, after), after.end);
         self.end_step(line);
@@ -147,10 +164,24 @@ impl Yaml<'_> {
             });
             return self.read_value(line, line.column, value);
         }
+        if has_byte(self.file, value.start, b'&') {
+            let (number, column) = (line.number, line.column);
+            self.anchors
+                .note(self.alloc, self.file, value, number, column)?;
+        }
+        let value = after_anchor(self.file, value);
         match self.file.get(value.start) {
             Some(b'|' | b'>') => self.read_block(line, line.column, value, 0),
             _ => Ok(()),
         }
+    }
+
+    /// Notes a call of sed in a mapping in brackets that begins the line, as `- {run: sed p}`.
+    fn note_mapping(&mut self, line: Line) -> Result<(), AllocError> {
+        if has_byte(self.file, line.text.start, b'{') {
+            return self.host.note_unread(self.file, line.text);
+        }
+        Ok(())
     }
 
     /// Forgets the `shell:` of a step that the line ends.
@@ -163,16 +194,14 @@ impl Yaml<'_> {
     }
 
     /// Reads a value of shell text, in a node with this indentation; an anchor may stand before it. Nothing is there before a sequence.
-    /// A folded block is a text only if it has one line, since newlines become spaces in it.
+    /// A folded block is a text only if it has one line, since newlines become spaces in it. The node of an alias isn't read.
     fn read_value(&mut self, line: Line, parent: usize, value: Part) -> Result<(), AllocError> {
-        let value = if has_byte(self.file, value.start, b'&') {
-            let (_, rest) = split_word(self.file, value);
-            rest
-        } else {
-            value
-        };
+        let value = after_anchor(self.file, value);
         if is_ended(self.file, value) {
             return Ok(());
+        }
+        if has_byte(self.file, value.start, b'*') {
+            self.note_alias(value)?;
         }
         match self.file.get(value.start) {
             Some(b'|') => self.read_block(line, parent, value, usize::MAX),
@@ -180,15 +209,55 @@ impl Yaml<'_> {
             Some(quote) if matches!(*quote, b'\'' | b'"') => {
                 match quoted_units(self.alloc, self.file, value, *quote)? {
                     Some(units) => self.host.add(units),
-                    None => Ok(()),
+                    None => self.pass_value(line, parent, value),
                 }
             }
-            Some(b'[' | b'{' | b'*' | b'!' | b'%' | b'@' | b'`') => Ok(()),
+            Some(b'[' | b'{' | b'*' | b'!' | b'%' | b'@' | b'`') => {
+                self.pass_value(line, parent, value)
+            }
             _ => self.read_plain(line, parent, value),
         }
     }
 
-    /// Reads a block scalar, which is a text if no more of its lines have text.
+    /// Notes a call of sed in the node of the alias that begins the value.
+    fn note_alias(&mut self, value: Part) -> Result<(), AllocError> {
+        let Some(node) = self.anchors.take(self.file, &self.lines, value) else {
+            return Ok(());
+        };
+        if self.anchors.is_spent() {
+            self.host.unread.push(node.start)?;
+            return Ok(());
+        }
+        self.host.note_unread(self.file, node)
+    }
+
+    /// Passes a value that isn't read, with the lines that belong to it, and notes a call of sed in it.
+    fn pass_value(&mut self, line: Line, parent: usize, value: Part) -> Result<(), AllocError> {
+        self.resume = self.lines.len();
+        for number in line.number.saturating_add(1)..self.lines.len() {
+            match self.lines.get(number) {
+                Some(next) if is_node(self.file, *next, parent) => {
+                    self.resume = number;
+                    break;
+                }
+                _ => {}
+            }
+        }
+        self.note_lines(value.start)
+    }
+
+    /// Notes a call of sed between this offset and the line with which reading goes on.
+    fn note_lines(&mut self, start: usize) -> Result<(), AllocError> {
+        match self.lines.get(self.resume.saturating_sub(1)) {
+            Some(last) => {
+                let part = between(start, last.end);
+                self.host.note_unread(self.file, part)
+            }
+            None => Ok(()),
+        }
+    }
+
+    /// Reads a block scalar, which is a text if no more of its lines have text; with none it is no shell text at all.
     fn read_block(
         &mut self,
         line: Line,
@@ -198,30 +267,34 @@ impl Yaml<'_> {
     ) -> Result<(), AllocError> {
         let rest = between(value.start.saturating_add(1), value.end);
         let Some(given) = header(self.file, rest) else {
-            return Ok(());
+            return if most > 0 {
+                self.pass_value(line, parent, value)
+            } else {
+                Ok(())
+            };
         };
         let from = line.number.saturating_add(1);
         let block = block_at(self.alloc, self.file, &self.lines, from, parent, given)?;
         self.resume = block.next;
-        if block.count > most {
-            return Ok(());
+        if block.count <= most {
+            return self.host.add(block.units);
         }
-        self.host.add(block.units)
+        if most > 0 {
+            return self.note_lines(value.start);
+        }
+        Ok(())
     }
 
     /// Reads a plain scalar, unless it goes on on the next line.
     fn read_plain(&mut self, line: Line, parent: usize, value: Part) -> Result<(), AllocError> {
         let Some(scalar) = plain_scalar(self.file, value) else {
-            return Ok(());
+            return self.pass_value(line, parent, value);
         };
         for number in line.number.saturating_add(1)..self.lines.len() {
             match self.lines.get(number) {
+                Some(next) if is_node(self.file, *next, parent) => break,
                 Some(next) if !is_ended(self.file, *next) => {
-                    let start = after_any(self.file, *next, b" ");
-                    if start.saturating_sub(next.start) > parent {
-                        return Ok(());
-                    }
-                    break;
+                    return self.pass_value(line, parent, value);
                 }
                 _ => {}
             }
@@ -230,6 +303,12 @@ impl Yaml<'_> {
         push_line(&mut units, self.file, scalar)?;
         self.host.add(units)
     }
+}
+
+/// Whether the line begins another node than one with this indentation: it isn't blank, and isn't indented more.
+fn is_node(file: &[u8], line: Part, parent: usize) -> bool {
+    let start = after_any(file, line, b" ");
+    start.saturating_sub(line.start) <= parent && !is_ended(file, line)
 }
 
 /// The line without the dashes of sequences that begin it.
@@ -258,7 +337,7 @@ fn after_dashes(file: &[u8], number: usize, whole: Part) -> Line {
 fn key_end(file: &[u8], part: Part) -> Option<usize> {
     for index in part.start..part.end {
         match file.get(index) {
-            Some(byte) if is_name_byte(*byte) || matches!(*byte, b'-' | b'.') => {}
+            Some(byte) if is_name_byte(*byte) || matches!(*byte, b'-' | b'.' | b'"' | b'\'') => {}
             Some(b':') if index > part.start => {
                 let next = index.saturating_add(1);
                 let is_key = next >= part.end || matches!(file.get(next), Some(b' ' | b'\t'));
@@ -268,6 +347,24 @@ fn key_end(file: &[u8], part: Part) -> Option<usize> {
         }
     }
     None
+}
+
+/// The key without quotes around it.
+fn unquoted(key: &[u8]) -> &[u8] {
+    match key {
+        [b'"', inner @ .., b'"'] => inner,
+        [b'\'', inner @ .., b'\''] => inner,
+        _ => key,
+    }
+}
+
+/// The value without the anchor that begins it.
+fn after_anchor(file: &[u8], value: Part) -> Part {
+    if !has_byte(file, value.start, b'&') {
+        return value;
+    }
+    let (_, rest) = split_word(file, value);
+    rest
 }
 
 /// Whether a `shell:` with this value is no shell of POSIX's.

@@ -100,6 +100,8 @@ pub enum Code {
     Unknowable,
     /// The value of a variable is known: the file sets it, or it was given with the call of this program.
     KnownValue,
+    /// A part of a file can't be read, so that calls of sed in it are missed.
+    NotUnderstood,
 
     // Notes.
     NoBound,
@@ -181,6 +183,7 @@ impl Code {
             Code::OpenHole => "open-hole",
             Code::Unknowable => "unknowable",
             Code::KnownValue => "known-value",
+            Code::NotUnderstood => "not-understood",
             Code::NoBound => "no-bound",
         }
     }

@@ -16,6 +16,8 @@ pub(crate) struct Pending {
     /// Whether tabs at the beginnings of lines are left out.
     pub is_stripped: bool,
     pub number: usize,
+    /// The offset in the file of the delimiter.
+    pub start: usize,
 }
 
 impl Reader<'_> {
@@ -30,10 +32,7 @@ impl Reader<'_> {
         for unit in &word.units {
             match byte_of(*unit) {
                 Some(byte) => delimiter.push(byte)?,
-                None => {
-                    self.output.unread = self.output.unread.saturating_add(1);
-                    return Ok(());
-                }
+                None => return Ok(self.output.unread.push(word.start)?),
             }
         }
         let number = self.output.bodies.len();
@@ -46,6 +45,7 @@ impl Reader<'_> {
             is_quoted: word.is_quoted,
             is_stripped,
             number,
+            start: word.start,
         })?;
         Ok(())
     }
@@ -59,7 +59,7 @@ impl Reader<'_> {
                 break;
             }
             let Some(end) = body_end(self.text, from, one) else {
-                self.output.miss();
+                self.output.miss(one.start)?;
                 break;
             };
             let units = lines_of(self.alloc, self.text, from, end.body, one.is_stripped)?;

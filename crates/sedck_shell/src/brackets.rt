@@ -38,7 +38,7 @@ impl Reader<'_> {
     fn leave_quote(&mut self) {
         if matches!(
             self.top.quote,
-            Quote::Single | Quote::Double | Quote::Dollar
+            Quote::Single | Quote::Double | Quote::Dollar | Quote::Either
         ) {
             self.drop_command();
         }

@@ -11,18 +11,39 @@ pub struct ShellWord {
     pub start: usize,
     /// Whether a part of it is quoted.
     pub is_quoted: bool,
-    /// Whether a hole of it is outside of double quotes, so that the shell may make several words of it, or none.
-    pub is_split: bool,
+    pub pattern: Pattern,
+}
+
+/// Whether a word is a pattern, in whose place the names of files come that match it (XCU 2.6.6).
+#[derive(Clone, Copy, Debug, PartialEq, Eq)]
+pub enum Pattern {
+    /// It isn't.
+    None,
+    /// It begins with other bytes, which the names have too.
+    Inside,
+    /// It begins with `*`, `?` or `[`.
+    First,
 }
 
 /// A simple command (XCU 2.9.1): assignments, if there are any, the name, and the other words. Redirections aren't words.
 #[derive(Drop)]
 pub struct ShellCommand {
     pub words: Vec<ShellWord>,
+    pub site: Site,
     /// The here-document that is its standard input, if there is one.
     pub here: Option<Vec<Unit>>,
     /// The file to which its standard output goes, if it is redirected.
     pub target: Option<ShellWord>,
+}
+
+/// Where in its text a command is.
+#[derive(Clone, Copy, Debug, PartialEq, Eq)]
+pub struct Site {
+    /// The number of the function whose body has it; 0 where it is in none. The text's functions have numbers from 1 on.
+    pub body: usize,
+    /// Whether each run of the text, or of the function, comes to it in its own shell: it isn't in a condition, a loop, a pipe, a
+    /// subshell or a group, nor behind `&&` or `||`, and doesn't run beside others.
+    pub is_certain: bool,
 }
 
 /// What was read of a text.
@@ -30,8 +51,10 @@ pub struct ShellCommand {
 pub struct ShellText {
     /// The commands, in no order.
     pub commands: Vec<ShellCommand>,
-    /// How often something wasn't understood, and reading went on at a next line.
-    pub unread: usize,
+    /// The names of the functions.
+    pub functions: Vec<ShellWord>,
+    /// The offsets in the file of what wasn't understood, in no order. Reading goes on at a next line.
+    pub unread: Vec<usize>,
 }
 
 impl ShellWord {
@@ -41,7 +64,7 @@ impl ShellWord {
             units: Vec::new(alloc),
             start: 0,
             is_quoted: false,
-            is_split: false,
+            pattern: Pattern::None,
         }
     }
 }

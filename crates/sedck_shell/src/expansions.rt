@@ -3,7 +3,7 @@
 use crate::frame::{Enclosure, Quote};
 use crate::reader::{Job, MISSES, Reader};
 use crate::units::{begins_name, byte_at, byte_of, end_at, end_of, name_end, start_of};
-use sedck_traced::{Text, Unit};
+use sedck_traced::{Text, Unit, Way};
 use std::alloc::{AllocError, Global};
 
 /// How many units are looked at in all for the ends of expressions, so that the time stays linear.
@@ -18,7 +18,7 @@ impl Reader<'_> {
             Some(b'(') => self.open_substitution(index, after),
             Some(b'{') => self.open_parameter(index, after),
             Some(b'\'') if self.top.quote == Quote::None => {
-                self.open_quote(index, unit, Quote::Dollar);
+                self.open_dollar_quote(index, unit);
                 self.resume = after;
                 Ok(())
             }
@@ -26,13 +26,23 @@ impl Reader<'_> {
             Some(byte) if begins_name(byte) => {
                 let end = name_end(self.text, next);
                 self.resume = end;
-                self.add_hole(start_of(unit), end_at(self.text, end.saturating_sub(1)))
+                let last = end.saturating_sub(1);
+                self.add_hole(start_of(unit), end_at(self.text, last), self.way())
             }
-            Some(b'0'..=b'9' | b'@' | b'*' | b'#' | b'?' | b'-' | b'$' | b'!') => {
+            Some(byte) if byte.is_ascii_digit() || b"@*#?-$!".contains(&byte) => {
                 self.resume = after;
-                self.add_hole(start_of(unit), end_at(self.text, next))
+                let way = self.parameters_way(byte);
+                self.add_hole(start_of(unit), end_at(self.text, next), way)
             }
             _ => self.add(unit),
+        }
+    }
+
+    /// How a special parameter becomes a part of a word: `@` is as many words as there are, and so is `*` outside of quotes (XCU 2.5.2).
+    fn parameters_way(&self, name: u8) -> Way {
+        match (name, self.way()) {
+            (b'@', _) | (b'*', Way::Bare) => Way::Several,
+            (_, way) => way,
         }
     }
 
@@ -46,7 +56,7 @@ impl Reader<'_> {
             BackquoteEnd::At(end) => end,
             BackquoteEnd::Bracket => return self.add(unit),
             BackquoteEnd::Nowhere => {
-                self.output.miss();
+                self.output.miss(start_of(unit))?;
                 return self.add(unit);
             }
         };
@@ -58,7 +68,7 @@ impl Reader<'_> {
             body: None,
         })?;
         self.resume = end.saturating_add(1);
-        self.add_hole(start_of(unit), end_at(self.text, end))
+        self.add_hole(start_of(unit), end_at(self.text, end), self.way())
     }
 
     /// Opens `$((` or `$(`.
@@ -81,7 +91,17 @@ impl Reader<'_> {
         if let Some(b'#' | b'%' | b'/' | b'^' | b',') = byte_at(self.text, end) {
             self.top.is_in_double = false;
         }
+        self.top.is_several = self.begins_several(from, end);
         Ok(())
+    }
+
+    /// Whether what begins behind `${`, with a name that ends at the second index, may be several words: `@`, `*`, `!name@` and
+    /// `name[@]`, also where they are quoted.
+    fn begins_several(&self, from: usize, end: usize) -> bool {
+        let next = end.saturating_add(1);
+        let is_array = byte_at(self.text, end) == Some(b'[') && is_all(byte_at(self.text, next));
+        let is_names = byte_at(self.text, from) == Some(b'!') && is_all(byte_at(self.text, end));
+        is_all(byte_at(self.text, from)) || is_array || is_names
     }
 
     /// Reads a unit between `${` and `}`.
@@ -153,8 +173,20 @@ impl Reader<'_> {
                 _ => {}
             }
         }
+        if self.output.looked >= LOOKAHEAD && !self.output.has_looked {
+            self.output.has_looked = true;
+            let _ = self
+                .output
+                .unread
+                .push(end_at(self.text, from.saturating_sub(1)));
+        }
         end < self.text.len()
     }
+}
+
+/// Whether it is the sign for all parameters, or all elements of an array.
+fn is_all(byte: Option<u8>) -> bool {
+    matches!(byte, Some(b'@' | b'*'))
 }
 
 /// Where a command between backquotes ends.

@@ -1,6 +1,6 @@
 //! What encloses a byte of shell text.
 
-use crate::command::ShellWord;
+use crate::command::{ShellWord, Site};
 use std::alloc::Global;
 
 /// The quoting of a byte (XCU 2.2).
@@ -11,6 +11,8 @@ pub(crate) enum Quote {
     Double,
     /// Between `$'` and `'`.
     Dollar,
+    /// The same, where the shell may not know such quotes.
+    Either,
     /// It is in a comment.
     Comment,
     /// It is in a here-document whose delimiter isn't quoted.
@@ -65,6 +67,7 @@ pub(crate) enum Awaited {
 #[derive(Drop)]
 pub(crate) struct Draft {
     pub words: Vec<ShellWord>,
+    pub site: Site,
     /// The number of the here-document that is its input.
     pub here: Option<usize>,
     pub target: Option<ShellWord>,
@@ -86,6 +89,8 @@ pub(crate) struct Frame {
     pub brackets: usize,
     pub floor: usize,
     pub quote: Quote,
+    /// The offset in the file of the last `$'`.
+    pub quoted_from: usize,
     pub command: Draft,
     pub word: ShellWord,
     pub has_word: bool,
@@ -98,12 +103,60 @@ pub(crate) struct Frame {
     pub is_test: bool,
     /// How many parentheses of an arithmetic expression or of a pattern are open.
     pub parentheses: usize,
+    /// Whether what is between `${` and `}` may be several words.
+    pub is_several: bool,
+    /// Whether it is `<( )` or `>( )`, in whose place one path comes.
+    pub is_process: bool,
+    pub braces: Braces,
+    pub flow: Flow,
+}
+
+/// Braces in a word that some shells expand: `{a,b}` and `{1..9}`.
+#[derive(Clone, Copy)]
+pub(crate) struct Braces {
+    /// The number of the unit with the first brace.
+    pub from: Option<usize>,
+    /// Whether a comma or two dots stand behind it.
+    pub has_list: bool,
+    /// The number of the unit with the last brace behind those.
+    pub to: Option<usize>,
+}
+
+impl Braces {
+    pub const NONE: Braces = Braces {
+        from: None,
+        has_list: false,
+        to: None,
+    };
+}
+
+/// Where the next command is in the text.
+#[derive(Drop)]
+pub(crate) struct Flow {
+    /// The number of the function whose body is read; 0 if none is.
+    pub body: usize,
+    /// How many conditions, loops and groups are open in it.
+    pub depth: usize,
+    /// The functions around it, each with how much was open in it.
+    pub outer: Vec<(usize, usize)>,
+    /// Whether the body of a function comes next.
+    pub begins_function: bool,
+    /// Whether it depends on a command before it, or is in a pipe.
+    pub is_conditional: bool,
+    /// Whether an operator precedes it, behind which a newline doesn't count.
+    pub is_awaited: bool,
+    /// How many commands had been read when the list began that has it.
+    pub list: usize,
 }
 
 impl Draft {
     pub fn new(alloc: Global) -> Draft {
         Draft {
             words: Vec::new(alloc),
+            site: Site {
+                body: 0,
+                is_certain: false,
+            },
             here: None,
             target: None,
         }
@@ -122,6 +175,7 @@ impl Frame {
             brackets: 0,
             floor: 0,
             quote,
+            quoted_from: 0,
             command: Draft::new(alloc),
             word: ShellWord::new(alloc),
             has_word: false,
@@ -130,6 +184,18 @@ impl Frame {
             is_pattern: false,
             is_test: false,
             parentheses: 0,
+            is_several: false,
+            is_process: false,
+            braces: Braces::NONE,
+            flow: Flow {
+                body: 0,
+                depth: 0,
+                outer: Vec::new(alloc),
+                begins_function: false,
+                is_conditional: false,
+                is_awaited: false,
+                list: 0,
+            },
         }
     }
 

@@ -8,6 +8,7 @@ mod bodies;
 mod brackets;
 mod command;
 mod expansions;
+mod flow;
 mod frame;
 mod operators;
 mod output;
@@ -16,6 +17,6 @@ mod reader;
 mod units;
 mod words;
 
-pub use command::{ShellCommand, ShellText, ShellWord};
+pub use command::{Pattern, ShellCommand, ShellText, ShellWord, Site};
 pub use output::read_shell;
-pub use reader::Dialect;
+pub use reader::{Dialect, Form};

@@ -2,7 +2,7 @@
 
 use crate::frame::{Awaited, Enclosure};
 use crate::reader::{Dialect, Reader};
-use crate::units::{byte_at, byte_of, end_of, is_text, name_length};
+use crate::units::{byte_at, byte_of, end_of, is_text, name_length, start_of};
 use crate::words::begins_with;
 use sedck_traced::Unit;
 use std::alloc::AllocError;
@@ -16,7 +16,7 @@ impl Reader<'_> {
         match byte {
             b';' => self.read_semicolon(index),
             b'&' => self.read_ampersand(index),
-            b'|' => self.end_command(),
+            b'|' => self.read_bar(index),
             b'(' => self.open_parenthesis(index),
             b')' => self.close_parenthesis(unit),
             _ => self.read_redirection(index, byte),
@@ -35,9 +35,20 @@ impl Reader<'_> {
         Ok(())
     }
 
+    /// Reads `|`, `||`, or `|&` of some shells.
+    fn read_bar(&mut self, index: usize) -> Result<(), AllocError> {
+        let next = index.saturating_add(1);
+        let second = byte_at(self.text, next);
+        if let Some(b'|' | b'&') = second {
+            self.resume = next.saturating_add(1);
+        }
+        self.join_commands(second != Some(b'|'))
+    }
+
     /// Reads `;`, or `;;` and `;&`, behind which a pattern follows.
     fn read_semicolon(&mut self, index: usize) -> Result<(), AllocError> {
         self.end_command()?;
+        self.end_list();
         let next = index.saturating_add(1);
         if let Some(b';' | b'&') = byte_at(self.text, next) {
             self.resume = next.saturating_add(1);
@@ -49,8 +60,17 @@ impl Reader<'_> {
     /// Reads `&`, `&&`, or `&>` of some shells.
     fn read_ampersand(&mut self, index: usize) -> Result<(), AllocError> {
         let next = index.saturating_add(1);
-        if byte_at(self.text, next) != Some(b'>') {
-            return self.end_command();
+        match byte_at(self.text, next) {
+            Some(b'>') => {}
+            Some(b'&') => {
+                self.resume = next.saturating_add(1);
+                return self.join_commands(false);
+            }
+            _ => {
+                self.end_command()?;
+                self.end_beside();
+                return Ok(());
+            }
         }
         self.end_word()?;
         self.top.awaited = Awaited::Target;
@@ -76,8 +96,9 @@ impl Reader<'_> {
         self.end_word()?;
         if let Some(end) = self.empty_end(next) {
             self.resume = end;
+            let name = self.top.command.words.pop();
             self.top.command.words.clear();
-            return Ok(());
+            return self.begin_function(name);
         }
         let inner = next.saturating_add(1);
         if byte_at(self.text, next) == Some(b'(')
@@ -92,7 +113,7 @@ impl Reader<'_> {
     /// Whether `((` begins an expression where a command may begin, and behind `for`.
     fn begins_expression(&self) -> bool {
         let words = &self.top.command.words;
-        self.dialect != Dialect::Macros
+        self.form.dialect != Dialect::Macros
             && (words.is_empty() || (words.len() == 1 && begins_with(words, b"for")))
     }
 
@@ -128,8 +149,12 @@ impl Reader<'_> {
         self.end_word()?;
         if self.top.is_pattern {
             self.end_command()?;
+            self.end_list();
             self.top.is_pattern = false;
             return Ok(());
+        }
+        if self.frames.is_empty() && self.form.dialect != Dialect::Macros {
+            self.output.unread.push(start_of(unit))?;
         }
         self.close(end_of(unit))
     }
@@ -139,9 +164,15 @@ impl Reader<'_> {
         let next = index.saturating_add(1);
         let second = byte_at(self.text, next);
         if second == Some(b'(') {
-            return self.open(index, next.saturating_add(1), Enclosure::Substitution, true);
+            self.open(index, next.saturating_add(1), Enclosure::Substitution, true)?;
+            self.top.is_process = true;
+            return Ok(());
         }
-        let is_standard = self.end_descriptor()?;
+        let descriptor = self.end_descriptor()?;
+        let is_standard = descriptor != Descriptor::Other;
+        if descriptor == Descriptor::Input || (byte == b'<' && descriptor == Descriptor::None) {
+            self.top.command.here = None;
+        }
         let third = byte_at(self.text, next.saturating_add(1));
         let (awaited, length) = redirection(byte, second, third);
         self.resume = index.saturating_add(length);
@@ -156,18 +187,35 @@ impl Reader<'_> {
         Ok(())
     }
 
-    /// Ends the word before an operator, and takes it away if it is a descriptor: whether it isn't another one than 0 or 1.
-    fn end_descriptor(&mut self) -> Result<bool, AllocError> {
+    /// Ends the word before an operator, and takes it away if it is a descriptor.
+    fn end_descriptor(&mut self) -> Result<Descriptor, AllocError> {
         if !self.top.has_word || self.top.word.is_quoted || !is_descriptor(&self.top.word.units) {
             self.end_word()?;
-            return Ok(true);
+            return Ok(Descriptor::None);
         }
         let units = &self.top.word.units;
-        let is_standard = is_text(units, b"0") || is_text(units, b"1");
+        let descriptor = if is_text(units, b"0") {
+            Descriptor::Input
+        } else if is_text(units, b"1") {
+            Descriptor::Output
+        } else {
+            Descriptor::Other
+        };
         self.top.word.units.clear();
         self.top.has_word = false;
-        Ok(is_standard)
+        Ok(descriptor)
     }
+}
+
+/// The descriptor that is written before the operator of a redirection.
+#[derive(Clone, Copy, PartialEq, Eq)]
+enum Descriptor {
+    None,
+    /// 0.
+    Input,
+    /// 1.
+    Output,
+    Other,
 }
 
 /// What follows the operator that begins with these bytes, and how long it is.

@@ -3,8 +3,8 @@
 use crate::bodies::Pending;
 use crate::command::{ShellCommand, ShellText};
 use crate::frame::{Draft, Frame, Mark, Quote};
-use crate::reader::{Dialect, Job, Output, Reader};
-use crate::units::byte_at;
+use crate::reader::{Form, Job, Output, Reader};
+use crate::units::{byte_at, start_of};
 use sedck_traced::{Text, Unit};
 use std::alloc::{AllocError, Global};
 
@@ -15,49 +15,42 @@ const RESTARTS: usize = 8;
 const LEVELS: usize = 6;
 
 /// The commands of the text, also those in `$(..)`, in backquotes, in parentheses and in functions.
-pub fn read_shell(alloc: Global, text: Text, dialect: Dialect) -> Result<ShellText, AllocError> {
+pub fn read_shell(alloc: Global, text: Text, form: Form) -> Result<ShellText, AllocError> {
     let mut output = Output {
         commands: Vec::new(alloc),
         bodies: Vec::new(alloc),
         jobs: Vec::new(alloc),
-        unread: 0,
+        functions: Vec::new(alloc),
+        unread: Vec::new(alloc),
         misses: 0,
         looked: 0,
+        has_looked: false,
+        is_full: false,
     };
-    output = read_text(alloc, text, dialect, output)?;
+    output = read_text(alloc, text, form, output)?;
     for _ in 0..LEVELS {
         let jobs = std::mem::replace(&mut output.jobs, Vec::new(alloc));
         for job in &jobs {
-            output = read_job(alloc, job, dialect, output)?;
+            output = read_job(alloc, job, form, output)?;
         }
     }
     finished(alloc, output)
 }
 
 /// Reads a command between backquotes, or a here-document.
-fn read_job(
-    alloc: Global,
-    job: &Job,
-    dialect: Dialect,
-    output: Output,
-) -> Result<Output, AllocError> {
+fn read_job(alloc: Global, job: &Job, form: Form, output: Output) -> Result<Output, AllocError> {
     match job.body {
-        Some(number) => read_body(alloc, job, number, dialect, output),
-        None => read_text(alloc, Text::Units(&job.units), dialect, output),
+        Some(number) => read_body(alloc, job, number, form, output),
+        None => read_text(alloc, Text::Units(&job.units), form, output),
     }
 }
 
 /// Reads a text. Where a quote or an expansion isn't closed, reading goes on at the line after it.
-fn read_text(
-    alloc: Global,
-    text: Text,
-    dialect: Dialect,
-    output: Output,
-) -> Result<Output, AllocError> {
+fn read_text(alloc: Global, text: Text, form: Form, output: Output) -> Result<Output, AllocError> {
     let mut output = output;
     let mut from = 0usize;
     for _ in 0..RESTARTS {
-        let (next, read) = read_from(alloc, text, dialect, from, output)?;
+        let (next, read) = read_from(alloc, text, form, from, output)?;
         output = read;
         match next {
             Some(next) if next > from => from = next,
@@ -71,11 +64,11 @@ fn read_text(
 fn read_from(
     alloc: Global,
     text: Text,
-    dialect: Dialect,
+    form: Form,
     from: usize,
     output: Output,
 ) -> Result<(Option<usize>, Output), AllocError> {
-    let mut reader = new_reader(alloc, text, dialect, Quote::None, output);
+    let mut reader = new_reader(alloc, text, form, Quote::None, output);
     reader.resume = from;
     reader.opened = from;
     for index in from..text.len() {
@@ -92,10 +85,14 @@ fn read_from(
     }
     let is_understood = is_closed && reader.frames.is_empty();
     let next = next_line(text, reader.opened);
+    let opened = match text.get(reader.opened) {
+        Some(unit) => start_of(unit),
+        None => 0,
+    };
     let mark = reader.mark;
     let mut output = reader.output;
     if !is_understood {
-        output.unread = output.unread.saturating_add(1);
+        output.unread.push(opened)?;
     }
     if is_closed {
         return Ok((None, output));
@@ -109,11 +106,11 @@ fn read_body(
     alloc: Global,
     job: &Job,
     number: usize,
-    dialect: Dialect,
+    form: Form,
     output: Output,
 ) -> Result<Output, AllocError> {
     let text = Text::Units(&job.units);
-    let mut reader = new_reader(alloc, text, dialect, job.quote, output);
+    let mut reader = new_reader(alloc, text, form, job.quote, output);
     for index in 0..text.len() {
         if index < reader.resume {
             continue;
@@ -122,7 +119,7 @@ fn read_body(
             reader.read(index, unit)?;
         }
     }
-    reader.leave_frames();
+    reader.leave_frames()?;
     let body = std::mem::replace(&mut reader.top.word.units, Vec::new(alloc));
     if let Some(place) = reader.output.bodies.get_mut(number) {
         *place = Some(body);
@@ -134,7 +131,7 @@ fn read_body(
 fn new_reader<'a>(
     alloc: Global,
     text: Text<'a>,
-    dialect: Dialect,
+    form: Form,
     quote: Quote,
     output: Output,
 ) -> Reader<'a> {
@@ -143,7 +140,7 @@ fn new_reader<'a>(
     Reader {
         alloc,
         text,
-        dialect,
+        form,
         top: Frame::new(alloc, quote),
         frames: Vec::new(alloc),
         pending,
@@ -171,14 +168,18 @@ fn finished(alloc: Global, output: Output) -> Result<ShellText, AllocError> {
         commands: drafts,
         mut bodies,
         jobs,
-        unread,
+        functions,
+        mut unread,
         misses: _,
         looked: _,
+        has_looked: _,
+        is_full: _,
     } = output;
     let mut commands = Vec::new(alloc);
     for draft in drafts {
         let Draft {
             words,
+            site,
             here,
             target,
         } = draft;
@@ -188,12 +189,21 @@ fn finished(alloc: Global, output: Output) -> Result<ShellText, AllocError> {
         };
         commands.push(ShellCommand {
             words,
+            site,
             here,
             target,
         })?;
     }
-    let unread = unread.saturating_add(jobs.len());
-    Ok(ShellText { commands, unread })
+    for job in &jobs {
+        if let Some(unit) = job.units.first() {
+            unread.push(start_of(*unit))?;
+        }
+    }
+    Ok(ShellText {
+        commands,
+        functions,
+        unread,
+    })
 }
 
 /// Takes the here-document of this number.

@@ -2,8 +2,8 @@
 
 use crate::frame::Quote;
 use crate::reader::{Dialect, Reader};
-use crate::units::{byte_at, byte_of, start_of};
-use sedck_traced::{Text, Unit, escape_byte};
+use crate::units::{byte_at, byte_of, end_at, end_of, start_of};
+use sedck_traced::{Text, Unit, Way, escape_byte};
 use std::alloc::AllocError;
 
 impl Reader<'_> {
@@ -32,6 +32,36 @@ impl Reader<'_> {
         self.set_quote(quote);
     }
 
+    /// Begins what is between `$'` and `'`. A shell that doesn't know this reads a dollar sign, and a text between single quotes.
+    pub fn open_dollar_quote(&mut self, index: usize, unit: Unit) {
+        let quote = if self.form.has_dollar_quotes {
+            Quote::Dollar
+        } else {
+            Quote::Either
+        };
+        self.open_quote(index, unit, quote);
+        self.top.quoted_from = start_of(unit);
+    }
+
+    /// Reads a unit between `$'` and `'` where shells differ, which makes a hole of it all. Behind a backslash they find different ends.
+    pub fn read_either(&mut self, index: usize, unit: Unit) -> Result<(), AllocError> {
+        match byte_of(unit) {
+            Some(b'\\') => {
+                let next = index.saturating_add(1);
+                self.resume = next.saturating_add(1);
+                if byte_at(self.text, next) == Some(b'\'') {
+                    self.output.unread.push(start_of(unit))?;
+                }
+                Ok(())
+            }
+            Some(b'\'') => {
+                self.top.quote = Quote::None;
+                self.add_hole(self.top.quoted_from, end_of(unit), Way::Quoted)
+            }
+            _ => Ok(()),
+        }
+    }
+
     /// Begins a quoted part, or a comment.
     pub fn set_quote(&mut self, quote: Quote) {
         self.top.quote = quote;
@@ -47,7 +77,7 @@ impl Reader<'_> {
         };
         match byte_of(quoted) {
             Some(b'\n') => return Ok(()),
-            Some(b'[') if self.dialect == Dialect::Macros => {
+            Some(b'[') if self.form.dialect == Dialect::Macros => {
                 self.brackets = self.brackets.saturating_add(1);
             }
             Some(b']') => self.brackets = self.brackets.saturating_sub(1),
@@ -134,18 +164,17 @@ impl Reader<'_> {
         let next = index.saturating_add(1);
         self.resume = next.saturating_add(1);
         let Some(Unit::Byte(letter, after)) = self.text.get(next) else {
-            return Ok(());
+            return self.add_hole(offset, offset.saturating_add(1), Way::Quoted);
         };
-        if after != offset.saturating_add(1) {
-            return Ok(());
-        }
+        // Between backquotes there may be another backslash between the two.
+        let is_beside = after == offset.saturating_add(1);
         match escape_byte(letter) {
-            Some(byte) => self.add(Unit::Escape(byte, offset)),
-            None => {
+            Some(byte) if is_beside => self.add(Unit::Escape(byte, offset)),
+            _ => {
                 let more = digits_after(self.text, next, letter);
                 self.resume = self.resume.saturating_add(more);
-                let end = after.saturating_add(1).saturating_add(more);
-                self.add(Unit::Hole(offset, end))
+                let end = end_at(self.text, next.saturating_add(more));
+                self.add_hole(offset, end, Way::Quoted)
             }
         }
     }

@@ -1,9 +1,10 @@
 //! The state of reading, and what each byte does by its quoting.
 
 use crate::bodies::Pending;
+use crate::command::{Pattern, ShellWord};
 use crate::frame::{Draft, Enclosure, Frame, Mark, Quote};
-use crate::units::{begins_name, byte_at, byte_of, end_at, end_of, name_end, start_of};
-use sedck_traced::{Text, Unit};
+use crate::units::{begins_name, byte_at, byte_of, end_at, name_end, name_length, start_of};
+use sedck_traced::{Text, Unit, Way};
 use std::alloc::{AllocError, Global};
 
 /// How a text is made into shell text before it runs.
@@ -15,6 +16,14 @@ pub enum Dialect {
     Template,
     /// Macros of M4 are replaced, whose brackets are quotes.
     Macros,
+}
+
+/// How a text is read.
+#[derive(Clone, Copy, Debug, PartialEq, Eq)]
+pub struct Form {
+    pub dialect: Dialect,
+    /// Whether the shell reads `$'..'`, as bash does and dash doesn't.
+    pub has_dollar_quotes: bool,
 }
 
 /// A text that is read by itself: a command between backquotes, or a here-document.
@@ -34,11 +43,17 @@ pub(crate) struct Output {
     pub bodies: Vec<Option<Vec<Unit>>>,
     /// What is read next.
     pub jobs: Vec<Job>,
-    pub unread: usize,
+    /// The names of functions.
+    pub functions: Vec<ShellWord>,
+    /// The offsets in the file of what isn't understood.
+    pub unread: Vec<usize>,
     /// How often the end of something was looked for in vain.
     pub misses: usize,
-    /// How many units were looked at for the ends of expressions.
+    /// How many units were looked at for the ends of expressions, and whether that was too often.
     pub looked: usize,
+    pub has_looked: bool,
+    /// Whether there are more commands than are kept.
+    pub is_full: bool,
 }
 
 impl Output {
@@ -56,10 +71,10 @@ impl Output {
         self.jobs.truncate(mark.jobs);
     }
 
-    /// Counts what was looked for in vain.
-    pub fn miss(&mut self) {
+    /// Notes that the end of what begins at this offset was looked for in vain.
+    pub fn miss(&mut self, offset: usize) -> Result<(), AllocError> {
         self.misses = self.misses.saturating_add(1);
-        self.unread = self.unread.saturating_add(1);
+        Ok(self.unread.push(offset)?)
     }
 }
 
@@ -74,7 +89,7 @@ const DEPTH: usize = 100;
 pub(crate) struct Reader<'a> {
     pub alloc: Global,
     pub text: Text<'a>,
-    pub dialect: Dialect,
+    pub form: Form,
     pub top: Frame,
     /// What encloses it, from the outermost on.
     pub frames: Vec<Frame>,
@@ -94,8 +109,8 @@ impl Reader<'_> {
     /// Reads the unit of this number.
     pub fn read(&mut self, index: usize, unit: Unit) -> Result<(), AllocError> {
         match byte_of(unit) {
-            Some(b'[') if self.dialect == Dialect::Macros => self.open_bracket(unit),
-            Some(b']') if self.dialect == Dialect::Macros => self.close_bracket(unit),
+            Some(b'[') if self.form.dialect == Dialect::Macros => self.open_bracket(unit),
+            Some(b']') if self.form.dialect == Dialect::Macros => self.close_bracket(unit),
             _ => self.read_by_quote(index, unit),
         }
     }
@@ -107,6 +122,7 @@ impl Reader<'_> {
             Quote::Single => self.read_single(index, unit),
             Quote::Double => self.read_double(index, unit),
             Quote::Dollar => self.read_dollar(index, unit),
+            Quote::Either => self.read_either(index, unit),
             Quote::Comment => self.read_comment(index, unit),
             Quote::Body => self.read_body(index, unit),
             Quote::Verbatim => self.add_byte(index, unit),
@@ -125,7 +141,7 @@ impl Reader<'_> {
     /// Reads a unit between commands, or in one.
     fn read_in_commands(&mut self, index: usize, unit: Unit) -> Result<(), AllocError> {
         let Some(byte) = byte_of(unit) else {
-            return self.add_hole(start_of(unit), end_of(unit));
+            return self.add(unit);
         };
         match byte {
             b' ' | b'\t' => self.end_word(),
@@ -138,8 +154,54 @@ impl Reader<'_> {
             b';' | b'&' | b'|' | b'<' | b'>' | b'(' | b')' => {
                 self.read_operator(index, unit, byte)
             }
+            b'~' if self.begins_tilde() => self.read_tilde(index, unit),
+            b'*' | b'?' | b'[' | b'{' | b'}' | b',' | b'.' => self.read_sign(index, unit, byte),
             _ => self.add_byte(index, unit),
         }
+    }
+
+    /// Reads a byte that may make several words of one, outside of quotes.
+    fn read_sign(&mut self, index: usize, unit: Unit, byte: u8) -> Result<(), AllocError> {
+        let number = self.top.word.units.len();
+        let braces = &mut self.top.braces;
+        let next = index.saturating_add(1);
+        match byte {
+            b'{' if braces.from.is_none() => braces.from = Some(number),
+            b',' => braces.has_list = braces.from.is_some(),
+            b'.' if byte_at(self.text, next) == Some(b'.') => {
+                braces.has_list = braces.from.is_some();
+            }
+            b'}' if braces.has_list => braces.to = Some(number),
+            b'*' | b'?' | b'[' if self.top.word.pattern == Pattern::None => {
+                self.top.word.pattern = if number == 0 {
+                    Pattern::First
+                } else {
+                    Pattern::Inside
+                };
+            }
+            _ => {}
+        }
+        self.add(unit)
+    }
+
+    /// Whether a tilde here stands for a folder: at the beginning of a word, and in a value also behind a colon (XCU 2.6.1).
+    fn begins_tilde(&self) -> bool {
+        let units = &self.top.word.units;
+        let length = name_length(units);
+        let is_value = length > 0 && matches!(units.get(length), Some(Unit::Byte(b'=', _)));
+        match units.last() {
+            Some(Unit::Byte(b'=', _)) => is_value && length.saturating_add(1) == units.len(),
+            Some(Unit::Byte(b':', _)) => is_value,
+            _ => !self.top.has_word,
+        }
+    }
+
+    /// Reads a tilde, and the name of a user behind it.
+    fn read_tilde(&mut self, index: usize, unit: Unit) -> Result<(), AllocError> {
+        let end = name_end(self.text, index.saturating_add(1));
+        self.resume = end;
+        let last = end.saturating_sub(1);
+        self.add_hole(start_of(unit), end_at(self.text, last), Way::Quoted)
     }
 
     /// Whether a word that begins here is a comment to the line's end: `#`, or `dnl` of M4.
@@ -148,7 +210,7 @@ impl Reader<'_> {
             return true;
         }
         let next = index.saturating_add(1);
-        self.dialect == Dialect::Macros
+        self.form.dialect == Dialect::Macros
             && byte_at(self.text, next) == Some(b'n')
             && byte_at(self.text, next.saturating_add(1)) == Some(b'l')
             && name_end(self.text, index) == index.saturating_add(3)
@@ -156,13 +218,13 @@ impl Reader<'_> {
 
     /// Adds a unit to the word, or the name with `@` around it that begins there.
     pub fn add_byte(&mut self, index: usize, unit: Unit) -> Result<(), AllocError> {
-        if self.dialect != Dialect::Template || byte_of(unit) != Some(b'@') {
+        if self.form.dialect != Dialect::Template || byte_of(unit) != Some(b'@') {
             return self.add(unit);
         }
         match placeholder_end(self.text, index) {
             Some(last) => {
                 self.resume = last.saturating_add(1);
-                self.add_hole(start_of(unit), end_at(self.text, last))
+                self.add_hole(start_of(unit), end_at(self.text, last), self.made_way())
             }
             None => self.add(unit),
         }
@@ -181,8 +243,7 @@ impl Reader<'_> {
         }
         self.resume = from;
         if self.frames.len() >= DEPTH {
-            self.give_up_line();
-            return Ok(());
+            return self.give_up_line(index);
         }
         let frame = self.frame_for(index, enclosure, is_hole);
         let outer = std::mem::replace(&mut self.top, frame);
@@ -206,6 +267,11 @@ impl Reader<'_> {
             && (self.top.is_in_double || matches!(self.top.quote, Quote::Double | Quote::Body));
         frame.brackets = self.brackets;
         frame.floor = self.brackets;
+        frame.flow.body = if self.top.flow.begins_function && enclosure == Enclosure::Group {
+            self.output.functions.len()
+        } else {
+            self.top.flow.body
+        };
         frame
     }
 
@@ -218,12 +284,15 @@ impl Reader<'_> {
     }
 
     /// Leaves all that is open, and goes on at the next line.
-    fn give_up_line(&mut self) {
-        self.output.unread = self.output.unread.saturating_add(1);
+    fn give_up_line(&mut self, index: usize) -> Result<(), AllocError> {
+        self.output
+            .unread
+            .push(end_at(self.text, index.saturating_sub(1)))?;
         self.top = Frame::new(self.alloc, Quote::Comment);
         self.top.brackets = self.brackets;
         self.top.floor = self.brackets;
         self.frames.clear();
+        Ok(())
     }
 
     /// Closes what encloses, before the byte of this offset in the file.
@@ -233,22 +302,29 @@ impl Reader<'_> {
             return Ok(());
         };
         let inner = std::mem::replace(&mut self.top, outer);
+        self.top.flow.begins_function = false;
         if inner.is_hole {
-            return self.add_hole(inner.opened, end);
+            let way = match inner.enclosure {
+                Enclosure::Parameter if inner.is_several => Way::Several,
+                Enclosure::Substitution if inner.is_process => Way::Quoted,
+                _ => self.way(),
+            };
+            return self.add_hole(inner.opened, end, way);
         }
         Ok(())
     }
 
     /// Leaves all that encloses, whose units are lost.
-    pub fn leave_frames(&mut self) {
+    pub fn leave_frames(&mut self) -> Result<(), AllocError> {
         if !self.frames.is_empty() {
-            self.output.unread = self.output.unread.saturating_add(1);
+            self.output.unread.push(self.top.opened)?;
         }
         for _ in 0..self.frames.len() {
             if let Some(outer) = self.frames.pop() {
                 self.top = outer;
             }
         }
+        Ok(())
     }
 
     /// Whether the commands that were read stand: no quote and no expansion is open.

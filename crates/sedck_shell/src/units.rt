@@ -6,7 +6,7 @@ use sedck_traced::{Text, Unit};
 pub(crate) fn byte_of(unit: Unit) -> Option<u8> {
     match unit {
         Unit::Byte(byte, _) | Unit::Escape(byte, _) => Some(byte),
-        Unit::Hole(_, _) => None,
+        Unit::Hole(_) => None,
     }
 }
 
@@ -19,7 +19,7 @@ pub(crate) fn byte_at(text: Text, index: usize) -> Option<u8> {
 pub(crate) fn start_of(unit: Unit) -> usize {
     match unit {
         Unit::Byte(_, offset) | Unit::Escape(_, offset) => offset,
-        Unit::Hole(start, _) => start,
+        Unit::Hole(hole) => hole.start,
     }
 }
 
@@ -28,7 +28,7 @@ pub(crate) fn end_of(unit: Unit) -> usize {
     match unit {
         Unit::Byte(_, offset) => offset.saturating_add(1),
         Unit::Escape(_, offset) => offset.saturating_add(2),
-        Unit::Hole(_, end) => end,
+        Unit::Hole(hole) => hole.end,
     }
 }
 

@@ -1,16 +1,19 @@
 //! Words and ends of commands, and the reserved words (XCU 2.4).
 
 use crate::command::ShellWord;
-use crate::frame::{Awaited, Draft, Enclosure, Quote};
+use crate::frame::{Awaited, Braces, Draft, Enclosure, Quote};
 use crate::reader::{Dialect, Reader};
-use crate::units::is_text;
-use sedck_traced::Unit;
+use crate::units::{end_of, is_text, start_of};
+use sedck_traced::{Hole, Unit, Way};
 use std::alloc::AllocError;
+
+/// The most commands of a text that are kept, so that memory is bounded.
+const MOST: usize = 100_000;
 
 /// Reserved words before a command, which are no words of it.
 static RESERVED: &'static [&'static [u8]] = &[
     b"if", b"then", b"else", b"elif", b"fi", b"do", b"done", b"while", b"until", b"{", b"}", b"!",
-    b"time",
+    b"time", b"coproc",
 ];
 
 impl Reader<'_> {
@@ -22,19 +25,55 @@ impl Reader<'_> {
         }
     }
 
-    /// Adds a unit to the word.
+    /// Adds a unit to the word. What isn't known in the text that is read is there before its quotes are.
     pub fn add(&mut self, unit: Unit) -> Result<(), AllocError> {
-        self.begin_word(crate::units::start_of(unit));
+        let start = crate::units::start_of(unit);
+        self.begin_word(start);
+        let unit = match unit {
+            Unit::Hole(hole) if hole.way == Way::Several => unit,
+            Unit::Hole(hole) => Unit::Hole(Hole {
+                way: self.made_way(),
+                ..hole
+            }),
+            Unit::Byte(0, _) => {
+                self.output.unread.push(start)?;
+                unit
+            }
+            _ => unit,
+        };
         self.top.word.units.push(unit)?;
         Ok(())
     }
 
     /// Adds a hole to the word.
-    pub fn add_hole(&mut self, start: usize, end: usize) -> Result<(), AllocError> {
-        if self.top.quote == Quote::None {
-            self.top.word.is_split = true;
+    pub fn add_hole(&mut self, start: usize, end: usize, way: Way) -> Result<(), AllocError> {
+        if way == Way::Several {
+            self.top.is_several = true;
         }
-        self.add(Unit::Hole(start, end))
+        self.begin_word(start);
+        self.top
+            .word
+            .units
+            .push(Unit::Hole(Hole { start, end, way }))?;
+        Ok(())
+    }
+
+    /// How what an expansion makes becomes a part of the word.
+    pub fn way(&self) -> Way {
+        if self.top.quote == Quote::None && !self.top.is_in_double {
+            Way::Bare
+        } else {
+            Way::Quoted
+        }
+    }
+
+    /// How what is in the text before it is read becomes a part of the word.
+    pub fn made_way(&self) -> Way {
+        if self.top.quote == Quote::None {
+            Way::MadeBare
+        } else {
+            Way::MadeQuoted
+        }
     }
 
     /// Ends the word, if one is begun.
@@ -42,8 +81,10 @@ impl Reader<'_> {
         if !self.top.has_word {
             return Ok(());
         }
+        self.expand_braces();
         let word = std::mem::replace(&mut self.top.word, ShellWord::new(self.alloc));
         self.top.has_word = false;
+        self.top.flow.is_awaited = false;
         let awaited = self.top.awaited;
         self.top.awaited = Awaited::Word;
         match awaited {
@@ -60,36 +101,61 @@ impl Reader<'_> {
         }
     }
 
+    /// Makes a hole of braces that some shells expand, and others don't.
+    fn expand_braces(&mut self) {
+        let braces = std::mem::replace(&mut self.top.braces, Braces::NONE);
+        let (Some(from), Some(to)) = (braces.from, braces.to) else {
+            return;
+        };
+        let units = &mut self.top.word.units;
+        let (Some(first), Some(last)) = (units.get(from).copied(), units.get(to).copied()) else {
+            return;
+        };
+        let hole = Hole {
+            start: start_of(first),
+            end: end_of(last),
+            way: Way::Several,
+        };
+        for index in from..to.saturating_add(1) {
+            if let Some(unit) = units.get_mut(index) {
+                *unit = Unit::Hole(hole);
+            }
+        }
+    }
+
     /// Adds a word to the command, unless it is a reserved one.
     fn add_word(&mut self, word: ShellWord) -> Result<(), AllocError> {
-        if !word.is_quoted && self.read_reserved(&word.units) {
+        if !word.is_quoted && self.read_reserved(&word.units)? {
             return Ok(());
         }
+        self.top.flow.begins_function = false;
         self.top.command.words.push(word)?;
         Ok(())
     }
 
     /// Whether the word is a reserved one where it stands. `case` and `esac` change what parentheses mean.
-    fn read_reserved(&mut self, units: &[Unit]) -> bool {
+    fn read_reserved(&mut self, units: &[Unit]) -> Result<bool, AllocError> {
         let is_first = self.top.command.words.is_empty();
         if (is_first || self.top.is_pattern) && is_text(units, b"esac") {
+            self.end_compound();
             self.top.cases = self.top.cases.saturating_sub(1);
             self.top.is_pattern = false;
             self.top.command.words.clear();
-            return true;
+            return Ok(true);
         }
         if self.top.is_test && is_text(units, b"]]") {
             self.top.is_test = false;
         }
         if is_first {
-            self.top.is_test |= self.dialect != Dialect::Macros && is_text(units, b"[[");
-            return is_reserved(units);
+            self.top.is_test |= self.form.dialect != Dialect::Macros && is_text(units, b"[[");
+            self.note_flow(units);
+            return Ok(is_reserved(units));
         }
         self.read_second_reserved(units)
     }
 
     /// The same of a word that isn't the first one: `in` of `case`, `do` of `for`, and `{` of a function.
-    fn read_second_reserved(&mut self, units: &[Unit]) -> bool {
+    fn read_second_reserved(&mut self, units: &[Unit]) -> Result<bool, AllocError> {
         let words = &self.top.command.words;
         let begins_case = words.len() == 2 && is_text(units, b"in") && begins_with(words, b"case");
         let begins_body = words.len() == 2
@@ -100,10 +166,15 @@ impl Reader<'_> {
             self.top.is_pattern = true;
             self.top.parentheses = 0;
         }
+        if begins_body && is_text(units, b"{") {
+            let name = self.top.command.words.pop();
+            self.begin_function(name)?;
+            self.note_flow(units);
+        }
         if begins_case || begins_body {
             self.top.command.words.clear();
         }
-        begins_case || begins_body
+        Ok(begins_case || begins_body)
     }
 
     /// Ends the command, if one is begun.
@@ -111,12 +182,33 @@ impl Reader<'_> {
         self.end_word()?;
         self.top.awaited = Awaited::Word;
         self.top.is_test = false;
-        let command = std::mem::replace(&mut self.top.command, Draft::new(self.alloc));
+        let mut command = std::mem::replace(&mut self.top.command, Draft::new(self.alloc));
+        if let Enclosure::Array = self.top.enclosure {
+            return self.note_array(&command.words);
+        }
         if command.words.is_empty() || self.top.is_pattern || !self.top.has_commands() {
             return Ok(());
         }
-        self.output.commands.push(command)?;
-        Ok(())
+        command.site = self.site();
+        if self.output.commands.len() < MOST {
+            return Ok(self.output.commands.push(command)?);
+        }
+        if self.output.is_full {
+            return Ok(());
+        }
+        self.output.is_full = true;
+        match command.words.first() {
+            Some(word) => Ok(self.output.unread.push(word.start)?),
+            None => Ok(()),
+        }
+    }
+
+    /// Notes an array whose first word is a sed: what its words are used for isn't followed.
+    fn note_array(&mut self, words: &[ShellWord]) -> Result<(), AllocError> {
+        match words.first() {
+            Some(word) if ends_with_sed(&word.units) => Ok(self.output.unread.push(word.start)?),
+            _ => Ok(()),
+        }
     }
 
     /// Leaves the command that is read.
@@ -140,6 +232,7 @@ impl Reader<'_> {
         self.end_word()?;
         if !self.goes_on() {
             self.end_command()?;
+            self.end_list();
         }
         if self.pending.is_empty() {
             return Ok(());
@@ -156,6 +249,12 @@ fn is_reserved(units: &[Unit]) -> bool {
         }
     }
     false
+}
+
+/// Whether the units are `sed`, or a path that ends with it.
+fn ends_with_sed(units: &[Unit]) -> bool {
+    let from = units.len().saturating_sub(4);
+    is_text(units, b"sed") || is_text(units.get(from..).unwrap_or(&[]), b"/sed")
 }
 
 /// Whether the first of the words is this one.

@@ -39,7 +39,7 @@ has_origin file from byte (Escape offset) = nat_le from offset && is_escape_at f
 has_origin file from byte (Value offset) = is_at file offset byte
 has_origin file from byte Given = true
 has_origin file from byte Between = byte == 10
-has_origin file from byte (Hole start end) = nat_le from start && nat_lt start end && nat_le end (length file)
+has_origin file from byte (Hole hole) = nat_le from hole.start && nat_lt hole.start hole.end && nat_le hole.end (length file)
 
 -- where the origin of the next byte may begin, in a file of so many bytes
 abbrev pub next_after : ℕ → ℕ → Origin → ℕ
@@ -48,7 +48,7 @@ next_after bytes from (Escape offset) = if nat_lt offset bytes then offset + 1 e
 next_after bytes from (Value offset) = from
 next_after bytes from Given = from
 next_after bytes from Between = from
-next_after bytes from (Hole start end) = start
+next_after bytes from (Hole hole) = hole.start
 
 -- each byte has its origin, one after another: those in the file increase, but that several bytes may take the place of one hole
 abbrev pub is_traced_from : List ℕ → ℕ → List ℕ → List Origin → Bool
@@ -62,7 +62,7 @@ abbrev pub is_traced : List ℕ → List ℕ → List Origin → Bool
 is_traced file bytes origins = is_traced_from file 0 bytes origins
 
 abbrev pub is_hole : Origin → Bool
-is_hole (Hole start end) = true
+is_hole (Hole hole) = true
 is_hole _ = false
 
 -- a byte takes the place of what isn't known

@@ -7,6 +7,6 @@ mod hole;
 mod origin;
 mod unit;
 
-pub use hole::hole_name;
+pub use hole::{Hole, Way, hole_name};
 pub use origin::{Origin, Traced, escape_byte, has_hole, is_traced};
 pub use unit::{Text, Unit};

@@ -3,6 +3,8 @@
 ghost use Rattle.std.specs.Prelude.{◌≡◌, length};
 ghost use Rattle.sedck_traced.specs.Traced.{escape_of, is_at, is_escape_at, has_origin, next_after, has_hole as has_hole_of, is_traced as is_traced_text};
 
+use crate::hole::Hole;
+
 /// Where a byte of a script comes from.
 #[derive(Clone, Copy, Debug, PartialEq, Eq)]
 pub enum Origin {
@@ -16,8 +18,8 @@ pub enum Origin {
     Given,
     /// It is the newline between two parts of a script.
     Between,
-    /// It takes the place of what isn't known: of what replaces the bytes from the first offset on to before the second one.
-    Hole(usize, usize),
+    /// It takes the place of what isn't known.
+    Hole(Hole),
 }
 
 /// Bytes, each with its origin.
@@ -52,7 +54,7 @@ pub fn has_hole(origins: &[Origin]) -> bool
     ensures { result ≡ has_hole_of origins.now }
 {
     for origin in origins {
-        if let Origin::Hole(_, _) = *origin {
+        if let Origin::Hole(_) = *origin {
             return true;
         }
     }
@@ -86,7 +88,7 @@ fn is_origin(file: &[u8], from: usize, byte: u8, origin: Origin) -> bool
         Origin::Value(offset) => has_byte(file, offset, byte),
         Origin::Given => true,
         Origin::Between => byte == b'\n',
-        Origin::Hole(start, end) => from <= start && start < end && end <= file.len(),
+        Origin::Hole(hole) => from <= hole.start && hole.start < hole.end && hole.end <= file.len(),
     }
 }
 
@@ -97,7 +99,7 @@ fn next_from(file: &[u8], from: usize, origin: Origin) -> usize
     match origin {
         Origin::At(offset) | Origin::Escape(offset) if offset < file.len() => offset + 1,
         Origin::At(_) | Origin::Escape(_) => from,
-        Origin::Hole(start, _) => start,
+        Origin::Hole(hole) => hole.start,
         Origin::Value(_) | Origin::Given | Origin::Between => from,
     }
 }

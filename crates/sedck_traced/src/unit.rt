@@ -3,6 +3,8 @@
 ghost use Rattle.std.specs.Prelude.{◌≡◌};
 ghost use Rattle.sedck_traced.specs.Texts.{length_of, unit_at};
 
+use crate::hole::{Hole, Way};
+
 /// A unit of a text that is taken from a file.
 #[derive(Clone, Copy, Debug, PartialEq, Eq)]
 pub enum Unit {
@@ -10,8 +12,19 @@ pub enum Unit {
     Byte(u8, usize),
     /// This byte, for which the escape sequence stands whose backslash is at the offset.
     Escape(u8, usize),
-    /// What replaces the bytes of the file from the first offset on to before the second one, and isn't known before a run.
-    Hole(usize, usize),
+    /// What isn't known before a run.
+    Hole(Hole),
+}
+
+impl Unit {
+    /// What replaces the bytes of the file from the first offset on to before the second one, before a shell reads the text.
+    pub fn made(start: usize, end: usize) -> Unit {
+        Unit::Hole(Hole {
+            start,
+            end,
+            way: Way::MadeBare,
+        })
+    }
 }
 
 /// A text: a whole file, or units that were taken from one.

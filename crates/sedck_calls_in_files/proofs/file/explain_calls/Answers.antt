@@ -12,7 +12,7 @@ loop-call-preserved g c =
     let i = c.loop-call.call-index in
     let e = c.in_ok-explanation.explanation in
     let said = subst (λ found. IsSaidOf text denied found.words.items found.script e) c.call-item.is c.in_ok-explanation.ensures.said in (
-      subst (IsWorst text denied 0 (take (i + 1) calls)) (sym c.greater-status.ensures)
-          (next_worst text denied calls i c.call-item.result c.loop-call.status e c.loop-call-test.true c.loop-call.invariant.0 said),
+      subst (IsWorst text denied c.args.known (take (i + 1) calls)) (sym c.greater-status.ensures)
+          (next_worst text denied c.args.known calls i c.call-item.result c.loop-call.status e c.loop-call-test.true c.loop-call.invariant.0 said),
       c.call_position-position.ensures,
     )

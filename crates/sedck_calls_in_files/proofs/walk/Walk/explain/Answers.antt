@@ -1,0 +1,11 @@
+use Rattle.std.proofs.Common.{IfOk, sym, subst}
+use Rattle.sedck_calls_in_files.specs.Scanned.{TextStatus}
+use Rattle.sedck_calls_in_files.specs.Private.Contents.{ContentsStatus}
+use Rattle.sedck_calls_in_files.proofs.walk.Walk.explain.Goals as goal
+
+pub returns-in-Text : goal.returns-in-Text
+returns-in-Text g c =
+    let found = g.F.Finder.found c.args.self.now.finder.now c.args.path.now in
+    let denied = c.args.self.now.scan.now.denied in
+    subst (λ contents. IfOk c.explain_text.result (ContentsStatus found denied contents)) (sym c.in-Text.is)
+    (subst (λ text. IfOk c.explain_text.result (TextStatus (found text) denied text)) c.deref.ensures.value c.explain_text.ensures)

@@ -1,0 +1,439 @@
+#!/usr/bin/env python3
+"""Holds `sedck-explain --calls` against calls that look harmless: python3 tests/attacks.py build/sedck-explain
+
+A file of calls may have the status 0 only where every word that sed gets is known, whatever the environment, the arguments and the
+files are, or what isn't known is told as a condition (status 5). Each row of ROWS has a file and a run of it that does harm: sed
+never ends, writes the file `evil`, a command makes it, or sed refuses its script. First comes the run, with a real shell, `make` or
+`find`, so that the table stays true; then the program is asked. What is due comes from the rule and from that run: an answer that
+leaves the call open, with a condition that rules the run's values out; or one that tells of the harm, a loop or the file `evil`. A
+call that isn't found must be told as a place that isn't understood. Other rows are calls that must be found, and innocent ones,
+which must be accepted, so that the rule isn't met by leaving everything open. Long files have limits of time and memory.
+
+The status is 0 only where all is as it should be.
+"""
+import concurrent.futures
+import functools
+import json
+import os
+import re
+import shlex
+import shutil
+import signal
+import subprocess
+import sys
+import tempfile
+from pathlib import Path
+from typing import NamedTuple
+
+PROGRAM = os.path.abspath(sys.argv[1])
+LOOPS, WRITES, RUNS, REFUSED = "never ends", "writes `evil`", "runs a command that makes `evil`", "is refused by sed"
+OPEN = {"accepted-if", "unknown"}
+FOUND = OPEN | {"accepted"}
+ACCEPTED = {"accepted"}
+# Files that are in the folder of each run.
+AROUND = {"f": "aab\n", "es": "w evil\n", "conf": "s='w evil'\n"}
+# How long a run may take, in seconds.
+LIMIT = 2
+failures = []
+
+
+class Row(NamedTuple):
+    name: str
+    text: str
+    # Assignments and words, run without a shell of its own; nothing where no program here would run the text.
+    run: str = ""
+    harm: str = ""
+    file: str = "a.sh"
+    files: dict = {}
+    options: tuple = ()
+    # What is given to `--calls`, if it isn't the file.
+    asked: str = ""
+    # The values that do the harm, beside those in `run`.
+    values: tuple = ()
+    due: set = OPEN
+    # Where the one call is, if it must be found, and its words. Without a place it may be told as one that isn't understood.
+    place: str = ""
+    words: tuple = ()
+    # A warning that an accepted call must have.
+    warning: str = ""
+    may_have_no_call: bool = False
+
+
+# ---- Conditions that must rule out the values of the run
+
+QUOTE = "a' -f es '"
+CONDITIONS = [
+    Row("an empty value before ^", 'sed ":a;s/$x^a/a/;ta" f\n', "x= sh a.sh", LOOPS),
+    Row("an empty value behind $", 'sed ":a;s/b\\$$x/b/;ta" f\n', "x= sh a.sh", LOOPS),
+    Row("an empty value behind $ alone", 'sed ":a;s/\\$$x//;ta" f\n', "x= sh a.sh", LOOPS),
+    Row("an empty value before ^ in a group", 'sed ":a;s/\\($x^a\\)/a/;ta" f\n', "x= sh a.sh", LOOPS),
+    Row("an empty value behind $ in a group", 'sed ":a;s/\\(b\\$$x\\)/b/;ta" f\n', "x= sh a.sh", LOOPS),
+    Row("two empty values before ^", 'sed ":a;s/$x$y^a/a/;ta" f\n', "x= y= sh a.sh", LOOPS),
+    Row("an empty value as an expression", 'sed "s/$x/y/" f\n', "x= sh a.sh", REFUSED),
+    Row("an empty value as an address", 'sed "/$x/p" f\n', "x= sh a.sh", REFUSED),
+    Row("an empty value as a text", 'sed "a $x" f\n', "x= sh a.sh", REFUSED),
+    Row("a quote in a value of make", "all:\n\t@sed -n 's/a/$(X)/' f\n", 'X="%s" make' % QUOTE, WRITES, "Makefile"),
+    Row("a backquote in a value of make", 'all:\n\t@sed -n "s/a/$(X)/" f\n', "X='`touch evil`b' make", RUNS, "Makefile"),
+    Row("an operator in a value of make", "all:\n\t@sed -n s/a/$(X)/ f\n", "X='b;>evil;echo' make", RUNS, "Makefile"),
+    Row("a quote in a value of a template", "sed -n 's/a/@X@/' f\n", "sh x.sh", WRITES, "x.sh.in",
+        {"x.sh": "sed -n 's/a/%s/' f\n" % QUOTE}, values=(QUOTE,)),
+    Row("a quote in a value of a spec file", "%build\nsed -n 's/a/%{x}/' f\n", file="a.spec", values=(QUOTE,)),
+    Row("a quote in a value of an action", "jobs:\n  a:\n    steps:\n      - run: sed -n 's/a/${{ inputs.x }}/' f\n", file="ci.yml",
+        values=(QUOTE,)),
+    Row("a quote in a value of eval", "eval \"sed -n 's/a/$x/' f\"\n", 'x="%s" sh a.sh' % QUOTE, WRITES),
+    Row("a command in a value of eval", "eval \"sed -n 's/a/$x/' f\"\n", "x=\"a'; >evil; echo '\" sh a.sh", RUNS),
+    Row("a quote in a value of sh -c", "sh -c \"sed -n 's/a/$x/' f\"\n", 'x="%s" sh a.sh' % QUOTE, WRITES),
+    Row("a quote in a value of su -c", "su root -c \"sed -n 's/a/$x/' f\"\n", 'x="%s" sh a.sh' % QUOTE, WRITES),
+    Row("a quote in a value of trap", "trap \"sed -n 's/a/$x/' f\" EXIT\n", 'x="%s" sh a.sh' % QUOTE, WRITES),
+    Row("a quote in a here-document of sh", "sh <<E\nsed -n 's/a/$x/' f\nE\n", 'x="%s" sh a.sh' % QUOTE, WRITES),
+    Row("$@ between double quotes", 'sed -n "s/a/b/;a $@" f\n', "sh a.sh x -f es", WRITES),
+    Row("an array between double quotes", 'a=("$@")\nsed -n "s/a/b/;a ${a[@]}" f\n', "bash a.sh x -f es", WRITES),
+    Row("another IFS", "IFS=:\nsed -n s/a/$x/ f\n", "x=b:-fes: sh a.sh", WRITES),
+]
+
+# ---- Words that sed gets, and that aren't those of the file
+
+HERE = "sed -n -f - f <<'E' %s\np\nE\n"
+# Of a file: what comes before its second line is a whole `s` or address.
+NAME = "z|p\nw evil\n#"
+OTHER_WORDS = [
+    Row("a file behind a here-document", HERE % "< es", "sh a.sh", WRITES),
+    Row("a here-string behind a here-document", HERE % "<<< 'w evil'", "bash a.sh", WRITES),
+    Row("a descriptor behind a here-document", "exec 3< es\n" + HERE % "<&3", "sh a.sh", WRITES),
+    Row("a descriptor with a number behind a here-document", "exec 3< es\n" + HERE % "0<&3", "sh a.sh", WRITES),
+    Row("a file that is opened for both behind a here-document", HERE % "<> es", "sh a.sh", WRITES),
+    Row("a process behind a here-document", HERE % "< <(echo w evil)", "bash a.sh", WRITES),
+    Row("a variable of make that a template gives", "X = @X@\nall:\n\tsed -n 's/$(X)/b/' f\n", "make", LOOPS, "Makefile.in",
+        {"Makefile": "X = a/b/;:a;ba;s/\nall:\n\tsed -n 's/$(X)/b/' f\n"}, values=("a/b/;:a;ba;s/",)),
+    Row("a script that a template gives", "transform = @program_transform_name@\nall:\n\techo a | sed '$(transform)'\n", "make", WRITES,
+        "Makefile.in", {"Makefile": "transform = w evil\nall:\n\techo a | sed '$(transform)'\n"}),
+    Row("a sed that is set twice", "SED=sed\ncase $(uname) in Darwin) SED='sed -E';; *) SED='sed -r';; esac\n$SED ':a;s/ab?/a/;ta' f\n",
+        "sh a.sh", LOOPS),
+    Row("a sed of the environment", "${SED-sed} p f\n", "SED='sed -f es' sh a.sh", WRITES),
+    Row("a sed of the environment, set to itself", "SED=${SED:-sed}\n$SED p f\n", "SED='sed -f es' sh a.sh", WRITES),
+    Row("options behind -l5", "sed -n -l5$x p f\n", "x=' -ewevil' sh a.sh", WRITES),
+    Row("options behind -i", "sed -i$x 1d f\n", "x=' -ewevil' sh a.sh", WRITES),
+    Row("POSIXLY_CORRECT before the call", "POSIXLY_CORRECT=1 sed 'w evil' -e p f\n", "sh a.sh", WRITES),
+    Row("POSIXLY_CORRECT of export", "export POSIXLY_CORRECT=1\nsed 'w evil' -e p f\n", "sh a.sh", WRITES),
+    Row("POSIXLY_CORRECT of env", "env POSIXLY_CORRECT=1 sed 'w evil' -e p f\n", "sh a.sh", WRITES),
+    Row("braces", "sed p {f,-ewevil}\n", "bash a.sh", WRITES),
+    Row("a name that find puts into a replacement", "find . -name 'z*' -exec sed -n 's|a|{}|' f \\;\n", "sh a.sh", WRITES,
+        files={NAME: ""}, values=(NAME,)),
+    Row("a name that find puts into an address", "find . -name 'z*' -exec sed '\\|{}|d' f \\;\n", "sh a.sh", WRITES, files={NAME: ""},
+        values=(NAME,)),
+    Row("a name that xargs puts into a replacement", "find . -name 'z*' -print0 | xargs -0 -I{} sed -n 's|a|{}|' f\n", "sh a.sh", WRITES,
+        files={NAME: ""}, values=(NAME,)),
+    Row("$'..' in a shell without it", "#!/bin/sh\nsed $'s/a/\\\\/;:a;ba;#/' f\n", "dash a.sh", LOOPS),
+    Row("$'..' between backquotes", "x=`sed 's/a/\\\\'$'\\\\\\\\''/;:a;ba;#/' f`\n", "bash a.sh", LOOPS),
+    Row("a tilde behind a colon", 's=s:~:a:\nsed "$s" f\n', "HOME='q:b:;:a;ba;s:z' sh a.sh", LOOPS),
+    Row("a NUL byte", '#!/bin/sh\n# \0\nsed -n "w evil" f\n', "dash n.sh", WRITES, "n.sh", options=("--as", "sh")),
+    Row("$1 behind the script", 'sed p "$1"\n', "sh a.sh -ewevil", WRITES),
+    Row("$@ behind the script", 'sed p "$@"\n', "sh a.sh -e 'w evil' f", WRITES),
+    Row("$@ behind the script, with a loop", 'sed p "$@"\n', "sh a.sh -e ':x;bx' f", LOOPS),
+    Row("a variable behind the script", "sed p $files\n", "files='-ewevil f' sh a.sh", WRITES),
+    Row("a variable behind the script, with a loop", "sed p $FILES\n", "FILES='-e :x;bx f' sh a.sh", LOOPS),
+    Row("a pattern behind the script", "sed p *\n", "sh a.sh", WRITES, files={"-ewevil": ""}),
+    Row("a tilde behind the script", "sed p ~\n", "HOME=-ewevil sh a.sh", WRITES),
+    Row("an array behind the script", 'sed p "${a[@]}"\n', "a=-ewevil bash a.sh", WRITES),
+    Row("a function's words behind the script", "strip() { sed p \"$@\"; }\nstrip -e 'w evil' f\n", "sh a.sh", WRITES),
+    Row("a function named sed", "sed() { command sed -e 'w evil' \"$@\"; }\nsed p f\n", "sh a.sh", WRITES),
+    Row("an alias named sed", "alias sed='sed -n -f es'\nsed p f\n", "sh a.sh", WRITES),
+    Row("an alias with another language", "alias sed='sed -E'\nsed ':a;s/ab?/a/;ta' f\n", "sh a.sh", LOOPS),
+]
+
+# ---- Values that the file seems to set: each run has another one than `p`
+
+GIVEN = "s='w evil' sh a.sh"
+VALUES = [Row("a value that is set " + how, before + 'sed "$s" f\n', run, WRITES) for how, before, run in [
+    ("in a list that isn't run", '[ -n "$s" ] || s=p\n', GIVEN),
+    ("in a branch that isn't taken", "if false; then s=p; fi\n", GIVEN),
+    ("in a case that isn't taken", "case x in y) s=p;; esac\n", GIVEN),
+    ("in a subshell", "(s=p)\n", GIVEN),
+    ("in a pipe", "echo | s=p\n", GIVEN),
+    ("in the background", "s=p &\n", GIVEN),
+    ("in a substitution", "x=$(s=p)\n", GIVEN),
+    ("in a function that isn't called", "g() { s=p; }\n", GIVEN),
+    ("within a function alone", "g() { local s=p; }\ng\n", GIVEN),
+    ("again in another file", "s=p\n. ./conf\n", "sh a.sh"),
+    ("again by eval and its name", "s=p\neval \"$v='w evil'\"\n", "v=s sh a.sh"),
+    ("again by eval and arguments", 's=p\neval "$1=\\$2"\n', "sh a.sh s 'w evil'"),
+    ("again by eval and a variable", 's=p\neval "$x"\n', "x='s=\"w evil\"' sh a.sh"),
+    ("again by declare -n", "s=p\ndeclare -n r=s\nr='w evil'\n", "bash a.sh"),
+    ("again by printf -v", "s=p\nprintf -v $n 'w evil'\n", "n=s bash a.sh"),
+    ("again by read and its name", "s=p\nread $n < es\n", "n=s sh a.sh"),
+    ("again by builtin read", "s=p\nbuiltin read s < es\n", "bash a.sh"),
+    ("again by command -p read", "s=p\ncommand -p read s < es\n", "sh a.sh"),
+    ("again by an alias", "s=p\nalias change='s=\"w evil\"'\nchange\n", "sh a.sh"),
+]] + [Row("a value that is set behind the call", 'sed "$s" f\ns=p\n', GIVEN, WRITES)]
+VALUES_OF_MAKE = [Row("a value of make that is set " + how, before + "all:\n\t@sed '$(X)' f\n", run, WRITES, "Makefile", {"conf.mk": "X = w evil\n"})
+                  for how, before, run in [
+    ("by ?=", "X ?= p\n", "X='w evil' make"),
+    ("again by include", "X = p\ninclude conf.mk\n", "make"),
+    ("again by eval", "X = p\n$(eval X = w evil)\n", "make"),
+    ("again by its name", "N = X\nX = p\n$(N) = w evil\n", "make"),
+    ("behind ifdef", "ifdef Y\nX = p\nendif\n", "X='w evil' make"),
+]] + [Row("a value of make that is set again on the command line", "X = p\nall:\n\t@sed '$(X)' f\n", "make 'X=w evil'", WRITES, "Makefile",
+          due=FOUND, warning="known-value")]
+
+# ---- Calls that are there
+
+ACTION = "jobs:\n  a:\n    steps:\n      - run: %s\n"
+SCRIPT = ("-n", "w evil", "f")
+PLAIN = ("-n", "s/a/b/", "f")
+RECALL = [
+    Row("a sed that configure finds", "SED = @SED@\nall:\n\t$(SED) 1d f\n", file="Makefile.in", due=FOUND, place="3:2", words=("1d", "f")),
+    Row("a value that a tab continues", "X = : ;\\\n\tsed -n 'w evil' f\nall:\n\t$(X)\n", "make", WRITES, "Makefile", due=FOUND,
+        place="2:2", words=SCRIPT),
+    Row("a value that a blank and a tab continue", "X = : ; \\\n\tsed -n 'w evil' f\nall:\n\t$(X)\n", "make", WRITES, "Makefile",
+        due=FOUND, place="2:2", words=SCRIPT),
+    Row("a value that a tab continues within the call", "X = : ; sed -n\\\n\t'w evil' f\nall:\n\t$(X)\n", "make", WRITES, "Makefile",
+        due=FOUND, place="1:9", words=SCRIPT),
+    Row("a shell's text of make that a tab continues", "X := $(shell : ;\\\n\tsed -n 'w evil' f)\nall:\n", "make", WRITES, "Makefile",
+        due=FOUND, place="2:2", words=SCRIPT),
+    Row("xargs with an option that isn't known", "echo f | xargs -P$N -n32 sh -c \"sed -n 'w evil' f\"\n", "N=1 sh a.sh", WRITES,
+        due=FOUND, place="1:33", words=SCRIPT),
+    Row("a script that is named as a makefile", "#!/bin/sh\nsed 's/$/x/' f\n", file="Makefile.SH", due=ACCEPTED, place="2:1",
+        words=("s/$/x/", "f")),
+    Row("Kbuild in a folder", "all:\n\tsed p f\n", file="Kbuild", asked=".", due=FOUND, place="2:2", words=("p", "f")),
+    Row("po/Rules-quot in a folder", "all:\n\tsed p f\n", file="po/Rules-quot", asked=".", due=FOUND, place="2:2", words=("p", "f")),
+    Row("po/Make-in in a folder", "all:\n\tsed p f\n", file="po/Make-in", asked=".", due=FOUND, place="2:2", words=("p", "f")),
+    Row("a message of Autoconf", "AC_INIT([a])\nAC_MSG_ERROR([sed not found in PATH])\nAC_OUTPUT\n", file="configure.ac", due=FOUND,
+        may_have_no_call=True),
+    Row("a list of programs for Autoconf", "_AC_PATH_PROGS_FEATURE_CHECK(SED, [sed gsed], [ac_cv_path_SED=$ac_path_SED])\n",
+        file="a.m4", due=FOUND, may_have_no_call=True),
+    Row("a call in an array", "c=(sed -n 'w evil' f)\n\"${c[@]}\"\n", "bash a.sh", WRITES, due=FOUND, words=SCRIPT),
+    Row("a name in an array", "SED=(sed -n)\n\"${SED[@]}\" 'w evil' f\n", "bash a.sh", WRITES, due=FOUND, words=SCRIPT),
+    Row("env -S", "env -S \"sed -n 'w evil'\" f\n", "sh a.sh", WRITES, due=FOUND, words=SCRIPT),
+    Row("coproc", "coproc sed -n 'w evil' f\nwait\n", "bash a.sh", WRITES, due=FOUND, words=SCRIPT),
+    Row("a here-document that the shell reads", ". /dev/stdin <<'E'\nsed -n 'w evil' f\nE\n", "sh a.sh", WRITES, due=FOUND, words=SCRIPT),
+    Row("foreach of make", "all:\n\t@$(foreach i,1,sed -n 'w evil' f)\n", "make", WRITES, "Makefile", due=FOUND, words=SCRIPT),
+    Row("toybox", "toybox sed -n 'w evil' f\n", "sh a.sh", WRITES, due=FOUND, words=SCRIPT),
+    Row("ssed", "ssed -n 'w evil' f\n", "sh a.sh", WRITES, due=FOUND, words=SCRIPT),
+    Row("flock", "flock l sed -n 'w evil' f\n", "sh a.sh", WRITES, due=FOUND, words=SCRIPT),
+    Row("a folded block of YAML", ACTION % ">\n          sed -n\n          's/a/b/' f", file="ci.yml", due=FOUND, words=PLAIN),
+    Row("a folded block without an end", ACTION % ">-\n          sed -n\n          's/a/b/' f", file="ci.yml", due=FOUND, words=PLAIN),
+    Row("a plain text of two lines in YAML", ACTION % "sed -n\n          's/a/b/' f", file="ci.yml", due=FOUND, words=PLAIN),
+    Row("a macro of RPM", "%build\n%{__sed} -n 's/a/b/' f\n", file="a.spec", due=FOUND, words=PLAIN),
+    Row("a list of words for Docker", 'FROM a\nRUN ["sed", "-n", "s/a/b/", "f"]\n', file="Dockerfile", due=FOUND, words=PLAIN),
+    Row("a hundred thousand substitutions without an end", '"$(' * 100000 + "sed ':x;bx' f\n", harm=LOOPS),
+]
+
+# ---- Calls of which everything is known
+
+INNOCENT = [Row("innocent: %r" % text, text, due=ACCEPTED) for text in [
+    "sed p f\n",
+    "sed -n 's/a/b/p' \"dir/$f\"\n",
+    'sed -e p -- "$@"\n',
+    "sed -e p -- $FILES\n",
+    "sed p ./*\n",
+    "sed 's/a*/b/' f\n",
+    "x=$(sed 1d f)\n",
+    "cmd | sed p\n",
+    "find . -exec sed -n p {} \\;\n",
+    "sed -f - <<'E'\np\nE\n",
+]] + [Row("innocent: a value that is set once", 'a=u\nsed "s/$a/b/" f\n', due=ACCEPTED, warning="known-value")]
+
+ROWS = CONDITIONS + OTHER_WORDS + VALUES + VALUES_OF_MAKE + RECALL + INNOCENT
+
+
+def fail(words):
+    failures.append(words)
+    print("attacks: " + words)
+
+
+def put(folder, files):
+    for name, text in files.items():
+        path = Path(folder, name)
+        path.parent.mkdir(parents=True, exist_ok=True)
+        path.write_text(text)
+
+
+def asked(folder, *words):
+    return subprocess.run([PROGRAM, *words], cwd=folder, stdin=subprocess.DEVNULL, capture_output=True, timeout=60)
+
+
+def missed(one):
+    """The findings of an object that say that a place isn't understood."""
+    return [finding for finding in one.get("findings", []) if finding["code"] == "not-understood"]
+
+
+# ---- The run
+
+def split(line):
+    """The variables that a line assigns, and the words behind them."""
+    words, variables = shlex.split(line), {}
+    while words and re.match(r"\w+=", words[0]):
+        name, _, variables[name] = words.pop(0).partition("=")
+    return variables, words
+
+
+@functools.lru_cache(maxsize=None)
+def is_here(program):
+    """Whether the program is installed, and for `su` whether it asks for no password."""
+    if shutil.which(program) is None:
+        return False
+    return program != "su" or subprocess.run(["su", "root", "-c", "true"], stdin=subprocess.DEVNULL, capture_output=True).returncode == 0
+
+
+def missing(row):
+    """The programs of the run that aren't here."""
+    programs = split(row.run)[1][:1] + re.findall(r"\b(?:find|xargs|su|flock|toybox|ssed)\b", row.text)
+    return [program for program in programs if not is_here(program)]
+
+
+def harms(row):
+    """Whether the run of the row does its harm."""
+    variables, words = split(row.run)
+    with tempfile.TemporaryDirectory() as folder:
+        put(folder, {**AROUND, row.file: row.text, **row.files})
+        environment = {"PATH": os.environ["PATH"], "HOME": folder, "LC_ALL": "C", **variables}
+        run = subprocess.Popen(words, cwd=folder, env=environment, stdin=subprocess.DEVNULL, stdout=subprocess.DEVNULL,
+                               stderr=subprocess.DEVNULL, start_new_session=True)
+        try:
+            status = run.wait(timeout=LIMIT)
+        except subprocess.TimeoutExpired:
+            status = None
+            os.killpg(run.pid, signal.SIGKILL)
+            run.wait()
+        if row.harm in (WRITES, RUNS):
+            return Path(folder, "evil").exists()
+        return status is None if row.harm == LOOPS else status not in (0, None)
+
+
+# ---- What is said of it
+
+# Bytes that a condition names in words.
+NAMED = {"newline": "\n", "blank": " \t", "quote": "'\"", "backquote": "`", "backslash": "\\", "IFS": ":"}
+
+
+def rules_out(message, values):
+    """Whether the condition that is told keeps one of the values out."""
+    written = re.findall(r"(begins? with )?`([^`]+)`", message)
+    nowhere = "".join(those for first, those in written if not first)
+    nowhere += "".join(those for name, those in NAMED.items() if re.search(r"\b%ss?\b" % name, message))
+    not_first = "".join(those for first, those in written if first) + ("-" if re.search(r"\boptions?\b", message) else "")
+    return ("isn't empty" in message and "" in values
+            or re.search(r"\bone (?:word|argument)\b", message) is not None and len(values) > 1
+            or any(byte in nowhere for value in values for byte in value)
+            or any(word[0] in not_first for value in values for word in value.split()))
+
+
+def is_due(row, call):
+    """Whether the answer of a call is right: it tells of the harm, or it is one of those that are due."""
+    told = {LOOPS: call["answer"] == "loop", WRITES: "evil" in [file["name"] for file in call["writes"]],
+            REFUSED: call["answer"] == "script-refused"}
+    if told.get(row.harm):
+        return True
+    if call["answer"] not in row.due:
+        return False
+    if call["answer"] == "accepted":
+        return not row.warning or ("warning", row.warning) in [(finding["level"], finding["code"]) for finding in call["findings"]]
+    conditions = [finding["message"] for finding in call["findings"] if finding["code"] == "open-hole"]
+    variables, words = split(row.run)
+    values = [*row.values, *variables.values(), *words[2:]]
+    return not conditions or not values or any(rules_out(message, values) for message in conditions)
+
+
+def answer(row):
+    """What isn't as it should be in what is said of the row's file."""
+    with tempfile.TemporaryDirectory() as folder:
+        put(folder, {**AROUND, row.file: row.text, **row.files})
+        done = asked(folder, "--format", "json", *row.options, "--calls", row.asked or row.file)
+    objects = [json.loads(line) for line in done.stdout.splitlines()]
+    is_missed = any(missed(one) for one in objects)
+    calls = [one for one in objects if one.get("call") and one["answer"] not in ("not-understood", "unreadable")]
+    said = "status %d, %s" % (done.returncode, [(one["call"]["line"], one["call"]["column"], one["answer"], one["words"]) for one in calls])
+    if not calls and not row.may_have_no_call and not (done.returncode == 5 and is_missed or done.returncode == 4 and done.stderr):
+        return ["no call is found, and nothing is said of it: " + said]
+    wrong = []
+    if row.place and ["%d:%d" % (one["call"]["line"], one["call"]["column"]) for one in calls] != [row.place]:
+        wrong.append("the call is at %s: %s" % (row.place, said))
+    if row.words and any(tuple(one["words"]) != row.words for one in calls if row.place or one["answer"] != "unknown"):
+        wrong.append("the words are %s: %s" % (list(row.words), said))
+    if not all(is_due(row, one) for one in calls):
+        wrong.append("the answer isn't one that is due: %s, %s" % (said, [one["message"] for call in calls for one in call["findings"]]))
+    if (done.returncode == 0 and any(one["answer"] in OPEN for one in calls)) or (done.returncode != 0 and row.due == ACCEPTED):
+        wrong.append("the status isn't that of the answers: " + said)
+    return wrong
+
+
+def tried(row):
+    """What the run needs and isn't here, whether it does its harm, and what isn't as it should be in what is said of the file."""
+    needed = missing(row) if row.run else []
+    return needed, harms(row) if row.run and not needed else None, answer(row)
+
+
+def table():
+    shown = wrong = 0
+    with concurrent.futures.ThreadPoolExecutor(os.cpu_count()) as pool:
+        for row, (needed, is_harmful, said) in zip(ROWS, pool.map(tried, ROWS)):
+            if needed:
+                print("attacks: %s: isn't run, there is no %s" % (row.name, ", ".join(needed)))
+            if is_harmful is False:
+                fail("%s: the table says of its run that it %s, and that isn't so" % (row.name, row.harm))
+            shown += is_harmful is True
+            wrong += said != []
+            for words in said:
+                fail("%s: %s" % (row.name, words))
+    print("attacks: of %d rows %d do their harm, and %d don't have the answer that is due" % (len(ROWS), shown, wrong))
+
+
+# ---- A quote that isn't closed
+
+def unclosed():
+    """It is a finding with its line, in each format."""
+    with tempfile.TemporaryDirectory() as folder:
+        put(folder, {"a.sh": "sed ':x;bx\n"})
+        for kind in ("text", "gcc", "json"):
+            done = asked(folder, "--format", kind, "--calls", "a.sh")
+            if kind == "json":
+                lines = [finding["position"]["line"] for one in map(json.loads, done.stdout.splitlines()) for finding in missed(one)]
+            else:
+                lines = [int(line) for line in re.findall(rb"^a\.sh:(\d+):\d+: \w+: .*\[not-understood\]$", done.stdout, re.M)]
+            if done.returncode != 5 or lines != [1]:
+                fail("a quote that isn't closed, %s: status %d, %r" % (kind, done.returncode, done.stdout))
+
+
+# ---- Time and memory
+
+# A text, the most seconds of processor time, and whether it may be refused, with status 4 and a message that it is too long, or not be
+# read to its end, with status 5.
+LONG = [
+    ("30,000 variables, each used once", lambda: "".join("v%d='s/a/b/'\nsed \"$v%d\" f\n" % (index, index) for index in range(30000)), 5, True),
+    ("a variable that is used 30,000 times", lambda: "v1='s/a/b/'\n" + 'sed "$v1" f\n' * 30000, 5, False),
+    ("4 MB of calls", lambda: "sed p\n" * (4000000 // 6), 20, True),
+    ("14 MB of calls", lambda: "sed p\n" * (14000000 // 6), 20, True),
+]
+MEGABYTES = 300
+
+
+def long_files():
+    for name, text, seconds, may_be_refused in LONG:
+        with tempfile.TemporaryDirectory() as folder, tempfile.TemporaryFile() as err:
+            put(folder, {"a.sh": text()})
+            # So that no machine is stopped: a minute of processor time, and a gigabyte.
+            limited = ["sh", "-c", 'ulimit -t 60; ulimit -v 1000000; exec "$@"', "sh", PROGRAM, "--format", "gcc", "--calls", "a.sh"]
+            run = subprocess.Popen(limited, cwd=folder, stdin=subprocess.DEVNULL, stdout=subprocess.DEVNULL, stderr=err)
+            _, ended, used = os.wait4(run.pid, 0)
+            run.returncode = os.waitstatus_to_exitcode(ended)
+            err.seek(0)
+            said = err.read()
+        took, peak = used.ru_utime + used.ru_stime, used.ru_maxrss / 1000
+        shown = "%s: status %d, %.1f s of processor time, %d MB, %r" % (name, run.returncode, took, peak, said[-200:])
+        is_refused = may_be_refused and (run.returncode == 4 and b"it has more than" in said or run.returncode == 5)
+        if run.returncode != 0 and not is_refused or took >= seconds or peak >= MEGABYTES:
+            fail(shown)
+        else:
+            print("attacks: " + shown)
+
+
+def main():
+    for part in (table, unclosed, long_files):
+        part()
+    if not failures:
+        print("attacks: all is as it should be")
+    return 1 if failures else 0
+
+
+if __name__ == "__main__":
+    sys.exit(main())
