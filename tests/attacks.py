@@ -399,8 +399,8 @@ def unclosed():
 # A text, the most seconds of processor time, and whether it may be refused, with status 4 and a message that it is too long, or not be
 # read to its end, with status 5.
 LONG = [
-    ("30,000 variables, each used once", lambda: "".join("v%d='s/a/b/'\nsed \"$v%d\" f\n" % (index, index) for index in range(30000)), 5, True),
-    ("a variable that is used 30,000 times", lambda: "v1='s/a/b/'\n" + 'sed "$v1" f\n' * 30000, 5, False),
+    ("30,000 variables, each used once", lambda: "".join("v%d='s/a/b/'\nsed \"$v%d\" f\n" % (index, index) for index in range(30000)), 15, True),
+    ("a variable that is used 30,000 times", lambda: "v1='s/a/b/'\n" + 'sed "$v1" f\n' * 30000, 15, False),
     ("4 MB of calls", lambda: "sed p\n" * (4000000 // 6), 20, True),
     ("14 MB of calls", lambda: "sed p\n" * (14000000 // 6), 20, True),
 ]
