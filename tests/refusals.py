@@ -311,7 +311,7 @@ EXPLAINED = [
     (["script"], {}, 4),
     ([], {}, 0),
     (["--wrong"], {}, 3),
-    (["--help"], {}, 0),
+    (["--help"], {}, 3),
     (["--sed", "--", "-ne", "$!N", "-f", "script", "-i", "x"], {"script": "p"}, 0),
     (["--sed", "--", "-Ez", "p"], {}, 2),
     (["--sed", "--", "--nonsense"], {}, 2),
@@ -325,7 +325,7 @@ IN_FILES = [
     (["--deny", "writes", "--calls", "Makefile"], {"Makefile": "S = s/a/b/\nall: a\n\t@sed '$(S)' $< | \\\n\t  sed 'w out'\nX := $(shell sed p f)\n"}, 1),
     (["--assume", "a=b", "--calls", "."], {"a.sh": "sed \"s/$a/c/\"\n", "b.yml": "- run: |\n    sed 's/a/b/' f\n", "c": "sed p\n"}, 0),
     (["--as", "docker", "--calls", "x"], {"x": "RUN sed p \\\n  f\n"}, 0),
-    (["--as", "spec", "--calls", "x"], {"x": "%prep\nsed 's/%%/b/' %{name}\n"}, 0),
+    (["--as", "spec", "--calls", "x"], {"x": "%prep\nsed 's/%%/b/' %{name}\n"}, 5),
     (["--as", "m4", "--calls", "x"], {"x": "dnl a\nx=`sed p f`\n"}, 0),
     (["--calls", "none"], {}, 4),
     (["--calls"], {}, 3),
@@ -335,6 +335,7 @@ SEVERAL = {"one": NEXT_LINE, "two": IDLE, "three": "b z"}
 
 def explained():
     """Each run of the program: its words, its files, its status, and the scripts whose reports may stand alone."""
+    yield ["--help"], {}, 0, []
     for form in ("text", "gcc", "json", "sarif", "html", "dot", "dot-nodes"):
         for words, files, status in EXPLAINED:
             yield ["--format", form, *words], files, status, []
@@ -488,7 +489,7 @@ def main():
             jobs.append((f"sedck {words[0]}", files.get("script", ""), job))
         for words, files, status, scripts in explained():
             job = pool.submit(explain_in_turn, explain, shim, words, files, status, scripts)
-            jobs.append((f"sedck-explain {words[1]}", files.get("script", ""), job))
+            jobs.append((f"sedck-explain {words[1] if len(words) > 1 else words[0]}", files.get("script", ""), job))
     total, failures, answered_by_kind = 0, 0, {}
     for kind, text, job in jobs:
         try:
