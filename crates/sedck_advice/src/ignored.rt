@@ -27,10 +27,13 @@ impl Word<'_> {
 }
 
 /// The codes of warnings and notes that a comment in the script may silence: all but those of what isn't known.
-static IGNORABLE: [Code; 14] = [
+static IGNORABLE: [Code; 22] = [
     Code::OptionsInFirstLine,
     Code::BraceBehindLabel,
     Code::LooksExtended,
+    Code::OneLineText,
+    Code::SilencingComment,
+    Code::RepeatedReference,
     Code::StreamName,
     Code::DeviceName,
     Code::AbsoluteName,
@@ -38,7 +41,12 @@ static IGNORABLE: [Code; 14] = [
     Code::UnprintableName,
     Code::BlankAtEnd,
     Code::CommandInName,
+    Code::HiddenName,
+    Code::MakefileName,
+    Code::OptionName,
+    Code::ShellByteInName,
     Code::ReadAndWritten,
+    Code::SameFile,
     Code::UnknownCode,
     Code::InPlace,
     Code::NoBound,

@@ -49,10 +49,13 @@ pub fn page_of(code: Code) -> &'static str {
         Code::LoopIdle | Code::LoopGrowing => "MENDING.md#repairing-loops",
         Code::DeniedReads | Code::DeniedWrites | Code::DeniedUnbounded | Code::DeniedWarnings =>
             "STRANGERS.md#scripts-of-strangers",
+        Code::RepeatedReference | Code::DeniedSlow => "STRANGERS.md#what-a-limit-on-steps-doesnt-limit",
         Code::OptionsInFirstLine | Code::LooksExtended => {
             "TRUST.md#options-and-the-scripts-first-line"
         }
-        Code::BraceBehindLabel => "GRAMMAR.md#what-seds-read-differently",
+        Code::BraceBehindLabel | Code::OneLineText | Code::SilencingComment => {
+            "GRAMMAR.md#what-seds-read-differently"
+        }
         Code::DeviceName => "TRUST.md#devices-pipes-and-links",
         Code::StreamName
         | Code::AbsoluteName
@@ -60,7 +63,12 @@ pub fn page_of(code: Code) -> &'static str {
         | Code::UnprintableName
         | Code::BlankAtEnd
         | Code::CommandInName
-        | Code::ReadAndWritten => "TRUST.md#names",
+        | Code::HiddenName
+        | Code::MakefileName
+        | Code::OptionName
+        | Code::ShellByteInName
+        | Code::ReadAndWritten
+        | Code::SameFile => "TRUST.md#names",
         Code::NoBound => "FORMATS.md#the-line-of-the-bound",
         Code::UnknownCode => "RECIPES.md#fewer-findings",
         Code::OtherLanguage => "CALLS.md#other-languages",

@@ -66,11 +66,18 @@ pub enum Code {
     DeniedWrites,
     DeniedUnbounded,
     DeniedWarnings,
+    DeniedSlow,
 
     // Warnings of how the script looks.
     OptionsInFirstLine,
     BraceBehindLabel,
     LooksExtended,
+    /// A text on the line of its command.
+    OneLineText,
+    /// A comment that begins with `n`, by which BusyBox prints nothing by itself.
+    SilencingComment,
+    /// A reference that is repeated, or whose group is.
+    RepeatedReference,
 
     // Warnings of file names.
     StreamName,
@@ -80,7 +87,13 @@ pub enum Code {
     UnprintableName,
     BlankAtEnd,
     CommandInName,
+    HiddenName,
+    MakefileName,
+    OptionName,
+    ShellByteInName,
     ReadAndWritten,
+    /// Two names for one file, as `F` and `./F`.
+    SameFile,
 
     // Warnings of comments.
     UnknownCode,
@@ -165,9 +178,13 @@ impl Code {
             Code::DeniedWrites => "denied-writes",
             Code::DeniedUnbounded => "denied-unbounded",
             Code::DeniedWarnings => "denied-warnings",
+            Code::DeniedSlow => "denied-slow",
             Code::OptionsInFirstLine => "options-in-first-line",
             Code::BraceBehindLabel => "brace-behind-label",
             Code::LooksExtended => "looks-extended",
+            Code::OneLineText => "one-line-text",
+            Code::SilencingComment => "silencing-comment",
+            Code::RepeatedReference => "repeated-reference",
             Code::StreamName => "stream-name",
             Code::DeviceName => "device-name",
             Code::AbsoluteName => "absolute-name",
@@ -175,7 +192,12 @@ impl Code {
             Code::UnprintableName => "unprintable-name",
             Code::BlankAtEnd => "blank-at-end",
             Code::CommandInName => "command-in-name",
+            Code::HiddenName => "hidden-name",
+            Code::MakefileName => "makefile-name",
+            Code::OptionName => "option-name",
+            Code::ShellByteInName => "shell-byte-in-name",
             Code::ReadAndWritten => "read-and-written",
+            Code::SameFile => "same-file",
             Code::UnknownCode => "unknown-code",
             Code::OtherLanguage => "other-language",
             Code::BadCall => "bad-call",
