@@ -2,8 +2,8 @@
 import itertools
 import json
 
-DENIALS = ("reads", "writes", "warnings", "unbounded")
-EXTENDED, OPTIONS, BRACE = "looks-extended", "options-in-first-line", "brace-behind-label"
+DENIALS = ("reads", "writes", "warnings", "unbounded", "slow")
+EXTENDED, OPTIONS, BRACE, REPEATED = "looks-extended", "options-in-first-line", "brace-behind-label", "repeated-reference"
 
 # An accepted script, the place and the code of what each denial finds in it, worked out by hand.
 ACCEPTED = [
@@ -16,7 +16,37 @@ ACCEPTED = [
     (b"s/a/b/\n", {}),
     (b"r /etc/motd\n", {"reads": [(1, 1, "denied-reads")], "warnings": [(1, 1, "denied-warnings")]}),
     (b"p;s/[0-9]+/x/\n", {"warnings": [(1, 10, "denied-warnings")]}),
+    (b"p\ns/\\(a*\\)*\\1//\n", {"warnings": [(2, 1, "denied-warnings")], "slow": [(2, 1, "denied-slow")]}),
+    (b"s/\\(\\(a\\{255\\}\\)\\{255\\}\\)\\{9\\}//\n", {"slow": [(1, 1, "denied-slow")]}),
     (b"s/x/y/;w ../o\nG\n", {"writes": [(1, 8, "denied-writes")], "warnings": [(1, 8, "denied-warnings")], "unbounded": [(2, 1, "denied-unbounded")]}),
+]
+
+# An accepted script, the place of each warning of a repeated reference, and that of the error where the script is slow: by the rule
+# that a group is repeated which has a reference in it, or to which there is one; slow too that a reference is repeated by itself, and that
+# intervals write out more than 2,000 items.
+SLOW = [
+    (b"s/\\(\\(a*\\)\\2\\2\\)*//\n", [(1, 1)], (1, 1)),
+    (b"p\n/\\(a*\\)*\\1/d\n", [(2, 12)], (2, 12)),
+    (b"1,/\\(a\\)x\\(b\\1\\)\\{3\\}/p\n", [(1, 23)], (1, 23)),
+    (b"$!s/\\(\\(a\\)b\\)*\\2//;s/\\(b\\(a\\)\\2*\\)\\{2,\\}//\n", [(1, 3), (1, 21)], (1, 3)),
+    (b"/\\(a\\)\\(b\\(c\\)*\\)\\3/,/x/d\n", [(1, 25)], (1, 25)),
+    (b"s/\\(.\\)\\1*/\\1/g\n", [], (1, 1)),
+    (b"p;/\\(.\\)\\1\\{3\\}/d\n", [], (1, 17)),
+    # A reference that is outside of what is repeated, and a group that is repeated without one.
+    (b"s/^\\(.*\\)\\n\\1$/\\1/\n", [], None),
+    (b"s/\\(a*\\)\\(b\\)*\\1//\n", [], None),
+    (b"s/\\(a*b\\)*\\(c\\)\\2/\\1/\n", [], None),
+    (b"s/\\(a\\)*/\\1/\n", [], None),
+    # 2,000 items, and two more. An item that may be there once only is written once.
+    (b"s/\\(a\\{200\\}\\)\\{10\\}//\n", [], None),
+    (b"s/\\(a\\{200\\}\\)\\{10\\}b\\{0,1\\}c*d\\{1\\}//\n", [], None),
+    (b"p;s/\\(a\\{200\\}\\)\\{10\\}b\\{2\\}//\n", [], (1, 3)),
+    (b"s/\\(a\\{100\\}b\\)\\{2,20\\}//\n", [], (1, 1)),
+    (b"s/\\(a\\{3,\\}\\)\\{255\\}//\n", [], None),
+    (b"/\\(a\\{100\\}\\)\\{8\\}/{\n/\\(a\\{100\\}\\)\\{12\\}/d\n}\n", [], None),
+    (b"/\\(a\\{100\\}\\)\\{8\\}/{\n/\\(a\\{100\\}\\)\\{12\\}/,/x\\{2\\}/d\n}\n", [], (2, 30)),
+    (b"s/\\(\\(\\(a\\{255\\}\\)\\{255\\}\\)\\{120\\}\\)//\n", [], (1, 1)),
+    (b"s/\\(\\(\\(\\(\\(a\\{255\\}\\)\\{255\\}\\)\\{255\\}\\)\\{255\\}\\)\\{255\\}\\)//\n", [], (1, 1)),
 ]
 
 # A script that isn't accepted, and its status.
@@ -67,7 +97,7 @@ def errors(tools, words):
 
 def check_denials(tools):
     """Each set of denials of each script: nothing is found but what is denied, and no no becomes a yes."""
-    subsets = [subset for size in range(1, 5) for subset in itertools.combinations(DENIALS, size)]
+    subsets = [subset for size in range(1, 6) for subset in itertools.combinations(DENIALS, size)]
     for script, found in ACCEPTED:
         tools.write("d.sed", script)
         tools.same("%r without a denial" % script, errors(tools, ["d.sed"]), (0, "accepted", []))
@@ -81,6 +111,22 @@ def check_denials(tools):
         tools.same("status of %r" % script, plain[0], status)
         for subset in subsets:
             tools.same("%r, %s" % (script, subset), tools.explain("--format", "json", "--deny", ",".join(subset), "d.sed"), plain)
+
+
+def check_slow(tools):
+    """The warnings of repeated references, and what `--deny slow` and `--deny warnings` make of slow scripts."""
+    for script, warned, slow in SLOW:
+        tools.write("d.sed", script)
+        status, report, _ = tools.explain("--format", "json", "d.sed")
+        found = [(finding["position"]["line"], finding["position"]["column"]) for finding in json.loads(report)["findings"] if finding["code"] == REPEATED]
+        tools.same("repeated references of %r" % script, (status, found), (0, warned))
+        due = (1, "denied", [(*slow, "denied-slow")]) if slow else (0, "accepted", [])
+        tools.same("%r, slow" % script, errors(tools, ["--deny", "slow", "d.sed"]), due)
+        # The warning can't be ignored where warnings are denied.
+        tools.write("d.sed", b"# sedck: ignore repeated-reference\n" + script)
+        status, report, _ = tools.explain("--format", "gcc", "d.sed")
+        tools.same("%r, ignored" % script, (status, REPEATED.encode() in report), (0, False))
+        tools.same("%r, ignored and denied" % script, tools.explain("--format", "gcc", "--deny", "warnings", "d.sed")[0], 1 if warned else 0)
 
 
 def check_texts(tools):
@@ -124,6 +170,7 @@ def check_no_scripts(tools):
 def check(tools):
     """Compares statuses, findings and texts."""
     check_denials(tools)
+    check_slow(tools)
     check_texts(tools)
     check_looks(tools)
     check_no_scripts(tools)

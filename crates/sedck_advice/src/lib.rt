@@ -14,6 +14,7 @@ mod lists;
 mod looks;
 mod mends;
 mod names;
+mod slow;
 mod spot;
 
 pub use adding::add_warnings;
@@ -23,4 +24,5 @@ pub use ignored::{Word, ignoring_words};
 pub use lists::{Reading, is_blank};
 pub use mends::{Mend, script_mend};
 pub use names::named_files;
+pub use slow::{ITEM_LIMIT, Slow, repeated_warnings, slow_of};
 pub use spot::{Purpose, Spot, behind_part};

@@ -1,9 +1,11 @@
 //! What a caller denies of an accepted script, and what is reported of it.
 
 ghost use Rattle.std.specs.Prelude.{◌≡◌, ◌&&◌, ◌||◌, not, true, false, IfOk, OnOk};
+ghost use Rattle.std.specs.Option.{is_some};
 ghost use Rattle.sedck_report.specs.Levels.{has_warning, is_warning, has_error, is_error};
 ghost use Rattle.sedck_report.specs.Files.{is_there};
 
+use sedck_advice::Slow;
 use sedck_cert::Cert;
 use sedck_report::{Code, Finding, Level, NamedFile, Position, shown_name};
 use std::alloc::{AllocError, Global};
@@ -19,6 +21,8 @@ pub struct Denied {
     pub warnings: bool,
     /// Steps without a known limit.
     pub unbounded: bool,
+    /// Expressions with which matching may take very long, or never end.
+    pub slow: bool,
 }
 
 impl Denied {
@@ -28,6 +32,7 @@ impl Denied {
         writes: false,
         warnings: false,
         unbounded: false,
+        slow: false,
     };
 }
 
@@ -60,10 +65,11 @@ pub fn with_denials(
     reads: &[NamedFile],
     writes: &[NamedFile],
     is_bounded: bool,
+    slow: Option<Slow>,
 ) -> Result<Vec<Finding>, AllocError>
     // There is an error where something is denied and there, or was one before; all warnings are kept.
     ensures errors { IfOk result (λ all. has_error all.items ≡ ((denied.reads && is_there reads.now) || (denied.writes && is_there writes.now)
-        || (denied.unbounded && not is_bounded) || (denied.warnings && has_warning findings.items) || has_error findings.items)) }
+        || (denied.unbounded && not is_bounded) || (denied.warnings && has_warning findings.items) || (denied.slow && is_some slow) || has_error findings.items)) }
     ensures warnings { IfOk result (λ all. has_warning all.items ≡ has_warning findings.items) }
 {
     let mut all = Vec::new(alloc);
@@ -75,6 +81,9 @@ pub fn with_denials(
     }
     if denied.unbounded && !is_bounded {
         all.push(unbounded_denial(alloc, &findings)?)?;
+    }
+    if denied.slow {
+        push_slow(alloc, &mut all, slow)?;
     }
     if denied.warnings {
         push_warnings(alloc, &mut all, &findings)?;
@@ -121,6 +130,23 @@ fn push_warnings(
             error.end = finding.end;
             findings.push(error)?;
         }
+    }
+    Ok(())
+}
+
+/// Adds an error for a script that is slow, where it is.
+fn push_slow(
+    alloc: Global,
+    findings: &mut Vec<Finding>,
+    slow: Option<Slow>,
+) -> Result<(), AllocError>
+    ensures errors { OnOk result (has_error findings.new.items ≡ (has_error findings.old.items || is_some slow)) }
+    ensures warnings { OnOk result (has_warning findings.new.items ≡ has_warning findings.old.items) }
+{
+    if let Some(slow) = slow {
+        let reason = slow.reason;
+        let message = format!(in alloc; "{reason}, which `--deny slow` forbids")?;
+        findings.push(denial(alloc, Code::DeniedSlow, slow.position, message))?;
     }
     Ok(())
 }

@@ -14,12 +14,13 @@ scripts_of request = map (λ path. path.now) request.scripts.items
 
 -- what is denied by these names, which have commas between
 abbrev pub denied_by : Option (List ℕ) → Denied
-denied_by None = record { reads = false; writes = false; warnings = false; unbounded = false }
+denied_by None = record { reads = false; writes = false; warnings = false; unbounded = false; slow = false }
 denied_by (Some names) = record {
   reads = is_named names (codes "reads");
   writes = is_named names (codes "writes");
   warnings = is_named names (codes "warnings");
   unbounded = is_named names (codes "unbounded");
+  slow = is_named names (codes "slow");
 }
 
 -- where a script is missing, it is standard input

@@ -137,6 +137,7 @@ fn denied_of(given: Option<&str>) -> Denied
             writes: names(list.as_bytes(), b"writes"),
             warnings: names(list.as_bytes(), b"warnings"),
             unbounded: names(list.as_bytes(), b"unbounded"),
+            slow: names(list.as_bytes(), b"slow"),
         },
         None => Denied::NOTHING,
     }
@@ -149,7 +150,7 @@ const KINDS: &[&str] = &["sh", "make", "docker", "yaml", "spec", "m4"];
 const LEVELS: &[&str] = &["error", "warning", "note"];
 
 /// What a script may be denied, by name.
-const DENIALS: &[&str] = &["reads", "writes", "warnings", "unbounded"];
+const DENIALS: &[&str] = &["reads", "writes", "warnings", "unbounded", "slow"];
 
 /// What follows an option; the first word is what the help calls it.
 #[derive(Clone, Copy)]

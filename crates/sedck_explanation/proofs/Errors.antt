@@ -50,26 +50,26 @@ denied_is_error true before error status is none is_status = rw (is_status, is) 
 denied_is_error false before error status is none is_status = rw (is_status, is, none) refl
 
 -- there is an error exactly where the status isn't 0, and the first is that of the answer
-pub errors_of : (text : List ℕ) (positions : List Position) (denied : Denied) (answer : Answer) (before all : List Finding) (status : ℕ)
-    → AreFindingsOf text positions answer before → AreDeniedFindings denied before all answer → status ≡ status_under denied (has_warning all) answer
+pub errors_of : (text : List ℕ) (positions : List Position) (denied : Denied) (slow : Bool) (answer : Answer) (before all : List Finding) (status : ℕ)
+    → AreFindingsOf text positions answer before → AreDeniedFindings denied slow before all answer → status ≡ status_under denied (has_warning all) slow answer
     → (has_error all ≡ not (status == 0)) × BeginsWithAnswer text positions all answer
-errors_of text positions denied (Accepted cert bound) before all status found denials is =
-    (denied_is_error (is_denied denied (has_warning all) (Accepted cert bound)) (has_error before) (has_error all) status denials found is, tt)
-errors_of text positions denied (ScriptRefused why) before all status found denials is =
+errors_of text positions denied slow (Accepted cert bound) before all status found denials is =
+    (denied_is_error (is_denied denied (has_warning all) slow (Accepted cert bound)) (has_error before) (has_error all) status denials found is, tt)
+errors_of text positions denied slow (ScriptRefused why) before all status found denials is =
     rw denials ((rw is (begins_is_error found.0 before found.2)), found)
-errors_of text positions denied (CertificateRefused why) before all status found denials is =
+errors_of text positions denied slow (CertificateRefused why) before all status found denials is =
     rw denials ((rw is (begins_is_error found.0 before found.2)), found)
-errors_of text positions denied (Rejected cert why) before all status found denials is =
+errors_of text positions denied slow (Rejected cert why) before all status found denials is =
     rw denials ((rw is (begins_is_error found.0 before found.2)), found)
-errors_of text positions denied (Endless walk) before all status found denials is =
+errors_of text positions denied slow (Endless walk) before all status found denials is =
     rw denials ((rw is (begins_is_error found.0 before found.2)), found)
-errors_of text positions denied NotJudged before all status found denials is =
+errors_of text positions denied slow NotJudged before all status found denials is =
     rw denials ((rw is (begins_is_error found.0 before found.2)), found)
 
 -- the same of a script that is refused, where nothing is denied
-pub errors_of_refusal : (text : List ℕ) (denied : Denied) (answer : Answer) (findings : List Finding) (status : ℕ) → IsRefused text answer
-    → AreFindingsOf text [] answer findings → status ≡ status_under denied (has_warning findings) answer
+pub errors_of_refusal : (text : List ℕ) (denied : Denied) (slow : Bool) (answer : Answer) (findings : List Finding) (status : ℕ) → IsRefused text answer
+    → AreFindingsOf text [] answer findings → status ≡ status_under denied (has_warning findings) slow answer
     → (has_error findings ≡ not (status == 0)) × BeginsWithAnswer text [] findings answer
-errors_of_refusal text denied (ScriptRefused why) findings status refused found is =
-    errors_of text [] denied (ScriptRefused why) findings findings status found refl is
-errors_of_refusal text denied _ findings status refused found is = absurd refused
+errors_of_refusal text denied slow (ScriptRefused why) findings status refused found is =
+    errors_of text [] denied slow (ScriptRefused why) findings findings status found refl is
+errors_of_refusal text denied slow _ findings status refused found is = absurd refused

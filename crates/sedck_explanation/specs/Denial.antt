@@ -1,5 +1,5 @@
--- What a caller may deny of an accepted script, this project's own: files that it reads or writes, warnings, and steps without a
--- limit. A script that isn't accepted has its status with or without it.
+-- What a caller may deny of an accepted script, this project's own: files that it reads or writes, warnings, steps without a
+-- limit, and expressions that are slow to match. A script that isn't accepted has its status with or without it.
 use Rattle.std.specs.Prelude.{ℕ, Bool, false, ◌&&◌, ◌||◌, is_none, if◌then◌else◌}
 use Rattle.sedck_report.specs.Files.{is_there}
 use Rattle.sedck_errors.specs.declared.denied.Denied.{Denied}
@@ -9,15 +9,15 @@ use Rattle.sedck_explanation.specs.declared.answer.Answer.TheVariants.{Accepted}
 
 -- nothing is denied
 abbrev pub nothing : Denied
-nothing = record { reads = false; writes = false; warnings = false; unbounded = false }
+nothing = record { reads = false; writes = false; warnings = false; unbounded = false; slow = false }
 
 -- the script is accepted, and has what is denied. Its lists are those of the accepted certificate.
-abbrev pub is_denied : Denied → Bool → Answer → Bool
-is_denied denied warned (Accepted cert bound) =
+abbrev pub is_denied : Denied → (warned slow : Bool) → Answer → Bool
+is_denied denied warned slow (Accepted cert bound) =
     (denied.reads && is_there cert.reads) || (denied.writes && is_there cert.writes)
-    || (denied.unbounded && is_none bound) || (denied.warnings && warned)
-is_denied denied warned _ = false
+    || (denied.unbounded && is_none bound) || (denied.warnings && warned) || (denied.slow && slow)
+is_denied denied warned slow _ = false
 
 -- the exit status: 1 for a script that is accepted and has what is denied, else that of the answer
-abbrev pub status_under : Denied → Bool → Answer → ℕ
-status_under denied warned answer = if is_denied denied warned answer then 1 else status_of answer
+abbrev pub status_under : Denied → (warned slow : Bool) → Answer → ℕ
+status_under denied warned slow answer = if is_denied denied warned slow answer then 1 else status_of answer

@@ -1,5 +1,5 @@
 -- What an explanation keeps of the script beside the answer, this project's own.
-use Rattle.std.specs.Prelude.{◌≡◌, ℕ, true, List, [], length, map, Option, Some, None}
+use Rattle.std.specs.Prelude.{◌≡◌, ℕ, Bool, true, false, List, [], length, map, Option, Some, None}
 use Rattle.std.specs.List.{All}
 use Rattle.sedck_script.specs.Program.{Program}
 use Rattle.sedck_script.specs.Names.{reads, writes}
@@ -12,6 +12,7 @@ use Rattle.sedck_report.specs.Levels.{has_warning}
 use Rattle.sedck_report.specs.Reported.{AreInOrder, HasRange}
 use Rattle.sedck_report.specs.declared.finding.Finding.{Finding}
 use Rattle.sedck_report.specs.declared.places.Position.{Position}
+use Rattle.sedck_advice.specs.Slow.{has_repeated_group, is_slow}
 use Rattle.sedck_errors.specs.declared.denied.Denied.{Denied}
 use Rattle.sedck_explanation.specs.Answers.{IsAnswer}
 use Rattle.sedck_explanation.specs.Denial.{status_under}
@@ -47,11 +48,18 @@ Keeps text (ScriptRefused why) e = KeepsNothing e
 Keeps text NotJudged e = KeepsNothing e
 Keeps text _ e = KeepsScript text e
 
--- the explanation of a script's text, and of a certificate's where there is one, to a caller who denies this
+-- the script, where one is kept, has this
+abbrev pub kept_has : (Program → Bool) → Option Program → Bool
+kept_has has None = false
+kept_has has (Some p) = has p
+
+-- The explanation of a script's text, and of a certificate's where there is one, to a caller who denies this
 pub record IsExplanation (text : List ℕ) (given : Option (List ℕ)) (denied : Denied) (e : Explanation) : Type 0 where
   pub is_text : e.text.now ≡ text
   pub is_answer : IsAnswer text given e.answer
-  pub is_status : e.status ≡ status_under denied (has_warning e.findings.items) e.answer
+  pub is_status : e.status ≡ status_under denied (has_warning e.findings.items) (kept_has is_slow e.script) e.answer
+  -- where warnings are denied, there is one of each script that repeats a reference, whatever its comments ignore
+  pub repeated : denied.warnings ≡ true → kept_has has_repeated_group e.script ≡ true → has_warning e.findings.items ≡ true
   pub keeps : Keeps text e.answer e
   pub errors : HasErrors text e
   pub order : AreInOrder e.findings.items

@@ -57,9 +57,9 @@ impl Answer {
     }
 
     /// The exit status where this is denied: 1 for a script that is accepted and has what is denied, else as `status`. One of the
-    /// findings is a warning where `has_warning` says so.
-    pub fn status_under(&self, denied: Denied, has_warning: bool) -> u8
-        ensures value { result ≡ status_under denied has_warning self.now }
+    /// findings is a warning where `has_warning` says so, and the script is slow where `is_slow` does.
+    pub fn status_under(&self, denied: Denied, has_warning: bool, is_slow: bool) -> u8
+        ensures value { result ≡ status_under denied has_warning is_slow self.now }
         ensures few { result ≤ 2 }
         // A no stays what it is, and without a denial a yes does too.
         ensures never_a_yes { result ≡ 0 → status_of self.now ≡ 0 }
@@ -67,7 +67,7 @@ impl Answer {
     {
         match self {
             Answer::Accepted { cert, bound } => {
-                if has_denied(denied, has_warning, cert, bound.is_none()) {
+                if has_denied(denied, cert, bound.is_none(), has_warning, is_slow) {
                     1
                 } else {
                     0
@@ -79,14 +79,21 @@ impl Answer {
 }
 
 /// Whether what is denied is there, of a script that is accepted with this certificate.
-fn has_denied(denied: Denied, has_warning: bool, cert: &Cert, is_unbounded: bool) -> bool
+fn has_denied(
+    denied: Denied,
+    cert: &Cert,
+    is_unbounded: bool,
+    has_warning: bool,
+    is_slow: bool,
+) -> bool
     ensures { result ≡ ((denied.reads && is_there cert.now.reads) || (denied.writes && is_there cert.now.writes)
-        || (denied.unbounded && is_unbounded) || (denied.warnings && has_warning)) }
+        || (denied.unbounded && is_unbounded) || (denied.warnings && has_warning) || (denied.slow && is_slow)) }
 {
     (denied.reads && has_reads(cert))
         || (denied.writes && has_writes(cert))
         || (denied.unbounded && is_unbounded)
         || (denied.warnings && has_warning)
+        || (denied.slow && is_slow)
 }
 
 /// An answer, and the script with the places of its commands where it isn't refused.

@@ -1,7 +1,7 @@
 //! All that is reported of a script.
 
 ghost use Rattle.std.specs.Prelude.{◌≡◌, ◌≤◌, true, false, None, [], IfOk, map};
-ghost use Rattle.std.specs.Option.{option_map};
+ghost use Rattle.std.specs.Option.{is_some, option_map};
 ghost use Rattle.sedck_script.specs.Names.{reads, writes};
 ghost use Rattle.sedck_report.specs.Files.{names_of};
 ghost use Rattle.sedck_report.specs.Levels.{has_warning, has_error};
@@ -14,7 +14,9 @@ use crate::answer::{Answer, Answered, answer_of};
 use crate::explanation::Explanation;
 use crate::ignored::ignored_codes;
 use crate::reporting::reported;
-use sedck_advice::{add_warnings, ignoring_words, named_files};
+use sedck_advice::{
+    Slow, add_warnings, ignoring_words, named_files, repeated_warnings, slow_of,
+};
 use sedck_errors::{
     Denied, any_warning, certificate_refusal, loop_finding, rejection, script_refusal, unbounded,
     with_denials,
@@ -147,7 +149,7 @@ fn reports(
     requires warned { has_error warnings.items ≡ false }
     requires reads { names_of lists.now.reads.items ≡ reads located.now.script }
     requires writes { names_of lists.now.writes.items ≡ writes located.now.script }
-    ensures reports { IfOk result (λ r. Reports text.now denied answer.now lists.now.positions.items r.0 r.1.items) }
+    ensures reports { IfOk result (λ r. Reports text.now denied answer.now located.now.script lists.now.positions.items r.0 r.1.items) }
     ensures few { IfOk result (λ r. r.0 ≤ 2) }
     ensures warned { IfOk result (λ r. denied.warnings ≡ true → has_warning warnings.items ≡ true → has_warning r.1.items ≡ true) }
 {
@@ -155,6 +157,7 @@ fn reports(
     let words = ignoring_words(alloc, text, locations)?;
     let mut found = answer_findings(alloc, text, &located.script, &lists.positions, answer)?;
     found.append(&mut warnings)?;
+    repeated_warnings(alloc, &mut found, &located.script, &lists.positions)?;
     add_warnings(
         alloc,
         &mut found,
@@ -164,8 +167,9 @@ fn reports(
         &lists.writes,
         &words,
     )?;
-    let all = denied_findings(alloc, found, denied, answer, &lists.reads, &lists.writes)?;
-    let status = answer.status_under(denied, any_warning(&all));
+    let slow = slow_of(&located.script, &lists.positions);
+    let all = denied_findings(alloc, found, denied, answer, lists, slow)?;
+    let status = answer.status_under(denied, any_warning(&all), slow.is_some());
     let ignored = ignored_codes(alloc, &words, denied)?;
     let findings = reported(alloc, text, locations, all, &ignored)?;
     Ok((status, findings))
@@ -188,7 +192,7 @@ fn refused<'a>(
 {
     let mut found = refusal_findings(alloc, text, &answer)?;
     found.append(&mut warnings)?;
-    let status = answer.status_under(denied, any_warning(&found));
+    let status = answer.status_under(denied, any_warning(&found), false);
     let findings = reported(alloc, text, &[], found, &[])?;
     Ok(Explanation {
         text,
@@ -221,16 +225,25 @@ fn denied_findings(
     findings: Vec<Finding>,
     denied: Denied,
     answer: &Answer,
-    reads: &[NamedFile],
-    writes: &[NamedFile],
+    lists: &Lists,
+    slow: Option<Slow>,
 ) -> Result<Vec<Finding>, AllocError>
-    requires { HasLists reads.now writes.now answer.now }
-    ensures errors { IfOk result (λ all. AreDeniedFindings denied findings.items all.items answer.now) }
+    requires { HasLists lists.now.reads.items lists.now.writes.items answer.now }
+    ensures errors { IfOk result (λ all. AreDeniedFindings denied (is_some slow) findings.items all.items answer.now) }
     ensures warnings { IfOk result (λ all. has_warning all.items ≡ has_warning findings.items) }
 {
     match answer {
         Answer::Accepted { bound, .. } => {
-            with_denials(alloc, findings, denied, reads, writes, bound.is_some())
+            let is_bounded = bound.is_some();
+            with_denials(
+                alloc,
+                findings,
+                denied,
+                &lists.reads,
+                &lists.writes,
+                is_bounded,
+                slow,
+            )
         }
         _ => Ok(findings),
     }

@@ -1,5 +1,5 @@
 -- The steps to an explanation.
-use Rattle.std.specs.Prelude.{◌≡◌, ◌==◌, ◌||◌, ℕ, not, List, Some, map}
+use Rattle.std.specs.Prelude.{◌≡◌, ◌==◌, ◌||◌, ℕ, Bool, true, not, List, Some, map}
 use Rattle.std.specs.List.{All}
 use Rattle.sedck_script.specs.Program.{Program}
 use Rattle.sedck_script.specs.Names.{reads, writes}
@@ -11,9 +11,11 @@ use Rattle.sedck_report.specs.Reported.{AreInOrder, HasRange}
 use Rattle.sedck_report.specs.declared.finding.Finding.{Finding}
 use Rattle.sedck_report.specs.declared.finding.NamedFile.{NamedFile}
 use Rattle.sedck_report.specs.declared.places.Position.{Position}
+use Rattle.sedck_advice.specs.Slow.{has_repeated_group, is_slow}
 use Rattle.sedck_errors.specs.declared.denied.Denied.{Denied}
 use Rattle.sedck_explanation.specs.Denial.{is_denied, status_under}
 use Rattle.sedck_explanation.specs.Errors.{HasErrors, BeginsWithAnswer}
+use Rattle.sedck_explanation.specs.Explanations.{kept_has}
 use Rattle.sedck_explanation.specs.declared.answer.Answer.{Answer}
 use Rattle.sedck_explanation.specs.declared.answer.Answer.TheVariants.{Accepted}
 use Rattle.sedck_explanation.specs.declared.explanation.Explanation.{Explanation}
@@ -22,14 +24,16 @@ use Rattle.sedck_explanation.specs.declared.explanation.Explanation.{Explanation
 pub record Explains (text : List ℕ) (denied : Denied) (answer : Answer) (e : Explanation) : Type 0 where
   pub is_text : e.text.now ≡ text
   pub is_answer : e.answer ≡ answer
-  pub is_status : e.status ≡ status_under denied (has_warning e.findings.items) e.answer
+  pub is_status : e.status ≡ status_under denied (has_warning e.findings.items) (kept_has is_slow e.script) e.answer
+  pub repeated : denied.warnings ≡ true → kept_has has_repeated_group e.script ≡ true → has_warning e.findings.items ≡ true
   pub errors : HasErrors text e
   pub order : AreInOrder e.findings.items
   pub ends : All (HasRange text) e.findings.items
 
--- a status and the findings of an answer to a caller who denies this, for a script with its verbs at these positions
-pub record Reports (text : List ℕ) (denied : Denied) (answer : Answer) (positions : List Position) (status : ℕ) (findings : List Finding) : Type 0 where
-  pub is_status : status ≡ status_under denied (has_warning findings) answer
+-- a status and the findings of an answer to a caller who denies this, for this script with its verbs at these positions
+pub record Reports (text : List ℕ) (denied : Denied) (answer : Answer) (script : Program) (positions : List Position) (status : ℕ) (findings : List Finding) : Type 0 where
+  pub is_status : status ≡ status_under denied (has_warning findings) (is_slow script) answer
+  pub repeated : denied.warnings ≡ true → has_repeated_group script ≡ true → has_warning findings ≡ true
   pub exactly : has_error findings ≡ not (status == 0)
   pub first : BeginsWithAnswer text positions findings answer
   pub order : AreInOrder findings
@@ -48,7 +52,7 @@ HasLists reads writes (Accepted cert bound) = (is_there cert.reads ≡ is_there 
 HasLists reads writes _ = Unit {0}
 
 -- what is denied adds errors to the findings of a script that is accepted
-abbrev pub AreDeniedFindings : Denied → List Finding → List Finding → Answer → Type 0
-AreDeniedFindings denied before all (Accepted cert bound) =
-    has_error all ≡ (is_denied denied (has_warning all) (Accepted cert bound) || has_error before)
-AreDeniedFindings denied before all _ = all ≡ before
+abbrev pub AreDeniedFindings : Denied → (slow : Bool) → List Finding → List Finding → Answer → Type 0
+AreDeniedFindings denied slow before all (Accepted cert bound) =
+    has_error all ≡ (is_denied denied (has_warning all) slow (Accepted cert bound) || has_error before)
+AreDeniedFindings denied slow before all _ = all ≡ before

@@ -1,4 +1,5 @@
-use Rattle.std.proofs.Common.{◌≡◌, ◌∙◌, [], refl, ap, sym, subst}
+use Rattle.std.proofs.Common.{◌≡◌, ◌∙◌, false, [], refl, ap, sym, subst}
+use Rattle.std.proofs.lemmas.Bool.{false≢true}
 use Rattle.sedck_report.specs.Levels.{has_warning}
 use Rattle.sedck_explanation.specs.Denial.{status_under}
 use Rattle.sedck_explanation.specs.Errors.{BeginsWithAnswer}
@@ -16,18 +17,19 @@ returns-clause-explains c =
     let begun = c.in_ok-found.found.items in
     let found = c.append.new.self.items in
     let all = c.in_ok-findings.findings.items in
-    let status : c.status_under-status.result ≡ status_under c.args.denied (has_warning found) answer =
+    let status : c.status_under-status.result ≡ status_under c.args.denied (has_warning found) false answer =
     c.status_under-status.ensures.value
-    ∙ ap (λ warned. status_under c.args.denied warned answer) (c.any_warning.ensures ∙ ap has_warning c.deref.ensures.value) in
+    ∙ ap (λ warned. status_under c.args.denied warned false answer) (c.any_warning.ensures ∙ ap has_warning c.deref.ensures.value) in
     let of_answer : AreFindingsOf text [] answer found =
     findings_stay text [] answer begun found (no_error_append begun found c.args.warnings.items c.in_ok-append.ensures.items c.requires.warned) c.in_ok-found.ensures in
     let reported : AreReported text [] found all = c.in_ok-findings.ensures in
     let errors = errors_reported text [] answer [] found all c.status_under-status.result reported
-    (errors_of_refusal text c.args.denied answer found c.status_under-status.result c.requires.refusal of_answer status) in
+    (errors_of_refusal text c.args.denied false answer found c.status_under-status.result c.requires.refusal of_answer status) in
     record {
       is_text = refl;
       is_answer = refl;
-      is_status = status_reported text c.args.denied answer [] found all c.status_under-status.result reported (λ _. refl) status;
+      is_status = status_reported text c.args.denied false answer [] found all c.status_under-status.result reported (λ _. refl) status;
+      repeated = λ denied is. absurd (false≢true is);
       errors = record {
         exactly = errors.0;
         first = subst (λ positions. BeginsWithAnswer text positions all answer) (sym c.new.ensures.items) errors.1;

@@ -1,15 +1,23 @@
-use Rattle.std.proofs.Common.{◌≡◌, ◌∙◌, List, ap, subst}
+use Rattle.std.proofs.Common.{◌≡◌, ◌∙◌, ◌||◌, Bool, true, false, List, refl, ap, subst}
+use Rattle.std.specs.Option.{is_some}
 use Rattle.sedck_report.specs.Levels.{has_warning}
 use Rattle.sedck_report.specs.declared.code.Code.{Code}
 use Rattle.sedck_report.specs.declared.places.Position.{Position}
+use Rattle.sedck_advice.specs.Slow.{is_slow, is_warned_of}
 use Rattle.sedck_advice.specs.Added.{AddsNoError}
 use Rattle.sedck_explanation.specs.Denial.{status_under}
 use Rattle.sedck_explanation.specs.Private.Errors.{AreFindingsOf}
+use Rattle.sedck_explanation.specs.Private.Explaining.{AreDeniedFindings}
 use Rattle.sedck_explanation.specs.Private.Reporting.{AreReported}
 use Rattle.sedck_advice.proofs.Added.{no_error_append, no_error_trans}
+use Rattle.sedck_advice.proofs.SlowLemmas.{warned_of_is_warned}
 use Rattle.sedck_explanation.proofs.Errors.{errors_of, findings_stay}
 use Rattle.sedck_explanation.proofs.Kept.{errors_reported, status_reported}
 use Rattle.sedck_explanation.proofs.explaining.reports.Goals as goal
+
+or_true : (a : Bool) → (a || true) ≡ true
+or_true true = refl
+or_true false = refl
 
 pub returns-clause-reports : goal.returns-clause-reports
 returns-clause-reports c =
@@ -22,21 +30,31 @@ returns-clause-reports c =
     let all = c.in_ok-all.all.items in
     let findings = c.in_ok-findings.findings.items in
     let ignored = c.in_ok-ignored.ignored.items in
-    let status : c.status_under-status.result ≡ status_under c.args.denied (has_warning all) answer =
+    let script = c.args.located.now.script in
+    let slow : is_some c.slow_of-slow.result ≡ is_slow script = c.slow_of-slow.ensures in
+    let status : c.status_under-status.result ≡ status_under c.args.denied (has_warning all) (is_slow script) answer =
     c.status_under-status.ensures.value
-    ∙ ap (λ warned. status_under c.args.denied warned answer) (c.any_warning.ensures ∙ ap has_warning c.deref-9.ensures.value) in
+    ∙ ap (λ warned. status_under c.args.denied warned c.is_some.result answer) (c.any_warning.ensures ∙ ap has_warning c.deref-9.ensures.value)
+    ∙ ap (λ is. status_under c.args.denied (has_warning all) is answer) (c.is_some.ensures ∙ slow) in
     let of_answer : AreFindingsOf text positions answer begun =
     subst (λ (ps : List Position). AreFindingsOf text ps answer begun) c.deref-2.ensures.value c.in_ok-found.ensures in
+    let repeated = c.repeated_warnings.new.findings.items in
     let adds : AddsNoError begun found =
     no_error_trans begun given found (no_error_append begun given c.args.warnings.items c.in_ok-append.ensures.items c.requires.warned)
-    c.in_ok-add_warnings.ensures in
+    (no_error_trans given repeated found c.in_ok-repeated_warnings.ensures.added c.in_ok-add_warnings.ensures) in
     let reported : AreReported text ignored all findings =
     subst (λ (codes : List Code). AreReported text codes all findings) c.deref-12.ensures.value c.in_ok-findings.ensures in
     let errors = errors_reported text positions answer ignored all findings c.status_under-status.result reported
-    (errors_of text positions c.args.denied answer found all c.status_under-status.result
-    (findings_stay text positions answer begun found adds of_answer) c.in_ok-all.ensures.errors status) in
+    (errors_of text positions c.args.denied (is_slow script) answer found all c.status_under-status.result
+    (findings_stay text positions answer begun found adds of_answer)
+    (subst (λ (is : Bool). AreDeniedFindings c.args.denied is found all answer) slow c.in_ok-all.ensures.errors) status) in
     record {
-      is_status = status_reported text c.args.denied answer ignored all findings c.status_under-status.result reported c.in_ok-ignored.ensures status;
+      is_status = status_reported text c.args.denied (is_slow script) answer ignored all findings c.status_under-status.result reported c.in_ok-ignored.ensures status;
+      repeated = λ denied is.
+          let warned : is_warned_of repeated ≡ true =
+          c.in_ok-repeated_warnings.ensures.exactly ∙ ap (λ has. is_warned_of given || has) is ∙ or_true (is_warned_of given) in
+          reported.warnings (c.in_ok-ignored.ensures denied) ∙ c.in_ok-all.ensures.warnings
+          ∙ c.in_ok-add_warnings.ensures.warned (warned_of_is_warned repeated warned);
       exactly = errors.0;
       first = errors.1;
       order = reported.order;
