@@ -3,7 +3,8 @@ import itertools
 import json
 
 DENIALS = ("reads", "writes", "warnings", "unbounded", "slow")
-EXTENDED, OPTIONS, BRACE, REPEATED = "looks-extended", "options-in-first-line", "brace-behind-label", "repeated-reference"
+EXTENDED, OPTIONS, BRACE = "looks-extended", "options-in-first-line", "brace-behind-label"
+REPEATED, LOCALE = "repeated-reference", "locale"
 
 # An accepted script, the place and the code of what each denial finds in it, worked out by hand.
 ACCEPTED = [
@@ -47,6 +48,19 @@ SLOW = [
     (b"/\\(a\\{100\\}\\)\\{8\\}/{\n/\\(a\\{100\\}\\)\\{12\\}/,/x\\{2\\}/d\n}\n", [], (2, 30)),
     (b"s/\\(\\(\\(a\\{255\\}\\)\\{255\\}\\)\\{120\\}\\)//\n", [], (1, 1)),
     (b"s/\\(\\(\\(\\(\\(a\\{255\\}\\)\\{255\\}\\)\\{255\\}\\)\\{255\\}\\)\\{255\\}\\)//\n", [], (1, 1)),
+]
+
+# An accepted script, and the place of each warning that a byte above 127 is repeated by itself, or is in a list of `y`.
+BYTES = [
+    (b":a\ns/x\xc3\xa9*/x/\nt a\n", [(2, 1)]),
+    (b":a\ny/\xc3\xa9a/a\xc3\xa9/\nN\nb a\n", [(2, 1)]),
+    (b"p;/\xc3\xa9\\{2\\}/d\n", [(1, 12)]),
+    (b"1,/x\xff*/p\n", [(1, 8)]),
+    (b"s/\\(a\xc3\xa9*\\)*//;y/a\\/b/\xc3\xa9x/\n", [(1, 1), (1, 15)]),
+    (b"s/\x80*//\n", [(1, 1)]),
+    (b"s/\x7f*//;y/\x7f/a/\n", []),
+    (b"s/\xc3\xa9/e/\n", []), (b"s/[\xc3\xa9]*//\n", []), (b"s/\\(\xc3\xa9\\)*//\n", []), (b"s/\xc3\xa9a*//\n", []), (b"s/a*/\xc3\xa9*/\n", []),
+    (b"a\\\n\xc3\xa9*\n", []), (b"# \xc3\xa9*\ny/ab/ba/\n", []), (b"s/\\(\\(\xff\\)\\{3\\}\\)//\n", []),
 ]
 
 # A script that isn't accepted, and its status.
@@ -129,6 +143,18 @@ def check_slow(tools):
         tools.same("%r, ignored and denied" % script, tools.explain("--format", "gcc", "--deny", "warnings", "d.sed")[0], 1 if warned else 0)
 
 
+def check_bytes(tools):
+    """The warnings of bytes that are parts of characters in a locale of UTF-8."""
+    for script, warned in BYTES:
+        tools.write("d.sed", script)
+        status, report, _ = tools.explain("--format", "json", "d.sed")
+        found = [(finding["position"]["line"], finding["position"]["column"]) for finding in json.loads(report)["findings"] if finding["code"] == LOCALE]
+        tools.same("bytes of %r" % script, (status, found), (0, warned))
+        tools.write("d.sed", b"# sedck: ignore locale\n" + script)
+        tools.same("%r, ignored" % script, LOCALE.encode() in tools.explain("--format", "gcc", "d.sed")[1], False)
+        tools.same("%r, ignored and denied" % script, tools.explain("--format", "gcc", "--deny", "warnings", "d.sed")[0], 1 if warned else 0)
+
+
 def check_texts(tools):
     """The report for people, for editors and for browsers, and words that deny nothing known."""
     tools.write("d.sed", b"p\nw out\n")
@@ -171,6 +197,7 @@ def check(tools):
     """Compares statuses, findings and texts."""
     check_denials(tools)
     check_slow(tools)
+    check_bytes(tools)
     check_texts(tools)
     check_looks(tools)
     check_no_scripts(tools)

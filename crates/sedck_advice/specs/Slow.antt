@@ -3,27 +3,18 @@
 use Rattle.std.specs.Prelude.{ℕ, ◌+◌, ◌*◌, ◌==◌, ◌&&◌, ◌||◌, max, Bool, true, false, List, Option, Some, None, nat_lt, sum_by, flat_map, ◌++◌, if◌then◌else◌}
 use Rattle.std.specs.List.{list_any}
 use Rattle.sedck_bre.specs.Tree.{Tree, Trees, Group, Ref, Seq, Repeat, Nil, Then}
-use Rattle.sedck_report.specs.Levels.{is_warning}
-use Rattle.sedck_report.specs.declared.code.Code.{Code}
-use Rattle.sedck_report.specs.declared.code.Code.TheVariants.{RepeatedReference}
-use Rattle.sedck_report.specs.declared.finding.Finding.{Finding}
 use Rattle.sedck_script.specs.Program.{Program, Command, address_patterns, verb_patterns, pattern_expressions}
 
--- the reference is to this group, or to any where none is given
-abbrev pub is_meant : Option ℕ → ℕ → Bool
-is_meant None k = true
-is_meant (Some group) k = group == k
-
 abbrev mutual
-  -- the tree refers to this group, or to any where none is given
-  pub refers_to : Option ℕ → Tree → Bool
-  refers_to group (Ref k) = is_meant group k
+  -- the tree refers to this group
+  pub refers_to : ℕ → Tree → Bool
+  refers_to group (Ref k) = group == k
   refers_to group (Group k body) = refers_to group body
   refers_to group (Seq ts) = one_refers_to group ts
   refers_to group (Repeat body least most) = refers_to group body
   refers_to group _ = false
 
-  pub one_refers_to : Option ℕ → Trees → Bool
+  pub one_refers_to : ℕ → Trees → Bool
   one_refers_to group Nil = false
   one_refers_to group (Then t ts) = refers_to group t || one_refers_to group ts
 
@@ -36,7 +27,7 @@ abbrev mutual
   -- is in, such a group. A reference that is repeated by itself, as in `\(.\)\1*`, counts where `alone` says so.
   pub repeats_in : (whole : Tree) (alone inside : Bool) → Tree → Bool
   repeats_in whole alone inside (Ref k) = inside
-  repeats_in whole alone inside (Group k body) = (inside && refers_to (Some k) whole) || repeats_in whole alone inside body
+  repeats_in whole alone inside (Group k body) = (inside && refers_to k whole) || repeats_in whole alone inside body
   repeats_in whole alone inside (Seq ts) = one_repeats_in whole alone inside ts
   repeats_in whole alone inside (Repeat body least most) = repeats_in whole alone (inside || (alone || is_group body)) body
   repeats_in whole alone inside _ = false
@@ -76,9 +67,6 @@ abbrev pub command_expressions : Command → List Tree
 command_expressions c = flat_map pattern_expressions (address_patterns c.address ++ verb_patterns c.verb)
 
 -- an expression of one of the script's commands does
-abbrev pub has_repeated_group : Program → Bool
-has_repeated_group p = list_any (λ c. list_any repeats_group (command_expressions c)) p.commands
-
 abbrev pub has_repeated_reference : Program → Bool
 has_repeated_reference p = list_any (λ c. list_any repeats_reference (command_expressions c)) p.commands
 
@@ -93,11 +81,3 @@ item_limit = 2000
 -- matching may take very long, or much memory, or never end
 abbrev pub is_slow : Program → Bool
 is_slow p = has_repeated_reference p || nat_lt item_limit (interval_items p)
-
--- one of the findings is a warning of a repeated group and a reference
-abbrev pub is_of_repeated : Code → Bool
-is_of_repeated RepeatedReference = true
-is_of_repeated _ = false
-
-abbrev pub is_warned_of : List Finding → Bool
-is_warned_of findings = list_any (λ finding. is_of_repeated finding.code && is_warning finding.level) findings

@@ -27,13 +27,14 @@ impl Word<'_> {
 }
 
 /// The codes of warnings and notes that a comment in the script may silence: all but those of what isn't known.
-static IGNORABLE: [Code; 22] = [
+static IGNORABLE: [Code; 23] = [
     Code::OptionsInFirstLine,
     Code::BraceBehindLabel,
     Code::LooksExtended,
     Code::OneLineText,
     Code::SilencingComment,
     Code::RepeatedReference,
+    Code::Locale,
     Code::StreamName,
     Code::DeviceName,
     Code::AbsoluteName,

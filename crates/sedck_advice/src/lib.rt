@@ -6,6 +6,7 @@
 #![tactic(auto)]
 
 mod adding;
+mod concerns;
 mod escapes;
 mod foreign;
 mod hints;
@@ -16,13 +17,15 @@ mod mends;
 mod names;
 mod slow;
 mod spot;
+mod weights;
 
 pub use adding::add_warnings;
+pub use concerns::{Concern, concern_warnings};
 pub use foreign::{Foreign, other_kind};
 pub use hints::{has_escaped_text, has_open_class, script_hint};
 pub use ignored::{Word, ignoring_words};
 pub use lists::{Reading, is_blank};
 pub use mends::{Mend, script_mend};
 pub use names::named_files;
-pub use slow::{ITEM_LIMIT, Slow, repeated_warnings, slow_of};
+pub use slow::{ITEM_LIMIT, Slow, slow_of};
 pub use spot::{Purpose, Spot, behind_part};

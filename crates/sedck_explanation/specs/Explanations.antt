@@ -12,7 +12,9 @@ use Rattle.sedck_report.specs.Levels.{has_warning}
 use Rattle.sedck_report.specs.Reported.{AreInOrder, HasRange}
 use Rattle.sedck_report.specs.declared.finding.Finding.{Finding}
 use Rattle.sedck_report.specs.declared.places.Position.{Position}
-use Rattle.sedck_advice.specs.Slow.{has_repeated_group, is_slow}
+use Rattle.sedck_advice.specs.Slow.{is_slow}
+use Rattle.sedck_advice.specs.Concerns.{concerns}
+use Rattle.sedck_advice.specs.declared.concerns.Concern.{Concern}
 use Rattle.sedck_errors.specs.declared.denied.Denied.{Denied}
 use Rattle.sedck_explanation.specs.Answers.{IsAnswer}
 use Rattle.sedck_explanation.specs.Denial.{status_under}
@@ -58,8 +60,8 @@ pub record IsExplanation (text : List ℕ) (given : Option (List ℕ)) (denied :
   pub is_text : e.text.now ≡ text
   pub is_answer : IsAnswer text given e.answer
   pub is_status : e.status ≡ status_under denied (has_warning e.findings.items) (kept_has is_slow e.script) e.answer
-  -- where warnings are denied, there is one of each script that repeats a reference, whatever its comments ignore
-  pub repeated : denied.warnings ≡ true → kept_has has_repeated_group e.script ≡ true → has_warning e.findings.items ≡ true
+  -- where warnings are denied, there is one of a script in which something is of concern, whatever its comments ignore
+  pub concerned : (concern : Concern) → denied.warnings ≡ true → kept_has (concerns concern) e.script ≡ true → has_warning e.findings.items ≡ true
   pub keeps : Keeps text e.answer e
   pub errors : HasErrors text e
   pub order : AreInOrder e.findings.items

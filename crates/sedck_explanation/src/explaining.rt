@@ -15,7 +15,7 @@ use crate::explanation::Explanation;
 use crate::ignored::ignored_codes;
 use crate::reporting::reported;
 use sedck_advice::{
-    Slow, add_warnings, ignoring_words, named_files, repeated_warnings, slow_of,
+    Concern, Slow, add_warnings, concern_warnings, ignoring_words, named_files, slow_of,
 };
 use sedck_errors::{
     Denied, any_warning, certificate_refusal, loop_finding, rejection, script_refusal, unbounded,
@@ -157,7 +157,10 @@ fn reports(
     let words = ignoring_words(alloc, text, locations)?;
     let mut found = answer_findings(alloc, text, &located.script, &lists.positions, answer)?;
     found.append(&mut warnings)?;
-    repeated_warnings(alloc, &mut found, &located.script, &lists.positions)?;
+    let script = &located.script;
+    let positions = &lists.positions;
+    concern_warnings(alloc, &mut found, script, positions, Concern::Endless)?;
+    concern_warnings(alloc, &mut found, script, positions, Concern::Locale)?;
     add_warnings(
         alloc,
         &mut found,
@@ -167,7 +170,7 @@ fn reports(
         &lists.writes,
         &words,
     )?;
-    let slow = slow_of(&located.script, &lists.positions);
+    let slow = slow_of(script, positions);
     let all = denied_findings(alloc, found, denied, answer, lists, slow)?;
     let status = answer.status_under(denied, any_warning(&all), slow.is_some());
     let ignored = ignored_codes(alloc, &words, denied)?;

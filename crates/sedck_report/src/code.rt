@@ -78,6 +78,8 @@ pub enum Code {
     SilencingComment,
     /// A reference that is repeated, or whose group is.
     RepeatedReference,
+    /// A byte above 127 where a sed that knows characters reads another script.
+    Locale,
 
     // Warnings of file names.
     StreamName,
@@ -185,6 +187,7 @@ impl Code {
             Code::OneLineText => "one-line-text",
             Code::SilencingComment => "silencing-comment",
             Code::RepeatedReference => "repeated-reference",
+            Code::Locale => "locale",
             Code::StreamName => "stream-name",
             Code::DeviceName => "device-name",
             Code::AbsoluteName => "absolute-name",

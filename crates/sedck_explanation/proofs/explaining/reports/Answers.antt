@@ -1,16 +1,21 @@
 use Rattle.std.proofs.Common.{◌≡◌, ◌∙◌, ◌||◌, Bool, true, false, List, refl, ap, subst}
 use Rattle.std.specs.Option.{is_some}
 use Rattle.sedck_report.specs.Levels.{has_warning}
+use Rattle.sedck_report.specs.declared.finding.Finding.{Finding}
 use Rattle.sedck_report.specs.declared.code.Code.{Code}
 use Rattle.sedck_report.specs.declared.places.Position.{Position}
-use Rattle.sedck_advice.specs.Slow.{is_slow, is_warned_of}
+use Rattle.sedck_script.specs.Program.{Program}
+use Rattle.sedck_advice.specs.Slow.{is_slow}
+use Rattle.sedck_advice.specs.Concerns.{concerns, is_warned_of}
+use Rattle.sedck_advice.specs.declared.concerns.Concern.{Concern}
+use Rattle.sedck_advice.specs.declared.concerns.Concern.TheVariants.{Endless, Locale}
 use Rattle.sedck_advice.specs.Added.{AddsNoError}
 use Rattle.sedck_explanation.specs.Denial.{status_under}
 use Rattle.sedck_explanation.specs.Private.Errors.{AreFindingsOf}
 use Rattle.sedck_explanation.specs.Private.Explaining.{AreDeniedFindings}
 use Rattle.sedck_explanation.specs.Private.Reporting.{AreReported}
 use Rattle.sedck_advice.proofs.Added.{no_error_append, no_error_trans}
-use Rattle.sedck_advice.proofs.SlowLemmas.{warned_of_is_warned}
+use Rattle.sedck_advice.proofs.WeightLemmas.{warned_of_is_warned}
 use Rattle.sedck_explanation.proofs.Errors.{errors_of, findings_stay}
 use Rattle.sedck_explanation.proofs.Kept.{errors_reported, status_reported}
 use Rattle.sedck_explanation.proofs.explaining.reports.Goals as goal
@@ -19,9 +24,15 @@ or_true : (a : Bool) → (a || true) ≡ true
 or_true true = refl
 or_true false = refl
 
+each_concern : (p : Program) (found : List Finding) → (concerns Endless p ≡ true → has_warning found ≡ true)
+    → (concerns Locale p ≡ true → has_warning found ≡ true) → (concern : Concern) → concerns concern p ≡ true → has_warning found ≡ true
+each_concern p found endless locale Endless is = endless is
+each_concern p found endless locale Locale is = locale is
+
 pub returns-clause-reports : goal.returns-clause-reports
 returns-clause-reports c =
     let text = c.args.text.now in
+    let script = c.args.located.now.script in
     let answer = c.args.answer.now in
     let positions = c.args.lists.now.positions.items in
     let begun = c.in_ok-found.found.items in
@@ -30,7 +41,6 @@ returns-clause-reports c =
     let all = c.in_ok-all.all.items in
     let findings = c.in_ok-findings.findings.items in
     let ignored = c.in_ok-ignored.ignored.items in
-    let script = c.args.located.now.script in
     let slow : is_some c.slow_of-slow.result ≡ is_slow script = c.slow_of-slow.ensures in
     let status : c.status_under-status.result ≡ status_under c.args.denied (has_warning all) (is_slow script) answer =
     c.status_under-status.ensures.value
@@ -38,10 +48,18 @@ returns-clause-reports c =
     ∙ ap (λ is. status_under c.args.denied (has_warning all) is answer) (c.is_some.ensures ∙ slow) in
     let of_answer : AreFindingsOf text positions answer begun =
     subst (λ (ps : List Position). AreFindingsOf text ps answer begun) c.deref-2.ensures.value c.in_ok-found.ensures in
-    let repeated = c.repeated_warnings.new.findings.items in
+    let endless = c.concern_warnings.new.findings.items in
+    let locale = c.concern_warnings-2.new.findings.items in
     let adds : AddsNoError begun found =
     no_error_trans begun given found (no_error_append begun given c.args.warnings.items c.in_ok-append.ensures.items c.requires.warned)
-    (no_error_trans given repeated found c.in_ok-repeated_warnings.ensures.added c.in_ok-add_warnings.ensures) in
+    (no_error_trans given endless found c.in_ok-concern_warnings.ensures.added
+    (no_error_trans endless locale found c.in_ok-concern_warnings-2.ensures.added c.in_ok-add_warnings.ensures)) in
+    let is_warned : (concern : Concern) → concerns concern script ≡ true → has_warning found ≡ true =
+    each_concern script found
+    (λ is. c.in_ok-add_warnings.ensures.warned (c.in_ok-concern_warnings-2.ensures.added.warned
+    (warned_of_is_warned Endless endless (c.in_ok-concern_warnings.ensures.exactly ∙ ap (λ has. is_warned_of Endless given || has) is ∙ or_true (is_warned_of Endless given)))))
+    (λ is. c.in_ok-add_warnings.ensures.warned
+    (warned_of_is_warned Locale locale (c.in_ok-concern_warnings-2.ensures.exactly ∙ ap (λ has. is_warned_of Locale endless || has) is ∙ or_true (is_warned_of Locale endless)))) in
     let reported : AreReported text ignored all findings =
     subst (λ (codes : List Code). AreReported text codes all findings) c.deref-12.ensures.value c.in_ok-findings.ensures in
     let errors = errors_reported text positions answer ignored all findings c.status_under-status.result reported
@@ -50,11 +68,8 @@ returns-clause-reports c =
     (subst (λ (is : Bool). AreDeniedFindings c.args.denied is found all answer) slow c.in_ok-all.ensures.errors) status) in
     record {
       is_status = status_reported text c.args.denied (is_slow script) answer ignored all findings c.status_under-status.result reported c.in_ok-ignored.ensures status;
-      repeated = λ denied is.
-          let warned : is_warned_of repeated ≡ true =
-          c.in_ok-repeated_warnings.ensures.exactly ∙ ap (λ has. is_warned_of given || has) is ∙ or_true (is_warned_of given) in
-          reported.warnings (c.in_ok-ignored.ensures denied) ∙ c.in_ok-all.ensures.warnings
-          ∙ c.in_ok-add_warnings.ensures.warned (warned_of_is_warned repeated warned);
+      concerned = λ concern denied is.
+          reported.warnings (c.in_ok-ignored.ensures denied) ∙ c.in_ok-all.ensures.warnings ∙ is_warned concern is;
       exactly = errors.0;
       first = errors.1;
       order = reported.order;

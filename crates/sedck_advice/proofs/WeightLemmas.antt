@@ -16,9 +16,11 @@ use Rattle.sedck_bre.proofs.CappedSums.{capped_sum}
 use Rattle.sedck_report.specs.Levels.{is_warning, has_warning}
 use Rattle.sedck_report.specs.declared.finding.Finding.{Finding}
 use Rattle.sedck_script.specs.Program.{Pattern, Command, pattern_expressions}
-use Rattle.sedck_advice.specs.Slow.{is_of_repeated, is_warned_of, repeats_group, repeats_reference, written_out, all_written_out, copies, command_expressions, item_limit}
+use Rattle.sedck_advice.specs.declared.concerns.Concern.{Concern}
+use Rattle.sedck_advice.specs.Concerns.{is_code_of, is_warned_of, repeats_byte}
+use Rattle.sedck_advice.specs.Slow.{repeats_group, repeats_reference, written_out, all_written_out, copies, command_expressions, item_limit}
 use Rattle.sedck_advice.specs.Private.Weights.{Weighs, WeighsAll}
-use Rattle.sedck_advice.specs.declared.slow.Weight.{Weight}
+use Rattle.sedck_advice.specs.declared.weights.Weight.{Weight}
 
 none_first : (a b : Bool) → a ≡ false → (a || b) ≡ b
 none_first a b is = rw is refl
@@ -57,20 +59,22 @@ written_out-push inside (y ∷ xs) x = let h = written_out-push inside xs x in o
 
 -- ---- Expressions
 
-pub nothing_weighs : Weighs [] (record { group = false; reference = false; items = 0 })
-nothing_weighs = record { group = refl; reference = refl; items = refl }
+pub nothing_weighs : Weighs [] (record { group = false; reference = false; byte = false; items = 0 })
+nothing_weighs = record { group = refl; reference = refl; byte = refl; items = refl }
 
 pub weighs_same : (xs ys : List Tree) (w : Weight) → xs ≡ ys → Weighs ys w → Weighs xs w
 weighs_same xs ys w is weighs = subst (λ (ts : List Tree). Weighs ts w) (sym is) weighs
 
 pub both_weigh : (xs ys : List Tree) (a b w : Weight) → Weighs xs a → Weighs ys b → w.group ≡ (a.group || b.group)
-    → w.reference ≡ (a.reference || b.reference)
+    → w.reference ≡ (a.reference || b.reference) → w.byte ≡ (a.byte || b.byte)
     → w.items ≡ min (min (a.items + b.items) 4294967295) cap → Weighs (xs ++ ys) w
-both_weigh xs ys a b w one two group reference items = record {
+both_weigh xs ys a b w one two group reference byte items = record {
   group = group ∙ ap (λ r. r || b.group) one.group ∙ ap (λ r. list_any repeats_group xs || r) two.group
       ∙ sym (list_any-append repeats_group xs ys);
   reference = reference ∙ ap (λ r. r || b.reference) one.reference ∙ ap (λ r. list_any repeats_reference xs || r) two.reference
       ∙ sym (list_any-append repeats_reference xs ys);
+  byte = byte ∙ ap (λ r. r || b.byte) one.byte ∙ ap (λ r. list_any repeats_byte xs || r) two.byte
+      ∙ sym (list_any-append repeats_byte xs ys);
   items = items ∙ ap (λ n. min (min (n + b.items) 4294967295) cap) one.items
       ∙ ap (λ n. min (min (min (sum_by (written_out false) xs) cap + n) 4294967295) cap) two.items
       ∙ capped_sum (sum_by (written_out false) xs) (sum_by (written_out false) ys)
@@ -88,11 +92,12 @@ plus_zero : (n : ℕ) → 0 + n ≡ n
 plus_zero n = omega arith
 
 -- one expression alone
-pub one_weighs : (t : Tree) (w : Weight) → w.group ≡ repeats_group t → w.reference ≡ repeats_reference t → w.items ≡ min (written_out false t) cap
+pub one_weighs : (t : Tree) (w : Weight) → w.group ≡ repeats_group t → w.reference ≡ repeats_reference t → w.byte ≡ repeats_byte t → w.items ≡ min (written_out false t) cap
     → Weighs (t ∷ []) w
-one_weighs t w group reference items = record {
+one_weighs t w group reference byte items = record {
   group = group ∙ sym (or_false (repeats_group t));
   reference = reference ∙ sym (or_false (repeats_reference t));
+  byte = byte ∙ sym (or_false (repeats_byte t));
   items = items ∙ ap (λ n. min n cap) (sym (plus_zero (written_out false t)));
 }
 
@@ -101,12 +106,9 @@ any-push p cs c = list_any-append p cs (c ∷ []) ∙ ap (λ b. list_any p cs ||
 
 -- one command more
 pub weighs_more : (cs more : List Command) (c : Command) (w own new : Weight) → more ≡ cs ++ c ∷ [] → WeighsAll cs w → Weighs (command_expressions c) own
-    → new.group ≡ (w.group || own.group) → new.reference ≡ (w.reference || own.reference)
+    → new.reference ≡ (w.reference || own.reference)
     → new.items ≡ min (min (w.items + own.items) 4294967295) cap → WeighsAll more new
-weighs_more cs more c w own new is all one group reference items = subst (λ (ds : List Command). WeighsAll ds new) (sym is) (record {
-  group = group ∙ ap (λ b. b || own.group) all.group
-      ∙ ap (λ b. list_any (λ d. list_any repeats_group (command_expressions d)) cs || b) one.group
-      ∙ sym (any-push (λ d. list_any repeats_group (command_expressions d)) cs c);
+weighs_more cs more c w own new is all one reference items = subst (λ (ds : List Command). WeighsAll ds new) (sym is) (record {
   reference = reference ∙ ap (λ b. b || own.reference) all.reference
       ∙ ap (λ b. list_any (λ d. list_any repeats_reference (command_expressions d)) cs || b) one.reference
       ∙ sym (any-push (λ d. list_any repeats_reference (command_expressions d)) cs c);
@@ -144,11 +146,11 @@ either_true false true c d one two is = refl
 either_true false false c d one two is = two is
 
 -- a warning of a repeated reference is a warning
-pub warned_of_is_warned : (findings : List Finding) → is_warned_of findings ≡ true → has_warning findings ≡ true
-warned_of_is_warned [] is = is
-warned_of_is_warned (f ∷ more) is =
-    either_true (is_of_repeated f.code && is_warning f.level) (is_warning f.level) (is_warned_of more) (has_warning more)
-    (both_true (is_of_repeated f.code) (is_warning f.level)) (warned_of_is_warned more) is
+pub warned_of_is_warned : (concern : Concern) (findings : List Finding) → is_warned_of concern findings ≡ true → has_warning findings ≡ true
+warned_of_is_warned concern [] is = is
+warned_of_is_warned concern (f ∷ more) is =
+    either_true (is_code_of concern f.code && is_warning f.level) (is_warning f.level) (is_warned_of concern more) (has_warning more)
+    (both_true (is_code_of concern f.code) (is_warning f.level)) (warned_of_is_warned concern more) is
 
 or_true : (a : Bool) → (a || true) ≡ true
 or_true true = refl
@@ -161,3 +163,13 @@ with_warning was now next rest left due split is warned known =
 
 pub without_warning : (was next rest left due : Bool) → left ≡ (next || rest) → next ≡ false → (was || left) ≡ due → (was || rest) ≡ due
 without_warning was next rest left due split none known = ap (λ l. was || l) (sym (split ∙ ap (λ b. b || rest) none)) ∙ known
+
+-- a warning of this concern that is added
+pub warned_push : (concern : Concern) (old new : List Finding) (f : Finding) → new ≡ old ++ f ∷ [] → is_code_of concern f.code ≡ true
+    → is_warning f.level ≡ true → is_warned_of concern new ≡ true
+warned_push concern old new f is coded warns =
+    ap (is_warned_of concern) is
+    ∙ list_any-append (λ finding. is_code_of concern finding.code && is_warning finding.level) old (f ∷ [])
+    ∙ ap (λ b. is_warned_of concern old || ((b && is_warning f.level) || false)) coded
+    ∙ ap (λ b. is_warned_of concern old || ((true && b) || false)) warns
+    ∙ or_true (is_warned_of concern old)

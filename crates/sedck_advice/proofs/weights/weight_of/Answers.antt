@@ -1,8 +1,8 @@
 use Rattle.std.proofs.Common.{◌∙◌, ◌++◌, ◌∷◌, [], map, take, sym, ap}
 use Rattle.std.proofs.lemmas.List.{map_more}
 use Rattle.sedck_script.specs.View.{command_of}
-use Rattle.sedck_advice.proofs.SlowLemmas.{weighs_more}
-use Rattle.sedck_advice.proofs.slow.weight_of.Goals as goal
+use Rattle.sedck_advice.proofs.WeightLemmas.{weighs_more}
+use Rattle.sedck_advice.proofs.weights.weight_of.Goals as goal
 
 pub loop-command-preserved : goal.loop-command-preserved
 loop-command-preserved c =
@@ -12,4 +12,4 @@ loop-command-preserved c =
     let one = map_more command_of commands i c.command-item.result c.loop-command-test.true
     ∙ ap (λ x. before ++ command_of x ∷ []) (sym c.command-item.is) in
     weighs_more before _ (command_of c.command-item.result) c.loop-command.weight c.weight_of_command-own.result _ one
-    c.loop-command.invariant c.weight_of_command-own.ensures c.with-weight.ensures.group c.with-weight.ensures.reference c.with-weight.ensures.items
+    c.loop-command.invariant c.weight_of_command-own.ensures c.with-weight.ensures.reference c.with-weight.ensures.items

@@ -2,7 +2,7 @@ use Rattle.std.proofs.Common.{◌≡◌, drop, map}
 use Rattle.sedck_bre.specs.Tree.{trees}
 use Rattle.sedck_bre.specs.View.{tree}
 use Rattle.sedck_advice.specs.Slow.{one_refers_to}
-use Rattle.sedck_advice.proofs.slow.+references.Given as goal
+use Rattle.sedck_advice.proofs.weights.+references.Given as goal
 
 -- nothing before was a reference that is sought
 abbrev pub invariant-one_refers_to-loop-item : goal.invariant-one_refers_to-loop-item

@@ -3,7 +3,7 @@ use Rattle.sedck_bre.specs.Tree.{trees}
 use Rattle.sedck_bre.specs.Lengths.{cap}
 use Rattle.sedck_bre.specs.View.{tree}
 use Rattle.sedck_advice.specs.Slow.{all_written_out}
-use Rattle.sedck_advice.proofs.slow.+items.Given as goal
+use Rattle.sedck_advice.proofs.weights.+items.Given as goal
 
 abbrev pub invariant-all_written_out-loop-item : goal.invariant-all_written_out-loop-item
 invariant-all_written_out-loop-item l = l.total ≡ min (all_written_out l.is_inside (trees (map tree (take l.item-index l.items)))) cap

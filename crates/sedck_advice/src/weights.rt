@@ -1,0 +1,259 @@
+//! What is known of a command's expressions: whether they repeat a reference, its group or a byte above 127, and how many items their
+//! intervals write out.
+
+ghost use Rattle.std.specs.Prelude.{◌≡◌, ◌+◌, ◌||◌, [], ◌∷◌, min, map, flat_map};
+ghost use Rattle.sedck_bre.specs.Tree.{trees};
+ghost use Rattle.sedck_bre.specs.Lengths.{cap};
+ghost use Rattle.sedck_bre.specs.View.{tree};
+ghost use Rattle.sedck_script.specs.Program.{place_patterns, address_patterns, verb_patterns, pattern_expressions};
+ghost use Rattle.sedck_script.specs.View.{pattern_of, place_of, address_of, verb_of, command_of};
+ghost use Rattle.sedck_advice.specs.Concerns.{is_high_byte, repeats_byte, one_repeats_byte};
+ghost use Rattle.sedck_advice.specs.Slow.{copies, is_group, refers_to, one_refers_to, repeats_in, one_repeats_in, written_out, all_written_out, command_expressions};
+ghost use Rattle.sedck_advice.specs.Private.Weights.{Weighs, WeighsAll};
+
+use sedck_bre::Bre;
+use sedck_script::{Address, Command, Pattern, Place, Verb};
+
+/// Where numbers of items are capped.
+const CAP: u32 = 16_777_215;
+
+/// Whether the tree refers to this group.
+#[cycle(references)]
+fn refers_to(expression: &Bre, group: u8) -> bool
+    ensures { result ≡ refers_to group (tree expression.now) }
+{
+    match expression {
+        Bre::Ref(k) => group == *k,
+        Bre::Group(_, body) => refers_to(body, group),
+        Bre::Seq(items) => one_refers_to(items, group),
+        Bre::Repeat { body, .. } => refers_to(body, group),
+        _ => false,
+    }
+}
+
+#[cycle(references)]
+fn one_refers_to(items: &[Bre], group: u8) -> bool
+    ensures { result ≡ one_refers_to group (trees (map tree items.now)) }
+{
+    for item in items {
+        if refers_to(item, group) {
+            return true;
+        }
+    }
+    false
+}
+
+/// Whether the tree is a group.
+fn is_group(expression: &Bre) -> bool
+    ensures { result ≡ is_group (tree expression.now) }
+{
+    matches!(expression, Bre::Group(..))
+}
+
+/// Whether a group that is repeated has a reference in it, or is or has a group to which the whole expression refers. What is inside
+/// is, or is in, such a group. A reference that is repeated by itself counts where `alone` says so.
+#[cycle(repetitions)]
+fn repeats_in(expression: &Bre, whole: &Bre, alone: bool, is_inside: bool) -> bool
+    ensures { result ≡ repeats_in (tree whole.now) alone is_inside (tree expression.now) }
+{
+    match expression {
+        Bre::Ref(_) => is_inside,
+        Bre::Group(k, body) => {
+            (is_inside && refers_to(whole, *k)) || repeats_in(body, whole, alone, is_inside)
+        }
+        Bre::Seq(items) => one_repeats_in(items, whole, alone, is_inside),
+        Bre::Repeat { body, .. } => {
+            let is_meant = alone || is_group(body);
+            repeats_in(body, whole, alone, is_inside || is_meant)
+        }
+        _ => false,
+    }
+}
+
+#[cycle(repetitions)]
+fn one_repeats_in(items: &[Bre], whole: &Bre, alone: bool, is_inside: bool) -> bool
+    ensures { result ≡ one_repeats_in (tree whole.now) alone is_inside (trees (map tree items.now)) }
+{
+    for item in items {
+        if repeats_in(item, whole, alone, is_inside) {
+            return true;
+        }
+    }
+    false
+}
+
+/// How often what is repeated is written out.
+fn copies(least: u8, most: Option<u8>) -> u8
+    ensures { result ≡ copies least most }
+{
+    most.unwrap_or(least).max(1)
+}
+
+/// The items in intervals once these are written out, at most the cap. What is inside is in an interval that is written out more
+/// than once.
+#[cycle(items)]
+fn written_out(expression: &Bre, is_inside: bool) -> u32
+    ensures { result ≡ min (written_out is_inside (tree expression.now)) cap }
+{
+    match expression {
+        Bre::Group(_, body) => written_out(body, is_inside),
+        Bre::Seq(items) => all_written_out(items, is_inside),
+        Bre::Repeat { body, least, most } => {
+            let times = copies(*least, *most);
+            let items = written_out(body, is_inside || times > 1);
+            items.saturating_mul(u32::from(times)).min(CAP)
+        }
+        _ => u32::from(is_inside),
+    }
+}
+
+#[cycle(items)]
+fn all_written_out(items: &[Bre], is_inside: bool) -> u32
+    ensures { result ≡ min (all_written_out is_inside (trees (map tree items.now))) cap }
+{
+    let mut total: u32 = 0;
+    for item in items {
+        let own = written_out(item, is_inside);
+        total = total.saturating_add(own).min(CAP);
+    }
+    total
+}
+
+/// Whether the tree is a byte above 127.
+fn is_high_byte(expression: &Bre) -> bool
+    ensures { result ≡ is_high_byte (tree expression.now) }
+{
+    matches!(expression, Bre::Byte(128..=255))
+}
+
+/// Whether a byte above 127 is repeated by itself.
+#[cycle(bytes)]
+fn repeats_byte(expression: &Bre) -> bool
+    ensures { result ≡ repeats_byte (tree expression.now) }
+{
+    match expression {
+        Bre::Group(_, body) => repeats_byte(body),
+        Bre::Seq(items) => one_repeats_byte(items),
+        Bre::Repeat { body, .. } => is_high_byte(body) || repeats_byte(body),
+        _ => false,
+    }
+}
+
+#[cycle(bytes)]
+fn one_repeats_byte(items: &[Bre]) -> bool
+    ensures { result ≡ one_repeats_byte (trees (map tree items.now)) }
+{
+    for item in items {
+        if repeats_byte(item) {
+            return true;
+        }
+    }
+    false
+}
+
+/// What is known of some expressions.
+#[derive(Clone, Copy)]
+pub(crate) struct Weight {
+    /// Whether one of them repeats a group that has a reference in it, or to which there is one.
+    pub group: bool,
+    /// Whether one does, or repeats a reference by itself.
+    pub reference: bool,
+    /// Whether one repeats a byte above 127 by itself.
+    pub byte: bool,
+    /// The items that their intervals write out, at most the cap.
+    pub items: u32,
+}
+
+impl Weight {
+    /// That of no expression.
+    const NOTHING: Weight = Weight {
+        group: false,
+        reference: false,
+        byte: false,
+        items: 0,
+    };
+
+    /// That of these expressions and the others.
+    fn with(self, other: Weight) -> Weight
+        ensures group { result.group ≡ (self.group || other.group) }
+        ensures reference { result.reference ≡ (self.reference || other.reference) }
+        ensures byte { result.byte ≡ (self.byte || other.byte) }
+        ensures items { result.items ≡ min (min (self.items + other.items) 4294967295) cap }
+    {
+        Weight {
+            group: self.group || other.group,
+            reference: self.reference || other.reference,
+            byte: self.byte || other.byte,
+            items: self.items.saturating_add(other.items).min(CAP),
+        }
+    }
+}
+
+fn weight_of_tree(whole: &Bre) -> Weight
+    ensures { Weighs (tree whole.now ∷ []) result }
+{
+    Weight {
+        group: repeats_in(whole, whole, false, false),
+        reference: repeats_in(whole, whole, true, false),
+        byte: repeats_byte(whole),
+        items: written_out(whole, false),
+    }
+}
+
+fn weight_of_pattern(pattern: &Pattern) -> Weight
+    ensures { Weighs (pattern_expressions (pattern_of pattern.now)) result }
+{
+    match pattern {
+        Pattern::Previous => Weight::NOTHING,
+        Pattern::Expr(expression) => weight_of_tree(expression.body()),
+    }
+}
+
+fn weight_of_place(place: &Place) -> Weight
+    ensures { Weighs (flat_map pattern_expressions (place_patterns (place_of place.now))) result }
+{
+    match place {
+        Place::Line(_) => Weight::NOTHING,
+        Place::Last => Weight::NOTHING,
+        Place::Context(pattern) => weight_of_pattern(pattern),
+    }
+}
+
+fn weight_of_address(address: &Address) -> Weight
+    ensures { Weighs (flat_map pattern_expressions (address_patterns (address_of address.now))) result }
+{
+    match address {
+        Address::None => Weight::NOTHING,
+        Address::One(place) => weight_of_place(place),
+        Address::Two(from, to) => weight_of_place(from).with(weight_of_place(to)),
+    }
+}
+
+fn weight_of_verb(verb: &Verb) -> Weight
+    ensures { Weighs (flat_map pattern_expressions (verb_patterns (verb_of verb.now))) result }
+{
+    if let Verb::Substitute(substitution) = verb {
+        return weight_of_pattern(&substitution.pattern);
+    }
+    Weight::NOTHING
+}
+
+/// What is known of the command's expressions, those of its addresses too.
+pub(crate) fn weight_of_command(command: &Command) -> Weight
+    ensures { Weighs (command_expressions (command_of command.now)) result }
+{
+    weight_of_address(&command.address).with(weight_of_verb(&command.verb))
+}
+
+/// What is known of the commands' expressions.
+pub(crate) fn weight_of(commands: &[Command]) -> Weight
+    ensures { WeighsAll (map command_of commands.now) result }
+{
+    let mut weight = Weight::NOTHING;
+    for command in commands {
+        let own = weight_of_command(command);
+        weight = weight.with(own);
+    }
+    weight
+}
+
