@@ -176,13 +176,16 @@ def stranger(scratch):
 def vim(scratch):
     """The positions and levels that Vim takes from the lines, of a loop and of a certificate."""
     scratch.copy("join-all-loop.sed")
+    scratch.copy("join-all-loop.sed", "-h.sed")
     scratch.write("vimrc", block("Vim and Emacs", "vim"))
     scratch.write("bad.cert", "sedck 3\n")
     lists = "call writefile(map(getqflist(), 'bufname(v:val.bufnr) . \":\" . v:val.lnum . \":\" . v:val.col . v:val.type . v:val.valid'), '%s')"
     scratch.run(0, "vim", "-es", "-u", "NONE", "-N", "-c", "source vimrc", "-c", "edit join-all-loop.sed", "-c", "silent make!", "-c", lists % "loop",
-                "-c", "set makeprg+=\\ --cert\\ bad.cert", "-c", "silent make!", "-c", lists % "certificate", "-c", "qa!")
+                "-c", "edit -h.sed", "-c", "silent make!", "-c", lists % "option", "-c", "edit join-all-loop.sed",
+                "-c", "let &makeprg = substitute(&makeprg, ' --', ' --cert bad.cert --', '')", "-c", "silent make!", "-c", lists % "certificate", "-c", "qa!")
     name = "join-all-loop.sed:"
     holds(scratch.text("loop").split() == [name + end for end in ("1:1e1", "1:1n1", "2:3n1", "3:1n1", "1:1n1", "1:1n1")], "other places of the loop")
+    holds(scratch.text("option").split()[:1] == ["-h.sed:1:1e1"], "a name that looks like an option isn't explained")
     holds(scratch.text("certificate").split()[0] == name + "0:0e1", "the refused certificate isn't listed")
 
 
@@ -214,6 +217,10 @@ def hook_alone(scratch):
     scratch.write("in here/odd lines.sed", ENDLESS)
     scratch.run(0, "git", "add", ".")
     holds("in here/odd lines.sed:1:1: error: " in scratch.run(1, "git", "commit", "-qm", "a loop"), "the loop isn't shown")
+    scratch.write("-h.sed", ENDLESS)
+    scratch.run(0, "git", "add", ".")
+    holds("-h.sed:1:1: error: " in scratch.run(1, "git", "commit", "-qm", "two loops"), "a name that looks like an option isn't explained")
+    scratch.run(0, "git", "rm", "-qf", "--cached", "--", "-h.sed")
     scratch.copy("odd-lines.sed", "in here/odd lines.sed")
     scratch.run(1, "git", "commit", "-qm", "what is staged counts")
     scratch.run(0, "git", "rm", "-qf", "--cached", "in here/odd lines.sed")
@@ -238,6 +245,7 @@ def make_check(scratch):
     scratch.copy("odd-lines.sed", "scripts/odd-lines.sed")
     scratch.run(0, "sh", test)
     scratch.run(0, "make", "-s", "check")
+    holds(all(" -- " in line for line in block(head, "sh").splitlines() if line.startswith("exec ")), "a folder may be taken for an option")
     holds("skipped" in without_explain(scratch, 77, "sh", test), "that the test is skipped isn't said")
     without_explain(scratch, 0, "make", "-s", "check")
     scratch.write("scripts/loop.sed", ENDLESS)
