@@ -180,9 +180,10 @@ def vim(scratch):
     scratch.write("vimrc", block("Vim and Emacs", "vim"))
     scratch.write("bad.cert", "sedck 3\n")
     lists = "call writefile(map(getqflist(), 'bufname(v:val.bufnr) . \":\" . v:val.lnum . \":\" . v:val.col . v:val.type . v:val.valid'), '%s')"
-    scratch.run(0, "vim", "-es", "-u", "NONE", "-N", "-c", "source vimrc", "-c", "edit join-all-loop.sed", "-c", "silent make!", "-c", lists % "loop",
-                "-c", "edit -h.sed", "-c", "silent make!", "-c", lists % "option", "-c", "edit join-all-loop.sed",
-                "-c", "let &makeprg = substitute(&makeprg, ' --', ' --cert bad.cert --', '')", "-c", "silent make!", "-c", lists % "certificate", "-c", "qa!")
+    scratch.write("run.vim", "\n".join(["source vimrc", "edit join-all-loop.sed", "silent make!", lists % "loop", "edit -h.sed", "silent make!", lists % "option",
+                                       "edit join-all-loop.sed", "let &makeprg = substitute(&makeprg, ' --', ' --cert bad.cert --', '')", "silent make!",
+                                       lists % "certificate", "qa!", ""]))
+    scratch.run(0, "vim", "-es", "-u", "NONE", "-N", "-S", "run.vim")
     name = "join-all-loop.sed:"
     holds(scratch.text("loop").split() == [name + end for end in ("1:1e1", "1:1n1", "2:3n1", "3:1n1", "1:1n1", "1:1n1")], "other places of the loop")
     holds(scratch.text("option").split()[:1] == ["-h.sed:1:1e1"], "a name that looks like an option isn't explained")
