@@ -1,10 +1,10 @@
-# sedck and sedck-explain, on a machine that has the Rattle toolchain: `make demo` shows them without a proof, `make build` proves and
-# builds them, `make sedck` the checker alone, `make test` proves and tests everything.
+# sedck and sedck-explain, on a machine that has the Rattle toolchain: `make demo` shows them without a proof, `make try SCRIPTS="a.sed"`
+# explains scripts of your own without one, `make build` proves and builds them, `make sedck` the checker alone, `make test` proves and tests everything.
 
 RT ?= rt
 PREFIX ?= /usr/local
 
-.PHONY: all build sedck demo test docs examples rows explain-tests refusals refusals-program streams tools-tests calls-tests wrapper-tests bench planted seds states \
+.PHONY: all build sedck demo try test docs examples rows explain-tests refusals refusals-program streams tools-tests calls-tests wrapper-tests bench planted seds states \
 	changes measures runs-program install dist clean
 
 # One target after the other, also under `make -j`: proofs want all processors and much memory, and tests have limits of time.
@@ -30,6 +30,10 @@ sedck:
 # `rt try` runs the programs without a proof, and leaves nothing behind.
 demo:
 	@python3 tools/demo.py "$(RT)"
+
+# What `rt try` has compiled is kept in build/unproved until a source is newer. The words of SCRIPTS are those of sedck-explain.
+try:
+	@python3 tools/try.py "$(RT)" $(SCRIPTS)
 
 # The gate proves everything and builds the programs; the tests are then those that stand alone, with `build` and `refusals-program` as
 # they are, so that nothing is proved or built again. A C compiler that is missing is missed before the gate.
@@ -72,7 +76,7 @@ streams: build
 	sh tests/streams.sh build/sedck build/sedck-explain
 
 tools-tests:
-	@echo "Testing make build, make demo and make dist with a stand-in for rt ..."
+	@echo "Testing make build, make demo, make try and make dist with a stand-in for rt ..."
 	python3 tests/tools.py
 
 calls-tests: build

@@ -62,10 +62,11 @@ for script in *.sed; do
     cat rows others | grep -q -e "\`${script%.sed}\`" -e " $script" || fail "$script is in no table of README.md"
 done
 
-# Whether this machine has what a block needs: a program, GNU sed, or a locale in UTF-8.
+# Whether this machine has what a block needs: a program, GNU sed, a sed with a match that never ends, or a locale in UTF-8.
 has() {
     case $1 in
         gnu-sed) LC_ALL=C sed --version 2> /dev/null | grep -q '^sed (GNU sed)' ;;
+        endless-match) [ "$(ulimit -v 60000; echo b | LC_ALL=C timeout 60 sed 's/\(\(a*\)\2\2\)*b/X/' 2> /dev/null)" = b ] ;;
         utf-8) locale -a 2> /dev/null | grep -qi '^C[.]utf-*8$' ;;
         *) command -v "$1" > /dev/null ;;
     esac

@@ -156,9 +156,11 @@ def stranger(scratch):
     scratch.write("mail", "a\nxa\n")
     holds(scratch.run(0, "sh", "-c", "sh run-stranger.sh good.sed < mail") == "b\nxb\n", "other texts")
     for script, code in (("w out\n", "denied-writes"), ("r mail\n", "denied-reads"), ("G\n", "denied-unbounded"), (ENDLESS, "loop-idle"), ("1e id\n", "unknown-command"),
-                         ("s/[0-9]+//\n", "denied-warnings"), ("#" * 1048576 + "\nw out\n", "too-long")):
+                         ("s/[0-9]+//\n", "denied-warnings"), ("s/\\(\\(a*\\)\\2\\2\\)*//\n", "denied-slow"), ("s/\\(a\\{255\\}\\)\\{255\\}//\n", "denied-slow"),
+                         ("#" * 1048576 + "\nw out\n", "too-long")):
         scratch.write("bad.sed", script)
         holds(code in scratch.run(125, "sh", "-c", "sh run-stranger.sh bad.sed < mail"), "%s isn't shown" % code)
+        holds(scratch.run(125, "sh", "-c", "sh run-stranger.sh bad.sed < mail 2> /dev/null") == "", "the report is in the output, where its sender sees it")
     os.mkfifo(os.path.join(scratch.folder, "pipe"))
     scratch.run(125, "sh", "-c", "sh run-stranger.sh pipe < mail")
     scratch.write("secret", "s/a/b/\nthe secret\n")
@@ -174,13 +176,17 @@ def stranger(scratch):
 def vim(scratch):
     """The positions and levels that Vim takes from the lines, of a loop and of a certificate."""
     scratch.copy("join-all-loop.sed")
+    scratch.copy("join-all-loop.sed", "-h.sed")
     scratch.write("vimrc", block("Vim and Emacs", "vim"))
     scratch.write("bad.cert", "sedck 3\n")
     lists = "call writefile(map(getqflist(), 'bufname(v:val.bufnr) . \":\" . v:val.lnum . \":\" . v:val.col . v:val.type . v:val.valid'), '%s')"
-    scratch.run(0, "vim", "-es", "-u", "NONE", "-N", "-c", "source vimrc", "-c", "edit join-all-loop.sed", "-c", "silent make!", "-c", lists % "loop",
-                "-c", "set makeprg+=\\ --cert\\ bad.cert", "-c", "silent make!", "-c", lists % "certificate", "-c", "qa!")
+    scratch.write("run.vim", "\n".join(["source vimrc", "edit join-all-loop.sed", "silent make!", lists % "loop", "edit -h.sed", "silent make!", lists % "option",
+                                       "edit join-all-loop.sed", "let &makeprg = substitute(&makeprg, ' --', ' --cert bad.cert --', '')", "silent make!",
+                                       lists % "certificate", "qa!", ""]))
+    scratch.run(0, "vim", "-es", "-u", "NONE", "-N", "-S", "run.vim")
     name = "join-all-loop.sed:"
     holds(scratch.text("loop").split() == [name + end for end in ("1:1e1", "1:1n1", "2:3n1", "3:1n1", "1:1n1", "1:1n1")], "other places of the loop")
+    holds(scratch.text("option").split()[:1] == ["-h.sed:1:1e1"], "a name that looks like an option isn't explained")
     holds(scratch.text("certificate").split()[0] == name + "0:0e1", "the refused certificate isn't listed")
 
 
@@ -212,6 +218,10 @@ def hook_alone(scratch):
     scratch.write("in here/odd lines.sed", ENDLESS)
     scratch.run(0, "git", "add", ".")
     holds("in here/odd lines.sed:1:1: error: " in scratch.run(1, "git", "commit", "-qm", "a loop"), "the loop isn't shown")
+    scratch.write("-h.sed", ENDLESS)
+    scratch.run(0, "git", "add", ".")
+    holds("-h.sed:1:1: error: " in scratch.run(1, "git", "commit", "-qm", "two loops"), "a name that looks like an option isn't explained")
+    scratch.run(0, "git", "rm", "-qf", "--cached", "--", "-h.sed")
     scratch.copy("odd-lines.sed", "in here/odd lines.sed")
     scratch.run(1, "git", "commit", "-qm", "what is staged counts")
     scratch.run(0, "git", "rm", "-qf", "--cached", "in here/odd lines.sed")
@@ -236,6 +246,7 @@ def make_check(scratch):
     scratch.copy("odd-lines.sed", "scripts/odd-lines.sed")
     scratch.run(0, "sh", test)
     scratch.run(0, "make", "-s", "check")
+    holds(all(" -- " in line for line in block(head, "sh").splitlines() if line.startswith("exec ")), "a folder may be taken for an option")
     holds("skipped" in without_explain(scratch, 77, "sh", test), "that the test is skipped isn't said")
     without_explain(scratch, 0, "make", "-s", "check")
     scratch.write("scripts/loop.sed", ENDLESS)

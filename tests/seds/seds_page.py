@@ -38,7 +38,8 @@ def table(page, head):
     return cells(lines[begin]), rows
 
 
-HEADS = {"statuses": "| script | sedck |", "traces": "| script | input | trace |", "outputs": "| script | input | sedck |"}
+HEADS = {"statuses": "| script | sedck |", "traces": "| script | input | trace |", "outputs": "| script | input | sedck |",
+         "matches": "| script | input | what is repeated |"}
 
 
 def shown(done):
@@ -56,8 +57,8 @@ class Page:
         self.page, self.scratch, self.seds = page, scratch, seds
 
     def compared(self):
-        """What is other here: whether it is a fault, and its line."""
-        for name, answer in (("statuses", self.status), ("traces", self.trace), ("outputs", self.printed)):
+        """What is other here: whether it is a fault, and its line. How long a match takes is up to the C library, and no fault."""
+        for name, answer in (("statuses", self.status), ("traces", self.trace), ("outputs", self.printed), ("matches", self.ends)):
             heads, rows = table(self.page, HEADS[name])
             for row in rows:
                 cells = dict(zip(heads, row))
@@ -65,7 +66,7 @@ class Page:
                     got, due = answer(sed, cells), cells[head]
                     if got != (expected(due) if name == "outputs" else due):
                         line = "docs/SEDS.md, %s: %s has %r for %r, not %s" % (name, sed.name, got, joined(row[0]), due)
-                        yield head.rsplit(" ", 1)[1] in sed.version, line
+                        yield name != "matches" and head.rsplit(" ", 1)[1] in sed.version, line
 
     def columns(self, heads):
         """The heads of seds that are here: `GNU 4.9` is every GNU sed."""
@@ -83,6 +84,11 @@ class Page:
     def printed(self, sed, cells):
         self.scratch.put(joined(cells["script"]), joined(cells["input"]))
         return shown(self.scratch.run(sed.words, STOPPED_SECONDS))
+
+    def ends(self, sed, cells):
+        """Whether the run ends by itself in time."""
+        self.scratch.put(joined(cells["script"]), joined(cells["input"]))
+        return "yes" if self.scratch.run(sed.words, STOPPED_SECONDS).status == 0 else "-"
 
     def trace(self, sed, cells):
         """Whether the run leaves the trace, found as in a script that was drawn."""
