@@ -8,7 +8,7 @@ from explain_texts import NEXT_LINE, NEXT_LINE_TEXT
 from explain_tools import VERSION
 
 ACCEPTED = "%s: accepted: every run ends\n  steps: at most 4 a byte, plus 20 a line, plus 4; for 1,000 lines of 80 bytes at most 340,004\n  reads: no file\n  writes: no file\n"
-UNKNOWN = "%s:1:3: error: this label isn't defined [unknown-label]\n   1 | b z\n     |   ^\n"
+UNKNOWN = "%s:1:3: error: this label isn't defined [unknown-label]\n   1 | b z\n     |   ^\n     = see: docs/FAULTS.md#15-unknown-label\n"
 ESCAPES = {"red": "\x1b[1;31m", "yellow": "\x1b[1;33m", "cyan": "\x1b[1;36m", "green": "\x1b[1;32m", "plain": "\x1b[0m"}
 FORMATS = ("text", "gcc", "json", "sarif", "html", "dot", "dot-nodes")
 
@@ -96,7 +96,7 @@ def check_formats(tools):
 
 
 def check_unreadable(tools):
-    """Scripts that can't be read have an object in json, and nothing in the other formats."""
+    """Scripts that can't be read have an object in json and in sarif, and nothing in the other formats."""
     page = "FORMATS.md#the-formats-and-statuses-of-sedck-explain"
     for path, words, shown, reason in (
             ("gone.sed", ["gone.sed"], "gone.sed", ": no such file"), ("folder", ["folder"], "folder", ": it is a directory"),
@@ -109,7 +109,9 @@ def check_unreadable(tools):
         tools.same("unreadable %r" % path, json.loads(report),
                    {"file": path, "status": 4, "answer": "unreadable", "bound": None, "reads": [], "writes": [], "findings": [finding], "commands": [],
                     "version": json.loads(tools.explain("--format", "json", "s.sed")[1])["version"]})
-        for name in ("text", "gcc", "sarif", "html", "dot"):
+        log = tools.explain("--format", "sarif", *words)[1]
+        tools.holds("unreadable %r, sarif" % path, ('"message":{"text":%s}' % json.dumps(message)).encode() in log)
+        for name in ("text", "gcc", "html", "dot"):
             tools.same("unreadable %r, %s" % (path, name), tools.explain("--format", name, *words)[:2], (4, b""))
 
 
@@ -144,22 +146,25 @@ def check_colours(tools):
     tools.write("w.sed", b"w /x\n$!N\nG\n")
     error = "c.sed:1:4: {red}error{plain}: POSIX defines no such escape in a basic regular expression, and seds differ on it [bad-escape]\n"
     error += "   1 | s/a\\+/b/\n     |    {red}^{plain}\n     = {cyan}hint{plain}: for `x\\+` write `x\\{1,\\}` or `xx*`\n"
+    error += "     = {cyan}see{plain}: docs/FAULTS.md#2-bad-escape--and-\n"
     other = 'w.sed:1:1: {yellow}warning{plain}: this writes "/x": it is an absolute path [absolute-name]\n   1 | w /x\n     | {yellow}^{plain}\n'
+    other += "     = {cyan}see{plain}: docs/TRUST.md#names\n"
     other += "w.sed:3:1: {cyan}note{plain}: every run ends, but no limit on its steps is known, since this may lengthen the pattern space [no-bound]\n"
     other += "   3 | G\n     | {cyan}^{plain}\n       3:1  G  may lengthen the pattern space with the contents of the hold space\n"
-    other += 'w.sed: {green}accepted{plain}: every run ends\n  reads: no file\n  writes: "/x" (1:1)\n'
+    other += 'w.sed: {green}accepted{plain}: every run ends\n  steps: no limit is known\n  reads: no file\n  writes: "/x" (1:1)\n'
     tools.holds("terminal, loop", at_terminal(tools, ["l.sed"]).find(coloured("l.sed: {red}loop{plain}: a run may never end\n")) > 0)
     tools.write("s.sed", b"r x\n")
     tools.holds("terminal, rejected", at_terminal(tools, ["--cert", "s.cert", "s.sed"]).find(coloured("s.sed: {red}rejected{plain}: ")) > 0)
     tools.write("s.sed", NEXT_LINE)
     for name, text in (("c.sed", error), ("w.sed", other)):
-        plain = tools.explain(name)[1]
-        tools.same("terminal %s" % name, at_terminal(tools, [name]), coloured(text))
-        tools.same("terminal %s, NO_COLOR empty" % name, at_terminal(tools, [name], NO_COLOR=""), coloured(text))
-        tools.same("terminal %s, NO_COLOR" % name, at_terminal(tools, [name], NO_COLOR="1"), plain)
-        tools.same("terminal %s, NO_COLOR=0" % name, at_terminal(tools, [name], NO_COLOR="0"), plain)
-        tools.same("terminal %s, NO_COLOR of other bytes" % name, at_terminal(tools, [name], NO_COLOR="\udcff"), plain)
-        tools.same("pipe %s" % name, tools.explain(name, NO_COLOR="")[1], plain)
+        asked = ["--level", "note", name]
+        plain = tools.explain(*asked)[1]
+        tools.same("terminal %s" % name, at_terminal(tools, asked), coloured(text))
+        tools.same("terminal %s, NO_COLOR empty" % name, at_terminal(tools, asked, NO_COLOR=""), coloured(text))
+        tools.same("terminal %s, NO_COLOR" % name, at_terminal(tools, asked, NO_COLOR="1"), plain)
+        tools.same("terminal %s, NO_COLOR=0" % name, at_terminal(tools, asked, NO_COLOR="0"), plain)
+        tools.same("terminal %s, NO_COLOR of other bytes" % name, at_terminal(tools, asked, NO_COLOR="\udcff"), plain)
+        tools.same("pipe %s" % name, tools.explain(*asked, NO_COLOR="")[1], plain)
         tools.holds("pipe %s" % name, b"\x1b" not in plain)
         for form in FORMATS[1:]:
             words = ["--format", form, name]

@@ -24,7 +24,7 @@ use sedck_calls_in_files::{AsTheShell, Finder};
 use sedck_cert::streams::{Failed, FromRead, Sink, Source, write_all};
 use sedck_engines::{FromFiles, Input as InputOf, Opener, RunFault};
 use sedck_explanation::{Denied, Unexplained};
-use sedck_formats::json_unreadable;
+use sedck_formats::{json_unreadable, sarif_unreadable};
 use std::alloc::{AllocError, Global};
 use std::fs::Files;
 use std::io::{Input, Write};
@@ -210,10 +210,10 @@ fn report_unexplained<O: Opener, W: Sink, E: Sink>(
     let Unexplained::Unread(origin) = fault else {
         return;
     };
-    if style.format != Format::Json {
+    if !style.format.has_unreadable() {
         return;
     }
-    if let Err(fault) = write_unread_part(alloc, files, origin.text(words), out) {
+    if let Err(fault) = write_unread_part(alloc, files, style.format, origin.text(words), out) {
         let _ = write_unexplained(files, err, words, fault);
     }
 }
@@ -222,14 +222,28 @@ fn report_unexplained<O: Opener, W: Sink, E: Sink>(
 fn write_unread_part<O: Opener, W: Sink>(
     alloc: Global,
     files: &O,
+    format: Format,
     path: &[u8],
     out: &mut W,
 ) -> Result<(), Unexplained> {
     let message = unread_part(files, path).words(alloc)?;
-    let report = json_unreadable(alloc, "sed", message.as_str())?;
+    let report = unreadable(alloc, format, "sed", message.as_str())?;
     match write_all(out, &report) {
         Ok(()) => Ok(()),
         Err(_) => Err(Unexplained::Write),
+    }
+}
+
+/// The object of what can't be read: a log in SARIF, or one in JSON.
+fn unreadable(
+    alloc: Global,
+    format: Format,
+    name: &str,
+    message: &str,
+) -> Result<Vec<u8>, AllocError> {
+    match format {
+        Format::Sarif => sarif_unreadable(alloc, name, message),
+        _ => json_unreadable(alloc, name, message),
     }
 }
 
@@ -355,7 +369,7 @@ fn is_followed<O: Opener, W: Sink, E: Sink>(
     let RunFault::Read(input) = fault else {
         return false;
     };
-    if request.format != Format::Json {
+    if !request.format.has_unreadable() {
         return true;
     }
     match report_unread(alloc, files, request, path, input, out) {
@@ -382,7 +396,7 @@ fn report_unread<'a, O: Opener, W: Sink>(
     } else {
         path
     };
-    let report = json_unreadable(alloc, name, message.as_str())?;
+    let report = unreadable(alloc, request.format, name, message.as_str())?;
     match write_all(out, &report) {
         Ok(()) => Ok(()),
         Err(_) => Err(RunFault::Write),
