@@ -48,29 +48,47 @@ def check_scripts(tools):
     tools.same("-", tools.explain("-", given=NEXT_LINE), (0, given, b""))
     named = (ACCEPTED % "my.sed").encode()
     tools.same("a name for standard input", tools.explain("--stdin-filename", "my.sed", given=NEXT_LINE), (0, named, b""))
-    tools.same("the same for -, between files", tools.explain("s.sed", "-", "--stdin-filename=my.sed", "t.sed", given=NEXT_LINE), (2, one + named + two, b""))
+    three = b"3 scripts: 2 accepted, 1 refused\n"
+    tools.same("the same for -, between files", tools.explain("s.sed", "-", "--stdin-filename=my.sed", "t.sed", given=NEXT_LINE), (2, one + named + two + three, b""))
     tools.same("a file keeps its name", tools.explain("--stdin-filename", "my.sed", "s.sed"), (0, one, b""))
     tools.same("a refused script by that name", tools.explain("--stdin-filename", "a\nb", given=b"b z"), (2, (UNKNOWN % "a?b").encode(), b""))
     tools.same("- with a certificate", tools.explain("--cert", "s.cert", "-", given=NEXT_LINE), (0, given, b""))
     tools.same("none with a certificate", tools.explain("--cert=s.cert", given=NEXT_LINE), (0, given, b""))
-    tools.same("- between files", tools.explain("s.sed", "-", "t.sed", given=NEXT_LINE), (2, one + given + two, b""))
+    tools.same("- between files", tools.explain("s.sed", "-", "t.sed", given=NEXT_LINE), (2, one + given + two + three, b""))
     tools.same("a refused script on standard input", tools.explain(given=b"b z"), (2, (UNKNOWN % "-").encode(), b""))
-    tools.same("greatest status 2", tools.explain("t.sed", "s.sed"), (2, two + one, b""))
+    tools.same("greatest status 2", tools.explain("t.sed", "s.sed"), (2, two + one + b"2 scripts: 1 accepted, 1 refused\n", b""))
     status, report, errors = tools.explain("--format", "gcc", "l.sed", "s.sed")
     tools.same("greatest status 1", (status, report.count(b"[loop-idle]"), errors), (1, 1, b""))
-    tools.same("greatest status 0", tools.explain("s.sed", "s.sed"), (0, one + one, b""))
+    tools.same("greatest status 0", tools.explain("s.sed", "s.sed"), (0, one + one + b"2 scripts: 2 accepted\n", b""))
     tools.same("a name with a hyphen", tools.explain("--", "-h.sed"), (0, (ACCEPTED % "-h.sed").encode(), b""))
     unread = b"sedck-explain: cannot read gone.sed: no such file\n"
     tools.same("no such file", tools.explain("gone.sed"), (4, b"", unread))
-    tools.same("no such file among others", tools.explain("s.sed", "gone.sed", "t.sed"), (4, one + two, unread))
+    tools.same("no such file among others", tools.explain("s.sed", "gone.sed", "t.sed"),
+               (4, one + two + b"3 scripts: 1 accepted, 1 refused, 1 not readable\n", unread))
     tools.same("a folder", tools.explain("folder"), (4, b"", b"sedck-explain: cannot read folder: it is a directory\n"))
-    tools.same("a folder among others", tools.explain("folder", "s.sed", "gone.sed"), (4, one, b"sedck-explain: cannot read folder: it is a directory\n" + unread))
+    tools.same("a folder among others", tools.explain("folder", "s.sed", "gone.sed"),
+               (4, one + b"3 scripts: 1 accepted, 2 not readable\n", b"sedck-explain: cannot read folder: it is a directory\n" + unread))
     tools.same("no such certificate", tools.explain("--cert", "gone.cert", "s.sed"), (4, b"", b"sedck-explain: cannot read gone.cert: no such file\n"))
     tools.same("a folder as the certificate", tools.explain("--cert", "folder", "s.sed"), (4, b"", b"sedck-explain: cannot read folder: it is a directory\n"))
     tools.same("control characters", tools.explain("a\x1b[31m\nb"), (4, b"", b"sedck-explain: cannot read a?[31m?b: no such file\n"))
     tools.same("a control character of two bytes", tools.explain("a\u009bb"), (4, b"", b"sedck-explain: cannot read a?b: no such file\n"))
-    tools.same("a name that isn't UTF-8", tools.explain(b"u\xe9\xff.sed", "s.sed"), (4, one, b"sedck-explain: cannot read u??.sed: its name is not UTF-8\n"))
+    tools.same("a name that isn't UTF-8", tools.explain(b"u\xe9\xff.sed", "s.sed"),
+               (4, one + b"2 scripts: 1 accepted, 1 not readable\n", b"sedck-explain: cannot read u??.sed: its name is not UTF-8\n"))
     tools.same("an empty name", tools.explain(""), (4, b"", b"sedck-explain: cannot read : no such file\n"))
+
+
+def check_sums(tools):
+    """The last line of a report on several scripts, for people alone: how many there are of each answer, with a loop or what is denied as one."""
+    tools.write("w.sed", b"w x\n")
+    for words, due in ((["s.sed", "l.sed", "t.sed"], "3 scripts: 1 accepted, 1 with a loop, 1 refused"), (["l.sed", "l.sed"], "2 scripts: 2 with a loop"),
+                       (["--deny", "writes", "s.sed", "w.sed", "l.sed"], "3 scripts: 1 accepted, 2 with a loop or denied"),
+                       (["s.sed"] * 1203, "1,203 scripts: 1,203 accepted")):
+        lines = tools.explain(*words)[1].decode().split("\n")
+        tools.same("sum of %r" % words[:5], [line for line in lines if " scripts: " in line] + lines[-2:], [due, due, ""])
+        for form in ("gcc", "json"):
+            tools.holds("no sum of %r in %s" % (words[:5], form), b" scripts: " not in tools.explain("--format", form, *words)[1])
+    for words in (["s.sed"], ["t.sed"], ["gone.sed"]):
+        tools.holds("no sum of %r" % words, b" script" not in tools.explain(*words)[1])
 
 
 def check_formats(tools):
@@ -182,5 +200,6 @@ def check(tools):
     check_refused_words(tools)
     check_help(tools)
     check_scripts(tools)
+    check_sums(tools)
     check_formats(tools)
     check_colours(tools)

@@ -24,7 +24,7 @@ use sedck_calls_in_files::{AsTheShell, Finder};
 use sedck_cert::streams::{Failed, FromRead, Sink, Source, write_all};
 use sedck_engines::{FromFiles, Input as InputOf, Opener, RunFault};
 use sedck_explanation::{Denied, Unexplained};
-use sedck_formats::{json_unreadable, sarif_unreadable};
+use sedck_formats::{ScriptCounts, json_unreadable, sarif_unreadable};
 use std::alloc::{AllocError, Global};
 use std::fs::Files;
 use std::io::{Input, Write};
@@ -263,7 +263,8 @@ fn write_unexplained<O: Opener, E: Sink>(
 }
 
 /// Explains each script of the request, in the order in which they are given, and answers the exit status: the greatest of theirs,
-/// or 4 where one can't be read, a write fails, or memory runs out.
+/// or 4 where one can't be read, a write fails, or memory runs out. The report of several for people ends with how many there are of each
+/// answer.
 pub fn explain_all<O: Opener, R: Input, W: Sink, E: Sink>(
     alloc: Global,
     files: &O,
@@ -279,16 +280,47 @@ pub fn explain_all<O: Opener, R: Input, W: Sink, E: Sink>(
     ensures silent { result < 3 → Keeps (E.taken err.old) (E.taken err.new) }
 {
     let mut status = 0;
+    let mut counts = ScriptCounts::NONE;
     for path in &request.scripts {
         match explain_path(alloc, files, input, request, colour, path, out) {
-            Ok(one) => status = one.max(status),
+            Ok(one) => {
+                status = one.max(status);
+                counts.add(one);
+            }
             Err(fault) => {
                 status = 4;
+                counts.add(4);
                 if !is_followed(alloc, files, request, path, fault, out, err) {
-                    break;
+                    return 4;
                 }
             }
         }
+    }
+    summed(alloc, request, counts, status, out, err)
+}
+
+/// Writes how many scripts there are of each answer, where there are several and the report is for people. The status is this one, or 4
+/// where that can't be written.
+fn summed<W: Sink, E: Sink>(
+    alloc: Global,
+    request: &Request,
+    counts: ScriptCounts,
+    status: u8,
+    out: &mut W,
+    err: &mut E,
+) -> u8
+    ensures within { (result ≡ status) ⊎ (result ≡ 4) }
+    ensures silent { result ≢ 4 → Keeps (E.taken err.old) (E.taken err.new) }
+{
+    if request.scripts.len() < 2 || request.format != Format::Text {
+        return status;
+    }
+    let may_be_denied = request.denied != Denied::NOTHING;
+    let Ok(text) = counts.text(alloc, may_be_denied) else {
+        return out_of_memory(err);
+    };
+    if write_all(out, &text).is_err() {
+        return unwritten(err);
     }
     status
 }

@@ -32,7 +32,7 @@ mod words;
 mod written;
 
 pub use call_words::{CallAnswer, CallAt, text_answer};
-pub use counts::Counts;
+pub use counts::{Counts, ScriptCounts};
 pub use gcc::gcc_report;
 pub use json_calls::{json_call, json_counts, json_place};
 pub use json_line::{json_report, json_unreadable};
