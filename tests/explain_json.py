@@ -223,13 +223,18 @@ def check_certificates(tools):
 
 
 def check_paths(tools):
-    """Paths are just what was given; in ASCII. Other formats have a `?` for each control character."""
-    for name, shown in (("\u00e9\u2603\U0001f600.sed", None), ('"\\<b>&\'.sed', None), ("a\x1b[31m\n\u009b\x7f.sed", "a?[31m???.sed")):
+    """Paths are just what was given; in ASCII. Other formats have a `?` for each control character, and `./` before a path whose line a host of
+    code would take for a command."""
+    for name, shown in (("\u00e9\u2603\U0001f600.sed", None), ('"\\<b>&\'.sed', None), ("a\x1b[31m\n\u009b\x7f.sed", "a?[31m???.sed"),
+                        ("::error::x.sed", "./::error::x.sed"), ("\t \u3000:x.sed", "./? \u3000:x.sed"), ("x::y.sed", None)):
         tools.write(name, b"b z\n")
         report, = reports(tools, [name])
         tools.same("path %r" % name, report["file"], name)
         for form in ("text", "gcc"):
             tools.holds("path %r, %s" % (name, form), tools.explain("--format", form, name)[1].startswith((shown or name).encode() + b":1:3: "))
+            tools.write("::error::x.sh", b"sed 'b z'\n")
+            calls = tools.explain("--calls", "--format", form, "::error::x.sh")[1]
+            tools.holds("path of a call, %s" % form, calls.startswith(b"./::error::x.sh:1:") and not re.search(rb"(?m)^\s*::", calls))
 
 
 def check(tools, count):

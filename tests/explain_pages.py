@@ -8,7 +8,7 @@ import subprocess
 
 from explain_json import drawn_scripts, example_scripts, reports
 from explain_texts import REFUSED_CERTIFICATES, PRINT, WITH_CERTIFICATE
-from explain_tools import VERSION, shown_line
+from explain_tools import VERSION, is_seen, letters, page_due, shown_line, shown_unicode
 
 VOID = {"meta", "br", "hr", "link", "img", "input"}
 ADDRESSES = ("href", "src", "srcset", "action", "data", "poster", "xlink:href")
@@ -33,6 +33,14 @@ SCRIPTS = [
     b"p;p;w /a \np\n",
     b"k" + b"x" * 3000 + b"\n",
     b"$s/\"\\\\&/x\\\\\"/\nG\n",
+    # characters of UTF-8: of two, three and four bytes, then what is none (too long, a surrogate, above the greatest, cut off), or can't be seen
+    "# ä☃😀 e\u0301 ﬁ\n:a\ns/[äö]/ü/\nta\n".encode(),
+    b"# \xc0\xaf \xe0\x80\xaf \xf0\x80\x80\xaf \xed\xa0\x80 \xf4\x90\x80\x80 \xf8\x88\x80\x80\x80 \xc3\n# \xe2\x98\n# \xf0\x9f\x98",
+    "# \u0080 \u009b \u00a0 \u00ad \u061c \u200b \u200e \u200f \u2028 \u202a \u202e \u2066 \u2069 \u3000 \ufeff \U000e0041 \x7f\n".encode(),
+    "# \u07ff \u0800 \ud7ff \ue000 \uffff \U00010000 \U0010ffff\np\n".encode(),
+    # a finding at a character, at the byte behind its first one, and one in a long line
+    "p é\n".encode(), b"s\xc3a\xc3b\xc3\xa9\n", ("s/é/" + "ü" * 100 + "/;:é\n").encode(), ("# " + "ä" * 200 + "\n").encode(),
+    ("/" + "ä" * 100 + "/s/x/y/\n:a\nba\n").encode(), (":a\n/" + "ä" * 20 + "/s/x/y/;p" + ";s/ü/é/" * 9 + "\nta\n").encode(),
 ]
 
 
@@ -94,12 +102,24 @@ class Page(html.parser.HTMLParser):
             self.title += data
 
 
+def shown_marked(line, columns):
+    """A line of a page with marks on the characters at these columns: no mark, and nothing beside one, has a part of a character that is shown."""
+    shown, start = "", 0
+    for at in sorted(column - 1 for column in columns):
+        if at >= start:
+            end = at + max(len(letters(line[at:])[0]) if line[at:] else 1, 1)
+            shown += shown_unicode(line[start:at]) + (shown_unicode(line[at:end]) or " ")
+            start = end
+    return shown + shown_unicode(line[start:])
+
+
 def lines_due(script, report):
     """Each line with its number, and the script's end. What is found at a line's end marks a blank there. A last line that is
     empty, behind a newline, is none."""
     lines = (script[:-1] if script.endswith(b"\n") else script).split(b"\n")
-    ends = [finding["position"] and (finding["position"]["line"], finding["position"]["column"]) for finding in report["findings"]]
-    return [[str(number), shown_line(line) + " " * ((number, len(line) + 1) in ends)] for number, line in enumerate(lines, 1)] + [["end", ""]]
+    places = [finding["position"] for finding in report["findings"] if finding["position"]]
+    return [[str(number), shown_marked(line, [place["column"] for place in places if place["line"] == number])]
+            for number, line in enumerate(lines, 1)] + [["end", ""]]
 
 
 def graph_of(tools, name):
@@ -173,7 +193,7 @@ def ranks_due(tools, name, report):
 
 def well_formed(tools, what, text):
     """The page, after a look at its form: tags that balance, no script, and no address elsewhere."""
-    tools.holds("%s: ASCII" % what, all(byte == 10 or 32 <= byte < 127 for byte in text))
+    tools.holds("%s: control characters" % what, all(letter == "\n" or is_seen(letter) for letter in text.decode()))
     page = Page(text.decode())
     tools.same("%s: faults" % what, page.faults, [])
     counts = [page.counts.get(tag, 0) for tag in ("html", "head", "body", "main", "h1", "title", "script", "b")]
@@ -203,6 +223,32 @@ def files_due(report):
             yield [file["name"], use, ["%(line)d:%(column)d" % one for one in file["positions"]]]
 
 
+HEADLINES = {"accepted": "Accepted: every run of the script ends.", "loop": "Loop: a run may never end.", "script-refused": "The script is refused."}
+
+
+def words_of(part):
+    """The words of a part of a page, without its elements."""
+    return html.unescape(re.sub("<[^>]*>", "", part))
+
+
+def hold_findings(tools, what, text, report):
+    """The headline; at the top each error in full, with its steps, hint, page and code, and an entry for each other finding, whose box is at its line."""
+    top, _, listing = text.partition("</header>")
+    tools.holds("%s: headline" % what, ">%s</p>" % HEADLINES[report["answer"]] in top)
+    for at, finding in enumerate(report["findings"]):
+        is_error = finding["level"] == "error"
+        part = top if is_error else listing
+        tools.same("%s: boxes of F%d" % (what, at), (text.count('id="F%d"' % at), part.count('id="F%d"' % at)), (1, 1))
+        box = words_of(part.partition('id="F%d">' % at)[2].partition("</div>")[0])
+        place = "%s at %d:%d: " % (finding["level"], finding["position"]["line"], finding["position"]["column"])
+        code = " [%s]" % finding["code"]
+        tools.holds("%s: place of F%d" % (what, at), box.startswith(place + finding["message"].replace("`", "") + code))
+        tools.holds("%s: page of F%d" % (what, at), box.endswith("see: docs/" + (page_due(finding["code"]) if is_error else finding["page"])))
+        tools.holds("%s: hint of F%d" % (what, at), not finding["hint"] or "hint: %ssee" % finding["hint"].replace("`", "") in box)
+        tools.holds("%s: steps of F%d" % (what, at), all(step["message"].replace("`", "") in box for step in finding["steps"][:1] + finding["steps"][-1:]))
+        tools.same("%s: mentions of F%d" % (what, at), (top.count('<a href="#F%d"' % at), listing.count('<a href="#F%d"' % at)), (0, 1) if is_error else (1, 0))
+
+
 def hold_page(tools, name, script, report):
     """A page: its form, title, lines, files, jumps and ranks."""
     status, text, errors = tools.explain("--format", "html", name)
@@ -211,6 +257,7 @@ def hold_page(tools, name, script, report):
     page = well_formed(tools, what, text)
     tools.same("%s: title" % what, page.title, "%s: %s" % (name, report["answer"]))
     tools.holds("%s: version" % what, b">sedck-explain %s</footer>" % VERSION.encode() in text)
+    hold_findings(tools, what, text.decode(), report)
     tools.same("%s: lines" % what, [[number, code or ""] for number, code in page.lines], lines_due(script, report))
     tables = tables_of(page)
     files = [[row[0][1:-1], row[1], row[2].split()] for row in tables["File"]]
@@ -236,7 +283,18 @@ def check_certificates(tools):
 
 
 NODE = re.compile(r'  n([0-9]+) \[label="((?:[^"\\]|\\.)*)"(, shape=oval)?\];')
-EDGE = re.compile(r'  n([0-9]+) -> n([0-9]+) \[label="(consume|shorten|keep|grow)", color="[#a-f0-9:whit]*", style=[a-z]+(, penwidth=4)?\];')
+# What is dark has no width of its own, and what is red is bold and has red words.
+INK = r'color="(?:#374151|#374151:white:#374151)", style=[a-z]+|color="(?:#c81e1e|#c81e1e:white:#c81e1e)", style=[a-z]+(, penwidth=3, fontcolor="#c81e1e")'
+EDGE = re.compile(r'  n([0-9]+) -> n([0-9]+) \[label="(consume|shorten|keep|grow)", (?:' + INK + r')\];')
+# The line of each kind.
+LINES = {"consume": "style=solid", "shorten": "style=dashed", "keep": "style=dotted", "grow": ':white:#'}
+
+
+def hold_legend(tools, what, line, has_loop):
+    """The legend has each kind, `[t]` and `[$]`, and a loop where there is one."""
+    label = re.fullmatch(r'  legend \[shape=note, fontsize=10, label="(.*)\\l"\];', line)
+    words = [words.split(": ")[0] for words in label[1].split(r"\l")] if label else line
+    tools.same("%s: legend" % what, words, ["consume", "shorten", "keep", "grow", "[t]", "[$]"] + ["red"] * has_loop)
 
 
 def unescaped(label):
@@ -263,9 +321,23 @@ def hold_nodes(tools, what, script, report, nodes):
         is_end = at == len(report["commands"])
         tools.same("%s: n%s" % (what, match[1]), head, place_words(report, at) + " [t]" * flag + " [$]" * last)
         tools.same("%s: shape of n%s" % (what, match[1]), bool(match[3]), is_end)
-        line = "" if is_end else shown_line(lines[report["commands"][at]["line"] - 1])
+        if is_end:
+            tools.same("%s: words of n%s" % (what, match[1]), source, "the run ends" if last else "next cycle")
+            continue
+        line = shown_line(lines[report["commands"][at]["line"] - 1])
         shown = unescaped(source).removeprefix("...").removesuffix("...")
-        tools.holds("%s: line of n%s" % (what, match[1]), shown in line and bool(shown) != is_end)
+        tools.holds("%s: line of n%s" % (what, match[1]), shown and shown in line)
+
+
+def hold_refusal(tools, what, script, label, finding):
+    """The box of a refused script: the place, a part of the line, the message with the code, and the hint, in lines that aren't long."""
+    place, line, *words = ["", ""] if r"\l" not in label else [unescaped(part) for part in re.findall(r"((?:[^\\]|\\[^l])*)\\l", label + r"\l")]
+    start = finding["position"]
+    tools.same("%s: place" % what, place, "%d:%d" % (start["line"], start["column"]))
+    tools.holds("%s: line" % what, line.removeprefix("...").removesuffix("...") in shown_line((script.split(b"\n") + [b""])[start["line"] - 1]))
+    said = "%(message)s [%(code)s]" % finding + (" hint: %(hint)s" % finding if finding["hint"] else "")
+    tools.same("%s: refusal" % what, " ".join(words), said)
+    tools.holds("%s: width" % what, all(len(part) <= 60 or " " not in part[60:] for part in words))
 
 
 def hold_graph(tools, name, script, report, dot):
@@ -277,8 +349,7 @@ def hold_graph(tools, name, script, report, dot):
     lines = text.decode().split("\n")
     tools.holds("%s: title" % what, '[label="%s: %s", ' % (name, report["answer"]) in lines[1])
     if report["status"] == 2:
-        label = re.fullmatch(r'  refused \[label="(.*)"\];', lines[4])
-        tools.same("%s: refusal" % what, unescaped(label[1]), "%(message)s [%(code)s]" % report["findings"][0])
+        hold_refusal(tools, what, script, re.fullmatch(r'  refused \[label="(.*)"\];', lines[4])[1].removesuffix(r"\l"), report["findings"][0])
         tools.same("%s: rest" % what, lines[5:], ["}", ""])
         return
     reached, edges = graph_of(tools, name)
@@ -288,13 +359,15 @@ def hold_graph(tools, name, script, report, dot):
     due = sorted((index(at), index(to), kind, (at, to, kind) in loop) for at, to, kind in edges)
     tools.same("%s: nodes" % what, [int(match[1]) for match in nodes], sorted(map(index, reached)))
     tools.same("%s: edges" % what, sorted((int(one[1]), int(one[2]), one[3], bool(one[4])) for one in seen), due)
-    tools.same("%s: starts" % what, lines[4:7], ["  start [shape=point];", "  start -> n0;", "  start -> n1;"])
-    tools.same("%s: all lines" % what, len(lines), 4 + 3 + len(nodes) + len(seen) + 2)
+    hold_legend(tools, what, lines[4], bool(loop))
+    tools.holds("%s: lines of kinds" % what, all(LINES[one[3]] in one[0] for one in seen))
+    tools.same("%s: starts" % what, lines[5:8], ["  start [shape=point];", "  start -> n0;", "  start -> n1;"])
+    tools.same("%s: all lines" % what, len(lines), 4 + 4 + len(nodes) + len(seen) + 2)
     hold_nodes(tools, what, script, report, nodes)
 
 
 COMMAND = re.compile(r'  n([0-9]+) \[label="((?:[^"\\]|\\.)*)"(, shape=oval)?\];')
-STEP = re.compile(r'  n([0-9]+) -> n([0-9]+) \[label="(consume|shorten|keep|grow)( \[t\])?( \[\$\])?", color="[#a-f0-9:whit]*", style=[a-z]+(, penwidth=4)?\];')
+STEP = re.compile(r'  n([0-9]+) -> n([0-9]+) \[label="(consume|shorten|keep|grow)( \[t\])?( \[\$\])?", (?:' + INK + r')\];')
 
 
 def steps_due(edges, loop):
@@ -322,15 +395,20 @@ def hold_commands(tools, name, script, report, dot):
     tools.same("%s: commands" % what, [int(box[1]) for box in boxes], sorted({node[0] for node in reached}))
     drawn = {(int(one[1]), int(one[2]), one[3]): (bool(one[4]), bool(one[5]), bool(one[6])) for one in seen}
     tools.same("%s: steps" % what, (len(drawn), drawn), (len(seen), steps_due(edges, loop_of(tools, name))))
-    tools.same("%s: start" % what, lines[4:6], ["  start [shape=point];", "  start -> n0;"])
-    tools.same("%s: all lines" % what, len(lines), 4 + 2 + len(boxes) + len(seen) + 2)
+    hold_legend(tools, what, lines[4], bool(loop_of(tools, name)))
+    tools.holds("%s: lines of kinds" % what, all(LINES[one[3]] in one[0] for one in seen))
+    tools.same("%s: start" % what, lines[5:7], ["  start [shape=point];", "  start -> n0;"])
+    tools.same("%s: all lines" % what, len(lines), 4 + 3 + len(boxes) + len(seen) + 2)
     for box in boxes:
         at, (head, _, source) = int(box[1]), box[2].partition("\\n")
         is_end = at == len(report["commands"])
-        line = "" if is_end else shown_line(script.split(b"\n")[report["commands"][at]["line"] - 1])
-        shown = unescaped(source).removeprefix("...").removesuffix("...")
         tools.same("%s: place of n%d" % (what, at), (head, bool(box[3])), (place_words(report, at), is_end))
-        tools.holds("%s: line of n%d" % (what, at), shown in line and bool(shown) != is_end)
+        if is_end:
+            tools.same("%s: words of n%d" % (what, at), source, "next cycle, or the run ends")
+            continue
+        line = shown_line(script.split(b"\n")[report["commands"][at]["line"] - 1])
+        shown = unescaped(source).removeprefix("...").removesuffix("...")
+        tools.holds("%s: line of n%d" % (what, at), shown and shown in line)
 
 
 def check(tools):

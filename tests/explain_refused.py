@@ -2,7 +2,7 @@
 
 The places are those that docs/FORMATS.md has for each fault, counted by hand, as lines and columns.
 """
-from explain_tools import line_of, shown_line
+from explain_tools import line_of, page_due, shown_line
 
 NO_VERB = "expected a sed command"
 NO_ADDRESS = "expected an address"
@@ -169,6 +169,7 @@ def text_due(name, script, row):
         "%*d | %s\n" % (gutter, line, shown),
         "%*s | %*s^\n" % (gutter, "", before, ""),
         "%*s = hint: %s\n" % (gutter, "", hint) if hint else "",
+        "%*s = see: docs/%s\n" % (gutter, "", page_due(code)),
     ])
 
 

@@ -1,6 +1,7 @@
 """Whole reports in text and for editors: loops, certificates, accepted scripts, names, and bytes that a terminal wouldn't show."""
+import re
 
-from explain_tools import line_of, place, shown_line, shown_name
+from explain_tools import line_of, place, shown_line, shown_name, with_pages
 from refusals import both, certificate
 
 IDLE = "this loop reads no line and never shortens the pattern space: it may run forever"
@@ -15,6 +16,7 @@ TAKE = ("branch only where a line was read: put the branch into a block with the
         "of their own")
 UNKNOWN = "every run ends, but no limit on its steps is known, since this may lengthen the pattern space"
 NO_FILES = "  reads: no file\n  writes: no file\n"
+NO_LIMIT = "  steps: no limit is known\n"
 LOOP = "s.sed: loop: a run may never end\n" + NO_FILES
 REJECTED = "s.sed: rejected: the certificate doesn't fit the script\n"
 
@@ -167,7 +169,7 @@ s.sed:2:1: note: {UNKNOWN} [no-bound]
      | ^
        2:1  G  may lengthen the pattern space with the contents of the hold space
 s.sed: accepted: every run ends
-{NO_FILES}""", f"""\
+{NO_LIMIT}{NO_FILES}""", f"""\
 s.sed:2:1: note: {UNKNOWN} [no-bound]
 s.sed:2:1: note: `G` may lengthen the pattern space with the contents of the hold space
 """),
@@ -177,7 +179,7 @@ s.sed:1:2: note: {UNKNOWN} [no-bound]
      |  ^
        1:2  $s/a/[&]/  may replace a match with a longer text: it has the whole match, `&`, and more (on the last line)
 s.sed: accepted: every run ends
-{NO_FILES}""", f"""\
+{NO_LIMIT}{NO_FILES}""", f"""\
 s.sed:1:2: note: {UNKNOWN} [no-bound]
 s.sed:1:2: note: `$s/a/[&]/` may replace a match with a longer text: it has the whole match, `&`, and more (on the last line)
 """),
@@ -187,7 +189,7 @@ s.sed:1:1: note: {UNKNOWN} [no-bound]
      | ^
        1:1  s/\\(a\\)b/\\1\\1/  may replace a match with a longer text: it has a group twice, or one that is repeated or inside another
 s.sed: accepted: every run ends
-{NO_FILES}""", f"""\
+{NO_LIMIT}{NO_FILES}""", f"""\
 s.sed:1:1: note: {UNKNOWN} [no-bound]
 s.sed:1:1: note: `s/\\(a\\)b/\\1\\1/` may replace a match with a longer text: it has a group twice, or one that is repeated or inside another
 """),
@@ -197,7 +199,7 @@ s.sed:1:4: note: {UNKNOWN} [no-bound]
      |    ^
        1:4  /a/s//xy/  may replace a match with a longer text: it has 2 bytes, and the expression may be any of the script's
 s.sed: accepted: every run ends
-{NO_FILES}""", f"""\
+{NO_LIMIT}{NO_FILES}""", f"""\
 s.sed:1:4: note: {UNKNOWN} [no-bound]
 s.sed:1:4: note: `/a/s//xy/` may replace a match with a longer text: it has 2 bytes, and the expression may be any of the script's
 """),
@@ -381,7 +383,7 @@ def check_names(tools):
         text, gcc = warned_due(script, verb, does, name, warnings)
         tools.write("s.sed", script)
         status, report, errors = tools.explain("s.sed")
-        tools.same("text %r" % script, (status, report.decode().partition("s.sed: accepted")[0], errors), (0, text, b""))
+        tools.same("text %r" % script, (status, report.decode().partition("s.sed: accepted")[0], errors), (0, with_pages(text), b""))
         tools.same("gcc %r" % script, tools.explain("--format", "gcc", "s.sed"), (0, gcc.encode(), b""))
         tools.holds("summary %r" % script, '\n  %s: "%s" (2:%d)\n' % (does, name, verb - 8) in report.decode())
 
@@ -404,7 +406,7 @@ s.sed: accepted: every run ends
   writes: "/b" (2:1)
   writes: "f" (1:1, 5:1)
 """
-    tools.same("text %r" % script, tools.explain("s.sed"), (0, ("".join(part[0] for part in parts) + summary).encode(), b""))
+    tools.same("text %r" % script, tools.explain("s.sed"), (0, with_pages("".join(part[0] for part in parts) + summary).encode(), b""))
     tools.same("gcc %r" % script, tools.explain("--format", "gcc", "s.sed"), (0, "".join(part[1] for part in parts).encode(), b""))
 
 
@@ -416,6 +418,7 @@ def check_certificates(tools):
         head = "s.sed: error: line %d of the certificate: expected %s [%s]\n" % (line, wanted, code)
         for form, hint in (("text", "     = hint: "), ("gcc", "s.sed: note: hint: ")):
             due = head + hint + MADE_AGAIN + "\n"
+            due = with_pages(due) if form == "text" else due
             tools.same("%s %r" % (form, text), tools.explain("--format", form, "--cert", "s.cert", "s.sed"), (2, due.encode(), b""))
 
 
@@ -444,9 +447,12 @@ def check(tools):
         if text is not None:
             words = ["--cert", tools.write("s.cert", text.encode())]
         tools.write("s.sed", script)
-        text_due, gcc_due = (report.encode() for report in reports)
+        text_due, gcc_due = with_pages(reports[0]).encode(), reports[1].encode()
         what = "%r %r" % (script, text)
-        tools.same("text " + what, tools.explain(*words, "s.sed"), (status, text_due, b""))
+        tools.same("text with notes " + what, tools.explain("--level", "note", *words, "s.sed"), (status, text_due, b""))
+        # Without notes the report begins behind the one of these scripts, which is before the answer.
+        shown = re.sub(rb"(?s)^[^\n]*: note: .*?(?=^s\.sed: accepted)", b"", text_due, flags=re.M)
+        tools.same("text " + what, tools.explain(*words, "s.sed"), (status, shown, b""))
         tools.same("gcc with notes " + what, tools.explain("--format", "gcc", "--level", "note", *words, "s.sed"), (status, gcc_due, b""))
         tools.same("gcc " + what, tools.explain("--format", "gcc", *words, "s.sed"), (status, gcc_due if status else b"", b""))
     check_names(tools)

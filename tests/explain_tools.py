@@ -1,7 +1,10 @@
 """What the tests of `sedck-explain` share: runs of both programs, comparisons, and the rules by which bytes are shown."""
+import functools
 import os
 import re
 import subprocess
+import unicodedata
+from pathlib import Path
 
 TOP = os.path.dirname(os.path.dirname(os.path.abspath(__file__)))
 with open(os.path.join(TOP, "CHANGELOG.md")) as changes:
@@ -52,6 +55,39 @@ def shown_line(data):
     return "".join("    " if byte == 9 else chr(byte) if 32 <= byte < 127 else "\\x%02x" % byte for byte in data)
 
 
+def letters(data):
+    """The bytes of each character of UTF-8, and of each byte that is part of none, in order."""
+    parts = []
+    while data:
+        part = next((data[:size] for size in range(1, 5) if is_letter(data[:size])), data[:1])
+        parts.append(part)
+        data = data[len(part):]
+    return parts
+
+
+def is_letter(data):
+    """Whether the bytes are those of one character."""
+    try:
+        return len(data.decode()) == 1
+    except UnicodeDecodeError:
+        return False
+
+
+# Characters that aren't shown and that Unicode has neither as controls, nor as formats, nor as separators.
+UNSEEN = re.compile("[\u034f\u115f\u1160\u17b4\u17b5\u180b-\u180f\u2060-\u206f\u3164\ufdd0-\ufdef\ufe00-\ufe0f\uffa0\ufff0-\uffff\U000e0000-\U000e0fff]")
+
+
+def is_seen(letter):
+    """Whether a page shows the character: a blank, or none that has no shape of its own, or turns or separates what is around it."""
+    hidden = unicodedata.category(letter) in ("Cc", "Cf", "Cs", "Co", "Zs", "Zl", "Zp") or ord(letter) & 0xfffe == 0xfffe
+    return letter == " " or not (hidden or UNSEEN.fullmatch(letter))
+
+
+def shown_unicode(data):
+    """A line as pages have it: characters of UTF-8 that can be seen, a tab as four spaces, and other bytes as `\\x` and two digits."""
+    return "".join(part.decode() if is_letter(part) and is_seen(part.decode()) else shown_line(part) for part in letters(data))
+
+
 def shown_name(data):
     """A name in printable ASCII: a backslash before a backslash and a double quote; a backquote and other bytes as `\\x` and two
     digits."""
@@ -67,3 +103,43 @@ def place(data, offset):
 def line_of(data, line):
     """The bytes of a line, without its newline."""
     return data.split(b"\n")[line - 1]
+
+
+# The page of a code, but of the faults of scripts and expressions, of which each has its number and its name in a heading of FAULTS.md.
+PAGES = {
+    "MENDING.md#repairing-loops": ["loop-idle", "loop-growing"],
+    "FAULTS.md#18-too-deep-19-too-many-commands": ["too-deep", "too-many-commands"],
+    "FAULTS.md#faults-of-certificates": ["bad-header", "bad-count", "bad-node", "bad-names", "bad-end"],
+    "FAULTS.md#rejections": ["wrong-count", "start-unranked", "leaves-ranked", "not-lowered", "reads-differ", "writes-differ"],
+    "STRANGERS.md#scripts-of-strangers": ["denied-reads", "denied-writes", "denied-unbounded", "denied-warnings"],
+    "TRUST.md#devices-pipes-and-links": ["device-name"],
+    "TRUST.md#names": ["stream-name", "absolute-name", "upward-name", "unprintable-name", "blank-at-end", "command-in-name", "hidden-name",
+                       "makefile-name", "option-name", "shell-byte-in-name", "read-and-written", "same-file"],
+    "TRUST.md#options-and-the-scripts-first-line": ["options-in-first-line", "looks-extended"],
+    "GRAMMAR.md#what-seds-read-differently": ["brace-behind-label", "one-line-text", "silencing-comment"],
+    "STRANGERS.md#what-a-limit-on-steps-doesnt-limit": ["repeated-reference", "denied-slow"],
+}
+
+
+@functools.cache
+def page_due(code):
+    """The page that explains a code, with its heading."""
+    for page, codes in PAGES.items():
+        if code in codes:
+            return page
+    heads = re.findall(r"^#+ (.*)$", (Path(TOP) / "docs" / "FAULTS.md").read_text(), flags=re.M)
+    names = [re.sub(r"[^\w\- ]", "", head.lower()).replace(" ", "-") for head in heads]
+    return "FAULTS.md#" + next(name for name in names if re.search(r"\d-%s($|-)" % code, name))
+
+
+def with_pages(report):
+    """A report in text with the page of each code of an error or a warning, behind its first finding."""
+    blocks, seen = re.split(r"(?m)^(?=\S)", report), set()
+    for at, block in enumerate(blocks):
+        head = re.match(r".*?: (error|warning): .* \[([a-z-]+)\]\n", block)
+        if head and head[2] not in seen:
+            seen.add(head[2])
+            gutter = re.search(r"(?m)^( *)(\d+) \| ", block)
+            width = len(gutter[1] + gutter[2]) if gutter else 4
+            blocks[at] += "%*s = see: docs/%s\n" % (width, "", page_due(head[2]))
+    return "".join(blocks)

@@ -8,7 +8,7 @@ from explain_texts import NEXT_LINE, NEXT_LINE_TEXT
 from explain_tools import VERSION
 
 ACCEPTED = "%s: accepted: every run ends\n  steps: at most 4 a byte, plus 20 a line, plus 4; for 1,000 lines of 80 bytes at most 340,004\n  reads: no file\n  writes: no file\n"
-UNKNOWN = "%s:1:3: error: this label isn't defined [unknown-label]\n   1 | b z\n     |   ^\n"
+UNKNOWN = "%s:1:3: error: this label isn't defined [unknown-label]\n   1 | b z\n     |   ^\n     = see: docs/FAULTS.md#15-unknown-label\n"
 ESCAPES = {"red": "\x1b[1;31m", "yellow": "\x1b[1;33m", "cyan": "\x1b[1;36m", "green": "\x1b[1;32m", "plain": "\x1b[0m"}
 FORMATS = ("text", "gcc", "json", "sarif", "html", "dot", "dot-nodes")
 
@@ -48,29 +48,47 @@ def check_scripts(tools):
     tools.same("-", tools.explain("-", given=NEXT_LINE), (0, given, b""))
     named = (ACCEPTED % "my.sed").encode()
     tools.same("a name for standard input", tools.explain("--stdin-filename", "my.sed", given=NEXT_LINE), (0, named, b""))
-    tools.same("the same for -, between files", tools.explain("s.sed", "-", "--stdin-filename=my.sed", "t.sed", given=NEXT_LINE), (2, one + named + two, b""))
+    three = b"3 scripts: 2 accepted, 1 refused\n"
+    tools.same("the same for -, between files", tools.explain("s.sed", "-", "--stdin-filename=my.sed", "t.sed", given=NEXT_LINE), (2, one + named + two + three, b""))
     tools.same("a file keeps its name", tools.explain("--stdin-filename", "my.sed", "s.sed"), (0, one, b""))
     tools.same("a refused script by that name", tools.explain("--stdin-filename", "a\nb", given=b"b z"), (2, (UNKNOWN % "a?b").encode(), b""))
     tools.same("- with a certificate", tools.explain("--cert", "s.cert", "-", given=NEXT_LINE), (0, given, b""))
     tools.same("none with a certificate", tools.explain("--cert=s.cert", given=NEXT_LINE), (0, given, b""))
-    tools.same("- between files", tools.explain("s.sed", "-", "t.sed", given=NEXT_LINE), (2, one + given + two, b""))
+    tools.same("- between files", tools.explain("s.sed", "-", "t.sed", given=NEXT_LINE), (2, one + given + two + three, b""))
     tools.same("a refused script on standard input", tools.explain(given=b"b z"), (2, (UNKNOWN % "-").encode(), b""))
-    tools.same("greatest status 2", tools.explain("t.sed", "s.sed"), (2, two + one, b""))
+    tools.same("greatest status 2", tools.explain("t.sed", "s.sed"), (2, two + one + b"2 scripts: 1 accepted, 1 refused\n", b""))
     status, report, errors = tools.explain("--format", "gcc", "l.sed", "s.sed")
     tools.same("greatest status 1", (status, report.count(b"[loop-idle]"), errors), (1, 1, b""))
-    tools.same("greatest status 0", tools.explain("s.sed", "s.sed"), (0, one + one, b""))
+    tools.same("greatest status 0", tools.explain("s.sed", "s.sed"), (0, one + one + b"2 scripts: 2 accepted\n", b""))
     tools.same("a name with a hyphen", tools.explain("--", "-h.sed"), (0, (ACCEPTED % "-h.sed").encode(), b""))
     unread = b"sedck-explain: cannot read gone.sed: no such file\n"
     tools.same("no such file", tools.explain("gone.sed"), (4, b"", unread))
-    tools.same("no such file among others", tools.explain("s.sed", "gone.sed", "t.sed"), (4, one + two, unread))
+    tools.same("no such file among others", tools.explain("s.sed", "gone.sed", "t.sed"),
+               (4, one + two + b"3 scripts: 1 accepted, 1 refused, 1 not readable\n", unread))
     tools.same("a folder", tools.explain("folder"), (4, b"", b"sedck-explain: cannot read folder: it is a directory\n"))
-    tools.same("a folder among others", tools.explain("folder", "s.sed", "gone.sed"), (4, one, b"sedck-explain: cannot read folder: it is a directory\n" + unread))
+    tools.same("a folder among others", tools.explain("folder", "s.sed", "gone.sed"),
+               (4, one + b"3 scripts: 1 accepted, 2 not readable\n", b"sedck-explain: cannot read folder: it is a directory\n" + unread))
     tools.same("no such certificate", tools.explain("--cert", "gone.cert", "s.sed"), (4, b"", b"sedck-explain: cannot read gone.cert: no such file\n"))
     tools.same("a folder as the certificate", tools.explain("--cert", "folder", "s.sed"), (4, b"", b"sedck-explain: cannot read folder: it is a directory\n"))
     tools.same("control characters", tools.explain("a\x1b[31m\nb"), (4, b"", b"sedck-explain: cannot read a?[31m?b: no such file\n"))
     tools.same("a control character of two bytes", tools.explain("a\u009bb"), (4, b"", b"sedck-explain: cannot read a?b: no such file\n"))
-    tools.same("a name that isn't UTF-8", tools.explain(b"u\xe9\xff.sed", "s.sed"), (4, one, b"sedck-explain: cannot read u??.sed: its name is not UTF-8\n"))
+    tools.same("a name that isn't UTF-8", tools.explain(b"u\xe9\xff.sed", "s.sed"),
+               (4, one + b"2 scripts: 1 accepted, 1 not readable\n", b"sedck-explain: cannot read u??.sed: its name is not UTF-8\n"))
     tools.same("an empty name", tools.explain(""), (4, b"", b"sedck-explain: cannot read : no such file\n"))
+
+
+def check_sums(tools):
+    """The last line of a report on several scripts, for people alone: how many there are of each answer, with a loop or what is denied as one."""
+    tools.write("w.sed", b"w x\n")
+    for words, due in ((["s.sed", "l.sed", "t.sed"], "3 scripts: 1 accepted, 1 with a loop, 1 refused"), (["l.sed", "l.sed"], "2 scripts: 2 with a loop"),
+                       (["--deny", "writes", "s.sed", "w.sed", "l.sed"], "3 scripts: 1 accepted, 2 with a loop or denied"),
+                       (["s.sed"] * 1203, "1,203 scripts: 1,203 accepted")):
+        lines = tools.explain(*words)[1].decode().split("\n")
+        tools.same("sum of %r" % words[:5], [line for line in lines if " scripts: " in line] + lines[-2:], [due, due, ""])
+        for form in ("gcc", "json"):
+            tools.holds("no sum of %r in %s" % (words[:5], form), b" scripts: " not in tools.explain("--format", form, *words)[1])
+    for words in (["s.sed"], ["t.sed"], ["gone.sed"]):
+        tools.holds("no sum of %r" % words, b" script" not in tools.explain(*words)[1])
 
 
 def check_formats(tools):
@@ -96,7 +114,7 @@ def check_formats(tools):
 
 
 def check_unreadable(tools):
-    """Scripts that can't be read have an object in json, and nothing in the other formats."""
+    """Scripts that can't be read have an object in json and in sarif, and nothing in the other formats."""
     page = "FORMATS.md#the-formats-and-statuses-of-sedck-explain"
     for path, words, shown, reason in (
             ("gone.sed", ["gone.sed"], "gone.sed", ": no such file"), ("folder", ["folder"], "folder", ": it is a directory"),
@@ -109,7 +127,9 @@ def check_unreadable(tools):
         tools.same("unreadable %r" % path, json.loads(report),
                    {"file": path, "status": 4, "answer": "unreadable", "bound": None, "reads": [], "writes": [], "findings": [finding], "commands": [],
                     "version": json.loads(tools.explain("--format", "json", "s.sed")[1])["version"]})
-        for name in ("text", "gcc", "sarif", "html", "dot"):
+        log = tools.explain("--format", "sarif", *words)[1]
+        tools.holds("unreadable %r, sarif" % path, ('"message":{"text":%s}' % json.dumps(message)).encode() in log)
+        for name in ("text", "gcc", "html", "dot"):
             tools.same("unreadable %r, %s" % (path, name), tools.explain("--format", name, *words)[:2], (4, b""))
 
 
@@ -144,22 +164,25 @@ def check_colours(tools):
     tools.write("w.sed", b"w /x\n$!N\nG\n")
     error = "c.sed:1:4: {red}error{plain}: POSIX defines no such escape in a basic regular expression, and seds differ on it [bad-escape]\n"
     error += "   1 | s/a\\+/b/\n     |    {red}^{plain}\n     = {cyan}hint{plain}: for `x\\+` write `x\\{1,\\}` or `xx*`\n"
+    error += "     = {cyan}see{plain}: docs/FAULTS.md#2-bad-escape--and-\n"
     other = 'w.sed:1:1: {yellow}warning{plain}: this writes "/x": it is an absolute path [absolute-name]\n   1 | w /x\n     | {yellow}^{plain}\n'
+    other += "     = {cyan}see{plain}: docs/TRUST.md#names\n"
     other += "w.sed:3:1: {cyan}note{plain}: every run ends, but no limit on its steps is known, since this may lengthen the pattern space [no-bound]\n"
     other += "   3 | G\n     | {cyan}^{plain}\n       3:1  G  may lengthen the pattern space with the contents of the hold space\n"
-    other += 'w.sed: {green}accepted{plain}: every run ends\n  reads: no file\n  writes: "/x" (1:1)\n'
+    other += 'w.sed: {green}accepted{plain}: every run ends\n  steps: no limit is known\n  reads: no file\n  writes: "/x" (1:1)\n'
     tools.holds("terminal, loop", at_terminal(tools, ["l.sed"]).find(coloured("l.sed: {red}loop{plain}: a run may never end\n")) > 0)
     tools.write("s.sed", b"r x\n")
     tools.holds("terminal, rejected", at_terminal(tools, ["--cert", "s.cert", "s.sed"]).find(coloured("s.sed: {red}rejected{plain}: ")) > 0)
     tools.write("s.sed", NEXT_LINE)
     for name, text in (("c.sed", error), ("w.sed", other)):
-        plain = tools.explain(name)[1]
-        tools.same("terminal %s" % name, at_terminal(tools, [name]), coloured(text))
-        tools.same("terminal %s, NO_COLOR empty" % name, at_terminal(tools, [name], NO_COLOR=""), coloured(text))
-        tools.same("terminal %s, NO_COLOR" % name, at_terminal(tools, [name], NO_COLOR="1"), plain)
-        tools.same("terminal %s, NO_COLOR=0" % name, at_terminal(tools, [name], NO_COLOR="0"), plain)
-        tools.same("terminal %s, NO_COLOR of other bytes" % name, at_terminal(tools, [name], NO_COLOR="\udcff"), plain)
-        tools.same("pipe %s" % name, tools.explain(name, NO_COLOR="")[1], plain)
+        asked = ["--level", "note", name]
+        plain = tools.explain(*asked)[1]
+        tools.same("terminal %s" % name, at_terminal(tools, asked), coloured(text))
+        tools.same("terminal %s, NO_COLOR empty" % name, at_terminal(tools, asked, NO_COLOR=""), coloured(text))
+        tools.same("terminal %s, NO_COLOR" % name, at_terminal(tools, asked, NO_COLOR="1"), plain)
+        tools.same("terminal %s, NO_COLOR=0" % name, at_terminal(tools, asked, NO_COLOR="0"), plain)
+        tools.same("terminal %s, NO_COLOR of other bytes" % name, at_terminal(tools, asked, NO_COLOR="\udcff"), plain)
+        tools.same("pipe %s" % name, tools.explain(*asked, NO_COLOR="")[1], plain)
         tools.holds("pipe %s" % name, b"\x1b" not in plain)
         for form in FORMATS[1:]:
             words = ["--format", form, name]
@@ -177,5 +200,6 @@ def check(tools):
     check_refused_words(tools)
     check_help(tools)
     check_scripts(tools)
+    check_sums(tools)
     check_formats(tools)
     check_colours(tools)

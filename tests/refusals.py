@@ -442,8 +442,10 @@ def explain_in_turn(explain, shim, words, files, status, scripts):
         # A script that can't be read is reported at once, and then has an object in json.
         unread = expected[2] if expected[2].startswith("sedck-explain: cannot read ") else ""
         endings = {"sedck-explain: out of memory\n", unread + "sedck-explain: out of memory\n"}
-        for count in range(1, len(scripts) + 1):
-            wholes.add(run(explain, shim, [*words[:2], *scripts[:count]], 0, folder, subprocess.PIPE)[1])
+        front = ""
+        for script in scripts:
+            front += run(explain, shim, [*words[:2], script], 0, folder, subprocess.PIPE)[1]
+            wholes.add(front)
         while True:
             seen = run(explain, shim, words, request, folder, subprocess.PIPE)
             is_refused = REFUSED in seen[2]

@@ -24,7 +24,7 @@ use sedck_calls_in_files::{AsTheShell, Finder};
 use sedck_cert::streams::{Failed, FromRead, Sink, Source, write_all};
 use sedck_engines::{FromFiles, Input as InputOf, Opener, RunFault};
 use sedck_explanation::{Denied, Unexplained};
-use sedck_formats::json_unreadable;
+use sedck_formats::{ScriptCounts, json_unreadable, sarif_unreadable};
 use std::alloc::{AllocError, Global};
 use std::fs::Files;
 use std::io::{Input, Write};
@@ -210,10 +210,10 @@ fn report_unexplained<O: Opener, W: Sink, E: Sink>(
     let Unexplained::Unread(origin) = fault else {
         return;
     };
-    if style.format != Format::Json {
+    if !style.format.has_unreadable() {
         return;
     }
-    if let Err(fault) = write_unread_part(alloc, files, origin.text(words), out) {
+    if let Err(fault) = write_unread_part(alloc, files, style.format, origin.text(words), out) {
         let _ = write_unexplained(files, err, words, fault);
     }
 }
@@ -222,14 +222,28 @@ fn report_unexplained<O: Opener, W: Sink, E: Sink>(
 fn write_unread_part<O: Opener, W: Sink>(
     alloc: Global,
     files: &O,
+    format: Format,
     path: &[u8],
     out: &mut W,
 ) -> Result<(), Unexplained> {
     let message = unread_part(files, path).words(alloc)?;
-    let report = json_unreadable(alloc, "sed", message.as_str())?;
+    let report = unreadable(alloc, format, "sed", message.as_str())?;
     match write_all(out, &report) {
         Ok(()) => Ok(()),
         Err(_) => Err(Unexplained::Write),
+    }
+}
+
+/// The object of what can't be read: a log in SARIF, or one in JSON.
+fn unreadable(
+    alloc: Global,
+    format: Format,
+    name: &str,
+    message: &str,
+) -> Result<Vec<u8>, AllocError> {
+    match format {
+        Format::Sarif => sarif_unreadable(alloc, name, message),
+        _ => json_unreadable(alloc, name, message),
     }
 }
 
@@ -249,7 +263,8 @@ fn write_unexplained<O: Opener, E: Sink>(
 }
 
 /// Explains each script of the request, in the order in which they are given, and answers the exit status: the greatest of theirs,
-/// or 4 where one can't be read, a write fails, or memory runs out.
+/// or 4 where one can't be read, a write fails, or memory runs out. The report of several for people ends with how many there are of each
+/// answer.
 pub fn explain_all<O: Opener, R: Input, W: Sink, E: Sink>(
     alloc: Global,
     files: &O,
@@ -265,16 +280,47 @@ pub fn explain_all<O: Opener, R: Input, W: Sink, E: Sink>(
     ensures silent { result < 3 → Keeps (E.taken err.old) (E.taken err.new) }
 {
     let mut status = 0;
+    let mut counts = ScriptCounts::NONE;
     for path in &request.scripts {
         match explain_path(alloc, files, input, request, colour, path, out) {
-            Ok(one) => status = one.max(status),
+            Ok(one) => {
+                status = one.max(status);
+                counts.add(one);
+            }
             Err(fault) => {
                 status = 4;
+                counts.add(4);
                 if !is_followed(alloc, files, request, path, fault, out, err) {
-                    break;
+                    return 4;
                 }
             }
         }
+    }
+    summed(alloc, request, counts, status, out, err)
+}
+
+/// Writes how many scripts there are of each answer, where there are several and the report is for people. The status is this one, or 4
+/// where that can't be written.
+fn summed<W: Sink, E: Sink>(
+    alloc: Global,
+    request: &Request,
+    counts: ScriptCounts,
+    status: u8,
+    out: &mut W,
+    err: &mut E,
+) -> u8
+    ensures within { (result ≡ status) ⊎ (result ≡ 4) }
+    ensures silent { result ≢ 4 → Keeps (E.taken err.old) (E.taken err.new) }
+{
+    if request.scripts.len() < 2 || request.format != Format::Text {
+        return status;
+    }
+    let may_be_denied = request.denied != Denied::NOTHING;
+    let Ok(text) = counts.text(alloc, may_be_denied) else {
+        return out_of_memory(err);
+    };
+    if write_all(out, &text).is_err() {
+        return unwritten(err);
     }
     status
 }
@@ -355,7 +401,7 @@ fn is_followed<O: Opener, W: Sink, E: Sink>(
     let RunFault::Read(input) = fault else {
         return false;
     };
-    if request.format != Format::Json {
+    if !request.format.has_unreadable() {
         return true;
     }
     match report_unread(alloc, files, request, path, input, out) {
@@ -382,7 +428,7 @@ fn report_unread<'a, O: Opener, W: Sink>(
     } else {
         path
     };
-    let report = json_unreadable(alloc, name, message.as_str())?;
+    let report = unreadable(alloc, request.format, name, message.as_str())?;
     match write_all(out, &report) {
         Ok(()) => Ok(()),
         Err(_) => Err(RunFault::Write),

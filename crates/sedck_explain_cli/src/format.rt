@@ -55,10 +55,17 @@ impl Format {
         }
     }
 
-    /// The least level of findings where none is asked for: nothing is printed for editors of a script in which all is well.
-    pub fn least(self) -> Level {
+    /// Whether the format says of a script that it can't be read.
+    pub(crate) fn has_unreadable(self) -> bool {
+        matches!(self, Format::Json | Format::Sarif)
+    }
+
+    /// The least level of findings where none is asked for: a script in which all is well has none for people and for editors. Of calls in
+    /// files people see each answer, which notes belong to.
+    pub fn least(self, is_of_calls: bool) -> Level {
         match self {
             Format::Gcc => Level::Warning,
+            Format::Text if !is_of_calls => Level::Warning,
             _ => Level::Note,
         }
     }

@@ -66,7 +66,7 @@ pub fn request_of<'a>(alloc: Global, words: &'a [String]) -> Result<Request<'a>,
     let format = format_of(&matches);
     Ok(Request {
         format,
-        least: level_of(&matches, format),
+        least: level_of(&matches, format, calls),
         denied: denied_of(denied),
         certificate,
         stdin_name: matches.get_str("stdin-filename").unwrap_or("-"),
@@ -87,12 +87,12 @@ fn format_of(matches: &ArgMatches) -> Format {
 }
 
 /// The least level of findings that is asked for, or that of the format.
-fn level_of(matches: &ArgMatches, format: Format) -> Level {
+fn level_of(matches: &ArgMatches, format: Format, is_of_calls: bool) -> Level {
     match matches.get_str("level") {
         Some("error") => Level::Error,
         Some("warning") => Level::Warning,
         Some(_) => Level::Note,
-        None => format.least(),
+        None => format.least(is_of_calls),
     }
 }
 
@@ -183,7 +183,7 @@ static CHOICES: [Choice; 9] = [
     Choice {
         name: "level",
         takes: Takes::OneOf("LEVEL", LEVELS),
-        help: "The least level of findings that are reported: error, warning or note [default: note; warning for gcc]; the exit status stays the same",
+        help: "The least level of findings that are reported: error, warning or note [default: note; warning for gcc, and for text without --calls]; the exit status stays the same",
     },
     Choice {
         name: "cert",

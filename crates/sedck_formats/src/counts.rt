@@ -1,4 +1,4 @@
-//! How many calls were found, by their answers.
+//! How many calls were found, and how many scripts were explained, by their answers.
 
 use crate::call_words::CallAnswer;
 use crate::written::Written;
@@ -98,13 +98,76 @@ impl Counts {
             (self.unread, places),
             (self.unreadable, " not readable"),
         ];
-        let mut is_first = true;
-        for (count, words) in parts {
-            if count > 0 {
-                out.text(if is_first { ": " } else { ", " });
-                out.grouped(count as u64).text(words);
-                is_first = false;
-            }
+        push_counts(out, &parts);
+    }
+}
+
+/// How many scripts were explained, by their exit statuses.
+#[derive(Clone, Copy)]
+pub struct ScriptCounts {
+    pub accepted: usize,
+    /// With a loop, or with what is denied.
+    pub rejected: usize,
+    pub refused: usize,
+    /// Those that can't be read.
+    pub unreadable: usize,
+}
+
+impl ScriptCounts {
+    /// No scripts.
+    pub const NONE: ScriptCounts = ScriptCounts {
+        accepted: 0,
+        rejected: 0,
+        refused: 0,
+        unreadable: 0,
+    };
+
+    /// Counts a script with this exit status.
+    pub fn add(&mut self, status: u8) {
+        match status {
+            0 => self.accepted = self.accepted.saturating_add(1),
+            1 => self.rejected = self.rejected.saturating_add(1),
+            2 => self.refused = self.refused.saturating_add(1),
+            _ => self.unreadable = self.unreadable.saturating_add(1),
+        }
+    }
+
+    /// A line that says how many scripts there are, and how many of each answer that there is.
+    pub fn text(self, alloc: Global, may_be_denied: bool) -> Result<Vec<u8>, AllocError> {
+        let mut out = Written::new(alloc);
+        let known = self.accepted.saturating_add(self.rejected);
+        let others = self.refused.saturating_add(self.unreadable);
+        let scripts = known.saturating_add(others);
+        out.grouped(scripts as u64);
+        out.text(if scripts == 1 {
+            " script"
+        } else {
+            " scripts"
+        });
+        let rejected = if may_be_denied {
+            " with a loop or denied"
+        } else {
+            " with a loop"
+        };
+        let parts = [
+            (self.accepted, " accepted"),
+            (self.rejected, rejected),
+            (self.refused, " refused"),
+            (self.unreadable, " not readable"),
+        ];
+        push_counts(&mut out, &parts);
+        out.text("\n");
+        out.finished()
+    }
+}
+
+/// Adds each of the counts that isn't 0, with its words.
+fn push_counts(out: &mut Written, parts: &[(usize, &'static str)]) {
+    let mut between = ": ";
+    for (count, words) in parts {
+        if *count > 0 {
+            out.text(between).grouped(*count as u64).text(words);
+            between = ", ";
         }
     }
 }

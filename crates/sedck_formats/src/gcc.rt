@@ -1,7 +1,8 @@
 //! One line for each finding, as compilers print them, for editors and continuous integration.
 
+use crate::letters::Letters;
 use crate::lines::{Shown, command_line, shown_of};
-use crate::listed::{ListedSteps, is_listed, listed_steps};
+use crate::listed::{is_listed, listed_steps};
 use crate::names::Names;
 use crate::parts::{NO_INK, prefix, push_headline, push_left_out};
 use crate::written::Written;
@@ -20,33 +21,37 @@ pub fn gcc_report(
     least: Level,
 ) -> Result<Vec<u8>, AllocError> {
     let mut out = Written::new(alloc);
-    let shown = shown_of(names, explanation);
+    let shown = shown_of(names, explanation, Letters::Ascii);
     for finding in &explanation.findings {
         if is_listed(finding, least) {
             let place = prefix(alloc, names, finding.position)?;
-            push_finding(&mut out, &shown, place.as_str(), finding);
+            push_finding(&mut out, &shown, place.as_str(), finding)?;
         }
     }
     out.finished()
 }
 
 /// Adds the finding with its steps and its hint.
-fn push_finding(out: &mut Written, shown: &Shown, place: &str, finding: &Finding) {
+fn push_finding(
+    out: &mut Written,
+    shown: &Shown,
+    place: &str,
+    finding: &Finding,
+) -> Result<(), AllocError> {
     push_headline(out, place, NO_INK, finding);
-    let ListedSteps {
-        first,
-        left_out,
-        last,
-    } = listed_steps(&finding.steps);
-    push_steps(out, shown, first);
-    if left_out > 0 {
-        out.text(place).text("note: ");
-        push_left_out(out, left_out);
+    let stretches = listed_steps(out.alloc(), shown.script, &finding.steps)?;
+    for stretch in &stretches {
+        if stretch.left_out > 0 {
+            out.text(place).text("note: ");
+            push_left_out(out, stretch.left_out);
+            out.text("\n");
+        }
+        push_steps(out, shown, stretch.steps);
     }
-    push_steps(out, shown, last);
     if let Some(hint) = finding.hint {
         out.text(place).text("note: hint: ").text(hint).text("\n");
     }
+    Ok(())
 }
 
 /// Adds a note for each step: the line of its command between backquotes, or the script's end, and what it does.

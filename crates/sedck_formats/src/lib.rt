@@ -1,11 +1,13 @@
 //! What is reported of a script or of a call, as bytes: for people at a terminal, for editors, for programs and for hosts of code.
 //!
 //! `text_report` and `gcc_report` take names as they are printed, without control characters; the others take the names themselves, and
-//! escape them. All that is taken from the script is shown in printable ASCII. Of the names of positions a contract says which they are,
-//! and of a line of JSON that it is printable; the words themselves are tested. Pages for browsers, and graphs, are in `sedck_pages`.
+//! escape them. What is taken from the script is shown in printable ASCII; `Letters` adds the characters of UTF-8, for pages. Of the names
+//! of positions a contract says which they are, and of a line of JSON that it is printable; the words themselves are tested. Pages for
+//! browsers, and graphs, are in `sedck_pages`.
 #![tactic(auto)]
 
 mod call_words;
+mod columns;
 mod counts;
 mod gcc;
 mod json_calls;
@@ -13,6 +15,7 @@ mod json_findings;
 mod json_line;
 mod json_places;
 mod json_text;
+mod letters;
 mod limit;
 mod lines;
 mod listed;
@@ -21,6 +24,7 @@ mod pages;
 mod parts;
 mod sarif;
 mod sarif_places;
+mod sarif_rules;
 mod summary;
 mod text;
 mod uri;
@@ -28,16 +32,18 @@ mod words;
 mod written;
 
 pub use call_words::{CallAnswer, CallAt, text_answer};
-pub use counts::Counts;
+pub use counts::{Counts, ScriptCounts};
 pub use gcc::gcc_report;
 pub use json_calls::{json_call, json_counts, json_place};
 pub use json_line::{json_report, json_unreadable};
+pub use letters::{Letters, line_in, mark_len};
 pub use limit::push_limit;
 pub use lines::{LinePart, Shown, Source, command_line, excerpt, shown_of};
-pub use listed::{ListedSteps, is_listed, listed_steps};
+pub use listed::{Stretch, is_listed, listed_steps};
 pub use names::{Names, PartName, Place};
 pub use pages::page_of;
-pub use sarif::sarif_report;
+pub use parts::push_left_out;
+pub use sarif::{sarif_report, sarif_unreadable};
 pub use text::{text_findings, text_report};
 pub use words::{
     VERSION, answer_word, kind_word, level_word, place_words, shown_letter, shown_path,

@@ -1,17 +1,20 @@
 //! A line of a script around one of its bytes.
 
+use crate::letters::{Letters, line_in, width_of};
 use crate::names::Names;
-use sedck_explanation::{Explanation, Position, is_printable, shown_line};
+use sedck_explanation::{Explanation, Position};
+use sedck_script::Script;
 use std::alloc::{AllocError, Global};
 
 /// What stands for a part of a line that is left out.
 const CUT: &str = "...";
 
-/// The text of a script, and where its commands are.
+/// The text of a script, where its commands are, and how its bytes are shown.
 #[derive(Clone, Copy)]
 pub struct Source<'a> {
     pub text: &'a [u8],
     pub positions: &'a [Position],
+    pub letters: Letters,
 }
 
 /// A script as reports name it and show it.
@@ -19,20 +22,28 @@ pub struct Source<'a> {
 pub struct Shown<'a> {
     pub names: Names<'a>,
     pub source: Source<'a>,
+    /// The script, where it isn't refused.
+    pub script: Option<&'a Script<'a>>,
 }
 
 /// The script of what is explained, by these names.
-pub fn shown_of<'a>(names: Names<'a>, explanation: &'a Explanation) -> Shown<'a> {
+pub fn shown_of<'a>(
+    names: Names<'a>,
+    explanation: &'a Explanation<'a>,
+    letters: Letters,
+) -> Shown<'a> {
     Shown {
         names,
         source: Source {
             text: explanation.text,
             positions: &explanation.positions,
+            letters,
         },
+        script: explanation.script.as_ref(),
     }
 }
 
-/// A line around one of its bytes, as it is shown: in printable ASCII.
+/// A line around one of its bytes, as it is shown.
 #[derive(Drop)]
 pub struct LinePart {
     pub shown: String,
@@ -44,18 +55,19 @@ pub struct LinePart {
 /// dots for what is left out. The time doesn't depend on the line's length.
 pub fn excerpt(
     alloc: Global,
-    text: &[u8],
+    source: Source,
     position: Position,
     limit: usize,
 ) -> Result<LinePart, AllocError> {
-    let before = before(text, position);
-    let behind = behind(text, position, limit);
-    let needed = width(last_part(before, limit));
-    let room = limit.saturating_sub(width(behind)).max(limit / 2);
-    let left = fitting_end(before, room.min(needed));
-    let right = fitting_start(behind, limit.saturating_sub(width(left)));
-    let shown_left = shown_line(alloc, left)?;
-    let shown_right = shown_line(alloc, right)?;
+    let letters = source.letters;
+    let before = before(source.text, position);
+    let behind = behind(source.text, position, limit);
+    let needed = width(letters, last_part(before, limit));
+    let room = limit.saturating_sub(width(letters, behind)).max(limit / 2);
+    let left = fitting_end(letters, before, room.min(needed));
+    let right = fitting_start(letters, behind, limit.saturating_sub(width(letters, left)));
+    let shown_left = line_in(alloc, letters, left)?;
+    let shown_right = line_in(alloc, letters, right)?;
     let front = cut_where(left.len() < before.len());
     let back = cut_where(right.len() < behind.len());
     joined(alloc, front, &shown_left, &shown_right, back)
@@ -90,22 +102,22 @@ pub fn command_line(
     limit: usize,
 ) -> Result<String, AllocError> {
     if is_preceded(source.positions, command, position.line) {
-        return rest_of_line(alloc, source.text, position, limit);
+        return rest_of_line(alloc, source, position, limit);
     }
-    let whole = excerpt(alloc, source.text, position, limit)?;
+    let whole = excerpt(alloc, source, position, limit)?;
     String::from_str(alloc, whole.shown.as_str().trim_ascii())
 }
 
 /// The line from the position on, cut to `limit` characters.
 fn rest_of_line(
     alloc: Global,
-    text: &[u8],
+    source: Source,
     position: Position,
     limit: usize,
 ) -> Result<String, AllocError> {
-    let rest = behind(text, position, limit);
-    let part = fitting_start(rest, limit);
-    let shown = shown_line(alloc, part)?;
+    let rest = behind(source.text, position, limit);
+    let part = fitting_start(source.letters, rest, limit);
+    let shown = line_in(alloc, source.letters, part)?;
     let words = shown.as_str().trim_ascii_end();
     let back = cut_where(part.len() < rest.len());
     format!(in alloc; "{CUT}{words}{back}")
@@ -146,42 +158,37 @@ fn last_part(bytes: &[u8], limit: usize) -> &[u8] {
     bytes.get(start..).unwrap_or(bytes)
 }
 
-/// The most bytes from the start that are shown in the room.
-fn fitting_start(bytes: &[u8], room: usize) -> &[u8] {
+/// The most bytes from the start that are shown in the room, and no part of a character at their end.
+fn fitting_start(letters: Letters, bytes: &[u8], room: usize) -> &[u8] {
     let mut used = 0usize;
     for (count, byte) in bytes.iter().enumerate() {
-        used = used.saturating_add(width_of(*byte));
+        used = used.saturating_add(width_of(letters, *byte));
         if used > room {
-            return bytes.get(..count).unwrap_or(&[]);
+            let end = letters.start_at_or_before(bytes, count);
+            return bytes.get(..end).unwrap_or(&[]);
         }
     }
     bytes
 }
 
-/// The most bytes before the end that are shown in the room.
-fn fitting_end(bytes: &[u8], room: usize) -> &[u8] {
+/// The most bytes before the end that are shown in the room, and no part of a character at their front.
+fn fitting_end(letters: Letters, bytes: &[u8], room: usize) -> &[u8] {
     let mut used = 0usize;
     for (count, byte) in bytes.iter().rev().enumerate() {
-        used = used.saturating_add(width_of(*byte));
+        used = used.saturating_add(width_of(letters, *byte));
         if used > room {
-            return bytes
-                .get(bytes.len().saturating_sub(count)..)
-                .unwrap_or(&[]);
+            let start = letters.start_at_or_behind(bytes, bytes.len().saturating_sub(count));
+            return bytes.get(start..).unwrap_or(&[]);
         }
     }
     bytes
 }
 
-/// How many characters the bytes are shown as.
-fn width(bytes: &[u8]) -> usize {
+/// How many characters the bytes are shown as, at most.
+fn width(letters: Letters, bytes: &[u8]) -> usize {
     let mut sum = 0usize;
     for byte in bytes {
-        sum = sum.saturating_add(width_of(*byte));
+        sum = sum.saturating_add(width_of(letters, *byte));
     }
     sum
-}
-
-/// How many characters the byte is shown as.
-fn width_of(byte: u8) -> usize {
-    if is_printable(byte) { 1 } else { 4 }
 }

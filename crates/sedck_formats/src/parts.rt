@@ -50,10 +50,10 @@ pub(crate) fn push_headline(out: &mut Written, place: &str, ink: Ink, finding: &
 }
 
 /// Adds how many steps aren't listed.
-pub(crate) fn push_left_out(out: &mut Written, left_out: usize) {
+pub fn push_left_out(out: &mut Written, left_out: usize) {
     out.grouped(left_out as u64).text(if left_out == 1 {
-        " step left out\n"
+        " step left out"
     } else {
-        " steps left out\n"
+        " steps left out"
     });
 }

@@ -4,11 +4,12 @@ ghost use Rattle.std.specs.Prelude.{IfOk};
 ghost use Rattle.std.specs.Str.{IsAscii};
 ghost use Rattle.sedck_report.specs.Ascii.{IsPrintableLine};
 
+use crate::columns::Columns;
 use crate::json_text::Json;
 use crate::listed::is_listed;
 use crate::names::Names;
-use crate::pages::page_of;
-use crate::sarif_places::{Script, push_artifact, push_location, push_region};
+use crate::sarif_places::{Script, push_address, push_artifact, push_location, push_region};
+use crate::sarif_rules::push_rule;
 use crate::words::{VERSION, level_word};
 use sedck_explanation::{Code, Explanation, Finding, Fix, Level, Step};
 use std::alloc::{AllocError, Global};
@@ -26,15 +27,15 @@ pub fn sarif_report(
     ensures ascii { IfOk result (λ line. IsAscii line.items) }
     ensures line { IfOk result (λ line. IsPrintableLine line.items) }
 {
+    let columns = Columns::of(alloc, explanation.text)?;
     let script = Script {
         names,
         text: explanation.text,
+        columns: &columns,
     };
     let codes = codes_of(alloc, &explanation.findings, least)?;
     let mut out = Json::new(alloc);
-    out.open().text("$schema", SCHEMA).text("version", "2.1.0");
-    out.list("runs").open();
-    push_tool(&mut out, &codes);
+    push_run(&mut out, &codes);
     out.list("results");
     for finding in &explanation.findings {
         if is_listed(finding, least) {
@@ -56,20 +57,42 @@ fn codes_of(alloc: Global, findings: &[Finding], least: Level) -> Result<Vec<Cod
     Ok(codes)
 }
 
-/// Adds the program, with a rule for each code: its name, and where it is explained.
-fn push_tool(out: &mut Json, codes: &[Code]) {
+/// Begins the log and its one run: the program, with a rule for each code. A column counts characters.
+fn push_run(out: &mut Json, codes: &[Code]) {
+    out.open().text("$schema", SCHEMA).text("version", "2.1.0");
+    out.list("runs").open();
     out.object("tool")
         .object("driver")
         .text("name", "sedck-explain")
         .text("version", VERSION)
         .list("rules");
     for code in codes {
-        let page = page_of(*code);
-        let help = format!(in out.alloc(); "See docs/{page}");
-        out.open().text("id", code.name());
-        out.object("help").words("text", help).close("}}");
+        push_rule(out, *code);
     }
-    out.close("]}}");
+    out.close("]}}").text("columnKind", "unicodeCodePoints");
+}
+
+/// The log for a script that can't be read, on a line, in ASCII: it has no results, and a notification that says which file can't be, and
+/// why.
+pub fn sarif_unreadable(alloc: Global, name: &str, message: &str) -> Result<Vec<u8>, AllocError>
+    ensures ascii { IfOk result (λ line. IsAscii line.items) }
+    ensures line { IfOk result (λ line. IsPrintableLine line.items) }
+{
+    let mut out = Json::new(alloc);
+    push_run(&mut out, &[]);
+    out.list("invocations").open();
+    out.boolean("executionSuccessful", false)
+        .list("toolExecutionNotifications")
+        .open()
+        .object("descriptor")
+        .text("id", "unreadable")
+        .close("}")
+        .text("level", level_word(Level::Error))
+        .message("message", message);
+    out.list("locations").open().object("physicalLocation");
+    push_address(&mut out, name);
+    out.close("}}]}]}]").list("results").close("]}]}");
+    out.finished()
 }
 
 /// Adds a finding: its code, its message with the hint, its place, its steps and its fix.

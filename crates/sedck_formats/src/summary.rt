@@ -41,17 +41,19 @@ pub(crate) fn push_summary(out: &mut Written, names: Names, explanation: &Explan
     push_files(out, names, "  writes: ", &explanation.writes);
 }
 
-/// Adds the limit on steps, where there is one.
+/// Adds the limit on steps of an accepted script, or that none is known.
 fn push_steps(out: &mut Written, answer: &Answer) {
-    if let Answer::Accepted {
-        bound: Some(bound),
-        ..
-    } = answer
-    {
-        out.text("  steps: ");
-        push_limit(out, *bound);
-        out.text("\n");
+    let Answer::Accepted { bound, .. } = answer else {
+        return;
+    };
+    out.text("  steps: ");
+    match bound {
+        Some(bound) => push_limit(out, *bound),
+        None => {
+            out.text("no limit is known");
+        }
     }
+    out.text("\n");
 }
 
 /// Adds a line for each file, or one that says there is none.

@@ -1,13 +1,15 @@
 //! The report for people at a terminal: each finding with its line, and what an accepted script may do.
 
+use crate::letters::Letters;
 use crate::lines::{Shown, command_line, excerpt, shown_of};
-use crate::listed::{ListedSteps, is_listed, listed_steps};
+use crate::listed::{is_listed, listed_steps};
 use crate::names::Names;
+use crate::pages::page_of;
 use crate::parts::{Ink, NO_INK, prefix, push_headline, push_left_out};
 use crate::summary::{Inks, push_summary};
 use crate::words::place_words;
 use crate::written::Written;
-use sedck_explanation::{Explanation, Finding, Level, Position, Step};
+use sedck_explanation::{Code, Explanation, Finding, Level, Position, Step};
 use std::alloc::{AllocError, Global};
 
 /// The most characters of a line that are shown above a caret.
@@ -27,8 +29,8 @@ const GREEN: &str = "\x1b[1;32m";
 
 const PLAIN: &str = "\x1b[0m";
 
-/// Each finding of at least this level with its line, a caret under the byte that is meant, its steps and its hint; then the answer
-/// with the limit on steps and the files, but for what is refused or not judged. `colour` adds the colours of ANSI terminals.
+/// Each finding of at least this level with its line, a caret under the byte that is meant, its steps, its hint and its page; then the
+/// answer with the limit on steps and the files, but for what is refused or not judged. `colour` adds the colours of ANSI terminals.
 pub fn text_report(
     alloc: Global,
     names: Names,
@@ -46,7 +48,7 @@ pub fn text_report(
     out.finished()
 }
 
-/// Each finding of at least this level with its line, a caret under the byte that is meant, its steps and its hint.
+/// Each finding of at least this level with its line, a caret under the byte that is meant, its steps, its hint and its page.
 pub fn text_findings(
     alloc: Global,
     names: Names,
@@ -67,10 +69,17 @@ fn push_findings(
     least: Level,
     colour: bool,
 ) -> Result<(), AllocError> {
-    let shown = shown_of(names, explanation);
+    let shown = shown_of(names, explanation, Letters::Ascii);
+    let mut codes: Vec<Code> = Vec::new(out.alloc());
     for finding in &explanation.findings {
         if is_listed(finding, least) {
-            push_finding(out, &shown, finding, colour)?;
+            let gutter = push_finding(out, &shown, finding, colour)?;
+            if !matches!(finding.level, Level::Note) && !codes.contains(&finding.code) {
+                codes.push(finding.code)?;
+                let page = page_of(finding.code);
+                let see = format!(in out.alloc(); "docs/{page}")?;
+                push_remark(out, gutter, "see", see.as_str(), colour);
+            }
         }
     }
     Ok(())
@@ -94,13 +103,13 @@ fn level_colour(level: Level) -> &'static str {
     }
 }
 
-/// Adds a finding.
+/// Adds a finding; how wide the column of line numbers is.
 fn push_finding(
     out: &mut Written,
     shown: &Shown,
     finding: &Finding,
     colour: bool,
-) -> Result<(), AllocError> {
+) -> Result<usize, AllocError> {
     let ink = ink_where(colour, level_colour(finding.level));
     let place = prefix(out.alloc(), shown.names, finding.position)?;
     push_headline(out, place.as_str(), ink, finding);
@@ -109,14 +118,19 @@ fn push_finding(
         None => 4,
     };
     let rows = rows_of(out.alloc(), shown, &finding.steps)?;
-    push_rows(out, &rows, &finding.steps, gutter);
+    push_rows(out, &rows, gutter);
     if let Some(hint) = finding.hint {
-        out.spaces(gutter);
-        out.text(" = ");
-        ink_where(colour, CYAN).push(out, "hint");
-        out.text(": ").text(hint).text("\n");
+        push_remark(out, gutter, "hint", hint, colour);
     }
-    Ok(())
+    Ok(gutter)
+}
+
+/// Adds a remark on a finding: what it is, and its words.
+fn push_remark(out: &mut Written, gutter: usize, what: &str, words: &str, colour: bool) {
+    out.spaces(gutter);
+    out.text(" = ");
+    ink_where(colour, CYAN).push(out, what);
+    out.text(": ").text(words).text("\n");
 }
 
 /// Adds the line in which the position is, behind its number, and a caret under the byte; how wide the number's column is.
@@ -129,7 +143,7 @@ fn push_line(
     let line = shown.names.place_of(position).line;
     let number = format!(in out.alloc(); "{line}")?;
     let gutter = number.len().saturating_add(2).max(4);
-    let part = excerpt(out.alloc(), shown.source.text, position, LINE_WIDTH)?;
+    let part = excerpt(out.alloc(), shown.source, position, LINE_WIDTH)?;
     push_aligned(out, number.as_str(), gutter);
     out.text(" | ").text(part.shown.as_str()).text("\n");
     out.spaces(gutter);
@@ -143,6 +157,8 @@ fn push_line(
 /// A step as it is printed.
 #[derive(Drop)]
 struct Row<'a> {
+    /// How many steps before it aren't listed.
+    left_out: usize,
     place: String,
     source: String,
     message: &'a str,
@@ -154,17 +170,27 @@ fn rows_of<'a>(
     shown: &Shown,
     steps: &'a [Step],
 ) -> Result<Vec<Row<'a>>, AllocError> {
-    let ListedSteps { first, last, .. } = listed_steps(steps);
+    let stretches = listed_steps(alloc, shown.script, steps)?;
     let mut rows = Vec::new(alloc);
-    for step in first.iter().chain(last.iter()) {
-        rows.push(row_of(alloc, shown, step)?)?;
+    for stretch in &stretches {
+        let mut left_out = stretch.left_out;
+        for step in stretch.steps {
+            rows.push(row_of(alloc, shown, step, left_out)?)?;
+            left_out = 0;
+        }
     }
     Ok(rows)
 }
 
 /// The parts of a step's line.
-fn row_of<'a>(alloc: Global, shown: &Shown, step: &'a Step) -> Result<Row<'a>, AllocError> {
+fn row_of<'a>(
+    alloc: Global,
+    shown: &Shown,
+    step: &'a Step,
+    left_out: usize,
+) -> Result<Row<'a>, AllocError> {
     Ok(Row {
+        left_out,
         place: place_words(alloc, shown.names, step.position)?,
         source: match step.position {
             Some(position) => {
@@ -177,21 +203,17 @@ fn row_of<'a>(alloc: Global, shown: &Shown, step: &'a Step) -> Result<Row<'a>, A
 }
 
 /// Adds the rows of steps in columns, and how many steps are left out.
-fn push_rows(out: &mut Written, rows: &[Row], steps: &[Step], gutter: usize) {
-    let ListedSteps {
-        first,
-        left_out,
-        ..
-    } = listed_steps(steps);
+fn push_rows(out: &mut Written, rows: &[Row], gutter: usize) {
     let before = gutter.saturating_add(3);
     let (place, source) = widths(rows);
-    for (index, row) in rows.iter().enumerate() {
-        out.spaces(before);
-        if left_out > 0 && index == first.len() {
-            out.text("... ");
-            push_left_out(out, left_out);
+    for row in rows {
+        if row.left_out > 0 {
             out.spaces(before);
+            out.text("... ");
+            push_left_out(out, row.left_out);
+            out.text("\n");
         }
+        out.spaces(before);
         push_aligned(out, row.place.as_str(), place);
         out.text("  ").text(row.source.as_str());
         out.spaces(source.saturating_sub(row.source.len()));

@@ -58,9 +58,13 @@ pub fn place_words(
     format!(in alloc; "{line}:{column}")
 }
 
-/// A path as it is shown.
+/// A path as it is shown. Behind `./` where it begins with a colon, perhaps after blanks: lines of reports begin with it, and hosts of code
+/// take a line that begins with `::` for a command.
 pub fn shown_path(alloc: Global, path: &str) -> Result<String, AllocError> {
     let mut shown = String::new(alloc);
+    if path.trim_start().starts_with(':') {
+        shown.push_str("./")?;
+    }
     for letter in path.chars() {
         shown.push(shown_letter(letter))?;
     }

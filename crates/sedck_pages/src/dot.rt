@@ -2,16 +2,19 @@
 
 use crate::arrows::{Arrow, arrows_of};
 use crate::flow::flow_of;
-use crate::graph_parts::{push_box, push_head, push_refusal, style};
+use crate::graph_parts::{push_box, push_head, push_legend, push_look, push_refusal};
 use sedck_explanation::Explanation;
 use sedck_flow::Node;
-use sedck_formats::{Names, Shown, Written, kind_word, shown_of};
+use sedck_formats::{Letters, Names, Shown, Written, shown_of};
 use std::alloc::{AllocError, Global};
 
+/// What follows the script's end.
+const AFTER_END: &str = "next cycle, or the run ends";
+
 /// The commands that a run may reach, and the steps between them. A box has the place of a command and its line. Kinds of steps
-/// differ in their label, style and colour; the label has `[t]` where the step is taken with the flag that `t` tests alone, and
-/// `[$]` where it is taken on the last line alone. A loop is drawn bold. Of a script that is refused or not judged the graph has one box,
-/// which says why.
+/// differ in their label and line; the label has `[t]` where the step is taken with the flag that `t` tests alone, and
+/// `[$]` where it is taken on the last line alone. A loop is red and bold. Of a script that is refused or not judged the graph has one box,
+/// which says where and why.
 pub fn dot_report(
     alloc: Global,
     names: Names,
@@ -32,11 +35,13 @@ fn graph_of(
 ) -> Result<Vec<u8>, AllocError> {
     let mut out = Written::new(alloc);
     push_head(&mut out, names, explanation);
+    let shown = shown_of(names, explanation, Letters::Ascii);
     if explanation.script.is_some() {
+        push_legend(&mut out, arrows.iter().any(|arrow| arrow.is_bold));
         out.text("  start [shape=point];\n  start -> n0;\n");
-        push_boxes(&mut out, &shown_of(names, explanation), nodes);
+        push_boxes(&mut out, &shown, nodes);
     } else {
-        push_refusal(&mut out, &explanation.findings);
+        push_refusal(&mut out, &shown, &explanation.findings);
     }
     for arrow in arrows {
         push_arrow(&mut out, *arrow);
@@ -50,7 +55,7 @@ fn push_boxes(out: &mut Written, shown: &Shown, nodes: &[Node]) {
     let mut before = None;
     for node in nodes {
         if before != Some(node.at) {
-            push_box(out, shown, usize::from(node.at), node.at, "");
+            push_box(out, shown, usize::from(node.at), node.at, "", AFTER_END);
         }
         before = Some(node.at);
     }
@@ -60,10 +65,7 @@ fn push_boxes(out: &mut Written, shown: &Shown, nodes: &[Node]) {
 fn push_arrow(out: &mut Written, arrow: Arrow) {
     let flag = if arrow.with_flag { " [t]" } else { "" };
     let last = if arrow.on_last { " [$]" } else { "" };
-    let width = if arrow.is_bold { ", penwidth=4" } else { "" };
     out.text("  n").number(arrow.from);
     out.text(" -> n").number(arrow.to);
-    out.text(" [label=\"").text(kind_word(arrow.kind));
-    out.text(flag).text(last).text("\", ");
-    out.text(style(arrow.kind)).text(width).text("];\n");
+    push_look(out, arrow.kind, flag, last, arrow.is_bold);
 }

@@ -1,11 +1,11 @@
 //! The lines of a script in a page, with jumps and findings beside them.
 
 use crate::arrows::{Arrow, line_jumps};
-use crate::boxes::push_box;
+use crate::boxes::{is_at_top, push_box, push_mention};
 use crate::margin::{Margin, Spot, margin_of};
 use crate::strokes::{drawing_width, push_strokes};
-use sedck_explanation::{Explanation, Finding, Level, shown_line};
-use sedck_formats::{Shown, Written};
+use sedck_explanation::{Explanation, Finding, Level};
+use sedck_formats::{Letters, Shown, Written, line_in, mark_len};
 use std::alloc::AllocError;
 
 /// What the kinds of jumps look like.
@@ -41,8 +41,7 @@ pub(crate) fn push_listing(
     let lines = line_jumps(alloc, jumps, &explanation.positions, end)?;
     let mut margin = margin_of(alloc, explanation, least, lines, end)?;
     push_legend(out, &margin);
-    push_rows(out, shown, &explanation.findings, &mut margin, text);
-    Ok(())
+    push_rows(out, shown, &explanation.findings, &mut margin, text)
 }
 
 /// Adds each line of the text, and its end.
@@ -52,18 +51,19 @@ fn push_rows(
     findings: &[Finding],
     margin: &mut Margin,
     text: &[u8],
-) {
+) -> Result<(), AllocError> {
     let mut line = 1usize;
     for bytes in text.split(|byte| *byte == b'\n') {
         push_start(out, margin, line);
-        push_line(out, line, bytes, margin.spots());
-        push_rest(out, shown, findings, margin, line);
+        push_line(out, shown.source.letters, line, bytes, margin.spots());
+        push_rest(out, shown, findings, margin, line)?;
         line = line.saturating_add(1);
     }
     push_start(out, margin, line);
     out.text("<a class=\"number\" id=\"end\" href=\"#end\">end</a>");
-    push_rest(out, shown, findings, margin, line);
+    push_rest(out, shown, findings, margin, line)?;
     out.text("</ol>\n");
+    Ok(())
 }
 
 /// How many lines the text has, where no newline ends the last one.
@@ -116,29 +116,40 @@ fn push_start(out: &mut Written, margin: &mut Margin, line: usize) {
 }
 
 /// Adds the number and the bytes of a line.
-fn push_line(out: &mut Written, line: usize, bytes: &[u8], spots: &[Spot]) {
+fn push_line(out: &mut Written, letters: Letters, line: usize, bytes: &[u8], spots: &[Spot]) {
     out.text("<a class=\"number\" href=\"#L").number(line);
     out.text("\">").number(line).text("</a>");
     if bytes.is_empty() && spots.is_empty() {
         return;
     }
     out.text("<code>");
-    push_code(out, bytes, spots);
+    push_code(out, letters, bytes, spots);
     out.text("</code>");
 }
 
 /// Adds what follows the bytes of a line: marks, links, and the findings at the line.
-fn push_rest(out: &mut Written, shown: &Shown, findings: &[Finding], margin: &Margin, line: usize) {
+fn push_rest(
+    out: &mut Written,
+    shown: &Shown,
+    findings: &[Finding],
+    margin: &Margin,
+    line: usize,
+) -> Result<(), AllocError> {
     if margin.is_of_loop(line) {
         out.text("<span class=\"tag\">loop</span>");
     }
     push_returns(out, margin.returns());
     for spot in margin.spots() {
         if let Some(finding) = findings.get(spot.finding) {
-            push_box(out, shown, finding, spot.finding);
+            if is_at_top(finding) {
+                push_mention(out, finding, spot.finding);
+            } else {
+                push_box(out, shown, finding, spot.finding)?;
+            }
         }
     }
     out.text("</li>\n");
+    Ok(())
 }
 
 /// Adds a link for each long jump back, whose other end may be out of sight.
@@ -150,30 +161,32 @@ fn push_returns(out: &mut Written, jumps: &[Arrow]) {
 }
 
 /// Adds the bytes of a line, with a mark on those that a finding is about.
-fn push_code(out: &mut Written, bytes: &[u8], spots: &[Spot]) {
+fn push_code(out: &mut Written, letters: Letters, bytes: &[u8], spots: &[Spot]) {
     let mut start = 0usize;
     for spot in spots {
         let at = spot.column.saturating_sub(1);
         if at >= start {
-            push_bytes(out, bytes.get(start..at.min(bytes.len())));
-            push_mark(out, bytes.get(at..at.saturating_add(1)));
-            start = at.saturating_add(1);
+            push_bytes(out, letters, bytes.get(start..at.min(bytes.len())));
+            start = at.saturating_add(push_mark(out, letters, bytes.get(at..)));
         }
     }
-    push_bytes(out, bytes.get(start..));
+    push_bytes(out, letters, bytes.get(start..));
 }
 
-/// Adds a byte with a mark, or a blank where there is none.
-fn push_mark(out: &mut Written, byte: Option<&[u8]>) {
+/// Adds the first of the bytes with a mark, or its whole character, or a blank where there is none; how many bytes that are.
+fn push_mark(out: &mut Written, letters: Letters, rest: Option<&[u8]>) -> usize {
+    let rest = rest.unwrap_or(&[]);
+    let length = mark_len(letters, rest);
     out.text("<mark>");
-    push_bytes(out, Some(byte.unwrap_or(b" ")));
+    push_bytes(out, letters, Some(rest.get(..length).unwrap_or(b" ")));
     out.text("</mark>");
+    length
 }
 
 /// Adds bytes of a line as they are shown.
-fn push_bytes(out: &mut Written, bytes: Option<&[u8]>) {
+fn push_bytes(out: &mut Written, letters: Letters, bytes: Option<&[u8]>) {
     if let Some(bytes) = bytes {
-        let words = shown_line(out.alloc(), bytes);
+        let words = line_in(out.alloc(), letters, bytes);
         out.html_words(words);
     }
 }

@@ -6,7 +6,7 @@ use crate::page_style::STYLE;
 use crate::tables::{push_files, push_jumps, push_ranks};
 use crate::top::push_top;
 use sedck_explanation::{Explanation, Level};
-use sedck_formats::{Names, VERSION, Written, answer_word, shown_of};
+use sedck_formats::{Letters, Names, VERSION, Written, answer_word, shown_of};
 use std::alloc::{AllocError, Global};
 
 /// What precedes the title: no script and nothing from elsewhere is loaded.
@@ -21,20 +21,20 @@ const HEAD: &str = "<!DOCTYPE html>
 /// What precedes the version.
 const FOOT: &str = "</main>\n<footer class=\"soft\">sedck-explain ";
 
-/// A page that needs nothing else: the answer, the script's lines with the findings beside them and its jumps as arcs, its files,
-/// and the ranks of an accepted certificate. It has the findings of at least this level. All that is taken from the script is shown in
-/// printable ASCII, and escaped.
+/// A page that needs nothing else: the answer with the errors, the script's lines with the findings beside them and its jumps as arcs, its
+/// files, and the ranks of an accepted certificate. It has the findings of at least this level. What is taken from the script is escaped;
+/// of its lines the characters of UTF-8 that can be seen are shown as they are, and all else is in printable ASCII.
 pub fn html_report(
     alloc: Global,
     names: Names,
     explanation: &Explanation,
     least: Level,
 ) -> Result<Vec<u8>, AllocError> {
-    let shown = shown_of(names, explanation);
+    let shown = shown_of(names, explanation, Letters::Unicode);
     let jumps = jumps_of(alloc, explanation)?;
     let mut out = Written::new(alloc);
     push_head(&mut out, names.whole(), answer_word(explanation));
-    push_top(&mut out, &shown, explanation, least);
+    push_top(&mut out, &shown, explanation, least)?;
     out.text("</header>\n<main>\n");
     push_listing(&mut out, &shown, explanation, least, &jumps)?;
     push_files(&mut out, names, explanation);

@@ -1,27 +1,37 @@
 //! The top of a page: the answer, and what was found.
 
-use crate::boxes::push_box;
+use crate::boxes::{is_at_top, push_box};
 use crate::markup::push_prose;
 use sedck_explanation::{Answer, Explanation, Finding, Level};
 use sedck_formats::{Names, Shown, Written, is_listed, level_word, place_words, push_limit};
+use std::alloc::AllocError;
 
-/// What precedes the list of the findings.
-const LIST: &str = "<h2>Findings</h2>\n<ul>\n";
+/// What precedes the findings.
+const HEADING: &str = "<h2>Findings</h2>\n";
 
-/// Adds the answer, the limit on steps, and a list of the findings, with links to those that are beside a line; the others follow in
-/// full.
-pub(crate) fn push_top(out: &mut Written, shown: &Shown, explanation: &Explanation, least: Level) {
+/// Adds the answer, the limit on steps and the findings: errors and those without a line in full, then a list with links to those that are
+/// beside a line.
+pub(crate) fn push_top(
+    out: &mut Written,
+    shown: &Shown,
+    explanation: &Explanation,
+    least: Level,
+) -> Result<(), AllocError> {
     let (class, answer) = answer_words(explanation);
     out.text("<p class=\"answer ").text(class);
     out.text("\">").text(answer).text("</p>\n");
     push_steps(out, &explanation.answer);
     push_counts(out, explanation);
-    push_entries(out, shown.names, &explanation.findings, least);
+    let mut heading = HEADING;
     for (index, finding) in explanation.findings.iter().enumerate() {
-        if finding.position.is_none() && is_listed(finding, least) {
-            push_box(out, shown, finding, index);
+        if is_at_top(finding) && is_listed(finding, least) {
+            out.text(heading);
+            push_box(out, shown, finding, index)?;
+            heading = "";
         }
     }
+    push_entries(out, shown.names, &explanation.findings, least, heading);
+    Ok(())
 }
 
 /// The class and the words of the answer.
@@ -32,24 +42,26 @@ fn answer_words(explanation: &Explanation) -> (&'static str, &'static str) {
     match &explanation.answer {
         Answer::Accepted { .. } => ("accepted", "Accepted: every run of the script ends."),
         Answer::Rejected { .. } => ("error", "The certificate is rejected."),
-        Answer::Endless(_) => ("error", "A loop rules out every certificate."),
+        Answer::Endless(_) => ("error", "Loop: a run may never end."),
         Answer::ScriptRefused(_) => ("error", "The script is refused."),
         Answer::CertificateRefused(_) => ("error", "The certificate is refused."),
         Answer::NotJudged => ("error", "The script is not judged."),
     }
 }
 
-/// Adds the limit on steps, where there is one.
+/// Adds the limit on steps of an accepted script, or that none is known.
 fn push_steps(out: &mut Written, answer: &Answer) {
-    if let Answer::Accepted {
-        bound: Some(bound),
-        ..
-    } = answer
-    {
-        out.text("<p>Steps of a run: ");
-        push_limit(out, *bound);
-        out.text(".</p>\n");
+    let Answer::Accepted { bound, .. } = answer else {
+        return;
+    };
+    out.text("<p>Steps of a run: ");
+    match bound {
+        Some(bound) => push_limit(out, *bound),
+        None => {
+            out.text("no limit is known");
+        }
     }
+    out.text(".</p>\n");
 }
 
 /// Adds how many commands and files the script has, unless it is refused.
@@ -66,28 +78,32 @@ fn push_counts(out: &mut Written, explanation: &Explanation) {
     out.text(".</p>\n");
 }
 
-/// Adds the findings as a list.
-fn push_entries(out: &mut Written, names: Names, findings: &[Finding], least: Level) {
-    let mut head = LIST;
-    let mut end = "";
+/// Adds the findings that are beside a line as a list, behind this heading.
+fn push_entries(
+    out: &mut Written,
+    names: Names,
+    findings: &[Finding],
+    least: Level,
+    heading: &str,
+) {
+    let mut is_first = true;
     for (index, finding) in findings.iter().enumerate() {
-        if is_listed(finding, least) {
-            out.text(head);
+        if is_listed(finding, least) && !is_at_top(finding) {
+            if is_first {
+                out.text(heading).text("<ul>\n");
+            }
             push_entry(out, names, finding, index);
-            head = "";
-            end = "</ul>\n";
+            is_first = false;
         }
     }
-    out.text(end);
+    out.text(if is_first { "" } else { "</ul>\n" });
 }
 
 /// Adds a line for the finding with this number, as a link to it.
 fn push_entry(out: &mut Written, names: Names, finding: &Finding, number: usize) {
     out.text("<li><a href=\"#F").number(number).text("\">");
-    if finding.position.is_some() {
-        let place = place_words(out.alloc(), names, finding.position);
-        out.html_words(place).text(" ");
-    }
+    let place = place_words(out.alloc(), names, finding.position);
+    out.html_words(place).text(" ");
     out.text(level_word(finding.level)).text("</a>: ");
     push_prose(out, finding.message.as_str());
     out.text("</li>\n");
