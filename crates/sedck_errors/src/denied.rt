@@ -73,27 +73,36 @@ pub fn with_denials(
     ensures warnings { IfOk result (λ all. has_warning all.items ≡ has_warning findings.items) }
 {
     let mut all = Vec::new(alloc);
-    if denied.reads {
-        push_files(alloc, &mut all, reads, Code::DeniedReads, "reads")?;
-    }
-    if denied.writes {
-        push_files(alloc, &mut all, writes, Code::DeniedWrites, "writes")?;
-    }
-    if denied.unbounded && !is_bounded {
-        all.push(unbounded_denial(alloc, &findings)?)?;
-    }
-    if denied.slow {
-        push_slow(alloc, &mut all, slow)?;
-    }
-    if denied.warnings {
-        push_warnings(alloc, &mut all, &findings)?;
-    }
+    push_files(alloc, &mut all, denied.reads, reads, Code::DeniedReads)?;
+    push_files(alloc, &mut all, denied.writes, writes, Code::DeniedWrites)?;
+    let is_unbounded = denied.unbounded && !is_bounded;
+    push_unbounded(alloc, &mut all, is_unbounded, &findings)?;
+    push_warnings(alloc, &mut all, denied.warnings, &findings)?;
+    push_slow(alloc, &mut all, denied.slow, slow)?;
     all.append(&mut findings)?;
     Ok(all)
 }
 
-/// Adds an error for each of the files, at the first command that names it.
+/// Adds an error for each of the files, at the first command that names it, where they are denied.
 fn push_files(
+    alloc: Global,
+    findings: &mut Vec<Finding>,
+    is_denied: bool,
+    files: &[NamedFile],
+    code: Code,
+) -> Result<(), AllocError>
+    ensures errors { OnOk result (has_error findings.new.items ≡ (has_error findings.old.items || (is_denied && is_there files.now))) }
+    ensures warnings { OnOk result (has_warning findings.new.items ≡ has_warning findings.old.items) }
+{
+    if is_denied {
+        let does = if code == Code::DeniedReads { "reads" } else { "writes" };
+        return push_each_file(alloc, findings, files, code, does);
+    }
+    Ok(())
+}
+
+/// Adds an error for each of the files, at the first command that names it.
+fn push_each_file(
     alloc: Global,
     findings: &mut Vec<Finding>,
     files: &[NamedFile],
@@ -111,8 +120,24 @@ fn push_files(
     Ok(())
 }
 
-/// Adds an error for each warning, at its place.
+/// Adds an error for each warning, at its place, where they are denied.
 fn push_warnings(
+    alloc: Global,
+    findings: &mut Vec<Finding>,
+    is_denied: bool,
+    given: &[Finding],
+) -> Result<(), AllocError>
+    ensures errors { OnOk result (has_error findings.new.items ≡ (has_error findings.old.items || (is_denied && has_warning given.now))) }
+    ensures warnings { OnOk result (has_warning findings.new.items ≡ has_warning findings.old.items) }
+{
+    if is_denied {
+        return push_each_warning(alloc, findings, given);
+    }
+    Ok(())
+}
+
+/// Adds an error for each warning, at its place.
+fn push_each_warning(
     alloc: Global,
     findings: &mut Vec<Finding>,
     given: &[Finding],
@@ -134,19 +159,39 @@ fn push_warnings(
     Ok(())
 }
 
-/// Adds an error for a script that is slow, where it is.
+/// Adds an error for a script that is slow, where it is, and where that is denied.
 fn push_slow(
     alloc: Global,
     findings: &mut Vec<Finding>,
+    is_denied: bool,
     slow: Option<Slow>,
 ) -> Result<(), AllocError>
-    ensures errors { OnOk result (has_error findings.new.items ≡ (has_error findings.old.items || is_some slow)) }
+    ensures errors { OnOk result (has_error findings.new.items ≡ (has_error findings.old.items || (is_denied && is_some slow))) }
     ensures warnings { OnOk result (has_warning findings.new.items ≡ has_warning findings.old.items) }
 {
-    if let Some(slow) = slow {
-        let reason = slow.reason;
-        let message = format!(in alloc; "{reason}, which `--deny slow` forbids")?;
-        findings.push(denial(alloc, Code::DeniedSlow, slow.position, message))?;
+    match slow {
+        Some(slow) if is_denied => {
+            let reason = slow.reason;
+            let message = format!(in alloc; "{reason}, which `--deny slow` forbids")?;
+            findings.push(denial(alloc, Code::DeniedSlow, slow.position, message))?;
+            Ok(())
+        }
+        _ => Ok(()),
+    }
+}
+
+/// Adds an error where steps without a known limit are denied, and there is none.
+fn push_unbounded(
+    alloc: Global,
+    findings: &mut Vec<Finding>,
+    is_denied: bool,
+    given: &[Finding],
+) -> Result<(), AllocError>
+    ensures errors { OnOk result (has_error findings.new.items ≡ (has_error findings.old.items || is_denied)) }
+    ensures warnings { OnOk result (has_warning findings.new.items ≡ has_warning findings.old.items) }
+{
+    if is_denied {
+        findings.push(unbounded_denial(alloc, given)?)?;
     }
     Ok(())
 }
