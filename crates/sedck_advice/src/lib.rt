@@ -6,7 +6,10 @@
 #![tactic(auto)]
 
 mod adding;
+mod comments;
+mod doubts;
 mod escapes;
+mod extended;
 mod foreign;
 mod hints;
 mod ignored;
@@ -14,6 +17,7 @@ mod lists;
 mod looks;
 mod mends;
 mod names;
+mod paths;
 mod spot;
 
 pub use adding::add_warnings;
