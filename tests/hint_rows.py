@@ -24,6 +24,11 @@ def has_both(one, other):
     return lambda given: any(one in line and other in line for line in given.split("\n"))
 
 
+def begins_with(text):
+    """Whether a line begins with both alternatives of a group, of which the longer one is taken: the hint is for lines that don't."""
+    return lambda given: any(line.startswith(text) for line in given.split("\n"))
+
+
 def needs_commas(most):
     """Whether a line needs more commas than the command is repeated: it is to be repeated as often as a line may need it."""
     return lambda given: any(sum((len(digits) - 1) // 3 for digits in re.findall("[0-9]+", line)) > most for line in given.split("\n"))
@@ -121,7 +126,8 @@ BARS = [
     Row("bar before something in a group", "s/x\\(\\|64\\)y/<\\1>/\n", "`\\(64\\)\\{0,1\\}`", "s/x\\(64\\)\\{0,1\\}y/<\\1>/\n",
         ("xy\n", "x64y\n", "x6464y\n"), wrong=("s/x\\(64\\)*y/<\\1>/\n",)),
     Row("bar behind the start", "s/\\(^\\|[^0-9.]\\)a/\\1X/\n", "`s/^/\\n/`, `s/\\([\\n,]\\)a/\\1b/` and `s/^\\n//`",
-        "s/^/\\n/\ns/\\([^0-9.]\\)a/\\1X/\ns/^\\n//\n", ("ab start\n", "a1a .a\n", "1a\nba\n"), wrong=("s/^a/X/\ns/\\([^0-9.]\\)a/\\1X/\n",)),
+        "s/^/\\n/\ns/\\([^0-9.]\\)a/\\1X/\ns/^\\n//\n", ("ab start\n", "a1a .a\n", "1a\nba\n"), wrong=("s/^a/X/\ns/\\([^0-9.]\\)a/\\1X/\n",),
+        excluded=begins_with("aa")),
     Row("bar behind the start with g", "s/\\(^\\|,\\)a/\\1b/g\n", "`s/^/\\n/`, `s/\\([\\n,]\\)a/\\1b/` and `s/^\\n//`",
         "s/^/\\n/\ns/\\([\\n,]\\)a/\\1b/g\ns/^\\n//\n", ("a,a,a\n", ",a\nxa\n", "\naa\n"), wrong=("s/\\(,\\)a/\\1b/g\n",)),
     Row("bar before the end", "s/a\\(,\\|$\\)/b\\1/g\n", "`s/$/\\n/`, `s/a\\([\\n,]\\)/b\\1/` and `s/\\n$//`",
@@ -242,6 +248,8 @@ EXCLUDED = {
     (MENDING, "Replacing up to a delimiter"): lambda given: any("-" in line and "=" not in line for line in given.split("\n")),
     # "the same only where no line has both"
     (FAULTS, "2 bad-escape: a bar in s"): has_both("cat", "dog"),
+    # "if the line doesn't begin with both"
+    (FAULTS, "2 bad-escape: a bar behind ^ or before $ in a group"): begins_with("aa"),
     # A text is added; several scripts stand side by side; GNU sed reads another list, which the page says.
     (FAULTS, "11 missing-text"): None,
     (FAULTS, "20 extra-text: an argument"): None,

@@ -95,10 +95,10 @@ fn bar_hint(spot: Spot) -> &'static str {
 /// For `\|` in a group.
 fn group_bar_hint(spot: Spot) -> &'static str {
     if is_replaced(spot) && spot.inside().ends_with(b"\\(^") {
-        return "for `s/\\(^\\|,\\)a/\\1b/` write `s/^/\\n/`, `s/\\([\\n,]\\)a/\\1b/` and `s/^\\n//`, where the pattern space is one line; a list such as `[^0-9]` has the newline already; the first `s` sets the flag that `t` tests";
+        return "for `s/\\(^\\|,\\)a/\\1b/` write `s/^/\\n/`, `s/\\([\\n,]\\)a/\\1b/` and `s/^\\n//`, if the pattern space is one line and doesn't begin with both, a match of `a` and one of `,a`; a list such as `[^0-9]` has the newline already; the first `s` sets the flag that `t` tests";
     }
     if is_replaced(spot) && spot.rest.starts_with(b"\\|$\\)") {
-        return "for `s/a\\(,\\|$\\)/b\\1/` write `s/$/\\n/`, `s/a\\([\\n,]\\)/b\\1/` and `s/\\n$//`, where the pattern space is one line; a list such as `[^0-9]` has the newline already; the first `s` sets the flag that `t` tests";
+        return "for `s/a\\(,\\|$\\)/b\\1/` write `s/$/\\n/`, `s/a\\([\\n,]\\)/b\\1/` and `s/\\n$//`, if the pattern space is one line; a list such as `[^0-9]` has the newline already; the first `s` sets the flag that `t` tests";
     }
     "write `\\([ab]\\)` for `\\(a\\|b\\)`, `\\(64\\)\\{0,1\\}` for `\\(\\|64\\)` and `\\(\\.[ch]\\)` for `\\(\\.c\\|\\.h\\)`; otherwise write one command for each alternative, if no line has a match of two of them"
 }
