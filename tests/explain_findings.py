@@ -53,6 +53,42 @@ RANGES = [
     (b"#!/bin/sed -Ef\np\n", [("options-in-first-line", b"#!/bin/sed -Ef")]),
     (b":a\n$!{N;ba}\n", [("brace-behind-label", b"}")]),
     (b"# sedck: ignore no-such, bad-flag\np\n", [("unknown-code", b"no-such"), ("unknown-code", b"bad-flag")]),
+    (b"p\n $!a hello \np\n", [("one-line-text", b"a hello")]),
+    (b"s/a/b/\n#now\n", [("silencing-comment", b"#n")]),
+]
+
+# An accepted script, and the line, the column and the code of each warning on how it looks.
+TEXT, COMMENT, EXTENDED = "one-line-text", "silencing-comment", "looks-extended"
+LOOKS = [
+    # a `+` that ends an expression, behind a byte that isn't meant with it
+    (b"s/ +$//\n", [(1, 4, EXTENDED)]), (b"s/a+$//\n", [(1, 4, EXTENDED)]), (b"/0+$/d\n", [(1, 3, EXTENDED)]), (b"1,/-+$/d\n", [(1, 5, EXTENDED)]),
+    (b"s/c++$//;s/^+$//;s/a+\\$//;s/$+$//\n", []), (b"s/c++/C/;s/1+1/2/;s/a+b//;s/a+$b//\n", []),
+    # parentheses with an operator, next to an anchor
+    (b"s/^(.*)$/x/\n", [(1, 4, EXTENDED)]), (b"s/^([a-z]*)=(.*)$/x/\n", [(1, 4, EXTENDED)]), (b"s/x([0-9]*)$/y/\n", [(1, 11, EXTENDED)]),
+    (b"s/f(x)/g/;s/^(define x)/y/;s/(a)$/b/;s/(.*)/x/;s/f([a-z]*)/g/\n", []), (b"s/^(\\(.*\\))$/\\1/;s/^(a\\{2\\}b*)//\n", []),
+    (b"s/\\^([a-z]*)//;s/([a-z]*)\\$//;s/^[(]a*)//;s/^\\(a*\\)$//\n", []),
+    # bars next to an anchor
+    (b"/^#|^$/d\n", [(1, 4, EXTENDED)]), (b"/^$|^#/d\n", [(1, 4, EXTENDED)]), (b"s/a$|b//\n", [(1, 5, EXTENDED)]),
+    (b"s/^|//;s/|$//;s/ | /,/;s/|$|/x/;s/^$|=1//;s/a|b/c/;s/\\$|x//;s/[$|]x//\n", []),
+    # intervals without backslashes
+    (b"s/a{3}/x/\n", [(1, 4, EXTENDED)]), (b"s/ab{2,}/x/\n", [(1, 5, EXTENDED)]), (b"s/-{2,3}/x/\n", [(1, 4, EXTENDED)]), (b"s/ {4}/x/\n", [(1, 4, EXTENDED)]),
+    (b"s/${x}//;s/${1}//;s/a{b}//;s/a{,2}//;s/{3}//;s/a{3//;s/a{3,x}//\n", []), (b"s/\\\\hspace{2}//;s/@sp{3}//;s/#{1}//;s/%{1}//;s/\\*{3}//\n", []),
+    # a question mark in a word
+    (b"s/colou?r/x/\n", [(1, 8, EXTENDED)]), (b"/https?:/d;/favou?rite/d\n", [(1, 18, EXTENDED)]),
+    (b"/why?/d;s/what? no/x/;s/page?id=1//;s/?a/x/;s/a?1/x/;s/index.php?name=//;s/[a]b?/x/\n", []),
+    # the first one alone
+    (b"s/a+$//\ns/b+$//\ns/[a]+//\n", [(1, 4, EXTENDED)]),
+    # texts on the line of their command: the first one alone
+    (b"a hello\n", [(1, 1, TEXT)]), (b"p;$!ihello\nc x\n", [(1, 5, TEXT)]), (b"1{\nc\\hello\n}\n", [(2, 1, TEXT)]), (b"a \t\\  x\n", [(1, 1, TEXT)]),
+    (b"a\\\n  x\np\ni\t\\\na x\n", []), (b"# a hello\n:a\n$!{N;b a\n}\ns/a x/i y/\n", []), (b"w a x\n", []),
+    # comments that BusyBox takes for `#n`
+    (b"s/a/b/\n#now replace\n", [(2, 1, COMMENT)]), (b"s/a/b/;#now\n", [(1, 8, COMMENT)]), (b"{\n  #n\np\n}\n", [(2, 3, COMMENT)]), (b"{p;}#now\n", [(1, 5, COMMENT)]),
+    (b"{#now\np\n}\n", [(1, 2, COMMENT)]), (b"#nx\np\n", [(1, 1, COMMENT)]), (b" #n\np\n", [(1, 2, COMMENT)]), (b"\n#n\np\n", [(2, 1, COMMENT)]), (b"p #n\n", [(1, 3, COMMENT)]),
+    (b"p#n", [(1, 2, COMMENT)]), (b"y/a/b/ #n\n", [(1, 8, COMMENT)]), (b"b e #n\n:e #n\n", [(1, 5, COMMENT), (2, 4, COMMENT)]), (b"#n\n#n\np\n", [(2, 1, COMMENT)]),
+    (b"#x\n#now\n# now\n#now\n", [(2, 1, COMMENT), (4, 1, COMMENT)]), (b"w f\n#n\n", [(2, 1, COMMENT)]), (b"s/a/b/w f\n#n\n", [(2, 1, COMMENT)]),
+    (b"#n\np\n", []), (b"#n", []), (b"s/a/b/ #now\ns/a/b/#now\ns/a/b/p #n\n", []), (b"# now\n##n\n#N\n#\n", []), (b"a\\\n#now\np\n", []), (b"s/aa/#n/;s/#n/a/\n", []),
+    (b"w a #n\n", [(1, 1, "command-in-name")]), (b"s/a/b/ #x\n;#n\n", [(2, 2, COMMENT)]), (b"s/a/\\\n#now/\n", [(1, 1, "no-bound")]),
+    (b"#n\n" * 150, [(line, 1, COMMENT) for line in range(2, 102)]),
 ]
 
 # A script with findings of several levels, in the order of the report.
@@ -106,6 +142,14 @@ def check_ranges(tools):
         tools.same("ranges in %r" % script, found, due)
 
 
+def check_looks(tools):
+    """The warnings of scripts that look as if something else was meant, and of ordinary ones none."""
+    for script, due in LOOKS:
+        tools.write("f.sed", script)
+        found = [(finding["position"]["line"], finding["position"]["column"], finding["code"]) for finding in report(tools, ["f.sed"])["findings"]]
+        tools.same("looks of %r" % script, found, due)
+
+
 def check_order(tools):
     """Errors, then warnings, then notes."""
     for script, due in ORDERED:
@@ -137,5 +181,6 @@ def check(tools):
     """Compares ranges, orders, and what is left of findings."""
     check_numbers(tools)
     check_ranges(tools)
+    check_looks(tools)
     check_order(tools)
     check_ignored(tools)

@@ -336,6 +336,12 @@ UPWARD = ("upward-name", "it leads out of the directory where the script runs")
 UNPRINTABLE = ("unprintable-name", "it contains bytes that a terminal may not show")
 BLANK = ("blank-at-end", "it ends in a space")
 COMMAND = ("command-in-name", "a name goes on to the end of the line: was a command or a comment meant?")
+HIDDEN = ("hidden-name", "a part of it begins with `.`: such files are hidden, and many of them are settings of programs")
+MAKEFILE = ("makefile-name", "`make` runs the commands in a file of this name")
+OPTION = ("option-name", "it begins with `-`, so that other programs take it for an option")
+SHELL = ("shell-byte-in-name", "it has a byte to which a shell gives a meaning, and sed doesn't: quotes, `*`, `$` and the like are part of the name")
+BOTH = ("read-and-written", "the script reads it too")
+SAME = ("same-file", "another name in the script leads to the same file, as `F` and `./F` do")
 WARNED = [
     (b"r /dev/stdin", "reads", "/dev/stdin", [STREAM]),
     (b"w /dev/stdout", "writes", "/dev/stdout", [STREAM]),
@@ -348,18 +354,50 @@ WARNED = [
     (b"r a/..", "reads", "a/..", [UPWARD]),
     (b"w a\tb", "writes", "a\\x09b", [UNPRINTABLE]),
     (b"r \xc3\xa9", "reads", "\\xc3\\xa9", [UNPRINTABLE]),
-    (b"w \x1b[31mred\x7f", "writes", "\\x1b[31mred\\x7f", [UNPRINTABLE]),
+    (b"w \x1b[31mred\x7f", "writes", "\\x1b[31mred\\x7f", [UNPRINTABLE, SHELL]),
     (b"r x\r", "reads", "x\\x0d", [UNPRINTABLE]),
     (b"w x ", "writes", "x ", [BLANK]),
     (b"w x;p", "writes", "x;p", [COMMAND]),
     (b"r x}", "reads", "x}", [COMMAND]),
     (b"r x # two", "reads", "x # two", [COMMAND]),
     (b"w /../\xffa\\b; ", "writes", "/../\\xffa\\\\b; ", [ABSOLUTE, UPWARD, UNPRINTABLE, BLANK, COMMAND]),
-    (b'r a"`b;', "reads", 'a\\"\\x60b;', [COMMAND]),
+    (b'r a"`b;', "reads", 'a\\"\\x60b;', [COMMAND, SHELL]),
     (b"r a..b", "reads", "a..b", []),
-    (b"r .../x", "reads", ".../x", []),
+    (b"r .../x", "reads", ".../x", [HIDDEN]),
     (b"w dev/x", "writes", "dev/x", []),
-    (b"r a:b,c*d", "reads", "a:b,c*d", []),
+    (b"r a:b,c*d", "reads", "a:b,c*d", [SHELL]),
+    # hidden files and folders, and what is neither
+    (b"w .bashrc", "writes", ".bashrc", [HIDDEN]),
+    (b"w .ssh/authorized_keys", "writes", ".ssh/authorized_keys", [HIDDEN]),
+    (b"r a/.git/config", "reads", "a/.git/config", [HIDDEN]),
+    (b"r ./x", "reads", "./x", []),
+    (b"r a/./b.c", "reads", "a/./b.c", []),
+    # files that make reads
+    (b"w Makefile", "writes", "Makefile", [MAKEFILE]),
+    (b"w sub/makefile", "writes", "sub/makefile", [MAKEFILE]),
+    (b"r ./GNUmakefile", "reads", "./GNUmakefile", [MAKEFILE]),
+    (b"w Makefile.am", "writes", "Makefile.am", []),
+    (b"w Makefile/x", "writes", "Makefile/x", []),
+    (b"w MAKEFILE", "writes", "MAKEFILE", []),
+    # what other programs would read otherwise
+    (b"w -rf", "writes", "-rf", [OPTION]),
+    (b"w -", "writes", "-", [OPTION]),
+    (b"w ./-rf", "writes", "./-rf", []),
+    (b"w a-b", "writes", "a-b", []),
+    (b"w *", "writes", "*", [SHELL]),
+    (b"w ~/x", "writes", "~/x", [SHELL]),
+    (b"w x~", "writes", "x~", []),
+    (b"w $HOME/x", "writes", "$HOME/x", [SHELL]),
+    (b'w "F"', "writes", '\\"F\\"', [SHELL]),
+    (b"r 'F'", "reads", "'F'", [SHELL]),
+    (b"w F|cat", "writes", "F|cat", [SHELL]),
+    (b"w a>b", "writes", "a>b", [SHELL]),
+    (b"w a<b", "writes", "a<b", [SHELL]),
+    (b"w a?", "writes", "a?", [SHELL]),
+    (b"w a&b", "writes", "a&b", [SHELL]),
+    (b"w a[1]", "writes", "a[1]", [SHELL]),
+    (b"w a(1),{2}=%@^!+]", "writes", "a(1),{2}=%@^!+]", [COMMAND]),
+    (b"w -/.x/../*;", "writes", "-/.x/../*;", [UPWARD, COMMAND, HIDDEN, OPTION, SHELL]),
 ]
 
 
@@ -410,6 +448,28 @@ s.sed: accepted: every run ends
     tools.same("gcc %r" % script, tools.explain("--format", "gcc", "s.sed"), (0, "".join(part[1] for part in parts).encode(), b""))
 
 
+# A script, and the warnings of each of its names: what it does, its command, and the code with its reason.
+SHARED = [
+    (b"r ./F\nw F\n", [("reads", b"r ./F", SAME), ("writes", b"w F", SAME)]),
+    (b"w F\nw ./F\n", [("writes", b"w ./F", SAME), ("writes", b"w F", SAME)]),
+    (b"w a//b\nw a/./b\nw ./a/b\n", [("writes", b"w ./a/b", SAME), ("writes", b"w a/./b", SAME), ("writes", b"w a//b", SAME)]),
+    (b"r F\nw F\nw .//F\n", [("reads", b"r F", SAME), ("writes", b"w .//F", SAME), ("writes", b"w F", BOTH), ("writes", b"w F", SAME)]),
+    (b"r F\nw F\n", [("writes", b"w F", BOTH)]),
+    (b"w ./F\n", []),
+    (b"w F\nw F.\nw .F/..F\nw /F\n", [("writes", b"w .F/..F", HIDDEN), ("writes", b"w /F", ABSOLUTE)]),
+    (b"w //F\nw /./F\n", [("writes", b"w /./F", ABSOLUTE), ("writes", b"w /./F", SAME), ("writes", b"w //F", ABSOLUTE), ("writes", b"w //F", SAME)]),
+]
+
+
+def check_shared(tools):
+    """Names that lead to one file: both are warned of, and no other name."""
+    for script, warnings in SHARED:
+        tools.write("s.sed", script)
+        due = "".join('s.sed:%d:1: warning: this %s "%s": %s [%s]\n' % (script[:script.index(command + b"\n")].count(b"\n") + 1, does, command[2:].decode(), reason, code)
+                      for does, command, (code, reason) in warnings)
+        tools.same("gcc %r" % script, tools.explain("--format", "gcc", "s.sed"), (0, due.encode(), b""))
+
+
 def check_certificates(tools):
     """Certificates that are refused."""
     tools.write("s.sed", PRINT)
@@ -457,5 +517,6 @@ def check(tools):
         tools.same("gcc " + what, tools.explain("--format", "gcc", *words, "s.sed"), (status, gcc_due if status else b"", b""))
     check_names(tools)
     check_both(tools)
+    check_shared(tools)
     check_certificates(tools)
     check_long_lines(tools)

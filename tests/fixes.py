@@ -40,6 +40,7 @@ ROWS = [
     ("at most so many", b"s/a\\{,2\\}b/x/\n", b"s/a\\{0,2\\}b/x/\n", WORDS),
     ("brace behind a label", b"/a/{s/a/b/;b end}\ns/^/-/\n:end\n", b"/a/{s/a/b/;b end;}\ns/^/-/\n:end\n", NUMBERS),
     ("brace behind a label in a block", b"/a/{/b/{b end}}\ns/^/-/\n:end\n", b"/a/{/b/{b end;}}\ns/^/-/\n:end\n", NUMBERS),
+    ("comments that begin with an n", b"p\n#now\ns/a/b/;#n", b"p\n# now\ns/a/b/;# n", WORDS),
     ("brace behind a branch", b"/a/{s/a/b/;t}\ns/^/-/\n", b"/a/{s/a/b/;t;}\ns/^/-/\n", NUMBERS),
 ]
 
@@ -47,7 +48,7 @@ ROWS = [
 WITHOUT = [
     b"s/^\\+a/x/\n", b"s/\\(\\?a\\)/x/\n", b"s/a*\\+/x/\n", b"s/a\\{2\\}\\?/x/\n", b"s:a\\s::\n", b"s1a\\+1b1\n", b"s{a\\+{b{\n", b"s/[\\d]/x/\n", b"s/a**b/x/\n",
     b"s/a/b/ I\n", b"s/a/b/g g\n", b"s/a/b/2 3\n", b"y/a/b/ g\n", b"s&a&\\0&\n", b"s,a\\{,2\\},x,\n", b"s/a\\|b/x/\n", b"s/\\bx/y/\n", b"p p\n",
-    b"s/a/\\x41/\n", b"Q\n", b"/a/{p\n",
+    b"s/a/\\x41/\n", b"s/e=\\$\\?;/x/\n", b"s,e=\\$\\?;,x,\n", b"#now\np\n", b"a hello\n", b"Q\n", b"/a/{p\n",
 ]
 
 

@@ -1,5 +1,6 @@
 """Scripts that are refused or have a loop, each with the script to which its hint leads."""
-from typing import NamedTuple
+import re
+from typing import Callable, NamedTuple, Optional
 
 
 class Row(NamedTuple):
@@ -14,6 +15,23 @@ class Row(NamedTuple):
     due: tuple = ()
     # Scripts that are accepted and do something else.
     wrong: tuple = ()
+    # For which inputs the hint doesn't promise the same, as it says itself; none where it promises that for all.
+    excluded: Optional[Callable[[str], bool]] = None
+
+
+def has_both(one, other):
+    """Whether a line has both: the hint is for lines that don't."""
+    return lambda given: any(one in line and other in line for line in given.split("\n"))
+
+
+def begins_with(text):
+    """Whether a line begins with both alternatives of a group, of which the longer one is taken: the hint is for lines that don't."""
+    return lambda given: any(line.startswith(text) for line in given.split("\n"))
+
+
+def needs_commas(most):
+    """Whether a line needs more commas than the command is repeated: it is to be repeated as often as a line may need it."""
+    return lambda given: any(sum((len(digits) - 1) // 3 for digits in re.findall("[0-9]+", line)) > most for line in given.split("\n"))
 
 
 WORDS = ("cat\n", "a cat\na dog\nbird\n", "dog dog\ncat cat\n\n")
@@ -35,6 +53,17 @@ REPLACED = [
     Row("delimiter in a list", "s/[/]/x/g\n", "use another one, as in `s,[/],x,`", "s,[/],x,g\n",
         ("a/b\n", "a\\b/c\n", "\\/\\/\n"), wrong=("s/[\\/]/x/g\n",)),
     Row("delimiter in an address's list", "/[/]/d\n", "`\\,[/],p`", "\\,[/],d\n", ("a/b\nc\n", "a\\b\nc/d\n", "x\n"), wrong=("/[\\/]/d\n",)),
+    Row("unknown class", "s/[[:foo:]]/x/\n", "there is no such class: the classes are alnum, alpha", "s/[[:alpha:]]/x/\n", ("foo\n", "1:\n", "[]\n"),
+        due=("xoo\n", "1:\n", "[]\n")),
+    Row("class of capitals", "s/[[:UPPER:]_]/x/\n", "there is no such class: the classes are alnum, alpha", "s/[[:upper:]_]/x/\n", ("aB\n", "_\n", "a\n"),
+        due=("ax\n", "x\n", "a\n")),
+    Row("range the wrong way round", "s/[z-a]/x/\n", "the ends of the range are the wrong way round", "s/[a-z]/x/\n", ("b\n", "B\n", "-z\n"),
+        due=("x\n", "B\n", "-x\n"), wrong=("s/[za-]/x/\n",)),
+    Row("range the wrong way round up to a bracket", "s/[[:digit:]z-[]/x/\n", "the ends of the range are the wrong way round", "s/[[-z[:digit:]]/x/\n",
+        ("b\n", "B\n", "9\n"), due=("x\n", "B\n", "x\n")),
+    Row("class at the end of a range", "s/[a-[:digit:]]/x/\n", "a class can't be the end of a range", "s/[a[:digit:]-]/x/\n", ("1\n", "-\n", "b\n"),
+        due=("x\n", "x\n", "b\n")),
+    Row("hyphen in the middle", "s/[a-c-e]/x/\n", "put a `-` first or last", "s/[a-ce-]/x/\n", ("d-\n", "e\n", "b\n"), due=("dx\n", "x\n", "x\n")),
     Row("bracket and point in a list", "s/[][.*^$]/X/g\n", "put the `[` last", "s/[].*^$[]/X/g\n",
         ("a[b]\n", "x.y*z\n", "^$\n-\n"), due=("aXbX\n", "xXyXz\n", "XX\n-\n"), wrong=("s/[].*^$]/X/g\n",)),
 ]
@@ -45,6 +74,12 @@ ESCAPES = [
     Row("question mark", "s/ab\\?c/x/\n", "`x\\{0,1\\}`", "s/ab\\{0,1\\}c/x/\n", ("abc\n", "ac\n", "abbc\n"), wrong=("s/ab*c/x/\n",)),
     Row("question mark and comma", "s,\\(tags/\\)\\?x,y,\n", "`x\\{0\\,1\\}`", "s,\\(tags/\\)\\{0\\,1\\}x,y,\n", ("tags/x\n", "x\n", "tags/tags/x\n")),
     Row("plus and comma", "s,a\\+,y,g\n", "`x\\{1\\,\\}`", "s,a\\{1\\,\\},y,g\n", ("aa\n", "b\n", "a,aa\n")),
+    Row("question mark behind a dollar", "s/e=\\$\\?;/x/\n", "if the two characters `$?` are meant write `\\$?`", "s/e=\\$\\{0,1\\};/x/\n",
+        ("e=$;\n", "e=;\n", "e=$?;\n"), wrong=("s/e=\\$?;/x/\n",)),
+    Row("question mark that is meant", "s/e=\\$\\?;/x/\n", "if the two characters `$?` are meant write `\\$?`", "s/e=\\$?;/x/\n",
+        ("e=$;\n", "e=;\n", "e=$?;\n"), due=("e=$;\n", "e=;\n", "x\n"), wrong=("s/e=\\$\\{0,1\\};/x/\n",)),
+    Row("plain question mark", "s/what\\?/x/\n", "if the character `?` is meant write `?`", "s/what?/x/\n", ("what?\n", "wha\n", "what\n"),
+        due=("x\n", "wha\n", "what\n"), wrong=("s/what\\{0,1\\}/x/\n",)),
     Row("question mark first", "/^\\?/d\n", "without the backslash", "/^?/d\n", ("?\na\n", "\n", "x?\n"), wrong=("/^x\\{0,1\\}/d\n",)),
     Row("plus first in a group", "s/\\(\\+a\\)/<\\1>/\n", "without the backslash", "s/\\(+a\\)/<\\1>/\n", ("+a\n", "a\n", "++a\n")),
     Row("space", "s/\\s\\S/_/\n", "`[[:space:]]`", "s/[[:space:]][^[:space:]]/_/\n", ("a b\n", "a\tb\n", "a  \n")),
@@ -59,6 +94,13 @@ ESCAPES = [
     Row("word once", "s/\\<cat\\>/dog/\n", "without `g` only once",
         "s/.*/\\n&\\n/\ns/\\([^[:alnum:]_]\\)cat\\([^[:alnum:]_]\\)/\\1dog\\2/\ns/^\\n\\(.*\\)\\n$/\\1/\n",
         ("cat cat cat\n", "concat cat\ncats\n", "\n_cat cat_ -cat-\n"), wrong=("s/cat/dog/\n",)),
+    Row("start of a word", "s/\\<cat/dog/g\n", "for `s/\\<WORD/NEW/g`", "s/^/\\n/\ns/\\([^[:alnum:]_]\\)cat/\\1dog/g\ns/^\\n//\n",
+        ("cat cats\n", "concat cat\n", "\n_cat -cat-cat\n"), wrong=("s/cat/dog/g\n", "s/\\([^[:alnum:]_]\\)cat/\\1dog/g\n")),
+    Row("end of a word", "s/cat\\>/dog/\n", "for `s/WORD\\>/NEW/g`", "s/$/\\n/\ns/cat\\([^[:alnum:]_]\\)/dog\\1/\ns/\\n$//\n",
+        ("cats cat\n", "concat cat\n", "\ncat_ cat-\n"), wrong=("s/cat/dog/\n", "s/cat\\([^[:alnum:]_]\\)/dog\\1/\n")),
+    Row("inside of a word", "s/\\B[0-9]\\{3\\}/-&/\n", "for `s/\\BWORD/NEW/` write `s/\\([[:alnum:]_]\\)WORD/\\1NEW/`",
+        "s/\\([[:alnum:]_]\\)\\([0-9]\\{3\\}\\)/\\1-\\2/\n", ("1234 5678\n", "123 a456\n", "_789\n -123\n"), wrong=("s/[0-9]\\{3\\}/-&/\n",)),
+    Row("inside of a word at its end", "/cat\\B/d\n", "and so for `WORD\\B`", "/cat[[:alnum:]_]/d\n", ("cat\ncats\n", "cat_\ncat-\n", "concat\n"), wrong=("/cat/d\n",)),
     Row("word in an address", "/\\<cat\\>/d\n", "with a command for each case",
         "/^cat$/d\n/^cat[^[:alnum:]_]/d\n/[^[:alnum:]_]cat$/d\n/[^[:alnum:]_]cat[^[:alnum:]_]/d\n",
         ("cat\ncats\n", "a cat\ncat a\n_cat\n", "a cat b\nconcat\n"), wrong=("/cat/d\n", "/ cat /d\n")),
@@ -77,12 +119,21 @@ BARS = [
         wrong=("/a/d\n/b/d\ns/a/A/\n", "/a/!d\n/b/!d\ns/a/A/\n", "/a/b\n/b/b\nd\ns/a/A/\n")),
     Row("bar of a range", "/a\\|b/,/c/d\n", "a range needs one expression", "/[ab]/,/c/d\n", ("b\na\nc\nx\n", "x\na\ny\nc\nb\n", "x\n"),
         wrong=("/a/,/c/d\n/b/,/c/d\n",)),
-    Row("bar in s", "s/cat\\|dog/pet/\n", "if no line matches both", "s/cat/pet/\ns/dog/pet/\n", WORDS),
+    Row("bar in s", "s/cat\\|dog/pet/\n", "if no line matches both", "s/cat/pet/\ns/dog/pet/\n", WORDS, excluded=has_both("cat", "dog")),
     Row("bar in s with g", "s/^a\\|b//g\n", "`s/a/x/g` and `s/b/x/g`", "s/^a//g\ns/b//g\n", ("bab\n", "aab\n", "ba\nabb\n"),
         wrong=("s/^a//g\nt done\ns/b//g\n:done\n",)),
     Row("bar of bytes in a group", "s/\\(a\\|b\\)c/<\\1>/\n", "`\\([ab]\\)` for `\\(a\\|b\\)`", "s/\\([ab]\\)c/<\\1>/\n", ("ac\n", "bc ac\n", "c\n")),
     Row("bar before something in a group", "s/x\\(\\|64\\)y/<\\1>/\n", "`\\(64\\)\\{0,1\\}`", "s/x\\(64\\)\\{0,1\\}y/<\\1>/\n",
         ("xy\n", "x64y\n", "x6464y\n"), wrong=("s/x\\(64\\)*y/<\\1>/\n",)),
+    Row("bar behind the start", "s/\\(^\\|[^0-9.]\\)a/\\1X/\n", "`s/^/\\n/`, `s/\\([\\n,]\\)a/\\1b/` and `s/^\\n//`",
+        "s/^/\\n/\ns/\\([^0-9.]\\)a/\\1X/\ns/^\\n//\n", ("ab start\n", "a1a .a\n", "1a\nba\n"), wrong=("s/^a/X/\ns/\\([^0-9.]\\)a/\\1X/\n",),
+        excluded=begins_with("aa")),
+    Row("bar behind the start with g", "s/\\(^\\|,\\)a/\\1b/g\n", "`s/^/\\n/`, `s/\\([\\n,]\\)a/\\1b/` and `s/^\\n//`",
+        "s/^/\\n/\ns/\\([\\n,]\\)a/\\1b/g\ns/^\\n//\n", ("a,a,a\n", ",a\nxa\n", "\naa\n"), wrong=("s/\\(,\\)a/\\1b/g\n",)),
+    Row("bar before the end", "s/a\\(,\\|$\\)/b\\1/g\n", "`s/$/\\n/`, `s/a\\([\\n,]\\)/b\\1/` and `s/\\n$//`",
+        "s/$/\\n/\ns/a\\([\\n,]\\)/b\\1/g\ns/\\n$//\n", ("a,a\n", "xa\nax\n", "\n,aa\n"), wrong=("s/a,/b,/g\n",)),
+    Row("bar of words in a group", "s/x\\(cat\\|dog\\)/<\\1>/\n", "if no line has a match of two of them", "s/x\\(cat\\)/<\\1>/\ns/x\\(dog\\)/<\\1>/\n",
+        ("xcat\n", "a xdog\ncat\n", "x\n"), excluded=has_both("xcat", "xdog")),
     Row("bar of endings", "s/\\(\\.c\\|\\.h\\)$/<\\1>/\n", "`\\(\\.[ch]\\)`", "s/\\(\\.[ch]\\)$/<\\1>/\n", ("a.c\n", "a.h.c\n", "ch\n")),
 ]
 
@@ -102,7 +153,7 @@ ADDRESSES = [
         wrong=("/x/{\ns/./X/\n:rest\nn\nb rest\n}\n", "1,/x/s/./X/\n")),
     Row("up to the first with p", "0,/x/p\n", "and so for `p`", "/x/{\np\n:rest\nn\nb rest\n}\np\n", FOUND),
     Row("up to the first with a block", "0,/x/{\ns/./X/\n}\n", "`1,/x/` is the same if the first line doesn't match", "1,/x/{\ns/./X/\n}\n",
-        ("a\nx\nb\n", "b\nb\n", "a\nb\nx\nx\n")),
+        ("a\nx\nb\n", "b\nb\n", "a\nb\nx\nx\n"), excluded=lambda given: "x" in given.split("\n")[0]),
     Row("letters of any case", "/hello/Id\n", "`/[hH][eE][lL][lL][oO]/`", "/[hH][eE][lL][lL][oO]/d\n", ("Hello\nx\n", "HELLO\n\n", "ello\n")),
 ]
 
@@ -122,6 +173,10 @@ COMMANDS = [
     Row("text with a backslash", "1a\\\\-x\n", "write `a\\`, a newline and the text", "1a\\\n-x\n", ("a\nb\n", "\n", "x\n")),
     Row("label of two words", "s/a/b/\nt\n:two words\ns/b/c/\n", "a label can't contain blanks", "s/a/b/\nt\n:two_words\ns/b/c/\n",
         ("a\n", "b\n", "aa\n"), due=("b\n", "c\n", "ba\n")),
+    Row("branch to two words", "s/a/b/\nt two words\ns/b/c/\n:two words\n", "a label can't contain blanks", "s/a/b/\nt two_words\ns/b/c/\n:two_words\n",
+        ("a\n", "b\n", "aa\n"), due=("b\n", "c\n", "ba\n")),
+    Row("branch to two words behind an address", "/a/!b a b\ns/a/c/\n:a\n", "a label can't contain blanks", "/a/!b a_b\ns/a/c/\n:a_b\n",
+        ("a\n", "b\n", "aa\n"), due=("c\n", "b\n", "ca\n")),
     Row("flag of y", "y/ab/xy/g\n", "`y` takes no flags", "y/ab/xy/\n", ("ab\n", "aa\n", "c\n"), due=("xy\n", "xx\n", "c\n"), wrong=("y/ab/xy/;g\n",)),
 ]
 
@@ -138,7 +193,17 @@ LOOPS = [
     Row("a match of nothing", ":a\ns/^x*//\ns/^y//\nta\ns/$/!/\n", "make it match at least one byte", ":a\ns/^xx*//\ns/^y//\nta\ns/$/!/\n",
         ("xxyxz\n", "\n", "zx\n"), due=("z!\n", "!\n", "zx!\n")),
     Row("growing", ":a\ns/\\(.*[0-9]\\)\\([0-9]\\{3\\}\\)/\\1,\\2/\nta\n", "repeat the command as often as it may be needed",
-        "s/\\(.*[0-9]\\)\\([0-9]\\{3\\}\\)/\\1,\\2/\n" * 4 + "t c\n:c\n", ("1234567\n", "12\n1234\n", "123456789012\n")),
+        "s/\\(.*[0-9]\\)\\([0-9]\\{3\\}\\)/\\1,\\2/\n" * 4 + "t c\n:c\n", ("1234567\n", "12\n1234\n", "123456789012\n"), excluded=needs_commas(4)),
+    Row("flag of an earlier s", ":a\ns/x/y/\ns/y//\nta\n", "here for one that isn't the last", ":a\ns/x/y/\nt c\n:c\ns/y//\nta\n", ("xxa\n", "ayy\n", "z\nxy\n"),
+        wrong=("s/x/y/\ns/y//\n",)),
+    Row("padding", ":a\ns/^.\\{1,9\\}$/ &/\nta\n", "as docs/MENDING.md pads a line",
+        "/^.\\{1,9\\}$/{\ns/^/          /\ns/.*\\(.\\{10\\}\\)$/\\1/\n}\nt c\n:c\n", ("a\n", "\nabcdefghi\n", "abcdefghijk\n"),
+        wrong=("s/^.\\{1,9\\}$/ &/\n",)),
+    Row("reversing", "/\\n/!G\ns/\\(.\\)\\(.*\\n\\)/&\\2\\1/\n//D\ns/.//\n", "as docs/MENDING.md reverses a line",
+        "h\ns/./x/g\nx\nG\ns/\\n/&&/\n:a\nt clear\n:clear\ns/x$//\nt round\nb done\n:round\ns/^\\([^\\n]\\)\\([^\\n]*\\n\\)/\\2\\1/\nb a\n:done\n"
+        "s/^\\n\\(.*\\)\\n$/\\1/\n", ("abc\n", "xx\n\nxa\n", "a b\n")),
+    Row("starting again without a line", "#n\n/x/{\n=\nx\n1!p\ng\n$!N\np\nD\n}\nh\n", "use `D` only where a line was read",
+        "#n\n/x/{\n=\nx\n1!p\ng\n$!{\nN\np\nD\n}\np\nd\n}\nh\n", FOUND, wrong=("#n\n/x/{\n=\nx\n1!p\ng\nN\np\nD\n}\nh\n",)),
     Row("waiting for a line", ":a\n/;$/!{\n$!N\nba\n}\ns/\\n/ /g\n", "put the branch into a block with the `N` or `n`",
         ":a\n/;$/!{\n$!{\nN\nba\n}\n}\ns/\\n/ /g\n", ("a\nb;\nc;\n", "a;\n", "a\n\n;\n")),
 ]
@@ -171,3 +236,22 @@ NARROWED = [
 ]
 
 ROWS = NARROWED + REPLACED + ESCAPES + BARS + ADDRESSES + COMMANDS + LOOPS
+
+# Of a page and a section: for which inputs its scripts may differ, as the page says, or None where they aren't said to do the same.
+MENDING, FAULTS = "docs/MENDING.md", "docs/FAULTS.md"
+EXCLUDED = {
+    # "enough for numbers of nine digits"
+    (MENDING, "Carrying a digit"): lambda given: re.search("9{10}_*$", given, flags=re.M),
+    # "as often as a line may need a comma, here three times"
+    (MENDING, "Commas in numbers"): needs_commas(3),
+    # "A line without `=` is changed by this script and not by the loop"
+    (MENDING, "Replacing up to a delimiter"): lambda given: any("-" in line and "=" not in line for line in given.split("\n")),
+    # "the same only where no line has both"
+    (FAULTS, "2 bad-escape: a bar in s"): has_both("cat", "dog"),
+    # "if the line doesn't begin with both"
+    (FAULTS, "2 bad-escape: a bar behind ^ or before $ in a group"): begins_with("aa"),
+    # A text is added; several scripts stand side by side; GNU sed reads another list, which the page says.
+    (FAULTS, "11 missing-text"): None,
+    (FAULTS, "20 extra-text: an argument"): None,
+    (FAULTS, "22 escaped-delimiter: with a bracket list"): None,
+}

@@ -4,8 +4,10 @@
 A row has a script that is refused or has a loop, words of the hint that it gets, the script that the hint leads to, and inputs. The
 second script must be accepted. What it must print is what GNU sed makes of the first one, or stands in the row where GNU sed refuses
 that one, too, or runs it for ever. A row may have scripts to which a careless reader would come: they are accepted, and must print
-something else for one of the inputs, which shows that these inputs tell. Where the machine has no GNU sed, outputs aren't compared.
-The status is 0 only where everything is as it should be.
+something else for one of the inputs, which shows that these inputs tell. And both scripts of a row, and the scripts of each section of
+docs/MENDING.md and docs/FAULTS.md, are run on a hundred inputs more, which are drawn from the bytes of the first one: what they print must
+be the same wherever GNU sed runs both, but for inputs that the row or the page excludes. Where the machine has no GNU sed, outputs
+aren't compared. The status is 0 only where everything is as it should be.
 """
 import argparse
 import os
@@ -13,8 +15,11 @@ import subprocess
 import sys
 import tempfile
 
-from hint_rows import ROWS
-from pages import is_gnu
+import drawn
+from hint_rows import EXCLUDED, ROWS
+from pages import is_gnu, sections
+
+PAGES = ("docs/MENDING.md", "docs/FAULTS.md")
 
 
 def run_sed(folder, script, given):
@@ -69,6 +74,21 @@ def outputs(row, folder):
             yield "the inputs don't tell that %r is wrong" % script
 
 
+def pairs():
+    """All pairs of scripts that are said to do the same, with what is excluded."""
+    for row in ROWS:
+        if not row.due:
+            yield row.name, row.refused, row.mended, row.excluded
+    for page in PAGES:
+        with open(os.path.join(os.path.dirname(os.path.abspath(__file__)), "..", page), encoding="utf-8") as file:
+            text = file.read()
+        for name, blocks in sections(text):
+            scripts = [block for kind, block, _ in blocks if kind == "sed"]
+            for mended in scripts[1:]:
+                if (page, name) not in EXCLUDED or EXCLUDED[page, name] is not None:
+                    yield "%s, %s" % (page, name), scripts[0], mended, EXCLUDED.get((page, name))
+
+
 def main():
     words = argparse.ArgumentParser()
     words.add_argument("explain")
@@ -80,7 +100,11 @@ def main():
             for wrong in (*answers(row, explain, folder), *(outputs(row, folder) if compares else ())):
                 failures += 1
                 print("FAILED: %s: %s" % (row.name, wrong))
-    print("hints: %d, %d failures%s" % (len(ROWS), failures, "" if compares else "; there is no GNU sed to compare outputs in"))
+    same = list(pairs()) if compares else []
+    for wrong in drawn.compare(same):
+        failures += 1
+        print("FAILED: %s" % wrong)
+    print("hints: %d, and %d pairs of scripts on %d drawn inputs each, %d failures%s" % (len(ROWS), len(same), drawn.INPUTS, failures, "" if compares else "; there is no GNU sed to compare outputs in"))
     return 1 if failures or not ROWS else 0
 
 

@@ -1,6 +1,7 @@
 //! What to write in place of an escape of an expression that is refused.
 
-use crate::spot::{Purpose, Spot};
+use crate::lists::Reading;
+use crate::spot::{Purpose, Spot, behind_part};
 
 /// By the byte after the backslash, and by what is around it.
 pub fn escape_hint(spot: Spot) -> &'static str {
@@ -13,7 +14,8 @@ pub fn escape_hint(spot: Spot) -> &'static str {
     match *escaped {
         b'+' | b'?' => repeat_hint(spot),
         b'|' => bar_hint(spot),
-        b'b' | b'B' | b'<' | b'>' => word_hint(spot),
+        b'B' => INNER,
+        b'b' | b'<' | b'>' => word_hint(spot),
         b'd' if !matches!(spot.rest.get(2), Some(b'0'..=b'9')) => {
             "if a digit is meant write `[[:digit:]]`"
         }
@@ -59,18 +61,21 @@ fn repeat_hint(spot: Spot) -> &'static str {
         return "at the start of an expression or a group GNU sed reads this as a literal character: write it without the backslash";
     }
     let is_plus = spot.rest.get(1) == Some(&b'+');
+    if !is_plus && spot.inside().ends_with(b"\\$") {
+        return "if the two characters `$?` are meant write `\\$?`; GNU sed reads `\\$\\?` as a `$` that may be missing: for that write `\\$\\{0,1\\}`, with `\\,` where the comma is the delimiter";
+    }
     match (is_plus, spot.delimiter() == b',') {
-        (true, true) => "for `x\\+` write `xx*`, or `x\\{1\\,\\}`, since `,` is the delimiter",
-        (true, false) => "for `x\\+` write `x\\{1,\\}` or `xx*`",
-        (false, true) => "for `x\\?` write `x\\{0\\,1\\}`, since `,` is the delimiter",
-        (false, false) => "for `x\\?` write `x\\{0,1\\}`",
+        (true, true) => "for `x\\+` write `xx*`, or `x\\{1\\,\\}`, since `,` is the delimiter; if the character `+` is meant write `+`",
+        (true, false) => "for `x\\+` write `x\\{1,\\}` or `xx*`; if the character `+` is meant write `+`",
+        (false, true) => "for `x\\?` write `x\\{0\\,1\\}`, since `,` is the delimiter; if the character `?` is meant write `?`",
+        (false, false) => "for `x\\?` write `x\\{0,1\\}`; if the character `?` is meant write `?`",
     }
 }
 
 /// For `\|`.
 fn bar_hint(spot: Spot) -> &'static str {
     if spot.reading().is_in_group() {
-        return "write `\\([ab]\\)` for `\\(a\\|b\\)`, `\\(64\\)\\{0,1\\}` for `\\(\\|64\\)` and `\\(\\.[ch]\\)` for `\\(\\.c\\|\\.h\\)`; otherwise write one command for each alternative";
+        return group_bar_hint(spot);
     }
     match spot.purpose() {
         Purpose::ReplacesAll =>
@@ -87,12 +92,56 @@ fn bar_hint(spot: Spot) -> &'static str {
     }
 }
 
+/// For `\|` in a group.
+fn group_bar_hint(spot: Spot) -> &'static str {
+    if is_replaced(spot) && spot.inside().ends_with(b"\\(^") {
+        return "for `s/\\(^\\|,\\)a/\\1b/` write `s/^/\\n/`, `s/\\([\\n,]\\)a/\\1b/` and `s/^\\n//`, if the pattern space is one line and doesn't begin with both, a match of `a` and one of `,a`; a list such as `[^0-9]` has the newline already; the first `s` sets the flag that `t` tests";
+    }
+    if is_replaced(spot) && spot.rest.starts_with(b"\\|$\\)") {
+        return "for `s/a\\(,\\|$\\)/b\\1/` write `s/$/\\n/`, `s/a\\([\\n,]\\)/b\\1/` and `s/\\n$//`, if the pattern space is one line; a list such as `[^0-9]` has the newline already; the first `s` sets the flag that `t` tests";
+    }
+    "write `\\([ab]\\)` for `\\(a\\|b\\)`, `\\(64\\)\\{0,1\\}` for `\\(\\|64\\)` and `\\(\\.[ch]\\)` for `\\(\\.c\\|\\.h\\)`; otherwise write one command for each alternative, if no line has a match of two of them"
+}
+
+/// Whether the expression is that of an `s`.
+fn is_replaced(spot: Spot) -> bool {
+    matches!(spot.purpose(), Purpose::Replaces | Purpose::ReplacesAll)
+}
+
 /// For `\b`, `\<` and `\>`.
 fn word_hint(spot: Spot) -> &'static str {
-    match spot.purpose() {
-        Purpose::Replaces | Purpose::ReplacesAll =>
-            "for `s/\\bWORD\\b/NEW/g` write `s/.*/\\n&\\n/`, twice `s/\\([^[:alnum:]_]\\)WORD\\([^[:alnum:]_]\\)/\\1NEW\\2/g`, and `s/^\\n\\(.*\\)\\n$/\\1/`; without `g` only once; the first `s` sets the flag that `t` tests",
-        _ =>
-            "match what is next to the word, with a command for each case: `/^WORD$/`, `/^WORD[^[:alnum:]_]/`, `/[^[:alnum:]_]WORD$/` and `/[^[:alnum:]_]WORD[^[:alnum:]_]/`",
+    if !is_replaced(spot) {
+        return "match what is next to the word, with a command for each case: `/^WORD$/`, `/^WORD[^[:alnum:]_]/`, `/[^[:alnum:]_]WORD$/` and `/[^[:alnum:]_]WORD[^[:alnum:]_]/`";
     }
+    if !has_one_end(spot) {
+        return WORD;
+    }
+    match (spot.begins(), spot.rest.get(2) == Some(&spot.delimiter())) {
+        (true, _) =>
+            "for `s/\\<WORD/NEW/g` write `s/^/\\n/`, `s/\\([^[:alnum:]_]\\)WORD/\\1NEW/g` and `s/^\\n//`; the first `s` sets the flag that `t` tests",
+        (_, true) =>
+            "for `s/WORD\\>/NEW/g` write `s/$/\\n/`, `s/WORD\\([^[:alnum:]_]\\)/NEW\\1/g` and `s/\\n$//`; the first `s` sets the flag that `t` tests",
+        _ => WORD,
+    }
+}
+
+const WORD: &str =
+    "for `s/\\bWORD\\b/NEW/g` write `s/.*/\\n&\\n/`, twice `s/\\([^[:alnum:]_]\\)WORD\\([^[:alnum:]_]\\)/\\1NEW\\2/g`, and `s/^\\n\\(.*\\)\\n$/\\1/`; without `g` only once; the first `s` sets the flag that `t` tests";
+
+const INNER: &str =
+    "`\\B` wants a byte of a word on both sides, or on none: for `/\\BWORD/` write `/[[:alnum:]_]WORD/`, for `s/\\BWORD/NEW/` write `s/\\([[:alnum:]_]\\)WORD/\\1NEW/`, and so for `WORD\\B`";
+
+/// Whether the fault is the only sign of a word's end in its expression, as far as escapes go.
+fn has_one_end(spot: Spot) -> bool {
+    let behind = behind_part(spot.rest, spot.delimiter());
+    let length = spot.rest.len().saturating_sub(behind.len());
+    let mut reading = Reading::START;
+    let mut ends: usize = 0;
+    for byte in spot.rest.iter().take(length) {
+        if reading.is_escaped() && matches!(*byte, b'b' | b'<' | b'>') {
+            ends = ends.saturating_add(1);
+        }
+        reading = reading.after(*byte);
+    }
+    ends == 1
 }

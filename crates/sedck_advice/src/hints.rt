@@ -212,10 +212,44 @@ fn element_hint(rest: &[u8]) -> &'static str {
     if is_symbol_of_its_mark(rest) {
         return "write the byte itself: `[.]` for `[[...]]`, `[=]` for `[[===]]`";
     }
+    if is_unknown_class(rest) {
+        return "there is no such class: the classes are alnum, alpha, blank, cntrl, digit, graph, lower, print, punct, space, upper and xdigit";
+    }
+    if is_reversed(rest) {
+        return "the ends of the range are the wrong way round: the one with the lower byte comes first, as in `[a-z]`";
+    }
     if rest.starts_with(b"[]") || rest.starts_with(b"[^") || has_early_end(rest) {
         return EARLY;
     }
-    "put a `-` first or last in its list, and a class inside a list, as in `[[:digit:]]`"
+    "put a `-` first or last in its list; a class can't be the end of a range"
+}
+
+/// The names of classes, with what closes them.
+static CLASSES: [&'static str; 12] = [
+    "alnum:]", "alpha:]", "blank:]", "cntrl:]", "digit:]", "graph:]", "lower:]", "print:]", "punct:]",
+    "space:]", "upper:]", "xdigit:]",
+];
+
+/// Whether the element is a class with a name that no class has.
+fn is_unknown_class(rest: &[u8]) -> bool {
+    match rest.strip_prefix(b"[:") {
+        Some(name) => !CLASSES.iter().any(|class| name.starts_with(class.as_bytes())),
+        None => false,
+    }
+}
+
+/// Whether the element is a range of two bytes, of which the first is the greater one.
+fn is_reversed(rest: &[u8]) -> bool {
+    let end = rest.get(2..).unwrap_or(&[]);
+    let last = if end.starts_with(b"\\n") {
+        Some(b'\n')
+    } else {
+        end.first().copied()
+    };
+    match (rest.first(), rest.get(1), last) {
+        (Some(first), Some(b'-'), Some(last)) => *first > last && !begins_class(end),
+        _ => false,
+    }
 }
 
 /// Whether the element is `[.` or `[=`, the same byte twice, and a `]`.
@@ -366,7 +400,7 @@ fn end_hint(spot: Spot) -> &'static str {
             "remove the blank before the flag: `s/a/b/p` for `s/a/b/ p`",
         (Some(b'y'), Some(b'g')) =>
             "`y` takes no flags, and always replaces every character: leave it out",
-        (Some(b':'), _) =>
+        (Some(b':' | b'b' | b't'), _) =>
             "a label can't contain blanks: write `:two_words`, and the same after `b` and `t`; a command follows a `;` or a newline",
         (_, Some(b'0'..=b'9')) if matches!(spot.previous(), Some(b'q' | b'l' | b'L')) => {
             "an exit status of `q` and a width of `l` are extensions of GNU sed: leave them out"
@@ -384,7 +418,7 @@ pub(crate) fn current_line(before: &[u8]) -> &[u8] {
     near.get(start.map_or(0, |at| at + 1)..).unwrap_or(&[])
 }
 
-/// Whether the line ends in `s`, `y` or `:` with all that it takes: the verb.
+/// Whether the line ends in `s`, `y`, `:`, `b` or `t` with all that it takes: the verb.
 pub(crate) fn ended_command(line: &[u8]) -> Option<u8> {
     for start in 0..line.len() {
         let before = line.get(..start).unwrap_or(&[]);
@@ -396,15 +430,20 @@ pub(crate) fn ended_command(line: &[u8]) -> Option<u8> {
     None
 }
 
-/// Whether the text is `s`, `y` or `:` with all that it takes, where this precedes it in its line.
+/// Whether the text is `s`, `y`, `:`, `b` or `t` with all that it takes, where this precedes it in its line.
 fn is_whole(before: &[u8], text: &[u8]) -> bool {
     let part = text.get(2..).unwrap_or(&[]);
     match (text.first(), text.get(1)) {
         (Some(b's'), Some(delimiter)) => ends_in_flags(part, *delimiter, b"gpIiemM0123456789"),
         (Some(b'y'), Some(delimiter)) => ends_in_flags(part, *delimiter, b""),
         (Some(b':'), _) => without_blanks(before).is_empty() && is_label(text),
+        (Some(b'b' | b't'), _) => !ends_in_letter(before) && is_label(text),
         _ => false,
     }
+}
+
+fn ends_in_letter(text: &[u8]) -> bool {
+    matches!(text.last(), Some(byte) if byte.is_ascii_alphabetic())
 }
 
 /// Whether a byte, and then bytes of labels and blanks are all of the text.

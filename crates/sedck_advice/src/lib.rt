@@ -6,8 +6,11 @@
 #![tactic(auto)]
 
 mod adding;
+mod comments;
 mod concerns;
+mod doubts;
 mod escapes;
+mod extended;
 mod foreign;
 mod hints;
 mod ignored;
@@ -15,6 +18,7 @@ mod lists;
 mod looks;
 mod mends;
 mod names;
+mod paths;
 mod slow;
 mod spot;
 mod weights;

@@ -3,15 +3,17 @@
 ghost use Rattle.std.specs.Prelude.{OnOk};
 ghost use Rattle.sedck_advice.specs.Added.{AddsNoError};
 
-use crate::lists::{Reading, is_blank};
-use crate::spot::behind_part;
+use crate::comments::silencing;
+use crate::extended::extended_in;
+use crate::lists::{is_blank, without_blanks};
 use sedck_report::{
     Code, Finding, Fix, Level, Position, end_behind, line_len, position_at, positions,
 };
 use sedck_script::Location;
 use std::alloc::{AllocError, Global};
 
-/// Warns of options in the first line, of a `}` after a label, and of the first expression that looks like an extended one.
+/// Warns of options in the first line, of a `}` after a label, of comments that begin with an `n`, and of the first text on the line of
+/// its command and the first expression that looks like an extended one.
 pub(crate) fn look_warnings(
     alloc: Global,
     findings: &mut Vec<Finding>,
@@ -24,6 +26,8 @@ pub(crate) fn look_warnings(
         push_look(alloc, findings, options_look(text))?;
     }
     brace_warnings(alloc, findings, text, locations)?;
+    comment_warnings(alloc, findings, text, locations)?;
+    text_warning(alloc, findings, text, locations)?;
     extended_warning(alloc, findings, text, locations)
 }
 
@@ -73,6 +77,96 @@ fn brace_look(position: Position) -> Look {
     }
 }
 
+/// A warning for each comment that some seds take for `#n`.
+fn comment_warnings(
+    alloc: Global,
+    findings: &mut Vec<Finding>,
+    text: &[u8],
+    locations: &[Location],
+) -> Result<(), AllocError>
+    ensures { OnOk result (AddsNoError findings.old.items findings.new.items) }
+{
+    let offsets = silencing(alloc, text, locations)?;
+    let places = positions(alloc, text, &offsets)?;
+    for position in &places {
+        push_look(alloc, findings, comment_look(text, *position))?;
+    }
+    Ok(())
+}
+
+/// What is said of a comment that begins with an `n`. At the script's start GNU sed takes it for `#n` too, so that no mend keeps both readings.
+fn comment_look(text: &[u8], position: Position) -> Look {
+    let end = end_behind(text, position, 2);
+    if position.offset == 0 {
+        return Look {
+            position,
+            end: Some(end),
+            code: Code::SilencingComment,
+            message: "GNU sed and BusyBox take this line for `#n`, and print no line on their own; other seds print",
+            hint: "if a comment is meant, insert a blank after the `#`; else write `#n` and nothing else on the first line",
+            fix: None,
+        };
+    }
+    let mark = end_behind(text, position, 1);
+    Look {
+        position,
+        end: Some(end),
+        code: Code::SilencingComment,
+        message: "BusyBox takes this comment for `#n`, and prints no line on its own",
+        hint: "insert a blank after the `#`",
+        fix: Some(Fix {
+            start: mark,
+            end: mark,
+            text: " ",
+        }),
+    }
+}
+
+/// A warning for the first text that is on the line of its command. Where one is written so, all are.
+fn text_warning(
+    alloc: Global,
+    findings: &mut Vec<Finding>,
+    text: &[u8],
+    locations: &[Location],
+) -> Result<(), AllocError>
+    ensures { OnOk result (AddsNoError findings.old.items findings.new.items) }
+{
+    for location in locations {
+        let command = text.get(location.verb..location.end).unwrap_or(&[]);
+        if let Some(given) = text_in_line(command) {
+            push_look(alloc, findings, text_look(position_at(text, location.verb), given))?;
+            return Ok(());
+        }
+    }
+    Ok(())
+}
+
+/// The text of `a`, `c` or `i` where it is on the line of the command.
+fn text_in_line(command: &[u8]) -> Option<&[u8]> {
+    let [b'a' | b'c' | b'i', rest @ ..] = command else {
+        return None;
+    };
+    let given = without_blanks(rest);
+    if given.starts_with(b"\\\n") { None } else { Some(given) }
+}
+
+/// What is said of a text on the line of its command. Where it begins with a backslash, `sed --posix` takes it.
+fn text_look(position: Position, given: &[u8]) -> Look {
+    let message = if given.starts_with(b"\\") {
+        "seds that know the form of the standard alone refuse a text on the line of its command"
+    } else {
+        "`sed --posix`, and seds that know the form of the standard alone, refuse a text on the line of its command"
+    };
+    Look {
+        position,
+        end: None,
+        code: Code::OneLineText,
+        message,
+        hint: "write `a\\`, a newline and the text",
+        fix: None,
+    }
+}
+
 /// A warning for the first expression that looks like an extended one.
 fn extended_warning(
     alloc: Global,
@@ -98,7 +192,7 @@ fn extended_look(position: Position) -> Look {
         end: None,
         code: Code::LooksExtended,
         message: "in a basic regular expression this is an ordinary character: is the script meant for `sed -E`?",
-        hint: "write `\\(` and `\\)` for a group, `\\{1,\\}` for `+` and `\\{0,1\\}` for `?`; there is no `|`. If the character is meant, put it into a bracket list, as in `[+]`",
+        hint: "write `\\(` and `\\)` for a group, `\\{1,\\}` for `+`, `\\{0,1\\}` for `?` and `\\{3\\}` for `{3}`; there is no `|`. If the character is meant, put it into a bracket list, as in `[+]`",
         fix: None,
     }
 }
@@ -176,137 +270,4 @@ fn braces(alloc: Global, text: &[u8], locations: &[Location]) -> Result<Vec<usiz
         }
     }
     Ok(offsets)
-}
-
-/// The first sign of an extended expression in what the command has of them.
-fn extended_in(text: &[u8], location: Location) -> Option<usize> {
-    if let Some(sign) = sign_in_address(text, location.start) {
-        return Some(sign);
-    }
-    if let Some(sign) = sign_in_second(text, location) {
-        return Some(sign);
-    }
-    match text.get(location.verb..).unwrap_or(&[]) {
-        [b's', delimiter, ..] => extended_at(text, location.verb.checked_add(2)?, *delimiter),
-        _ => None,
-    }
-}
-
-/// The first sign in the expression of the address that is here.
-fn sign_in_address(text: &[u8], at: usize) -> Option<usize> {
-    let (start, delimiter) = expression_at(text, at)?;
-    extended_at(text, start, delimiter)
-}
-
-/// The first sign in the expression of the command's second address.
-fn sign_in_second(text: &[u8], location: Location) -> Option<usize> {
-    let behind = text
-        .get(end_of_expression(text, location.start)..location.verb)
-        .unwrap_or(&[]);
-    let second = second_address(behind)?;
-    sign_in_address(text, location.verb.saturating_sub(second.len()))
-}
-
-/// What follows the expression of the address that is here; the same place where it has none.
-fn end_of_expression(text: &[u8], at: usize) -> usize {
-    let Some((start, delimiter)) = expression_at(text, at) else {
-        return at;
-    };
-    let rest = behind_part(text.get(start..).unwrap_or(&[]), delimiter);
-    text.len().saturating_sub(rest.len())
-}
-
-/// What follows the comma after a first address, and its blanks.
-fn second_address(behind: &[u8]) -> Option<&[u8]> {
-    let comma = behind.iter().position(|byte| *byte == b',')?;
-    let rest = behind.get(comma.checked_add(1)?..)?;
-    let blanks = rest.iter().position(|byte| !is_blank(*byte))?;
-    rest.get(blanks..)
-}
-
-/// Where the expression of an address begins that is here, and its delimiter.
-fn expression_at(text: &[u8], at: usize) -> Option<(usize, u8)> {
-    match text.get(at..).unwrap_or(&[]) {
-        [b'/', ..] => Some((at.checked_add(1)?, b'/')),
-        [b'\\', delimiter, ..] => Some((at.checked_add(2)?, *delimiter)),
-        _ => None,
-    }
-}
-
-/// The first sign of an extended expression in the one that begins there: `+`, `?` or an interval after a list, a `)` or a `.`, or
-/// a bar between parentheses.
-fn extended_at(text: &[u8], start: usize, delimiter: u8) -> Option<usize> {
-    let part = text.get(start..).unwrap_or(&[]);
-    let behind = behind_part(part, delimiter);
-    let length = part.len().saturating_sub(behind.len() + 1);
-    let mut seen = Seen::NOTHING;
-    for (index, byte) in part.iter().take(length).enumerate() {
-        if let Some(sign) = seen.sign_at(index, *byte, part.get(index + 1)) {
-            return start.checked_add(sign);
-        }
-        seen = seen.after(index, *byte);
-    }
-    None
-}
-
-/// What a reader of an expression has seen, as far as a sign of an extended one depends on it.
-#[derive(Clone, Copy)]
-struct Seen {
-    reading: Reading,
-    /// Whether a sign of repetition would be next to what it repeats.
-    may_repeat: bool,
-    is_open: bool,
-    /// Where the last bar after a parenthesis is.
-    bar: Option<usize>,
-}
-
-impl Seen {
-    const NOTHING: Seen = Seen {
-        reading: Reading::START,
-        may_repeat: false,
-        is_open: false,
-        bar: None,
-    };
-
-    /// Whether the next byte is neither in a list nor escaped.
-    fn is_plain(self) -> bool {
-        !self.reading.is_in_list() && !self.reading.is_escaped()
-    }
-
-    /// Where the sign is that is complete with this byte.
-    fn sign_at(self, index: usize, byte: u8, next: Option<&u8>) -> Option<usize> {
-        if !self.is_plain() {
-            return None;
-        }
-        match byte {
-            b'+' | b'?' if self.may_repeat => Some(index),
-            b'{' if self.may_repeat && is_digit(next) => Some(index),
-            b')' => self.bar,
-            _ => None,
-        }
-    }
-
-    /// What is seen after this byte.
-    fn after(self, index: usize, byte: u8) -> Seen {
-        let is_plain = self.is_plain();
-        let reading = self.reading.after(byte);
-        Seen {
-            reading,
-            may_repeat: (self.reading.is_in_list() && !reading.is_in_list())
-                || (is_plain && matches!(byte, b')' | b'.')),
-            is_open: self.is_open || (is_plain && byte == b'('),
-            bar: if is_plain && self.is_open && byte == b'|' {
-                Some(index)
-            } else {
-                self.bar
-            },
-        }
-    }
-}
-
-fn is_digit(byte: Option<&u8>) -> bool {
-    match byte {
-        Some(byte) => byte.is_ascii_digit(),
-        None => false,
-    }
 }

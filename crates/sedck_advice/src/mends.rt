@@ -110,7 +110,7 @@ fn expression_mend(fault: ReFault, spot: Spot) -> Option<Mend> {
 fn escape_mend(spot: Spot) -> Option<Mend> {
     let text = match *spot.rest.get(1)? {
         b'+' if is_repeatable(spot) => "\\{1,\\}",
-        b'?' if is_repeatable(spot) => "\\{0,1\\}",
+        b'?' if is_repeatable(spot) && !is_status(spot) => "\\{0,1\\}",
         b's' => "[[:space:]]",
         b'S' => "[^[:space:]]",
         b'w' => "[[:alnum:]_]",
@@ -128,7 +128,15 @@ fn comma_mend(spot: Spot) -> Option<Mend> {
     if spot.rest.starts_with(b"\\+") {
         return Some(replaced(2, "\\{1\\,\\}"));
     }
-    mend_where(spot.rest.starts_with(b"\\?"), replaced(2, "\\{0\\,1\\}"))
+    mend_where(
+        spot.rest.starts_with(b"\\?") && !is_status(spot),
+        replaced(2, "\\{0\\,1\\}"),
+    )
+}
+
+/// Whether `\$` is before the fault, so that the `$?` of a shell may be meant.
+fn is_status(spot: Spot) -> bool {
+    spot.inside().ends_with(b"\\$")
 }
 
 /// Whether something is before the fault that isn't repeated yet.

@@ -4,7 +4,12 @@ ghost use Rattle.std.specs.Prelude.{◌≡◌, IfOk, OnOk, map};
 ghost use Rattle.sedck_report.specs.Files.{names_of};
 ghost use Rattle.sedck_advice.specs.Added.{AddsNoError};
 
-use sedck_report::{Code, Finding, Level, NamedFile, Position, is_printable, shown_name};
+use crate::doubts::{
+    Doubt, byte_doubt, command_doubt, doubt_where, end_doubt, hidden_doubt, makefile_doubt,
+    option_doubt, path_doubt, shell_doubt, upward_doubt,
+};
+use crate::paths::{Paths, has_name};
+use sedck_report::{Code, Finding, Level, NamedFile, Position, shown_name};
 use sedck_script::{Access, Script, name_of};
 use std::alloc::{AllocError, Global};
 
@@ -56,8 +61,9 @@ pub(crate) fn name_warnings(
 ) -> Result<(), AllocError>
     ensures { OnOk result (AddsNoError findings.old.items findings.new.items) }
 {
-    side_warnings(alloc, findings, reads, writes, Access::Read)?;
-    side_warnings(alloc, findings, writes, reads, Access::Write)
+    let paths = Paths::of(alloc, reads, writes)?;
+    side_warnings(alloc, findings, reads, writes, &paths, Access::Read)?;
+    side_warnings(alloc, findings, writes, reads, &paths, Access::Write)
 }
 
 /// The warnings for the names of one side.
@@ -66,12 +72,13 @@ fn side_warnings(
     findings: &mut Vec<Finding>,
     files: &[NamedFile],
     others: &[NamedFile],
+    paths: &Paths,
     access: Access,
 ) -> Result<(), AllocError>
     ensures { OnOk result (AddsNoError findings.old.items findings.new.items) }
 {
     for file in files {
-        file_warnings(alloc, findings, file, others, access)?;
+        file_warnings(alloc, findings, file, others, paths, access)?;
     }
     Ok(())
 }
@@ -82,6 +89,7 @@ fn file_warnings(
     findings: &mut Vec<Finding>,
     file: &NamedFile,
     others: &[NamedFile],
+    paths: &Paths,
     access: Access,
 ) -> Result<(), AllocError>
     ensures { OnOk result (AddsNoError findings.old.items findings.new.items) }
@@ -92,7 +100,12 @@ fn file_warnings(
         byte_doubt(file.name),
         end_doubt(file.name),
         command_doubt(file.name),
+        hidden_doubt(file.name),
+        makefile_doubt(file.name),
+        option_doubt(file.name),
+        shell_doubt(file.name),
         both_doubt(file, others, access),
+        same_doubt(paths.is_shared(alloc, file.name)?),
     ];
     for doubt in doubts {
         if let Some(doubt) = doubt {
@@ -100,13 +113,6 @@ fn file_warnings(
         }
     }
     Ok(())
-}
-
-/// Why a name should be looked at twice: the finding's code, and the reason.
-#[derive(Clone, Copy)]
-struct Doubt {
-    code: Code,
-    reason: &'static str,
 }
 
 /// Adds the warning on the name for this reason, at the first command that names it.
@@ -138,93 +144,20 @@ fn push_warning(
     Ok(())
 }
 
-/// Names that some seds read as streams.
-static STREAMS: [&'static str; 3] = ["/dev/stdin", "/dev/stdout", "/dev/stderr"];
-
-/// Folders with devices among their files.
-static DEVICE_FOLDERS: [&'static str; 3] = ["/dev/", "/proc/", "/sys/"];
-
-fn path_doubt(name: &[u8]) -> Option<Doubt> {
-    if STREAMS.iter().any(|stream| stream.as_bytes() == name) {
-        return Some(Doubt {
-            code: Code::StreamName,
-            reason: "GNU sed reads it as a stream, other seds as a file",
-        });
-    }
-    let is_device = DEVICE_FOLDERS
-        .iter()
-        .any(|folder| name.starts_with(folder.as_bytes()));
-    if is_device {
-        return Some(Doubt {
-            code: Code::DeviceName,
-            reason: "it may not be a regular file, so reading or writing it may never end",
-        });
-    }
-    if name.starts_with(b"/") {
-        return Some(Doubt {
-            code: Code::AbsoluteName,
-            reason: "it is an absolute path",
-        });
-    }
-    None
-}
-
-fn upward_doubt(name: &[u8]) -> Option<Doubt> {
-    if !name
-        .split(|byte| *byte == b'/')
-        .any(|part| matches!(part, b".."))
-    {
-        return None;
-    }
-    Some(Doubt {
-        code: Code::UpwardName,
-        reason: "it leads out of the directory where the script runs",
-    })
-}
-
-fn byte_doubt(name: &[u8]) -> Option<Doubt> {
-    if name.iter().all(|byte| is_printable(*byte)) {
-        return None;
-    }
-    Some(Doubt {
-        code: Code::UnprintableName,
-        reason: "it contains bytes that a terminal may not show",
-    })
-}
-
-fn end_doubt(name: &[u8]) -> Option<Doubt> {
-    if !name.ends_with(b" ") {
-        return None;
-    }
-    Some(Doubt {
-        code: Code::BlankAtEnd,
-        reason: "it ends in a space",
-    })
-}
-
-fn command_doubt(name: &[u8]) -> Option<Doubt> {
-    if !name.iter().any(|byte| matches!(*byte, b';' | b'}' | b'#')) {
-        return None;
-    }
-    Some(Doubt {
-        code: Code::CommandInName,
-        reason: "a name goes on to the end of the line: was a command or a comment meant?",
-    })
-}
-
-/// Reported of the writing side alone.
+/// Of a name that the script reads too. Reported of the writing side alone.
 fn both_doubt(file: &NamedFile, others: &[NamedFile], access: Access) -> Option<Doubt> {
-    if access == Access::Read {
-        return None;
-    }
-    if others
-        .binary_search_by(|other| other.name.cmp(&file.name))
-        .is_err()
-    {
-        return None;
-    }
-    Some(Doubt {
-        code: Code::ReadAndWritten,
-        reason: "the script reads it too",
-    })
+    doubt_where(
+        access == Access::Write && has_name(others, file.name),
+        Code::ReadAndWritten,
+        "the script reads it too",
+    )
+}
+
+/// Of a name whose path is that of another one.
+fn same_doubt(is_shared: bool) -> Option<Doubt> {
+    doubt_where(
+        is_shared,
+        Code::SameFile,
+        "another name in the script leads to the same file, as `F` and `./F` do",
+    )
 }

@@ -7,9 +7,9 @@ ghost use Rattle.sedck_errors.specs.Errors.{first_position};
 
 use crate::steps::{position_of, step, target_step};
 use sedck_cert::{Cert, first_growth};
-use sedck_flow::Edge;
+use sedck_flow::{Edge, Kind, Node};
 use sedck_report::{Code, Finding, Level, Position, Step};
-use sedck_script::{Pattern, Script, Verb};
+use sedck_script::{Part, Pattern, Script, Substitution, Verb};
 use sedck_search::{Form, Walk};
 use std::alloc::{AllocError, Global};
 
@@ -88,7 +88,10 @@ fn loop_steps(
 /// How loops of this shape are repaired.
 fn loop_hint(script: &Script, walk: &Walk) -> &'static str {
     if has_verb(script, walk, VerbForm::Reading) {
-        return "branch only where a line was read: put the branch into a block with the `N` or `n`, as in `/x/{`, `N`, `b a`, `}` on lines of their own";
+        return reading_hint(script, walk);
+    }
+    if let Some(hint) = growth_hint(script, walk) {
+        return hint;
     }
     if has_verb(script, walk, VerbForm::Testing) {
         return test_hint(script, walk);
@@ -101,11 +104,68 @@ fn loop_hint(script: &Script, walk: &Walk) -> &'static str {
     }
 }
 
+/// How loops are repaired that have a command which may read a line, and doesn't.
+fn reading_hint(script: &Script, walk: &Walk) -> &'static str {
+    if has_verb(script, walk, VerbForm::Restarting) {
+        return "use `D` only where a line was read: put it into a block with the `N`, and end the last line by `d`, as in `$!{`, `N`, `P`, `D`, `}`, `P`, `d` on lines of their own for `$!N`, `P` and `D`";
+    }
+    "branch only where a line was read: put the branch into a block with the `N` or `n`, as in `/x/{`, `N`, `b a`, `}` on lines of their own"
+}
+
+/// How loops are repaired that lengthen the pattern space by what they match; nothing where that doesn't say more than others.
+fn growth_hint(script: &Script, walk: &Walk) -> Option<&'static str> {
+    if walk.form == Form::Idle {
+        return None;
+    }
+    if has_verb(script, walk, VerbForm::Copying) {
+        return Some(
+            "each round may copy what it matches, so don't write it out many times: the pattern space could double each time; move bytes instead of copying them, as docs/MENDING.md reverses a line",
+        );
+    }
+    if has_verb(script, walk, VerbForm::Padding) {
+        return Some(
+            "if the loop makes a line as long as it should be, add all that may be needed with one `s` and cut the rest off with a second one, as docs/MENDING.md pads a line; else repeat the command as often as it may be needed; then write `t c` and `:c`, since the loop leaves the flag of `t` unset",
+        );
+    }
+    None
+}
+
+/// What a replacement has of the match.
+#[derive(Clone, Copy)]
+enum Copies {
+    /// Some of it may be there twice.
+    Many,
+    /// The whole match once, and a text.
+    WholeAndText,
+    Other,
+}
+
+/// By the parts of the replacement. Groups that are in one another, or repeated, have no length outside of them.
+fn copies_of(substitution: &Substitution) -> Copies {
+    let mut wholes: usize = 0;
+    let mut groups: usize = 0;
+    for part in &substitution.parts {
+        match part {
+            Part::Whole => wholes = wholes.saturating_add(1),
+            Part::Group(_) => groups = groups.saturating_add(1),
+            _ => {}
+        }
+    }
+    if wholes == 1 && groups == 0 && substitution.literal > 0 {
+        return Copies::WholeAndText;
+    }
+    let is_counted = substitution.outside.is_some() || wholes.saturating_add(groups) < 2;
+    if is_counted { Copies::Other } else { Copies::Many }
+}
+
 /// How loops with `t` are repaired. They leave the flag unset, which a way without a loop must do too.
 fn test_hint(script: &Script, walk: &Walk) -> &'static str {
     match walk.form {
         Form::Idle if has_verb(script, walk, VerbForm::MatchingNothing) => {
             "an `s` that matches the empty string sets the flag too: make it match at least one byte, as in `s/^xx*//` for `s/^x*//`"
+        }
+        _ if has_earlier_flag(script, walk) => {
+            "`t` branches for any `s` since the last `t`, here for one that isn't the last: if the last one alone is meant, write `t c` and `:c` before it; else repeat the commands as often as it may be needed, and then write `t c` and `:c`"
         }
         Form::Idle if has_verb(script, walk, VerbForm::ReplacingAll) => {
             "repeat the command as often as it may be needed, and then write `t c` and `:c`, since the loop leaves the flag of `t` unset; or give the loop fuel, as docs/MENDING.md shows"
@@ -118,14 +178,41 @@ fn test_hint(script: &Script, walk: &Walk) -> &'static str {
     }
 }
 
+/// Whether a `t` branches by the flag that another `s` than the last one set. The walk is gone over twice, since it may begin between them.
+fn has_earlier_flag(script: &Script, walk: &Walk) -> bool {
+    let mut last = None;
+    let mut setter = None;
+    for edge in walk.nodes.windows(2).chain(walk.nodes.windows(2)) {
+        let [from, to] = edge else {
+            continue;
+        };
+        if is_at(script, *from, VerbForm::Substituting) {
+            last = Some(from.at);
+            if !from.flag && to.flag {
+                setter = last;
+            }
+        } else if is_at(script, *from, VerbForm::Testing)
+            && from.flag
+            && !to.flag
+            && setter != last
+        {
+            return setter.is_some();
+        }
+    }
+    false
+}
+
+/// Whether the node's command has such a verb.
+fn is_at(script: &Script, node: Node, form: VerbForm) -> bool {
+    match script.commands().get(usize::from(node.at)) {
+        Some(command) => is_of(&command.verb, form),
+        None => false,
+    }
+}
+
 /// Whether the loop has a command with such a verb.
 fn has_verb(script: &Script, walk: &Walk, form: VerbForm) -> bool {
-    walk.nodes.iter().any(|node| {
-        match script.commands().get(usize::from(node.at)) {
-            Some(command) => is_of(&command.verb, form),
-            None => false,
-        }
-    })
+    walk.nodes.iter().any(|node| is_at(script, *node, form))
 }
 
 /// Verbs that tell the shapes of loops apart.
@@ -133,6 +220,13 @@ fn has_verb(script: &Script, walk: &Walk, form: VerbForm) -> bool {
 enum VerbForm {
     Reading,
     Testing,
+    Substituting,
+    /// `s` that may copy a part of its match.
+    Copying,
+    /// `s` that adds a text to its match.
+    Padding,
+    /// `D`.
+    Restarting,
     /// `s` with the flag `g`.
     ReplacingAll,
     /// `s` with an expression that matches the empty text.
@@ -143,6 +237,14 @@ fn is_of(verb: &Verb, form: VerbForm) -> bool {
     match (form, verb) {
         (VerbForm::Reading, Verb::Next | Verb::NextAppend) => true,
         (VerbForm::Testing, Verb::Test(_)) => true,
+        (VerbForm::Substituting, Verb::Substitute(_)) => true,
+        (VerbForm::Copying, Verb::Substitute(substitution)) => {
+            matches!(copies_of(substitution), Copies::Many)
+        }
+        (VerbForm::Padding, Verb::Substitute(substitution)) => {
+            matches!(copies_of(substitution), Copies::WholeAndText)
+        }
+        (VerbForm::Restarting, Verb::DeleteFirstLine) => true,
         (VerbForm::ReplacingAll, Verb::Substitute(substitution)) => substitution.global,
         (VerbForm::MatchingNothing, Verb::Substitute(substitution)) => match &substitution.pattern {
             Pattern::Expr(expression) => expression.least() == 0,

@@ -10,4 +10,5 @@ returns c =
       | then-has_options+in_ok-push_look w ↦ rw w.findings-is w.in_ok-push_look.ensures
       | else-has_options w ↦ rw w.findings-is (no_error_none _)
     ] in
-    ok_no_error _ _ _ c.extended_warning.result (no_error_trans _ _ _ options c.in_ok-brace_warnings.ensures) c.extended_warning.ensures
+    let comments = no_error_trans _ _ _ (no_error_trans _ _ _ options c.in_ok-brace_warnings.ensures) c.in_ok-comment_warnings.ensures in
+    ok_no_error _ _ _ c.extended_warning.result (no_error_trans _ _ _ comments c.in_ok-text_warning.ensures) c.extended_warning.ensures

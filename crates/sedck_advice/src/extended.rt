@@ -1,0 +1,289 @@
+//! Signs of extended expressions in those of a script, which are read as basic ones.
+
+use crate::hints::is_of_label;
+use crate::lists::{Reading, is_blank};
+use crate::spot::behind_part;
+use sedck_script::Location;
+
+/// The first sign of an extended expression in what the command has of them.
+pub(crate) fn extended_in(text: &[u8], location: Location) -> Option<usize> {
+    if let Some(sign) = sign_in_address(text, location.start) {
+        return Some(sign);
+    }
+    if let Some(sign) = sign_in_second(text, location) {
+        return Some(sign);
+    }
+    match text.get(location.verb..).unwrap_or(&[]) {
+        [b's', delimiter, ..] => extended_at(text, location.verb.checked_add(2)?, *delimiter),
+        _ => None,
+    }
+}
+
+/// The first sign in the expression of the address that is here.
+fn sign_in_address(text: &[u8], at: usize) -> Option<usize> {
+    let (start, delimiter) = expression_at(text, at)?;
+    extended_at(text, start, delimiter)
+}
+
+/// The first sign in the expression of the command's second address.
+fn sign_in_second(text: &[u8], location: Location) -> Option<usize> {
+    let behind = text
+        .get(end_of_expression(text, location.start)..location.verb)
+        .unwrap_or(&[]);
+    let second = second_address(behind)?;
+    sign_in_address(text, location.verb.saturating_sub(second.len()))
+}
+
+/// What follows the expression of the address that is here; the same place where it has none.
+fn end_of_expression(text: &[u8], at: usize) -> usize {
+    let Some((start, delimiter)) = expression_at(text, at) else {
+        return at;
+    };
+    let rest = behind_part(text.get(start..).unwrap_or(&[]), delimiter);
+    text.len().saturating_sub(rest.len())
+}
+
+/// What follows the comma after a first address, and its blanks.
+fn second_address(behind: &[u8]) -> Option<&[u8]> {
+    let comma = behind.iter().position(|byte| *byte == b',')?;
+    let rest = behind.get(comma.checked_add(1)?..)?;
+    let blanks = rest.iter().position(|byte| !is_blank(*byte))?;
+    rest.get(blanks..)
+}
+
+/// Where the expression of an address begins that is here, and its delimiter.
+fn expression_at(text: &[u8], at: usize) -> Option<(usize, u8)> {
+    match text.get(at..).unwrap_or(&[]) {
+        [b'/', ..] => Some((at.checked_add(1)?, b'/')),
+        [b'\\', delimiter, ..] => Some((at.checked_add(2)?, *delimiter)),
+        _ => None,
+    }
+}
+
+/// The first sign of an extended expression in the one that begins there.
+fn extended_at(text: &[u8], start: usize, delimiter: u8) -> Option<usize> {
+    let part = text.get(start..).unwrap_or(&[]);
+    let behind = behind_part(part, delimiter);
+    let length = part.len().saturating_sub(behind.len()).saturating_sub(1);
+    let expression = part.get(..length).unwrap_or(&[]);
+    let mut seen = Seen::before(expression);
+    for (index, byte) in expression.iter().enumerate() {
+        let rest = expression.get(index.saturating_add(1)..).unwrap_or(&[]);
+        if let Some(sign) = seen.sign_at(index, *byte, rest) {
+            return start.checked_add(sign);
+        }
+        seen = seen.after(index, *byte);
+    }
+    None
+}
+
+/// What a reader of an expression has seen, as far as a sign of an extended one depends on it.
+#[derive(Clone, Copy)]
+struct Seen {
+    reading: Reading,
+    /// The byte before, where it is neither of a list nor escaped.
+    previous: Option<u8>,
+    /// Whether a list, a `)` or a `.` is before, which a sign of repetition would repeat.
+    may_repeat: bool,
+    /// Whether the byte before is of a word behind a backslash or an `@`, as TeX and Texinfo write commands.
+    is_markup: bool,
+    /// Whether a parenthesis is before.
+    is_open: bool,
+    /// Where the last bar after a parenthesis is.
+    bar: Option<usize>,
+    pair: Pair,
+}
+
+/// A pair of parentheses that may be a group.
+#[derive(Clone, Copy)]
+struct Pair {
+    /// Whether the whole expression has a `\(` or `\{`, so that its author means `(` as it is.
+    is_literal: bool,
+    /// Where it opens.
+    start: Option<usize>,
+    /// Whether that is after a `^`.
+    is_first: bool,
+    /// Whether it has a `*`, a list or a bar, as texts in parentheses seldom have.
+    has_operator: bool,
+}
+
+impl Seen {
+    /// What is seen before the expression.
+    fn before(expression: &[u8]) -> Seen {
+        Seen {
+            reading: Reading::START,
+            previous: None,
+            may_repeat: false,
+            is_markup: false,
+            is_open: false,
+            bar: None,
+            pair: Pair::none(has_basic_sign(expression)),
+        }
+    }
+
+    /// Whether the next byte is neither in a list nor escaped.
+    fn is_plain(self) -> bool {
+        !self.reading.is_in_list() && !self.reading.is_escaped()
+    }
+
+    /// Where the sign is that is complete with this byte, which these follow.
+    fn sign_at(self, index: usize, byte: u8, rest: &[u8]) -> Option<usize> {
+        if !self.is_plain() {
+            return None;
+        }
+        match byte {
+            b'+' | b'?' | b'{' if self.repeats(byte, rest) => Some(index),
+            b')' => self.bar.or(self.pair.sign_at(index, rest)),
+            b'^' if self.previous == Some(b'|') => index.checked_sub(1),
+            b'|' if self.previous == Some(b'$') && begins_alternative(rest) => Some(index),
+            _ => None,
+        }
+    }
+
+    /// Whether this `+`, `?` or `{` looks as if it repeats what is before.
+    fn repeats(self, byte: u8, rest: &[u8]) -> bool {
+        let Some(previous) = self.previous else {
+            return self.may_repeat && (byte != b'{' || begins_with_digit(rest));
+        };
+        match byte {
+            b'+' => self.may_repeat || (is_ordinary(previous) && matches!(rest, b"$")),
+            b'?' => self.may_repeat || (previous.is_ascii_alphabetic() && goes_on(rest)),
+            _ if self.may_repeat => begins_with_digit(rest),
+            _ => is_ordinary(previous) && !self.is_markup && is_interval(rest),
+        }
+    }
+
+    /// What is seen after this byte.
+    fn after(self, index: usize, byte: u8) -> Seen {
+        let is_plain = self.is_plain();
+        let reading = self.reading.after(byte);
+        let is_escaped = self.reading.is_escaped();
+        Seen {
+            reading,
+            previous: if is_plain && byte != b'\\' {
+                Some(byte)
+            } else {
+                None
+            },
+            may_repeat: (self.reading.is_in_list() && !reading.is_in_list())
+                || (is_plain && matches!(byte, b')' | b'.')),
+            is_markup: match byte {
+                b'\\' => is_escaped,
+                b'@' => is_plain,
+                _ => self.is_markup && byte.is_ascii_alphabetic(),
+            },
+            is_open: self.is_open || (is_plain && byte == b'('),
+            bar: if is_plain && self.is_open && byte == b'|' {
+                Some(index)
+            } else {
+                self.bar
+            },
+            pair: if is_plain {
+                self.pair.after(index, byte, self.previous)
+            } else {
+                self.pair
+            },
+        }
+    }
+}
+
+impl Pair {
+    /// No pair yet.
+    fn none(is_literal: bool) -> Pair {
+        Pair {
+            is_literal,
+            start: None,
+            is_first: false,
+            has_operator: false,
+        }
+    }
+
+    /// Where the sign is, where the pair is closed here and an anchor is next to it.
+    fn sign_at(self, index: usize, rest: &[u8]) -> Option<usize> {
+        let start = self.start?;
+        if self.is_literal || !self.has_operator {
+            return None;
+        }
+        if self.is_first {
+            return Some(start);
+        }
+        if matches!(rest, b"$") { Some(index) } else { None }
+    }
+
+    /// The pair after this byte, which is neither of a list nor escaped.
+    fn after(self, index: usize, byte: u8, previous: Option<u8>) -> Pair {
+        match (byte, self.start) {
+            (b'(', None) => Pair {
+                is_literal: self.is_literal,
+                start: Some(index),
+                is_first: previous == Some(b'^'),
+                has_operator: false,
+            },
+            (b')', _) => Pair::none(self.is_literal),
+            _ => Pair {
+                is_literal: self.is_literal,
+                start: self.start,
+                is_first: self.is_first,
+                has_operator: self.has_operator || matches!(byte, b'*' | b'[' | b'|'),
+            },
+        }
+    }
+}
+
+/// Whether the expression has a `\(` or a `\{`.
+fn has_basic_sign(expression: &[u8]) -> bool {
+    let mut reading = Reading::START;
+    for byte in expression {
+        if reading.is_escaped() && matches!(*byte, b'(' | b'{') {
+            return true;
+        }
+        reading = reading.after(*byte);
+    }
+    false
+}
+
+/// Whether the byte is one that nobody means to be next to a literal `+` at the end, nor to `{3}`. So not `$`, `#` and `%`, which
+/// begin names of other languages, and not `+`, as in `c++`.
+fn is_ordinary(byte: u8) -> bool {
+    byte.is_ascii_alphanumeric()
+        || is_blank(byte)
+        || matches!(byte, b'-' | b'_' | b'=' | b',' | b';' | b':' | b'/')
+}
+
+/// Whether a letter follows a `?`, and not a field of an address of the web, as in `page?id=1`.
+fn goes_on(rest: &[u8]) -> bool {
+    let name = rest.iter().position(|byte| !is_of_label(*byte));
+    let behind = rest.get(name.unwrap_or(rest.len())..).unwrap_or(&[]);
+    matches!(rest.first(), Some(byte) if byte.is_ascii_alphabetic()) && !behind.starts_with(b"=")
+}
+
+/// Whether what follows `$|` can be an alternative, and no use of Perl's variable.
+fn begins_alternative(rest: &[u8]) -> bool {
+    match rest.first() {
+        Some(byte) => !is_blank(*byte) && !matches!(*byte, b'=' | b'+' | b';'),
+        None => false,
+    }
+}
+
+/// Whether what follows a `{` is a number or two, and a `}`.
+fn is_interval(rest: &[u8]) -> bool {
+    let behind = without_digits(rest);
+    if !begins_with_digit(rest) {
+        return false;
+    }
+    let behind = match behind.strip_prefix(b",") {
+        Some(second) => without_digits(second),
+        None => behind,
+    };
+    behind.starts_with(b"}")
+}
+
+/// The text after the digits with which it begins.
+fn without_digits(text: &[u8]) -> &[u8] {
+    let digits = text.iter().position(|byte| !byte.is_ascii_digit());
+    text.get(digits.unwrap_or(text.len())..).unwrap_or(&[])
+}
+
+fn begins_with_digit(text: &[u8]) -> bool {
+    matches!(text.first(), Some(byte) if byte.is_ascii_digit())
+}

@@ -1,0 +1,64 @@
+//! Names that lead to one file, as `F` and `./F`.
+
+use sedck_report::NamedFile;
+use std::alloc::{AllocError, Global};
+
+/// The paths of all names of a script, in order, each once for each name.
+#[derive(Drop)]
+pub(crate) struct Paths {
+    sorted: Vec<Vec<u8>>,
+}
+
+impl Paths {
+    /// The paths of these names. A name that is on both sides counts once.
+    pub(crate) fn of(
+        alloc: Global,
+        reads: &[NamedFile],
+        writes: &[NamedFile],
+    ) -> Result<Paths, AllocError> {
+        let mut sorted: Vec<Vec<u8>> = Vec::new(alloc);
+        for file in reads {
+            sorted.push(path_of(alloc, file.name)?)?;
+        }
+        for file in writes {
+            if !has_name(reads, file.name) {
+                sorted.push(path_of(alloc, file.name)?)?;
+            }
+        }
+        sorted.sort()?;
+        Ok(Paths { sorted })
+    }
+
+    /// Whether another name has the path of this one.
+    pub(crate) fn is_shared(&self, alloc: Global, name: &[u8]) -> Result<bool, AllocError> {
+        let path = path_of(alloc, name)?;
+        let Ok(index) = self.sorted.binary_search(&path) else {
+            return Ok(false);
+        };
+        let before = index.checked_sub(1).and_then(|before| self.sorted.get(before));
+        let behind = self.sorted.get(index.saturating_add(1));
+        Ok(before == Some(&path) || behind == Some(&path))
+    }
+}
+
+/// Whether the files, which are sorted by name, have this one.
+pub(crate) fn has_name(files: &[NamedFile], name: &[u8]) -> bool {
+    files
+        .binary_search_by(|file| file.name.cmp(&name))
+        .is_ok()
+}
+
+/// The name without what leads nowhere: `./`, `/./` and the second of two slashes.
+fn path_of(alloc: Global, name: &[u8]) -> Result<Vec<u8>, AllocError> {
+    let mut path = Vec::new(alloc);
+    if name.starts_with(b"/") {
+        path.push(b'/')?;
+    }
+    for part in name.split(|byte| *byte == b'/') {
+        if !matches!(part, b"" | b".") {
+            path.extend_from_slice(part)?;
+            path.push(b'/')?;
+        }
+    }
+    Ok(path)
+}
