@@ -1,7 +1,8 @@
 //! What a reader of a script is advised: what to write in place of what is refused, by the fault and by what is around it; which files
 //! it names; and warnings of what looks as if something else was meant.
 //!
-//! Nothing is promised of these words by a contract, but that no warning is an error: tests follow each hint, and compare what sed makes
+//! A contract says which scripts are slow to match, and exactly which commands are warned of as a concern; of all other words it promises
+//! no more than that no warning is an error: tests follow each hint, and compare what sed makes
 //! of both scripts. What is wrong with a script is said in `sedck_errors`.
 #![tactic(auto)]
 

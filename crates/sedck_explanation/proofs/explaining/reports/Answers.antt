@@ -44,7 +44,7 @@ returns-clause-reports c =
     let slow : is_some c.slow_of-slow.result ≡ is_slow script = c.slow_of-slow.ensures in
     let status : c.status_under-status.result ≡ status_under c.args.denied (has_warning all) (is_slow script) answer =
     c.status_under-status.ensures.value
-    ∙ ap (λ warned. status_under c.args.denied warned c.is_some.result answer) (c.any_warning.ensures ∙ ap has_warning c.deref-9.ensures.value)
+    ∙ ap (λ warned. status_under c.args.denied warned c.is_some.result answer) (c.any_warning.ensures ∙ ap has_warning c.deref-10.ensures.value)
     ∙ ap (λ is. status_under c.args.denied (has_warning all) is answer) (c.is_some.ensures ∙ slow) in
     let of_answer : AreFindingsOf text positions answer begun =
     subst (λ (ps : List Position). AreFindingsOf text ps answer begun) c.deref-2.ensures.value c.in_ok-found.ensures in
@@ -61,7 +61,7 @@ returns-clause-reports c =
     (λ is. c.in_ok-add_warnings.ensures.warned
     (warned_of_is_warned Locale locale (c.in_ok-concern_warnings-2.ensures.exactly ∙ ap (λ has. is_warned_of Locale endless || has) is ∙ or_true (is_warned_of Locale endless)))) in
     let reported : AreReported text ignored all findings =
-    subst (λ (codes : List Code). AreReported text codes all findings) c.deref-12.ensures.value c.in_ok-findings.ensures in
+    subst (λ (codes : List Code). AreReported text codes all findings) c.deref-13.ensures.value c.in_ok-findings.ensures in
     let errors = errors_reported text positions answer ignored all findings c.status_under-status.result reported
     (errors_of text positions c.args.denied (is_slow script) answer found all c.status_under-status.result
     (findings_stay text positions answer begun found adds of_answer)
