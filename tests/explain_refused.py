@@ -28,7 +28,7 @@ ENDS = "for the ends of the pattern space write `^` and `$`"
 OTHER_BYTE = "write the character without the backslash, or in a bracket list, as in `[%]`"
 BRACKET = ("a delimiter in a bracket list ends the expression: use another one, as in `s,[/],x,` or `\\,[/],p`; in `[\\/]` some seds keep the "
            "backslash")
-DASH = "put a `-` first or last in its list, and a class inside a list, as in `[[:digit:]]`"
+REVERSED = "the ends of the range are the wrong way round: the one with the lower byte comes first, as in `[a-z]`"
 LONGER = "write a longer repetition as two, as in `a\\{255\\}a\\{45\\}`"
 GROUP = "a group is written `\\(` and `\\)`; literal parentheses are `(` and `)`"
 EACH = "for `/a\\|b/p` write `/a/b do`, `/b/b do`, `b on`, `:do`, `p` and `:on` on lines of their own"
@@ -116,8 +116,8 @@ REFUSED = [
     # expressions; the places behind escaped delimiters count these as the two bytes that they are in the script
     (b"p\n\ts/a\\+/b/\n", 2, 5, "bad-escape", NO_ESCAPE, "for `x\\+` write `x\\{1,\\}` or `xx*`"),
     (b"s/a\\/b\\/c\\+d/x/\n", 1, 10, "bad-escape", NO_ESCAPE, "for `x\\+` write `x\\{1,\\}` or `xx*`"),
-    (b"s/a\\\\\\/b\\?/x/\n", 1, 9, "bad-escape", NO_ESCAPE, "for `x\\?` write `x\\{0,1\\}`"),
-    (b"\\,[\\,]\\,\\?,p\n", 1, 9, "bad-escape", NO_ESCAPE, "for `x\\?` write `x\\{0\\,1\\}`, since `,` is the delimiter"),
+    (b"s/a\\\\\\/b\\?/x/\n", 1, 9, "bad-escape", NO_ESCAPE, "for `x\\?` write `x\\{0,1\\}`; if the character `?` is meant write `?`"),
+    (b"\\,[\\,]\\,\\?,p\n", 1, 9, "bad-escape", NO_ESCAPE, "for `x\\?` write `x\\{0\\,1\\}`, since `,` is the delimiter; if the character `?` is meant write `?`"),
     (b"/\\//,/\\/\\|/p\n", 1, 9, "bad-escape", NO_ESCAPE, "a range needs one expression, as `[ab]` for `a\\|b` or `xa\\{0,1\\}` for `x\\|xa`"),
     (b"/\\//!{/\\/\\|/p\n}", 1, 10, "bad-escape", NO_ESCAPE, EACH),
     (b"/\\s/p\n", 1, 2, "bad-escape", NO_ESCAPE, "for `\\s` write `[[:space:]]`"),
@@ -132,7 +132,7 @@ REFUSED = [
     (b"/\\x41/p\n", 1, 2, "bad-escape", NO_ESCAPE, BYTE),
     (b"/\\q/p\n", 1, 2, "bad-escape", NO_ESCAPE, OTHER_BYTE),
     (b"s/[/]/x/\n", 1, 3, "unclosed-bracket", "the bracket list isn't closed before the delimiter", BRACKET),
-    (b"s/[z-a]/x/\n", 1, 4, "bad-bracket", "invalid range, class or hyphen in a bracket list, or an element that seds read differently", DASH),
+    (b"s/[z-a]/x/\n", 1, 4, "bad-bracket", "invalid range, class or hyphen in a bracket list, or an element that seds read differently", REVERSED),
     (b"s/[^[:cntrl:]\x01-\xff]/x/\n", 1, 3, "empty-set", "the bracket list matches nothing", None),
     (b"s/\\(a/x/\n", 1, 3, "unclosed-group", "this group isn't closed", GROUP),
     (b"s/a\\)/x/\n", 1, 4, "unopened-group", "this `\\)` closes no group", GROUP),

@@ -65,8 +65,8 @@ fn repeat_hint(spot: Spot) -> &'static str {
         return "if the two characters `$?` are meant write `\\$?`; GNU sed reads `\\$\\?` as a `$` that may be missing: for that write `\\$\\{0,1\\}`, with `\\,` where the comma is the delimiter";
     }
     match (is_plus, spot.delimiter() == b',') {
-        (true, true) => "for `x\\+` write `xx*`, or `x\\{1\\,\\}`, since `,` is the delimiter; if the character `+` is meant write `+`",
-        (true, false) => "for `x\\+` write `x\\{1,\\}` or `xx*`; if the character `+` is meant write `+`",
+        (true, true) => "for `x\\+` write `xx*`, or `x\\{1\\,\\}`, since `,` is the delimiter",
+        (true, false) => "for `x\\+` write `x\\{1,\\}` or `xx*`",
         (false, true) => "for `x\\?` write `x\\{0\\,1\\}`, since `,` is the delimiter; if the character `?` is meant write `?`",
         (false, false) => "for `x\\?` write `x\\{0,1\\}`; if the character `?` is meant write `?`",
     }

@@ -106,10 +106,20 @@ fn loop_hint(script: &Script, walk: &Walk) -> &'static str {
 
 /// How loops are repaired that have a command which may read a line, and doesn't.
 fn reading_hint(script: &Script, walk: &Walk) -> &'static str {
-    if has_verb(script, walk, VerbForm::Restarting) {
+    if restarts(script, walk) {
         return "use `D` only where a line was read: put it into a block with the `N`, and end the last line by `d`, as in `$!{`, `N`, `P`, `D`, `}`, `P`, `d` on lines of their own for `$!N`, `P` and `D`";
     }
     "branch only where a line was read: put the branch into a block with the `N` or `n`, as in `/x/{`, `N`, `b a`, `}` on lines of their own"
+}
+
+/// Whether a `D` along the loop starts again without a line.
+fn restarts(script: &Script, walk: &Walk) -> bool {
+    for (node, kind) in walk.nodes.iter().zip(&walk.kinds) {
+        if *kind == Kind::Shorten && is_at(script, *node, VerbForm::Restarting) {
+            return true;
+        }
+    }
+    false
 }
 
 /// How loops are repaired that lengthen the pattern space by what they match; nothing where that doesn't say more than others.
