@@ -49,7 +49,8 @@ pub fn page_of(code: Code) -> &'static str {
         Code::LoopIdle | Code::LoopGrowing => "MENDING.md#repairing-loops",
         Code::DeniedReads | Code::DeniedWrites | Code::DeniedUnbounded | Code::DeniedWarnings =>
             "STRANGERS.md#scripts-of-strangers",
-        Code::RepeatedReference | Code::DeniedSlow => "STRANGERS.md#what-a-limit-on-steps-doesnt-limit",
+        Code::RepeatedReference | Code::DeniedSlow =>
+            "STRANGERS.md#what-a-limit-on-steps-doesnt-limit",
         Code::OptionsInFirstLine | Code::LooksExtended => {
             "TRUST.md#options-and-the-scripts-first-line"
         }
