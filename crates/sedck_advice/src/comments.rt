@@ -28,9 +28,7 @@ fn behind_command(text: &[u8], location: Location) -> usize {
         (Some(b's'), Some(b'#')) => {
             let comment = text.get(location.end..).unwrap_or(&[]);
             let length = comment.iter().position(|byte| *byte == b'\n');
-            location
-                .end
-                .saturating_add(length.unwrap_or(comment.len()))
+            location.end.saturating_add(length.unwrap_or(comment.len()))
         }
         _ => location.end,
     }

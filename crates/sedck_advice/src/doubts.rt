@@ -74,11 +74,7 @@ pub(crate) fn byte_doubt(name: &[u8]) -> Option<Doubt> {
 
 /// Of a blank at the end.
 pub(crate) fn end_doubt(name: &[u8]) -> Option<Doubt> {
-    doubt_where(
-        name.ends_with(b" "),
-        Code::BlankAtEnd,
-        "it ends in a space",
-    )
+    doubt_where(name.ends_with(b" "), Code::BlankAtEnd, "it ends in a space")
 }
 
 /// Of what may have been meant to follow the command.

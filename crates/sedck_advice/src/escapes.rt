@@ -67,7 +67,8 @@ fn repeat_hint(spot: Spot) -> &'static str {
     match (is_plus, spot.delimiter() == b',') {
         (true, true) => "for `x\\+` write `xx*`, or `x\\{1\\,\\}`, since `,` is the delimiter",
         (true, false) => "for `x\\+` write `x\\{1,\\}` or `xx*`",
-        (false, true) => "for `x\\?` write `x\\{0\\,1\\}`, since `,` is the delimiter; if the character `?` is meant write `?`",
+        (false, true) =>
+            "for `x\\?` write `x\\{0\\,1\\}`, since `,` is the delimiter; if the character `?` is meant write `?`",
         (false, false) => "for `x\\?` write `x\\{0,1\\}`; if the character `?` is meant write `?`",
     }
 }

@@ -207,7 +207,11 @@ impl Pair {
         if self.is_first {
             return Some(start);
         }
-        if matches!(rest, b"$") { Some(index) } else { None }
+        if matches!(rest, b"$") {
+            Some(index)
+        } else {
+            None
+        }
     }
 
     /// The pair after this byte, which is neither of a list nor escaped.

@@ -226,14 +226,16 @@ fn element_hint(rest: &[u8]) -> &'static str {
 
 /// The names of classes, with what closes them.
 static CLASSES: [&'static str; 12] = [
-    "alnum:]", "alpha:]", "blank:]", "cntrl:]", "digit:]", "graph:]", "lower:]", "print:]", "punct:]",
-    "space:]", "upper:]", "xdigit:]",
+    "alnum:]", "alpha:]", "blank:]", "cntrl:]", "digit:]", "graph:]", "lower:]", "print:]",
+    "punct:]", "space:]", "upper:]", "xdigit:]",
 ];
 
 /// Whether the element is a class with a name that no class has.
 fn is_unknown_class(rest: &[u8]) -> bool {
     match rest.strip_prefix(b"[:") {
-        Some(name) => !CLASSES.iter().any(|class| name.starts_with(class.as_bytes())),
+        Some(name) => !CLASSES
+            .iter()
+            .any(|class| name.starts_with(class.as_bytes())),
         None => false,
     }
 }

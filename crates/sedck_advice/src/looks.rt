@@ -134,7 +134,11 @@ fn text_warning(
     for location in locations {
         let command = text.get(location.verb..location.end).unwrap_or(&[]);
         if let Some(given) = text_in_line(command) {
-            push_look(alloc, findings, text_look(position_at(text, location.verb), given))?;
+            push_look(
+                alloc,
+                findings,
+                text_look(position_at(text, location.verb), given),
+            )?;
             return Ok(());
         }
     }
@@ -147,7 +151,11 @@ fn text_in_line(command: &[u8]) -> Option<&[u8]> {
         return None;
     };
     let given = without_blanks(rest);
-    if given.starts_with(b"\\\n") { None } else { Some(given) }
+    if given.starts_with(b"\\\n") {
+        None
+    } else {
+        Some(given)
+    }
 }
 
 /// What is said of a text on the line of its command. Where it begins with a backslash, `sed --posix` takes it.

@@ -35,7 +35,9 @@ impl Paths {
         let Ok(index) = self.sorted.binary_search(&path) else {
             return Ok(false);
         };
-        let before = index.checked_sub(1).and_then(|before| self.sorted.get(before));
+        let before = index
+            .checked_sub(1)
+            .and_then(|before| self.sorted.get(before));
         let behind = self.sorted.get(index.saturating_add(1));
         Ok(before == Some(&path) || behind == Some(&path))
     }
@@ -43,9 +45,7 @@ impl Paths {
 
 /// Whether the files, which are sorted by name, have this one.
 pub(crate) fn has_name(files: &[NamedFile], name: &[u8]) -> bool {
-    files
-        .binary_search_by(|file| file.name.cmp(&name))
-        .is_ok()
+    files.binary_search_by(|file| file.name.cmp(&name)).is_ok()
 }
 
 /// The name without what leads nowhere: `./`, `/./` and the second of two slashes.

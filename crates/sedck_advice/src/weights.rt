@@ -256,4 +256,3 @@ pub(crate) fn weight_of(commands: &[Command]) -> Weight
     }
     weight
 }
-

@@ -95,7 +95,11 @@ fn push_files(
     ensures warnings { OnOk result (has_warning findings.new.items ≡ has_warning findings.old.items) }
 {
     if is_denied {
-        let does = if code == Code::DeniedReads { "reads" } else { "writes" };
+        let does = if code == Code::DeniedReads {
+            "reads"
+        } else {
+            "writes"
+        };
         return push_each_file(alloc, findings, files, code, does);
     }
     Ok(())

@@ -165,7 +165,11 @@ fn copies_of(substitution: &Substitution) -> Copies {
         return Copies::WholeAndText;
     }
     let is_counted = substitution.outside.is_some() || wholes.saturating_add(groups) < 2;
-    if is_counted { Copies::Other } else { Copies::Many }
+    if is_counted {
+        Copies::Other
+    } else {
+        Copies::Many
+    }
 }
 
 /// How loops with `t` are repaired. They leave the flag unset, which a way without a loop must do too.

@@ -139,11 +139,7 @@ impl ScriptCounts {
         let others = self.refused.saturating_add(self.unreadable);
         let scripts = known.saturating_add(others);
         out.grouped(scripts as u64);
-        out.text(if scripts == 1 {
-            " script"
-        } else {
-            " scripts"
-        });
+        out.text(if scripts == 1 { " script" } else { " scripts" });
         let rejected = if may_be_denied {
             " with a loop or denied"
         } else {

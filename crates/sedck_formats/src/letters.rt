@@ -110,8 +110,13 @@ fn push_first(alloc: Global, shown: &mut String, bytes: &[u8]) -> Result<usize, 
 /// The character with which the bytes begin, where it can be seen, and how many bytes it has.
 fn shown_letter_of(bytes: &[u8]) -> Option<(char, usize)> {
     let (letter, length) = first_letter(bytes)?;
-    let is_seen = letter == ' ' || !(letter.is_control() || letter.is_whitespace() || is_unseen(letter));
-    if is_seen { Some((letter, length)) } else { None }
+    let is_seen = letter == ' '
+        || !(letter.is_control() || letter.is_whitespace() || is_unseen(letter));
+    if is_seen {
+        Some((letter, length))
+    } else {
+        None
+    }
 }
 
 /// Whether the character has no shape of its own, or turns what is around it: Unicode's `Default_Ignorable_Code_Point` and `Bidi_Control`,

@@ -88,7 +88,7 @@ fn joined(
 ) -> Result<LinePart, AllocError> {
     Ok(LinePart {
         shown: format!(in alloc; "{front}{left}{right}{back}")?,
-        before: front.len().saturating_add(left.len()),
+        before: front.len().saturating_add(left.chars().count()),
     })
 }
 

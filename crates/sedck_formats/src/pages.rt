@@ -50,7 +50,8 @@ pub fn page_of(code: Code) -> &'static str {
         Code::DeniedReads | Code::DeniedWrites | Code::DeniedUnbounded | Code::DeniedWarnings =>
             "STRANGERS.md#scripts-of-strangers",
         Code::Locale => "TRUST.md#the-locale",
-        Code::RepeatedReference | Code::DeniedSlow => "STRANGERS.md#what-a-limit-on-steps-doesnt-limit",
+        Code::RepeatedReference | Code::DeniedSlow =>
+            "STRANGERS.md#what-a-limit-on-steps-doesnt-limit",
         Code::OptionsInFirstLine | Code::LooksExtended => {
             "TRUST.md#options-and-the-scripts-first-line"
         }

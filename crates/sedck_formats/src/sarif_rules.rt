@@ -32,7 +32,8 @@ fn meaning_of(code: Code) -> &'static str {
         Code::BadAddress => "No address where one is expected, or an invalid line number",
         Code::TooManyAddresses => "More addresses than the command takes",
         Code::Unterminated => "A delimiter is missing or invalid",
-        Code::BadReplacement => "An unknown escape in a replacement, or a group that the expression does not have",
+        Code::BadReplacement =>
+            "An unknown escape in a replacement, or a group that the expression does not have",
         Code::BadFlag => "An unknown flag of s, or the same flag twice",
         Code::BadTransliteration => "The lists of y differ in length, or one has an unknown escape",
         Code::MissingText => "No text after a, i or c",
@@ -44,12 +45,14 @@ fn meaning_of(code: Code) -> &'static str {
         Code::UnclosedBlock => "A { that is not closed",
         Code::TooDeep => "A block inside 64 others, or a group inside 32",
         Code::TooManyCommands => "More than 4,095 commands",
-        Code::ExtraText => "Unexpected text after a command, or a byte there that seds read differently",
+        Code::ExtraText =>
+            "Unexpected text after a command, or a byte there that seds read differently",
         Code::NoPreviousExpression => "An empty expression in a script that has no other",
         Code::EscapedDelimiter => "A backslash before a delimiter that cannot be escaped",
         Code::TrailingBackslash => "An expression ends in a lone backslash",
         Code::BadEscape => "An escape that POSIX does not define in an expression",
-        Code::UnclosedBracket => "A bracket list, or a class in one, is not closed before the delimiter",
+        Code::UnclosedBracket =>
+            "A bracket list, or a class in one, is not closed before the delimiter",
         Code::BadBracket => "An invalid range, class or hyphen in a bracket list",
         Code::EmptySet => "A bracket list that matches nothing",
         Code::UnclosedGroup => "A group that is not closed",

@@ -2,7 +2,9 @@
 
 use crate::markup::{push_place, push_prose};
 use sedck_explanation::{Finding, Step};
-use sedck_formats::{Shown, Written, command_line, level_word, listed_steps, page_of, push_left_out};
+use sedck_formats::{
+    Shown, Written, command_line, level_word, listed_steps, page_of, push_left_out,
+};
 use std::alloc::AllocError;
 
 /// The most characters of a line that are shown beside a step.

@@ -43,8 +43,19 @@ fn push_graph(out: &mut Written, shown: &Shown, flow: &Flow) {
     push_legend(out, !flow.bold.is_empty());
     out.text("  start [shape=point];\n  start -> n0;\n  start -> n1;\n");
     for node in &flow.nodes {
-        let after_end = if node.last { "the run ends" } else { "next cycle" };
-        push_box(out, shown, node.index(), node.at, flags_of(*node), after_end);
+        let after_end = if node.last {
+            "the run ends"
+        } else {
+            "next cycle"
+        };
+        push_box(
+            out,
+            shown,
+            node.index(),
+            node.at,
+            flags_of(*node),
+            after_end,
+        );
     }
     for edge in &flow.edges {
         push_edge(out, *edge, is_of_loop(&flow.bold, *edge));

@@ -2,7 +2,9 @@
 
 use sedck_explanation::{Explanation, Finding, Position};
 use sedck_flow::Kind;
-use sedck_formats::{Names, Shown, Written, answer_word, command_line, excerpt, kind_word, place_words};
+use sedck_formats::{
+    Names, Shown, Written, answer_word, command_line, excerpt, kind_word, place_words,
+};
 use std::alloc::AllocError;
 
 /// The most characters of a line that are shown in a box.
