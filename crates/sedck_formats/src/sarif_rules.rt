@@ -84,9 +84,12 @@ fn meaning_of(code: Code) -> &'static str {
         Code::BraceBehindLabel => "A } right behind a label, which some seds read as a part of it",
         Code::LooksExtended => "Bytes that look like an extended regular expression",
         Code::OneLineText => "A text on the line of its command, which POSIX does not have",
-        Code::SilencingComment => "A comment that begins with n, by which BusyBox prints nothing by itself",
-        Code::RepeatedReference => "A group is repeated that has a reference in it, or to which there is one",
-        Code::Locale => "Bytes that are part of a character in a locale of UTF-8, where sed then reads another script",
+        Code::SilencingComment =>
+            "A comment that begins with n, by which BusyBox prints nothing by itself",
+        Code::RepeatedReference =>
+            "A group is repeated that has a reference in it, or to which there is one",
+        Code::Locale =>
+            "Bytes that are part of a character in a locale of UTF-8, where sed then reads another script",
         Code::StreamName => "The name of a standard stream, which some seds read as a file",
         Code::DeviceName => "The name of what may be no regular file",
         Code::AbsoluteName => "An absolute path",
