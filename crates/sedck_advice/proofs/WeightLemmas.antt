@@ -1,54 +1,23 @@
--- Expressions that may be slow: one item more, and one expression more.
-use Rattle.std.proofs.Common.{◌≡◌, ◌⊎◌, inl, inr, nat_lt, Option, Some, None, ◌∙◌, ◌||◌, ◌&&◌, ℕ, ◌+◌, ◌<◌, ◌≤◌, min, Bool, true, false, List, [], ◌∷◌, ◌++◌, drop, get_or, length, map, refl, sym, ap, subst, arith}
-use Rattle.std.specs.Prelude.{flat_map, sum_by}
+-- What is known of expressions with one item or one command more, and warnings that are added.
+use Rattle.std.proofs.Common.{◌≡◌, Option, Some, None, ◌∙◌, ◌||◌, ◌&&◌, ℕ, ◌+◌, ◌<◌, min, Bool, true, false, List, [], ◌∷◌, ◌++◌, map, refl, sym, ap, subst, arith}
+use Rattle.std.specs.Prelude.{sum_by}
 use Rattle.std.specs.List.{list_any}
-use Rattle.std.proofs.lemmas.Bool.{cases_lt, false≢true}
-use Rattle.std.proofs.lemmas.Bool.Decides.{nat_tests}
-use Rattle.std.proofs.lemmas.List.{at_drop_more, at_drop_all}
-use Rattle.std.proofs.lemmas.List.Concat.{flat_map-append}
+use Rattle.std.proofs.lemmas.Bool.{false≢true}
 use Rattle.std.proofs.lemmas.List.Folds.{list_any-append}
-use Rattle.std.proofs.lemmas.List.Sums.{sum_by-append, sum_by_push}
-use Rattle.sedck_bre.specs.Tree.{Tree, Trees, trees, Nil, Then}
+use Rattle.std.proofs.lemmas.List.Sums.{sum_by_push}
+use Rattle.sedck_bre.specs.Tree.{trees}
 use Rattle.sedck_bre.specs.Lengths.{cap}
 use Rattle.sedck_bre.specs.View.{tree}
 use Rattle.sedck_bre.specs.declared.tree.Bre.{Bre}
 use Rattle.sedck_bre.proofs.CappedSums.{capped_sum}
 use Rattle.sedck_report.specs.Levels.{is_warning, has_warning}
 use Rattle.sedck_report.specs.declared.finding.Finding.{Finding}
-use Rattle.sedck_script.specs.Program.{Pattern, Command, pattern_expressions}
+use Rattle.sedck_script.specs.Program.{Command}
 use Rattle.sedck_advice.specs.declared.concerns.Concern.{Concern}
-use Rattle.sedck_advice.specs.Concerns.{is_code_of, is_warned_of, repeats_byte}
-use Rattle.sedck_advice.specs.Slow.{repeats_group, repeats_reference, written_out, all_written_out, copies, command_expressions, item_limit}
+use Rattle.sedck_advice.specs.Concerns.{is_code_of, is_warned_of}
+use Rattle.sedck_advice.specs.Slow.{repeats_reference, written_out, all_written_out, copies, command_expressions}
 use Rattle.sedck_advice.specs.Private.Weights.{Weighs, WeighsAll}
 use Rattle.sedck_advice.specs.declared.weights.Weight.{Weight}
-
-none_first : (a b : Bool) → a ≡ false → (a || b) ≡ b
-none_first a b is = rw is refl
-
-one_first : (a b : Bool) → a ≡ true → (a || b) ≡ true
-one_first a b is = rw is refl
-
--- A test of trees, one after another, by a test of one of them: where the one at this place doesn't pass, those behind it decide.
-pub passed_by : (one : Tree → Bool) (some : Trees → Bool) → ((t : Tree) (ts : Trees) → some (Then t ts) ≡ (one t || some ts))
-    → (items : List Bre) (i : ℕ) (d : Bre) → i < length items → one (tree (get_or items i d)) ≡ false
-    → some (trees (map tree (drop i items))) ≡ some (trees (map tree items))
-    → some (trees (map tree (drop (i + 1) items))) ≡ some (trees (map tree items))
-passed_by one some step items i d below none known =
-    let split = at_drop_more (λ (xs : List Bre). some (trees (map tree xs))) items i d below in
-    sym (split ∙ step (tree (get_or items i d)) (trees (map tree (drop (i + 1) items))) ∙ none_first _ _ none) ∙ known
-
-pub passes : (one : Tree → Bool) (some : Trees → Bool) → ((t : Tree) (ts : Trees) → some (Then t ts) ≡ (one t || some ts))
-    → (items : List Bre) (i : ℕ) (d : Bre) → i < length items → one (tree (get_or items i d)) ≡ true
-    → some (trees (map tree (drop i items))) ≡ some (trees (map tree items))
-    → true ≡ some (trees (map tree items))
-passes one some step items i d below is known =
-    let split = at_drop_more (λ (xs : List Bre). some (trees (map tree xs))) items i d below in
-    sym (split ∙ step (tree (get_or items i d)) (trees (map tree (drop (i + 1) items))) ∙ one_first _ _ is) ∙ known
-
-pub all_passed_by : (some : Trees → Bool) → some Nil ≡ false → (items : List Bre) (i : ℕ) → length items ≤ i
-    → some (trees (map tree (drop i items))) ≡ some (trees (map tree items))
-    → false ≡ some (trees (map tree items))
-all_passed_by some none items i above known = sym (at_drop_all (λ (xs : List Bre). some (trees (map tree xs))) items i above ∙ none) ∙ known
 
 -- ---- Items that are written out
 
@@ -57,49 +26,11 @@ pub written_out-push : (inside : Bool) (xs : List Bre) (x : Bre)
 written_out-push inside [] x = omega arith
 written_out-push inside (y ∷ xs) x = let h = written_out-push inside xs x in omega (arith, h)
 
--- ---- Expressions
-
-pub nothing_weighs : Weighs [] (record { group = false; reference = false; byte = false; items = 0 })
-nothing_weighs = record { group = refl; reference = refl; byte = refl; items = refl }
-
-pub weighs_same : (xs ys : List Tree) (w : Weight) → xs ≡ ys → Weighs ys w → Weighs xs w
-weighs_same xs ys w is weighs = subst (λ (ts : List Tree). Weighs ts w) (sym is) weighs
-
-pub both_weigh : (xs ys : List Tree) (a b w : Weight) → Weighs xs a → Weighs ys b → w.group ≡ (a.group || b.group)
-    → w.reference ≡ (a.reference || b.reference) → w.byte ≡ (a.byte || b.byte)
-    → w.items ≡ min (min (a.items + b.items) 4294967295) cap → Weighs (xs ++ ys) w
-both_weigh xs ys a b w one two group reference byte items = record {
-  group = group ∙ ap (λ r. r || b.group) one.group ∙ ap (λ r. list_any repeats_group xs || r) two.group
-      ∙ sym (list_any-append repeats_group xs ys);
-  reference = reference ∙ ap (λ r. r || b.reference) one.reference ∙ ap (λ r. list_any repeats_reference xs || r) two.reference
-      ∙ sym (list_any-append repeats_reference xs ys);
-  byte = byte ∙ ap (λ r. r || b.byte) one.byte ∙ ap (λ r. list_any repeats_byte xs || r) two.byte
-      ∙ sym (list_any-append repeats_byte xs ys);
-  items = items ∙ ap (λ n. min (min (n + b.items) 4294967295) cap) one.items
-      ∙ ap (λ n. min (min (min (sum_by (written_out false) xs) cap + n) 4294967295) cap) two.items
-      ∙ capped_sum (sum_by (written_out false) xs) (sum_by (written_out false) ys)
-      ∙ ap (λ n. min n cap) (sym (sum_by-append (written_out false) xs ys));
-}
-
-pub expressions-append : (ps qs : List Pattern) → flat_map pattern_expressions (ps ++ qs) ≡ flat_map pattern_expressions ps ++ flat_map pattern_expressions qs
-expressions-append ps qs = flat_map-append pattern_expressions ps qs
+-- ---- Commands
 
 or_false : (a : Bool) → (a || false) ≡ a
 or_false true = refl
 or_false false = refl
-
-plus_zero : (n : ℕ) → 0 + n ≡ n
-plus_zero n = omega arith
-
--- one expression alone
-pub one_weighs : (t : Tree) (w : Weight) → w.group ≡ repeats_group t → w.reference ≡ repeats_reference t → w.byte ≡ repeats_byte t → w.items ≡ min (written_out false t) cap
-    → Weighs (t ∷ []) w
-one_weighs t w group reference byte items = record {
-  group = group ∙ sym (or_false (repeats_group t));
-  reference = reference ∙ sym (or_false (repeats_reference t));
-  byte = byte ∙ sym (or_false (repeats_byte t));
-  items = items ∙ ap (λ n. min n cap) (sym (plus_zero (written_out false t)));
-}
 
 any-push : (p : Command → Bool) (cs : List Command) (c : Command) → list_any p (cs ++ c ∷ []) ≡ (list_any p cs || p c)
 any-push p cs c = list_any-append p cs (c ∷ []) ∙ ap (λ b. list_any p cs || b) (or_false (p c))
@@ -121,18 +52,6 @@ weighs_more cs more c w own new is all one reference items = subst (λ (ds : Lis
 pub copies_positive : (least : ℕ) (most : Option ℕ) → 0 < copies least most
 copies_positive least None = omega arith
 copies_positive least (Some most) = omega arith
-
--- a capped number is above the limit where the number is
-pub above_limit : (n items : ℕ) → items ≡ min n cap → nat_lt item_limit items ≡ nat_lt item_limit n
-above_limit n items is = go (cases_lt item_limit n)
-  where
-    go : (item_limit < n) ⊎ (n ≤ item_limit) → nat_lt item_limit items ≡ nat_lt item_limit n
-    go (inl less) =
-        let above : item_limit < items = omega (arith, is) in
-        grind (arith, nat_tests)
-    go (inr more) =
-        let below : items ≤ item_limit = omega (arith, is) in
-        grind (arith, nat_tests)
 
 -- ---- Warnings
 
