@@ -94,7 +94,7 @@ fn comment_warnings(
     Ok(())
 }
 
-/// What is said of a comment that begins with an `n`. At the script's start GNU sed takes it for `#n` too, so that no mend keeps both readings.
+/// What is said of a comment that begins with an `n`. At the start of a script GNU sed takes it for `#n` too: no mend keeps both readings.
 fn comment_look(text: &[u8], position: Position) -> Look {
     let end = end_behind(text, position, 2);
     if position.offset == 0 {
