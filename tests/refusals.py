@@ -297,6 +297,8 @@ EXPLAINED = [
     (["script"], {"script": NEXT_LINE}, 0),
     (["script"], {"script": PARTS}, 0),
     (["script"], {"script": "r ../a b \nw /dev/tty;\nr /x\nw /x\n$!N\nG\n"}, 0),
+    (["script"], {"script": "w ./F\nr F\nw .x'\n#now\na x\ny/\xe9/a/\n"}, 0),
+    (["--deny", "slow,warnings", "script"], {"script": "s/\\(\\(a*\\)\\2\\)*//\ns/\\(a\\{255\\}\\)\\{9\\}\xe9*//\n"}, 1),
     (["script"], {"script": IDLE}, 1),
     (["script"], {"script": GROWING}, 1),
     (["script"], {"script": ":a\n$!N\ns/a/b/\nba\n"}, 1),
@@ -425,7 +427,7 @@ def call_in_turn(program, shim, words, expected, names):
 def write_files(folder, files):
     """Writes the files of a run."""
     for name, text in files.items():
-        with open(os.path.join(folder, name), "w", encoding="ascii", newline="\n") as file:
+        with open(os.path.join(folder, name), "w", encoding="latin-1", newline="\n") as file:
             file.write(text)
 
 
