@@ -102,17 +102,17 @@ fn push_excerpt(out: &mut Written, shown: &Shown, position: Position) {
 fn push_wrapped(out: &mut Written, front: &str, words: &str) {
     out.text(front);
     let mut width = front.len();
-    let mut between = "";
+    let mut is_first = true;
     for word in words.split(' ') {
         if width >= REFUSAL_WIDTH {
             out.text("\\l");
             width = 0;
-            between = "";
+            is_first = true;
         }
-        out.text(between);
+        out.text(if is_first { "" } else { " " });
         push_escaped(out, word);
         width = width.saturating_add(word.len()).saturating_add(1);
-        between = " ";
+        is_first = false;
     }
     out.text("\\l");
 }
