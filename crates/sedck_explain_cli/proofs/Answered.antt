@@ -3,7 +3,7 @@ use Rattle.std.proofs.Common.{◌≡◌, ℕ, true, false, List, Option, Some, i
 use Rattle.std.specs.declared.alloc.Global.{Global}
 use Rattle.sedck_engines.specs.Opened.{Known}
 use Rattle.sedck_errors.specs.declared.denied.Denied.{Denied}
-use Rattle.sedck_calls_in_files.specs.Scanned.{Holds, PathStatus, IsWorstOf}
+use Rattle.sedck_calls_in_files.specs.Scanned.{Holds}
 use Rattle.sedck_explain_cli.specs.CallStatus.{HasCallStatus}
 use Rattle.sedck_explain_cli.specs.Readings.{texts_of}
 use Rattle.sedck_explain_cli.specs.Requests.{scripts_of, IsRequest}
@@ -13,14 +13,6 @@ use Rattle.sedck_explain_cli.specs.Statuses.{IsGreatest, StatusAt}
 use Rattle.sedck_explain_cli.specs.Answers.{call_of, asks_for_help, IsStatusOfCall, HasStatusFor, IsAnswered}
 
 -- ---- By what is asked for
-
-pub files_status : (k : Known) (found : List ℕ → List ℕ → Option Holds) (request : Request) (call : Option (List (List ℕ))) (status : ℕ)
-    → request.calls ≡ true → IsWorstOf (PathStatus k found request.denied) 0 (scripts_of request) status → HasStatusFor k found request call status
-files_status k found request call status calls has = rw calls has
-
-pub call_status : (k : Known) (found : List ℕ → List ℕ → Option Holds) (request : Request) (call : Option (List (List ℕ))) (status : ℕ)
-    → request.calls ≡ false → request.sed ≡ true → IsStatusOfCall k request.denied call status → HasStatusFor k found request call status
-call_status k found request call status calls sed has = rw (calls, sed) has
 
 pub scripts_status : (k : Known) (found : List ℕ → List ℕ → Option Holds) (request : Request) (call : Option (List (List ℕ))) (status : ℕ)
     → request.calls ≡ false → request.sed ≡ false → IsGreatest (StatusAt k request) (scripts_of request) status
