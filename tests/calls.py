@@ -3,11 +3,13 @@
 
 Two other readers of words judge `sedck-explain --sed`: Python's `getopt`, which gives the script, and the sed of this machine, where
 it is GNU's, which says whether it takes the words. What is said of the script of a call has to be what is said of the same text in a
-file, at the same offsets. A table has what `getopt` can't read: `-i`, `-I` and options of other languages.
+file, at the same offsets. A table has what `getopt` can't read: `-i`, `-I` and options of other languages. Accepted calls with `-s`, `-i`
+and `-z` run over three files in the seds of this machine.
 """
 import getopt
 import json
 import random
+import shutil
 import subprocess
 import sys
 import tempfile
@@ -18,7 +20,7 @@ LONG = ["expression=", "file=", "regexp-extended", "quiet", "silent", "separate"
         "line-length=", "binary", "posix", "sandbox", "debug", "follow-symlinks", "help", "version"]
 TEXTS = ["p", "s/a/b/", "s/a/b", ":a;N;ba", ":a;ba", "$!N", "w out", "/x/{p", "}", "a\\", "text", "", "#n", "y/ab/ba/", "b end", ":end"]
 FILES = {"one.sed": "s/x/y/\n", "two.sed": "N\nP\nD\n", "three.sed": ":a\nba", "-dash": "p\n"}
-FOREIGN = {"-E", "-r", "-s", "-z", "--regexp-extended", "--separate", "--null-data", "--zero-terminated"}
+FOREIGN = {"-E", "-r", "--regexp-extended"}
 # Words that `getopt` doesn't know, the status that is due, and the codes of the findings.
 ROWS = [
     (["-i", "p", "f"], 0, ["in-place"]), (["-i.bak", "p", "f"], 0, ["in-place"]), (["-i", "p"], 0, []),
@@ -26,8 +28,13 @@ ROWS = [
     (["-ni", "p", "f"], 0, ["in-place"]), (["-in", "p", "f"], 0, ["in-place"]), (["--in-place=.bak", "p", "f"], 0, ["in-place"]),
     (["--in-place", "p", "f"], 0, ["in-place"]), (["--i", "p", "f"], 0, ["in-place"]), (["p", "f", "-i"], 0, ["in-place"]),
     (["p", "--", "-i"], 0, []), (["-i", "-E", "p", "f"], 2, ["other-language"]), (["-Ei", "p", "f"], 2, ["other-language"]),
-    (["-zs", "p"], 2, ["other-language", "other-language"]), (["-k", "p"], 2, ["bad-call"]), (["--quiet=x", "p"], 2, ["bad-call"]),
+    (["-Er", "p"], 2, ["other-language", "other-language"]), (["-k", "p"], 2, ["bad-call"]), (["--quiet=x", "p"], 2, ["bad-call"]),
     (["-e", ":a;ba", "-i", "f"], 1, ["loop-idle", "in-place"]),
+    # Several inputs, and lines that end with a byte 0, are judged; a script that is refused or has a loop stays that.
+    (["-zs", "p"], 0, []), (["-s", "p", "f", "g"], 0, []), (["--separate", "$!N", "f", "g"], 0, []), (["--null-data", "N;P;D"], 0, []),
+    (["--zero-terminated", "p", "f"], 0, []), (["-sni", "p", "f", "g"], 0, ["in-place"]), (["-zi.bak", "p", "f"], 0, ["in-place"]),
+    (["-s", ":a;$!N;ba", "f"], 1, ["loop-idle"]), (["-z", ":a;ba"], 1, ["loop-idle"]), (["-z", "s/a/b"], 2, ["unterminated"]),
+    (["-zE", "p"], 2, ["other-language"]), (["-sE", "-z", "p"], 2, ["other-language"]), (["--separate", "--regexp-extended", "p"], 2, ["other-language"]),
 ]
 # The same with what is denied before.
 DENIED = [
@@ -35,6 +42,14 @@ DENIED = [
     ("writes", ["w out", "f"], 1, ["denied-writes"]), ("reads", ["-i", "p", "f"], 0, ["in-place"]),
     ("warnings", ["-i", "p", "f"], 1, ["denied-warnings", "in-place"]), ("warnings", ["p", "f"], 0, []),
     ("writes", ["-iE", "p", "f"], 1, ["denied-writes", "in-place"]), ("writes", ["-E", "p", "f"], 2, ["other-language"]),
+    ("writes", ["-sz", "p", "f"], 0, []), ("writes", ["-si", "p", "f"], 1, ["denied-writes", "in-place"]),
+]
+# The same where warnings are denied, in the locale of this name: of a byte above 127 that is repeated, or is in a list of `y`.
+WARNED = ["denied-warnings", "locale"]
+LOCALES = [
+    ("C", ["s/é*//"], 0, []), ("POSIX", ["-n", "s/é*//"], 0, []), ("C", ["y/é/ee/", "f"], 0, []), ("C", ["-i", "y/é/ee/", "f"], 1, ["denied-warnings", "in-place"]),
+    ("C", ["s/\\(\\(a\\)\\2\\)*//"], 1, ["denied-warnings", "repeated-reference"]), ("C", ["s/é*//;:a;ba"], 1, ["loop-idle"]), ("C", ["s/é*/"], 2, ["unterminated"]),
+    *((name, words, 1, WARNED) for name in ("c", "posix", "C.UTF-8", "de_DE.UTF-8", "", "C ", "CC") for words in (["s/é*//"], ["y/é/ee/"])),
 ]
 
 
@@ -143,6 +158,38 @@ def compared(program, words, folder, gnu):
     return None if offsets(report) == offsets(other) else "another report"
 
 
+def ending(seds, options, text, folder):
+    """Which of the seds end with the script in all three files, where they know the options, and make no other file."""
+    ended = []
+    for sed in seds:
+        for name, given in (("one", b"a\nb\nab\n"), ("two", b""), ("three", b"x\0y\0\na\0b")):
+            (folder / name).write_bytes(given)
+        before = sorted(folder.iterdir())
+        ran = subprocess.run([*sed, *options, "-e", text, "one", "two", "three"], cwd=folder, stdin=subprocess.DEVNULL, capture_output=True, timeout=60)
+        ended.append(ran.returncode == 0)
+        for path in set(folder.iterdir()) - set(before):
+            if path.name != "out" or "w out" not in text:
+                ended.append("the file %s" % path.name)
+            path.unlink()
+    return ended
+
+
+def several(program, folder):
+    """Accepted scripts with options of several inputs and of other lines end in real seds, also in those that read on behind a file."""
+    seds = [sed for sed in (["sed"], ["sed", "--posix"], ["busybox", "sed"], ["toybox", "sed"], ["ssed"]) if shutil.which(sed[0])]
+    ran = failures = 0
+    for options in (["-s"], ["-i"], ["-z"], ["-sz"], ["-z", "-i"], ["-n", "-s"]):
+        for text in TEXTS + ["$!N;P;D", "n;n;$!n", "H;$!d;x", ":a;$!{N;ba", ":a;s/ab/b/;ta", "/a/,/b/d;$=", "N;N;D", ":a;n;ba", ":a;N;ba"]:
+            status, _ = explained(program, [*options, "-e", text, "one", "two", "three"], folder, ["--sed", "--"])
+            if status == 0:
+                found = ending(seds, options, text, folder)
+                ran += found.count(True)
+                if any(isinstance(one, str) for one in found) or not found[0]:
+                    failures += 1
+                    print("calls:", options, text, found)
+    return ran, failures
+
+
 def main():
     program = str(Path(sys.argv[1]).resolve())
     number = int(sys.argv[2]) if len(sys.argv) > 2 else 1500
@@ -153,12 +200,15 @@ def main():
         folder = Path(name)
         for path, text in FILES.items():
             (folder / path).write_text(text)
-        for what, words, due, codes in [("", *row) for row in ROWS] + DENIED:
-            status, report = explained(program, words, folder, [*(["--deny", what] if what else []), "--sed", "--"])
+        rows = [([], *row) for row in ROWS] + [(["--deny", what], *row) for what, *row in DENIED]
+        rows += [(form, *row) for name, *row in LOCALES for form in (["--deny", "warnings", "--locale", name], ["--locale=" + name, "--deny=warnings"])]
+        rows += [(["--deny", "warnings"], words, 1, WARNED) for words in (["s/é*//"], ["y/é/ee/"])]
+        for before, words, due, codes in rows:
+            status, report = explained(program, words, folder, [*before, "--sed", "--"])
             checks += 1
-            if (status, [finding["code"] for finding in report["findings"] if finding["code"] != "no-bound"]) != (due, codes):
+            if (status, [finding["code"] for finding in report["findings"] if finding["level"] != "note"]) != (due, codes):
                 failures += 1
-                print("calls:", words, status, report["findings"])
+                print("calls:", before, words, status, report["findings"])
         for _ in range(number):
             words = drawn(draw)
             wrong = compared(program, words, folder, gnu)
@@ -166,7 +216,9 @@ def main():
             if wrong:
                 failures += 1
                 print("calls:", words, wrong)
-    print("%d calls, %d failures%s" % (checks, failures, "" if gnu else ", without GNU sed"))
+        ran, wrong = several(program, folder)
+        failures += wrong
+    print("%d calls, %d failures, %d runs over several files%s" % (checks, failures, ran, "" if gnu else ", without GNU sed"))
     return 1 if failures else 0
 
 

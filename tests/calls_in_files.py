@@ -5,7 +5,7 @@ A table of files with the calls that are in them, by hand; folders and what can'
 this machine, whose words the shell itself is asked for; long and hostile texts, and many files, with a limit of time. Needs a shell
 (`sh`). The status is 0 only where all is as it should be.
 """
-import json, os, re, subprocess, sys, tempfile, time
+import json, os, re, shutil, subprocess, sys, tempfile, time
 from pathlib import Path
 
 PROGRAM = os.path.abspath(sys.argv[1])
@@ -113,6 +113,9 @@ ROWS = [
     ("a.sh", [], "sed ':x;bx' f\n", 1, [("1:1", LOOP, [":x;bx", "f"])]),
     ("a.sh", [], "sed -E 's/(a)/b/' f\n", 2, [("1:1", NOT, ["-E", "s/(a)/b/", "f"])]),
     ("a.sh", [], "sed --what p\n", 2, [("1:1", NOT, ["--what", "p"])]),
+    ("a.sh", [], "sed -s -n '$p' f g\nsed -z N f\nsed -i.bak -z '$d' f\n", 0, [("1:1", A, ["-s", "-n", "$p", "f", "g"]), ("2:1", A, ["-z", "N", "f"]), ("3:1", A, ["-i.bak", "-z", "$d", "f"])]),
+    ("a.sh", [], "sed -s ':x;bx' f\nsed -z \"s/$a//\" f\n", 1, [("1:1", LOOP, ["-s", ":x;bx", "f"]), ("2:1", IF, None)]),
+    ("a.sh", [], "sed -z 's/a' f\nsed -zE p\n", 2, [("1:1", REFUSED, ["-z", "s/a", "f"]), ("2:1", NOT, ["-zE", "p"])]),
     ("a.sh", ["--deny", "writes"], "sed 'w out' f\n", 1, [("1:1", "denied", ["w out", "f"])]),
     # Makefiles.
     ("Makefile", [], "all:\n\t@sed 's/a$$/b/' $< > $@\n\t-sed -n \\\n\t  p f\nX = $(shell sed 1d f)\n", 5, [("2:3", IF, ["s/a$/b/", "x"]), ("3:3", A, ["-n", "p", "f"]), ("5:13", A, ["1d", "f"])]),
@@ -169,7 +172,71 @@ PLACES = [
     ("a='s/x'\nsed \"$a\"\n", ["1:4 unterminated", "2:6 known-value"]),
     ("a=u\nb=\nsed \"s/$a/$b/\" f\nsed p\n", ["3:8 known-value", "3:11 known-value"]),
     ("sed -i p f\n", ["1:1 in-place"]),
+    ("sed 's/é*//' f\nLC_ALL=C sed 's/é*//' f\n", ["1:8 locale"]),
+    ("LC_ALL=C sed -i 's/\\(a\\)*\\1/b/' f\n", ["1:10 in-place", "1:18 repeated-reference", "1:18 no-bound"]),
 ]
+
+
+# Files with calls that have a byte above 127 which is repeated, as `@`: in the first ones the locale is known to be C or POSIX.
+CALL = "sed 's/é*//' f"
+IN_C = [
+    "LC_ALL=C @", "LC_ALL=POSIX @", "LC_ALL='C' @", 'LC_ALL="POSIX" @', "LC_ALL=\\C @", "X=1 LC_ALL=C Y=2 @", "LC_ALL=de_DE.UTF-8 LC_ALL=C @", "env LC_ALL=C @",
+    "env -i X=1 LC_ALL=C PATH=\"$PATH\" Y=2 @", "env -u LC_ALL LC_ALL=C @", "LC_ALL=de_DE.UTF-8 env LC_ALL=C @", "nice env LC_ALL=C @", "find . -name f -exec env LC_ALL=C @ \\;",
+    "sh -c \"LC_ALL=C @\"", "x=$(LC_ALL=C @)", "x=`LC_ALL=C @`", "if LC_ALL=C @; then :; fi", "cat f | LC_ALL=C @ > g", "export LC_ALL=de_DE.UTF-8\nLC_ALL=C @", "readonly LC_ALL\nenv LC_ALL=C @",
+    ". ./none.sh || :\nenv LC_ALL=C @", "eval 'LC_ALL=C @'", "readonly X=1\nLC_ALL=C @", "f() { local LANG; LC_ALL=C @; }\nf", "! LC_ALL=C @", "time LC_ALL=C @", "env - LC_ALL=C PATH=\"$PATH\" @",
+]
+IN_ANY = [
+    "@", "LC_ALL=c @", "LC_ALL= @", "LC_ALL=C.UTF-8 @", "LC_ALL=CC @", "LANG=C LC_CTYPE=C @", "LC_ALL=$X @", "LC_ALL=C$X @", "LC_ALL=${X-C} @", "LC_ALL+=C @", "export LC_ALL=C\n@", "LC_ALL=C\n@", "LC_ALL=C; @",
+    "LC_ALL=C :; @", "LC_ALL=C LC_ALL=de_DE.UTF-8 @", "env LC_ALL=C LC_ALL=de_DE.UTF-8 @", "LC_ALL=C env -u LC_ALL @", "LC_ALL=C env -i PATH=\"$PATH\" @", "LC_ALL=C nice @", "env LC_ALL=C nice @",
+    "LC_ALL=C find . -name f -exec @ \\;", "LC_ALL=C sh -c \"@\"", "xargs -a LC_ALL=C @", "flock LC_ALL=C @", "exec -a LC_ALL=C @", "timeout -k LC_ALL=C 5 @", "@ LC_ALL=C", "LC_ALL=C cat f | @", "XLC_ALL=C @",
+    "readonly LC_ALL\nLC_ALL=C @", "readonly LC_ALL=C.UTF-8\nLC_ALL=C @", "declare -r LC_ALL\nLC_ALL=C @", "typeset -r X LC_ALL\nLC_ALL=C @", "f() { local -r LC_ALL; LC_ALL=C @; }\nf",
+    "command readonly LC_ALL\nLC_ALL=C @", "eval 'readonly LC_ALL'\nLC_ALL=C @", "n=LC_ALL\nreadonly $n\nLC_ALL=C @", "n=LC_ALL\ndeclare -r \"$n\"\nLC_ALL=C @", "declare -n r=LC_ALL\nreadonly r\nLC_ALL=C @",
+    "r=readonly\n$r LC_ALL\nLC_ALL=C @", ". ./fixed.sh\nLC_ALL=C @", "eval \"$FIX\"\nLC_ALL=C @", "if :; then readonly LC_ALL; fi\nLC_ALL=C @",
+]
+# A sed that notes its locale.
+NOTING = "#!/bin/sh\necho \"${LC_ALL-none}\" >> '%s'\n"
+
+
+def locales():
+    """Where the warning `locale` isn't given, each shell runs sed in the locale C or POSIX, if it runs it."""
+    others = set()
+    with tempfile.TemporaryDirectory() as folder:
+        sed, notes, script = Path(folder, "sed"), Path(folder, "notes"), Path(folder, "a.sh")
+        sed.write_text(NOTING % notes)
+        sed.chmod(0o755)
+        Path(folder, "f").write_text("a\n")
+        Path(folder, "fixed.sh").write_text("readonly LC_ALL\n")
+        environment = {**os.environ, "PATH": folder + ":" + os.environ["PATH"], "LC_ALL": "C.UTF-8", "X": "", "FIX": "readonly LC_ALL"}
+        for text, is_in_c in [(text, True) for text in IN_C] + [(text, False) for text in IN_ANY]:
+            text = text.replace("@", CALL) + "\n"
+            _, calls, _ = explained(text, "a.sh")
+            found = [sum(finding["code"] == "locale" for finding in call["findings"]) for call in calls]
+            if found != [0 if is_in_c else 1]:
+                fail("locale of %r: %s" % (text, found))
+            script.write_text(text)
+            seen = set()
+            for shell in (["dash"], ["bash"], ["bash", "--posix"], ["busybox", "sh"]):
+                if shutil.which(shell[0]):
+                    notes.unlink(missing_ok=True)
+                    subprocess.run([*shell, "a.sh"], cwd=folder, env=environment, stdin=subprocess.DEVNULL, capture_output=True, timeout=60)
+                    seen |= set(notes.read_text().splitlines()) if notes.exists() else set()
+            if is_in_c and (not seen or seen - {"C", "POSIX"}):
+                fail("locale of %r: sed runs in %s" % (text, seen))
+            if not is_in_c and seen - {"C", "POSIX"}:
+                others.add(text)
+    for name, text, due in (("Makefile", "all:\n\tLC_ALL=C @\n", 0), ("Makefile", "export LC_ALL = C\nall:\n\t@\n", 1), ("Makefile", "SHELL = bash\nall:\n\treadonly LC_ALL; LC_ALL=C @\n", 1),
+                            ("Makefile", "SHELL = bash\nall:\n\tdeclare -r $$n; LC_ALL=C @\n", 1), ("Dockerfile", "FROM a\nENV LC_ALL=C\nRUN @\n", 1), ("Dockerfile", "FROM a\nRUN LC_ALL=C @\n", 0),
+                            ("ci.yml", "env:\n  LC_ALL: C\na:\n  script:\n    - @\n", 1), ("ci.yml", "a:\n  script:\n    - LC_ALL=C @\n", 0), ("a.sh.in", "LC_ALL=@X@ %s\n" % CALL, 1)):
+        text = text.replace("@", CALL) if "@X@" not in text else text
+        _, calls, _ = explained(text, name)
+        found = [sum(finding["code"] == "locale" for finding in call["findings"]) for call in calls]
+        if found != [due]:
+            fail("locale in %s, %r: %s" % (name, text, found))
+    for text, options, due in (("LC_ALL=C @\n", [], 0), ("@\n", [], 1), ("@\n", ["--locale", "C"], 0), ("@\n", ["--locale", "de_DE.UTF-8"], 1), ("LC_ALL=C @\n", ["--locale=C.UTF-8"], 0)):
+        status = explained(text.replace("@", CALL), "a.sh", "--deny", "warnings", *options)[0]
+        if status != due:
+            fail("locale of %r with %s: status %d" % (text, options, status))
+    print("calls in files: %d calls whose locale is C run in it; of %d others %d don't" % (len(IN_C), len(IN_ANY), len(others)))
 
 
 def places():
@@ -419,7 +486,7 @@ def many():
 
 
 def main():
-    for part in (table, places, values, unread, scripts_below, refused_words, folders, judged_by_the_shell, hostile, many):
+    for part in (table, places, locales, values, unread, scripts_below, refused_words, folders, judged_by_the_shell, hostile, many):
         part()
     if not failures:
         print("calls in files: %d rows are as they should be" % (len(ROWS) + len(PLACES)))

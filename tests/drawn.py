@@ -30,9 +30,17 @@ def line(chooser, pieces):
     return "".join(chooser.choice(few) for _ in range(chooser.randint(1, 40)))[:chooser.randint(1, 40)]
 
 
-def inputs(name, script):
+def characters(script):
+    """The characters above 127 of a script in UTF-8, of which each byte is a character here; with their last bytes once more; and these alone."""
+    found = re.findall("[\xc2-\xf4][\x80-\xbf]+", script)
+    return found * 4 + [character + character[-1] for character in found] + [byte for character in found for byte in character]
+
+
+def inputs(name, script, locale="C"):
     """Inputs for a script, the same in each run of the tests."""
     chooser, pieces = random.Random(name + script), parts(script)
+    if locale != "C":
+        pieces += characters(script)
     return ["".join(line(chooser, pieces) + "\n" for _ in range(chooser.choice((1, 1, 1, 2, 3, 5, 8)))) for _ in range(INPUTS)]
 
 
@@ -52,7 +60,7 @@ done
 """ % MOST_ENDLESS
 
 
-def differing(name, first, second, excluded=None):
+def differing(name, first, second, excluded=None, locale="C"):
     """An input of which two scripts make different outputs, with these, or None; and how many inputs were compared, or None where the
     first script is refused or runs for ever. The excluded inputs are left out, and those for which it doesn't end within two seconds."""
     with tempfile.TemporaryDirectory(prefix="sedck-drawn-") as folder:
@@ -63,11 +71,11 @@ def differing(name, first, second, excluded=None):
             with open(path(file), encoding="latin-1", newline="") as text:
                 return text.read()
 
-        drawn = [given for given in inputs(name, first) if excluded is None or not excluded(given)]
+        drawn = [given for given in inputs(name, first, locale) if excluded is None or not excluded(given)]
         for file, text in [("first", first), ("second", second)] + [("%03d.in" % place, given) for place, given in enumerate(drawn)]:
             with open(path(file), "w", encoding="latin-1", newline="") as out:
                 out.write(text)
-        subprocess.run(["sh", "-c", RUNS], cwd=folder, check=True, env={"PATH": os.environ["PATH"], "LC_ALL": "C"})
+        subprocess.run(["sh", "-c", RUNS], cwd=folder, check=True, env={"PATH": os.environ["PATH"], "LC_ALL": locale})
         places = [place for place in range(len(drawn)) if os.path.exists(path("%03d.in.second" % place))]
         for place in places:
             made, also = read("%03d.in.first" % place), read("%03d.in.second" % place)
@@ -78,10 +86,10 @@ def differing(name, first, second, excluded=None):
 
 
 def compare(pairs):
-    """What is wrong with pairs of scripts: a name, both, and which inputs are excluded, or None."""
+    """What is wrong with pairs of scripts: a name, both, which inputs are excluded, or None, and perhaps a locale."""
     with ThreadPoolExecutor(os.cpu_count() or 1) as pool:
         found = list(pool.map(lambda pair: differing(*pair), pairs))
-    for (name, first, second, _), (difference, compared) in zip(pairs, found):
+    for (name, first, second, *_), (difference, compared) in zip(pairs, found):
         if difference is not None:
             yield "%s: of %r %r makes %r, and %r %r" % (name, difference[0], first, difference[1], second, difference[2])
         elif compared is not None and compared < LEAST_COMPARED:

@@ -11,6 +11,7 @@ import tempfile
 
 import explain_denied
 import explain_findings
+import explain_itself
 import explain_json
 import explain_listed
 import explain_pages
@@ -36,6 +37,7 @@ def main():
         explain_words.check(tools)
         explain_denied.check(tools)
         explain_findings.check(tools)
+        explain_itself.check(tools)
         explain_listed.check(tools)
         explain_streams.check(tools)
         explain_sarif.check(tools, 100)

@@ -50,17 +50,32 @@ SLOW = [
     (b"s/\\(\\(\\(\\(\\(a\\{255\\}\\)\\{255\\}\\)\\{255\\}\\)\\{255\\}\\)\\{255\\}\\)//\n", [], (1, 1)),
 ]
 
-# An accepted script, and the place of each warning that a byte above 127 is repeated by itself, or is in a list of `y`.
+# An accepted script, and for each command in which a byte above 127 is repeated by itself, or is in a list of `y`, the column of the first
+# one, or of the character of which it is a part, and that character or byte.
+E, EURO = b"\xc3\xa9", b"\xe2\x82\xac"
 BYTES = [
-    (b":a\ns/x\xc3\xa9*/x/\nt a\n", [(2, 1)]),
-    (b":a\ny/\xc3\xa9a/a\xc3\xa9/\nN\nb a\n", [(2, 1)]),
-    (b"p;/\xc3\xa9\\{2\\}/d\n", [(1, 12)]),
-    (b"1,/x\xff*/p\n", [(1, 8)]),
-    (b"s/\\(a\xc3\xa9*\\)*//;y/a\\/b/\xc3\xa9x/\n", [(1, 1), (1, 15)]),
-    (b"s/\x80*//\n", [(1, 1)]),
+    (b":a\ns/x\xc3\xa9*/x/\nt a\n", [(2, 4, E)]),
+    (b":a\ny/\xc3\xa9a/a\xc3\xa9/\nN\nb a\n", [(2, 3, E)]),
+    (b"p;/\xc3\xa9\\{2\\}/d\n", [(1, 4, E)]),
+    (b"1,/x\xff*/p\n", [(1, 5, b"\xff")]),
+    (b"s/\\(a\xc3\xa9*\\)*//;y/a\\/b/\xc3\xa9x/\n", [(1, 6, E), (1, 22, E)]),
+    (b"s/\x80*//\n", [(1, 3, b"\x80")]),
+    # addresses, other delimiters, lists, several in a command, and characters that are repeated elsewhere or not at all
+    (b"\\,\xe2\x82\xac*,,/y/p\n", [(1, 3, EURO)]), (b"\\,x,, /\xc3\xa9*/p\n", [(1, 8, E)]), (b"/y/,\\:a\xc3\xa9*:p\n", [(1, 8, E)]),
+    (b"2 , /\xc3\xa9*/!{p\n}\n", [(1, 6, E)]), (b"/\xc3\xa9*/,/\xe2\x82\xac*/s/\xc3\xa9*//\n", [(1, 2, E)]),
+    (b"s/[\xc3\xa9*]\xc3\xa9\xc3\xa9*//\n", [(1, 10, E)]), (b"s/[]\xc3*][[:alpha:]*]*\xc3\xa9\\{1,3\\}//\n", [(1, 21, E)]),
+    (b"s/\xc3\xa9x*\xe2\x82\xac*\xc3\xa9*//\n", [(1, 7, EURO)]), (b"s/\\*\xf0\x9f\x98\x80*//\n", [(1, 5, b"\xf0\x9f\x98\x80")]),
+    (b"# \xc3\xa9*\ny/ab/\xc3\xa9/\nh;y/\xff/a/\n", [(2, 6, E), (3, 5, b"\xff")]), (b"y1a\xe2\x82\xac1bcde1\n", [(1, 4, EURO)]),
+    # bytes that are no character: the first one of two, a surrogate, one that has a shorter form, and one behind a whole character
+    (b"s/\xc3*\xa9//\n", [(1, 3, b"\xc3")]), (b"s/\xed\xa0\x80*//\n", [(1, 5, b"\x80")]), (b"s/\xc0\xaf*//\n", [(1, 4, b"\xaf")]),
+    (b"s/\xc3\xa9\xa9*//\n", [(1, 5, b"\xa9")]), (b"y/\xa9\xc3/\xc3\xa9/\n", [(1, 3, b"\xa9")]), (b"y/ab/c\xe9/\n", [(1, 7, b"\xe9")]),
     (b"s/\x7f*//;y/\x7f/a/\n", []),
     (b"s/\xc3\xa9/e/\n", []), (b"s/[\xc3\xa9]*//\n", []), (b"s/\\(\xc3\xa9\\)*//\n", []), (b"s/\xc3\xa9a*//\n", []), (b"s/a*/\xc3\xa9*/\n", []),
-    (b"a\\\n\xc3\xa9*\n", []), (b"# \xc3\xa9*\ny/ab/ba/\n", []), (b"s/\\(\\(\xff\\)\\{3\\}\\)//\n", []),
+    (b"a\\\n\xc3\xa9*\n", []), (b"# \xc3\xa9*\ny/ab/ba/\n", []),
+    # parts of characters that aren't repeated, in expressions alone
+    (b"s/\\(\\(\xff\\)\\{3\\}\\)//\n", [(1, 7, b"\xff")]), (b"s/\xc3//\n", [(1, 3, b"\xc3")]), (b"s/\\(x*\\).\xc3/\\1\xc3/\n", [(1, 10, b"\xc3")]),
+    (b"/a\xa9/p\n", [(1, 3, b"\xa9")]), (b"s/\xe2\x82x//\n", [(1, 3, b"\xe2")]), (b"s/\xc3\xa9\xe2\x82//\n", [(1, 5, b"\xe2")]),
+    (b"s/\xc3\\(\xa9\\)//\n", [(1, 3, b"\xc3")]), (b"s/[\xc3]//\n", []), (b"s/a/\xc3/\n", []), (b"s/\xf0\x9f\x98\x80\xe2\x82\xac\xc3\xa9//\n", []),
 ]
 
 # A script that isn't accepted, and its status.
@@ -148,11 +163,14 @@ def check_bytes(tools):
     for script, warned in BYTES:
         tools.write("d.sed", script)
         status, report, _ = tools.explain("--format", "json", "d.sed")
-        found = [(finding["position"]["line"], finding["position"]["column"]) for finding in json.loads(report)["findings"] if finding["code"] == LOCALE]
+        found = [(finding["position"]["line"], finding["position"]["column"], script[finding["position"]["offset"]:finding["end"]["offset"]])
+                 for finding in json.loads(report)["findings"] if finding["code"] == LOCALE]
         tools.same("bytes of %r" % script, (status, found), (0, warned))
         tools.write("d.sed", b"# sedck: ignore locale\n" + script)
         tools.same("%r, ignored" % script, LOCALE.encode() in tools.explain("--format", "gcc", "d.sed")[1], False)
         tools.same("%r, ignored and denied" % script, tools.explain("--format", "gcc", "--deny", "warnings", "d.sed")[0], 1 if warned else 0)
+        for name in ("C", "POSIX", "C.UTF-8"):
+            tools.same("%r, denied, in %s" % (script, name), tools.explain("--format", "gcc", "--locale", name, "--deny", "warnings", "d.sed")[0], 1 if warned and name == "C.UTF-8" else 0)
 
 
 def check_texts(tools):

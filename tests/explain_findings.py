@@ -44,14 +44,17 @@ RANGES = [
     (b"s/a**/x/\n", [("double-repeat", b"*")]),
     (b"s/\\1/x/\n", [("bad-reference", b"\\1")]),
     # the whole command, but no blanks behind it and no second line
-    (b":a\n  1!b a ;p\n", [("loop-idle", b":a")]),
-    (b"p\n:a;s/x/xx/g ;ta\n", [("loop-growing", b"s/x/xx/g")]),
+    (b":a\n  1!b a ;p\n", [("loop-idle", b":a"), ("label-to-the-line-end", b";p")]),
+    (b"p\n:a\ns/x/xx/g ;ta\n", [("loop-growing", b"s/x/xx/g")]),
     (b"G\nx\n", [("no-bound", b"G")]),
     (b"p;w /x\ny/a/b/\n", [("absolute-name", b"w /x")]),
     (b"s/a/b\\\nc/w ../x y\n", [("upward-name", b"s/a/b\\"), ("no-bound", b"s/a/b\\")]),
     (b"s/[0-9]+/x/\n", [("looks-extended", b"+")]),
     (b"#!/bin/sed -Ef\np\n", [("options-in-first-line", b"#!/bin/sed -Ef")]),
-    (b":a\n$!{N;ba}\n", [("brace-behind-label", b"}")]),
+    (b":a\n$!{N;ba}\n", [("brace-behind-label", b"}"), ("label-to-the-line-end", b"}")]),
+    (b":a; $!{N;ba\n}\n", [("label-to-the-line-end", b"; $!{N;ba")]),
+    (b":twelvemonth\nn\nb twelvemonths\n:  twelvemonths \n", [("long-labels", b":  twelvemonths")]),
+    (b"s/x\xc3\xa9*/y/\n", [("locale", b"\xc3\xa9")]),
     (b"# sedck: ignore no-such, bad-flag\np\n", [("unknown-code", b"no-such"), ("unknown-code", b"bad-flag")]),
     (b"p\n $!a hello \np\n", [("one-line-text", b"a hello")]),
     (b"s/a/b/\n#now\n", [("silencing-comment", b"#n")]),
@@ -59,7 +62,16 @@ RANGES = [
 
 # An accepted script, and the line, the column and the code of each warning on how it looks.
 TEXT, COMMENT, EXTENDED = "one-line-text", "silencing-comment", "looks-extended"
+LABEL, LONG = "label-to-the-line-end", "long-labels"
 LOOKS = [
+    # what follows a label of `:`, `b` or `t` on its line: the first one alone
+    (b":a;n\n$!ba;n\n", [(1, 3, LABEL)]), (b":a\nn\n$!b a ; n\n", [(3, 7, LABEL)]), (b"s/a/b/;t;p\n", [(1, 9, LABEL)]), (b"1{p;b;}\n", [(1, 6, LABEL)]),
+    (b"1{p;t }\n", [(1, 7, "brace-behind-label"), (1, 7, LABEL)]), (b"p;b e # end\n:e\n", [(1, 7, LABEL)]), (b":e;", [(1, 3, LABEL)]), (b"b;\n", [(1, 2, LABEL)]),
+    (b":a\nn\n$!b a \n", []), (b"1{b\n}\ns/a/b/;t\n:b\t", []), (b"w b;p\n", [(1, 1, "command-in-name")]), (b"s/b;nn/:a;t/;y/b;/;b/;a\\\n:b;n\n", []), (b"# :a;n\np;d;n\n", []),
+    # labels that are alike in their first 8 bytes: the first one alone
+    (b":abcdefgh1\np\nb abcdefgh2\n:abcdefgh2\n", [(4, 1, LONG)]), (b":abcdefgh\n\t: abcdefghi\n:abcdefghj\n", [(2, 2, LONG)]),
+    (b":x\n:before-2\n:after-12\n:after-13\n:before-21\n", [(5, 1, LONG)]),
+    (b":abcdefg1\n:abcdefg2\n:Abcdefg1\n:abcdefg\n:a\n:b\n", []), (b"n\nb abcdefgh1\n:abcdefgh1\n# :abcdefgh2\nw :abcdefgh3\n", []),
     # a `+` that ends an expression, behind a byte that isn't meant with it
     (b"s/ +$//\n", [(1, 4, EXTENDED)]), (b"s/a+$//\n", [(1, 4, EXTENDED)]), (b"/0+$/d\n", [(1, 3, EXTENDED)]), (b"1,/-+$/d\n", [(1, 5, EXTENDED)]),
     (b"s/c++$//;s/^+$//;s/a+\\$//;s/$+$//\n", []), (b"s/c++/C/;s/1+1/2/;s/a+b//;s/a+$b//\n", []),
@@ -84,7 +96,7 @@ LOOKS = [
     # comments that BusyBox takes for `#n`
     (b"s/a/b/\n#now replace\n", [(2, 1, COMMENT)]), (b"s/a/b/;#now\n", [(1, 8, COMMENT)]), (b"{\n  #n\np\n}\n", [(2, 3, COMMENT)]), (b"{p;}#now\n", [(1, 5, COMMENT)]),
     (b"{#now\np\n}\n", [(1, 2, COMMENT)]), (b"#nx\np\n", [(1, 1, COMMENT)]), (b" #n\np\n", [(1, 2, COMMENT)]), (b"\n#n\np\n", [(2, 1, COMMENT)]), (b"p #n\n", [(1, 3, COMMENT)]),
-    (b"p#n", [(1, 2, COMMENT)]), (b"y/a/b/ #n\n", [(1, 8, COMMENT)]), (b"b e #n\n:e #n\n", [(1, 5, COMMENT), (2, 4, COMMENT)]), (b"#n\n#n\np\n", [(2, 1, COMMENT)]),
+    (b"p#n", [(1, 2, COMMENT)]), (b"y/a/b/ #n\n", [(1, 8, COMMENT)]), (b"b e #n\n:e #n\n", [(1, 5, COMMENT), (2, 4, COMMENT), (1, 5, LABEL)]), (b"#n\n#n\np\n", [(2, 1, COMMENT)]),
     (b"#x\n#now\n# now\n#now\n", [(2, 1, COMMENT), (4, 1, COMMENT)]), (b"w f\n#n\n", [(2, 1, COMMENT)]), (b"s/a/b/w f\n#n\n", [(2, 1, COMMENT)]),
     (b"#n\np\n", []), (b"#n", []), (b"s/a/b/ #now\ns/a/b/#now\ns/a/b/p #n\n", []), (b"# now\n##n\n#N\n#\n", []), (b"a\\\n#now\np\n", []), (b"s/aa/#n/;s/#n/a/\n", []),
     (b"w a #n\n", [(1, 1, "command-in-name")]), (b"s/a/b/ #x\n;#n\n", [(2, 2, COMMENT)]), (b"s/a/\\\n#now/\n", [(1, 1, "no-bound")]),
@@ -108,6 +120,7 @@ IGNORED = [
     (b"# sedck: ignore absolute-name absolute-name\nr /y\nw /x\n", [], ["absolute-name", "absolute-name"]),
     (b"{\n# sedck: ignore absolute-name\nw /x\n}\n", [], ["absolute-name"]),
     (b"1{;p;}\n# sedck: ignore absolute-name\nw /x\n", [], ["absolute-name"]),
+    (b"# sedck: ignore label-to-the-line-end long-labels locale\n:abcdefgh1;s/\xc3\xa9*//\n:abcdefgh2\n", [], ["locale", "label-to-the-line-end", "long-labels"]),
     # what is no such comment
     (b"#sedck: absolute-name\nw /x\n", ["absolute-name"], ["absolute-name"]),
     (b"# sedck: ignored absolute-name\nw /x\n", ["absolute-name"], ["absolute-name"]),

@@ -22,6 +22,7 @@ from seds_draw import Draw  # noqa: E402
 
 WHOLE = 200
 COMMANDS = 4095
+LABELS = ["label-to-the-line-end", "long-labels"]
 FIELDS = ["file", "status", "answer", "bound", "reads", "writes", "findings", "commands", "version"]
 FINDING = ["level", "code", "message", "hint", "position", "steps", "page", "end", "fix"]
 ANSWERS = {0: ["accepted"], 1: ["rejected", "loop"], 2: ["script-refused", "certificate-refused"]}
@@ -138,7 +139,7 @@ def hold_bound(tools, what, certificate, report):
     bound = report["bound"]
     shown = ["bound %(per_byte)d %(per_line)d %(fixed)d" % bound] if bound else []
     tools.same("bound %s" % what, [line.decode() for line in lines if line.startswith(b"bound ")], shown)
-    codes = [finding["code"] for finding in report["findings"] if finding["level"] != "warning"]
+    codes = [finding["code"] for finding in report["findings"] if finding["level"] != "warning" and finding["code"] not in LABELS]
     tools.same("note %s" % what, codes, [] if bound else ["no-bound"])
 
 

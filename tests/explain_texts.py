@@ -94,23 +94,25 @@ s.sed:4:1: note: `ba` branches (on the last line)
 s.sed:1:1: note: `:a` and so on
 s.sed:1:1: note: hint: {TAKE}
 """),
-    # one line for all commands: those behind the first are shown from their verbs on
-    (b":a;s/x/xx/;ta\n", 1, f"""\
-s.sed:1:4: error: {GROWING} [loop-growing]
-   1 | :a;s/x/xx/;ta
-     |    ^
-        1:4  ...s/x/xx/;ta  may replace a match with a longer text: it has 2 bytes, and a match may have only 1
-       1:12  ...ta          branches, since something was replaced
-        1:1  :a;s/x/xx/;ta  goes on
-        1:4  ...s/x/xx/;ta  and so on
+    # several commands on a line: those behind the first are shown from their verbs on
+    (b":a\np;s/x/xx/;ta\n", 1, f"""\
+s.sed:2:3: error: {GROWING} [loop-growing]
+   2 | p;s/x/xx/;ta
+     |   ^
+        2:3  ...s/x/xx/;ta  may replace a match with a longer text: it has 2 bytes, and a match may have only 1
+       2:11  ...ta          branches, since something was replaced
+        1:1  :a             goes on
+        2:1  p;s/x/xx/;ta   goes on; reads no line
+        2:3  ...s/x/xx/;ta  and so on
      = hint: {ONCE}
 {LOOP}""", f"""\
-s.sed:1:4: error: {GROWING} [loop-growing]
-s.sed:1:4: note: `...s/x/xx/;ta` may replace a match with a longer text: it has 2 bytes, and a match may have only 1
-s.sed:1:12: note: `...ta` branches, since something was replaced
-s.sed:1:1: note: `:a;s/x/xx/;ta` goes on
-s.sed:1:4: note: `...s/x/xx/;ta` and so on
-s.sed:1:4: note: hint: {ONCE}
+s.sed:2:3: error: {GROWING} [loop-growing]
+s.sed:2:3: note: `...s/x/xx/;ta` may replace a match with a longer text: it has 2 bytes, and a match may have only 1
+s.sed:2:11: note: `...ta` branches, since something was replaced
+s.sed:1:1: note: `:a` goes on
+s.sed:2:1: note: `p;s/x/xx/;ta` goes on; reads no line
+s.sed:2:3: note: `...s/x/xx/;ta` and so on
+s.sed:2:3: note: hint: {ONCE}
 """),
     # the groups of a replacement are kept, and `\\(a\\)b` has one byte outside of them
     (b":a\ns/\\(a\\)b/\\1cc/\nta\n", 1, f"""\

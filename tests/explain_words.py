@@ -19,7 +19,7 @@ def check_refused_words(tools):
                   ["--format", "text", "--format", "gcc", "s.sed"], ["--stdin-filename"], ["--cert", "s.cert", "s.sed", "s.sed"], ["--cert", "s.cert", "s.sed", "-"],
                   ["--format", "html", "s.sed", "s.sed"], ["--format", "dot", "s.sed", "t.sed"], ["--format", "dot-nodes", "s.sed", "t.sed"],
                   ["--format", "sarif", "s.sed", "t.sed"], ["--level"], ["--level", "all", "s.sed"], ["--level", "", "s.sed"], ["--level", "Note", "s.sed"],
-                  ["--level", "note", "--level", "note", "s.sed"]):
+                  ["--level", "note", "--level", "note", "s.sed"], ["--locale"], ["--locale", "C", "--locale", "C", "s.sed"]):
         status, report, errors = tools.explain(*words, given=b"p\n")
         tools.same("status of %r" % words, (status, report), (3, b""))
         tools.holds("standard error of %r" % words, errors.startswith(b"sedck-explain: ") and errors.endswith(b"\n"))
@@ -36,7 +36,7 @@ def check_help(tools):
     for words in (["--help"], ["-h"]):
         status, report, errors = tools.explain(*words)
         tools.same("help", (status, errors), (0, b""))
-        for part in (*FORMATS, "--format", "--level", "--cert", "--deny", "--stdin-filename", "--help", "--version", "SCRIPT", "standard input", "0 accepted", "4 a file"):
+        for part in (*FORMATS, "--format", "--level", "--cert", "--deny", "--locale", "--stdin-filename", "--help", "--version", "SCRIPT", "standard input", "0 accepted", "4 a file"):
             tools.holds("help has %s" % part, part.encode() in report)
 
 

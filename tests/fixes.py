@@ -3,8 +3,10 @@
 
 Each row has a script, the script that its fixes make of it, applied one after another until there is none, and inputs for which GNU
 sed must print the same by both. The scripts of `WITHOUT` must get no fix: there the bytes don't say what is meant. The hints' scripts
-are fixed too, and what a fix leads to must not be refused at the same place. Where the machine has no GNU sed, outputs aren't compared.
-The status is 0 only where everything is as it should be.
+are fixed too, and what a fix leads to must not be refused at the same place. A row of `CHARACTERS` has a script with a character of UTF-8 that
+is repeated: in that locale GNU sed must print the same by it and by the fixed one, for inputs that are drawn from its bytes and its
+characters, and in the locale C something else for one of them, which shows that they tell. Where the machine has no GNU sed, outputs
+aren't compared. The status is 0 only where everything is as it should be.
 """
 import json
 import os
@@ -12,6 +14,7 @@ import subprocess
 import sys
 import tempfile
 
+import drawn
 from hint_rows import ROWS as HINTS
 from hints import run_sed
 from pages import is_gnu
@@ -44,12 +47,42 @@ ROWS = [
     ("brace behind a branch", b"/a/{s/a/b/;t}\ns/^/-/\n", b"/a/{s/a/b/;t;}\ns/^/-/\n", NUMBERS),
 ]
 
+# A script, the script that its fixes make of it, and the status of that: in UTF-8 the first one means what the second one says.
+CHARACTERS = [
+    ("star", "s/xé*/<&>/\n", "s/x\\(é\\)*/<&>/\n", 0),
+    ("interval", "s/é\\{2,3\\}/<&>/g\n", "s/\\(é\\)\\{2,3\\}/<&>/g\n", 0),
+    ("interval and comma", "s,é\\{1\\,2\\}$,<&>,\n", "s,\\(é\\)\\{1\\,2\\}$,<&>,\n", 0),
+    ("address", "/^é*$/d\n", "/^\\(é\\)*$/d\n", 0),
+    ("two addresses", "/^é\\{2\\}/,\\:€*x:s/é/e/\n", "/^\\(é\\)\\{2\\}/,\\:\\(€\\)*x:s/é/e/\n", 0),
+    ("three and four bytes", "s/€*😀*x/<&>/\n", "s/\\(€\\)*\\(😀\\)*x/<&>/\n", 0),
+    ("behind its own list", "s/[é]é*/<&>/g\n", "s/[é]\\(é\\)*/<&>/g\n", 0),
+    ("in a group that is named", "s/\\(aé*\\)b/<\\1>/\n", "s/\\(a\\(é\\)*\\)b/<\\1>/\n", 0),
+    ("behind a group that is named", "s/\\(a\\)é*\\1/<\\1>/\n", "s/\\(a\\)\\(é\\)*\\1/<\\1>/\n", 0),
+    ("before a group that isn't named", "s/é*\\(ab\\)*$/<&>/\n", "s/\\(é\\)*\\(ab\\)*$/<&>/\n", 0),
+    ("several in several commands", "/a/s/é*à\\{2\\}/x/\ns/à*e/<&>/\n", "/a/s/\\(é\\)*\\(à\\)\\{2\\}/x/\ns/\\(à\\)*e/<&>/\n", 0),
+    ("thirty-one groups", "s/" + "\\(a\\)" * 31 + "*é*/<&>/\n", "s/" + "\\(a\\)" * 31 + "*\\(é\\)*/<&>/\n", 0),
+    # What runs for ever in UTF-8 has a loop after the fix.
+    ("loop", ":a\ns/xé*/x/\nt a\n", ":a\ns/x\\(é\\)*/x/\nt a\n", 1),
+]
+
+# A group would change what `\1` means, or can't be written there; or the bytes are no character.
+UNGROUPED = [
+    "s/é*\\(a\\)/\\1/\n", "s/é*\\(a\\)\\1//\n", "s/\\(aé*\\(b\\)\\)/\\2/\n", "s/é*\\(a\\)/x/;s//\\1/\n", "/\\(b\\)/s//\\1é/;s/é*\\(a\\)/x/\n", "y/éa/bcd/\n",
+    "s(é*(x(\n", "s)é*)x)\n", "s/" + "\\(a\\)" * 32 + "é*//\n",
+]
+
 # The bytes don't say what is meant, or the text of the fix can't be written there.
 WITHOUT = [
+    b"s/\xe9*//\n", b"s/\xc3*\xa9//\n", b"s/\xed\xa0\x80*//\n", b"s/\xc0\xaf*//\n", b"s/a\xa9\\{2\\}//\n", b"s\xa9\xc3\xb6*\xa9\xa9\n",
     b"s/^\\+a/x/\n", b"s/\\(\\?a\\)/x/\n", b"s/a*\\+/x/\n", b"s/a\\{2\\}\\?/x/\n", b"s:a\\s::\n", b"s1a\\+1b1\n", b"s{a\\+{b{\n", b"s/[\\d]/x/\n", b"s/a**b/x/\n",
     b"s/a/b/ I\n", b"s/a/b/g g\n", b"s/a/b/2 3\n", b"y/a/b/ g\n", b"s&a&\\0&\n", b"s,a\\{,2\\},x,\n", b"s/a\\|b/x/\n", b"s/\\bx/y/\n", b"p p\n",
     b"s/a/\\x41/\n", b"s/e=\\$\\?;/x/\n", b"s,e=\\$\\?;,x,\n", b"#now\np\n", b"a hello\n", b"Q\n", b"/a/{p\n",
 ]
+
+
+def has_utf_8():
+    """Whether the machine has the locale in which characters are tried."""
+    return "c.utf8" in subprocess.run(["locale", "-a"], capture_output=True, text=True).stdout.lower().replace("-", "").split()
 
 
 def explained(explain, folder, script):
@@ -65,7 +98,7 @@ def fixed(report, script):
     for finding in report["findings"]:
         if finding["fix"]:
             start, end = (finding["fix"][side]["offset"] for side in ("start", "end"))
-            return script[:start] + finding["fix"]["text"].encode("ascii") + script[end:], finding
+            return script[:start] + finding["fix"]["text"].encode() + script[end:], finding
     return None
 
 
@@ -94,6 +127,27 @@ def wrong_row(explain, folder, row, compares):
             yield "%s: sed prints %r, and of the fixed script %r" % (name, before, after)
 
 
+def wrong_character(explain, folder, row):
+    """What is wrong with a row of characters, but for what sed prints."""
+    name, script, due, status = row
+    made, report = mended(explain, folder, script.encode())
+    if (made, report["status"]) != (due.encode(), status):
+        yield "%s: %r becomes %r with the status %d, and not %r" % (name, script, made, report["status"], due)
+    if not any(finding["code"] == "locale" for finding in explained(explain, folder, script.encode())["findings"]):
+        yield "%s: %r has no warning" % (name, script)
+    if any(finding["code"] == "locale" for finding in report["findings"]):
+        yield "%s: %r still has the warning" % (name, made)
+
+
+def differing_characters(folder):
+    """What is wrong with what sed prints by the rows of characters."""
+    rows = [[row[0]] + [text.encode().decode("latin-1") for text in row[1:3]] for row in CHARACTERS]
+    yield from drawn.compare([(*row, None, "C.UTF-8") for row in rows])
+    for name, first, second in rows:
+        if not any(run_sed(folder, first, given) != run_sed(folder, second, given) for given in drawn.inputs(name, first, "C.UTF-8")):
+            yield "%s: both scripts make the same in the locale C" % name
+
+
 def wrong_place(explain, folder, script):
     """What is wrong with a fix of any script: the next report has an error at the same place."""
     report = explained(explain, folder, script)
@@ -111,7 +165,11 @@ def main():
     with tempfile.TemporaryDirectory(prefix="sedck-fixes-") as folder:
         for row in ROWS:
             failures += wrong_row(explain, folder, row, compares)
-        for script in WITHOUT:
+        for row in CHARACTERS:
+            failures += wrong_character(explain, folder, row)
+        if compares and has_utf_8():
+            failures += differing_characters(folder)
+        for script in WITHOUT + [script.encode() for script in UNGROUPED]:
             if fixed(explained(explain, folder, script), script):
                 failures.append("%r has a fix" % script)
         for hint in HINTS:
@@ -119,7 +177,7 @@ def main():
             failures += wrong_place(explain, folder, hint.refused.encode("latin-1"))
     for words in failures:
         print("FAILED: %s" % words)
-    print("fixes: %d scripts fixed, %d without, %d more tried, %d failures" % (len(ROWS), len(WITHOUT), followed, len(failures)))
+    print("fixes: %d scripts fixed, %d without, %d more tried, %d failures" % (len(ROWS) + len(CHARACTERS), len(WITHOUT) + len(UNGROUPED), followed, len(failures)))
     return 1 if failures else 0
 
 

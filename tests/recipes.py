@@ -104,6 +104,23 @@ def makefile(scratch):
     scratch.run(0, "make", "paths.ini")
     holds(scratch.text("paths.ini") == "[paths]\na = /usr/lib\n", "the script isn't run")
     holds(scratch.text("clean-paths.checked").startswith("accepted\n"), "no report is kept")
+    with tempfile.TemporaryDirectory(prefix="sedck-recipes-") as other:
+        scratch.environment["TMPDIR"] = other
+        script = scratch.text("clean-paths.sed")
+        itself = "w clean-paths.sed\n#%s\n:a\nbabc\n:abc\n" % ("x" * 4071)
+        holds(itself.index("babc") == 4094, "the block of the script that writes itself doesn't end behind `ba`")
+        scratch.write("clean-paths.sed", itself)
+        scratch.write("clean-paths.cert", scratch.run(0, "sedck", "rank", "clean-paths.sed"))
+        scratch.run(0, "timeout", "20", "make", "paths.ini")
+        holds(scratch.text("paths.ini") == scratch.text("paths.ini.in") == scratch.text("clean-paths.sed"), "a script that writes itself isn't run whole")
+        scratch.write("clean-paths.sed", "w /no/such/folder/x\n")
+        scratch.write("clean-paths.cert", scratch.run(0, "sedck", "rank", "clean-paths.sed"))
+        holds("/no/such/folder" in scratch.run(2, "make", "paths.ini") and scratch.has("clean-paths.checked"), "a sed that fails isn't seen")
+        holds(os.listdir(other) == [], "the copy is left")
+        scratch.write("clean-paths.sed", script)
+        scratch.copy("clean-paths.cert")
+    del scratch.environment["TMPDIR"]
+    scratch.write("paths.ini", "[paths]\na = /usr/lib\n")
     scratch.write("clean-paths.sed", scratch.text("clean-paths.sed") + ENDLESS)
     holds("rejected 1 wrong-count" in scratch.run(2, "make", "paths.ini"), "the rejection isn't shown")
     holds(not scratch.has("clean-paths.checked") and scratch.text("paths.ini").endswith("lib\n"), "a rejected script leaves something else")

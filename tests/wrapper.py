@@ -133,8 +133,32 @@ def check_answers(place):
     for mode in ("log", "refuse"):
         found = place.call(loop, mode=mode, given="xéé\n".encode())
         expect(found == due, "%s, bytes above 127 in the locale C: %s" % (mode, found))
-    status, _, said = place.call(loop, mode="refuse", LC_ALL="C.UTF-8", SED="/bin/true")
-    expect(status == 120 and b"[locale]\n" in said, "refuse: bytes above 127 in UTF-8: %d, %s" % (status, said))
+    place.lines()
+    for script in (loop, "# sedck: ignore locale\n" + loop, "y/é/ee/"):
+        status, _, said = place.call(script, mode="refuse", LC_ALL="C.UTF-8", SED="/bin/true")
+        expect(status == 120 and said.count(b"sed: error: ") == said.count(b"[locale]\n") - said.count(b"warning: ") == 1, "refuse: %r in UTF-8: %d, %s" % (script, status, said))
+    for locale, script, is_due in (("C.UTF-8", "s/é/e/", False), ("C.UTF-8", "s/[é]*/e/", False), ("C", loop, False), ("POSIX", loop, False), ("de_DE@euro", "s/é/e/", True)):
+        found = place.call(script, mode="refuse", given="é\n".encode(), LC_ALL=locale)
+        due = (120, b"") if is_due else real(script, given="é\n".encode(), here=place.here, LC_ALL=locale)[:2]
+        expect(found[:2] == due and (b"[locale]\n" in found[2]) == is_due, "refuse: %r in %s: %s" % (script, locale, found))
+    found = [[finding["code"] for finding in line["report"]["findings"]] for line in place.lines()]
+    expect([codes.count("locale") for codes in found] == [1, 0, 1, 0, 0, 0, 0, 0], "locale: the log has %s" % found)
+    own = place.here / "own.sed"
+    for text, words in (("p\nw own.sed\n", ["in"]), ("p\n", ["-i", "in", "own.sed"])):
+        own.write_text(text)
+        status, _, said = place.call("-f", "own.sed", *words, mode="refuse")
+        expect(status == 120 and said.count(b"[names-itself]\n") == 1 and own.read_text() == text, "refuse: a script that names itself: %d, %s" % (status, said))
+        place.call("-f", "own.sed", *words)
+        expect(own.read_text() != text, "log: %s: what is refused does no harm" % words)
+    for words in (["-s", "$d"], ["-z", "N;P;D"], ["-i", "$d"]):
+        for name in ("one", "two"):
+            (place.here / name).write_text("a\nb\n")
+        due = real(*words, "one", "two", here=place.here)
+        texts = [(place.here / name).read_text() for name in ("one", "two")]
+        for name in ("one", "two"):
+            (place.here / name).write_text("a\nb\n")
+        found = place.call(*words, "one", "two", mode="refuse")
+        expect(found == due and [(place.here / name).read_text() for name in ("one", "two")] == texts, "refuse, %s: %s" % (words, found))
 
 
 def check_words(place):
@@ -371,15 +395,19 @@ def check_locale(place):
         settings = ["%s=%s" % pair for pair in locale.items()]
         return place.call("-u", "LC_ALL", "-u", "LC_CTYPE", "-u", "LANG", *settings, "sed", *words, program="env", mode=mode, SED=sed, **given)
 
-    utf_8 = {"LC_ALL": "C.UTF-8"}
-    for locale, is_due in (({}, False), ({"LANG": "C"}, False), ({"LANG": "C.UTF-8"}, True), ({"LC_CTYPE": "C.UTF-8", "LANG": "C"}, True), ({"LC_CTYPE": "POSIX", "LANG": "C.UTF-8"}, False),
-                           ({"LC_ALL": "C", "LC_CTYPE": "C.UTF-8", "LANG": "C.UTF-8"}, False), ({"LC_ALL": "C.UTF-8", "LC_CTYPE": "C", "LANG": "C"}, True),
-                           ({"LC_ALL": "", "LC_CTYPE": "", "LANG": "C.UTF-8"}, True), ({"LC_ALL": "", "LC_CTYPE": "C", "LANG": "C.UTF-8"}, False), ({"LC_ALL": "POSIX"}, False),
-                           ({"LC_ALL": ""}, False), ({"LC_ALL": "ja_JP.SJIS"}, True), ({"LANG": "zh_CN.GB18030"}, True), ({"LANG": "de_DE@euro"}, True), ({"LC_MESSAGES": "C.UTF-8"}, False)):
+    other = {"LC_ALL": "ja_JP.SJIS"}
+    bytewise = ({}, {"LANG": "C"}, {"LC_CTYPE": "POSIX", "LANG": "C.UTF-8"}, {"LC_ALL": "C", "LC_CTYPE": "C.UTF-8", "LANG": "C.UTF-8"}, {"LC_ALL": "", "LC_CTYPE": "C", "LANG": "C.UTF-8"},
+                {"LC_ALL": "POSIX"}, {"LC_ALL": ""}, {"LC_MESSAGES": "C.UTF-8"})
+    utf_8 = ({"LANG": "C.UTF-8"}, {"LC_CTYPE": "C.UTF-8", "LANG": "C"}, {"LC_ALL": "C.UTF-8", "LC_CTYPE": "C", "LANG": "C"}, {"LC_ALL": "", "LC_CTYPE": "", "LANG": "C.UTF-8"}, {"LANG": "en_US.utf8"},
+             {"LANG": "de_DE.UTF8@euro"}, {"LANG": "de_DE.Utf-8@x.EUC"})
+    others = (other, {"LANG": "zh_CN.GB18030"}, {"LANG": "de_DE@euro"}, {"LANG": "ja_JP.EUC@x.utf8"}, {"LANG": "/tmp/x.UTF-8"}, {"LANG": "UTF-8"}, {"LANG": "xUTF-8"}, {"LANG": "C.UTF-8.x"}, {"LANG": "C.UTF-16"})
+    for locale, findings, is_due in ([(locale, findings, False) for locale in bytewise for findings in ("", '{"code":"locale"}')] + [(locale, "", False) for locale in utf_8]
+                                     + [(locale, '{"code":"locale"}', True) for locale in utf_8] + [(locale, findings, True) for locale in others for findings in ("", '{"code":"locale"}')]):
         for words in (["s/é*/x/"], ["-f", "high.sed"], ["s/a*/x/"], ["-f", "low.sed"]):
-            status, _, said = call(*words, locale=locale)
+            status, _, said = call(*words, locale=locale, REPORT=report(findings=findings))
             is_high = is_due and words[-1] in ("s/é*/x/", "high.sed")
-            expect((status, b"[locale]\n" in said) == (120 if is_high else 0, is_high), "locale, %s, %s: %d, %s" % (locale, words, status, said))
+            expect((status, b"[locale]\n" in said) == (120 if is_high else 0, is_high), "locale, %s, %s, %s: %d, %s" % (locale, findings, words, status, said))
+    expect(call("s/é/e/", locale=utf_8[0], REPORT="")[2].count(b"[locale]\n") == 1, "locale: a call of which nothing is known is safe")
     rows = [(words, True) for words in (["-e", "s/é//"], ["-es/é//"], ["-ne", "s/é//"], ["--expression=s/é//"], ["--exp", "s/é//"], ["-e", "p", "-e", "é"], ["-f", "high.sed"], ["-nfhigh.sed"],
                                         ["--file=high.sed"], ["--fi", "high.sed"], ["-f", "low.sed", "-f", "high.sed"], ["big", "-e", "é"], ["--", "é"], ["-f", "comment.sed"], ["-e", "p", "-f", "high.sed"])]
     rows += [(words, False) for words in (["p", "é"], ["-e", "p", "é"], ["é", "-e", "p"], ["-f", "low.sed"], ["-f", "é"], ["-nfé"], ["--file=é"], ["-f", "low.sed", "é"], [bytes(range(1, 128))],
@@ -387,15 +415,15 @@ def check_locale(place):
     place.lines()
     for words, is_due in rows:
         for mode in ("log", "warn", "refuse"):
-            status, _, said = call(*words, mode=mode, locale=utf_8)
+            status, _, said = call(*words, mode=mode, locale=other)
             found = (status, b"[locale]\n" in said)
             expect(found == (120 if is_due and mode == "refuse" else 0, is_due and mode != "log"), "locale, %s, %s: %d, %s" % (mode, words, status, said))
             line, = place.lines()
             expect(line["accepted"] != is_due and ["the locale" in problem for problem in line["problems"]] == [True] * is_due, "locale, %s, %s: the log has %s" % (mode, words, line["problems"]))
     for byte in range(128, 256):
-        expect(call(b"s/%c//" % byte, locale=utf_8)[0] == 120, "locale: the byte %d isn't seen" % byte)
+        expect(call(b"s/%c//" % byte, locale=other)[0] == 120, "locale: the byte %d isn't seen" % byte)
     place.lines()
-    for locale in ({}, utf_8) * 2:
+    for locale in ({}, other) * 2:
         call("s/é/e/", mode="log", locale=locale, ONCE=place.top / "once")
         call("-f", "high.sed", mode="log", locale=locale, ONCE=place.top / "once")
     found = [line["accepted"] for line in place.lines()]
@@ -407,6 +435,32 @@ def check_locale(place):
                 place.install(place.top / "real/sed", "#!/bin/sh\nenv | grep ^LC_ALL= || echo none\n")
                 found = call("p", locale=locale, sed=sed, PATH=place.first + ":" + str(place.top / "real") + ":" + os.environ["PATH"], GNU=0, **given)[1]
                 expect(found == (b"none\n" if value is None else b"LC_ALL=%s\n" % value.encode()), "locale, %s, %s: sed runs in %s" % (value, given, found))
+
+
+def check_itself(place):
+    """A file of -f that the script writes, or that is overwritten."""
+    place.lines()
+    for name in ("x.sed", "it's a b.sed", "x\ny.sed", "''", "in"):
+        (place.here / name).write_text("p\n")
+        (place.here / ("hard" + name)).hardlink_to(place.here / name)
+    (place.here / "link").symlink_to("x.sed")
+    rows = [(["-f", "x.sed", "in"], "x.sed", True), (["-f", "x.sed", "in"], "./x.sed", True), (["-nfx.sed", "in"], "link", True), (["--file=x.sed", "in"], "hardx.sed", True),
+            (["-e", "p", "--fi", "x.sed", "in"], str(place.here / "x.sed"), True), (["-f", "in", "-f", "x.sed"], "x.sed", True), (["-f", "link"], "x.sed", True),
+            (["-f", "it's a b.sed"], "hardit's a b.sed", True), (["-f", "x\ny.sed"], "hardx\ny.sed", None), (["-f", "''"], "hard''", True),
+            (["-f", "x.sed", "in"], "there", False), (["-f", "x.sed"], "hardin", False), (["p", "x.sed"], "new", False),
+            (["-i", "-f", "x.sed", "x.sed"], "", True), (["-f", "x.sed", "in", "./x.sed", "-i"], "", True), (["-nif", "-f", "x.sed", "link"], "", True),
+            (["--in-place=.b", "-fx.sed", "--", "hardx.sed"], "", True), (["--i", "-f", "it's a b.sed", "it's a b.sed"], "", True), (["-I", ".b", "-f", "x.sed", "x.sed"], "", True),
+            (["-f", "x.sed", "x.sed"], "", False), (["-i", "-f", "x.sed", "in"], "", False), (["-i", "-e", "p", "x.sed"], "", False), (["-i", "-f", "x.sed", "-e", "p", "in"], "", False),
+            (["-s", "-l", "5", "-f", "x.sed", "x.sed"], "", False), (["-f", "x.sed", "--", "-i", "x.sed"], "", False)]
+    for words, name, is_due in rows:
+        for mode in ("log", "warn", "refuse"):
+            status, _, said = place.call(*words, mode=mode, REPORT=report(writes=name and named(name)), SED="/bin/true")
+            line, = place.lines()
+            if is_due is None:
+                expect(not line["accepted"], "itself, %s: a name with a newline is compared" % words)
+                continue
+            found = (status, b"[names-itself]\n" in said, any("is also a file of -f" in problem for problem in line["problems"]))
+            expect(found == (120 if is_due and mode == "refuse" else 0, is_due and mode != "log", is_due) and line["accepted"] != is_due, "itself, %s, %s, %s: %s" % (mode, words, name, found))
 
 
 def check_sandbox(place):
@@ -444,7 +498,7 @@ def main():
             check_answers(Place(os.path.join(folder, "a"), shell, os.path.abspath(sys.argv[1])))
             place = Place(os.path.join(folder, "b"), shell)
             for check in (check_words, check_files, check_streams, check_failing, check_recursion, check_log, check_places, check_absent, check_pipes,
-                          check_locale, check_sandbox, check_own):
+                          check_locale, check_itself, check_sandbox, check_own):
                 check(place)
         failures[before:] = ["%s: %s" % (shell, failure) for failure in failures[before:]]
     for failure in failures:

@@ -15,7 +15,8 @@ use Rattle.sedck_report.specs.declared.finding.Finding.{Finding}
 use Rattle.sedck_script.specs.Program.{Command}
 use Rattle.sedck_advice.specs.declared.concerns.Concern.{Concern}
 use Rattle.sedck_advice.specs.Concerns.{is_code_of, is_warned_of}
-use Rattle.sedck_advice.specs.Slow.{repeats_reference, written_out, all_written_out, copies, command_expressions}
+use Rattle.sedck_script.specs.ByteSafe.{command_expressions}
+use Rattle.sedck_advice.specs.Slow.{repeats_reference, written_out, all_written_out, copies}
 use Rattle.sedck_advice.specs.Private.Weights.{Weighs, WeighsAll}
 use Rattle.sedck_advice.specs.declared.weights.Weight.{Weight}
 

@@ -1,9 +1,10 @@
 -- Expressions with which the matchers of seds may take very long, or never end, this project's own. No step of a run depends on them:
 -- POSIX says what an expression matches (XBD 9.3), and not how long that takes to find out.
-use Rattle.std.specs.Prelude.{ℕ, ◌+◌, ◌*◌, ◌==◌, ◌&&◌, ◌||◌, max, Bool, true, false, List, Option, Some, None, nat_lt, sum_by, flat_map, ◌++◌, if◌then◌else◌}
+use Rattle.std.specs.Prelude.{ℕ, ◌+◌, ◌*◌, ◌==◌, ◌&&◌, ◌||◌, max, Bool, true, false, List, Option, Some, None, nat_lt, sum_by, if◌then◌else◌}
 use Rattle.std.specs.List.{list_any}
 use Rattle.sedck_bre.specs.Tree.{Tree, Trees, Group, Ref, Seq, Repeat, Nil, Then}
-use Rattle.sedck_script.specs.Program.{Program, Command, address_patterns, verb_patterns, pattern_expressions}
+use Rattle.sedck_script.specs.Program.{Program, Command}
+use Rattle.sedck_script.specs.ByteSafe.{command_expressions}
 
 abbrev mutual
   -- the tree refers to this group
@@ -61,10 +62,6 @@ abbrev mutual
   pub all_written_out : (inside : Bool) → Trees → ℕ
   all_written_out inside Nil = 0
   all_written_out inside (Then t ts) = written_out inside t + all_written_out inside ts
-
--- the expressions of a command, those of its addresses too
-abbrev pub command_expressions : Command → List Tree
-command_expressions c = flat_map pattern_expressions (address_patterns c.address ++ verb_patterns c.verb)
 
 -- an expression of one of the script's commands does
 abbrev pub has_repeated_reference : Program → Bool

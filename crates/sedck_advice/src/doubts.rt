@@ -1,5 +1,6 @@
 //! Why a file's name should be looked at twice, by its bytes alone.
 
+use crate::paths::last_part;
 use sedck_report::{Code, is_printable};
 
 /// Why a name should be looked at twice: the finding's code, and the reason.
@@ -100,7 +101,7 @@ pub(crate) fn hidden_doubt(name: &[u8]) -> Option<Doubt> {
 
 /// Of a file that `make` obeys.
 pub(crate) fn makefile_doubt(name: &[u8]) -> Option<Doubt> {
-    let last = name.rsplit(|byte| *byte == b'/').next().unwrap_or(&[]);
+    let last = last_part(name);
     doubt_where(
         MAKEFILES.iter().any(|file| file.as_bytes() == last),
         Code::MakefileName,

@@ -1,76 +1,30 @@
 //! Signs of extended expressions in those of a script, which are read as basic ones.
 
+use crate::expressions::{Expression, expressions_in};
 use crate::hints::is_of_label;
 use crate::lists::{Reading, is_blank};
-use crate::spot::behind_part;
 use sedck_script::Location;
 
 /// The first sign of an extended expression in what the command has of them.
 pub(crate) fn extended_in(text: &[u8], location: Location) -> Option<usize> {
-    if let Some(sign) = sign_in_address(text, location.start) {
-        return Some(sign);
+    for expression in expressions_in(text, location) {
+        if let Some(expression) = expression
+            && let Some(sign) = extended_at(expression)
+        {
+            return Some(sign);
+        }
     }
-    if let Some(sign) = sign_in_second(text, location) {
-        return Some(sign);
-    }
-    match text.get(location.verb..).unwrap_or(&[]) {
-        [b's', delimiter, ..] => extended_at(text, location.verb.checked_add(2)?, *delimiter),
-        _ => None,
-    }
+    None
 }
 
-/// The first sign in the expression of the address that is here.
-fn sign_in_address(text: &[u8], at: usize) -> Option<usize> {
-    let (start, delimiter) = expression_at(text, at)?;
-    extended_at(text, start, delimiter)
-}
-
-/// The first sign in the expression of the command's second address.
-fn sign_in_second(text: &[u8], location: Location) -> Option<usize> {
-    let behind = text
-        .get(end_of_expression(text, location.start)..location.verb)
-        .unwrap_or(&[]);
-    let second = second_address(behind)?;
-    sign_in_address(text, location.verb.saturating_sub(second.len()))
-}
-
-/// What follows the expression of the address that is here; the same place where it has none.
-fn end_of_expression(text: &[u8], at: usize) -> usize {
-    let Some((start, delimiter)) = expression_at(text, at) else {
-        return at;
-    };
-    let rest = behind_part(text.get(start..).unwrap_or(&[]), delimiter);
-    text.len().saturating_sub(rest.len())
-}
-
-/// What follows the comma after a first address, and its blanks.
-fn second_address(behind: &[u8]) -> Option<&[u8]> {
-    let comma = behind.iter().position(|byte| *byte == b',')?;
-    let rest = behind.get(comma.checked_add(1)?..)?;
-    let blanks = rest.iter().position(|byte| !is_blank(*byte))?;
-    rest.get(blanks..)
-}
-
-/// Where the expression of an address begins that is here, and its delimiter.
-fn expression_at(text: &[u8], at: usize) -> Option<(usize, u8)> {
-    match text.get(at..).unwrap_or(&[]) {
-        [b'/', ..] => Some((at.checked_add(1)?, b'/')),
-        [b'\\', delimiter, ..] => Some((at.checked_add(2)?, *delimiter)),
-        _ => None,
-    }
-}
-
-/// The first sign of an extended expression in the one that begins there.
-fn extended_at(text: &[u8], start: usize, delimiter: u8) -> Option<usize> {
-    let part = text.get(start..).unwrap_or(&[]);
-    let behind = behind_part(part, delimiter);
-    let length = part.len().saturating_sub(behind.len()).saturating_sub(1);
-    let expression = part.get(..length).unwrap_or(&[]);
-    let mut seen = Seen::before(expression);
-    for (index, byte) in expression.iter().enumerate() {
-        let rest = expression.get(index.saturating_add(1)..).unwrap_or(&[]);
+/// The first sign of an extended expression in this one.
+fn extended_at(expression: Expression) -> Option<usize> {
+    let bytes = expression.bytes;
+    let mut seen = Seen::before(bytes);
+    for (index, byte) in bytes.iter().enumerate() {
+        let rest = bytes.get(index.saturating_add(1)..).unwrap_or(&[]);
         if let Some(sign) = seen.sign_at(index, *byte, rest) {
-            return start.checked_add(sign);
+            return expression.start.checked_add(sign);
         }
         seen = seen.after(index, *byte);
     }

@@ -490,7 +490,7 @@ fn other_hint(fault: ScriptFault) -> Option<&'static str> {
         }
         ScriptFault::Unterminated { .. } => {
             Some(
-                "end each part with the delimiter, on the same line: `s/a/b/`; a newline or a backslash can't be the delimiter",
+                "end each part with the delimiter, on the same line: `s/a/b/`; a newline, a backslash or a byte above 127 can't be the delimiter",
             )
         }
         ScriptFault::MissingName { .. } => Some(

@@ -27,7 +27,7 @@ impl Word<'_> {
 }
 
 /// The codes of warnings and notes that a comment in the script may silence: all but those of what isn't known.
-static IGNORABLE: [Code; 23] = [
+static IGNORABLE: [Code; 26] = [
     Code::OptionsInFirstLine,
     Code::BraceBehindLabel,
     Code::LooksExtended,
@@ -48,9 +48,12 @@ static IGNORABLE: [Code; 23] = [
     Code::ShellByteInName,
     Code::ReadAndWritten,
     Code::SameFile,
+    Code::NamesItself,
     Code::UnknownCode,
     Code::InPlace,
     Code::NoBound,
+    Code::LabelToTheLineEnd,
+    Code::LongLabels,
 ];
 
 /// The words of all such comments. Each is a line of its own: neither after a command nor in a text.

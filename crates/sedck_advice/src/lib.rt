@@ -7,14 +7,17 @@
 #![tactic(auto)]
 
 mod adding;
+mod characters;
 mod comments;
 mod concerns;
 mod doubts;
 mod escapes;
+mod expressions;
 mod extended;
 mod foreign;
 mod hints;
 mod ignored;
+mod labels;
 mod lists;
 mod looks;
 mod mends;

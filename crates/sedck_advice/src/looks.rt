@@ -7,7 +7,7 @@ use crate::comments::silencing;
 use crate::extended::extended_in;
 use crate::lists::{is_blank, without_blanks};
 use sedck_report::{
-    Code, Finding, Fix, Level, Position, end_behind, line_len, position_at, positions,
+    Code, Finding, Fix, Level, NewText, Position, end_behind, line_len, position_at, positions,
 };
 use sedck_script::Location;
 use std::alloc::{AllocError, Global};
@@ -72,7 +72,7 @@ fn brace_look(position: Position) -> Look {
         fix: Some(Fix {
             start: position,
             end: position,
-            text: ";",
+            text: NewText::Plain(";"),
         }),
     }
 }
@@ -117,7 +117,7 @@ fn comment_look(text: &[u8], position: Position) -> Look {
         fix: Some(Fix {
             start: mark,
             end: mark,
-            text: " ",
+            text: NewText::Plain(" "),
         }),
     }
 }

@@ -56,12 +56,13 @@ fn unplaced_files<'a>(alloc: Global, names: &[&'a [u8]]) -> Result<Vec<NamedFile
 pub(crate) fn name_warnings(
     alloc: Global,
     findings: &mut Vec<Finding>,
+    own: Option<&[u8]>,
     reads: &[NamedFile],
     writes: &[NamedFile],
 ) -> Result<(), AllocError>
     ensures { OnOk result (AddsNoError findings.old.items findings.new.items) }
 {
-    let paths = Paths::of(alloc, reads, writes)?;
+    let paths = Paths::of(alloc, own, reads, writes)?;
     side_warnings(alloc, findings, reads, writes, &paths, Access::Read)?;
     side_warnings(alloc, findings, writes, reads, &paths, Access::Write)
 }
@@ -106,6 +107,7 @@ fn file_warnings(
         shell_doubt(file.name),
         both_doubt(file, others, access),
         same_doubt(paths.is_shared(alloc, file.name)?),
+        own_doubt(paths.is_own(file.name), access),
     ];
     for doubt in doubts {
         if let Some(doubt) = doubt {
@@ -150,6 +152,15 @@ fn both_doubt(file: &NamedFile, others: &[NamedFile], access: Access) -> Option<
         access == Access::Write && has_name(others, file.name),
         Code::ReadAndWritten,
         "the script reads it too",
+    )
+}
+
+/// Of a name that may be that of the script's own file. What is read of it is no matter.
+fn own_doubt(is_own: bool, access: Access) -> Option<Doubt> {
+    doubt_where(
+        is_own && access == Access::Write,
+        Code::NamesItself,
+        "the script's own file has that name, and a sed empties it before it has read the whole script",
     )
 }
 

@@ -5,17 +5,20 @@ use std::alloc::{AllocError, Global};
 
 /// The paths of all names of a script, in order, each once for each name.
 #[derive(Drop)]
-pub(crate) struct Paths {
+pub(crate) struct Paths<'a> {
     sorted: Vec<Vec<u8>>,
+    /// The path of the script's own file, if it has one.
+    own: Option<&'a [u8]>,
 }
 
-impl Paths {
+impl<'a> Paths<'a> {
     /// The paths of these names. A name that is on both sides counts once.
     pub(crate) fn of(
         alloc: Global,
+        own: Option<&'a [u8]>,
         reads: &[NamedFile],
         writes: &[NamedFile],
-    ) -> Result<Paths, AllocError> {
+    ) -> Result<Paths<'a>, AllocError> {
         let mut sorted: Vec<Vec<u8>> = Vec::new(alloc);
         for file in reads {
             sorted.push(path_of(alloc, file.name)?)?;
@@ -26,7 +29,15 @@ impl Paths {
             }
         }
         sorted.sort()?;
-        Ok(Paths { sorted })
+        Ok(Paths { sorted, own })
+    }
+
+    /// Whether the last part of this name is that of the script's own path: from which folder sed will be called isn't known.
+    pub(crate) fn is_own(&self, name: &[u8]) -> bool {
+        match self.own {
+            Some(own) => last_part(own) == last_part(name),
+            None => false,
+        }
     }
 
     /// Whether another name has the path of this one.
@@ -46,6 +57,11 @@ impl Paths {
 /// Whether the files, which are sorted by name, have this one.
 pub(crate) fn has_name(files: &[NamedFile], name: &[u8]) -> bool {
     files.binary_search_by(|file| file.name.cmp(&name)).is_ok()
+}
+
+/// What follows the last slash.
+pub(crate) fn last_part(path: &[u8]) -> &[u8] {
+    path.rsplit(|byte| *byte == b'/').next().unwrap_or(path)
 }
 
 /// The name without what leads nowhere: `./`, `/./` and the second of two slashes.

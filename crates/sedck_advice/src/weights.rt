@@ -2,13 +2,13 @@
 //! intervals write out.
 
 ghost use Rattle.std.specs.Prelude.{◌≡◌, ◌+◌, ◌||◌, [], ◌∷◌, min, map, flat_map};
-ghost use Rattle.sedck_bre.specs.Tree.{trees};
+ghost use Rattle.sedck_bre.specs.Tree.{Byte, trees};
 ghost use Rattle.sedck_bre.specs.Lengths.{cap};
 ghost use Rattle.sedck_bre.specs.View.{tree};
 ghost use Rattle.sedck_script.specs.Program.{place_patterns, address_patterns, verb_patterns, pattern_expressions};
 ghost use Rattle.sedck_script.specs.View.{pattern_of, place_of, address_of, verb_of, command_of};
-ghost use Rattle.sedck_advice.specs.Concerns.{is_high_byte, repeats_byte, one_repeats_byte};
-ghost use Rattle.sedck_advice.specs.Slow.{copies, is_group, refers_to, one_refers_to, repeats_in, one_repeats_in, written_out, all_written_out, command_expressions};
+ghost use Rattle.sedck_script.specs.ByteSafe.{goes_on, bytes_due, due_behind, splits_character, one_splits, is_cut, command_expressions};
+ghost use Rattle.sedck_advice.specs.Slow.{copies, is_group, refers_to, one_refers_to, repeats_in, one_repeats_in, written_out, all_written_out};
 ghost use Rattle.sedck_advice.specs.Private.Weights.{Weighs, WeighsAll};
 
 use sedck_bre::Bre;
@@ -119,36 +119,93 @@ fn all_written_out(items: &[Bre], is_inside: bool) -> u32
     total
 }
 
-/// Whether the tree is a byte above 127.
-fn is_high_byte(expression: &Bre) -> bool
-    ensures { result ≡ is_high_byte (tree expression.now) }
+/// Whether the byte is one of a character of UTF-8, but not its first one.
+fn goes_on(byte: u8) -> bool
+    ensures { result ≡ goes_on byte }
 {
-    matches!(expression, Bre::Byte(128..=255))
+    byte > 127 && byte < 192
 }
 
-/// Whether a byte above 127 is repeated by itself.
+/// How many of these follow the byte in its character.
+fn bytes_due(byte: u8) -> u8
+    ensures { result ≡ bytes_due byte }
+{
+    match byte {
+        0..=191 => 0,
+        192..=223 => 1,
+        224..=239 => 2,
+        240..=255 => 3,
+    }
+}
+
+/// How many are still due behind a byte, where so many are before it.
+fn due_behind_byte(byte: u8, due: u8) -> u8
+    ensures { result ≡ due_behind (Byte byte) due }
+{
+    if goes_on(byte) {
+        due.saturating_sub(1)
+    } else {
+        bytes_due(byte)
+    }
+}
+
+/// How many are still due behind an item.
+fn due_behind(item: &Bre, due: u8) -> u8
+    ensures { result ≡ due_behind (tree item.now) due }
+{
+    match item {
+        Bre::Byte(byte) => due_behind_byte(*byte, due),
+        _ => 0,
+    }
+}
+
+/// Whether the byte isn't due, or is none of those that are.
+fn is_cut_byte(byte: u8, due: u8) -> bool
+    ensures { result ≡ is_cut (Byte byte) due }
+{
+    if goes_on(byte) { due == 0 } else { due > 0 }
+}
+
+/// Whether a part of a character is there without the others.
 #[cycle(bytes)]
-fn repeats_byte(expression: &Bre) -> bool
-    ensures { result ≡ repeats_byte (tree expression.now) }
+fn splits_character(expression: &Bre) -> bool
+    ensures { result ≡ splits_character (tree expression.now) }
 {
     match expression {
-        Bre::Group(_, body) => repeats_byte(body),
-        Bre::Seq(items) => one_repeats_byte(items),
-        Bre::Repeat { body, .. } => is_high_byte(body) || repeats_byte(body),
+        Bre::Byte(byte) => *byte > 127,
+        Bre::Group(_, body) => splits_character(body),
+        Bre::Seq(items) => one_splits(items),
+        Bre::Repeat { body, .. } => splits_character(body),
         _ => false,
     }
 }
 
 #[cycle(bytes)]
-fn one_repeats_byte(items: &[Bre]) -> bool
-    ensures { result ≡ one_repeats_byte (trees (map tree items.now)) }
+fn one_splits(items: &[Bre]) -> bool
+    ensures { result ≡ one_splits (trees (map tree items.now)) 0 }
 {
+    let mut due = 0;
     for item in items {
-        if repeats_byte(item) {
+        if is_cut(item, due) {
             return true;
         }
+        due = due_behind(item, due);
     }
-    false
+    due > 0
+}
+
+/// Whether what is due isn't there, or the item splits a character.
+#[cycle(bytes)]
+fn is_cut(item: &Bre, due: u8) -> bool
+    ensures { result ≡ is_cut (tree item.now) due }
+{
+    match item {
+        Bre::Byte(byte) => is_cut_byte(*byte, due),
+        Bre::Group(_, body) => due > 0 || splits_character(body),
+        Bre::Seq(items) => due > 0 || one_splits(items),
+        Bre::Repeat { body, .. } => due > 0 || splits_character(body),
+        _ => due > 0,
+    }
 }
 
 /// What is known of some expressions.
@@ -158,7 +215,7 @@ pub(crate) struct Weight {
     pub group: bool,
     /// Whether one does, or repeats a reference by itself.
     pub reference: bool,
-    /// Whether one repeats a byte above 127 by itself.
+    /// Whether one splits a character of UTF-8.
     pub byte: bool,
     /// The items that their intervals write out, at most the cap.
     pub items: u32,
@@ -195,7 +252,7 @@ fn weight_of_tree(whole: &Bre) -> Weight
     Weight {
         group: repeats_in(whole, whole, false, false),
         reference: repeats_in(whole, whole, true, false),
-        byte: repeats_byte(whole),
+        byte: splits_character(whole),
         items: written_out(whole, false),
     }
 }

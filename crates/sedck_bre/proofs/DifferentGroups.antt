@@ -4,15 +4,17 @@ use Rattle.std.specs.Prelude.{◌==◌, ◌||◌, if◌then◌else◌}
 use Rattle.std.proofs.lemmas.Bool.{false≢true}
 use Rattle.std.proofs.lemmas.Bool.Decides.{nat_tests}
 use Rattle.sedck_bre.specs.Tree.{Tree, Trees, Byte, Any, Set, Start, End, Maybe, Group, Ref, Seq, Repeat, Nil, Then, groups_in, groups_in_all, is_in}
-use Rattle.sedck_bre.specs.Match.{Groups, no_groups, Match}
+use Rattle.sedck_bre.specs.Match.{Groups, no_groups}
+use Rattle.sedck_bre.specs.WideMatch.{WideMatch}
 use Rattle.sedck_bre.specs.WellFormed.{CountsFrom, IsWellFormed}
 use Rattle.sedck_bre.specs.Rests.{is_item, is_top_group, texts_length, HasRest, IsLeastRest}
 use Rattle.sedck_bre.specs.Private.Bounds.{no_bounds, least, after_all, outside_picked}
 use Rattle.sedck_bre.proofs.LeastLemmas.{CountsFrom-right}
-use Rattle.sedck_bre.proofs.LeastFloor.{floor_all, least-floor}
+use Rattle.sedck_bre.proofs.LeastFloor.{floor_all, wide-floor}
 use Rattle.sedck_bre.proofs.LeastReached.{least-met}
 use Rattle.sedck_bre.proofs.NamedSums.{item_sum, items_sum, without, items_sum-below, items_sum-grows, later_item}
-use Rattle.sedck_bre.proofs.LeastRest.{lengths, outside-floor, outside-split, least-rest}
+use Rattle.sedck_bre.proofs.LeastRest.{HasWideFloor, lengths, outside-floor, outside-split, least-rest}
+use Rattle.sedck_bre.proofs.MatchIsWide.{widens}
 
 -- each is an item of the whole expression, and none is there twice
 abbrev pub AreDifferentTopGroups : Tree → List ℕ → Type 0
@@ -114,7 +116,7 @@ texts_items e ts h (k ∷ ks) top =
 -- ---- The least rest
 
 items_floor : (ts : Trees) → CountsFrom 1 (groups_in_all ts) → (ks : List ℕ) → AreDifferentTopGroups (Seq ts) ks → (w : List ℕ) (e : Groups)
-    → Match (Seq ts) no_groups w e → outside_picked (listed ks) no_bounds ts + texts_length e ks ≤ length w
+    → WideMatch (Seq ts) no_groups w e → outside_picked (listed ks) no_bounds ts + texts_length e ks ≤ length w
 items_floor ts h ks top w e m =
     let low = outside-floor (listed ks) ts 1 no_bounds h (λ k l. refl) no_groups e w (λ k. omega arith) m in
     let same = texts_items e ts h ks top in
@@ -128,8 +130,9 @@ items_met ts f ks top =
     let w = shortest.0 in
     let e = shortest.1.0 in
     let m = shortest.1.1 in
-    let long = (floor_all ts 1 no_bounds f.numbered (λ k l. refl) no_groups e w (λ k. omega arith) m).1 in
-    let low = items_floor ts f.numbered ks top w e m in
+    let wide = widens (Seq ts) no_groups w e m in
+    let long = (floor_all ts 1 no_bounds f.numbered (λ k l. refl) no_groups e w (λ k. omega arith) wide).1 in
+    let low = items_floor ts f.numbered ks top w e wide in
     let cut = outside-split (listed ks) ts 1 no_bounds f.numbered in
     let more = items_sum-grows (listed ks) (after_all no_bounds ts) (lengths e) ts long in
     let same = texts_items e ts f.numbered ks top in
@@ -141,26 +144,30 @@ no_items t (k ∷ ks) none top = absurd (false≢true (sym (none k) ∙ top.0))
 
 -- an expression that is no list of items has no group as an item
 whole_rest : (t : Tree) → IsWellFormed t → ((k : ℕ) → is_top_group t k ≡ false) → (ks : List ℕ) → AreDifferentTopGroups t ks
-    → (n : ℕ) × IsLeastRest t ks n
+    → (n : ℕ) × HasWideFloor t ks n
 whole_rest t f none ks top =
     let empty : ks ≡ [] = no_items t ks none top in
     let zero : (e : Groups) → texts_length e ks ≡ 0 = λ e. ap (texts_length e) empty in
     let shortest = least-met t f in (
       least no_bounds t,
-      least-rest t ks (least no_bounds t) (λ w e m. omega (arith, least-floor t w f.numbered (e, m), zero e))
-          (shortest.0, shortest.1.0, shortest.1.1, omega (arith, shortest.2, zero shortest.1.0)),
+      (
+        λ w e m. omega (arith, wide-floor t w e f.numbered m, zero e),
+        (shortest.0, shortest.1.0, shortest.1.1, omega (arith, shortest.2, zero shortest.1.0)),
+      ),
     )
 
+-- the least rest of a match, which no wide match is below
+pub wide_rest_of : (t : Tree) → IsWellFormed t → (ks : List ℕ) → AreDifferentTopGroups t ks → (n : ℕ) × HasWideFloor t ks n
+wide_rest_of (Seq ts) f ks top = (outside_picked (listed ks) no_bounds ts, (items_floor ts f.numbered ks top, items_met ts f ks top))
+wide_rest_of (Byte b) f ks top = whole_rest (Byte b) f (λ k. refl) ks top
+wide_rest_of Any f ks top = whole_rest Any f (λ k. refl) ks top
+wide_rest_of (Set words) f ks top = whole_rest (Set words) f (λ k. refl) ks top
+wide_rest_of Start f ks top = whole_rest Start f (λ k. refl) ks top
+wide_rest_of End f ks top = whole_rest End f (λ k. refl) ks top
+wide_rest_of (Maybe b) f ks top = whole_rest (Maybe b) f (λ k. refl) ks top
+wide_rest_of (Group j body) f ks top = whole_rest (Group j body) f (λ k. refl) ks top
+wide_rest_of (Ref j) f ks top = whole_rest (Ref j) f (λ k. refl) ks top
+wide_rest_of (Repeat body l most) f ks top = whole_rest (Repeat body l most) f (λ k. refl) ks top
+
 pub least_rest_of : (t : Tree) → IsWellFormed t → (ks : List ℕ) → AreDifferentTopGroups t ks → (n : ℕ) × IsLeastRest t ks n
-least_rest_of (Seq ts) f ks top =
-    let n = outside_picked (listed ks) no_bounds ts in
-    (n, least-rest (Seq ts) ks n (items_floor ts f.numbered ks top) (items_met ts f ks top))
-least_rest_of (Byte b) f ks top = whole_rest (Byte b) f (λ k. refl) ks top
-least_rest_of Any f ks top = whole_rest Any f (λ k. refl) ks top
-least_rest_of (Set words) f ks top = whole_rest (Set words) f (λ k. refl) ks top
-least_rest_of Start f ks top = whole_rest Start f (λ k. refl) ks top
-least_rest_of End f ks top = whole_rest End f (λ k. refl) ks top
-least_rest_of (Maybe b) f ks top = whole_rest (Maybe b) f (λ k. refl) ks top
-least_rest_of (Group j body) f ks top = whole_rest (Group j body) f (λ k. refl) ks top
-least_rest_of (Ref j) f ks top = whole_rest (Ref j) f (λ k. refl) ks top
-least_rest_of (Repeat body l most) f ks top = whole_rest (Repeat body l most) f (λ k. refl) ks top
+least_rest_of t f ks top = let least = wide_rest_of t f ks top in (least.0, least-rest t ks least.0 least.1)

@@ -165,4 +165,8 @@ examples_hold = record {
   took_no_part = any_number_empty;
   kept = kept;
   unset = lost;
+  character = (λ e. cc, refl);
+  no_character = λ m. cc;
+  no_text = λ m. m.0 refl;
+  byte_alone = λ m. cc;
 }

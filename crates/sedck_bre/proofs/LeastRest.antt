@@ -6,13 +6,15 @@ use Rattle.std.specs.Int.{bit_at}
 use Rattle.std.proofs.lemmas.Nat.Bits.{bit_at-zero}
 use Rattle.std.proofs.lemmas.Bool.Decides.{nat_tests}
 use Rattle.sedck_bre.specs.Tree.{Tree, Trees, Byte, Any, Set, Start, End, Maybe, Group, Ref, Seq, Repeat, Nil, Then, groups_in, groups_in_all}
-use Rattle.sedck_bre.specs.Match.{Groups, no_groups, text_of, with_text, Match, MatchAll}
+use Rattle.sedck_bre.specs.Match.{Groups, no_groups, text_of, with_text}
+use Rattle.sedck_bre.specs.WideMatch.{WideMatch, WideMatchAll}
+use Rattle.sedck_bre.proofs.MatchIsWide.{widens}
 use Rattle.sedck_bre.specs.WellFormed.{CountsFrom, IsWellFormed}
 use Rattle.sedck_bre.specs.Rests.{names, named, NamesTopGroups, texts_length, HasRest, IsLeastRest}
 use Rattle.sedck_bre.specs.Private.Bounds.{Bounds, no_bounds, least, after, least_all, after_all, own_beside, outside_picked, outside}
 use Rattle.sedck_bre.specs.Lengths.{cap, IsLeastSize, HasLength}
 use Rattle.sedck_bre.proofs.LeastLemmas.{CountsFrom-left, CountsFrom-right, FreshFrom, after-fresh, after_all-below, with_bound-same}
-use Rattle.sedck_bre.proofs.LeastFloor.{Reaches, floor, floor_all, least-floor}
+use Rattle.sedck_bre.proofs.LeastFloor.{Reaches, floor, floor_all, wide-floor}
 use Rattle.sedck_bre.proofs.LeastReached.{least-met}
 use Rattle.sedck_bre.proofs.UntouchedGroups.{all_leave}
 use Rattle.sedck_bre.proofs.NamedSums.{item_sum, items_sum, texts_sum, sum_of-none, items_sum-grows, same_sums}
@@ -23,7 +25,7 @@ lengths e k = length (text_of e k)
 
 -- the text of a group that is an item is what the item matched
 own_floor : (picked : ℕ → Bool) (known : Bounds) (t : Tree) (n : ℕ) (e d e' : Groups) (u : List ℕ) → CountsFrom n (groups_in t) → least known t ≤ length u
-    → Match t e u d → ((k : ℕ) → k < n + length (groups_in t) → e' k ≡ d k) → own_beside picked known t + item_sum picked (lengths e') t ≤ length u
+    → WideMatch t e u d → ((k : ℕ) → k < n + length (groups_in t) → e' k ≡ d k) → own_beside picked known t + item_sum picked (lengths e') t ≤ length u
 own_floor picked known (Group k body) n e d e' u h low m same = go (picked k) refl
   where
     text : text_of e' k ≡ u
@@ -48,7 +50,7 @@ own_floor picked known (Repeat body l most) n e d e' u h low m same = omega (ari
 
 -- no match has less outside
 pub outside-floor : (picked : ℕ → Bool) (ts : Trees) (n : ℕ) (known : Bounds) → CountsFrom n (groups_in_all ts) → FreshFrom n known
-    → (e e' : Groups) (w : List ℕ) → Reaches known e → MatchAll ts e w e' → outside_picked picked known ts + items_sum picked (lengths e') ts ≤ length w
+    → (e e' : Groups) (w : List ℕ) → Reaches known e → WideMatchAll ts e w e' → outside_picked picked known ts + items_sum picked (lengths e') ts ≤ length w
 outside-floor picked Nil n known h f e e' w r m = omega arith
 outside-floor picked (Then t ts) n known h f e e' w r m =
     let u = m.0 in
@@ -110,7 +112,7 @@ unfolding named
 none-named bits none e = texts_sum e (names bits) nine ∙ sum_of-none (names bits) (lengths e) nine none
 
 pub rest-floor : (bits : ℕ) (ts : Trees) → CountsFrom 1 (groups_in_all ts) → NamesTopGroups (Seq ts) bits → (w : List ℕ) (e : Groups)
-    → Match (Seq ts) no_groups w e → outside bits no_bounds ts + texts_length e (named bits) ≤ length w
+    → WideMatch (Seq ts) no_groups w e → outside bits no_bounds ts + texts_length e (named bits) ≤ length w
 rest-floor bits ts h top w e m =
     let low = outside-floor (names bits) ts 1 no_bounds h (λ k l. refl) no_groups e w (λ k. omega arith) m in
     let same = named-sum bits ts h top e in
@@ -123,8 +125,9 @@ rest-met bits ts f top =
     let w = shortest.0 in
     let e = shortest.1.0 in
     let m = shortest.1.1 in
-    let long = (floor_all ts 1 no_bounds f.numbered (λ k l. refl) no_groups e w (λ k. omega arith) m).1 in
-    let low = rest-floor bits ts f.numbered top w e m in
+    let wide = widens (Seq ts) no_groups w e m in
+    let long = (floor_all ts 1 no_bounds f.numbered (λ k l. refl) no_groups e w (λ k. omega arith) wide).1 in
+    let low = rest-floor bits ts f.numbered top w e wide in
     let cut = outside-split (names bits) ts 1 no_bounds f.numbered in
     let more = items_sum-grows (names bits) (after_all no_bounds ts) (lengths e) ts long in
     let same = named-sum bits ts f.numbered top e in
@@ -132,9 +135,9 @@ rest-met bits ts f top =
 
 -- outside of no group, the rest is the length
 pub whole-floor : (bits : ℕ) (t : Tree) → IsWellFormed t → ((k : ℕ) → names bits k ≡ true → ⊥) → (w : List ℕ) (e : Groups)
-    → Match t no_groups w e → least no_bounds t + texts_length e (named bits) ≤ length w
+    → WideMatch t no_groups w e → least no_bounds t + texts_length e (named bits) ≤ length w
 whole-floor bits t f none w e m =
-    let low = least-floor t w f.numbered (e, m) in
+    let low = wide-floor t w e f.numbered m in
     let zero = none-named bits none e in
     omega (arith, low, zero)
 
@@ -144,29 +147,42 @@ whole-met bits t f none =
     let zero = none-named bits none shortest.1.0 in
     (shortest.0, shortest.1.0, shortest.1.1, omega (arith, shortest.2, zero))
 
-pub least-rest : (t : Tree) (groups : List ℕ) (n : ℕ) → ((w : List ℕ) (e : Groups) → Match t no_groups w e → n + texts_length e groups ≤ length w)
-    → HasRest t groups n → IsLeastRest t groups n
-least-rest t groups n low met = record {
-  floor = λ w e m. let fits = low w e m in (length w - texts_length e groups, omega (arith, fits), omega (arith, fits));
+-- no wide match has a smaller rest, and some match has this one
+abbrev pub HasWideFloor : Tree → List ℕ → ℕ → Type 0
+HasWideFloor t groups n = ((w : List ℕ) (e : Groups) → WideMatch t no_groups w e → n + texts_length e groups ≤ length w) × HasRest t groups n
+
+pub least-rest : (t : Tree) (groups : List ℕ) (n : ℕ) → HasWideFloor t groups n → IsLeastRest t groups n
+least-rest t groups n (low, met) = record {
+  floor = λ w e m. let fits = low w e (widens t no_groups w e m) in (length w - texts_length e groups, omega (arith, fits), omega (arith, fits));
   met = met;
 }
 
-whole-rest : (bits : ℕ) (t : Tree) → IsWellFormed t → ((k : ℕ) → names bits k ≡ true → ⊥) → (n : ℕ) × IsLeastRest t (named bits) n
-whole-rest bits t f none = (least no_bounds t, least-rest t (named bits) (least no_bounds t) (whole-floor bits t f none) (whole-met bits t f none))
+whole-rest : (bits : ℕ) (t : Tree) → IsWellFormed t → ((k : ℕ) → names bits k ≡ true → ⊥) → (n : ℕ) × HasWideFloor t (named bits) n
+whole-rest bits t f none = (least no_bounds t, (whole-floor bits t f none, whole-met bits t f none))
+
+wide_rests : (t : Tree) → IsWellFormed t → (bits : ℕ) → NamesTopGroups t bits → (n : ℕ) × HasWideFloor t (named bits) n
+wide_rests (Seq ts) f bits top = (outside bits no_bounds ts, (rest-floor bits ts f.numbered top, rest-met bits ts f top))
+wide_rests (Byte b) f bits top = whole-rest bits (Byte b) f (λ k s. false≢true (top k s).2)
+wide_rests Any f bits top = whole-rest bits Any f (λ k s. false≢true (top k s).2)
+wide_rests (Set words) f bits top = whole-rest bits (Set words) f (λ k s. false≢true (top k s).2)
+wide_rests Start f bits top = whole-rest bits Start f (λ k s. false≢true (top k s).2)
+wide_rests End f bits top = whole-rest bits End f (λ k s. false≢true (top k s).2)
+wide_rests (Maybe b) f bits top = whole-rest bits (Maybe b) f (λ k s. false≢true (top k s).2)
+wide_rests (Group j body) f bits top = whole-rest bits (Group j body) f (λ k s. false≢true (top k s).2)
+wide_rests (Ref j) f bits top = whole-rest bits (Ref j) f (λ k s. false≢true (top k s).2)
+wide_rests (Repeat body l most) f bits top = whole-rest bits (Repeat body l most) f (λ k s. false≢true (top k s).2)
 
 -- each well formed expression has a least rest
 pub least_rests : (t : Tree) → IsWellFormed t → (bits : ℕ) → NamesTopGroups t bits → (n : ℕ) × IsLeastRest t (named bits) n
-least_rests (Seq ts) f bits top =
-    (outside bits no_bounds ts, least-rest (Seq ts) (named bits) (outside bits no_bounds ts) (rest-floor bits ts f.numbered top) (rest-met bits ts f top))
-least_rests (Byte b) f bits top = whole-rest bits (Byte b) f (λ k s. false≢true (top k s).2)
-least_rests Any f bits top = whole-rest bits Any f (λ k s. false≢true (top k s).2)
-least_rests (Set words) f bits top = whole-rest bits (Set words) f (λ k s. false≢true (top k s).2)
-least_rests Start f bits top = whole-rest bits Start f (λ k s. false≢true (top k s).2)
-least_rests End f bits top = whole-rest bits End f (λ k s. false≢true (top k s).2)
-least_rests (Maybe b) f bits top = whole-rest bits (Maybe b) f (λ k s. false≢true (top k s).2)
-least_rests (Group j body) f bits top = whole-rest bits (Group j body) f (λ k s. false≢true (top k s).2)
-least_rests (Ref j) f bits top = whole-rest bits (Ref j) f (λ k s. false≢true (top k s).2)
-least_rests (Repeat body l most) f bits top = whole-rest bits (Repeat body l most) f (λ k s. false≢true (top k s).2)
+least_rests t f bits top = let least = wide_rests t f bits top in (least.0, least-rest t (named bits) least.0 least.1)
+
+-- and no wide match is below it
+pub no_shorter : (t : Tree) → IsWellFormed t → (bits : ℕ) → NamesTopGroups t bits → (n : ℕ) → IsLeastRest t (named bits) n
+    → (w : List ℕ) (e : Groups) → WideMatch t no_groups w e → n + texts_length e (named bits) ≤ length w
+no_shorter t f bits top n least w e m =
+    let (found, (low, (u, d, matches, rest))) = wide_rests t f bits top in
+    let (other, is_rest, le) = least.floor u d matches in
+    omega (arith, low w e m, rest, is_rest, le)
 
 -- the least number that the code finds
 pub least-outside : (t : Tree) (ts : Trees) (bits n : ℕ) → t ≡ Seq ts → IsWellFormed t → NamesTopGroups t bits → n ≡ min (outside bits no_bounds ts) cap
@@ -177,7 +193,7 @@ least-outside t ts bits n is f top found =
   where
     of_items : IsWellFormed (Seq ts) → NamesTopGroups (Seq ts) bits → IsLeastSize (HasRest (Seq ts) (named bits)) n
     of_items formed tops = record {
-      floor = λ m (w, e, matches, rest). let low = rest-floor bits ts formed.numbered tops w e matches in omega (arith, low, rest, found);
+      floor = λ m (w, e, matches, rest). let low = rest-floor bits ts formed.numbered tops w e (widens (Seq ts) no_groups w e matches) in omega (arith, low, rest, found);
       met = λ l.
           let same : outside bits no_bounds ts ≡ n = omega (arith, found, l) in
           subst (HasRest (Seq ts) (named bits)) same (rest-met bits ts formed tops);

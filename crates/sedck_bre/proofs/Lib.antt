@@ -1,3 +1,4 @@
+pub mod MatchIsWide
 pub mod LeastLemmas
 pub mod LeastFloor
 pub mod LeastReached

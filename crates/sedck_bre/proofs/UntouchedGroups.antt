@@ -3,7 +3,8 @@ use Rattle.std.proofs.Common.{◌≡◌, ℕ, zero, suc, ◌+◌, ◌<◌, Bool,
 use Rattle.std.specs.Prelude.{◌==◌}
 use Rattle.std.proofs.lemmas.Bool.Decides.{nat_tests}
 use Rattle.sedck_bre.specs.Tree.{Tree, Trees, Byte, Any, Set, Start, End, Maybe, Group, Ref, Seq, Repeat, Nil, Then, groups_in, groups_in_all, is_in}
-use Rattle.sedck_bre.specs.Match.{Groups, with_text, unset, Times, Match, MatchAll}
+use Rattle.sedck_bre.specs.Match.{Groups, with_text, unset, Times}
+use Rattle.sedck_bre.specs.WideMatch.{WideMatch, WideMatchAll}
 use Rattle.sedck_bre.specs.WellFormed.{CountsFrom}
 use Rattle.sedck_bre.proofs.LeastLemmas.{CountsFrom-left, CountsFrom-right, in_row}
 
@@ -29,10 +30,10 @@ times_leave k M once zero e w f (_, is) = same_at k e f is
 times_leave k M once (suc count) e w f (u, v, d, _, first, others) = times_leave k M once count d v f others ∙ once e u d first
 
 mutual
-  pub match_leaves : (t : Tree) (n k : ℕ) → CountsFrom n (groups_in t) → k < n → Leaves k (Match t)
+  pub match_leaves : (t : Tree) (n k : ℕ) → CountsFrom n (groups_in t) → k < n → Leaves k (WideMatch t)
   match_leaves (Byte b) n k h l e w f (_, is) = same_at k e f is
-  match_leaves Any n k h l e w f (_, _, _, is) = same_at k e f is
-  match_leaves (Set words) n k h l e w f (_, _, _, _, is) = same_at k e f is
+  match_leaves Any n k h l e w f (_, is) = same_at k e f is
+  match_leaves (Set words) n k h l e w f (_, is) = same_at k e f is
   match_leaves Start n k h l e w f (_, is) = same_at k e f is
   match_leaves End n k h l e w f (_, is) = same_at k e f is
   match_leaves (Maybe b) n k h l e w f (_, is) = same_at k e f is
@@ -46,9 +47,9 @@ mutual
       same_at k (with_text g j w) f is ∙ with_text-other g j w k other ∙ match_leaves body (n + 1) k h.1 (omega arith) d w g inside ∙ entered
   match_leaves (Ref j) n k h l e w f (_, is) = same_at k e f is
   match_leaves (Seq ts) n k h l e w f m = all_leave ts n k h l e w f m
-  match_leaves (Repeat body least most) n k h l e w f (count, _, times) = times_leave k (Match body) (match_leaves body n k h l) count e w f times
+  match_leaves (Repeat body least most) n k h l e w f (count, _, times) = times_leave k (WideMatch body) (match_leaves body n k h l) count e w f times
 
-  pub all_leave : (ts : Trees) (n k : ℕ) → CountsFrom n (groups_in_all ts) → k < n → Leaves k (MatchAll ts)
+  pub all_leave : (ts : Trees) (n k : ℕ) → CountsFrom n (groups_in_all ts) → k < n → Leaves k (WideMatchAll ts)
   all_leave Nil n k h l e w f (_, is) = same_at k e f is
   all_leave (Then t ts) n k h l e w f (u, v, d, _, first, others) =
       all_leave ts (n + length (groups_in t)) k (CountsFrom-right n (groups_in t) (groups_in_all ts) h) (omega arith) d v f others

@@ -2,7 +2,8 @@
 use Rattle.std.specs.Prelude.{ℕ, ◌≤◌, List, [], ◌∷◌, length, map, All, Some, None, codes}
 use Rattle.sedck_text.specs.Bytes.{caret, letter_a, letter_b, letter_c}
 use Rattle.sedck_bre.specs.Tree.{Tree, Byte, Any, Set, Start, End, Maybe, Group, Ref, Seq, Repeat, trees}
-use Rattle.sedck_bre.specs.Match.{Language}
+use Rattle.sedck_bre.specs.Match.{no_groups, Match, Language}
+use Rattle.sedck_bre.specs.WideMatch.{WideMatch}
 use Rattle.sedck_bre.specs.Shape.{Shape}
 
 abbrev pub sequence_of : List Tree → Tree
@@ -81,3 +82,8 @@ pub record ExamplesHold : Type 0 where
   -- after the second round of its group, `ab` and then `b`, the group inside has its text still, or none
   pub kept : Language nested (codes "abba")
   pub unset : Language nested (codes "abb")
+  -- where a character may have two bytes, `.` matches both, and still not the empty text; a byte matches itself alone
+  pub character : WideMatch Any no_groups (195 ∷ 169 ∷ []) no_groups
+  pub no_character : ¬ Match Any no_groups (195 ∷ 169 ∷ []) no_groups
+  pub no_text : ¬ WideMatch Any no_groups [] no_groups
+  pub byte_alone : ¬ WideMatch (Byte 169) no_groups (195 ∷ 169 ∷ []) no_groups

@@ -2,6 +2,7 @@
 pub mod Tree
 pub mod View
 pub mod Match
+pub mod WideMatch
 pub mod Lengths
 pub mod Rests
 pub mod WellFormed

@@ -14,6 +14,7 @@ use Rattle.sedck_errors.specs.declared.denied.Denied.{Denied}
 use Rattle.sedck_explanation.specs.Explanations.{IsExplanation}
 use Rattle.sedck_explanation.specs.declared.answer.Answer.TheVariants.{NotJudged}
 use Rattle.sedck_explanation.specs.declared.explanation.Explanation.{Explanation}
+use Rattle.sedck_found.specs.declared.found.FoundCall.{FoundCall}
 use Rattle.sedck_found.specs.declared.found.FoundScript.{FoundScript}
 use Rattle.sedck_found.specs.declared.found.OpenHole.{OpenHole}
 use Rattle.sedck_found.specs.declared.found.FoundScript.TheVariants.{Text, Foreign, Refused, Unknown}
@@ -91,6 +92,10 @@ abbrev pub IsSaidOfText : List ℕ → Denied → List Traced → Traced → Lis
 IsSaidOfText file denied words text holes e =
     ((call : Call) × IsCall (words_of words) call × IsSaidOfCall file denied words call text holes e)
     ⊎ (((call : Call) → IsCall (words_of words) call → ⊥) × IsUnjudged 5 e)
+
+-- what is denied of a call, where the words before its name may make it run in the locale C
+abbrev pub denied_of : FoundCall → Denied → Denied
+denied_of found denied = record denied { c_locale = denied.c_locale || found.c_locale }
 
 -- what is said of a call, by what was found of its script
 abbrev pub IsSaidOf : List ℕ → Denied → List Traced → FoundScript → Explanation → Type 0

@@ -6,7 +6,7 @@ use Rattle.sedck_explanation.specs.Called.{known_bytes}
 use Rattle.sedck_explanation.specs.declared.explanation.Explanation.{Explanation}
 use Rattle.sedck_found.specs.declared.found.Found.{Found}
 use Rattle.sedck_found.specs.declared.found.FoundCall.{FoundCall}
-use Rattle.sedck_calls_in_files.specs.Judged.{IsSaidOf}
+use Rattle.sedck_calls_in_files.specs.Judged.{IsSaidOf, denied_of}
 
 -- ---- The calls of a file
 
@@ -27,7 +27,7 @@ worse one other = if nat_le (rank other) (rank one) then one else other
 abbrev pub IsWorst : List ℕ → Denied → ℕ → List FoundCall → ℕ → Type 0
 IsWorst file denied known [] status = status ≡ known
 IsWorst file denied known (found ∷ more) status =
-    (e : Explanation) × IsSaidOf file denied found.words.items found.script e × IsWorst file denied (worse known e.status) more status
+    (e : Explanation) × IsSaidOf file (denied_of found denied) found.words.items found.script e × IsWorst file denied (worse known e.status) more status
 
 -- what is held to be in a file: the calls, and the offsets of what isn't understood
 pub record Holds : Type 0 where

@@ -4,7 +4,7 @@ ghost use Rattle.std.specs.Prelude.{◌≡◌, ◌≤◌, true, length, IfOk};
 ghost use Rattle.std.specs.List.{All};
 ghost use Rattle.sedck_report.specs.Positions.{position_in};
 ghost use Rattle.sedck_calls_in_files.specs.Placed.{IsFindingIn};
-ghost use Rattle.sedck_calls_in_files.specs.Judged.{Agrees, IsUnjudged, status_with, words_of, IsSaidOf, IsSaidOfText, IsSaidOfCall, IsJudged, IsAcceptedScript, is_open as is_open_script};
+ghost use Rattle.sedck_calls_in_files.specs.Judged.{Agrees, IsUnjudged, status_with, words_of, IsSaidOf, IsSaidOfText, IsSaidOfCall, IsJudged, IsAcceptedScript, denied_of, is_open as is_open_script};
 
 use crate::holes::{open_warnings, unknown_warning, unread_warning, value_notes, written_words};
 use crate::placed::{place_findings, placed};
@@ -35,14 +35,25 @@ pub fn explain_found<'a>(
     denied: Denied,
 ) -> Result<Explanation<'a>, AllocError>
     requires { position ≡ position_in file.now position.offset }
-    ensures said { IfOk result (IsSaidOf file.now denied found.now.words.items found.now.script) }
+    ensures said { IfOk result (IsSaidOf file.now (denied_of found.now denied) found.now.words.items found.now.script) }
     ensures places { IfOk result (λ e. All (IsFindingIn file.now) e.findings.items) }
-    ensures yes { IfOk result (λ e. e.status ≡ 0 → IsAcceptedScript file.now denied found.now.words.items found.now.script) }
+    ensures yes { IfOk result (λ e. e.status ≡ 0 → IsAcceptedScript file.now (denied_of found.now denied) found.now.words.items found.now.script) }
 {
     let written = written_words(alloc, file, &found.words)?;
     let shown = slices_of(alloc, &written)?;
-    let explanation = explain_found_script(alloc, file, position, &shown, found, denied)?;
+    let known = with_locale(denied, found);
+    let explanation = explain_found_script(alloc, file, position, &shown, found, known)?;
     with_values(alloc, file, position, explanation, &found.followed)
+}
+
+/// What is denied, with the locale as far as the words before the call's name set it.
+fn with_locale(denied: Denied, found: &FoundCall) -> Denied
+    ensures { result ≡ denied_of found.now denied }
+{
+    Denied {
+        c_locale: denied.c_locale || found.c_locale,
+        ..denied
+    }
 }
 
 /// Explains the call by what was found of its script. Its words are shown as these.

@@ -241,7 +241,8 @@ impl<R: Files + Input + AllocGlobal + Clone + Drop, O: Opener, F: Finder> Walk<'
         let Ok(text) = read_up_to(alloc, source, LONGEST_SCRIPT, InputOf::Script) else {
             return self.skip(path, pass, out);
         };
-        let explanation = explain(alloc, &text, None, self.scan.denied)?;
+        let own = Some(path.as_bytes());
+        let explanation = explain(alloc, own, &text, None, self.scan.denied)?;
         pass.counts.scripts = pass.counts.scripts.saturating_add(1);
         written(out, &script_report(alloc, self.scan, path, &explanation)?)?;
         Ok(explanation.status)

@@ -19,8 +19,10 @@ use Rattle.sedck_cert.specs.Certificate.{Certificate}
 use Rattle.sedck_cert.specs.Ranked.{ranks_at, IsSteady, NeverGrows, IsGrowth, IsFirstGrowth}
 use Rattle.sedck_cert.specs.StepLimit.{greatest_first, greatest_second}
 use Rattle.sedck_cert.specs.Bounds.{IsBoundOf, BoundsRuns}
+use Rattle.sedck_cert.specs.Everywhere.{BoundsWideRuns}
+use Rattle.sedck_flow.specs.WideRun.{all_lines}
 use Rattle.sedck_cert.specs.declared.limits.Bound.{Bound}
-use Rattle.sedck_cert.proofs.SteadyRunsCounted.{steady_counted}
+use Rattle.sedck_cert.proofs.SteadyRunsCounted.{steady_counted, wide_steady_counted}
 
 -- the edges are these, of which none so far grows
 pub record HasNoGrowUpTo (IsEdge : Edge → Type 0) (done coming : List Edge) : Type 0 where
@@ -99,3 +101,9 @@ bounds_runs p formed c b steady numbers lines steps run =
     let limit = multiplied (greatest_first c.ranks) (greatest_second c.ranks) (bytes_of lines)
     (length lines) b.per_byte b.per_line b.fixed numbers.per_byte numbers.per_line numbers.fixed in
     omega (arith, steady_counted p formed c steady lines steps run, limit)
+
+pub bounds_wide_runs : (p : Program) → AreWellFormed p → (c : Certificate) (b : Bound) → IsSteady p c → IsBoundOf c b → BoundsWideRuns p b
+bounds_wide_runs p formed c b steady numbers safe d files steps run =
+    let limit = multiplied (greatest_first c.ranks) (greatest_second c.ranks) (bytes_of (all_lines files))
+    (length (all_lines files)) b.per_byte b.per_line b.fixed numbers.per_byte numbers.per_line numbers.fixed in
+    omega (arith, wide_steady_counted p formed c steady d files steps run, limit)

@@ -4,6 +4,7 @@ use Rattle.sedck_script.specs.Invariant.{AreWellFormed}
 use Rattle.sedck_script.specs.Program.{Program}
 use Rattle.sedck_script.specs.Names.{reads, writes}
 use Rattle.sedck_flow.specs.Run.{State, Event, Run, NamesForReading, NamesForWriting}
+use Rattle.sedck_flow.specs.WideRun.{Files, WideState, WideRun, all_lines}
 use Rattle.sedck_flow.specs.Flow.{HasKind}
 use Rattle.sedck_flow.specs.LiteralKinds.{HasLiteralKind}
 use Rattle.sedck_cert.specs.Certificate.{Certificate, IsCertificate}
@@ -35,6 +36,15 @@ steady_limit c lines = (greatest_second c.ranks + 1) * (bytes_of lines + (greate
 abbrev pub SteadyRunsAreCounted : Type 0
 SteadyRunsAreCounted = (p : Program) → AreWellFormed p → (c : Certificate) → IsSteady p c
     → (lines : List (List ℕ)) (steps : List (Event × State)) → Run p lines steps → length steps ≤ steady_limit c lines
+
+-- the same of wide runs, by the lines of all files
+abbrev pub RanksBoundWideRuns : Type 0
+RanksBoundWideRuns = (p : Program) → AreWellFormed p → (c : Certificate) → IsRanked p c
+    → (d : ℕ) (files : Files) (steps : List (Event × WideState)) → WideRun p d files steps → length steps ≤ step_limit p c (all_lines files)
+
+abbrev pub SteadyWideRunsAreCounted : Type 0
+SteadyWideRunsAreCounted = (p : Program) → AreWellFormed p → (c : Certificate) → IsSteady p c
+    → (d : ℕ) (files : Files) (steps : List (Event × WideState)) → WideRun p d files steps → length steps ≤ steady_limit c (all_lines files)
 
 -- upgrading gives both nodes of a place and flag the ranks of that place and flag, or none where it has none
 abbrev pub UpgradesKeepRanks : Type 0

@@ -8,6 +8,7 @@ pub use Rattle.sedck_flow.specs.Flow
 pub use Rattle.sedck_flow.specs.Spaces
 -- What the public contracts cite, in reading order.
 pub mod Headline
+pub mod Everywhere
 pub mod Certificate
 pub mod View
 pub mod Text

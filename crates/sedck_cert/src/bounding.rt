@@ -7,6 +7,7 @@ ghost use Rattle.sedck_cert.specs.Ranked.{Accepts, IsSteady, NeverGrows, IsGrowt
 ghost use Rattle.sedck_cert.specs.StepLimit.{greatest_first, greatest_second};
 ghost use Rattle.sedck_cert.specs.Bounds.{IsBoundOf, BoundsRuns};
 ghost use Rattle.sedck_cert.specs.Headline.{IsLimit};
+ghost use Rattle.sedck_cert.specs.Everywhere.{BoundsWideRuns, IsLimitEverywhere};
 
 use crate::certificate::Cert;
 use crate::checking::{Verdict, check, ranks_of};
@@ -22,6 +23,8 @@ pub fn bound(script: &Script, cert: &Cert) -> Option<Bound>
     ensures numbers { IfSome result (IsBoundOf cert.now) }
     // No run has more steps.
     ensures counted { IfSome result (BoundsRuns script.now) }
+    // Nor has one on several files, with other ends of lines, or in another locale.
+    ensures everywhere { IfSome result (BoundsWideRuns script.now) }
 {
     match check(script, cert) {
         Verdict::Accepted => limit(script, cert),
@@ -32,7 +35,8 @@ pub fn bound(script: &Script, cert: &Cert) -> Option<Bound>
 /// The limit on the steps of any run of a script for which the certificate is accepted.
 pub fn limit(script: &Script, cert: &Cert) -> Option<Bound>
     requires { Accepts script.now cert.now }
-    ensures { IsLimit script.now cert.now result }
+    ensures limit { IsLimit script.now cert.now result }
+    ensures everywhere { IsLimitEverywhere script.now result }
 {
     if first_growth(script, cert).is_some() {
         return None;

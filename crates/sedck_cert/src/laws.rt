@@ -1,6 +1,6 @@
 //! What is proved of certificates and runs alone. The functions do nothing: their contracts are the laws.
 
-ghost use Rattle.sedck_cert.specs.Laws.{NamesAreListed, RanksBoundRuns, SteadyRunsAreCounted, TextsAreLimited, UpgradesAreAccepted, UpgradesKeepRanks};
+ghost use Rattle.sedck_cert.specs.Laws.{NamesAreListed, RanksBoundRuns, SteadyRunsAreCounted, RanksBoundWideRuns, SteadyWideRunsAreCounted, TextsAreLimited, UpgradesAreAccepted, UpgradesKeepRanks};
 
 /// The sorted names of a script are the one list of just the names that its commands name.
 pub fn names_are_listed()
@@ -15,6 +15,16 @@ pub fn ranks_bound_runs()
 /// No run of a steady script has more steps than its limit, which grows with the input's bytes and lines alone.
 pub fn steady_runs_are_counted()
     ensures { SteadyRunsAreCounted }
+{}
+
+/// No wide run of a ranked script has more steps than a number that the script, the ranks and the lines of all files give.
+pub fn ranks_bound_wide_runs()
+    ensures { RanksBoundWideRuns }
+{}
+
+/// No wide run of a steady script has more steps than its limit for the lines of all files.
+pub fn steady_wide_runs_are_counted()
+    ensures { SteadyWideRunsAreCounted }
 {}
 
 /// No certificate's text has more than 1,388,247 bytes, and none of version 1 more than 1,202,051.

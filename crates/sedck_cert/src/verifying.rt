@@ -2,6 +2,7 @@
 
 ghost use Rattle.std.specs.Prelude.{◌≡◌, IfOk};
 ghost use Rattle.sedck_cert.specs.Headline.{SpellBoth, IsSafe, IsAccepted, IsAnswered, IsOutOfMemory, IsJudged, IsLimit, IsVerdict, SaysWhy, ReportsFault, verdict_of};
+ghost use Rattle.sedck_cert.specs.Everywhere.{IsSafeEverywhere, IsLimitEverywhere};
 
 use crate::bounding::limit;
 use crate::certificate::Cert;
@@ -32,12 +33,15 @@ pub struct Judged<'a> {
 ///
 /// Where the verdict is `Accepted`, the script's runs end: for every finite list of input lines
 /// there is a number of steps that no run of the script exceeds. And every file that a run creates,
-/// writes or reads by a command is in the certificate's lists.
+/// writes or reads by a command is in the certificate's lists. The same holds `everywhere`: for every list of files and every
+/// byte that ends lines, in each locale in which the script says the same by characters as by bytes.
 pub fn judge<'a>(alloc: Global, script: &'a [u8], certificate: &[u8]) -> Result<Judged<'a>, Fault>
     ensures promise { IsAccepted (verdict_of result) → SpellBoth script.now certificate.now IsSafe }
+    ensures everywhere { IsAccepted (verdict_of result) → SpellBoth script.now certificate.now IsSafeEverywhere }
     ensures answer { (¬ IsOutOfMemory (verdict_of result)) → IsAnswered script.now certificate.now (verdict_of result) }
     ensures reported { ReportsFault script.now certificate.now (verdict_of result) }
     ensures judged { IfOk result (IsJudged script.now certificate.now) }
+    ensures limited { IfOk result (λ judged. IsLimitEverywhere judged.script judged.bound) }
 {
     let script = match sedck_script::parse(alloc, script) {
         Ok(script) => script,
@@ -56,6 +60,7 @@ fn with_verdict<'a>(script: Script<'a>, cert: Cert) -> Judged<'a>
     ensures cert { result.cert ≡ cert }
     ensures verdict { IsVerdict script.entry cert result.verdict }
     ensures limit { IsLimit script.entry cert result.bound }
+    ensures everywhere { IsLimitEverywhere script.entry result.bound }
 {
     let verdict = check(&script, &cert);
     let bound = match verdict {
@@ -74,9 +79,10 @@ fn with_verdict<'a>(script: Script<'a>, cert: Cert) -> Judged<'a>
 ///
 /// Where the answer is `Ok(Accepted)`, the script's runs end: for every finite list of input lines
 /// there is a number of steps that no run of the script exceeds. And every file that a run creates,
-/// writes or reads by a command is in the certificate's lists.
+/// writes or reads by a command is in the certificate's lists. The same holds `everywhere`, as `judge` has it.
 pub fn verify(alloc: Global, script: &[u8], certificate: &[u8]) -> Result<Verdict, Fault>
     ensures promise { IsAccepted result → SpellBoth script.now certificate.now IsSafe }
+    ensures everywhere { IsAccepted result → SpellBoth script.now certificate.now IsSafeEverywhere }
     ensures answer { (¬ IsOutOfMemory result) → IsAnswered script.now certificate.now result }
     ensures why { SaysWhy script.now certificate.now result }
     ensures reported { ReportsFault script.now certificate.now result }

@@ -5,8 +5,9 @@ use Rattle.std.proofs.lemmas.Bool.{both_ways, cases_lt, cases_order, false≢tru
 use Rattle.std.specs.declared.alloc.Global.{Global}
 use Rattle.sedck_cert.specs.Ranked.{Accepts}
 use Rattle.sedck_cert.specs.Headline.{SpellBoth, IsSafe}
+use Rattle.sedck_cert.specs.Everywhere.{IsSafeEverywhere}
 use Rattle.sedck_cert.specs.declared.checking.Verdict.TheVariants.{Accepted, Rejected}
-use Rattle.sedck_cert.proofs.Promise.{safe, not_accepted}
+use Rattle.sedck_cert.proofs.Promise.{safe, safe_everywhere, not_accepted}
 use Rattle.sedck_engines.specs.declared.answer.Outcome.TheVariants.{Yes, No}
 use Rattle.sedck_engines.specs.declared.answer.Input.TheVariants as input
 use Rattle.sedck_engines.specs.declared.answer.RunFault.TheVariants as fault
@@ -52,6 +53,16 @@ accepted_safe text bytes both =
       cert = both.cert;
       written = both.written;
       holds = safe text both.program both.cert both.spelled.spells both.holds;
+    }
+
+pub accepted_safe_everywhere : (text bytes : List ℕ) → SpellBoth text bytes Accepts → SpellBoth text bytes IsSafeEverywhere
+accepted_safe_everywhere text bytes both =
+    record {
+      program = both.program;
+      spelled = both.spelled;
+      cert = both.cert;
+      written = both.written;
+      holds = safe_everywhere text both.program both.cert both.spelled.spells both.holds;
     }
 
 -- ---- Words and statuses
@@ -117,6 +128,10 @@ exact {status = status} r = elim (cases_order status 4) [
 
 pub promised : {text bytes : List ℕ} {words : List (String Global)} {status : ℕ} → Ran text bytes words status → status ≡ 0 → SpellBoth text bytes IsSafe
 promised {text} {bytes} r is = accepted_safe text bytes (ran_yes r is)
+
+pub promised_everywhere : {text bytes : List ℕ} {words : List (String Global)} {status : ℕ} → Ran text bytes words status → status ≡ 0
+    → SpellBoth text bytes IsSafeEverywhere
+promised_everywhere {text} {bytes} r is = accepted_safe_everywhere text bytes (ran_yes r is)
 
 -- ---- What has status 4
 

@@ -10,7 +10,7 @@ use sedck_cert::Cert;
 use sedck_report::{Code, Finding, Level, NamedFile, Position, shown_name};
 use std::alloc::{AllocError, Global};
 
-/// What an accepted script may not have.
+/// What an accepted script may not have, and what the caller knows of the locale in which it runs.
 #[derive(Clone, Copy, PartialEq, Eq)]
 pub struct Denied {
     /// A file that it reads.
@@ -23,16 +23,19 @@ pub struct Denied {
     pub unbounded: bool,
     /// Expressions with which matching may take very long, or never end.
     pub slow: bool,
+    /// The locale is C or POSIX, where a character is a byte: so nothing is warned of what is read otherwise in UTF-8.
+    pub c_locale: bool,
 }
 
 impl Denied {
-    /// All is allowed.
+    /// All is allowed, in any locale.
     pub const NOTHING: Denied = Denied {
         reads: false,
         writes: false,
         warnings: false,
         unbounded: false,
         slow: false,
+        c_locale: false,
     };
 }
 

@@ -8,12 +8,13 @@ use Rattle.std.specs.declared.alloc.Global.{Global}
 abbrev pub texts_of : List (String Global) → List (List ℕ)
 texts_of words = map string_bytes words
 
--- what the next word is: an option or a path; the certificate's path; what is denied; the value of an option on which the status
--- doesn't depend; or a path, whatever it begins with
+-- what the next word is: an option or a path; the certificate's path; what is denied; the locale's name; the value of an option on
+-- which the status doesn't depend; or a path, whatever it begins with
 pub data Awaited : Type 0 where
   AnyWord : Awaited
   ItsCertificate : Awaited
   ItsDenied : Awaited
+  ItsLocale : Awaited
   OtherValue : Awaited
   OnlyPaths : Awaited
 
@@ -21,6 +22,7 @@ pub data Awaited : Type 0 where
 pub record Asked : Type 0 where
   pub certificate : Option (List ℕ)
   pub denied : Option (List ℕ)
+  pub locale : Option (List ℕ)
   pub sed : Bool
   pub calls : Bool
   pub paths : List (List ℕ)
@@ -49,6 +51,7 @@ abbrev pub after_word : Asked → List ℕ → Asked
 after_word a word =
     if bytes_eq word (codes "--cert") then record a { next = ItsCertificate }
     else if bytes_eq word (codes "--deny") then record a { next = ItsDenied }
+    else if bytes_eq word (codes "--locale") then record a { next = ItsLocale }
     else if bytes_eq word (codes "--sed") then record a { sed = true }
     else if bytes_eq word (codes "--calls") then record a { calls = true }
     else if bytes_eq word (codes "--") then record a { next = OnlyPaths }
@@ -56,8 +59,12 @@ after_word a word =
     else if is_option word then a
     else record a { paths = a.paths ++ word ∷ [] }
 
+abbrev pub or_locale : Asked → List ℕ → Option (List ℕ) → Asked
+or_locale a word None = after_word a word
+or_locale a word (Some name) = record a { locale = Some name }
+
 abbrev pub or_denied : Asked → List ℕ → Option (List ℕ) → Asked
-or_denied a word None = after_word a word
+or_denied a word None = or_locale a word (behind (codes "--locale=") word)
 or_denied a word (Some names) = record a { denied = Some names }
 
 abbrev pub or_certificate : Asked → List ℕ → Option (List ℕ) → Asked
@@ -72,6 +79,7 @@ abbrev pub after_next : Awaited → Asked → List ℕ → Asked
 after_next AnyWord a word = after_any a word
 after_next ItsCertificate a word = record a { certificate = Some word; next = AnyWord }
 after_next ItsDenied a word = record a { denied = Some word; next = AnyWord }
+after_next ItsLocale a word = record a { locale = Some word; next = AnyWord }
 after_next OtherValue a word = record a { next = AnyWord }
 after_next OnlyPaths a word = record a { paths = a.paths ++ word ∷ [] }
 
@@ -80,7 +88,7 @@ abbrev pub after : Asked → List ℕ → Asked
 after a word = after_next a.next a word
 
 abbrev pub nothing_asked : Asked
-nothing_asked = record { certificate = None; denied = None; sed = false; calls = false; paths = []; next = AnyWord }
+nothing_asked = record { certificate = None; denied = None; locale = None; sed = false; calls = false; paths = []; next = AnyWord }
 
 -- all words
 abbrev pub read : List (List ℕ) → Asked

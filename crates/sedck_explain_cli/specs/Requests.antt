@@ -1,5 +1,6 @@
 -- The request that the words of the command line are, this project's own.
 use Rattle.std.specs.Prelude.{◌≡◌, ◌||◌, ℕ, Bool, false, List, [], ◌∷◌, map, Option, Some, None, option_map, codes}
+use Rattle.std.specs.Str.{bytes_eq}
 use Rattle.sedck_errors.specs.declared.denied.Denied.{Denied}
 use Rattle.sedck_explain_cli.specs.Readings.{Asked, is_named, read}
 use Rattle.sedck_explain_cli.specs.declared.request.Request.{Request}
@@ -12,15 +13,21 @@ certificate_of request = option_map (λ path. path.now) request.certificate
 abbrev pub scripts_of : Request → List (List ℕ)
 scripts_of request = map (λ path. path.now) request.scripts.items
 
--- what is denied by these names, which have commas between
-abbrev pub denied_by : Option (List ℕ) → Denied
-denied_by None = record { reads = false; writes = false; warnings = false; unbounded = false; slow = false }
-denied_by (Some names) = record {
+-- a character is a byte in the locale of this name
+abbrev pub has_bytes : Option (List ℕ) → Bool
+has_bytes None = false
+has_bytes (Some name) = bytes_eq name (codes "C") || bytes_eq name (codes "POSIX")
+
+-- what is denied by these names, which have commas between, in the locale of this name
+abbrev pub denied_by : Option (List ℕ) → Option (List ℕ) → Denied
+denied_by None locale = record { reads = false; writes = false; warnings = false; unbounded = false; slow = false; c_locale = has_bytes locale }
+denied_by (Some names) locale = record {
   reads = is_named names (codes "reads");
   writes = is_named names (codes "writes");
   warnings = is_named names (codes "warnings");
   unbounded = is_named names (codes "unbounded");
   slow = is_named names (codes "slow");
+  c_locale = has_bytes locale;
 }
 
 -- where a script is missing, it is standard input
@@ -31,7 +38,7 @@ paths_of may_be_none paths = paths
 -- the request is for this: it has all that its status depends on
 pub record AsksFor (asked : Asked) (request : Request) : Type 0 where
   pub certificate : certificate_of request ≡ asked.certificate
-  pub denied : request.denied ≡ denied_by asked.denied
+  pub denied : request.denied ≡ denied_by asked.denied asked.locale
   pub sed : request.sed ≡ asked.sed
   pub calls : request.calls ≡ asked.calls
   pub scripts : scripts_of request ≡ paths_of (asked.sed || asked.calls) asked.paths

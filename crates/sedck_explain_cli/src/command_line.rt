@@ -315,7 +315,10 @@ fn summed<W: Sink, E: Sink>(
     if request.scripts.len() < 2 || request.format != Format::Text {
         return status;
     }
-    let may_be_denied = request.denied != Denied::NOTHING;
+    let may_be_denied = Denied {
+        c_locale: false,
+        ..request.denied
+    } != Denied::NOTHING;
     let Ok(text) = counts.text(alloc, may_be_denied) else {
         return out_of_memory(err);
     };

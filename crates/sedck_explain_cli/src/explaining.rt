@@ -65,9 +65,18 @@ fn report_of<F: Reporter>(
     ensures few { IfOk result (λ made. made.1 ≤ 2) }
     ensures report { IfOk result (λ made. IsReport (F.reported reporter.now name.now) text.now (option_map (λ bytes. bytes.now) certificate.entry) denied made.0.items made.1) }
 {
-    let explanation = explain(alloc, text, certificate, denied)?;
+    let explanation = explain(alloc, own_path(name), text, certificate, denied)?;
     let status = explanation.status;
     Ok((reporter.report(alloc, name, &explanation)?, status))
+}
+
+/// The path of the script's own file, unless the name is that of standard input.
+fn own_path(name: &str) -> Option<&[u8]> {
+    if name == "-" {
+        None
+    } else {
+        Some(name.as_bytes())
+    }
 }
 
 /// Writes the report, and answers the status.

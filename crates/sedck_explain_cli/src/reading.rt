@@ -14,6 +14,8 @@ pub(crate) struct Reading<'a> {
     pub(crate) certificate: Option<&'a str>,
     /// What is denied, with commas between.
     pub(crate) denied: Option<&'a str>,
+    /// The name of the locale in which sed runs.
+    pub(crate) locale: Option<&'a str>,
     pub(crate) sed: bool,
     pub(crate) calls: bool,
     pub(crate) paths: Vec<&'a str>,
@@ -29,6 +31,8 @@ pub(crate) enum Next {
     Certificate,
     /// What is denied.
     Denied,
+    /// The name of the locale.
+    Locale,
     /// The value of an option on which the status doesn't depend.
     Other,
     /// A path, whatever it begins with.
@@ -42,6 +46,7 @@ pub(crate) fn read_words<'a>(alloc: Global, words: &'a [String]) -> Result<Readi
     let mut reading = Reading {
         certificate: None,
         denied: None,
+        locale: None,
         sed: false,
         calls: false,
         paths: Vec::new(alloc),
@@ -62,6 +67,7 @@ impl<'a> Reading<'a> {
             Next::Any => return self.add_any(word),
             Next::Certificate => self.certificate = Some(word),
             Next::Denied => self.denied = Some(word),
+            Next::Locale => self.locale = Some(word),
             Next::Other => {}
             Next::Path => return Ok(self.paths.push(word)?),
         }
@@ -81,9 +87,14 @@ impl<'a> Reading<'a> {
             self.denied = Some(names);
             return Ok(());
         }
+        if let Some(name) = rest_behind("--locale=", word) {
+            self.locale = Some(name);
+            return Ok(());
+        }
         match word {
             "--cert" => self.next = Next::Certificate,
             "--deny" => self.next = Next::Denied,
+            "--locale" => self.next = Next::Locale,
             "--sed" => self.sed = true,
             "--calls" => self.calls = true,
             "--" => self.next = Next::Path,

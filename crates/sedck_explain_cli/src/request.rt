@@ -2,7 +2,7 @@
 
 ghost use Rattle.std.specs.Prelude.{◌≡◌, map, IfOk, option_map};
 ghost use Rattle.sedck_explain_cli.specs.Readings.{texts_of};
-ghost use Rattle.sedck_explain_cli.specs.Requests.{IsRequest, denied_by, paths_of};
+ghost use Rattle.sedck_explain_cli.specs.Requests.{IsRequest, denied_by, has_bytes, paths_of};
 
 use crate::format::{Format, NAMES, Style};
 use crate::reading::{Reading, names, read_words};
@@ -58,6 +58,7 @@ pub fn request_of<'a>(alloc: Global, words: &'a [String]) -> Result<Request<'a>,
     let Reading {
         certificate,
         denied,
+        locale,
         sed,
         calls,
         paths,
@@ -67,7 +68,7 @@ pub fn request_of<'a>(alloc: Global, words: &'a [String]) -> Result<Request<'a>,
     Ok(Request {
         format,
         least: level_of(&matches, format, calls),
-        denied: denied_of(denied),
+        denied: denied_of(denied, locale),
         certificate,
         stdin_name: matches.get_str("stdin-filename").unwrap_or("-"),
         sed,
@@ -127,10 +128,11 @@ fn assumed_of<'a>(alloc: Global, matches: &ArgMatches<'a>) -> Result<Vec<Assumed
     Ok(assumed)
 }
 
-/// What is denied, by these names.
-fn denied_of(given: Option<&str>) -> Denied
-    ensures { result ≡ denied_by (option_map (λ list. list.now) given.entry) }
+/// What is denied, by these names, in the locale of this name.
+fn denied_of(given: Option<&str>, locale: Option<&str>) -> Denied
+    ensures { result ≡ denied_by (option_map (λ list. list.now) given.entry) (option_map (λ name. name.now) locale.entry) }
 {
+    let c_locale = is_c_locale(locale);
     match given {
         Some(list) => Denied {
             reads: names(list.as_bytes(), b"reads"),
@@ -138,8 +140,22 @@ fn denied_of(given: Option<&str>) -> Denied
             warnings: names(list.as_bytes(), b"warnings"),
             unbounded: names(list.as_bytes(), b"unbounded"),
             slow: names(list.as_bytes(), b"slow"),
+            c_locale,
         },
-        None => Denied::NOTHING,
+        None => Denied {
+            c_locale,
+            ..Denied::NOTHING
+        },
+    }
+}
+
+/// Whether a character is a byte in the locale of this name.
+fn is_c_locale(locale: Option<&str>) -> bool
+    ensures { result ≡ has_bytes (option_map (λ name. name.now) locale.entry) }
+{
+    match locale {
+        Some(name) => name == "C" || name == "POSIX",
+        None => false,
     }
 }
 
@@ -174,7 +190,7 @@ struct Choice {
 }
 
 /// The options, in the order of the help.
-static CHOICES: [Choice; 9] = [
+static CHOICES: [Choice; 10] = [
     Choice {
         name: "format",
         takes: Takes::OneOf("FORMAT", NAMES),
@@ -194,6 +210,11 @@ static CHOICES: [Choice; 9] = [
         name: "deny",
         takes: Takes::SomeOf("WHAT", DENIALS),
         help: "What makes an accepted script end with status 1, with commas between: reads, writes, warnings, unbounded",
+    },
+    Choice {
+        name: "locale",
+        takes: Takes::Value("NAME"),
+        help: "The locale in which sed runs: C and POSIX take away the warnings of what is read otherwise in UTF-8",
     },
     Choice {
         name: "stdin-filename",

@@ -20,12 +20,10 @@ use Rattle.sedck_errors.specs.declared.denied.Denied.{Denied}
 use Rattle.sedck_explanation.specs.Explanations.{IsExplanation, Keeps}
 use Rattle.sedck_explanation.specs.declared.explanation.Explanation.{Explanation}
 
--- An option that makes sed read another language (extended expressions), or other lines (up to a byte 0, or of each operand by itself),
--- than those of the model
+-- An option that makes sed read another language than that of the model: extended expressions. With `-s` and `-i` there are several
+-- inputs, each with its last line, and with `-z` a byte 0 ends a line: of these the promise is the same.
 abbrev pub changes_language : CallOption → Bool
 changes_language option.Extended = true
-changes_language option.NullData = true
-changes_language option.Separate = true
 changes_language _ = false
 
 abbrev pub is_foreign : Given → Bool

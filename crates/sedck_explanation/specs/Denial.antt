@@ -7,9 +7,9 @@ use Rattle.sedck_explanation.specs.Answers.{status_of}
 use Rattle.sedck_explanation.specs.declared.answer.Answer.{Answer}
 use Rattle.sedck_explanation.specs.declared.answer.Answer.TheVariants.{Accepted}
 
--- nothing is denied
+-- nothing is denied, and nothing is known of the locale
 abbrev pub nothing : Denied
-nothing = record { reads = false; writes = false; warnings = false; unbounded = false; slow = false }
+nothing = record { reads = false; writes = false; warnings = false; unbounded = false; slow = false; c_locale = false }
 
 -- the script is accepted, and has what is denied. Its lists are those of the accepted certificate.
 abbrev pub is_denied : Denied → (warned slow : Bool) → Answer → Bool

@@ -1,12 +1,15 @@
 //! All that is reported of a script.
 
-ghost use Rattle.std.specs.Prelude.{◌≡◌, ◌≤◌, true, false, None, [], IfOk, map};
+ghost use Rattle.std.specs.Prelude.{◌≡◌, ◌≤◌, true, false, None, [], IfOk, OnOk, map};
 ghost use Rattle.std.specs.Option.{is_some, option_map};
 ghost use Rattle.sedck_script.specs.Names.{reads, writes};
 ghost use Rattle.sedck_report.specs.Files.{names_of};
 ghost use Rattle.sedck_report.specs.Levels.{has_warning, has_error};
 ghost use Rattle.sedck_report.specs.Positions.{position_in};
-ghost use Rattle.sedck_explanation.specs.Explanations.{IsExplanation, KeepsNothing, WarnedWith};
+ghost use Rattle.sedck_advice.specs.Added.{AddsNoError};
+ghost use Rattle.sedck_advice.specs.Concerns.{concerns};
+ghost use Rattle.sedck_advice.specs.declared.concerns.Concern.TheVariants.{Locale};
+ghost use Rattle.sedck_explanation.specs.Explanations.{IsExplanation, KeepsNothing, WarnedWith, is_due};
 ghost use Rattle.sedck_explanation.specs.Private.Errors.{IsOfScript, IsRefused, CanBeReported, AreFindingsOf, IsFindingOf};
 ghost use Rattle.sedck_explanation.specs.Private.Explaining.{Explains, Reports, KeepsLocated, HasLists, AreDeniedFindings};
 
@@ -26,9 +29,10 @@ use sedck_script::{Access, Located, Location, Script};
 use std::alloc::{AllocError, Global};
 
 /// Explains what the engines answer of the script, alone or with a certificate: `judge`'s verdict, or what `search` finds. What is
-/// denied changes the status of an accepted script that has it, and adds errors.
+/// denied changes the status of an accepted script that has it, and adds errors. `own` is the path of the script's file, if it has one.
 pub fn explain<'a>(
     alloc: Global,
+    own: Option<&'a [u8]>,
     text: &'a [u8],
     certificate: Option<&[u8]>,
     denied: Denied,
@@ -36,7 +40,7 @@ pub fn explain<'a>(
     ensures explanation { IfOk result (IsExplanation text.now (option_map (λ bytes. bytes.now) certificate.entry) denied) }
     ensures few { IfOk result (λ e. e.status ≤ 2) }
 {
-    explained_with(alloc, text, certificate, Vec::new(alloc), denied)
+    explained_with(alloc, own, text, certificate, Vec::new(alloc), denied)
 }
 
 /// Explains the script of a call of sed, as `explain` does without a certificate. What is warned of the call is reported with the
@@ -52,12 +56,13 @@ pub fn explain_call<'a>(
     ensures few { IfOk result (λ e. e.status ≤ 2) }
     ensures warned { IfOk result (WarnedWith denied warnings.items) }
 {
-    explained_with(alloc, text, None, warnings, denied)
+    explained_with(alloc, None, text, None, warnings, denied)
 }
 
 /// Explains a script, with these warnings beside its own.
 fn explained_with<'a>(
     alloc: Global,
+    own: Option<&'a [u8]>,
     text: &'a [u8],
     certificate: Option<&[u8]>,
     warnings: Vec<Finding>,
@@ -70,7 +75,7 @@ fn explained_with<'a>(
 {
     let Answered { answer, located } = answer_of(alloc, text, certificate)?;
     match located {
-        Some(located) => explained(alloc, text, answer, located, warnings, denied),
+        Some(located) => explained(alloc, own, text, answer, located, warnings, denied),
         None => refused(alloc, text, answer, warnings, denied),
     }
 }
@@ -78,6 +83,7 @@ fn explained_with<'a>(
 /// What is reported of a script that was read.
 fn explained<'a>(
     alloc: Global,
+    own: Option<&'a [u8]>,
     text: &'a [u8],
     answer: Answer,
     located: Located<'a>,
@@ -91,12 +97,13 @@ fn explained<'a>(
     ensures few { IfOk result (λ e. e.status ≤ 2) }
     ensures warned { IfOk result (WarnedWith denied warnings.items) }
 {
-    let lists = lists_of(alloc, text, &located)?;
+    let lists = lists_of(alloc, own, text, &located)?;
     let (status, findings) = reports(alloc, text, &answer, &located, &lists, warnings, denied)?;
     let Lists {
         positions,
         reads,
         writes,
+        ..
     } = lists;
     Ok(Explanation {
         text,
@@ -110,15 +117,21 @@ fn explained<'a>(
     })
 }
 
-/// Where the verbs of a script are, and the files that it names.
+/// Where the verbs of a script are, and the files: its own, if it has one, and those that it names.
 #[derive(Drop)]
 struct Lists<'a> {
     positions: Vec<Position>,
+    own: Option<&'a [u8]>,
     reads: Vec<NamedFile<'a>>,
     writes: Vec<NamedFile<'a>>,
 }
 
-fn lists_of<'a>(alloc: Global, text: &[u8], located: &Located<'a>) -> Result<Lists<'a>, AllocError>
+fn lists_of<'a>(
+    alloc: Global,
+    own: Option<&'a [u8]>,
+    text: &[u8],
+    located: &Located<'a>,
+) -> Result<Lists<'a>, AllocError>
     ensures reads { IfOk result (λ lists. names_of lists.reads.items ≡ reads located.entry.now.script) }
     ensures writes { IfOk result (λ lists. names_of lists.writes.items ≡ writes located.entry.now.script) }
     ensures positions { IfOk result (λ lists. lists.positions.items ≡ map (λ location. position_in text.now location.verb) located.entry.now.locations.items) }
@@ -129,6 +142,7 @@ fn lists_of<'a>(alloc: Global, text: &[u8], located: &Located<'a>) -> Result<Lis
     let writes = named_files(alloc, script.writes(), script, &positions, Access::Write)?;
     Ok(Lists {
         positions,
+        own,
         reads,
         writes,
     })
@@ -157,25 +171,41 @@ fn reports(
     let words = ignoring_words(alloc, text, locations)?;
     let mut found = answer_findings(alloc, text, &located.script, &lists.positions, answer)?;
     found.append(&mut warnings)?;
-    let script = &located.script;
-    let positions = &lists.positions;
-    concern_warnings(alloc, &mut found, script, positions, Concern::Endless)?;
-    concern_warnings(alloc, &mut found, script, positions, Concern::Locale)?;
+    concern_warnings(alloc, &mut found, text, located, Concern::Endless)?;
+    locale_warnings(alloc, &mut found, text, located, denied)?;
     add_warnings(
         alloc,
         &mut found,
         text,
         locations,
+        lists.own,
         &lists.reads,
         &lists.writes,
         &words,
     )?;
-    let slow = slow_of(script, positions);
+    let slow = slow_of(&located.script, &lists.positions);
     let all = denied_findings(alloc, found, denied, answer, lists, slow)?;
     let status = answer.status_under(denied, any_warning(&all), slow.is_some());
     let ignored = ignored_codes(alloc, &words, denied)?;
     let findings = reported(alloc, text, locations, all, &ignored)?;
     Ok((status, findings))
+}
+
+/// A warning of each command that a sed reads otherwise in a locale of UTF-8, unless the locale is known to be C.
+fn locale_warnings(
+    alloc: Global,
+    findings: &mut Vec<Finding>,
+    text: &[u8],
+    located: &Located,
+    denied: Denied,
+) -> Result<(), AllocError>
+    ensures added { OnOk result (AddsNoError findings.old.items findings.new.items) }
+    ensures warned { OnOk result (is_due denied Locale ≡ true → concerns Locale located.now.script ≡ true → has_warning findings.new.items ≡ true) }
+{
+    if denied.c_locale {
+        return Ok(());
+    }
+    concern_warnings(alloc, findings, text, located, Concern::Locale)
 }
 
 /// What is reported of a script that is refused.

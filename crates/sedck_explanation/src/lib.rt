@@ -24,6 +24,6 @@ pub use options::{foreign_findings, has_foreign, refusal_of};
 pub use parts::{Unexplained, parts_of};
 pub use sedck_errors::Denied;
 pub use sedck_report::{
-    Code, Finding, Fix, Level, NamedFile, Position, Step, is_printable, position_at, position_from,
-    shown_line, shown_name,
+    Code, Finding, Fix, Level, NamedFile, NewText, Position, Step, is_printable, position_at,
+    position_from, shown_line, shown_name,
 };

@@ -11,14 +11,11 @@ use sedck_calls::{Call, CallFault, CallOption, Given, Origin};
 use sedck_report::{Code, Finding, Level, shown_name};
 use std::alloc::{AllocError, Global};
 
-/// Whether sed reads another language, or other lines, with the option.
+/// Whether sed reads another language with the option.
 fn changes_language(option: CallOption) -> bool
     ensures { result ≡ is_language_option option }
 {
-    matches!(
-        option,
-        CallOption::Extended | CallOption::NullData | CallOption::Separate
-    )
+    matches!(option, CallOption::Extended)
 }
 
 /// The option and its word's number, from 0; none for an operand.
@@ -30,7 +27,7 @@ fn option_of(given: Given) -> Option<(CallOption, usize)> {
     }
 }
 
-/// Whether one of the options changes the language or the lines.
+/// Whether one of the options changes the language.
 pub fn has_foreign(given: &[Given]) -> bool
     ensures { result ≡ has_foreign_option given.now }
 {
@@ -42,7 +39,7 @@ pub fn has_foreign(given: &[Given]) -> bool
     false
 }
 
-/// Whether the option changes the language or the lines.
+/// Whether the option changes the language.
 fn is_foreign(given: Given) -> bool
     ensures { result ≡ is_foreign_option given }
 {
@@ -52,7 +49,7 @@ fn is_foreign(given: Given) -> bool
     }
 }
 
-/// An error for each option that changes the language or the lines.
+/// An error for each option that changes the language.
 pub fn foreign_findings(
     alloc: Global,
     words: &[&[u8]],
@@ -89,14 +86,6 @@ fn foreign_words(option: CallOption) -> Option<(&'static str, &'static str)> {
         CallOption::Extended => Some((
             "with this option regular expressions are extended ones",
             "write basic expressions: `\\(`, `\\)`, `\\{` and `\\}` for groups and intervals, `x\\{1,\\}` for `x+`, and several commands for `|`",
-        )),
-        CallOption::NullData => Some((
-            "with this option lines end with a byte 0",
-            "swap newlines and bytes 0 with `tr '\\n\\0' '\\0\\n'` before and after",
-        )),
-        CallOption::Separate => Some((
-            "with this option each operand is an input of its own",
-            "call sed once for each file",
         )),
         _ => None,
     }

@@ -2,12 +2,13 @@
 use Rattle.std.proofs.Common.{◌≡◌, ℕ, ◌≤◌, Bool, true, false, List, [], ◌∷◌, length, Contains, refl, sym, ap, ◌∙◌, subst, inl, inr, arith, length-append}
 use Rattle.std.specs.Prelude.{codes}
 use Rattle.std.specs.Fmt.{digits}
-use Rattle.sedck_bre.specs.Tree.{Tree}
+use Rattle.sedck_bre.specs.Tree.{Tree, Any, Seq, Then, Nil}
 use Rattle.sedck_bre.specs.Match.{Groups, no_groups, text_of, with_text, Match, Language}
 use Rattle.sedck_script.proofs.SortedNames.{Contains-cons_cases}
 use Rattle.sedck_flow.specs.Flow.{Shortens, NeverLengthens, HasKind}
 use Rattle.sedck_script.specs.References.{HasNoWhole, named_groups, AreDistinct, AreTopGroups, KeepsGroups}
 use Rattle.sedck_script.specs.Program.{Expression, Part, Group as Reference}
+use Rattle.sedck_flow.specs.WideRun.{WideState}
 use Rattle.sedck_flow.specs.Run.{Machine, At}
 use Rattle.sedck_flow.specs.declared.graph.Node.{Node}
 use Rattle.sedck_flow.specs.declared.graph.Kind.TheVariants.{Shorten, Keep}
@@ -220,4 +221,28 @@ examples_hold = record {
     is_old = refl;
     is_new = refl;
   };
+  begins_file = inl (tt, (refl, ([], inl refl, refl)));
+  empties_hold = inl (tt, (refl, ([], inr refl, refl)));
+  no_file = inl (tt, (refl, ([], inl refl, refl)));
+  quits = (inl (tt, ((refl, refl), refl)));
+  last_of_file = inr ((refl, refl), refl, refl);
+  no_other = λ h. elim h [ inl (may, _) ↦ absurd (may refl) | inr (_, _, is) ↦ omega (arith, ap (λ (s : WideState). length s.1) is) ];
+  appends_zero = inl (tt, (refl, refl));
+  all_files = ((refl, ([], inl refl, refl)), ((refl, refl, ([], inl refl, refl)), ((refl, refl, ([], inl refl, refl)), tt)));
+  one_character = record {
+    tree = Seq (Then Any Nil);
+    is_expression = refl;
+    front = [];
+    matches = record { whole = 195 ∷ 169 ∷ []; groups = no_groups; behind = [] } ∷ [];
+    some_match = omega arith;
+    one_match = λ _. refl;
+    are_matches = ((195 ∷ 169 ∷ [], [], no_groups, refl, (λ e. cc, refl), (refl, refl)), tt);
+    are_apart = tt;
+    is_old = refl;
+    is_new = refl;
+  };
+  byte_safe = (refl, refl);
+  half_character = λ e. cc;
+  repeats_byte = λ e. cc;
+  replaces_byte = λ e. cc;
 }

@@ -1,14 +1,15 @@
 pub mod States
 pub mod References
+pub mod WideRests
 pub mod Lengths
 pub mod KindOf
+pub mod RunIsWide
 pub mod KindsAgree
 pub mod StepsFollowEdges
 pub mod EdgesInside
 pub mod RunsGoOn
 pub mod SpaceGrowth
 pub mod NotStart
-pub mod LineBytes
 pub mod FilesNamed
 pub mod PlainEdges
 pub mod NodeLemmas

@@ -1,13 +1,15 @@
 -- Worked examples of edges, steps, runs and substitutions.
 use Rattle.std.specs.Prelude.{◌≡◌, ℕ, Bool, true, false, List, [], ◌∷◌, None, codes}
-use Rattle.sedck_bre.specs.Tree.{Tree, Byte, Group, Seq, Repeat, Then, Nil}
-use Rattle.sedck_script.specs.Program.{Previous, Expression, Last, Context, NoAddress, One, Part, Text, Whole, Group as Reference, Substitution, Verb, Label, NextAppend, Delete, DeleteFirstLine, Substitute, Test, Command, Program}
+use Rattle.sedck_bre.specs.Tree.{Tree, Byte, Any, Group, Seq, Repeat, Then, Nil}
+use Rattle.sedck_script.specs.Program.{Previous, Expression, Last, Context, NoAddress, One, Part, Text, Whole, Group as Reference, Substitution, Verb, Label, GetAppend, NextAppend, Delete, DeleteFirstLine, Quit, Substitute, Test, Transliterate, Command, Program}
+use Rattle.sedck_script.specs.ByteSafe.{IsByteSafe}
 use Rattle.sedck_flow.specs.declared.graph.Edge.{Edge}
 use Rattle.sedck_flow.specs.declared.graph.Kind.{Kind}
 use Rattle.sedck_flow.specs.declared.graph.Kind.TheVariants.{Consume, Shorten, Keep, Grow}
 use Rattle.sedck_flow.specs.Flow.{Flow}
 use Rattle.sedck_flow.specs.Substitutes.{Substitutes}
 use Rattle.sedck_flow.specs.Run.{Machine, At, Done, Silent, Step, Run}
+use Rattle.sedck_flow.specs.WideRun.{Files, WideSubstitutes, WideStep, WideRun}
 use Rattle.sedck_flow.specs.Words.{edge_words}
 
 -- a command with no address
@@ -81,6 +83,28 @@ edge at flag last at' flag' last' kind = record { from = record { at = at; flag 
 abbrev pub machine : List (List ℕ) → Machine
 machine unread = record { at = 0; flag = false; unread = unread; pattern = codes "a"; hold = [] }
 
+-- the same where a cycle has begun with this line, the last one of its file
+abbrev pub begun : List ℕ → Machine
+begun line = record (machine []) { pattern = line }
+
+-- the files with the lines `b` and `c`, after one without lines
+abbrev pub three_files : Files
+three_files = [] ∷ (codes "b" ∷ []) ∷ (codes "c" ∷ []) ∷ []
+
+-- the one file with the line `c`
+abbrev pub last_file : Files
+last_file = (codes "c" ∷ []) ∷ []
+
+-- `é`, and that with its second byte repeated, or the whole of it
+abbrev pub accent : Tree
+accent = Seq (Then (Byte 195) (Then (Byte 169) Nil))
+
+abbrev pub accent_byte_repeated : Tree
+accent_byte_repeated = Seq (Then (Byte 195) (Then (Repeat (Byte 169) 0 None) Nil))
+
+abbrev pub accent_repeated : Tree
+accent_repeated = Seq (Then (Repeat (Group 1 accent) 0 None) Nil)
+
 pub record ExamplesHold : Type 0 where
   -- an edge in words
   pub edge_text : edge_words (edge 1 false true 2 true true Shorten) ≡ codes "1 0 1 2 1 1 shorten"
@@ -129,3 +153,24 @@ pub record ExamplesHold : Type 0 where
   pub empty_script : Run (script_of []) (codes "b" ∷ []) ((Silent, At (record { at = 0; flag = false; unread = []; pattern = codes "b"; hold = [] })) ∷ (Silent, Done) ∷ [])
   -- each match of x* in `ab` is replaced, the empty ones too, and none is directly after another
   pub substitutes : Substitutes (script_of []) (replacing any_xs (Text (codes "-") ∷ []) true) (codes "ab") (codes "-a-b-")
+  -- where the file has no line left, `N` begins the next one that has a line, and where none has, it ends the run; `q` ends it in any case
+  pub begins_file : WideStep (script_of (plain_command NextAppend ∷ [])) 10 (At (machine []), three_files) Silent (At (begun (codes "b")), last_file)
+  -- where a file begins, the hold space may be emptied
+  pub empties_hold : WideStep (script_of (plain_command NextAppend ∷ [])) 10 (At (record (machine []) { hold = codes "h" }), three_files) Silent (At (begun (codes "b")), last_file)
+  pub no_file : WideStep (script_of (plain_command NextAppend ∷ [])) 10 (At (machine []), [] ∷ []) Silent (Done, [])
+  pub quits : WideStep (script_of (plain_command Quit ∷ [])) 10 (At (machine []), three_files) Silent (Done, three_files)
+  -- `$` is the last line of each file, so `$!N` is skipped there
+  pub last_of_file : WideStep append_unless_last 10 (At (machine []), three_files) Silent (At (record (machine []) { at = 1 }), three_files)
+  pub no_other : ¬ WideStep append_unless_last 10 (At (machine []), three_files) Silent (At (begun (codes "b")), last_file)
+  -- where lines end with a byte 0, `G` appends one
+  pub appends_zero : WideStep (script_of (plain_command GetAppend ∷ [])) 0 (At (machine []), []) Silent (At (record (machine []) { at = 1; pattern = 97 ∷ 0 ∷ [] }), [])
+  -- the empty script on these files
+  pub all_files : WideRun (script_of []) 10 three_files ((Silent, (At (begun (codes "b")), last_file)) ∷ (Silent, (At (begun (codes "c")), [])) ∷ (Silent, (Done, [])) ∷ [])
+  -- `.` may be a character of two bytes
+  pub one_character : WideSubstitutes (script_of []) (replacing (Seq (Then Any Nil)) (Text (codes "e") ∷ []) false) (195 ∷ 169 ∷ []) (codes "e")
+  -- whole characters may be there, also in a group that is repeated; no part of one may be repeated, or be there without the others, and
+  -- none may be in a list of `y`
+  pub byte_safe : IsByteSafe (replace_once accent []) × IsByteSafe (replace_once accent_repeated [])
+  pub half_character : ¬ IsByteSafe (replace_once (Seq (Then (Byte 195) Nil)) [])
+  pub repeats_byte : ¬ IsByteSafe (replace_once accent_byte_repeated [])
+  pub replaces_byte : ¬ IsByteSafe (script_of (plain_command (Transliterate (195 ∷ 169 ∷ []) (codes "ee")) ∷ []))

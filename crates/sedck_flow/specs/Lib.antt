@@ -1,6 +1,7 @@
 pub use Rattle.sedck_text.specs.Bytes
 pub use Rattle.sedck_bre.specs.Tree
 pub use Rattle.sedck_bre.specs.Match
+pub use Rattle.sedck_bre.specs.WideMatch
 pub use Rattle.sedck_bre.specs.Lengths
 pub use Rattle.sedck_bre.specs.Rests
 pub use Rattle.sedck_script.specs.Program
@@ -11,6 +12,7 @@ pub use Rattle.sedck_script.specs.View
 -- What the public contracts cite, in reading order.
 pub mod Run
 pub mod Substitutes
+pub mod WideRun
 pub mod Patterns
 pub mod Nodes
 pub mod Flow

@@ -1,6 +1,6 @@
 //! What is proved of runs and the flow graph alone. The functions do nothing: their contracts are the laws.
 
-ghost use Rattle.sedck_flow.specs.Laws.{NodesAreNumbered, StepsFollowEdges, KindsAgree, LiteralKindsStay, EdgesWereThere, EdgesStayInside, RunsGoOn, FilesAreNamed};
+ghost use Rattle.sedck_flow.specs.Laws.{NodesAreNumbered, StepsFollowEdges, KindsAgree, LiteralKindsStay, EdgesWereThere, EdgesStayInside, RunsGoOn, FilesAreNamed, RunsAreWide, WideStepsFollowEdges, WideFilesAreNamed, WideRunsGoOn};
 ghost use Rattle.sedck_flow.specs.Examples.{ExamplesHold};
 
 /// The index of a node is its position in the order of nodes, and each number is the index of one node.
@@ -42,6 +42,27 @@ pub fn runs_go_on()
 /// A run reads and writes only files that the script names for it.
 pub fn files_are_named()
     ensures { FilesAreNamed }
+{}
+
+/// A run is a wide run, on one file whose lines end with newlines: what holds of all wide runs holds of all runs.
+pub fn runs_are_wide()
+    ensures { RunsAreWide }
+{}
+
+/// Each step of a wide run from one command to another follows an edge of the flow graph, whose kind is true of it, in the
+/// current file; or no line is left there, and the next cycle begins with the first line of the next file.
+pub fn wide_steps_follow_edges()
+    ensures { WideStepsFollowEdges }
+{}
+
+/// A wide run reads and writes only files that the script names for it.
+pub fn wide_files_are_named()
+    ensures { WideFilesAreNamed }
+{}
+
+/// A wide run that hasn't ended can take a further step.
+pub fn wide_runs_go_on()
+    ensures { WideRunsGoOn }
 {}
 
 /// The worked examples of edges, steps, runs and substitutions hold.

@@ -6,7 +6,7 @@ use crate::listed::is_listed;
 use crate::names::Names;
 use crate::pages::page_of;
 use crate::words::{kind_word, level_word};
-use sedck_explanation::{Finding, Fix, Level, Step};
+use sedck_explanation::{Finding, Fix, Level, NewText, Step};
 
 /// What explains that a script can't be read.
 const UNREADABLE_PAGE: &str = "FORMATS.md#the-formats-and-statuses-of-sedck-explain";
@@ -76,7 +76,19 @@ fn push_fix(out: &mut Json, names: Names, fix: Option<Fix>) {
     out.object("fix");
     push_position(out, "start", names, start);
     push_position(out, "end", names, end);
-    out.text("text", text).close("}");
+    push_new_text(out, "text", text);
+    out.close("}");
+}
+
+/// Adds a member that is a text to write.
+pub(crate) fn push_new_text(out: &mut Json, key: &str, text: NewText) {
+    match text {
+        NewText::Plain(text) => out.text(key, text),
+        NewText::Group(inside) => {
+            let text = format!(in out.alloc(); "\\({inside}\\)");
+            out.words(key, text)
+        }
+    };
 }
 
 /// Adds a step of a loop or along an edge.

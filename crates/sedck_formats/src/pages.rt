@@ -71,7 +71,9 @@ pub fn page_of(code: Code) -> &'static str {
         | Code::ShellByteInName
         | Code::ReadAndWritten
         | Code::SameFile => "TRUST.md#names",
+        Code::NamesItself => "TRUST.md#the-scripts-own-file",
         Code::NoBound => "FORMATS.md#the-line-of-the-bound",
+        Code::LabelToTheLineEnd | Code::LongLabels => "SEDS.md#seds-of-the-bsds-and-macos",
         Code::UnknownCode => "RECIPES.md#fewer-findings",
         Code::OtherLanguage => "CALLS.md#other-languages",
         Code::BadCall => "CALLS.md#words-that-are-refused",

@@ -5,6 +5,7 @@ ghost use Rattle.std.specs.Str.{IsAscii};
 ghost use Rattle.sedck_report.specs.Ascii.{IsPrintableLine};
 
 use crate::columns::Columns;
+use crate::json_findings::push_new_text;
 use crate::json_text::Json;
 use crate::listed::is_listed;
 use crate::names::Names;
@@ -156,5 +157,7 @@ fn push_fix(out: &mut Json, script: Script, fix: Fix) {
     push_artifact(out, script, Some(start));
     out.list("replacements").open();
     push_region(out, "deletedRegion", script, start, Some(end));
-    out.message("insertedContent", text).close("}]}]}]");
+    out.object("insertedContent");
+    push_new_text(out, "text", text);
+    out.close("}}]}]}]");
 }

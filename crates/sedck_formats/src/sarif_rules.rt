@@ -103,8 +103,9 @@ fn meaning_of(code: Code) -> &'static str {
         Code::ShellByteInName => "A name with a byte that means something to a shell",
         Code::ReadAndWritten => "The script reads and writes the same file",
         Code::SameFile => "Two names for one file",
+        Code::NamesItself => "The script writes a file that has the name of its own",
         Code::UnknownCode => "A comment ignores what is not the code of a warning or a note",
-        Code::OtherLanguage => "Options by which sed reads another language or other lines",
+        Code::OtherLanguage => "Options by which sed reads another language",
         Code::BadCall => "Words that no sed takes",
         Code::InPlace => "The operands are overwritten",
         Code::OpenHole => "A part of the script is not known before a run",
@@ -112,5 +113,8 @@ fn meaning_of(code: Code) -> &'static str {
         Code::KnownValue => "The value of a variable is taken from where the file sets it",
         Code::NotUnderstood => "A part of the file cannot be read",
         Code::NoBound => "Every run ends, but no limit on its steps is known",
+        Code::LabelToTheLineEnd =>
+            "Something follows a label on its line, which some seds read as a part of the label",
+        Code::LongLabels => "Two labels that agree in their first 8 bytes",
     }
 }

@@ -54,6 +54,7 @@ pub fn calls_in(
         facts: BTreeMap::new(alloc),
         open: BTreeMap::new(alloc),
         is_open: false,
+        may_fix_locale: false,
         functions: Vec::new(alloc),
         lines: line_starts(alloc, file)?,
     };
@@ -227,6 +228,7 @@ fn found_call(
         words: traced,
         script,
         followed: filler.take_followed(),
+        c_locale: part.c_locale,
     }))
 }
 

@@ -20,6 +20,8 @@ pub struct FoundCall {
     pub script: FoundScript,
     /// The variables that are replaced by their values.
     pub followed: Vec<Followed>,
+    /// Whether the words before the name make it run in the locale C or POSIX.
+    pub c_locale: bool,
 }
 
 /// A variable that is replaced by its value.
@@ -54,7 +56,7 @@ pub enum FoundScript {
         text: Traced,
         holes: Vec<OpenHole>,
     },
-    /// An option changes the language or the lines.
+    /// An option changes the language.
     Foreign(Call),
     /// No sed takes the words.
     Refused(CallFault),

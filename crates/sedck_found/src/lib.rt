@@ -10,6 +10,7 @@ mod conditions;
 mod following;
 mod found;
 mod holes;
+mod locale;
 mod mentions;
 mod names;
 mod parts;

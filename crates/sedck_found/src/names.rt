@@ -56,6 +56,8 @@ pub(crate) struct Names<'a> {
     pub open: BTreeMap<usize, usize>,
     /// Whether variables of any text may be set so.
     pub is_open: bool,
+    /// Whether LC_ALL may be read-only in some shell.
+    pub may_fix_locale: bool,
     /// The names of functions and of aliases.
     pub functions: Vec<Vec<u8>>,
     /// The offset of each line's first byte.
@@ -109,6 +111,7 @@ impl<'a> Names<'a> {
 
     /// Notes that a command there may set variables which it doesn't name.
     pub fn note_open(&mut self, spot: Spot) -> Result<(), AllocError> {
+        self.may_fix_locale = true;
         let Some(text) = spot.scope.text() else {
             return Ok(());
         };

@@ -2,10 +2,12 @@
 
 use crate::assigning::is_assignment;
 use crate::following::Spot;
+use crate::locale::is_c_locale;
 use crate::names::Names;
 use crate::programs::{Before, Program, Wrapper, before_command, program_of};
 use crate::units::{byte_at, bytes_of, is_among, is_text};
 use sedck_shell::ShellWord;
+use sedck_traced::Unit;
 use std::alloc::{AllocError, Global};
 
 /// What `find` runs a command for.
@@ -27,6 +29,8 @@ pub(crate) struct Part {
     pub is_direct: bool,
     /// The number of the word that may be a runner or nothing, where that isn't known.
     pub unknown: Option<usize>,
+    /// Whether the words right before the name set LC_ALL to C or POSIX.
+    pub c_locale: bool,
 }
 
 /// What runs a command, by what it does to the words.
@@ -42,6 +46,17 @@ pub(crate) enum Runner {
     Replacing(usize, usize),
     /// `xargs` puts a line in place of `{}`.
     Braces,
+}
+
+/// What takes an assignment before the name of a command.
+#[derive(Clone, Copy, PartialEq, Eq)]
+enum Setter {
+    /// The shell, unless the variable is read-only.
+    Shell,
+    /// `env`.
+    Env,
+    /// A command that takes it for a name.
+    Nothing,
 }
 
 /// What the next word is.
@@ -71,6 +86,9 @@ struct Finder<'a> {
     parts: Vec<Part>,
     runner: Runner,
     unknown: Option<usize>,
+    setter: Setter,
+    /// Whether LC_ALL is set to C or POSIX there.
+    c_locale: bool,
     state: State,
     /// Whether the command is run by `find`.
     is_found: bool,
@@ -93,6 +111,8 @@ pub(crate) fn parts_of(
         parts: Vec::new(alloc),
         runner: Runner::Plain,
         unknown: None,
+        setter: Setter::Shell,
+        c_locale: false,
         state: State::Name,
         is_found: false,
         wrappers: 0,
@@ -134,17 +154,13 @@ impl Finder<'_> {
         self.state = State::Name;
         let is_time = index == 0 && is_text(&word.units, b"-p");
         if is_time || is_assignment(&word.units) {
+            self.note_locale(&word.units);
             return Ok(());
         }
         let program = program_of(self.names, word, self.spot)?;
         self.state = match program {
             Program::Wrapper(wrapper) if self.wrappers < WRAPPED => {
-                if wrapper.is_adding {
-                    self.runner = Runner::Adding;
-                }
-                if wrapper.is_unknown {
-                    self.unknown = Some(index);
-                }
+                self.pass(index, wrapper);
                 State::Option(wrapper)
             }
             Program::Wrapper(_) | Program::Other => State::Other,
@@ -156,10 +172,44 @@ impl Finder<'_> {
                 runner: self.runner,
                 is_direct: self.runner == Runner::Plain && self.wrappers == 0,
                 unknown: self.unknown,
+                c_locale: self.c_locale,
             }),
         };
         self.wrappers = self.wrappers.saturating_add(1);
         Ok(())
+    }
+
+    /// Notes what the assignment before a name says of the locale.
+    fn note_locale(&mut self, assignment: &[Unit]) {
+        if let Some(is_c) = is_c_locale(assignment) {
+            let is_kept = match self.setter {
+                Setter::Shell => !self.names.may_fix_locale,
+                Setter::Env => true,
+                Setter::Nothing => false,
+            };
+            self.c_locale = is_c && is_kept;
+        }
+    }
+
+    /// Notes that the word of this number is the name of a command that runs another one. It may change what was set before it.
+    fn pass(&mut self, index: usize, wrapper: Wrapper) {
+        if wrapper.is_adding {
+            self.runner = Runner::Adding;
+        }
+        if wrapper.is_unknown {
+            self.unknown = Some(index);
+        }
+        self.set_by(if wrapper.is_env {
+            Setter::Env
+        } else {
+            Setter::Nothing
+        });
+    }
+
+    /// Notes what takes the next assignments.
+    fn set_by(&mut self, setter: Setter) {
+        self.setter = setter;
+        self.c_locale = false;
     }
 
     /// Reads a word behind the name of a wrapper.
@@ -213,6 +263,7 @@ impl Finder<'_> {
             self.is_found = true;
             self.runner = Runner::Find;
             self.wrappers = 0;
+            self.set_by(Setter::Nothing);
         }
         Ok(())
     }

@@ -37,6 +37,8 @@ pub(crate) struct Wrapper {
     pub operands: usize,
     /// Whether it is `xargs`, which adds operands.
     pub is_adding: bool,
+    /// Whether it is `env`, before whose command variables may be set.
+    pub is_env: bool,
     /// Whether it is what isn't known, which may run the command.
     pub is_unknown: bool,
 }
@@ -79,6 +81,7 @@ const PREFIX: Wrapper = Wrapper {
     stops: b"",
     operands: 0,
     is_adding: false,
+    is_env: false,
     is_unknown: true,
 };
 
@@ -213,6 +216,7 @@ fn wrapper_named(name: &[u8]) -> Option<Wrapper> {
                 stops,
                 operands: *operands,
                 is_adding: is_among(name, &[b"xargs"]),
+                is_env: is_among(name, &[b"env"]),
                 is_unknown: false,
             });
         }

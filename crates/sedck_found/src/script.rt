@@ -81,17 +81,11 @@ pub(crate) fn script_of(
     Ok(FoundScript::Text { call, text, holes })
 }
 
-/// Whether an option changes the language or the lines.
+/// Whether an option changes the language.
 fn has_foreign(given: &[Given]) -> bool {
     for item in given {
-        if let Given::Alone(option, _) = *item {
-            let is_foreign = matches!(
-                option,
-                CallOption::Extended | CallOption::NullData | CallOption::Separate
-            );
-            if is_foreign {
-                return true;
-            }
+        if let Given::Alone(CallOption::Extended, _) = *item {
+            return true;
         }
     }
     false

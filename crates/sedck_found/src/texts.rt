@@ -1,5 +1,6 @@
 //! The texts of a file, and those in them that are handed to a shell.
 
+use crate::locale::may_fix_locale;
 use crate::mentions::mention_in;
 use crate::names::{Names, Scope};
 use crate::parts::{Part, parts_of};
@@ -107,6 +108,7 @@ impl Reading<'_> {
 
     /// Notes what a command sets, and the texts in it.
     fn note(&mut self, command: &ShellCommand, scope: Scope) -> Result<(), AllocError> {
+        self.names.may_fix_locale = self.names.may_fix_locale || may_fix_locale(&command.words);
         if self.names.kind != Kind::Make {
             self.names.note_command(command, scope)?;
         }

@@ -96,12 +96,14 @@ pub enum Code {
     ReadAndWritten,
     /// Two names for one file, as `F` and `./F`.
     SameFile,
+    /// A file that is written has the name of the script's own file.
+    NamesItself,
 
     // Warnings of comments.
     UnknownCode,
 
     // A call of sed.
-    /// Options by which sed reads another language, or other lines, than what is judged.
+    /// Options by which sed reads another language than the one that is judged.
     OtherLanguage,
     /// Words that no sed takes.
     BadCall,
@@ -120,6 +122,10 @@ pub enum Code {
 
     // Notes.
     NoBound,
+    /// Something follows a label on its line, which some seds take for a part of the label.
+    LabelToTheLineEnd,
+    /// Labels that are alike in the bytes by which POSIX has labels told apart.
+    LongLabels,
 }
 
 impl Code {
@@ -201,6 +207,7 @@ impl Code {
             Code::ShellByteInName => "shell-byte-in-name",
             Code::ReadAndWritten => "read-and-written",
             Code::SameFile => "same-file",
+            Code::NamesItself => "names-itself",
             Code::UnknownCode => "unknown-code",
             Code::OtherLanguage => "other-language",
             Code::BadCall => "bad-call",
@@ -210,6 +217,8 @@ impl Code {
             Code::KnownValue => "known-value",
             Code::NotUnderstood => "not-understood",
             Code::NoBound => "no-bound",
+            Code::LabelToTheLineEnd => "label-to-the-line-end",
+            Code::LongLabels => "long-labels",
         }
     }
 }

@@ -59,7 +59,16 @@ pub struct Fix {
     pub start: Position,
     /// The first byte after the part.
     pub end: Position,
-    pub text: &'static str,
+    pub text: NewText,
+}
+
+/// A text that is to be written.
+#[derive(Clone, Copy, PartialEq, Eq)]
+pub enum NewText {
+    /// These characters, all of ASCII.
+    Plain(&'static str),
+    /// A group of an expression with this character in it.
+    Group(char),
 }
 
 /// A step of a loop or along an edge that is rejected.

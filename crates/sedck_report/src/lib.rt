@@ -14,7 +14,7 @@ mod shown;
 
 pub use ascii::{ascii_line, push_ascii};
 pub use code::Code;
-pub use finding::{Finding, Fix, Level, NamedFile, Step};
+pub use finding::{Finding, Fix, Level, NamedFile, NewText, Step};
 pub use html::{push_html, push_text};
 pub use places::{Position, end_behind, line_len, position_at, position_from, positions, skipped};
 pub use shown::{is_printable, shown_line, shown_name};

@@ -11,6 +11,7 @@ pub mod Program
 pub mod View
 pub mod ReplacementView
 pub mod Names
+pub mod ByteSafe
 pub mod Spelling
 pub mod Items
 pub mod Resolution

@@ -13,6 +13,8 @@ mod expressions;
 #[cfg(test)]
 mod model;
 #[cfg(test)]
+mod plain;
+#[cfg(test)]
 mod texts;
 #[cfg(test)]
 mod verbs;

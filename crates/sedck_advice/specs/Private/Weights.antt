@@ -4,15 +4,15 @@ use Rattle.std.specs.List.{list_any}
 use Rattle.sedck_bre.specs.Tree.{Tree}
 use Rattle.sedck_bre.specs.Lengths.{cap}
 use Rattle.sedck_script.specs.Program.{Command}
-use Rattle.sedck_advice.specs.Concerns.{repeats_byte}
-use Rattle.sedck_advice.specs.Slow.{repeats_group, repeats_reference, written_out, command_expressions}
+use Rattle.sedck_script.specs.ByteSafe.{splits_character, command_expressions}
+use Rattle.sedck_advice.specs.Slow.{repeats_group, repeats_reference, written_out}
 use Rattle.sedck_advice.specs.declared.weights.Weight.{Weight}
 
 -- what is known of these expressions
 pub record Weighs (expressions : List Tree) (weight : Weight) : Type 0 where
   pub group : weight.group ≡ list_any repeats_group expressions
   pub reference : weight.reference ≡ list_any repeats_reference expressions
-  pub byte : weight.byte ≡ list_any repeats_byte expressions
+  pub byte : weight.byte ≡ list_any splits_character expressions
   pub items : weight.items ≡ min (sum_by (written_out false) expressions) cap
 
 -- what is known of the expressions of these commands

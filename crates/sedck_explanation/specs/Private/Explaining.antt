@@ -17,7 +17,7 @@ use Rattle.sedck_advice.specs.declared.concerns.Concern.{Concern}
 use Rattle.sedck_errors.specs.declared.denied.Denied.{Denied}
 use Rattle.sedck_explanation.specs.Denial.{is_denied, status_under}
 use Rattle.sedck_explanation.specs.Errors.{HasErrors, BeginsWithAnswer}
-use Rattle.sedck_explanation.specs.Explanations.{kept_has}
+use Rattle.sedck_explanation.specs.Explanations.{kept_has, is_due}
 use Rattle.sedck_explanation.specs.declared.answer.Answer.{Answer}
 use Rattle.sedck_explanation.specs.declared.answer.Answer.TheVariants.{Accepted}
 use Rattle.sedck_explanation.specs.declared.explanation.Explanation.{Explanation}
@@ -27,7 +27,8 @@ pub record Explains (text : List ℕ) (denied : Denied) (answer : Answer) (e : E
   pub is_text : e.text.now ≡ text
   pub is_answer : e.answer ≡ answer
   pub is_status : e.status ≡ status_under denied (has_warning e.findings.items) (kept_has is_slow e.script) e.answer
-  pub concerned : (concern : Concern) → denied.warnings ≡ true → kept_has (concerns concern) e.script ≡ true → has_warning e.findings.items ≡ true
+  pub concerned : (concern : Concern) → denied.warnings ≡ true → is_due denied concern ≡ true → kept_has (concerns concern) e.script ≡ true
+      → has_warning e.findings.items ≡ true
   pub errors : HasErrors text e
   pub order : AreInOrder e.findings.items
   pub ends : All (HasRange text) e.findings.items
@@ -35,7 +36,7 @@ pub record Explains (text : List ℕ) (denied : Denied) (answer : Answer) (e : E
 -- a status and the findings of an answer to a caller who denies this, for this script with its verbs at these positions
 pub record Reports (text : List ℕ) (denied : Denied) (answer : Answer) (script : Program) (positions : List Position) (status : ℕ) (findings : List Finding) : Type 0 where
   pub is_status : status ≡ status_under denied (has_warning findings) (is_slow script) answer
-  pub concerned : (concern : Concern) → denied.warnings ≡ true → concerns concern script ≡ true → has_warning findings ≡ true
+  pub concerned : (concern : Concern) → denied.warnings ≡ true → is_due denied concern ≡ true → concerns concern script ≡ true → has_warning findings ≡ true
   pub exactly : has_error findings ≡ not (status == 0)
   pub first : BeginsWithAnswer text positions findings answer
   pub order : AreInOrder findings

@@ -3,4 +3,5 @@ use Rattle.sedck_advice.proofs.adding.add_warnings.Goals as goal
 
 pub returns : goal.returns
 returns c =
-    ok_no_error _ _ _ c.unknown_warnings.result (no_error_trans _ _ _ c.in_ok-look_warnings.ensures c.in_ok-name_warnings.ensures) c.unknown_warnings.ensures
+    ok_no_error _ _ _ c.label_notes.result
+    (no_error_trans _ _ _ (no_error_trans _ _ _ c.in_ok-look_warnings.ensures c.in_ok-name_warnings.ensures) c.in_ok-unknown_warnings.ensures) c.label_notes.ensures

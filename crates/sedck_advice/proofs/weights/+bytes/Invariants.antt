@@ -1,10 +1,10 @@
 use Rattle.std.proofs.Common.{◌≡◌, drop, map}
 use Rattle.sedck_bre.specs.Tree.{trees}
 use Rattle.sedck_bre.specs.View.{tree}
-use Rattle.sedck_advice.specs.Concerns.{one_repeats_byte}
+use Rattle.sedck_script.specs.ByteSafe.{one_splits}
 use Rattle.sedck_advice.proofs.weights.+bytes.Given as goal
 
--- nothing before repeats such a byte
-abbrev pub invariant-one_repeats_byte-loop-item : goal.invariant-one_repeats_byte-loop-item
-invariant-one_repeats_byte-loop-item l =
-    one_repeats_byte (trees (map tree (drop l.item-index l.items))) ≡ one_repeats_byte (trees (map tree l.items))
+-- nothing before splits a character, and so many bytes are due
+abbrev pub invariant-one_splits-loop-item : goal.invariant-one_splits-loop-item
+invariant-one_splits-loop-item l =
+    one_splits (trees (map tree (drop l.item-index l.items))) l.due ≡ one_splits (trees (map tree l.items)) 0

@@ -1,5 +1,5 @@
-use Rattle.std.proofs.Common.{◌≡◌}
-use Rattle.sedck_calls_in_files.specs.Judged.{Agrees, IsSaidOf, IsAcceptedScript}
+use Rattle.std.proofs.Common.{◌≡◌, subst}
+use Rattle.sedck_calls_in_files.specs.Judged.{Agrees, IsSaidOf, IsAcceptedScript, denied_of}
 use Rattle.sedck_calls_in_files.proofs.Lists.{if_ok_both}
 use Rattle.sedck_calls_in_files.proofs.Said.{said_on}
 use Rattle.sedck_calls_in_files.proofs.Yes.{yes_of_found}
@@ -10,9 +10,12 @@ returns-clause-said c =
     let file = c.args.file.now in
     let words = c.args.found.now.words.items in
     let script = c.args.found.now.script in
+    let denied = denied_of c.args.found.now c.args.denied in
     let before = c.in_ok-explanation.explanation in
-    if_ok_both (Agrees before) (λ e. e.status ≡ before.status) (IsSaidOf file c.args.denied words script) c.with_values.result
-    (λ e agrees status. said_on file c.args.denied words script before e agrees status c.in_ok-explanation.ensures.said)
+    let said : IsSaidOf file denied words script before =
+    subst (λ known. IsSaidOf file known words script before) c.with_locale-known.ensures c.in_ok-explanation.ensures.said in
+    if_ok_both (Agrees before) (λ e. e.status ≡ before.status) (IsSaidOf file denied words script) c.with_values.result
+    (λ e agrees status. said_on file denied words script before e agrees status said)
     c.with_values.ensures.agrees c.with_values.ensures.status
 
 pub returns-clause-yes : goal.returns-clause-yes
@@ -20,8 +23,10 @@ returns-clause-yes c =
     let file = c.args.file.now in
     let words = c.args.found.now.words.items in
     let script = c.args.found.now.script in
+    let denied = denied_of c.args.found.now c.args.denied in
     let before = c.in_ok-explanation.explanation in
-    if_ok_both (Agrees before) (λ e. e.status ≡ before.status) (λ e. e.status ≡ 0 → IsAcceptedScript file c.args.denied words script) c.with_values.result
-    (λ e agrees status yes. yes_of_found file c.args.denied words script e
-    (said_on file c.args.denied words script before e agrees status c.in_ok-explanation.ensures.said) yes)
+    let said : IsSaidOf file denied words script before =
+    subst (λ known. IsSaidOf file known words script before) c.with_locale-known.ensures c.in_ok-explanation.ensures.said in
+    if_ok_both (Agrees before) (λ e. e.status ≡ before.status) (λ e. e.status ≡ 0 → IsAcceptedScript file denied words script) c.with_values.result
+    (λ e agrees status yes. yes_of_found file denied words script e (said_on file denied words script before e agrees status said) yes)
     c.with_values.ensures.agrees c.with_values.ensures.status

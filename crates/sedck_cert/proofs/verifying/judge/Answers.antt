@@ -1,4 +1,4 @@
-use Rattle.sedck_cert.proofs.Promise.{is_judged, promised, answered, no_script, no_certificate, script_reported}
+use Rattle.sedck_cert.proofs.Promise.{is_judged, promised, promised_everywhere, answered, no_script, no_certificate, script_reported}
 use Rattle.sedck_cert.specs.Headline.{IsJudged}
 use Rattle.sedck_cert.proofs.verifying.judge.Goals as goal
 use Rattle.sedck_cert.proofs.verifying.judge.Goals.{After-with_verdict}
@@ -18,6 +18,9 @@ returns-clause-judged c = judged c
 -- accepted means that the runs end and the files are listed
 pub returns-clause-promise : goal.returns-clause-promise
 returns-clause-promise c is = promised c.args.script.now c.args.certificate.now c.with_verdict.result (judged c) cc
+
+pub returns-clause-everywhere : goal.returns-clause-everywhere
+returns-clause-everywhere c is = promised_everywhere c.args.script.now c.args.certificate.now c.with_verdict.result (judged c) cc
 
 pub returns-clause-answer : goal.returns-clause-answer
 returns-clause-answer c _ = answered c.args.script.now c.args.certificate.now c.with_verdict.result (judged c)

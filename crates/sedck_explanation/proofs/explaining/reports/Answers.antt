@@ -10,7 +10,9 @@ use Rattle.sedck_advice.specs.Concerns.{concerns, is_warned_of}
 use Rattle.sedck_advice.specs.declared.concerns.Concern.{Concern}
 use Rattle.sedck_advice.specs.declared.concerns.Concern.TheVariants.{Endless, Locale}
 use Rattle.sedck_advice.specs.Added.{AddsNoError}
+use Rattle.sedck_errors.specs.declared.denied.Denied.{Denied}
 use Rattle.sedck_explanation.specs.Denial.{status_under}
+use Rattle.sedck_explanation.specs.Explanations.{is_due}
 use Rattle.sedck_explanation.specs.Private.Errors.{AreFindingsOf}
 use Rattle.sedck_explanation.specs.Private.Explaining.{AreDeniedFindings}
 use Rattle.sedck_explanation.specs.Private.Reporting.{AreReported}
@@ -24,10 +26,11 @@ or_true : (a : Bool) → (a || true) ≡ true
 or_true true = refl
 or_true false = refl
 
-each_concern : (p : Program) (found : List Finding) → (concerns Endless p ≡ true → has_warning found ≡ true)
-    → (concerns Locale p ≡ true → has_warning found ≡ true) → (concern : Concern) → concerns concern p ≡ true → has_warning found ≡ true
-each_concern p found endless locale Endless is = endless is
-each_concern p found endless locale Locale is = locale is
+each_concern : (p : Program) (denied : Denied) (found : List Finding) → (concerns Endless p ≡ true → has_warning found ≡ true)
+    → (is_due denied Locale ≡ true → concerns Locale p ≡ true → has_warning found ≡ true) → (concern : Concern) → is_due denied concern ≡ true
+    → concerns concern p ≡ true → has_warning found ≡ true
+each_concern p denied found endless locale Endless due is = endless is
+each_concern p denied found endless locale Locale due is = locale due is
 
 pub returns-clause-reports : goal.returns-clause-reports
 returns-clause-reports c =
@@ -44,32 +47,31 @@ returns-clause-reports c =
     let slow : is_some c.slow_of-slow.result ≡ is_slow script = c.slow_of-slow.ensures in
     let status : c.status_under-status.result ≡ status_under c.args.denied (has_warning all) (is_slow script) answer =
     c.status_under-status.ensures.value
-    ∙ ap (λ warned. status_under c.args.denied warned c.is_some.result answer) (c.any_warning.ensures ∙ ap has_warning c.deref-10.ensures.value)
+    ∙ ap (λ warned. status_under c.args.denied warned c.is_some.result answer) (c.any_warning.ensures ∙ ap has_warning c.deref-8.ensures.value)
     ∙ ap (λ is. status_under c.args.denied (has_warning all) is answer) (c.is_some.ensures ∙ slow) in
     let of_answer : AreFindingsOf text positions answer begun =
     subst (λ (ps : List Position). AreFindingsOf text ps answer begun) c.deref-2.ensures.value c.in_ok-found.ensures in
     let endless = c.concern_warnings.new.findings.items in
-    let locale = c.concern_warnings-2.new.findings.items in
+    let locale = c.locale_warnings.new.findings.items in
     let adds : AddsNoError begun found =
     no_error_trans begun given found (no_error_append begun given c.args.warnings.items c.in_ok-append.ensures.items c.requires.warned)
     (no_error_trans given endless found c.in_ok-concern_warnings.ensures.added
-    (no_error_trans endless locale found c.in_ok-concern_warnings-2.ensures.added c.in_ok-add_warnings.ensures)) in
-    let is_warned : (concern : Concern) → concerns concern script ≡ true → has_warning found ≡ true =
-    each_concern script found
-    (λ is. c.in_ok-add_warnings.ensures.warned (c.in_ok-concern_warnings-2.ensures.added.warned
+    (no_error_trans endless locale found c.in_ok-locale_warnings.ensures.added c.in_ok-add_warnings.ensures)) in
+    let is_warned : (concern : Concern) → is_due c.args.denied concern ≡ true → concerns concern script ≡ true → has_warning found ≡ true =
+    each_concern script c.args.denied found
+    (λ is. c.in_ok-add_warnings.ensures.warned (c.in_ok-locale_warnings.ensures.added.warned
     (warned_of_is_warned Endless endless (c.in_ok-concern_warnings.ensures.exactly ∙ ap (λ has. is_warned_of Endless given || has) is ∙ or_true (is_warned_of Endless given)))))
-    (λ is. c.in_ok-add_warnings.ensures.warned
-    (warned_of_is_warned Locale locale (c.in_ok-concern_warnings-2.ensures.exactly ∙ ap (λ has. is_warned_of Locale endless || has) is ∙ or_true (is_warned_of Locale endless)))) in
+    (λ due is. c.in_ok-add_warnings.ensures.warned (c.in_ok-locale_warnings.ensures.warned due is)) in
     let reported : AreReported text ignored all findings =
-    subst (λ (codes : List Code). AreReported text codes all findings) c.deref-13.ensures.value c.in_ok-findings.ensures in
+    subst (λ (codes : List Code). AreReported text codes all findings) c.deref-11.ensures.value c.in_ok-findings.ensures in
     let errors = errors_reported text positions answer ignored all findings c.status_under-status.result reported
     (errors_of text positions c.args.denied (is_slow script) answer found all c.status_under-status.result
     (findings_stay text positions answer begun found adds of_answer)
     (subst (λ (is : Bool). AreDeniedFindings c.args.denied is found all answer) slow c.in_ok-all.ensures.errors) status) in
     record {
       is_status = status_reported text c.args.denied (is_slow script) answer ignored all findings c.status_under-status.result reported c.in_ok-ignored.ensures status;
-      concerned = λ concern denied is.
-          reported.warnings (c.in_ok-ignored.ensures denied) ∙ c.in_ok-all.ensures.warnings ∙ is_warned concern is;
+      concerned = λ concern denied due is.
+          reported.warnings (c.in_ok-ignored.ensures denied) ∙ c.in_ok-all.ensures.warnings ∙ is_warned concern due is;
       exactly = errors.0;
       first = errors.1;
       order = reported.order;

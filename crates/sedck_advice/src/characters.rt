@@ -1,0 +1,186 @@
+//! Where bytes above 127 are repeated by themselves, are in no whole character, or are in lists of `y`, and the characters of UTF-8 of
+//! which they are parts.
+
+use crate::expressions::{Expression, expressions_in};
+use crate::lists::Reading;
+use sedck_script::{Location, Part, Pattern, Script, Verb};
+use std::str;
+
+/// A byte above 127 in the text of a script, with the whole character that ends or begins with it, if it is a part of one.
+#[derive(Clone, Copy)]
+pub(crate) struct Character {
+    pub start: usize,
+    /// Its length in bytes.
+    pub length: usize,
+    /// The character itself, where a group around it changes nothing for a sed that repeats characters.
+    pub grouped: Option<char>,
+}
+
+/// The first such byte of the command that is repeated by itself, or else that is in no whole character, or in a list of `y`.
+pub(crate) fn character_in(text: &[u8], location: Location) -> Option<Character> {
+    let command = text.get(location.start..location.end)?;
+    let expressions = expressions_in(text, location);
+    for expression in expressions {
+        if let Some(expression) = expression
+            && let Some(character) = repeated_in(expression, command)
+        {
+            return Some(character);
+        }
+    }
+    for expression in expressions {
+        if let Some(expression) = expression
+            && let Some(character) = broken_in(expression)
+        {
+            return Some(character);
+        }
+    }
+    listed_in(text, location)
+}
+
+/// The first byte of the expression that is in no whole character.
+fn broken_in(expression: Expression) -> Option<Character> {
+    let Err(fault) = str::from_utf8(expression.bytes) else {
+        return None;
+    };
+    Some(Character {
+        start: expression.start.saturating_add(fault.valid_up_to()),
+        length: 1,
+        grouped: None,
+    })
+}
+
+/// The first byte above 127 that the expression repeats by itself.
+fn repeated_in(expression: Expression, command: &[u8]) -> Option<Character> {
+    let mut reading = Reading::START;
+    let mut groups = 0usize;
+    for (index, byte) in expression.bytes.iter().enumerate() {
+        let end = index.saturating_add(1);
+        let rest = expression.bytes.get(end..).unwrap_or(&[]);
+        if *byte > 127 && !reading.is_in_list() && is_repeated(rest) {
+            let may_be_grouped = may_be_grouped(expression, command, groups);
+            return Some(character_before(expression, end, may_be_grouped));
+        }
+        if reading.is_escaped() && *byte == b'(' {
+            groups = groups.saturating_add(1);
+        }
+        reading = reading.after(*byte);
+    }
+    None
+}
+
+/// Whether this begins with a sign of repetition.
+fn is_repeated(rest: &[u8]) -> bool {
+    rest.starts_with(b"*") || rest.starts_with(b"\\{")
+}
+
+/// The character that ends here in the expression, or its last byte.
+fn character_before(expression: Expression, end: usize, may_be_grouped: bool) -> Character {
+    for length in 2..=4usize {
+        let start = end.saturating_sub(length);
+        let bytes = expression.bytes.get(start..end).unwrap_or(&[]);
+        if let Some(character) = only_character(bytes) {
+            return Character {
+                start: expression.start.saturating_add(start),
+                length,
+                grouped: if may_be_grouped {
+                    Some(character)
+                } else {
+                    None
+                },
+            };
+        }
+    }
+    Character {
+        start: expression.start.saturating_add(end.saturating_sub(1)),
+        length: 1,
+        grouped: None,
+    }
+}
+
+/// The character of UTF-8 that these bytes are.
+fn only_character(bytes: &[u8]) -> Option<char> {
+    let Ok(text) = str::from_utf8(bytes) else {
+        return None;
+    };
+    let mut characters = text.chars();
+    let first = characters.next()?;
+    match characters.next() {
+        Some(_) => None,
+        None => Some(first),
+    }
+}
+
+/// The most groups of an expression that may get one more: an expression may have groups in 32 others.
+const MOST_GROUPS: usize = 31;
+
+/// Whether a group after so many others may be written there, and changes the number of none to which the command refers.
+fn may_be_grouped(expression: Expression, command: &[u8], before: usize) -> bool {
+    !matches!(expression.delimiter, b'(' | b')' | 128..=255)
+        && groups_in(expression.bytes) <= MOST_GROUPS
+        && highest_reference(command) <= before
+}
+
+/// How many groups these bytes may open.
+fn groups_in(bytes: &[u8]) -> usize {
+    bytes
+        .windows(2)
+        .filter(|pair| pair.starts_with(b"\\("))
+        .count()
+}
+
+/// The highest number that may be a reference in these bytes.
+fn highest_reference(bytes: &[u8]) -> usize {
+    let mut highest = 0;
+    for pair in bytes.windows(2) {
+        if let [b'\\', digit] = pair
+            && digit.is_ascii_digit()
+        {
+            highest = usize::from(*digit - b'0').max(highest);
+        }
+    }
+    highest
+}
+
+/// The first byte above 127 in the lists of `y`, where that is the command.
+fn listed_in(text: &[u8], location: Location) -> Option<Character> {
+    let [b'y', delimiter, ..] = text.get(location.verb..location.end)? else {
+        return None;
+    };
+    let begin = location.verb.checked_add(2)?;
+    let lists = text.get(begin..location.end)?;
+    let index = lists
+        .iter()
+        .position(|byte| *byte > 127 && *byte != *delimiter)?;
+    let rest = lists.get(index..)?;
+    Some(Character {
+        start: begin.checked_add(index)?,
+        length: length_of_first(rest),
+        grouped: None,
+    })
+}
+
+/// How many bytes the first character has, or 1 where the first byte begins none.
+fn length_of_first(bytes: &[u8]) -> usize {
+    for length in 2..=4usize {
+        if only_character(bytes.get(..length).unwrap_or(&[])).is_some() {
+            return length;
+        }
+    }
+    1
+}
+
+/// Whether a replacement for an expression of another command, which is written as an empty one, names a group of it.
+pub(crate) fn names_other_groups(script: &Script) -> bool {
+    for command in script.commands() {
+        if let Verb::Substitute(substitution) = &command.verb
+            && matches!(substitution.pattern, Pattern::Previous)
+            && substitution
+                .parts
+                .iter()
+                .any(|part| matches!(*part, Part::Group(_)))
+        {
+            return true;
+        }
+    }
+    false
+}
