@@ -5,14 +5,15 @@
     python3 tests/seds/seds.py build/sedck --table
 
 Scripts that hide commands, and substitutions, are drawn from all of the grammar (seds_draw.py); those that `sedck` accepts are run by
-each sed, and what their certificates rule out is a finding (seds_hunt.py). A twentieth as many scripts, with K inputs each, and the
-scripts of the examples and folders, are also run by GNU sed with `--debug`, and each step is held against the edges that
-`sedck graph` lists (seds_trace.py); the same steps are held against a graph with `keep` in place of `grow`, which must be caught.
-So must each script of the page docs/SEDS.md that some sed is known to read in another way, which is run without asking `sedck`. At
-the end the page's table of statuses is run again, and rows that are others here are printed, which is no finding: that sed is of
-another version. With `--table` only what `sedck` answers in the page's tables is looked at. The status is 0 where nothing was found.
+each sed, also in other locales, over several files and with `-s`, `-i` and `-z` (seds_ways.py), and what their certificates rule out is
+a finding (seds_hunt.py). A twentieth as many scripts, with K inputs each, and the scripts of the examples and folders, are also run by
+GNU sed with `--debug`, and each step is held against the edges that `sedck graph` lists (seds_trace.py); the same steps are held against
+a graph with `keep` in place of `grow`, which must be caught. So must each script of the page docs/SEDS.md that some sed is known to read
+in another way, which is run without asking `sedck`, and two that run for ever in UTF-8, where it isn't asked whether a script is byte
+safe. At the end the page's table of statuses is run again, and rows that are others here are printed, which is no finding: that sed is
+of another version. With `--table` only what `sedck` answers in the page's tables is looked at. The status is 0 where nothing was found.
 Runs are in scratch folders, under limits, with a search path that has `touch` alone, and not as the superuser. Which scripts are
-drawn depends on N and S alone.
+drawn depends on N and S alone; locales that `localedef` has made may be kept in the folder of LOCPATH.
 """
 import argparse
 import collections
@@ -24,10 +25,11 @@ import sys
 
 sys.path.insert(0, os.path.dirname(os.path.abspath(__file__)))
 from seds_draw import Draw  # noqa: E402
-from seds_hunt import Hunt, is_inside  # noqa: E402
+from seds_hunt import BEYOND_FIRST, Hunt, is_inside  # noqa: E402
 from seds_page import answers_of_sedck, compared  # noqa: E402
 from seds_run import Judge, Scratch, become_nobody, make_top  # noqa: E402
 from seds_trace import Graph, Trace, limit_of, unexplained  # noqa: E402
+from seds_ways import Abilities, locales_found  # noqa: E402
 
 TOP = os.path.dirname(os.path.dirname(os.path.dirname(os.path.abspath(__file__))))
 PAGE = os.path.join(TOP, "docs", "SEDS.md")
@@ -106,7 +108,7 @@ def try_steps(scratch, judge, script, inputs, seds, report):
     judged = judge.judge_all([script])[0]
     report.count("scripts held step by step: " + ("with a certificate", "with a loop", "refused")[judged.status])
     if judged.status == 2 or not is_inside(judged.reads | judged.writes):
-        return
+        return judged
     graph = Graph(judge.call("graph", os.path.join(judge.folder, "0"))[1])
     if judged.status == 1:
         inputs, seds = inputs[:1], [sed for sed in seds if sed.is_gnu]
@@ -127,6 +129,7 @@ def try_steps(scratch, judge, script, inputs, seds, report):
                 report.count("runs step by step of scripts that %s doesn't read" % sed.name)
             elif sed.is_gnu:
                 hold_steps(graph, judged.bound, Trace(done.output), given, sed, script, report)
+    return judged
 
 
 def hold_steps(graph, bound, trace, given, sed, script, report):
@@ -144,30 +147,41 @@ def hold_steps(graph, bound, trace, given, sed, script, report):
     if bound:
         most = len(steps) + sum(1 for line in trace.events if line == "END-OF-CYCLE:") + 1
         report.count("runs held against a bound")
-        if most > limit_of(bound, given):
-            report.finding(sed, "run above its bound", script, given, "%d steps at most, above %d" % (most, limit_of(bound, given)))
+        if most > limit_of(bound, [given]):
+            report.finding(sed, "run above its bound", script, given, "%d steps at most, above %d" % (most, limit_of(bound, [given])))
 
 
 # ---- work, by processes
 
-def prepare(top, seds):
+def prepare(top, seds, locales):
     """A process of its own folder, without the superuser's rights."""
     become_nobody()
     prepare.scratch = Scratch(top)
     prepare.judge, prepare.seds = Judge(prepare.scratch, top), seds
+    prepare.locales, prepare.abilities = locales, None
+
+
+def hunt_of(report, seed):
+    # What the seds know is found out by the first task, since a fault in what prepares a process would begin another one for ever.
+    prepare.abilities = prepare.abilities or Abilities(prepare.scratch, prepare.seds, prepare.locales)
+    return Hunt(prepare.scratch, prepare.judge, prepare.seds, prepare.abilities, report, seed)
 
 
 def work(task):
     """One task: its report. What is drawn depends on the task's seed alone."""
     what, seed, argument = task
     report = Report()
+    hunt = hunt_of(report, seed)
     if what == "steps":
         draw = Draw(seed)
         script, inputs = argument
+        times = 1 if script is None else inputs
         script = draw.script() if script is None else script
-        try_steps(prepare.scratch, prepare.judge, script, [draw.input() for _ in range(inputs)], prepare.seds, report)
+        judged = try_steps(prepare.scratch, prepare.judge, script, [draw.input() for _ in range(inputs)], prepare.seds, report)
+        if judged.status == 0 and is_inside(judged.reads | judged.writes):
+            for _ in range(times):
+                hunt.run_everywhere(script, judged, prepare.seds)
     else:
-        hunt = Hunt(prepare.scratch, prepare.judge, prepare.seds, report, seed)
         report.count("scripts that hide commands: drawn" if what == "hidden" else "substitutions: drawn", argument)
         (hunt.hidden if what == "hidden" else hunt.lengths)(argument)
     return report
@@ -175,7 +189,14 @@ def work(task):
 
 def pages(page):
     """The page's tables, run again."""
-    return compared(page, prepare.scratch, prepare.seds)
+    return compared(page, prepare.scratch, prepare.seds, next((one for one in prepare.locales if one.charmap == "UTF-8"), None))
+
+
+def known():
+    """What the seds know, and which scripts that aren't byte safe aren't found where the characters of a GNU sed have several bytes."""
+    hunt = hunt_of(Report(), "")
+    is_tried = any(sed.is_gnu and one.charmap == "UTF-8" for sed in prepare.seds for one in hunt.abilities.known[sed.name])
+    return list(hunt.abilities.lines()), list(hunt.missed()), is_tried
 
 
 def tasks(scripts, seed, inputs, folders):
@@ -221,7 +242,9 @@ def main():
     folders = [os.path.join(TOP, "examples")] + asked.folder
     top = make_top([sedck, sedck + "-explain"])
     try:
-        with multiprocessing.Pool(asked.jobs, prepare, (top, seds)) as pool:
+        with multiprocessing.Pool(asked.jobs, prepare, (top, seds, locales_found(top))) as pool:
+            lines, missed, is_tried = pool.apply(known)
+            print("\n".join(lines), flush=True)
             for part in pool.imap_unordered(work, tasks(asked.scripts, asked.seed, asked.inputs, folders)):
                 report.add(part)
             others = pool.apply(pages, (PAGE,))
@@ -229,11 +252,15 @@ def main():
         shutil.rmtree(top, ignore_errors=True)
     for line in report.lines():
         print(line)
-    missed = [line for is_fault, line in others if is_fault]
+    print("\n".join(missed) or "known scripts that aren't byte safe " + ("are found" if is_tried else "weren't tried: no GNU sed with UTF-8"))
+    missed += [line for is_fault, line in others if is_fault]
     for is_fault, line in others:
         print(("" if is_fault else "of another version: ") + line)
     if any(sed.is_gnu for sed in seds) and not report.counts["runs that a graph with keep for grow doesn't explain"]:
         missed.append("a graph with keep for grow was not caught")
+        print(missed[-1])
+    if any(sed.is_gnu for sed in seds) and not report.counts[BEYOND_FIRST]:
+        missed.append("no run over several files went beyond the bound of the first one")
         print(missed[-1])
     return 1 if report.failures() or missed else 0
 

@@ -3,12 +3,18 @@
 What is hidden is a command that leaves a trace where a sed runs it: it makes the file `F`, which no script lists, runs `touch E`, or
 reads `secret`. It is put where the grammar has data: in texts, comments, names, bracket lists, replacements and the lists of `y`,
 behind what may close an expression that another sed takes to be open.
+
+A third of the expressions have bytes above 127, and some of the other parts: in half of the scripts whole characters of UTF-8, in the
+others bytes that are none, too.
 """
 import random
 
 CLASSES = "upper lower alpha digit alnum xdigit space blank punct graph print cntrl".split()
 ESCAPABLE = ",;:!@#%~_=\"' -x"
 CONTROLS = [byte for byte in range(1, 32) if byte != 10]
+# Characters of two bytes and more; and then also parts of these, and bytes that are in no character.
+WHOLE = [text.encode().decode("latin-1") for text in "ééüı€\U0001f600"]
+HIGH = WHOLE + ["\xc3", "\xa9", "\xe2\x82", "\x80", "\xff"]
 
 
 class Draw(random.Random):
@@ -76,8 +82,12 @@ class Grammar(random.Random):
               "}", "{", ";", "#", "/", "!", ",", "$", "^", "*", "&", "'", "\\n", "\\c", "\\x", "\\(", "\\)", "\\{1\\}", "b", "t", "a",
               "w F", "\x7f", "\x80", "\xff"]
 
+    def __init__(self, seed):
+        super().__init__(seed)
+        self.delimiter, self.labels, self.is_high, self.high = "/", [], False, WHOLE
+
     def script(self):
-        self.delimiter, self.labels = "/", []
+        self.delimiter, self.labels, self.high = "/", [], self.choice([WHOLE, HIGH])
         shape = self.random()
         text = self.loop() if shape < 0.3 else self.cut() if shape < 0.6 else self.commands(self.randrange(1, 6))
         if self.random() < 0.2:
@@ -107,6 +117,8 @@ class Grammar(random.Random):
     def data(self):
         """Bytes of a line of data."""
         parts = [self.choice(["x", "a", self.choice(self.TOKENS), self.hidden()]) for _ in range(self.randrange(3))]
+        if self.random() < 0.15:
+            parts.append(self.choice(self.high))
         if self.random() < 0.6:
             parts.append(self.hidden())
         parts.append(self.choice(["", "", "", "", "\\", "\\\\", " ", "\r", "}", "\\\\\\"]))
@@ -168,7 +180,7 @@ class Grammar(random.Random):
         """A command, and whether it runs to the end of its line."""
         verb = self.choice("ssssssyyaiicccrwwbtGgxhHnNdDpP=lq:")
         if verb == ":":
-            label = "l%d" % len(self.labels)
+            label = "l%d" % len(self.labels) + (self.choice(self.high) if self.random() < 0.03 else "")
             self.labels.append(label)
             return ":" + self.choice(["", " "]) + label + self.choice(["", " ", " # " + self.data()]), True
         address = self.address()
@@ -193,6 +205,7 @@ class Grammar(random.Random):
     def name(self):
         begin = self.choice(["", "", " ", " ", "\t", "\f", "\r", "\v", " \f"])
         end = self.choice(["", "", "", " ", "\\", "\\\\", " \\", "\r", ";w F", "}w F", "\rw F", " # x", self.hidden()])
+        end = self.choice(self.high) + end if self.random() < 0.15 else end
         return (begin + self.choice(["out1", "out1", "out2", "out3", ""]) + end).replace("/", "").replace("\n", "")
 
     def text(self):
@@ -246,12 +259,13 @@ class Grammar(random.Random):
 
     def replacement(self):
         parts = ["", "", "x", "xx", "&", "\\1", "\\n", "\\t", "\\\n", "\\&", "\\\\", "\\]", "[", "]", "\\" + self.delimiter, self.hidden(),
-                 "\\\n" + self.hidden()]
+                 "\\\n" + self.hidden()] + self.sample(self.high, 2) + ["\\" + self.choice(self.high)]
         return "".join(self.choice(parts) for _ in range(self.randrange(4)))
 
     def transliteration(self):
         d = self.fresh_delimiter()
         tokens = ["[", "]", "^", "[", "]", "\\\\", "\\n", "\\" + d, "a", "b", ";", "}", "#", "w", "F", " ", "\r", self.control()]
+        tokens += self.sample(self.high, 2) if self.random() < 0.1 else []
         one = lambda: self.fitted(self.choice(tokens))
         first = [one() for _ in range(self.randrange(5))]
         second = [one() for _ in first]
@@ -263,8 +277,14 @@ class Grammar(random.Random):
     def expression(self, depth=0):
         text = self.choice(["", "", "", "", "", "", "^", "^", "*", "^*"])
         groups = 0
-        for _ in range(self.randrange(1, 4)):
+        self.is_high = self.random() < 1 / 3 if depth == 0 else self.is_high
+        count = self.randrange(1, 4)
+        high_at = self.randrange(count) if self.is_high and depth == 0 else None
+        for at in range(count):
             kind = self.randrange(20)
+            if at == high_at or self.is_high and self.random() < 0.2:
+                text += self.high_item()
+                continue
             if kind < 9:
                 item = self.bracket()
             elif kind < 11 and depth < 2:
@@ -279,6 +299,18 @@ class Grammar(random.Random):
             text += item + self.choice(["", "", "", "", "*", "\\{2\\}", "\\{0,1\\}", "\\{1,\\}", "\\{5\\}"])
         return text + self.choice(["", "", "", "$"])
 
+    def high_item(self):
+        """Bytes above 127 alone, in a group, in a list, and now and then repeated by themselves."""
+        piece, repeats = self.choice(self.high), ["", "*", "\\{2\\}", "\\{0,1\\}"]
+        kind = self.randrange(8)
+        if kind < 3:
+            return piece
+        if kind < 5:
+            return "\\(%s\\)" % piece + self.choice(repeats)
+        if kind < 7:
+            return "[" + self.choice(["", "^"]) + piece + self.choice(["", "a", self.choice(self.high)]) + "]" + self.choice(repeats)
+        return piece + self.choice(repeats)
+
     def bracket(self):
         """A bracket list from tokens."""
         begin = "[" + self.choice(["", "", "^"]) + self.choice(["", "", "", "]", "-"])
@@ -288,6 +320,9 @@ class Grammar(random.Random):
     def element(self):
         kind, d = self.randrange(16), self.delimiter
         byte = self.choice([".", "=", ":", "]", "[", "-", "\\", "a"])
+        if self.is_high and self.random() < 0.3:
+            piece = self.choice(self.high)
+            return self.choice([piece, piece, "[=%s=]" % piece, "[.%s.]" % piece, piece + "-" + self.choice(self.high), "a-" + piece])
         if kind < 2:
             return "[:" + self.choice(CLASSES) + ":]"
         if kind < 5:

@@ -1,7 +1,8 @@
 """The tables of docs/SEDS.md, run again.
 
-A script's lines, and an input's, are code spans; a control character is its picture (`␍`), and a bar has a backslash before it. The
-heads of seds are a name and a version. Where a sed of that version answers something else, that is a fault, else it is reported.
+A script's lines, and an input's, are code spans; a control character is its picture (`␍`), a byte that is in no character is `⟨A9⟩`, and
+a bar has a backslash before it. The heads of seds are a name and a version. Where a sed of that version answers something else, that is
+a fault, else it is reported.
 """
 import os
 import re
@@ -17,7 +18,9 @@ STOPPED_SECONDS = 2
 def spans(cell):
     """The code spans of a cell, as bytes."""
     control = lambda found: chr(ord(found.group()) - 0x2400)
-    return [re.sub("[\u2400-\u241f]", control, span.replace("\0", "|")).encode("latin-1") for span in re.findall("`([^`]*)`", cell)]
+    alone = lambda found: bytes([int(found[1], 16)]).decode("utf-8", "surrogateescape")
+    read = lambda span: re.sub("⟨([89A-F][0-9A-F])⟩", alone, re.sub("[\u2400-\u241f]", control, span.replace("\0", "|")))
+    return [read(span).encode("utf-8", "surrogateescape") for span in re.findall("`([^`]*)`", cell)]
 
 
 def joined(cell):
@@ -38,8 +41,9 @@ def table(page, head):
     return cells(lines[begin]), rows
 
 
+IN_UTF_8 = "trace in UTF-8"
 HEADS = {"statuses": "| script | sedck |", "traces": "| script | input | trace |", "outputs": "| script | input | sedck |",
-         "matches": "| script | input | what is repeated |"}
+         "matches": "| script | input | what is repeated |", "locales": "| script | input | %s |" % IN_UTF_8}
 
 
 def shown(done):
@@ -53,12 +57,13 @@ def expected(cell):
 
 class Page:
     """The tables, and what each of the seds, or `sedck`, answers."""
-    def __init__(self, page, scratch, seds):
-        self.page, self.scratch, self.seds = page, scratch, seds
+    def __init__(self, page, scratch, seds, locale):
+        self.page, self.scratch, self.seds, self.locale = page, scratch, seds, locale
 
     def compared(self):
         """What is other here: whether it is a fault, and its line. How long a match takes is up to the C library, and no fault."""
-        for name, answer in (("statuses", self.status), ("traces", self.trace), ("outputs", self.printed), ("matches", self.ends)):
+        answers = [("statuses", self.status), ("traces", self.trace), ("outputs", self.printed), ("matches", self.ends)]
+        for name, answer in answers + ([("locales", self.trace_there)] if self.locale else []):
             heads, rows = table(self.page, HEADS[name])
             for row in rows:
                 cells = dict(zip(heads, row))
@@ -100,9 +105,18 @@ class Page:
             return "yes" if broken_lines("shorten", given, done.output) else "-"
         return "yes" if TRACES[cells["trace"]] in known_kinds(done, listed) else "-"
 
+    def trace_there(self, sed, cells):
+        """The same in the locale of UTF-8."""
+        posix = self.scratch.environment
+        self.scratch.environment = {**posix, **self.locale.environment}
+        try:
+            return self.trace(sed, {**cells, "trace": cells[IN_UTF_8]})
+        finally:
+            self.scratch.environment = posix
 
-def compared(page, scratch, seds):
-    return list(Page(page, scratch, seds).compared())
+
+def compared(page, scratch, seds, locale):
+    return list(Page(page, scratch, seds, locale).compared())
 
 
 def answers_of_sedck(page, sedck):

@@ -12,13 +12,21 @@ import tempfile
 LIMIT_SECONDS = 3
 TOLD_SECONDS = 0.5
 LONG_SECONDS = 10
+# A run on a busy machine may take so many times its limit, until it has had that much of a processor.
+PATIENCE = 20
+TICKS = os.sysconf("SC_CLK_TCK")
 LIMIT_BYTES = 4 << 20
 LIMIT_MEMORY = 2 << 30
 NOBODY = 65534
 SECRET = b"@SECRET@"
 
 Done = collections.namedtuple("Done", "status output made")
-Judged = collections.namedtuple("Judged", "status bound reads writes")
+Judged = collections.namedtuple("Judged", "status bound reads writes codes")
+# How a script is run other than as it was checked: by these words for the sed, in a locale, on several files.
+Way = collections.namedtuple("Way", "name options environment files end")
+OPERANDS = (b"one", b"two", b"three", b"four")
+# What a sed that was stopped leaves of `-i`.
+TEMPORARY = re.compile(rb"(sed|%s)\w{6}" % b"|".join(OPERANDS))
 
 
 def name_bytes(shown):
@@ -64,7 +72,7 @@ class Scratch:
         self.kept = {b"in1", b"secret"}
         self.put(b"")
         resource.setrlimit(resource.RLIMIT_FSIZE, (LIMIT_BYTES, LIMIT_BYTES))
-        resource.setrlimit(resource.RLIMIT_AS, (LIMIT_MEMORY, LIMIT_MEMORY))
+        resource.setrlimit(resource.RLIMIT_AS, (LIMIT_MEMORY, resource.getrlimit(resource.RLIMIT_AS)[1]))
         resource.setrlimit(resource.RLIMIT_CORE, (0, 0))
         signal.signal(signal.SIGXFSZ, signal.SIG_IGN)
         self.child = None
@@ -86,14 +94,18 @@ class Scratch:
         for name, text in ((self.script, script), (self.given, given), ("in1", b"read\n"), ("secret", SECRET + b"\n")):
             self.write(name, text)
 
-    def spawn(self, words, seconds):
+    def spawn(self, words, seconds, environment=None):
         """The status of a run, below 0 for a signal; None for one that doesn't end in time."""
         opened = [(os.POSIX_SPAWN_OPEN, 0, self.given, os.O_RDONLY, 0),
                   (os.POSIX_SPAWN_OPEN, 1, self.out, os.O_WRONLY | os.O_CREAT | os.O_TRUNC, 0o600),
                   (os.POSIX_SPAWN_OPEN, 2, os.devnull, os.O_WRONLY, 0)]
-        self.child = os.posix_spawn(words[0], words, self.environment, file_actions=opened, setpgroup=0, setsigdef=[signal.SIGXFSZ])
+        self.child = os.posix_spawn(words[0], words, {**self.environment, **(environment or {})}, file_actions=opened, setpgroup=0,
+                                    setsigdef=[signal.SIGXFSZ])
         watched = os.pidfd_open(self.child)
-        ended = select.select([watched], [], [], seconds)[0]
+        for _ in range(PATIENCE):
+            ended = select.select([watched], [], [], seconds)[0]
+            if ended or self.used() > seconds * 0.8:
+                break
         os.close(watched)
         if not ended:
             os.killpg(self.child, signal.SIGKILL)
@@ -101,20 +113,42 @@ class Scratch:
         self.child = None
         return None if not ended or status == -signal.SIGXFSZ else status
 
-    def output(self):
-        with open(self.out, "rb") as text:
+    def used(self):
+        """The seconds of a processor that the child has had."""
+        with open("/proc/%d/stat" % self.child, "rb") as stat:
+            user, system = stat.read().rsplit(b")", 1)[1].split()[11:13]
+        return (int(user) + int(system)) / TICKS
+
+    def output(self, path=None):
+        with open(path or self.out, "rb") as text:
             return text.read()
 
     def run(self, words, seconds=LIMIT_SECONDS):
         """A run of a sed on the script and the input that were put, in an empty folder, with the files that it made."""
         status = self.spawn(words + ["-f", self.script], seconds)
+        return Done(status, self.output(), self.taken_away())
+
+    def run_so(self, words, way, seconds=LIMIT_SECONDS):
+        """The same in a way. What is in the files after it is a part of the output."""
+        names = OPERANDS[:len(way.files)]
+        for name, text in zip(names, way.files):
+            self.write(name, text)
+        status = self.spawn(words + list(way.options) + ["-f", self.script, *names], seconds, way.environment)
+        output = self.output()
+        if "-i" in way.options:
+            output += b"".join(self.output(name) for name in names if os.path.isfile(name))
+        made = self.taken_away() - set(names)
+        return Done(status, output, {name for name in made if status is not None or not TEMPORARY.fullmatch(name)})
+
+    def taken_away(self):
+        """The names of the files that are there after a run, which are removed."""
         made = set(os.listdir(b".")) - self.kept
         for name in made:
             if os.path.isdir(name):
                 shutil.rmtree(name)
             else:
                 os.remove(name)
-        return Done(status, self.output(), made)
+        return made
 
     def close(self):
         os.chdir("/")
@@ -142,7 +176,8 @@ class Judge:
     @staticmethod
     def judged(one):
         bound = one["bound"] and (one["bound"]["per_byte"], one["bound"]["per_line"], one["bound"]["fixed"])
-        return Judged(one["status"], bound, *({name_bytes(name["name"]) for name in one[word]} for word in ("reads", "writes")))
+        names = ({name_bytes(name["name"]) for name in one[word]} for word in ("reads", "writes"))
+        return Judged(one["status"], bound, *names, {finding["code"] for finding in one["findings"]})
 
     def call(self, *words):
         status = self.scratch.spawn([self.sedck] + list(words), LONG_SECONDS)

@@ -97,12 +97,14 @@ def unexplained(graph, trace, total):
 
 
 def steps_at_most(text):
-    """No fewer steps than a run had that `--debug` shows so: the commands but `}`, the ends of cycles, and the beginning."""
-    braces = len(re.findall(rb"^COMMAND: *\}$", text, re.MULTILINE))
-    return text.count(b"\nCOMMAND: ") - braces + text.count(b"\nEND-OF-CYCLE:") + 1
+    """No fewer steps than a run had that `--debug` shows so: the commands but `}`, the ends of cycles, and the beginning. What is printed
+    before one of these may end in a byte 0, or may not end."""
+    braces = len(re.findall(rb"COMMAND: *\}$", text, re.MULTILINE))
+    return text.count(b"COMMAND: ") - braces + text.count(b"END-OF-CYCLE:") + 1
 
 
-def limit_of(bound, given):
-    """The bound's steps for this input."""
-    lines = given.count(b"\n") + (not given.endswith(b"\n") and given != b"")
-    return bound[0] * (len(given) - given.count(b"\n")) + bound[1] * lines + bound[2]
+def limit_of(bound, files, end=b"\n"):
+    """The bound's steps for these files, whose lines end with this byte."""
+    ends = sum(text.count(end) for text in files)
+    lines = ends + sum(1 for text in files if text and not text.endswith(end))
+    return bound[0] * (sum(map(len, files)) - ends) + bound[1] * lines + bound[2]
