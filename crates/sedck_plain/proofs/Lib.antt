@@ -1,0 +1,4 @@
+pub mod ListLemmas
+pub mod SameTreeLemmas
+pub mod SameScriptLemmas
+pub mod PlainLemmas

@@ -1,0 +1,18 @@
+-- Which fault is reported for one of the script's text.
+use Rattle.std.specs.Prelude.{Bool, true, false, if◌then◌else◌}
+use Rattle.sedck_script.specs.declared.fault.ScriptFault.{ScriptFault}
+use Rattle.sedck_script.specs.declared.fault.ScriptFault.TheVariants as script
+use Rattle.sedck_plain.specs.declared.plain.Fault.{Fault}
+use Rattle.sedck_plain.specs.declared.plain.Fault.TheVariants as fault
+
+abbrev pub is_memory : ScriptFault → Bool
+is_memory script.OutOfMemory = true
+is_memory _ = false
+
+abbrev pub fault_of : ScriptFault → Fault
+fault_of why = if is_memory why then fault.OutOfMemory else fault.Script why
+
+-- the fault isn't that the script is refused
+abbrev pub IsNoRefusal : Fault → Type 0
+IsNoRefusal (fault.Script why) = ⊥
+IsNoRefusal _ = Unit {0}

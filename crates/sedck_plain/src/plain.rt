@@ -1,0 +1,93 @@
+//! The plain text of a script, which is given out only where it was read as the same program.
+
+ghost use Rattle.std.specs.Prelude.{◌≡◌, ◌↔◌, true, false, IfOk, IfErr};
+ghost use Rattle.sedck_script.specs.Program.{Program};
+ghost use Rattle.sedck_script.specs.Spelling.{Spells};
+ghost use Rattle.sedck_plain.specs.Plain.{SpellSame, IsOutOfMemory, IsRefused, ReportsFault};
+ghost use Rattle.sedck_plain.specs.Private.Refusals.{is_memory, fault_of, IsNoRefusal};
+
+use crate::layout::laid_out;
+use crate::same::same_program;
+use sedck_script::{Script, ScriptFault, parse};
+use std::alloc::{AllocError, Global};
+
+/// Why there is no plain text.
+#[derive(Clone, Copy, Debug, Drop)]
+pub enum Fault {
+    /// The script is refused.
+    Script(ScriptFault),
+    /// What was printed spells no script, or another one.
+    NoSpelling,
+    OutOfMemory,
+}
+
+/// A script in its plain spelling: a text that spells the very program that the script spells.
+///
+/// That the text is plain, and the same for each spelling of a program, isn't proved: it is printed, and what was printed is
+/// read and compared.
+pub fn plain_text(alloc: Global, script: &[u8]) -> Result<Vec<u8>, Fault>
+    ensures same { IfOk result (λ text. SpellSame script.now text.items) }
+    ensures refused { (¬ IsOutOfMemory result) → (IsRefused result ↔ ((p : Program) → ¬ Spells script.now p)) }
+    ensures reported { ReportsFault script.now result }
+{
+    match parse(alloc, script) {
+        Ok(program) => checked(alloc, &program),
+        Err(fault) => Err(refusal(fault)),
+    }
+}
+
+fn is_out_of_memory(fault: ScriptFault) -> bool
+    ensures { result ≡ is_memory fault }
+{
+    match fault {
+        ScriptFault::OutOfMemory => true,
+        _ => false,
+    }
+}
+
+/// The fault of a script that isn't read.
+fn refusal(fault: ScriptFault) -> Fault
+    ensures { result ≡ fault_of fault }
+{
+    if is_out_of_memory(fault) {
+        Fault::OutOfMemory
+    } else {
+        Fault::Script(fault)
+    }
+}
+
+/// What is printed of the script, where it spells the script.
+fn checked(alloc: Global, program: &Script) -> Result<Vec<u8>, Fault>
+    ensures spelled { IfOk result (λ text. Spells text.items program.now) }
+    ensures fault { IfErr result IsNoRefusal }
+{
+    let Ok(text) = laid_out(alloc, program) else {
+        return Err(Fault::OutOfMemory);
+    };
+    match spells(alloc, &text, program) {
+        Ok(true) => Ok(text),
+        Ok(false) => Err(Fault::NoSpelling),
+        Err(_) => Err(Fault::OutOfMemory),
+    }
+}
+
+/// Whether the text spells this script.
+pub fn spells(alloc: Global, text: &[u8], program: &Script) -> Result<bool, AllocError>
+    ensures { IfOk result (λ same. (same ≡ true) ↔ Spells text.now program.now) }
+{
+    match parse(alloc, text) {
+        Ok(other) => Ok(same_program(&other, program)),
+        Err(fault) => unread(fault),
+    }
+}
+
+/// No text that isn't read spells a script, unless memory ran out.
+fn unread(fault: ScriptFault) -> Result<bool, AllocError>
+    ensures { IfOk result (λ same. (same ≡ false) × (is_memory fault ≡ false)) }
+{
+    if is_out_of_memory(fault) {
+        Err(AllocError)
+    } else {
+        Ok(false)
+    }
+}
