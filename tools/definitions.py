@@ -358,11 +358,12 @@ script.Spelling script.Items script.Resolution script.Parts script.BracketLists 
 bre.Shape bre.Brackets bre.WellFormed text.Classes text.Runs text.Text text.Bytes
 cert.Ranked flow.Flow flow.Nodes script.References bre.Rests
 cert.Certificate cert.Text cert.Versions cert.VersionOne flow.Words flow.VersionOne flow.LiteralKinds
+cert.Everywhere flow.WideRun bre.WideMatch script.ByteSafe
 cert.Rejections
 cert.Bounds cert.StepLimit flow.Spaces
 text.Cursors model.Spots model.States
 search.Found search.Obstacle search.Rows search.NodeSet search.VersionOne
-script.Locations
+script.Locations plain.Plain
 script.Faults bre.Faults cert.Faults
 script.FaultWords bre.FaultWords cert.FaultText cli.Lines
 engines.Reports engines.Engines cli.Statuses cli.Causes engines.Faults cert.Streams engines.Inputs engines.Opened
@@ -379,6 +380,8 @@ PARTS = [
     [
         ("The promise", [("sedck_cert", "judge", ("promise",)), ("sedck_cert", "verify", ("promise",))]),
     ], [
+        ("The promise everywhere", [("sedck_cert", "judge", ("everywhere", "limited")), ("sedck_cert", "verify", ("everywhere",))]),
+    ], [
         ("Accepted, rejected or refused", [("sedck_cert", "judge", ("answer",)), ("sedck_cert", "verify", ("answer",)), ("sedck_cert", "check", ("accepted",))]),
         ("Why a certificate is rejected", [("sedck_cert", "verify", ("why",)), ("sedck_cert", "check", ("rejected",))]),
         ("What was judged", [("sedck_cert", "judge", ("judged",))]),
@@ -389,6 +392,7 @@ PARTS = [
         ("Readers and faults", [("sedck_bre", "parse", None), ("sedck_script", "parse", None), ("sedck_cert", "read_cert", None), ("sedck_cert", "read_any", None),
          ("sedck_bre", "ReFault*", None), ("sedck_script", "ScriptFault*", None), ("sedck_cert", "CertFault*", None)]),
         ("Where commands are", [("sedck_script", "locate", ("count", "locations", "order"))]),
+        ("The plain spelling", [("sedck_plain", "*", None)]),
         ("Reports and statuses", [("sedck_engines", "*", None), ("sedck_cli", "*", None), ("sedck_cert", "write_cert", None)]),
         ("What is explained", [("sedck_explanation", "*", None), ("sedck_report", "*", None), ("sedck_errors", "*", None), ("sedck_advice", "*", None),
          ("sedck_explain_cli", "*", None), ("sedck_formats", "*", None), ("sedck_calls_in_files", "*", None)]),
@@ -415,6 +419,7 @@ LIBRARY = {
     "◌<◌": "one number is less than another",
     "◌≤◌": "one number is at most another",
     "nat_le": "whether one number is at most another",
+    "nat_lt": "whether one number is less than another",
     "nat_eq": "whether two numbers are equal",
     "◌==◌": "whether two numbers are equal",
     "bit_at": "`bit_at n i`: the bit with the value 2 ^ i of n: 0 or 1",
