@@ -15,6 +15,7 @@ import explain_itself
 import explain_json
 import explain_listed
 import explain_pages
+import explain_plain
 import explain_refused
 import explain_sarif
 import explain_streams
@@ -39,6 +40,7 @@ def main():
         explain_findings.check(tools)
         explain_itself.check(tools)
         explain_listed.check(tools)
+        explain_plain.check(tools, asked.scripts)
         explain_streams.check(tools)
         explain_sarif.check(tools, 100)
         has_graphviz = explain_pages.check(tools)

@@ -148,12 +148,6 @@ def loop_of(tools, name):
     return set(zip(nodes, nodes[1:], (row[3] for row in rows[:-1])))
 
 
-def index(node):
-    """The number of a node in their order."""
-    at, flag, last = node
-    return 4 * at + 2 * flag + last
-
-
 def place_words(report, command):
     """The place of a command, or the script's end."""
     if command == len(report["commands"]):
@@ -275,17 +269,15 @@ def check_certificates(tools):
         tools.write("s.sed", script)
         tools.write("s.cert", text.encode())
         status, _, _ = tools.sedck("check", "s.sed", "s.cert")
-        for form in ("html", "dot", "dot-nodes"):
+        for form in ("html", "dot"):
             seen, report, errors = tools.explain("--format", form, "--cert", "s.cert", "s.sed")
             tools.same("%s %r" % (form, text), (seen, errors), (status, b""))
             if form == "html":
                 well_formed(tools, "html %r" % text, report)
 
 
-NODE = re.compile(r'  n([0-9]+) \[label="((?:[^"\\]|\\.)*)"(, shape=oval)?\];')
 # What is dark has no width of its own, and what is red is bold and has red words.
 INK = r'color="(?:#374151|#374151:white:#374151)", style=[a-z]+|color="(?:#c81e1e|#c81e1e:white:#c81e1e)", style=[a-z]+(, penwidth=3, fontcolor="#c81e1e")'
-EDGE = re.compile(r'  n([0-9]+) -> n([0-9]+) \[label="(consume|shorten|keep|grow)", (?:' + INK + r')\];')
 # The line of each kind.
 LINES = {"consume": "style=solid", "shorten": "style=dashed", "keep": "style=dotted", "grow": ':white:#'}
 
@@ -312,23 +304,6 @@ def hold_form(tools, what, text, dot):
         tools.same("%s: Graphviz" % what, (done.returncode, done.stderr), (0, b""))
 
 
-def hold_nodes(tools, what, script, report, nodes):
-    """The words of each node: a place, a `[t]` for the flag and a `[$]` for the last line, and a part of the command's line."""
-    lines = script.split(b"\n")
-    for match in nodes:
-        at, flag, last = int(match[1]) // 4, int(match[1]) // 2 % 2, int(match[1]) % 2
-        head, _, source = match[2].partition("\\n")
-        is_end = at == len(report["commands"])
-        tools.same("%s: n%s" % (what, match[1]), head, place_words(report, at) + " [t]" * flag + " [$]" * last)
-        tools.same("%s: shape of n%s" % (what, match[1]), bool(match[3]), is_end)
-        if is_end:
-            tools.same("%s: words of n%s" % (what, match[1]), source, "the run ends" if last else "next cycle")
-            continue
-        line = shown_line(lines[report["commands"][at]["line"] - 1])
-        shown = unescaped(source).removeprefix("...").removesuffix("...")
-        tools.holds("%s: line of n%s" % (what, match[1]), shown and shown in line)
-
-
 def hold_refusal(tools, what, script, label, finding):
     """The box of a refused script: the place, a part of the line, the message with the code, and the hint, in lines that aren't long."""
     place, line, *words = ["", ""] if r"\l" not in label else [unescaped(part) for part in re.findall(r"((?:[^\\]|\\[^l])*)\\l", label + r"\l")]
@@ -338,32 +313,6 @@ def hold_refusal(tools, what, script, label, finding):
     said = "%(message)s [%(code)s]" % finding + (" hint: %(hint)s" % finding if finding["hint"] else "")
     tools.same("%s: refusal" % what, " ".join(words), said)
     tools.holds("%s: width" % what, all(len(part) <= 60 or " " not in part[60:] for part in words))
-
-
-def hold_graph(tools, name, script, report, dot):
-    """A graph by nodes: just the nodes and edges that a run may reach, each once, and a bold loop."""
-    status, text, errors = tools.explain("--format", "dot-nodes", name)
-    what = "dot-nodes %r" % script[:60]
-    tools.same(what, (status, errors), (report["status"], b""))
-    hold_form(tools, what, text, dot)
-    lines = text.decode().split("\n")
-    tools.holds("%s: title" % what, '[label="%s: %s", ' % (name, report["answer"]) in lines[1])
-    if report["status"] == 2:
-        hold_refusal(tools, what, script, re.fullmatch(r'  refused \[label="(.*)"\];', lines[4])[1].removesuffix(r"\l"), report["findings"][0])
-        tools.same("%s: rest" % what, lines[5:], ["}", ""])
-        return
-    reached, edges = graph_of(tools, name)
-    loop = loop_of(tools, name)
-    nodes = [match for match in map(NODE.fullmatch, lines) if match]
-    seen = [match for match in map(EDGE.fullmatch, lines) if match]
-    due = sorted((index(at), index(to), kind, (at, to, kind) in loop) for at, to, kind in edges)
-    tools.same("%s: nodes" % what, [int(match[1]) for match in nodes], sorted(map(index, reached)))
-    tools.same("%s: edges" % what, sorted((int(one[1]), int(one[2]), one[3], bool(one[4])) for one in seen), due)
-    hold_legend(tools, what, lines[4], bool(loop))
-    tools.holds("%s: lines of kinds" % what, all(LINES[one[3]] in one[0] for one in seen))
-    tools.same("%s: starts" % what, lines[5:8], ["  start [shape=point];", "  start -> n0;", "  start -> n1;"])
-    tools.same("%s: all lines" % what, len(lines), 4 + 4 + len(nodes) + len(seen) + 2)
-    hold_nodes(tools, what, script, report, nodes)
 
 
 COMMAND = re.compile(r'  n([0-9]+) \[label="((?:[^"\\]|\\.)*)"(, shape=oval)?\];')
@@ -384,11 +333,13 @@ def hold_commands(tools, name, script, report, dot):
     status, text, errors = tools.explain("--format", "dot", name)
     what = "dot %r" % script[:60]
     tools.same(what, (status, errors), (report["status"], b""))
-    if report["status"] == 2:
-        tools.same("%s: refusal" % what, text, tools.explain("--format", "dot-nodes", name)[1])
-        return
     hold_form(tools, what, text, dot)
     lines = text.decode().split("\n")
+    tools.holds("%s: title" % what, '[label="%s: %s", ' % (name, report["answer"]) in lines[1])
+    if report["status"] == 2:
+        hold_refusal(tools, what, script, re.fullmatch(r'  refused \[label="(.*)"\];', lines[4])[1].removesuffix(r"\l"), report["findings"][0])
+        tools.same("%s: rest" % what, lines[5:], ["}", ""])
+        return
     reached, edges = graph_of(tools, name)
     boxes = [match for match in map(COMMAND.fullmatch, lines) if match]
     seen = [match for match in map(STEP.fullmatch, lines) if match]
@@ -419,7 +370,6 @@ def check(tools):
     found = reports(tools, names)
     with concurrent.futures.ThreadPoolExecutor(os.cpu_count()) as pool:
         jobs = [pool.submit(hold_page, tools, *case) for case in zip(names, scripts, found)]
-        jobs += [pool.submit(hold_graph, tools, *case, dot) for case in zip(names, scripts, found)]
         jobs += [pool.submit(hold_commands, tools, *case, dot) for case in zip(names, scripts, found)]
         for job in jobs:
             job.result()

@@ -1,6 +1,6 @@
 """Scripts that are refused: the place, the code, the message and the hint of each, and the reports in text and for editors.
 
-The places are those that docs/FORMATS.md has for each fault, counted by hand, as lines and columns.
+The places are those that docs/FAULTS.md has for each fault, counted by hand, as lines and columns.
 """
 from explain_tools import line_of, page_due, shown_line
 

@@ -111,15 +111,16 @@ PAGES = {
     "FAULTS.md#18-too-deep-19-too-many-commands": ["too-deep", "too-many-commands"],
     "FAULTS.md#faults-of-certificates": ["bad-header", "bad-count", "bad-node", "bad-names", "bad-end"],
     "FAULTS.md#rejections": ["wrong-count", "start-unranked", "leaves-ranked", "not-lowered", "reads-differ", "writes-differ"],
-    "STRANGERS.md#scripts-of-strangers": ["denied-reads", "denied-writes", "denied-unbounded", "denied-warnings"],
+    "TRUST.md#scripts-of-strangers": ["denied-reads", "denied-writes", "denied-unbounded", "denied-warnings"],
     "TRUST.md#devices-pipes-and-links": ["device-name"],
     "TRUST.md#the-scripts-own-file": ["names-itself"],
     "SEDS.md#seds-of-the-bsds-and-macos": ["label-to-the-line-end", "long-labels"],
     "TRUST.md#names": ["stream-name", "absolute-name", "upward-name", "unprintable-name", "blank-at-end", "command-in-name", "hidden-name",
                        "makefile-name", "option-name", "shell-byte-in-name", "read-and-written", "same-file"],
     "TRUST.md#options-and-the-scripts-first-line": ["options-in-first-line", "looks-extended"],
+    "GRAMMAR.md#the-plain-spelling": ["no-plain-spelling"],
     "GRAMMAR.md#what-seds-read-differently": ["brace-behind-label", "one-line-text", "silencing-comment"],
-    "STRANGERS.md#what-a-limit-on-steps-doesnt-limit": ["repeated-reference", "denied-slow"],
+    "TRUST.md#what-a-limit-on-steps-doesnt-limit": ["repeated-reference", "denied-slow"],
 }
 
 

@@ -10,14 +10,14 @@ from explain_tools import VERSION
 ACCEPTED = "%s: accepted: every run ends\n  steps: at most 4 a byte, plus 20 a line, plus 4; for 1,000 lines of 80 bytes at most 340,004\n  reads: no file\n  writes: no file\n"
 UNKNOWN = "%s:1:3: error: this label isn't defined [unknown-label]\n   1 | b z\n     |   ^\n     = see: docs/FAULTS.md#15-unknown-label\n"
 ESCAPES = {"red": "\x1b[1;31m", "yellow": "\x1b[1;33m", "cyan": "\x1b[1;36m", "green": "\x1b[1;32m", "plain": "\x1b[0m"}
-FORMATS = ("text", "gcc", "json", "sarif", "html", "dot", "dot-nodes")
+FORMATS = ("text", "gcc", "json", "sarif", "html", "dot")
 
 
 def check_refused_words(tools):
     """Invalid arguments: status 3, nothing on standard output, and a line on standard error that begins with the name."""
     for words in (["--wrong"], ["-x"], ["--format", "xml", "s.sed"], ["--format"], ["--format=", "s.sed"], ["--cert"],
                   ["--format", "text", "--format", "gcc", "s.sed"], ["--stdin-filename"], ["--cert", "s.cert", "s.sed", "s.sed"], ["--cert", "s.cert", "s.sed", "-"],
-                  ["--format", "html", "s.sed", "s.sed"], ["--format", "dot", "s.sed", "t.sed"], ["--format", "dot-nodes", "s.sed", "t.sed"],
+                  ["--format", "html", "s.sed", "s.sed"], ["--format", "dot", "s.sed", "t.sed"], ["--format", "sed", "s.sed", "t.sed"],
                   ["--format", "sarif", "s.sed", "t.sed"], ["--level"], ["--level", "all", "s.sed"], ["--level", "", "s.sed"], ["--level", "Note", "s.sed"],
                   ["--level", "note", "--level", "note", "s.sed"], ["--locale"], ["--locale", "C", "--locale", "C", "s.sed"]):
         status, report, errors = tools.explain(*words, given=b"p\n")
@@ -95,13 +95,12 @@ def check_formats(tools):
     """The default format; each format on standard input; an accepted script has no line for editors."""
     tools.same("default", tools.explain("s.sed"), tools.explain("--format", "text", "s.sed"))
     graph = b"digraph sedck {\n"
-    starts = {"text": b"-: accepted", "gcc": b"", "json": b'{"file":"-",', "sarif": b'{"$schema":"https://', "html": b"<!DOCTYPE html>\n", "dot": graph,
-              "dot-nodes": graph}
+    starts = {"text": b"-: accepted", "gcc": b"", "json": b'{"file":"-",', "sarif": b'{"$schema":"https://', "html": b"<!DOCTYPE html>\n", "dot": graph}
     for name in FORMATS:
         status, report, errors = tools.explain("--format=" + name, given=NEXT_LINE)
         tools.same("format %s" % name, (status, report[:len(starts[name])], errors), (0, starts[name], b""))
     named = {"text": b"a b:1:3: error: ", "gcc": b"a b:1:3: error: ", "json": b'{"file":"a b",', "sarif": b'"artifactLocation":{"uri":"a%20b"}',
-             "html": b"<title>a b: script-refused</title>", "dot": b'[label="a b: script-refused"', "dot-nodes": b'[label="a b: script-refused"'}
+             "html": b"<title>a b: script-refused</title>", "dot": b'[label="a b: script-refused"'}
     for name in FORMATS:
         for words in ([], ["-"]):
             status, report, errors = tools.explain("--format", name, "--stdin-filename", "a b", *words, given=b"b z\n")

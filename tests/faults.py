@@ -1,22 +1,21 @@
 #!/usr/bin/env python3
-"""Compares what the pages say of faults: python3 tests/faults.py build/sedck build/sedck-explain, in the folder of the repository.
+"""Compares what the pages say of faults: python3 tests/faults.py build/sedck-explain, in the folder of the repository.
 
-The faults and rejections that docs/FORMATS.md lists must be just those of man/sedck.5 and docs/FAULTS.md, by number and name, and
-each example in the tables of docs/FORMATS.md must get the fault of its row, at the offset that is said there. The findings of
-man/sedck-explain.1 must be just the codes of `Code` in sedck_report, by name, and all of these faults and rejections must be among
-them; it must name each field of the format for programs. The status is 0 only where all of this holds.
+The faults and rejections of docs/FAULTS.md must be just those of man/sedck.5, by number and name, and a fault whose sections show
+scripts must be the answer to one of them; tests/pages.py says whether the answers are right. The findings of man/sedck-explain.1 must
+be just the codes of `Code` in sedck_report, by name, and all of these faults and rejections must be among them; it must name each
+field of the format for programs. The status is 0 only where all of this holds.
 """
 import json
 import os
 import re
 import subprocess
 import sys
-import tempfile
 
-FAMILIES = {"Script faults": "FAULTS OF SCRIPTS", "Expression faults": "FAULTS OF EXPRESSIONS",
-            "Certificate faults": "FAULTS OF CERTIFICATES", "The report of `check`": "REJECTIONS"}
-HEADS = {"FAULTS OF SCRIPTS": "Faults of scripts", "FAULTS OF EXPRESSIONS": "Faults of expressions",
-         "FAULTS OF CERTIFICATES": "Faults of certificates", "REJECTIONS": "Rejections"}
+# The heads of man/sedck.5 and of docs/FAULTS.md, and how an answer of `sedck` names a fault of that family.
+HEADS = {"FAULTS OF SCRIPTS": ("Faults of scripts", "script fault"), "FAULTS OF EXPRESSIONS": ("Faults of expressions", "expression fault"),
+         "FAULTS OF CERTIFICATES": ("Faults of certificates", None), "REJECTIONS": ("Rejections", None)}
+FAULT = r"(?:^## |^\| |, |^\| `rejected )(\d+) `?([a-z][\w-]+)(?=[`,:\n ])"
 # A refused expression is a finding by its own fault, and lack of memory is none.
 NO_FINDINGS = {"bad-expression", "out-of-memory"}
 CODES = "crates/sedck_report/src/code.rt"
@@ -32,21 +31,13 @@ def read(name):
         return file.read()
 
 
-def listed(formats, family):
-    """Number and name of each row of a table of docs/FORMATS.md, with its example and the example's offset."""
-    for line in section(formats, "## " + family, r"^## ").split("\n"):
-        row = re.match(r"\| (\d+) \| `([\w-]+)` \|", line) or re.match(r"\| `rejected (\d) ([\w-]+)", line)
-        example = re.search(r"\| `([^`]+)`: at (\d+) \|$", line.replace(r"\|", "\0"))
-        if row:
-            yield row[1], row[2], example and (example[1].replace("\0", "|"), example[2])
-
-
-def answer(sedck, script):
-    """The line with which `sedck rank` refuses a script."""
-    with tempfile.NamedTemporaryFile("w", prefix="sedck-faults-") as file:
-        file.write(script)
-        file.flush()
-        return subprocess.run([sedck, "rank", file.name], capture_output=True, text=True).stderr
+def unshown(text, words):
+    """The faults whose sections show scripts, none of which has the fault as its answer."""
+    answers = {}
+    for part in re.split(r"^## ", text, flags=re.M)[1:]:
+        for fault in re.findall(r"(\d+) ([a-z][\w-]+)", part.split("\n")[0]):
+            answers.setdefault(fault, []).extend(re.findall(r"^`((?:script fault|accepted)[^`]*)`", part.split("\n", 1)[1], flags=re.M))
+    return sorted(fault for fault, given in answers.items() if given and not any("%s %s %s at " % (words, *fault) in line for line in given))
 
 
 def codes():
@@ -86,43 +77,32 @@ def fields_unnamed(explain):
 
 
 def main():
-    sedck, wrong, examples = os.path.abspath(sys.argv[1]), 0, 0
-    formats, manual, page = read("docs/FORMATS.md"), read("man/sedck.5").replace(r"\-", "-"), read("docs/FAULTS.md")
-    count, names = 0, set()
-    for family, head in FAMILIES.items():
-        rows = list(listed(formats, family))
-        due = {(number, name) for number, name, _ in rows}
+    wrong, count, names = 0, 0, set()
+    manual, page = read("man/sedck.5").replace(r"\-", "-"), read("docs/FAULTS.md")
+    for head, (heading, words) in HEADS.items():
+        text = section(page, "# " + heading, r"^# ")
+        found = set(re.findall(FAULT, text, flags=re.M))
+        manual_text = re.split(r"^\.SH ", re.split(r'^\.SH "?%s"?\n' % head, manual, flags=re.M)[1], flags=re.M)[0]
+        due = set(re.findall(r"^\.B (\d+) ([a-z][\w-]+)$", manual_text, flags=re.M))
         count += len(due)
         names |= {name for _, name in due}
-        for where, text, form in (
-                ("man/sedck.5", re.split(r'^\.SH ', re.split(r'^\.SH "?%s"?\n' % head, manual, flags=re.M)[1], flags=re.M)[0], r"^\.B (\d+) ([a-z][\w-]+)$"),
-                ("docs/FAULTS.md", section(page, "# " + HEADS[head], r"^# "), r"(?:^## |^\| |, )(\d+) `?([a-z][\w-]+)`?(?=[,:\n ])")):
-            found = set(re.findall(form, text, flags=re.M))
-            if found != due:
-                wrong += 1
-                print("%s, %s: it lacks %s, and has %s too many" % (where, head, sorted(due - found), sorted(found - due)))
-        for number, name, example in rows:
-            if example is None or family not in ("Script faults", "Expression faults") or name == "trailing-backslash":
-                continue
-            examples += 1
-            text, offset = example
-            script = text if family == "Script faults" else "s/%s/x/" % text
-            says = answer(sedck, script)
-            words = "%s %s at %s" % (number, name, offset)
-            if not (says.startswith("sedck: script fault " + words) if family == "Script faults" else says.endswith("expression fault " + words + "\n")):
-                wrong += 1
-                print("docs/FORMATS.md: %r gets %r, and not %s" % (script, says, words))
+        if found != due or not due:
+            wrong += 1
+            print("docs/FAULTS.md, %s: it lacks %s of man/sedck.5, and has %s too many" % (heading, sorted(due - found), sorted(found - due)))
+        for fault in unshown(text, words) if words else ():
+            wrong += 1
+            print("docs/FAULTS.md, %s: no script gets fault %s %s" % (heading, *fault))
     differs = findings_differ(names)
     if differs:
         wrong += 1
         print("man/sedck-explain.1, FINDINGS: " + differs)
-    unnamed = fields_unnamed(os.path.abspath(sys.argv[2]))
+    unnamed = fields_unnamed(os.path.abspath(sys.argv[1]))
     if unnamed:
         wrong += 1
         print("man/sedck-explain.1, FORMATS: fields that it doesn't name: %s" % unnamed)
     if not wrong:
-        print("faults: %d are the same on three pages, and %d examples get theirs" % (count, examples))
-    return 1 if wrong or not examples else 0
+        print("faults: %d are the same on both pages" % count)
+    return 1 if wrong else 0
 
 
 if __name__ == "__main__":

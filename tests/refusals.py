@@ -6,7 +6,7 @@ CALLS is crates/sedck_refusals as built, which makes one call twice and prints b
 refuse.c as built. The first answer of a call must be out of memory alone, by the name that the call has for it, or the expected
 one; the second, with ample memory, must be the expected one. SEDCK must end with status 4, its line for out of memory and no
 report, or as expected. SEDCK_EXPLAIN must end with status 4, its line for out of memory and the reports of the first scripts, whole, or
-as without a refusal, with what tests/explain.py compares. What is expected of the others was worked out by hand from the rules of docs/GRAMMAR.md and docs/FORMATS.md.
+as without a refusal, with what tests/explain.py compares. What is expected of the others was worked out by hand from the rules of docs/GRAMMAR.md, docs/FORMATS.md and docs/FAULTS.md.
 """
 
 import concurrent.futures
@@ -338,7 +338,7 @@ SEVERAL = {"one": NEXT_LINE, "two": IDLE, "three": "b z"}
 def explained():
     """Each run of the program: its words, its files, its status, and the scripts whose reports may stand alone."""
     yield ["--help"], {}, 0, []
-    for form in ("text", "gcc", "json", "sarif", "html", "dot", "dot-nodes"):
+    for form in ("text", "gcc", "json", "sarif", "html", "dot", "sed"):
         for words, files, status in EXPLAINED:
             yield ["--format", form, *words], files, status, []
         if form in ("text", "gcc", "json"):
@@ -369,7 +369,7 @@ def run(program, shim, words, request, folder=".", errors=subprocess.STDOUT):
         timeout=60,
         check=False,
     )
-    return done.returncode, done.stdout.decode(), (done.stderr or b"").decode()
+    return done.returncode, done.stdout.decode("utf-8", "surrogateescape"), (done.stderr or b"").decode("utf-8", "surrogateescape")
 
 
 def parts(output):
@@ -450,8 +450,12 @@ def explain_in_turn(explain, shim, words, files, status, scripts):
             wholes.add(front)
         while True:
             seen = run(explain, shim, words, request, folder, subprocess.PIPE)
-            is_refused = REFUSED in seen[2]
-            seen = (*seen[:2], seen[2].replace(REFUSED, "", 1))
+            # On a line of its own: a report on standard error may end a line with that word.
+            lines = seen[2].splitlines(keepends=True)
+            is_refused = REFUSED in lines
+            if is_refused:
+                lines.remove(REFUSED)
+            seen = (*seen[:2], "".join(lines))
             # Of calls in files those before are reported.
             whole = seen[1] in wholes or "--calls" in words and expected[1].startswith(seen[1]) and seen[1].endswith("\n")
             if is_refused and seen[0] == 4 and whole and seen[2] in endings:

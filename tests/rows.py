@@ -22,7 +22,7 @@ remark on the rows after it. What a table has beside its rows holds for each row
 A text is a string, whose characters are bytes; a list of texts, one after another; {"named": NAME}, with `old` replaced by `new` where
 they are there (`certificate` is the row's own); {"text": TEXT, "times": N}; {"text": TEXT, "from": M, "count": N}: copies for n from M
 on, with numbers in place of `{n}`, `{3n+1}` or `{-n+9}`; or a certificate: `version`, `commands`, `ranks` by node, and the names to
-`read` and to `write`. What is expected was worked out by hand from the rules of docs/GRAMMAR.md and docs/FORMATS.md.
+`read` and to `write`. What is expected was worked out by hand from the rules of docs/GRAMMAR.md, docs/FORMATS.md and docs/FAULTS.md.
 """
 import argparse
 import json

@@ -58,7 +58,7 @@ each() {
 
 # Each report has at least a byte: that of an accepted script for editors is empty, and has nothing that can't be written.
 each_format() {
-    for format in text gcc json sarif html dot dot-nodes; do
+    for format in text gcc json sarif html dot; do
         "$1" --format "$format" "$folder/loop"
         "$1" --format "$format" "$folder/refused"
         "$1" --format "$format" --cert "$folder/certificate" "$folder/loop"

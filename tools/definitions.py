@@ -367,7 +367,7 @@ script.Locations plain.Plain
 script.Faults bre.Faults cert.Faults
 script.FaultWords bre.FaultWords cert.FaultText cli.Lines
 engines.Reports engines.Engines cli.Statuses cli.Causes engines.Faults cert.Streams engines.Inputs engines.Opened
-explanation.Answers explanation.Denial explanation.Explanations explanation.Errors errors.Errors explain_cli.Explained explain_cli.Statuses explain_cli.Lines explain_cli.CallStatus explain_cli.Readings explain_cli.Requests explain_cli.Answers report.Positions report.Shown report.Codes report.Levels report.Files report.Reported advice.Slow advice.Concerns advice.Added report.Html report.Ascii
+explanation.Answers explanation.Denial explanation.Explanations explanation.Errors errors.Errors formats.Plain explain_cli.Explained explain_cli.Spelled explain_cli.Statuses explain_cli.Lines explain_cli.CallStatus explain_cli.Readings explain_cli.Requests explain_cli.Answers report.Positions report.Shown report.Codes report.Levels report.Files report.Reported advice.Slow advice.Concerns advice.Added report.Html report.Ascii
 explanation.Called calls_in_files.Judged calls_in_files.Placed calls_in_files.Scanned traced.Traced traced.Texts calls.Words calls.Options calls.Calls calls.Origins calls.Scripts
 formats.Names
 bre.Lengths script.Shortest script.Invariant
@@ -410,65 +410,67 @@ LIBRARY = {
     "zero": "0",
     "suc": "`suc n`: n + 1",
     "◌+◌": "the sum",
-    "◌-◌": "the difference, and 0 where it would be below 0",
+    "◌-◌": "the difference, but never below 0",
     "◌*◌": "the product",
     "◌^◌": "the power",
     "◌/◌": "the quotient, rounded down",
     "◌%◌": "the remainder",
-    "max": "the greater of two numbers",
-    "◌<◌": "one number is less than another",
-    "◌≤◌": "one number is at most another",
+    "max": "the greater number",
+    "◌<◌": "less than",
+    "◌≤◌": "at most",
     "nat_le": "whether one number is at most another",
-    "nat_lt": "whether one number is less than another",
-    "nat_eq": "whether two numbers are equal",
-    "◌==◌": "whether two numbers are equal",
-    "bit_at": "`bit_at n i`: the bit with the value 2 ^ i of n: 0 or 1",
+    "nat_lt": "whether it is less",
+    "nat_eq": "whether it is equal",
+    "◌==◌": "the same test",
+    "bit_at": "`bit_at n i`: the bit with the value 2 ^ i of n",
     "Bool": "`true` or `false`",
     "true": "yes",
     "false": "no",
     "not": "no of yes, and yes of no",
     "◌&&◌": "yes where both are",
-    "◌||◌": "yes where one is, or both",
+    "◌||◌": "yes where one is",
     "if◌then◌else◌": "the first of two values where a test says yes, else the second",
     "IsTrue": "it is `true`",
-    "MatchBool": "`MatchBool b P Q`: P where b is `true`, and Q where it is `false`",
+    "MatchBool": "`MatchBool b P Q`: P where b is `true`, else Q",
     "◌≡◌": "two values are the same",
-    "◌≢◌": "two values aren't the same",
+    "◌≢◌": "they aren't",
     "◌⊎◌": "one or the other holds, or both",
     "◌↔◌": "each follows from the other",
     "Option": "`None`, or `Some` with a value",
     "None": "no value",
     "Some": "a value",
     "MatchOption": "`MatchOption o P Q`: P where o is `None`, and `Q x` where it is `Some x`",
-    "IfSome": "`IfSome o P`: `P x` where o is `Some x`, and holds where it is `None`",
-    "unwrap_or": "the value, or another one that is given where there is none",
-    "option_to_list": "the list of the value alone, or the empty list",
+    "IfSome": "`IfSome o P`: `P x` where o is `Some x`, and always where it is `None`",
+    "unwrap_or": "the value, or another one where there is none",
+    "option_to_list": "the list of the value, or the empty one",
     "Result": "`Ok` with a value, or `Err` with a fault",
     "Ok": "an answer",
-    "Err": "a fault in place of an answer",
-    "List": "a finite list; a text is a list of numbers, one for each byte",
+    "Err": "a fault instead",
+    "List": "a finite list, and of a text the numbers of its bytes",
     "[]": "the empty list",
-    "◌∷◌": "`x ∷ xs` is the list that begins with x and goes on with xs",
-    "◌++◌": "one list and then another, as one list",
-    "length": "how many elements a list has",
-    "slice_get": "`slice_get xs i`: the element at i, counted from 0, or `None` where there is none",
-    "slice_index": "`slice_index xs i`: the number at i, counted from 0, and 0 after the end",
+    "◌∷◌": "an element before a list",
+    "◌++◌": "one list, then another",
+    "length": "how many elements there are",
+    "slice_get": "`slice_get xs i`: the element at i, from 0, or `None`",
+    "slice_index": "`slice_index xs i`: the number at i, and 0 after the end",
     "Contains": "the list has this element",
     "All": "it holds of each element",
     "AllPairs": "it holds of each element and each later one",
-    "list_all": "whether each element passes a test",
-    "list_any": "whether some element passes a test",
+    "list_all": "whether all elements pass a test",
+    "list_any": "whether one does",
     "flat_map": "the lists that a function gives for the elements, joined",
-    "sum_by": "the sum of the numbers that a function gives for the elements",
-    "before_first": "what is before the first element that passes a test; the whole list where none does",
-    "ends_with": "whether one list ends with another, by a test of when two elements are equal",
-    "Less": "the answer of a comparison that the first is before the second",
-    "nat_cmp": "the comparison of two numbers",
-    "slice_cmp": "the comparison of two lists by their first difference; a list is before those that it begins",
-    "codes": "`codes \"..\"`: the list of the bytes between the quotes (ASCII)",
-    "decimal": "the decimal digits of a number as a text, without leading zeros",
-    "digits_value": "`digits_value 10 text`: the number that the decimal digits of the text write",
+    "sum_by": "the sum of the numbers that it gives",
+    "before_first": "what is before the first element that passes a test, or all",
+    "ends_with": "whether a list ends with another, by a test of equal elements",
+    "Less": "that the first of two is before the second",
+    "nat_cmp": "the order of two numbers",
+    "slice_cmp": "the order of two lists, by their first difference, a list before those that it begins",
+    "codes": "`codes \"..\"`: the bytes between the quotes (ASCII)",
+    "decimal": "a number's decimal digits, without leading zeros",
+    "digits_value": "`digits_value 10 text`: the number that decimal digits write",
 }
+# The words of the table with which a line of the page begins.
+LINES = ("ℕ", "Bool", "◌≡◌", "Option", "List", "Contains", "Less")
 
 
 def short(module):
@@ -556,18 +558,29 @@ def files(book, text, seen, blocks):
     return "\n".join(rows)
 
 
-def group(book, text, seen, contracts_of):
-    """The list of the definitions that a group adds, with types of the code, and how many lines they have."""
+def files_alone(book, seen, blocks):
+    """The files of these definitions, in reading order, each with its lines: its first lines say what they mean."""
+    modules = sorted({b.module for b in blocks}, key=place_in_order)
+    seen.modules.update(modules)
+    sizes = {module: size([b for b in book.all_blocks[module] if b in blocks]) for module in modules}
+    paths = {module: book.paths[module].relative_to(TOP) for module in modules}
+    return ", ".join(f"[`{paths[module].relative_to('crates')}`](../{paths[module]}) ({sizes[module]})" for module in modules) + "."
+
+
+def group(book, text, seen, contracts_of, alone):
+    """The list of the definitions that a group adds, or of their files alone, with types of the code, and how many lines they have."""
     reached, types = book.reach({r for root in contracts_of for r in roots(book, *root)})
     new = reached - seen.blocks
     seen.blocks |= reached
-    shown = f"{size(new):,} lines:\n\n" + files(book, text, seen, new) if new else "It adds no definition."
+    shown = "It adds no definition."
+    if new:
+        shown = f"{size(new):,} lines" + (", " + files_alone(book, seen, new) if alone else ":\n\n" + files(book, text, seen, new))
     new_types = sorted((t for t in types - seen.types if t in book.types), key=lambda t: (CRATES.index(t[0].split(".")[1]), t[1]))
     seen.types |= types
     sizes = {one: len(book.types[one][1].splitlines()) for one in new_types}
     if new_types:
         names = ", ".join(f"`{module.split('.')[1]}::{name}` ({sizes[(module, name)]})" for module, name in new_types)
-        shown += f"\n\nTypes of the code: {names}."
+        shown += f"{' ' if alone else chr(10) * 2}Types of the code: {names}."
     return shown, size(new) + sum(sizes.values())
 
 
@@ -577,10 +590,15 @@ def library_words(blocks):
 
 
 def library_text():
-    def shown(word):
-        return word.replace("◌", " _ ").strip().replace("  ", " ")
-    # A meaning that begins with the word and its arguments shows them in place of the word.
-    return "\n".join(f"- {meaning}" if meaning.startswith(f"`{word} ") else f"- `{shown(word)}`: {meaning}" for word, meaning in LIBRARY.items())
+    # A meaning that begins with the word and its arguments shows them in place of the word; an operator is shown without its places.
+    lines = []
+    for word, meaning in LIBRARY.items():
+        said = meaning if meaning.startswith(f"`{word} ") else f"`{' '.join(parts_of(word)) or word}`: {meaning}"
+        if word in LINES:
+            lines.append(f"- {said}")
+        else:
+            lines[-1] += f"; {said}"
+    return "\n".join(lines)
 
 
 def page(book, text):
@@ -589,7 +607,7 @@ def page(book, text):
     for number, groups in enumerate(PARTS, 1):
         total = 0
         for name, contracts_of in groups:
-            marks[f"list {name}"], lines = group(book, text, seen, contracts_of)
+            marks[f"list {name}"], lines = group(book, text, seen, contracts_of, number == len(PARTS))
             total += lines
             if len(groups) == 1:
                 marks[f"list {name}"] = marks[f"list {name}"].partition("\n\n")[2]

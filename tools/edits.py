@@ -1,11 +1,17 @@
 #!/usr/bin/env python3
-"""Wrong bodies as files: python3 tools/edits.py
+"""Wrong bodies as files: python3 tools/edits.py [--table | --proved]
 
 An edit is a file `crates/NAME/must-fail/*.edit` or `crates/NAME/planted/*.edit`: lines `file: PATH`, a file of the crate, and behind each
 the pairs of lines `old: TEXT` and `new: TEXT`. Each `old:` text is there exactly once, in what the pairs before it made of the file.
 
-Says which edit can't be applied. The status is 0 only where all can.
+Its head, the lines before the first `file:`, is for readers: `wrong: WHAT`; `promised by: FUNCTION`, which promises otherwise, with the
+clause after a comma where a certain one does; and `refused in: FUNCTION`, also with its clause, where the prover stops in a function
+inside.
+
+Says which edit can't be applied, or has another head. The status is 0 only where there is none. With --table it prints all edits by
+their heads, and with --proved it puts those that the gate tries into docs/PROVED.md.
 """
+import re
 import sys
 from pathlib import Path
 
@@ -56,8 +62,82 @@ def faults(top=TOP):
                 yield "%s changes nothing" % name
 
 
+class Head:
+    """What an edit's head says."""
+
+    def __init__(self, edit):
+        self.path, self.crate, self.is_tried, self.name = edit, edit.parent.parent.name, edit.parent.name == "must-fail", edit.stem
+        self.lines = [line.split(": ", 1) for line in re.split("^file: ", edit.read_text(), maxsplit=1, flags=re.M)[0].splitlines()]
+        said = dict(self.lines) if all(len(line) == 2 for line in self.lines) else {}
+        self.wrong, self.promised, self.refused = (said.get(key, "") for key in ("wrong", "promised by", "refused in"))
+
+    def fault(self, words):
+        """What is wrong with the head, where these are the words of the crate's code."""
+        keys = [line[0] for line in self.lines]
+        if keys not in (["wrong", "promised by"], ["wrong", "promised by", "refused in"]) or not self.wrong:
+            return "its head isn't a line `wrong:`, a line `promised by:` and perhaps a line `refused in:`"
+        for said in (self.promised, self.refused):
+            if said and not re.fullmatch(r"[\w:]+(?:, \w+)?", said):
+                return "its head names %r, which isn't a function, or one and a clause" % said
+            for word in re.findall(r"\w+", said):
+                if word not in words:
+                    return "its head names %s, which isn't in the crate's code" % word
+        return None
+
+
+def heads(top=TOP):
+    """The heads of all edits, by crate in the order of crates.txt, and by the function that promises otherwise."""
+    names = re.findall(r"^(\w+)[^:#\n]*:", (top / "crates.txt").read_text(), re.M)
+    found = [Head(edit) for folder in FOLDERS for edit in top.glob("crates/*/%s/*.edit" % folder)]
+    return sorted(found, key=lambda head: (names.index(head.crate), head.promised.split(",")[0], not head.is_tried, head.name))
+
+
+def head_faults(top=TOP):
+    """Which edits have no head, or one that names what isn't there."""
+    words = {}
+    for head in heads(top):
+        if head.crate not in words:
+            code = "\n".join(path.read_text() for path in sorted((top / "crates" / head.crate / "src").rglob("*.rt")))
+            words[head.crate] = set(re.findall(r"\b(?:fn|struct|enum|trait|ensures|ghost) (\w+)", code))
+        fault = head.fault(words[head.crate])
+        if fault:
+            yield "%s: %s" % (head.path.relative_to(top), fault)
+
+
+def table():
+    """All edits: the crate, the file, what is wrong, which function promises otherwise, and where the prover stops."""
+    rows = ["| crate | edit | what is wrong | promised by | refused in |", "|---|---|---|---|---|"]
+    for head in heads():
+        functions = ["`%s`" % said if said else "" for said in (head.promised, head.refused)]
+        rows.append("| `%s` | `%s/%s` | %s | %s | %s |" % (head.crate, "must-fail" if head.is_tried else "planted", head.name, head.wrong, *functions))
+    return "\n".join(rows) + "\n"
+
+
+def tried():
+    """The list in docs/PROVED.md of the edits that the gate tries: a line for each crate, by function."""
+    lines = {}
+    for head in heads():
+        if head.is_tried:
+            lines.setdefault(head.crate, {}).setdefault(head.promised.split(",")[0], []).append("`%s`" % head.name)
+    return "".join("- `%s`: %s\n" % (crate, "; ".join("`%s`: %s" % (function, ", ".join(names)) for function, names in by_function.items()))
+                   for crate, by_function in lines.items())
+
+
+def put_into_proved():
+    """Puts that list into docs/PROVED.md, in place of what is there."""
+    page = TOP / "docs" / "PROVED.md"
+    text, found = re.subn(r"(?m)^(## Wrong bodies that the gate sees refused\n\n.*\n\n)(?:- .*\n)*", lambda match: match[1] + tried(), page.read_text())
+    page.write_text(text)
+    return 0 if found == 1 else 1
+
+
 def main():
-    found = list(faults())
+    if sys.argv[1:] == ["--proved"]:
+        return put_into_proved()
+    if sys.argv[1:] == ["--table"]:
+        print(table(), end="")
+        return 0
+    found = list(faults()) + list(head_faults())
     for fault in found:
         print(fault)
     if not found:

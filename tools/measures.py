@@ -5,8 +5,8 @@
     python3 tools/measures.py --functions N   and the N longest functions
 
 Lines of code are those of src without blank lines, comments and tests; the contracts and imports count. Lines of proof are those of
-proofs that aren't blank. A function's lines are those of its body. The aims are for the crates that read and prove; MAP says why a
-crate may have more than a hundred functions.
+proofs that aren't blank. A function's lines are those of its body. The aims are for the crates that read and prove; CONTRIBUTING
+says why a crate may have more than a hundred functions.
 """
 import re, sys
 from pathlib import Path

@@ -42,7 +42,11 @@ def sum_of(name):
     for part in ("src", "specs", "planted"):
         for path in sorted((TOP / "crates" / name / part).rglob("*")):
             if path.is_file():
-                whole.update(b"%s\0%s\0" % (path.relative_to(TOP).as_posix().encode(), hashlib.sha256(path.read_bytes()).hexdigest().encode()))
+                text = path.read_bytes()
+                # An edit's head is for readers: what is tried begins with its first file.
+                if path.suffix == ".edit":
+                    text = text[re.search(rb"^file: |\Z", text, re.M).start():]
+                whole.update(b"%s\0%s\0" % (path.relative_to(TOP).as_posix().encode(), hashlib.sha256(text).hexdigest().encode()))
     return whole.hexdigest()
 
 

@@ -1,5 +1,5 @@
 -- What two reads of a file gave, one after the other, and the status of what was read.
-use Rattle.std.proofs.Common.{◌≡◌, ◌∙◌, ◌+◌, ◌≤◌, ℕ, Bool, true, false, inl, inr, IsTrue, List, ◌++◌, length, Option, Some, None, Result, IfOk, IfSome, codes, refl, sym, ap, subst, length-append, arith}
+use Rattle.std.proofs.Common.{◌≡◌, ◌∙◌, ◌+◌, ◌≤◌, ℕ, Bool, true, false, inl, inr, IsTrue, List, ◌++◌, length, Option, Some, None, Result, IfOk, IfSome, codes, sym, ap, subst, length-append, arith}
 use Rattle.std.proofs.lemmas.List.{length-take, take_all}
 use Rattle.std.proofs.lemmas.Bool.{true≢false}
 use Rattle.std.specs.Io.KnownBytes.{Consumes}

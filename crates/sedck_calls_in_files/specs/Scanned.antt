@@ -1,9 +1,10 @@
 -- Which status tells most, of the calls of a file and of several files, this project's own.
-use Rattle.std.specs.Prelude.{◌≡◌, ◌⊎◌, ◌==◌, ℕ, nat_le, List, [], ◌∷◌, Option, IfSome, if◌then◌else◌}
+use Rattle.std.specs.Prelude.{◌≡◌, ◌⊎◌, ◌==◌, ℕ, nat_le, Contains, List, [], ◌∷◌, Option, IfSome, if◌then◌else◌}
 use Rattle.sedck_engines.specs.Opened.{Known}
 use Rattle.sedck_errors.specs.declared.denied.Denied.{Denied}
 use Rattle.sedck_explanation.specs.Called.{known_bytes}
 use Rattle.sedck_explanation.specs.declared.explanation.Explanation.{Explanation}
+use Rattle.sedck_formats.specs.Plain.{Output, IsPlainStatus, IsPlainOutput}
 use Rattle.sedck_found.specs.declared.found.Found.{Found}
 use Rattle.sedck_found.specs.declared.found.FoundCall.{FoundCall}
 use Rattle.sedck_calls_in_files.specs.Judged.{IsSaidOf, denied_of}
@@ -57,6 +58,33 @@ TextStatus known denied text status =
 abbrev pub PathStatus : Known → (List ℕ → List ℕ → Option Holds) → Denied → List ℕ → ℕ → Type 0
 PathStatus k found denied path status =
     (status ≡ 4) ⊎ (k.may_fail ⊎ IfSome (known_bytes k path) (λ bytes. TextStatus (found path bytes) denied bytes status))
+
+-- ---- One call
+
+-- this is said of one of the calls that are found in a text; these are known, or some
+pub record IsSaidOfOne (known : Option Holds) (denied : Denied) (text : List ℕ) (explanation : Explanation) : Type 0 where
+  pub found : Found
+  pub is_found : IfSome known (IsFound found)
+  pub call : FoundCall
+  pub is_one : Contains found.calls.items call
+  pub is_said : IsSaidOf text (denied_of call denied) call.words.items call.script explanation
+
+-- and so of one in the file at a path
+pub record IsSaidIn (k : Known) (found : List ℕ → List ℕ → Option Holds) (denied : Denied) (path : List ℕ) (explanation : Explanation) : Type 0 where
+  pub text : List ℕ
+  pub is_text : IfSome (known_bytes k path) (λ bytes. text ≡ bytes)
+  pub is_said : IsSaidOfOne (found path text) denied text explanation
+
+-- the status of what is said of one
+abbrev pub OneStatus : Known → (List ℕ → List ℕ → Option Holds) → Denied → List ℕ → ℕ → Type 0
+OneStatus k found denied path status = (e : Explanation) × IsSaidIn k found denied path e × (status ≡ e.status)
+
+-- with the status 0 a text is written that spells the script of what is said of one; else nothing is written
+pub record SpellsOne (k : Known) (found : List ℕ → List ℕ → Option Holds) (denied : Denied) (path : List ℕ) (out : Output) (status : ℕ) : Type 0 where
+  pub explanation : Explanation
+  pub is_said : IsSaidIn k found denied path explanation
+  pub is_status : IsPlainStatus explanation.status status
+  pub writes : IsPlainOutput explanation.script out status
 
 -- the status that tells most, of those of what is at these paths, and of this one
 abbrev pub IsWorstOf : (List ℕ → ℕ → Type 0) → ℕ → List (List ℕ) → ℕ → Type 0

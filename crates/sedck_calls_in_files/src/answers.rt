@@ -1,6 +1,6 @@
 //! The reports of calls, one after another.
 
-use crate::request::{Look, Scan};
+use crate::request::{FileScan, Look, Scan};
 use sedck_explanation::{Explanation, Level, Position, shown_name};
 use sedck_formats::{
     CallAt, Names, gcc_report, json_call, json_place, json_report, shown_path, text_answer,
@@ -9,60 +9,45 @@ use sedck_formats::{
 use sedck_found::FoundCall;
 use std::alloc::{AllocError, Global};
 
-/// The report on a call of the file with this path.
+/// The report on a call of the file.
 pub(crate) fn call_report(
-    alloc: Global,
-    scan: &Scan,
-    path: &str,
+    asked: &FileScan,
     position: Position,
     found: &FoundCall,
     explanation: &Explanation,
 ) -> Result<Vec<u8>, AllocError> {
-    match scan.look {
+    let alloc = asked.alloc;
+    let least = asked.scan.least;
+    match asked.scan.look {
         Look::Json => {
             let call = CallAt {
-                file: path,
+                file: asked.file.path,
                 position,
                 words: shown_words(alloc, found)?,
             };
-            json_call(alloc, call, explanation, scan.least)
+            json_call(alloc, call, explanation, least)
         }
         Look::Gcc => {
-            let shown = shown_path(alloc, path)?;
-            gcc_report(
-                alloc,
-                Names::of_file(shown.as_str()),
-                explanation,
-                scan.least,
-            )
+            let shown = shown_path(alloc, asked.file.path)?;
+            gcc_report(alloc, Names::of_file(shown.as_str()), explanation, least)
         }
-        Look::Text { colour } => {
-            let shown = shown_path(alloc, path)?;
-            text_report(
-                alloc,
-                scan.least,
-                colour,
-                shown.as_str(),
-                position,
-                explanation,
-            )
-        }
+        Look::Text { colour } => text_report(asked, colour, position, explanation),
     }
 }
 
 /// The report on a place that isn't understood.
 pub(crate) fn place_report(
-    alloc: Global,
-    scan: &Scan,
-    path: &str,
+    asked: &FileScan,
     explanation: &Explanation,
 ) -> Result<Vec<u8>, AllocError> {
-    let shown = shown_path(alloc, path)?;
+    let alloc = asked.alloc;
+    let least = asked.scan.least;
+    let shown = shown_path(alloc, asked.file.path)?;
     let names = Names::of_file(shown.as_str());
-    match scan.look {
-        Look::Json => json_place(alloc, path, explanation, scan.least),
-        Look::Gcc => gcc_report(alloc, names, explanation, scan.least),
-        Look::Text { colour } => text_findings(alloc, names, explanation, scan.least, colour),
+    match asked.scan.look {
+        Look::Json => json_place(alloc, asked.file.path, explanation, least),
+        Look::Gcc => gcc_report(alloc, names, explanation, least),
+        Look::Text { colour } => text_findings(alloc, names, explanation, least, colour),
     }
 }
 
@@ -84,13 +69,15 @@ pub(crate) fn script_report(
 
 /// The report for people: the findings, and a line with the answer where notes are reported, or where it isn't a plain yes.
 fn text_report(
-    alloc: Global,
-    least: Level,
+    asked: &FileScan,
     colour: bool,
-    path: &str,
     position: Position,
     explanation: &Explanation,
 ) -> Result<Vec<u8>, AllocError> {
+    let alloc = asked.alloc;
+    let least = asked.scan.least;
+    let shown = shown_path(alloc, asked.file.path)?;
+    let path = shown.as_str();
     let mut report = text_findings(alloc, Names::of_file(path), explanation, least, colour)?;
     if least != Level::Note && explanation.status == 0 {
         return Ok(report);

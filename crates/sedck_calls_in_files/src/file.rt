@@ -7,51 +7,43 @@ ghost use Rattle.sedck_calls_in_files.specs.Scanned.{IsWorst, TextStatus, unread
 use crate::answers::{call_report, place_report};
 use crate::finder::Finder;
 use crate::judging::{explain_found, explain_unread};
-use crate::request::Scan;
+use crate::request::FileScan;
 use sedck_cert::streams::{Sink, write_all};
 use sedck_explanation::{Position, Unexplained, position_at, position_from};
 use sedck_formats::{CallAnswer, Counts};
 use sedck_found::FoundCall;
-use sedck_hosts::Kind;
-use std::alloc::Global;
 
-/// Explains each call that is found in the text of the file with this path, writes the reports, counts the answers, and answers the
-/// status that tells most. Before them each place is reported that isn't understood: status 5.
+/// Explains each call that is found in the file, writes the reports, counts the answers, and answers the status that tells most. Before
+/// them each place is reported that isn't understood: status 5.
 pub fn explain_text<F: Finder, W: Sink>(
-    alloc: Global,
+    asked: &FileScan,
     finder: &F,
-    scan: &Scan,
-    path: &str,
-    kind: Kind,
-    text: &[u8],
     counts: &mut Counts,
     out: &mut W,
 ) -> Result<u8, Unexplained>
-    ensures { IfOk result (TextStatus (F.found finder.now path.now text.now) scan.now.denied text.now) }
+    ensures { IfOk result (TextStatus (F.found finder.now asked.now.file.path.now asked.now.file.text.now) asked.now.scan.now.denied asked.now.file.text.now) }
 {
-    let found = finder.find(alloc, path, kind, text, scan.assumed)?;
+    let found = finder.find(asked.alloc, &asked.file, asked.scan.assumed)?;
     counts.files = counts.files.saturating_add(1);
     counts.unread = counts.unread.saturating_add(found.unread.len());
-    let status = report_places(alloc, scan, path, text, &found.unread, out)?;
-    explain_calls(alloc, scan, path, text, status, &found.calls, counts, out)
+    let status = report_places(asked, &found.unread, out)?;
+    explain_calls(asked, status, &found.calls, counts, out)
 }
 
 /// Writes a report for each of these places of the file, which aren't understood: status 5 if there is one, else 0.
 fn report_places<W: Sink>(
-    alloc: Global,
-    scan: &Scan,
-    path: &str,
-    text: &[u8],
+    asked: &FileScan,
     places: &[usize],
     out: &mut W,
 ) -> Result<u8, Unexplained>
     ensures { IfOk result (λ status. status ≡ unread_status places.now) }
 {
+    let text = asked.file.text;
     let mut position = position_at(text, 0);
     for offset in places {
         position = call_position(text, position, *offset);
-        let explanation = explain_unread(alloc, text, position)?;
-        let report = place_report(alloc, scan, path, &explanation)?;
+        let explanation = explain_unread(asked.alloc, text, position)?;
+        let report = place_report(asked, &explanation)?;
         if write_all(out, &report).is_err() {
             return Err(Unexplained::Write);
         }
@@ -69,28 +61,26 @@ fn status_of_places(places: &[usize]) -> u8
     }
 }
 
-/// Explains each of the calls, which were found in the text of the file with this path, writes the reports, counts the answers, and
-/// answers the status that tells most, of theirs and of this one.
+/// Explains each of the calls, which were found in the file, writes the reports, counts the answers, and answers the status that tells
+/// most, of theirs and of this one.
 pub fn explain_calls<W: Sink>(
-    alloc: Global,
-    scan: &Scan,
-    path: &str,
-    text: &[u8],
+    asked: &FileScan,
     known: u8,
     calls: &[FoundCall],
     counts: &mut Counts,
     out: &mut W,
 ) -> Result<u8, Unexplained>
-    ensures { IfOk result (IsWorst text.now scan.now.denied known calls.now) }
+    ensures { IfOk result (IsWorst asked.now.file.text.now asked.now.scan.now.denied known calls.now) }
 {
+    let text = asked.file.text;
     let mut status = known;
     let mut position = position_at(text, 0);
     for call in calls {
         position = call_position(text, position, call.start);
-        let explanation = explain_found(alloc, text, position, call, scan.denied)?;
+        let explanation = explain_found(asked.alloc, text, position, call, asked.scan.denied)?;
         counts.add(CallAnswer::of(&explanation));
         status = greater(status, explanation.status);
-        let report = call_report(alloc, scan, path, position, call, &explanation)?;
+        let report = call_report(asked, position, call, &explanation)?;
         if write_all(out, &report).is_err() {
             return Err(Unexplained::Write);
         }
@@ -99,7 +89,7 @@ pub fn explain_calls<W: Sink>(
 }
 
 /// The position of the offset, by one that mostly isn't after it.
-fn call_position(text: &[u8], known: Position, offset: usize) -> Position
+pub(crate) fn call_position(text: &[u8], known: Position, offset: usize) -> Position
     requires { known ≡ position_in text.now known.offset }
     ensures { result ≡ position_in text.now result.offset }
 {

@@ -3,8 +3,8 @@
 ghost use Rattle.std.specs.Prelude.{◌≡◌, List, ℕ, Option, None, IfOk, IfSome};
 ghost use Rattle.sedck_calls_in_files.specs.Scanned.{Holds, IsFound};
 
+use crate::request::File;
 use sedck_found::{Assumed, Found, calls_in};
-use sedck_hosts::Kind;
 use std::alloc::{AllocError, Global};
 
 /// What finds the calls of sed in a file.
@@ -12,16 +12,9 @@ pub trait Finder {
     /// What it finds in the file at this path with these bytes, where that is known.
     ghost found: { Self → List ℕ → List ℕ → Option Holds };
 
-    /// The calls in the file at the path, which is of this kind and has this text; the values of these variables are known.
-    fn find(
-        &self,
-        alloc: Global,
-        path: &str,
-        kind: Kind,
-        text: &[u8],
-        assumed: &[Assumed],
-    ) -> Result<Found, AllocError>
-        ensures { IfOk result (λ all. IfSome (found self.now path.now text.now) (IsFound all)) };
+    /// The calls in the file; the values of these variables are known.
+    fn find(&self, alloc: Global, file: &File, assumed: &[Assumed]) -> Result<Found, AllocError>
+        ensures { IfOk result (λ all. IfSome (found self.now file.now.path.now file.now.text.now) (IsFound all)) };
 }
 
 /// Finds what the shell would run. Which calls these are isn't known: that they are all of them is tested.
@@ -31,14 +24,7 @@ pub struct AsTheShell;
 impl Finder for AsTheShell {
     ghost found = { λ _ _ _. None };
 
-    fn find(
-        &self,
-        alloc: Global,
-        path: &str,
-        kind: Kind,
-        text: &[u8],
-        assumed: &[Assumed],
-    ) -> Result<Found, AllocError> {
-        calls_in(alloc, kind, path, text, assumed)
+    fn find(&self, alloc: Global, file: &File, assumed: &[Assumed]) -> Result<Found, AllocError> {
+        calls_in(alloc, file.kind, file.path, file.text, assumed)
     }
 }

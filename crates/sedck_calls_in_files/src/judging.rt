@@ -41,9 +41,29 @@ pub fn explain_found<'a>(
 {
     let written = written_words(alloc, file, &found.words)?;
     let shown = slices_of(alloc, &written)?;
-    let known = with_locale(denied, found);
-    let explanation = explain_found_script(alloc, file, position, &shown, found, known)?;
+    let given = Given {
+        alloc,
+        file,
+        position,
+        words: &found.words,
+        shown: &shown,
+        denied: with_locale(denied, found),
+    };
+    let explanation = explain_found_script(&given, &found.script)?;
     with_values(alloc, file, position, explanation, &found.followed)
+}
+
+/// A call in a file.
+#[derive(Drop)]
+struct Given<'a, 'b> {
+    alloc: Global,
+    file: &'a [u8],
+    /// Where the file has it.
+    position: Position,
+    words: &'b [Traced],
+    /// The words as they are shown.
+    shown: &'b [&'b [u8]],
+    denied: Denied,
 }
 
 /// What is denied, with the locale as far as the words before the call's name set it.
@@ -56,36 +76,23 @@ fn with_locale(denied: Denied, found: &FoundCall) -> Denied
     }
 }
 
-/// Explains the call by what was found of its script. Its words are shown as these.
+/// Explains the call by what was found of its script.
 fn explain_found_script<'a>(
-    alloc: Global,
-    file: &'a [u8],
-    position: Position,
-    shown: &[&[u8]],
-    found: &'a FoundCall,
-    denied: Denied,
+    given: &Given<'a, '_>,
+    script: &'a FoundScript,
 ) -> Result<Explanation<'a>, AllocError>
-    requires { position ≡ position_in file.now position.offset }
-    ensures said { IfOk result (IsSaidOf file.now denied found.now.words.items found.now.script) }
-    ensures places { IfOk result (λ e. All (IsFindingIn file.now) e.findings.items) }
+    requires { given.now.position ≡ position_in given.now.file.now given.now.position.offset }
+    ensures said { IfOk result (IsSaidOf given.now.file.now given.now.denied given.now.words.now script.now) }
+    ensures places { IfOk result (λ e. All (IsFindingIn given.now.file.now) e.findings.items) }
 {
-    match &found.script {
-        FoundScript::Text { text, holes, .. } => explain_words(
-            alloc,
-            file,
-            position,
-            &found.words,
-            shown,
-            text,
-            holes,
-            denied,
-        ),
+    match script {
+        FoundScript::Text { text, holes, .. } => explain_words(given, text, holes),
         FoundScript::Foreign(call) => {
-            let findings = foreign_findings(alloc, shown, &call.given)?;
-            reasons(alloc, file, position, findings)
+            let findings = foreign_findings(given.alloc, given.shown, &call.given)?;
+            reasons(given, findings)
         }
-        FoundScript::Refused(fault) => refused(alloc, file, position, shown, *fault),
-        FoundScript::Unknown(why) => unknown(alloc, file, position, *why),
+        FoundScript::Refused(fault) => refused(given, *fault),
+        FoundScript::Unknown(why) => unknown(given, *why),
     }
 }
 
@@ -119,74 +126,59 @@ fn slices_of<'a>(alloc: Global, words: &'a [Vec<u8>]) -> Result<Vec<&'a [u8]>, A
     Ok(slices)
 }
 
-/// Explains a call with these words whose script is this text.
+/// Explains the call, whose script is this text.
 fn explain_words<'a>(
-    alloc: Global,
-    file: &'a [u8],
-    position: Position,
-    words: &[Traced],
-    shown: &[&[u8]],
+    given: &Given<'a, '_>,
     text: &'a Traced,
     holes: &[OpenHole],
-    denied: Denied,
 ) -> Result<Explanation<'a>, AllocError>
-    requires { position ≡ position_in file.now position.offset }
-    ensures said { IfOk result (IsSaidOfText file.now denied words.now text.now holes.now) }
-    ensures places { IfOk result (λ e. All (IsFindingIn file.now) e.findings.items) }
+    requires { given.now.position ≡ position_in given.now.file.now given.now.position.offset }
+    ensures said { IfOk result (IsSaidOfText given.now.file.now given.now.denied given.now.words.now text.now holes.now) }
+    ensures places { IfOk result (λ e. All (IsFindingIn given.now.file.now) e.findings.items) }
 {
-    let bytes = bytes_of(alloc, words)?;
-    match call_of(alloc, &bytes) {
-        Ok(call) => explain_script(
-            alloc, file, position, words, shown, &call, text, holes, denied,
-        ),
+    let bytes = bytes_of(given.alloc, given.words)?;
+    match call_of(given.alloc, &bytes) {
+        Ok(call) => explain_script(given, &call, text, holes),
         Err(CallFault::OutOfMemory) => Err(AllocError),
-        Err(_) => unknown(alloc, file, position, Unknown::Words),
+        Err(_) => unknown(given, Unknown::Words),
     }
 }
 
-/// Explains this call.
+/// The same, whose words are this call.
 fn explain_script<'a>(
-    alloc: Global,
-    file: &'a [u8],
-    position: Position,
-    words: &[Traced],
-    shown: &[&[u8]],
+    given: &Given<'a, '_>,
     call: &Call,
     text: &'a Traced,
     holes: &[OpenHole],
-    denied: Denied,
 ) -> Result<Explanation<'a>, AllocError>
-    requires { position ≡ position_in file.now position.offset }
-    ensures said { IfOk result (IsSaidOfCall file.now denied words.now call.now text.now holes.now) }
-    ensures places { IfOk result (λ e. All (IsFindingIn file.now) e.findings.items) }
+    requires { given.now.position ≡ position_in given.now.file.now given.now.position.offset }
+    ensures said { IfOk result (IsSaidOfCall given.now.file.now given.now.denied given.now.words.now call.now text.now holes.now) }
+    ensures places { IfOk result (λ e. All (IsFindingIn given.now.file.now) e.findings.items) }
 {
     if has_foreign(&call.given) {
-        let findings = foreign_findings(alloc, shown, &call.given)?;
-        return reasons(alloc, file, position, findings);
+        let findings = foreign_findings(given.alloc, given.shown, &call.given)?;
+        return reasons(given, findings);
     }
-    if !is_in_file(alloc, file, words, call, text)? {
-        return unknown(alloc, file, position, Unknown::Part);
+    if !is_in_file(given.alloc, given.file, given.words, call, text)? {
+        return unknown(given, Unknown::Part);
     }
-    judged(alloc, file, position, shown, call, text, holes, denied)
+    judged(given, call, text, holes)
 }
 
-/// Explains this call, whose script is known but for holes.
+/// The same, whose script is known but for holes.
 fn judged<'a>(
-    alloc: Global,
-    file: &'a [u8],
-    position: Position,
-    shown: &[&[u8]],
+    given: &Given<'a, '_>,
     call: &Call,
     text: &'a Traced,
     holes: &[OpenHole],
-    denied: Denied,
 ) -> Result<Explanation<'a>, AllocError>
-    requires { position ≡ position_in file.now position.offset }
-    ensures said { IfOk result (IsJudged denied call.now text.now holes.now) }
-    ensures places { IfOk result (λ e. All (IsFindingIn file.now) e.findings.items) }
+    requires { given.now.position ≡ position_in given.now.file.now given.now.position.offset }
+    ensures said { IfOk result (IsJudged given.now.denied call.now text.now holes.now) }
+    ensures places { IfOk result (λ e. All (IsFindingIn given.now.file.now) e.findings.items) }
 {
-    let explanation = explain_called(alloc, &text.bytes, shown, call, denied)?;
-    let mut places = Places::new(alloc, file, position, &text.origins)?;
+    let Given { alloc, file, .. } = *given;
+    let explanation = explain_called(alloc, &text.bytes, given.shown, call, given.denied)?;
+    let mut places = Places::new(alloc, file, given.position, &text.origins)?;
     let explanation = placed(file, &mut places, explanation);
     if is_open(text, holes) {
         let warnings = open_warnings(alloc, file, &mut places, holes)?;
@@ -245,36 +237,25 @@ fn error_count(findings: &[Finding]) -> usize
 }
 
 /// The explanation of words that no sed takes.
-fn refused<'a>(
-    alloc: Global,
-    file: &'a [u8],
-    position: Position,
-    words: &[&[u8]],
-    fault: CallFault,
-) -> Result<Explanation<'a>, AllocError>
-    requires { position ≡ position_in file.now position.offset }
+fn refused<'a>(given: &Given<'a, '_>, fault: CallFault) -> Result<Explanation<'a>, AllocError>
+    requires { given.now.position ≡ position_in given.now.file.now given.now.position.offset }
     ensures said { IfOk result (IsUnjudged 2) }
-    ensures places { IfOk result (λ e. All (IsFindingIn file.now) e.findings.items) }
+    ensures places { IfOk result (λ e. All (IsFindingIn given.now.file.now) e.findings.items) }
 {
-    let findings = refusal_of(alloc, words, fault)?;
-    reasons(alloc, file, position, findings)
+    let findings = refusal_of(given.alloc, given.shown, fault)?;
+    reasons(given, findings)
 }
 
 /// The explanation of a script that isn't judged, for these reasons at the call.
-fn reasons<'a>(
-    alloc: Global,
-    file: &'a [u8],
-    position: Position,
-    findings: Vec<Finding>,
-) -> Result<Explanation<'a>, AllocError>
-    requires { position ≡ position_in file.now position.offset }
+fn reasons<'a>(given: &Given<'a, '_>, findings: Vec<Finding>) -> Result<Explanation<'a>, AllocError>
+    requires { given.now.position ≡ position_in given.now.file.now given.now.position.offset }
     ensures said { IfOk result (IsUnjudged 2) }
-    ensures places { IfOk result (λ e. All (IsFindingIn file.now) e.findings.items) }
+    ensures places { IfOk result (λ e. All (IsFindingIn given.now.file.now) e.findings.items) }
 {
     let mut findings = findings;
-    let mut places = Places::new(alloc, file, position, &[])?;
+    let mut places = Places::new(given.alloc, given.file, given.position, &[])?;
     place_findings(&mut places, &mut findings);
-    Ok(not_judged(alloc, file, findings))
+    Ok(not_judged(given.alloc, given.file, findings))
 }
 
 /// The explanation of a place that isn't understood.
@@ -293,17 +274,13 @@ pub(crate) fn explain_unread<'a>(
 }
 
 /// The explanation of a script that isn't known.
-fn unknown<'a>(
-    alloc: Global,
-    file: &'a [u8],
-    position: Position,
-    why: Unknown,
-) -> Result<Explanation<'a>, AllocError>
-    requires { position ≡ position_in file.now position.offset }
+fn unknown<'a>(given: &Given<'a, '_>, why: Unknown) -> Result<Explanation<'a>, AllocError>
+    requires { given.now.position ≡ position_in given.now.file.now given.now.position.offset }
     ensures said { IfOk result (IsUnjudged 5) }
-    ensures places { IfOk result (λ e. All (IsFindingIn file.now) e.findings.items) }
+    ensures places { IfOk result (λ e. All (IsFindingIn given.now.file.now) e.findings.items) }
 {
-    let mut explanation = not_judged(alloc, file, unknown_warning(alloc, file, position, why)?);
+    let warnings = unknown_warning(given.alloc, given.file, given.position, why)?;
+    let mut explanation = not_judged(given.alloc, given.file, warnings);
     explanation.status = UNKNOWN;
     Ok(explanation)
 }

@@ -3,6 +3,7 @@
 use sedck_explanation::{Denied, Level};
 use sedck_found::Assumed;
 use sedck_hosts::Kind;
+use std::alloc::Global;
 
 /// How the reports of a scan look.
 #[derive(Clone, Copy, Debug, PartialEq, Eq)]
@@ -27,4 +28,20 @@ pub struct Scan<'a> {
     pub look: Look,
     /// The least level of findings that are reported.
     pub least: Level,
+}
+
+/// A file in which calls are looked for.
+#[derive(Clone, Copy, Drop)]
+pub struct File<'a> {
+    pub path: &'a str,
+    pub kind: Kind,
+    pub text: &'a [u8],
+}
+
+/// What is asked of a file.
+#[derive(Drop)]
+pub struct FileScan<'a> {
+    pub alloc: Global,
+    pub scan: &'a Scan<'a>,
+    pub file: File<'a>,
 }

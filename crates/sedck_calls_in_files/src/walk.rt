@@ -9,7 +9,7 @@ use crate::answers::script_report;
 use crate::file::{explain_text, greater};
 use crate::finder::Finder;
 use crate::reading::{Contents, contents_of};
-use crate::request::{Look, Scan};
+use crate::request::{File, FileScan, Look, Scan};
 use sedck_cert::streams::{Failed, FromRead, Sink, Source, write_all};
 use sedck_engines::{Input as InputOf, Opener, read_up_to};
 use sedck_explanation::{Unexplained, explain};
@@ -35,11 +35,12 @@ struct Pass {
 
 /// What the files and folders are visited with.
 #[derive(Drop)]
-struct Walk<'a, R, O, F> {
-    rt: &'a R,
-    files: &'a O,
-    finder: &'a F,
-    scan: &'a Scan<'a>,
+pub struct Walk<'a, 'b, R, O, F> {
+    /// Memory, standard input and the folders of the system.
+    pub rt: &'a R,
+    pub files: &'a O,
+    pub finder: &'a F,
+    pub scan: &'b Scan<'b>,
 }
 
 /// Explains each call in the files and in those below the folders, in sorted order, writes the reports and at the end how many there
@@ -53,21 +54,15 @@ pub fn scan_files<
     F: Finder,
     W: Sink,
     E: Sink,
->(rt: &R, files: &O, finder: &F, scan: &Scan, out: &mut W, err: &mut E) -> u8
+>(walk: &Walk<R, O, F>, out: &mut W, err: &mut E) -> u8
     ensures within { result ≤ 5 }
     ensures known { result ≢ 3 }
-    ensures worst { result ≢ 4 → IsWorstOf (PathStatus (O.known files.now) (F.found finder.now) scan.now.denied) 0 (map (λ path. path.now) scan.now.paths.now) result }
+    ensures worst { result ≢ 4 → IsWorstOf (PathStatus (O.known walk.now.files.now) (F.found walk.now.finder.now) walk.now.scan.now.denied) 0 (map (λ path. path.now) walk.now.scan.now.paths.now) result }
     ensures silent { result ≢ 4 → Keeps (E.taken err.old) (E.taken err.new) }
 {
     let mut pass = Pass {
         counts: Counts::NONE,
-        unread: Vec::new(rt.alloc()),
-    };
-    let walk = Walk {
-        rt,
-        files,
-        finder,
-        scan,
+        unread: Vec::new(walk.rt.alloc()),
     };
     match walk.visit_all(&mut pass, out) {
         Ok(status) if pass.unread.is_empty() => status_of(status),
@@ -94,7 +89,7 @@ fn status_of(status: u8) -> u8
     }
 }
 
-impl<R: Files + Input + AllocGlobal + Clone + Drop, O: Opener, F: Finder> Walk<'_, R, O, F> {
+impl<R: Files + Input + AllocGlobal + Clone + Drop, O: Opener, F: Finder> Walk<'_, '_, R, O, F> {
     /// Visits all that is given, and writes how many calls there are. Answers the status that tells most.
     fn visit_all<W: Sink>(&self, pass: &mut Pass, out: &mut W) -> Result<u8, Unexplained>
         ensures { IfOk result (IsWorstOf (PathStatus (O.known self.now.files.now) (F.found self.now.finder.now) self.now.scan.now.denied) 0
@@ -156,20 +151,22 @@ impl<R: Files + Input + AllocGlobal + Clone + Drop, O: Opener, F: Finder> Walk<'
         ensures { IfOk result (ContentsStatus (F.found self.now.finder.now path.now) self.now.scan.now.denied contents.now) }
     {
         match contents {
-            Contents::Text(kind, text) => explain_text(
-                self.rt.alloc(),
-                self.finder,
-                self.scan,
-                path,
-                *kind,
-                text,
-                &mut pass.counts,
-                out,
-            ),
+            Contents::Text(kind, text) => {
+                let asked = FileScan {
+                    alloc: self.rt.alloc(),
+                    scan: self.scan,
+                    file: File {
+                        path,
+                        kind: *kind,
+                        text,
+                    },
+                };
+                explain_text(&asked, self.finder, &mut pass.counts, out)
+            }
             Contents::Other => Ok(0),
             Contents::TooLong => {
                 let reason = Some("it has more than 4,194,304 bytes");
-                report_unread(self.rt.alloc(), self.scan.look, path, reason, pass, out)
+                self.report_unread(path, reason, pass, out)
             }
             Contents::Unreadable => self.skip(path, pass, out),
         }
@@ -270,7 +267,26 @@ impl<R: Files + Input + AllocGlobal + Clone + Drop, O: Opener, F: Finder> Walk<'
             Some("it is a directory") => Some("not all of its names can be read"),
             other => other,
         };
-        report_unread(self.rt.alloc(), self.scan.look, path, reason, pass, out)
+        self.report_unread(path, reason, pass, out)
+    }
+    /// Keeps that a file can't be read, and reports it where each has an object: status 4.
+    fn report_unread<W: Sink>(
+        &self,
+        path: &str,
+        reason: Option<&'static str>,
+        pass: &mut Pass,
+        out: &mut W,
+    ) -> Result<u8, Unexplained>
+        ensures { IfOk result (λ status. status ≡ 4) }
+    {
+        let alloc = self.rt.alloc();
+        let message = unread_words(alloc, path, reason)?;
+        pass.counts.unreadable = pass.counts.unreadable.saturating_add(1);
+        if self.scan.look == Look::Json {
+            written(out, &json_unreadable(alloc, path, message.as_str())?)?;
+        }
+        keep(&mut pass.unread, message)?;
+        Ok(4)
     }
 }
 
@@ -335,33 +351,13 @@ fn joined(alloc: Global, folder: &str, name: &str) -> Result<String, AllocError>
     format!(in alloc; "{folder}/{name}")
 }
 
-/// Keeps what can't be read and why, and writes its object where objects are asked for: status 4.
-fn report_unread<W: Sink>(
-    alloc: Global,
-    look: Look,
-    path: &str,
-    reason: Option<&'static str>,
-    pass: &mut Pass,
-    out: &mut W,
-) -> Result<u8, Unexplained>
-    ensures { IfOk result (λ status. status ≡ 4) }
-{
-    let message = unread_words(alloc, path, reason)?;
-    pass.counts.unreadable = pass.counts.unreadable.saturating_add(1);
-    if look == Look::Json {
-        written(out, &json_unreadable(alloc, path, message.as_str())?)?;
-    }
-    keep(&mut pass.unread, message)?;
-    Ok(4)
-}
-
 /// Keeps the words.
 fn keep(unread: &mut Vec<String>, words: String) -> Result<(), AllocError> {
     Ok(unread.push(words)?)
 }
 
 /// What can't be read and why, in words.
-fn unread_words(
+pub(crate) fn unread_words(
     alloc: Global,
     path: &str,
     reason: Option<&'static str>,

@@ -1,12 +1,16 @@
 -- From what was explained to the status of what the words ask for.
-use Rattle.std.proofs.Common.{◌≡◌, ℕ, true, false, List, Option, Some, inl, inr, subst, String}
+use Rattle.std.proofs.Common.{◌≡◌, ℕ, Bool, true, false, List, Option, Some, inl, inr, subst, String}
 use Rattle.std.specs.declared.alloc.Global.{Global}
 use Rattle.sedck_engines.specs.Opened.{Known}
 use Rattle.sedck_errors.specs.declared.denied.Denied.{Denied}
-use Rattle.sedck_calls_in_files.specs.Scanned.{Holds}
+use Rattle.sedck_formats.specs.Plain.{Output}
+use Rattle.sedck_calls_in_files.specs.Scanned.{Holds, PathStatus, IsWorstOf}
 use Rattle.sedck_explain_cli.specs.CallStatus.{HasCallStatus}
 use Rattle.sedck_explain_cli.specs.Readings.{texts_of}
-use Rattle.sedck_explain_cli.specs.Requests.{scripts_of, IsRequest}
+use Rattle.sedck_explain_cli.specs.Requests.{scripts_of, is_plain, IsRequest}
+use Rattle.sedck_explain_cli.specs.Spelled.{IsPlainly, IsIn}
+use Rattle.sedck_explain_cli.specs.Private.Shown.{SpellsFound}
+use Rattle.sedck_explain_cli.proofs.Spelled.{found_status}
 use Rattle.sedck_explain_cli.specs.declared.request.Request.{Request}
 use Rattle.sedck_explain_cli.specs.declared.words.Words.{Words}
 use Rattle.sedck_explain_cli.specs.Statuses.{IsGreatest, StatusAt}
@@ -15,13 +19,19 @@ use Rattle.sedck_explain_cli.specs.Answers.{call_of, asks_for_help, IsStatusOfCa
 -- ---- By what is asked for
 
 pub scripts_status : (k : Known) (found : List ℕ → List ℕ → Option Holds) (request : Request) (call : Option (List (List ℕ))) (status : ℕ)
-    → request.calls ≡ false → request.sed ≡ false → IsGreatest (StatusAt k request) (scripts_of request) status
+    → is_plain request.format ≡ false → request.calls ≡ false → request.sed ≡ false → IsGreatest (StatusAt k request) (scripts_of request) status
     → HasStatusFor k found request call status
-scripts_status k found request call status calls sed has = rw (calls, sed) has
+scripts_status k found request call status other calls sed has = rw (other, calls, sed) has
 
-pub given_status : (k : Known) (denied : Denied) (call : Option (List (List ℕ))) (words : List (List ℕ)) (status : ℕ) → call ≡ Some words
-    → HasCallStatus k denied words status → IsStatusOfCall k denied call status
-given_status k denied call words status is has = rw is has
+pub plain_found : (k : Known) (found : List ℕ → List ℕ → Option Holds) (request : Request) (call : Option (List (List ℕ))) (out : Output) (status : ℕ)
+    → is_plain request.format ≡ true → request.calls ≡ true → SpellsFound k found request.denied (scripts_of request) out status
+    → HasStatusFor k found request call status
+plain_found k found request call out status plain calls has =
+    let one = found_status k found request.denied (scripts_of request) out status has in rw (plain, calls) one
+
+pub given_status : (plain : Bool) (k : Known) (denied : Denied) (call : Option (List (List ℕ))) (words : List (List ℕ)) (status : ℕ) → call ≡ Some words
+    → IsIn plain (HasCallStatus k denied words) status → IsIn plain (IsStatusOfCall k denied call) status
+given_status plain k denied call words status is has = rw is has
 
 -- ---- By the words
 

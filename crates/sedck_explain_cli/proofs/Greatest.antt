@@ -7,7 +7,8 @@ use Rattle.sedck_errors.specs.declared.denied.Denied.{Denied}
 use Rattle.sedck_explanation.specs.declared.explanation.Explanation.{Explanation}
 use Rattle.sedck_explanation.proofs.Answering.{on_ok}
 use Rattle.sedck_explanation.proofs.KnownBytes.{read_known}
-use Rattle.sedck_explain_cli.specs.Explained.{Output, IsExplained, IsExplainedWith}
+use Rattle.sedck_formats.specs.Plain.{Output}
+use Rattle.sedck_explain_cli.specs.Explained.{IsExplained, IsExplainedWith}
 use Rattle.sedck_explain_cli.specs.Statuses.{IsGiven, HasStatus, IsGreatest}
 
 pub known_status : (k : Known) (denied : Denied) (certificate known left : Option (List ℕ)) (r : Result ℕ RunFault)

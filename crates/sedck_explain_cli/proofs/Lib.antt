@@ -2,4 +2,5 @@ mod Writing
 mod CallStatuses
 mod Readings
 mod Greatest
+mod Spelled
 mod Answered

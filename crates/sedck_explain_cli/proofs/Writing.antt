@@ -6,9 +6,3 @@ pub on_written : {T E : Type 0} (P : T → Type 0) (r : Result T E) (status : T)
     → IfOk r (λ answered. answered ≡ status) → OnOk r A → (A → P status) → IfOk r P
 on_written P (Ok answered) status A same whole holds = subst P (sym same) (holds whole)
 on_written P (Err e) status A same whole holds = same
-
--- and what a status 0 says
-pub on_written_yes : {E : Type 0} (P : Type 0) (r : Result ℕ E) (status : ℕ) → IfOk r (λ answered. answered ≡ status)
-    → (status ≡ 0 → P) → IfOk r (λ answered. answered ≡ 0 → P)
-on_written_yes P (Ok answered) status same holds = λ zero. holds (sym same ∙ zero)
-on_written_yes P (Err e) status same holds = same

@@ -8,6 +8,7 @@ use Rattle.sedck_engines.specs.declared.answer.RunFault.TheVariants as fault
 use Rattle.sedck_errors.specs.declared.denied.Denied.{Denied}
 use Rattle.sedck_explanation.specs.Explanations.{IsExplanation}
 use Rattle.sedck_explanation.specs.declared.explanation.Explanation.{Explanation}
+use Rattle.sedck_formats.specs.Plain.{Output}
 
 -- The report on the explanation of a script's text, and of a certificate's where there is one, with its exit status. What the
 -- reporter makes of each explanation is known for some.
@@ -17,11 +18,6 @@ pub record IsReport (reported : Explanation → Option (List ℕ)) (text : List 
   pub is_explanation : IsExplanation text given denied explanation
   pub is_report : IfSome (reported explanation) (λ known. report ≡ known)
   pub is_status : status ≡ explanation.status
-
--- what the output has taken before and after, where that is known
-pub record Output : Type 0 where
-  pub before : Option (List ℕ)
-  pub after : Option (List ℕ)
 
 -- the report on what was read of a script was written, and has this status
 pub record IsExplained (reported : Explanation → Option (List ℕ)) (denied : Denied) (script : Option (List ℕ)) (out : Output)

@@ -3,6 +3,7 @@ pub mod Explained
 pub mod CallStatus
 pub mod Readings
 pub mod Requests
+pub mod Spelled
 -- What functions inside the crate promise each other.
 pub mod Private
 pub mod Lines

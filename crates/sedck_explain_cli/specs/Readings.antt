@@ -8,13 +8,14 @@ use Rattle.std.specs.declared.alloc.Global.{Global}
 abbrev pub texts_of : List (String Global) → List (List ℕ)
 texts_of words = map string_bytes words
 
--- what the next word is: an option or a path; the certificate's path; what is denied; the locale's name; the value of an option on
--- which the status doesn't depend; or a path, whatever it begins with
+-- what the next word is: an option or a path; the certificate's path; what is denied; the locale's name; the format's name; the value of
+-- an option on which the status doesn't depend; or a path, whatever it begins with
 pub data Awaited : Type 0 where
   AnyWord : Awaited
   ItsCertificate : Awaited
   ItsDenied : Awaited
   ItsLocale : Awaited
+  ItsFormat : Awaited
   OtherValue : Awaited
   OnlyPaths : Awaited
 
@@ -23,6 +24,7 @@ pub record Asked : Type 0 where
   pub certificate : Option (List ℕ)
   pub denied : Option (List ℕ)
   pub locale : Option (List ℕ)
+  pub format : Option (List ℕ)
   pub sed : Bool
   pub calls : Bool
   pub paths : List (List ℕ)
@@ -43,8 +45,8 @@ behind (b ∷ prefix) (c ∷ text) = if b == c then behind prefix text else None
 -- an option on which the status doesn't depend, with a value
 abbrev pub takes_value : List ℕ → Bool
 takes_value word =
-    bytes_eq word (codes "--format") || (bytes_eq word (codes "--level") || (bytes_eq word (codes "--stdin-filename")
-    || (bytes_eq word (codes "--as") || bytes_eq word (codes "--assume"))))
+    bytes_eq word (codes "--level") || (bytes_eq word (codes "--stdin-filename") || (bytes_eq word (codes "--as")
+    || (bytes_eq word (codes "--assume") || bytes_eq word (codes "--at"))))
 
 -- a word with no value in it
 abbrev pub after_word : Asked → List ℕ → Asked
@@ -52,6 +54,7 @@ after_word a word =
     if bytes_eq word (codes "--cert") then record a { next = ItsCertificate }
     else if bytes_eq word (codes "--deny") then record a { next = ItsDenied }
     else if bytes_eq word (codes "--locale") then record a { next = ItsLocale }
+    else if bytes_eq word (codes "--format") then record a { next = ItsFormat }
     else if bytes_eq word (codes "--sed") then record a { sed = true }
     else if bytes_eq word (codes "--calls") then record a { calls = true }
     else if bytes_eq word (codes "--") then record a { next = OnlyPaths }
@@ -59,8 +62,12 @@ after_word a word =
     else if is_option word then a
     else record a { paths = a.paths ++ word ∷ [] }
 
+abbrev pub or_format : Asked → List ℕ → Option (List ℕ) → Asked
+or_format a word None = after_word a word
+or_format a word (Some name) = record a { format = Some name }
+
 abbrev pub or_locale : Asked → List ℕ → Option (List ℕ) → Asked
-or_locale a word None = after_word a word
+or_locale a word None = or_format a word (behind (codes "--format=") word)
 or_locale a word (Some name) = record a { locale = Some name }
 
 abbrev pub or_denied : Asked → List ℕ → Option (List ℕ) → Asked
@@ -80,6 +87,7 @@ after_next AnyWord a word = after_any a word
 after_next ItsCertificate a word = record a { certificate = Some word; next = AnyWord }
 after_next ItsDenied a word = record a { denied = Some word; next = AnyWord }
 after_next ItsLocale a word = record a { locale = Some word; next = AnyWord }
+after_next ItsFormat a word = record a { format = Some word; next = AnyWord }
 after_next OtherValue a word = record a { next = AnyWord }
 after_next OnlyPaths a word = record a { paths = a.paths ++ word ∷ [] }
 
@@ -88,7 +96,7 @@ abbrev pub after : Asked → List ℕ → Asked
 after a word = after_next a.next a word
 
 abbrev pub nothing_asked : Asked
-nothing_asked = record { certificate = None; denied = None; locale = None; sed = false; calls = false; paths = []; next = AnyWord }
+nothing_asked = record { certificate = None; denied = None; locale = None; format = None; sed = false; calls = false; paths = []; next = AnyWord }
 
 -- all words
 abbrev pub read : List (List ℕ) → Asked

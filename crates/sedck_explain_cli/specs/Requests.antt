@@ -1,8 +1,10 @@
 -- The request that the words of the command line are, this project's own.
-use Rattle.std.specs.Prelude.{◌≡◌, ◌||◌, ℕ, Bool, false, List, [], ◌∷◌, map, Option, Some, None, option_map, codes}
+use Rattle.std.specs.Prelude.{◌≡◌, ◌||◌, ℕ, Bool, true, false, List, [], ◌∷◌, map, Option, Some, None, option_map, codes}
 use Rattle.std.specs.Str.{bytes_eq}
 use Rattle.sedck_errors.specs.declared.denied.Denied.{Denied}
 use Rattle.sedck_explain_cli.specs.Readings.{Asked, is_named, read}
+use Rattle.sedck_explain_cli.specs.declared.format.Format.{Format}
+use Rattle.sedck_explain_cli.specs.declared.format.Format.TheVariants as format
 use Rattle.sedck_explain_cli.specs.declared.request.Request.{Request}
 
 -- the path of the request's certificate, if it has one
@@ -30,6 +32,19 @@ denied_by (Some names) locale = record {
   c_locale = has_bytes locale;
 }
 
+-- the format in which an accepted script is written in its plain spelling
+abbrev pub is_plain_name : Option (List ℕ) → Bool
+is_plain_name None = false
+is_plain_name (Some name) = bytes_eq name (codes "sed")
+
+abbrev pub is_plain : Format → Bool
+is_plain format.Sed = true
+is_plain _ = false
+
+abbrev pub is_some_plain : Option Format → Bool
+is_some_plain None = false
+is_some_plain (Some f) = is_plain f
+
 -- where a script is missing, it is standard input
 abbrev pub paths_of : Bool → List (List ℕ) → List (List ℕ)
 paths_of false [] = codes "-" ∷ []
@@ -39,6 +54,7 @@ paths_of may_be_none paths = paths
 pub record AsksFor (asked : Asked) (request : Request) : Type 0 where
   pub certificate : certificate_of request ≡ asked.certificate
   pub denied : request.denied ≡ denied_by asked.denied asked.locale
+  pub plain : is_plain request.format ≡ is_plain_name asked.format
   pub sed : request.sed ≡ asked.sed
   pub calls : request.calls ≡ asked.calls
   pub scripts : scripts_of request ≡ paths_of (asked.sed || asked.calls) asked.paths

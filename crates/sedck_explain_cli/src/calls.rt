@@ -1,91 +1,114 @@
 //! A call of sed, explained by its words.
 
-ghost use Rattle.std.specs.Prelude.{◌≡◌, ◌≢◌, ◌≤◌, map, IfOk, OnOk};
+ghost use Rattle.std.specs.Prelude.{◌≡◌, ◌≢◌, ◌⊎◌, ◌≤◌, true, false, map, IfOk, OnOk};
+ghost use Rattle.std.specs.Io.KnownBytes.{Keeps, Appends};
 ghost use Rattle.sedck_explanation.specs.Called.{IsAcceptedCall};
 ghost use Rattle.sedck_explain_cli.specs.CallStatus.{HasCallStatus};
+ghost use Rattle.sedck_explain_cli.specs.Private.Shown.{IsShown};
+ghost use Rattle.sedck_explain_cli.specs.Requests.{is_plain};
+ghost use Rattle.sedck_explain_cli.specs.Spelled.{IsIn, SpellsCall};
 
-use crate::format::Style;
 use crate::part_names::part_names;
-use sedck_calls::{Call, CallFault, call_of, joined};
+use crate::plain::sent;
+use crate::session::Session;
+use sedck_calls::{CallFault, call_of, joined};
 use sedck_cert::streams::{Sink, write_all};
 use sedck_engines::Opener;
 use sedck_explanation::{
-    Denied, Explanation, Unexplained, explain_called, foreign_findings, has_foreign, not_judged,
-    parts_of, refusal_of,
+    Explanation, Unexplained, explain_called, foreign_findings, has_foreign, not_judged, parts_of,
+    refusal_of,
 };
-use std::alloc::Global;
+use sedck_formats::{Names, PartName, plain_report};
+use std::alloc::{AllocGlobal, Global};
 use std::io::Input;
 
 /// Writes the report on the call of sed with these words after its name, and answers its exit status.
 ///
 /// The status is 0 only for a call whose script, its parts joined, is accepted, and whose options let sed read it as the model does.
-pub fn explain_words<O: Opener, R: Input, W: Sink>(
-    alloc: Global,
-    files: &O,
-    input: &R,
-    style: &Style,
-    denied: Denied,
+pub fn explain_words<R: Input + AllocGlobal, O: Opener, F, W: Sink, E: Sink>(
+    session: &Session<R, O, F>,
     words: &[&[u8]],
     out: &mut W,
+    err: &mut E,
 ) -> Result<u8, Unexplained>
     ensures few { IfOk result (λ status. status ≤ 2) }
-    ensures status { IfOk result (HasCallStatus (O.known files.now) denied (map (λ word. word.now) words.now)) }
-    ensures yes { IfOk result (λ status. status ≡ 0 → IsAcceptedCall (O.known files.now) denied (map (λ word. word.now) words.now)) }
+    ensures status { IfOk result (IsIn (is_plain session.now.request.now.format) (HasCallStatus (O.known session.now.files.now) session.now.request.now.denied (map (λ word. word.now) words.now))) }
+    ensures spelled { IfOk result (λ status. is_plain session.now.request.now.format ≡ true → SpellsCall (O.known session.now.files.now) (map (λ word. word.now) words.now) (record { before = W.taken out.old; after = W.taken out.new }) status) }
+    ensures silent { IfOk result (λ status. (is_plain session.now.request.now.format ≡ false) ⊎ (status ≡ 0) → Keeps (E.taken err.old) (E.taken err.new)) }
+    ensures yes { IfOk result (λ status. status ≡ 0 → IsAcceptedCall (O.known session.now.files.now) session.now.request.now.denied (map (λ word. word.now) words.now)) }
 {
+    let alloc = session.alloc();
     let call = match call_of(alloc, words) {
         Ok(call) => call,
-        Err(fault) => return refuse(alloc, style, words, fault, out),
+        Err(fault) => {
+            let explanation = refused(alloc, words, fault)?;
+            return shown(session, &[], &explanation, out, err);
+        }
     };
     if has_foreign(&call.given) {
         let explanation = not_judged(alloc, &[], foreign_findings(alloc, words, &call.given)?);
-        return written(alloc, style, words, &call, &[], &explanation, out);
+        return shown(session, &[], &explanation, out, err);
     }
-    let parts = parts_of(alloc, files, input, words, &call.pieces)?;
+    let parts = parts_of(alloc, session.files, session.rt, words, &call.pieces)?;
     let text = joined(alloc, &parts)?;
-    let explanation = explain_called(alloc, &text, words, &call, denied)?;
-    written(alloc, style, words, &call, &parts, &explanation, out)
+    let explanation = explain_called(alloc, &text, words, &call, session.request.denied)?;
+    let names = part_names(alloc, &session.style(), words, &call.pieces, &parts)?;
+    shown(session, &names, &explanation, out, err)
 }
 
-/// Reports words that no sed takes.
-fn refuse<W: Sink>(
+/// What is said of words that no sed takes.
+fn refused(
     alloc: Global,
-    style: &Style,
     words: &[&[u8]],
     fault: CallFault,
-    out: &mut W,
-) -> Result<u8, Unexplained>
-    ensures status { IfOk result (λ status. status ≡ 2) }
+) -> Result<Explanation<'static>, Unexplained>
+    ensures status { IfOk result (λ e. e.status ≡ 2) }
     ensures refused { OnOk result (fault ≢ CallFault.OutOfMemory) }
 {
     if matches!(fault, CallFault::OutOfMemory) {
         return Err(Unexplained::OutOfMemory);
     }
-    let explanation = not_judged(alloc, &[], refusal_of(alloc, words, fault)?);
-    report(
-        out,
-        &style.call_report(alloc, &[], &explanation)?,
-        explanation.status,
-    )
+    Ok(not_judged(alloc, &[], refusal_of(alloc, words, fault)?))
 }
 
-/// Writes the report, and answers the explanation's status.
-fn written<W: Sink>(
-    alloc: Global,
-    style: &Style,
-    words: &[&[u8]],
-    call: &Call,
-    parts: &[Vec<u8>],
+/// Writes the report on the explanation of a call whose script has these parts, or in the format `sed` the script, and answers the exit
+/// status.
+fn shown<R: AllocGlobal, O, F, W: Sink, E: Sink>(
+    session: &Session<R, O, F>,
+    parts: &[PartName],
     explanation: &Explanation,
     out: &mut W,
+    err: &mut E,
 ) -> Result<u8, Unexplained>
-    ensures { IfOk result (λ status. status ≡ explanation.now.status) }
+    ensures { IfOk result (IsShown (is_plain session.now.request.now.format) explanation.now (record { before = W.taken out.old; after = W.taken out.new }) (record { before = E.taken err.old; after = E.taken err.new })) }
 {
-    let names = part_names(alloc, style, words, &call.pieces, parts)?;
-    report(
-        out,
-        &style.call_report(alloc, &names, explanation)?,
-        explanation.status,
-    )
+    let names = Names::of_call("sed", parts);
+    let made = session
+        .style()
+        .rendered(session.alloc(), names, names, explanation)?;
+    if session.request.format.is_plain() {
+        let (made, status) = plain_report(session.alloc(), names, explanation, made)?;
+        return plainly(out, err, &made, status);
+    }
+    report(out, &made, explanation.status)
+}
+
+/// Writes what is to be written in the format `sed` with this status, and answers it.
+fn plainly<W: Sink, E: Sink>(
+    out: &mut W,
+    err: &mut E,
+    report: &[u8],
+    status: u8,
+) -> Result<u8, Unexplained>
+    ensures status { IfOk result (λ answered. answered ≡ status) }
+    ensures written { OnOk result (status ≡ 0 → Appends (W.taken out.old) (W.taken out.new) report.now) }
+    ensures kept { status ≢ 0 → Keeps (W.taken out.old) (W.taken out.new) }
+    ensures silent { status ≡ 0 → Keeps (E.taken err.old) (E.taken err.new) }
+{
+    match sent(out, err, report, status) {
+        Ok(status) => Ok(status),
+        Err(_) => Err(Unexplained::Write),
+    }
 }
 
 /// Writes the report, and answers the status.

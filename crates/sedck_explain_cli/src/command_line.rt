@@ -7,15 +7,18 @@ ghost use Rattle.sedck_explanation.specs.Called.{IsAcceptedCall};
 ghost use Rattle.sedck_engines.specs.Opened.{unknown};
 ghost use Rattle.sedck_explain_cli.specs.CallStatus.{HasCallStatus};
 ghost use Rattle.sedck_explain_cli.specs.Lines.{error_line};
-ghost use Rattle.sedck_explain_cli.specs.Requests.{certificate_of, scripts_of};
+ghost use Rattle.sedck_explain_cli.specs.Requests.{certificate_of, scripts_of, is_plain};
+ghost use Rattle.sedck_explain_cli.specs.Spelled.{IsIn};
 ghost use Rattle.sedck_explain_cli.specs.Statuses.{HasStatus, StatusAt, IsGreatest};
-ghost use Rattle.sedck_explain_cli.specs.Answers.{call_of, asks_for_help, is_help as is_help_text, IsStatusOfCall, HasStatusFor, IsAnswered};
+ghost use Rattle.sedck_explain_cli.specs.Answers.{call_of, asks_for_help, asks_for_plain, is_help as is_help_text, IsStatusOfCall, HasStatusFor, IsAnswered};
 
 use crate::calls::explain_words;
-use crate::explaining::{explain_alone, explain_with};
-use crate::format::{Format, Style};
+use crate::explaining::{Named, explain_alone, explain_with};
+use crate::format::Format;
+use crate::plain::spell_script;
 use crate::request::{Request, request_of};
-use crate::scanning::explain_files;
+use crate::scanning::{explain_files, spell_found};
+use crate::session::Session;
 use crate::unread::{unread_of, unread_part};
 use crate::words::Words;
 use clap::Error;
@@ -49,7 +52,7 @@ pub fn program<R: Files + Input + AllocGlobal + Clone + Drop, W: Sink, E: Sink>(
     ensures within { result ≤ 5 }
     ensures answered { result ≢ 3 → result ≢ 4 → IsAnswered unknown (λ _ _. None) words.now result }
     ensures refused { result ≡ 3 → Keeps (W.taken out.old) (W.taken out.new) }
-    ensures silent { result ≢ 3 → result ≢ 4 → Keeps (E.taken err.old) (E.taken err.new) }
+    ensures silent { result ≢ 3 → result ≢ 4 → (asks_for_plain words.now ≡ false) ⊎ (result ≡ 0) → Keeps (E.taken err.old) (E.taken err.new) }
 {
     program_over(
         rt,
@@ -64,49 +67,68 @@ pub fn program<R: Files + Input + AllocGlobal + Clone + Drop, W: Sink, E: Sink>(
 
 /// The whole program over files that an opener opens, in which a finder finds calls of sed; folders are those of the system.
 pub fn program_over<
+    'a,
     R: Files + Input + AllocGlobal + Clone + Drop,
     O: Opener,
     F: Finder,
     W: Sink,
     E: Sink,
->(rt: &R, files: &O, finder: &F, words: &Words, colour: bool, out: &mut W, err: &mut E) -> u8
-    ensures within { result ≤ 5 }
-    // The status of what the words ask for, of the bytes of the files at the paths that they name.
-    ensures answered { result ≢ 3 → result ≢ 4 → IsAnswered (O.known files.now) (F.found finder.now) words.now result }
-    // Invalid arguments write nothing to the output.
-    ensures refused { result ≡ 3 → Keeps (W.taken out.old) (W.taken out.new) }
-    ensures silent { result ≢ 3 → result ≢ 4 → Keeps (E.taken err.old) (E.taken err.new) }
-{
-    match request_of(rt.alloc(), &words.own) {
-        Ok(request) => answer(rt, files, finder, &request, words, colour, out, err),
-        Err(error) => refuse_words(rt.alloc(), &words.own, error, out, err),
-    }
-}
-
-/// Explains what is asked for, and answers the exit status.
-fn answer<R: Files + Input + AllocGlobal + Clone + Drop, O: Opener, F: Finder, W: Sink, E: Sink>(
-    rt: &R,
-    files: &O,
-    finder: &F,
-    request: &Request,
+>(
+    rt: &'a R,
+    files: &'a O,
+    finder: &'a F,
     words: &Words,
     colour: bool,
     out: &mut W,
     err: &mut E,
 ) -> u8
     ensures within { result ≤ 5 }
-    ensures status { result ≢ 3 → result ≢ 4 → HasStatusFor (O.known files.now) (F.found finder.now) request.now (call_of words.now) result }
+    // The status of what the words ask for, of the bytes of the files at the paths that they name.
+    ensures answered { result ≢ 3 → result ≢ 4 → IsAnswered (O.known files.now) (F.found finder.now) words.now result }
+    // Invalid arguments write nothing to the output.
     ensures refused { result ≡ 3 → Keeps (W.taken out.old) (W.taken out.new) }
-    ensures silent { result ≢ 3 → result ≢ 4 → Keeps (E.taken err.old) (E.taken err.new) }
+    // Only what has no plain spelling, or isn't accepted, is reported there, where a plain spelling is asked for.
+    ensures silent { result ≢ 3 → result ≢ 4 → (asks_for_plain words.now ≡ false) ⊎ (result ≡ 0) → Keeps (E.taken err.old) (E.taken err.new) }
 {
-    if request.calls {
-        return explain_files(rt, files, finder, request, colour, out, err);
+    match request_of(rt.alloc(), &words.own) {
+        Ok(request) => {
+            let session = Session {
+                rt,
+                files,
+                finder,
+                request: &request,
+                colour,
+            };
+            answer(&session, words, out, err)
+        }
+        Err(error) => refuse_words(rt.alloc(), &words.own, error, out, err),
     }
-    if request.kind.is_some() || !request.assumed.is_empty() {
-        return end(err, b"--as and --assume are for --calls\n", 3);
+}
+
+/// Explains what is asked for, and answers the exit status.
+fn answer<R: Files + Input + AllocGlobal + Clone + Drop, O: Opener, F: Finder, W: Sink, E: Sink>(
+    session: &Session<R, O, F>,
+    words: &Words,
+    out: &mut W,
+    err: &mut E,
+) -> u8
+    ensures within { result ≤ 5 }
+    ensures status { result ≢ 3 → result ≢ 4 → HasStatusFor (O.known session.now.files.now) (F.found session.now.finder.now) session.now.request.now (call_of words.now) result }
+    ensures refused { result ≡ 3 → Keeps (W.taken out.old) (W.taken out.new) }
+    ensures silent { result ≢ 3 → result ≢ 4 → (is_plain session.now.request.now.format ≡ false) ⊎ (result ≡ 0) → Keeps (E.taken err.old) (E.taken err.new) }
+{
+    let request = session.request;
+    if let Some(misplaced) = misplaced(request) {
+        return end(err, misplaced, 3);
+    }
+    if request.format.is_plain() {
+        return answer_plainly(session, words, out, err);
+    }
+    if request.calls {
+        return explain_files(session, out, err);
     }
     if request.sed {
-        return explain_given(rt, files, request, words, colour, out, err);
+        return explain_given(session, words, out, err);
     }
     if request.scripts.len() > 1 {
         if request.certificate.is_some() {
@@ -116,70 +138,88 @@ fn answer<R: Files + Input + AllocGlobal + Clone + Drop, O: Opener, F: Finder, W
             return end(err, b"this format is for one script\n", 3);
         }
     }
-    explain_all(rt.alloc(), files, rt, request, colour, out, err)
+    explain_all(session, out, err)
+}
+
+/// What is said of options that aren't for what is asked for.
+fn misplaced(request: &Request) -> Option<&'static [u8]> {
+    if !request.calls && (request.kind.is_some() || !request.assumed.is_empty()) {
+        return Some(b"--as and --assume are for --calls\n");
+    }
+    if request.at.is_some() && !(request.calls && request.format.is_plain()) {
+        return Some(b"--at is for --calls with --format sed\n");
+    }
+    None
+}
+
+/// Writes what is asked for in its plain spelling, and answers the exit status.
+fn answer_plainly<
+    R: Files + Input + AllocGlobal + Clone + Drop,
+    O: Opener,
+    F: Finder,
+    W: Sink,
+    E: Sink,
+>(session: &Session<R, O, F>, words: &Words, out: &mut W, err: &mut E) -> u8
+    requires { is_plain session.now.request.now.format ≡ true }
+    ensures within { result ≤ 5 }
+    ensures status { result ≢ 3 → result ≢ 4 → HasStatusFor (O.known session.now.files.now) (F.found session.now.finder.now) session.now.request.now (call_of words.now) result }
+    ensures refused { result ≡ 3 → Keeps (W.taken out.old) (W.taken out.new) }
+    ensures silent { result ≡ 0 → Keeps (E.taken err.old) (E.taken err.new) }
+{
+    if session.request.calls {
+        spell_found(session, out, err)
+    } else if session.request.sed {
+        explain_given(session, words, out, err)
+    } else {
+        spell_script(session, out, err)
+    }
 }
 
 /// Explains the call of sed that is given, if one is.
-fn explain_given<R: Files + Input + AllocGlobal, O: Opener, W: Sink, E: Sink>(
-    rt: &R,
-    files: &O,
-    request: &Request,
+fn explain_given<R: Input + AllocGlobal, O: Opener, F, W: Sink, E: Sink>(
+    session: &Session<R, O, F>,
     words: &Words,
-    colour: bool,
     out: &mut W,
     err: &mut E,
 ) -> u8
     ensures within { result ≤ 4 }
-    ensures status { result < 3 → IsStatusOfCall (O.known files.now) request.now.denied (call_of words.now) result }
+    ensures status { result < 3 → IsIn (is_plain session.now.request.now.format) (IsStatusOfCall (O.known session.now.files.now) session.now.request.now.denied (call_of words.now)) result }
     ensures refused { result ≡ 3 → Keeps (W.taken out.old) (W.taken out.new) }
-    ensures silent { result < 3 → Keeps (E.taken err.old) (E.taken err.new) }
+    ensures silent { result < 3 → (is_plain session.now.request.now.format ≡ false) ⊎ (result ≡ 0) → Keeps (E.taken err.old) (E.taken err.new) }
 {
-    if request.certificate.is_some() {
+    if session.request.certificate.is_some() {
         return end(err, b"--cert is for a script\n", 3);
     }
-    if !request.scripts.is_empty() {
+    if !session.request.scripts.is_empty() {
         return end(err, b"--sed is for no script\n", 3);
     }
     let Some(call) = &words.call else {
         return end(err, b"--sed is followed by -- and the words of a call\n", 3);
     };
-    explain_call(
-        rt.alloc(),
-        files,
-        rt,
-        &request.style(colour),
-        request.denied,
-        call,
-        out,
-        err,
-    )
+    explain_call(session, call, out, err)
 }
 
 /// Explains the call of sed with these words after its name, and answers the exit status: 4 where a file of its script can't be read,
 /// a write fails, or memory runs out.
-pub fn explain_call<O: Opener, R: Input, W: Sink, E: Sink>(
-    alloc: Global,
-    files: &O,
-    input: &R,
-    style: &Style,
-    denied: Denied,
+pub fn explain_call<R: Input + AllocGlobal, O: Opener, F, W: Sink, E: Sink>(
+    session: &Session<R, O, F>,
     call: &[Vec<u8>],
     out: &mut W,
     err: &mut E,
 ) -> u8
     ensures within { result ≤ 4 }
     ensures known { result ≢ 3 }
-    ensures status { result < 3 → HasCallStatus (O.known files.now) denied (map (λ word. word.items) call.now) result }
-    ensures yes { result ≡ 0 → IsAcceptedCall (O.known files.now) denied (map (λ word. word.items) call.now) }
-    ensures silent { result < 3 → Keeps (E.taken err.old) (E.taken err.new) }
+    ensures status { result < 3 → IsIn (is_plain session.now.request.now.format) (HasCallStatus (O.known session.now.files.now) session.now.request.now.denied (map (λ word. word.items) call.now)) result }
+    ensures yes { result ≡ 0 → IsAcceptedCall (O.known session.now.files.now) session.now.request.now.denied (map (λ word. word.items) call.now) }
+    ensures silent { result < 3 → (is_plain session.now.request.now.format ≡ false) ⊎ (result ≡ 0) → Keeps (E.taken err.old) (E.taken err.new) }
 {
-    let Ok(words) = slices_of(alloc, call) else {
+    let Ok(words) = slices_of(session.alloc(), call) else {
         return out_of_memory(err);
     };
-    match explain_words(alloc, files, input, style, denied, &words, out) {
+    match explain_words(session, &words, out, err) {
         Ok(status) => status,
         Err(fault) => {
-            report_unexplained(alloc, files, style, &words, fault, out, err);
+            report_unexplained(session, &words, fault, out, err);
             4
         }
     }
@@ -197,37 +237,34 @@ fn slices_of<'a>(alloc: Global, words: &'a [Vec<u8>]) -> Result<Vec<&'a [u8]>, A
 }
 
 /// Reports why a call isn't explained.
-fn report_unexplained<O: Opener, W: Sink, E: Sink>(
-    alloc: Global,
-    files: &O,
-    style: &Style,
+fn report_unexplained<R: AllocGlobal, O: Opener, F, W: Sink, E: Sink>(
+    session: &Session<R, O, F>,
     words: &[&[u8]],
     fault: Unexplained,
     out: &mut W,
     err: &mut E,
 ) {
-    let _ = write_unexplained(files, err, words, fault);
+    let _ = write_unexplained(session.files, err, words, fault);
     let Unexplained::Unread(origin) = fault else {
         return;
     };
-    if !style.format.has_unreadable() {
+    if !session.request.format.has_unreadable() {
         return;
     }
-    if let Err(fault) = write_unread_part(alloc, files, style.format, origin.text(words), out) {
-        let _ = write_unexplained(files, err, words, fault);
+    if let Err(fault) = write_unread_part(session, origin.text(words), out) {
+        let _ = write_unexplained(session.files, err, words, fault);
     }
 }
 
 /// Writes the object of a call of which a file can't be read, so that programs find one for each call.
-fn write_unread_part<O: Opener, W: Sink>(
-    alloc: Global,
-    files: &O,
-    format: Format,
+fn write_unread_part<R: AllocGlobal, O: Opener, F, W: Sink>(
+    session: &Session<R, O, F>,
     path: &[u8],
     out: &mut W,
 ) -> Result<(), Unexplained> {
-    let message = unread_part(files, path).words(alloc)?;
-    let report = unreadable(alloc, format, "sed", message.as_str())?;
+    let alloc = session.alloc();
+    let message = unread_part(session.files, path).words(alloc)?;
+    let report = unreadable(alloc, session.request.format, "sed", message.as_str())?;
     match write_all(out, &report) {
         Ok(()) => Ok(()),
         Err(_) => Err(Unexplained::Write),
@@ -265,24 +302,20 @@ fn write_unexplained<O: Opener, E: Sink>(
 /// Explains each script of the request, in the order in which they are given, and answers the exit status: the greatest of theirs,
 /// or 4 where one can't be read, a write fails, or memory runs out. The report of several for people ends with how many there are of each
 /// answer.
-pub fn explain_all<O: Opener, R: Input, W: Sink, E: Sink>(
-    alloc: Global,
-    files: &O,
-    input: &R,
-    request: &Request,
-    colour: bool,
+pub fn explain_all<R: Input + AllocGlobal, O: Opener, F, W: Sink, E: Sink>(
+    session: &Session<R, O, F>,
     out: &mut W,
     err: &mut E,
 ) -> u8
     ensures within { result ≤ 4 }
     ensures known { result ≢ 3 }
-    ensures greatest { result < 3 → IsGreatest (StatusAt (O.known files.now) request.now) (scripts_of request.now) result }
+    ensures greatest { result < 3 → IsGreatest (StatusAt (O.known session.now.files.now) session.now.request.now) (scripts_of session.now.request.now) result }
     ensures silent { result < 3 → Keeps (E.taken err.old) (E.taken err.new) }
 {
     let mut status = 0;
     let mut counts = ScriptCounts::NONE;
-    for path in &request.scripts {
-        match explain_path(alloc, files, input, request, colour, path, out) {
+    for path in &session.request.scripts {
+        match explain_path(session, path, out) {
             Ok(one) => {
                 status = one.max(status);
                 counts.add(one);
@@ -290,20 +323,19 @@ pub fn explain_all<O: Opener, R: Input, W: Sink, E: Sink>(
             Err(fault) => {
                 status = 4;
                 counts.add(4);
-                if !is_followed(alloc, files, request, path, fault, out, err) {
+                if !is_followed(session, path, fault, out, err) {
                     return 4;
                 }
             }
         }
     }
-    summed(alloc, request, counts, status, out, err)
+    summed(session, counts, status, out, err)
 }
 
 /// Writes how many scripts there are of each answer, where there are several and the report is for people. The status is this one, or 4
 /// where that can't be written.
-fn summed<W: Sink, E: Sink>(
-    alloc: Global,
-    request: &Request,
+fn summed<R: AllocGlobal, O, F, W: Sink, E: Sink>(
+    session: &Session<R, O, F>,
     counts: ScriptCounts,
     status: u8,
     out: &mut W,
@@ -312,6 +344,7 @@ fn summed<W: Sink, E: Sink>(
     ensures within { (result ≡ status) ⊎ (result ≡ 4) }
     ensures silent { result ≢ 4 → Keeps (E.taken err.old) (E.taken err.new) }
 {
+    let request = session.request;
     if request.scripts.len() < 2 || request.format != Format::Text {
         return status;
     }
@@ -319,7 +352,7 @@ fn summed<W: Sink, E: Sink>(
         c_locale: false,
         ..request.denied
     } != Denied::NOTHING;
-    let Ok(text) = counts.text(alloc, may_be_denied) else {
+    let Ok(text) = counts.text(session.alloc(), may_be_denied) else {
         return out_of_memory(err);
     };
     if write_all(out, &text).is_err() {
@@ -329,109 +362,89 @@ fn summed<W: Sink, E: Sink>(
 }
 
 /// Explains the script at the path, with the certificate where one is given.
-fn explain_path<O: Opener, R: Input, W: Sink>(
-    alloc: Global,
-    files: &O,
-    input: &R,
-    request: &Request,
-    colour: bool,
+fn explain_path<R: Input + AllocGlobal, O: Opener, F, W: Sink>(
+    session: &Session<R, O, F>,
     path: &str,
     out: &mut W,
 ) -> Result<u8, RunFault>
     ensures few { IfOk result (λ status. status ≤ 2) }
-    ensures status { IfOk result (StatusAt (O.known files.now) request.now path.now) }
+    ensures status { IfOk result (StatusAt (O.known session.now.files.now) session.now.request.now path.now) }
 {
     if path == "-" {
-        let source = FromRead::new(input.reader());
-        return explain_source(
-            alloc,
-            files,
-            request,
-            colour,
-            request.stdin_name,
-            source,
-            out,
-        );
+        let source = FromRead::new(session.rt.reader());
+        return explain_source(session, session.request.stdin_name, source, out);
     }
-    match files.open(path) {
-        Ok(source) => explain_source(alloc, files, request, colour, path, source, out),
+    match session.files.open(path) {
+        Ok(source) => explain_source(session, path, source, out),
         Err(_) => Err(RunFault::Read(InputOf::Script)),
     }
 }
 
 /// Explains the script of this source, which reports call by this name.
-fn explain_source<O: Opener, S: Source + Drop, W: Sink>(
-    alloc: Global,
-    files: &O,
-    request: &Request,
-    colour: bool,
+fn explain_source<R: AllocGlobal, O: Opener, F, S: Source + Drop, W: Sink>(
+    session: &Session<R, O, F>,
     name: &str,
     mut script: S,
     out: &mut W,
 ) -> Result<u8, RunFault>
     ensures few { IfOk result (λ status. status ≤ 2) }
-    ensures status { IfOk result (HasStatus (O.known files.now) request.now.denied (certificate_of request.now) (S.left script)) }
+    ensures status { IfOk result (HasStatus (O.known session.now.files.now) session.now.request.now.denied (certificate_of session.now.request.now) (S.left script)) }
 {
-    let style = request.style(colour);
-    let Some(certificate) = request.certificate else {
-        return explain_alone(alloc, &style, name, request.denied, &mut script, out);
+    let style = session.style();
+    let named = Named {
+        alloc: session.alloc(),
+        reporter: &style,
+        name,
+        denied: session.request.denied,
     };
-    match files.open(certificate) {
-        Ok(mut certificate) => explain_with(
-            alloc,
-            &style,
-            name,
-            request.denied,
-            &mut script,
-            &mut certificate,
-            out,
-        ),
+    let Some(certificate) = session.request.certificate else {
+        return explain_alone(&named, &mut script, out);
+    };
+    match session.files.open(certificate) {
+        Ok(mut certificate) => explain_with(&named, &mut script, &mut certificate, out),
         Err(_) => Err(RunFault::Read(InputOf::Certificate)),
     }
 }
 
 /// Reports why a script couldn't be explained. Whether the next one follows: after a failed write, or where memory runs out, none does.
-fn is_followed<O: Opener, W: Sink, E: Sink>(
-    alloc: Global,
-    files: &O,
-    request: &Request,
+fn is_followed<R: AllocGlobal, O: Opener, F, W: Sink, E: Sink>(
+    session: &Session<R, O, F>,
     path: &str,
     fault: RunFault,
     out: &mut W,
     err: &mut E,
 ) -> bool {
-    report_fault(files, err, request, path, fault);
+    report_fault(session, path, fault, err);
     let RunFault::Read(input) = fault else {
         return false;
     };
-    if !request.format.has_unreadable() {
+    if !session.request.format.has_unreadable() {
         return true;
     }
-    match report_unread(alloc, files, request, path, input, out) {
+    match report_unread(session, path, input, out) {
         Ok(()) => true,
         Err(fault) => {
-            report_fault(files, err, request, path, fault);
+            report_fault(session, path, fault, err);
             false
         }
     }
 }
 
 /// Writes the object of a script that can't be read, so that programs find one for each script.
-fn report_unread<'a, O: Opener, W: Sink>(
-    alloc: Global,
-    files: &O,
-    request: &Request<'a>,
-    path: &'a str,
+fn report_unread<R: AllocGlobal, O: Opener, F, W: Sink>(
+    session: &Session<R, O, F>,
+    path: &str,
     input: InputOf,
     out: &mut W,
 ) -> Result<(), RunFault> {
-    let message = unread_of(files, request, path, input).words(alloc)?;
+    let alloc = session.alloc();
+    let message = unread_of(session.files, session.request, path, input).words(alloc)?;
     let name = if path == "-" {
-        request.stdin_name
+        session.request.stdin_name
     } else {
         path
     };
-    let report = unreadable(alloc, request.format, name, message.as_str())?;
+    let report = unreadable(alloc, session.request.format, name, message.as_str())?;
     match write_all(out, &report) {
         Ok(()) => Ok(()),
         Err(_) => Err(RunFault::Write),
@@ -439,14 +452,13 @@ fn report_unread<'a, O: Opener, W: Sink>(
 }
 
 /// Reports why a script couldn't be explained. It takes no memory.
-fn report_fault<O: Opener, E: Sink>(
-    files: &O,
-    err: &mut E,
-    request: &Request,
+pub(crate) fn report_fault<R, O: Opener, F, E: Sink>(
+    session: &Session<R, O, F>,
     path: &str,
     fault: RunFault,
+    err: &mut E,
 ) {
-    let _ = write_fault(files, err, request, path, fault);
+    let _ = write_fault(session.files, err, session.request, path, fault);
 }
 
 /// Writes the line of the fault.

@@ -12,66 +12,73 @@ use sedck_engines::{RunFault, read_certificate, read_script};
 use sedck_explanation::{Denied, explain};
 use std::alloc::{AllocError, Global};
 
+/// A script by its name, and how it is reported.
+#[derive(Drop)]
+pub struct Named<'a, F> {
+    pub alloc: Global,
+    pub reporter: &'a F,
+    /// The name of the script in reports.
+    pub name: &'a str,
+    pub denied: Denied,
+}
+
 /// Reads a script, writes the report on it, and answers its exit status, which is 1 where the script is accepted and has what is
 /// denied.
 pub fn explain_alone<F: Reporter, R: Source, W: Sink>(
-    alloc: Global,
-    reporter: &F,
-    name: &str,
-    denied: Denied,
+    named: &Named<F>,
     script: &mut R,
     out: &mut W,
 ) -> Result<u8, RunFault>
-    ensures status { IfOk result (IsExplained (F.reported reporter.now name.now) denied (R.left script.old) (record { before = W.taken out.old; after = W.taken out.new })) }
+    ensures status { IfOk result (IsExplained (F.reported named.now.reporter.now named.now.name.now) named.now.denied (R.left script.old) (record { before = W.taken out.old; after = W.taken out.new })) }
     ensures few { IfOk result (λ status. status ≤ 2) }
     ensures reason { IfErr result (IsReason (R.has_failed script.new) false (W.has_failed out.new)) }
     ensures kept { IfErr result (λ why. why ≢ fault.Write → Keeps (W.taken out.old) (W.taken out.new)) }
 {
-    let text = read_script(alloc, script)?;
-    let (report, status) = report_of(alloc, reporter, name, &text, None, denied)?;
+    let text = read_script(named.alloc, script)?;
+    let (report, status) = report_of(named, &text, None)?;
     written(out, &report, status)
 }
 
 /// Reads a script and a certificate, writes the report on both, and answers its exit status.
 pub fn explain_with<F: Reporter, R: Source, C: Source, W: Sink>(
-    alloc: Global,
-    reporter: &F,
-    name: &str,
-    denied: Denied,
+    named: &Named<F>,
     script: &mut R,
     cert: &mut C,
     out: &mut W,
 ) -> Result<u8, RunFault>
-    ensures status { IfOk result (IsExplainedWith (F.reported reporter.now name.now) denied (R.left script.old) (C.left cert.old) (record { before = W.taken out.old; after = W.taken out.new })) }
+    ensures status { IfOk result (IsExplainedWith (F.reported named.now.reporter.now named.now.name.now) named.now.denied (R.left script.old) (C.left cert.old) (record { before = W.taken out.old; after = W.taken out.new })) }
     ensures few { IfOk result (λ status. status ≤ 2) }
     ensures reason { IfErr result (IsReason (R.has_failed script.new) (C.has_failed cert.new) (W.has_failed out.new)) }
     ensures kept { IfErr result (λ why. why ≢ fault.Write → Keeps (W.taken out.old) (W.taken out.new)) }
 {
-    let text = read_script(alloc, script)?;
-    let bytes = read_certificate(alloc, cert)?;
-    let (report, status) = report_of(alloc, reporter, name, &text, Some(&bytes), denied)?;
+    let text = read_script(named.alloc, script)?;
+    let bytes = read_certificate(named.alloc, cert)?;
+    let (report, status) = report_of(named, &text, Some(&bytes))?;
     written(out, &report, status)
 }
 
 /// The report on what was read, and its exit status.
 fn report_of<F: Reporter>(
-    alloc: Global,
-    reporter: &F,
-    name: &str,
+    named: &Named<F>,
     text: &[u8],
     certificate: Option<&[u8]>,
-    denied: Denied,
 ) -> Result<(Vec<u8>, u8), AllocError>
     ensures few { IfOk result (λ made. made.1 ≤ 2) }
-    ensures report { IfOk result (λ made. IsReport (F.reported reporter.now name.now) text.now (option_map (λ bytes. bytes.now) certificate.entry) denied made.0.items made.1) }
+    ensures report { IfOk result (λ made. IsReport (F.reported named.now.reporter.now named.now.name.now) text.now (option_map (λ bytes. bytes.now) certificate.entry) named.now.denied made.0.items made.1) }
 {
-    let explanation = explain(alloc, own_path(name), text, certificate, denied)?;
+    let Named {
+        alloc,
+        reporter,
+        name,
+        denied,
+    } = named;
+    let explanation = explain(*alloc, own_path(name), text, certificate, *denied)?;
     let status = explanation.status;
-    Ok((reporter.report(alloc, name, &explanation)?, status))
+    Ok((reporter.report(*alloc, name, &explanation)?, status))
 }
 
 /// The path of the script's own file, unless the name is that of standard input.
-fn own_path(name: &str) -> Option<&[u8]> {
+pub(crate) fn own_path(name: &str) -> Option<&[u8]> {
     if name == "-" {
         None
     } else {

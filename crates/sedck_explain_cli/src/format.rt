@@ -4,10 +4,8 @@ ghost use Rattle.std.specs.Prelude.{None};
 
 use crate::reporter::Reporter;
 use sedck_explanation::{Explanation, Level};
-use sedck_formats::{
-    Names, PartName, gcc_report, json_report, sarif_report, shown_path, text_report,
-};
-use sedck_pages::{dot_nodes_report, dot_report, html_report};
+use sedck_formats::{Names, gcc_report, json_report, sarif_report, shown_path, text_report};
+use sedck_pages::{dot_report, html_report};
 use std::alloc::{AllocError, Global};
 
 /// How a report is printed.
@@ -25,16 +23,22 @@ pub enum Format {
     Html,
     /// A graph for Graphviz, with a box for each command.
     Dot,
-    /// The same with a box for each node.
-    DotNodes,
+    /// An accepted script in its plain spelling; of any other a report for people, on standard error.
+    Sed,
 }
 
 /// The names of the formats, as they are given on the command line.
-pub const NAMES: &[&str] = &["text", "gcc", "json", "sarif", "html", "dot", "dot-nodes"];
+pub const NAMES: &[&str] = &["text", "gcc", "json", "sarif", "html", "dot", "sed"];
 
 impl Format {
+    ghost use Rattle.std.specs.Prelude.{◌≡◌, codes};
+    ghost use Rattle.std.specs.Str.{bytes_eq};
+    ghost use Rattle.sedck_explain_cli.specs.Requests.{is_plain, is_some_plain};
+
     /// The format with this name.
-    pub fn named(name: &str) -> Option<Format> {
+    pub fn named(name: &str) -> Option<Format>
+        ensures { is_some_plain result ≡ bytes_eq name.now (codes "sed") }
+    {
         match name {
             "text" => Some(Format::Text),
             "gcc" => Some(Format::Gcc),
@@ -42,16 +46,23 @@ impl Format {
             "sarif" => Some(Format::Sarif),
             "html" => Some(Format::Html),
             "dot" => Some(Format::Dot),
-            "dot-nodes" => Some(Format::DotNodes),
+            "sed" => Some(Format::Sed),
             _ => None,
         }
+    }
+
+    /// Whether an accepted script is written in its plain spelling.
+    pub(crate) fn is_plain(self) -> bool
+        ensures { result ≡ is_plain self }
+    {
+        matches!(self, Format::Sed)
     }
 
     /// Whether the report of several scripts is the reports of each, one after another.
     pub fn takes_several(self) -> bool {
         match self {
             Format::Text | Format::Gcc | Format::Json => true,
-            Format::Sarif | Format::Html | Format::Dot | Format::DotNodes => false,
+            Format::Sarif | Format::Html | Format::Dot | Format::Sed => false,
         }
     }
 
@@ -64,7 +75,7 @@ impl Format {
     /// files people see each answer, which notes belong to.
     pub fn least(self, is_of_calls: bool) -> Level {
         match self {
-            Format::Gcc => Level::Warning,
+            Format::Gcc | Format::Sed => Level::Warning,
             Format::Text if !is_of_calls => Level::Warning,
             _ => Level::Note,
         }
@@ -106,19 +117,8 @@ impl Style {
         }
     }
 
-    /// The report on a call of sed, whose script has these parts.
-    pub(crate) fn call_report(
-        &self,
-        alloc: Global,
-        parts: &[PartName],
-        explanation: &Explanation,
-    ) -> Result<Vec<u8>, AllocError> {
-        let names = Names::of_call("sed", parts);
-        self.rendered(alloc, names, names, explanation)
-    }
-
     /// The report in the format, with the exact names and those that can be shown.
-    fn rendered(
+    pub(crate) fn rendered(
         &self,
         alloc: Global,
         exact: Names,
@@ -127,12 +127,12 @@ impl Style {
     ) -> Result<Vec<u8>, AllocError> {
         match self.format {
             Format::Text => text_report(alloc, shown, explanation, self.least, self.colour),
+            Format::Sed => text_report(alloc, shown, explanation, self.least, false),
             Format::Gcc => gcc_report(alloc, shown, explanation, self.least),
             Format::Json => json_report(alloc, exact, explanation, self.least),
             Format::Sarif => sarif_report(alloc, exact, explanation, self.least),
             Format::Html => html_report(alloc, shown, explanation, self.least),
             Format::Dot => dot_report(alloc, shown, explanation),
-            Format::DotNodes => dot_nodes_report(alloc, shown, explanation),
         }
     }
 }

@@ -16,6 +16,8 @@ pub(crate) struct Reading<'a> {
     pub(crate) denied: Option<&'a str>,
     /// The name of the locale in which sed runs.
     pub(crate) locale: Option<&'a str>,
+    /// The name of the format.
+    pub(crate) format: Option<&'a str>,
     pub(crate) sed: bool,
     pub(crate) calls: bool,
     pub(crate) paths: Vec<&'a str>,
@@ -33,6 +35,8 @@ pub(crate) enum Next {
     Denied,
     /// The name of the locale.
     Locale,
+    /// The name of the format.
+    Format,
     /// The value of an option on which the status doesn't depend.
     Other,
     /// A path, whatever it begins with.
@@ -47,6 +51,7 @@ pub(crate) fn read_words<'a>(alloc: Global, words: &'a [String]) -> Result<Readi
         certificate: None,
         denied: None,
         locale: None,
+        format: None,
         sed: false,
         calls: false,
         paths: Vec::new(alloc),
@@ -68,6 +73,7 @@ impl<'a> Reading<'a> {
             Next::Certificate => self.certificate = Some(word),
             Next::Denied => self.denied = Some(word),
             Next::Locale => self.locale = Some(word),
+            Next::Format => self.format = Some(word),
             Next::Other => {}
             Next::Path => return Ok(self.paths.push(word)?),
         }
@@ -91,14 +97,19 @@ impl<'a> Reading<'a> {
             self.locale = Some(name);
             return Ok(());
         }
+        if let Some(name) = rest_behind("--format=", word) {
+            self.format = Some(name);
+            return Ok(());
+        }
         match word {
             "--cert" => self.next = Next::Certificate,
             "--deny" => self.next = Next::Denied,
             "--locale" => self.next = Next::Locale,
+            "--format" => self.next = Next::Format,
             "--sed" => self.sed = true,
             "--calls" => self.calls = true,
             "--" => self.next = Next::Path,
-            "--format" | "--level" | "--stdin-filename" | "--as" | "--assume" => {
+            "--level" | "--stdin-filename" | "--as" | "--assume" | "--at" => {
                 self.next = Next::Other
             }
             _ => {

@@ -2,11 +2,12 @@
 
 ghost use Rattle.std.specs.Prelude.{◌≡◌, map, IfOk, option_map};
 ghost use Rattle.sedck_explain_cli.specs.Readings.{texts_of};
-ghost use Rattle.sedck_explain_cli.specs.Requests.{IsRequest, denied_by, has_bytes, paths_of};
+ghost use Rattle.sedck_explain_cli.specs.Requests.{IsRequest, denied_by, has_bytes, is_plain, is_some_plain, is_plain_name, paths_of};
 
 use crate::format::{Format, NAMES, Style};
 use crate::reading::{Reading, names, read_words};
 use clap::{Arg, ArgAction, ArgMatches, Command, Error};
+use sedck_calls_in_files::At;
 use sedck_explanation::{Denied, Level};
 use sedck_formats::VERSION;
 use sedck_found::Assumed;
@@ -33,14 +34,25 @@ pub struct Request<'a> {
     pub kind: Option<Kind>,
     /// Values of variables in them.
     pub assumed: Vec<Assumed<'a>>,
+    /// Where the call is whose script is written in its plain spelling.
+    pub at: Option<At>,
     /// The scripts' paths, at least one; `-` is standard input. Where the words of a call follow, or calls in files are explained, those
     /// that were given.
     pub scripts: Vec<&'a str>,
 }
 
 impl Request<'_> {
+    ghost use Rattle.std.specs.Prelude.{◌≡◌};
+
+    /// The name in reports of the script at the path.
+    pub(crate) fn name_of<'b>(&'b self, path: &'b str) -> &'b str {
+        if path == "-" { self.stdin_name } else { path }
+    }
+
     /// How reports look.
-    pub fn style(&self, colour: bool) -> Style {
+    pub fn style(&self, colour: bool) -> Style
+        ensures { result.format ≡ self.now.format }
+    {
         Style {
             format: self.format,
             colour,
@@ -59,12 +71,13 @@ pub fn request_of<'a>(alloc: Global, words: &'a [String]) -> Result<Request<'a>,
         certificate,
         denied,
         locale,
+        format,
         sed,
         calls,
         paths,
         ..
     } = read_words(alloc, words)?;
-    let format = format_of(&matches);
+    let format = format_of(format);
     Ok(Request {
         format,
         least: level_of(&matches, format, calls),
@@ -75,14 +88,26 @@ pub fn request_of<'a>(alloc: Global, words: &'a [String]) -> Result<Request<'a>,
         calls,
         kind: kind_of(&matches),
         assumed: assumed_of(alloc, &matches)?,
+        at: at_of(&matches),
         scripts: scripts_of(paths, sed || calls)?,
     })
 }
 
-/// The format that is asked for, or text.
-fn format_of(matches: &ArgMatches) -> Format {
-    match matches.get_str("format") {
-        Some(name) => Format::named(name).unwrap_or(Format::Text),
+/// The format of this name, or text.
+fn format_of(name: Option<&str>) -> Format
+    ensures { is_plain result ≡ is_plain_name (option_map (λ name. name.now) name.entry) }
+{
+    match name {
+        Some(name) => format_or_text(Format::named(name)),
+        None => Format::Text,
+    }
+}
+
+fn format_or_text(format: Option<Format>) -> Format
+    ensures { is_plain result ≡ is_some_plain format }
+{
+    match format {
+        Some(format) => format,
         None => Format::Text,
     }
 }
@@ -111,6 +136,24 @@ fn scripts_of<'a>(paths: Vec<&'a str>, may_be_none: bool) -> Result<Vec<&'a str>
 /// What files are taken for, or none.
 fn kind_of(matches: &ArgMatches) -> Option<Kind> {
     Kind::named(matches.get_str("as")?)
+}
+
+/// Where the call is that is asked for: `LINE` or `LINE:COLUMN`. What is neither is at line 0, where no call is.
+fn at_of(matches: &ArgMatches) -> Option<At> {
+    let word = matches.get_str("at")?;
+    let (line, column) = match word.split_once(':') {
+        Some((line, column)) => (line, Some(column)),
+        None => (word, None),
+    };
+    Some(At {
+        line: number_of(line),
+        column: column.map(number_of),
+    })
+}
+
+/// The number, or 0.
+fn number_of(word: &str) -> usize {
+    word.parse::<usize>().unwrap_or(0)
 }
 
 /// The values of variables. What has no `=` is a name with an empty value.
@@ -190,7 +233,7 @@ struct Choice {
 }
 
 /// The options, in the order of the help.
-static CHOICES: [Choice; 10] = [
+static CHOICES: [Choice; 11] = [
     Choice {
         name: "format",
         takes: Takes::OneOf("FORMAT", NAMES),
@@ -240,6 +283,11 @@ static CHOICES: [Choice; 10] = [
         name: "assume",
         takes: Takes::Each("NAME=VALUE"),
         help: "The value of a variable in the files of --calls",
+    },
+    Choice {
+        name: "at",
+        takes: Takes::Value("LINE[:COLUMN]"),
+        help: "Which call of the file is meant, with --calls and --format sed",
     },
 ];
 

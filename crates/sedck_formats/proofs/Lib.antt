@@ -1,1 +1,2 @@
 mod NameParts
+pub mod PlainReports

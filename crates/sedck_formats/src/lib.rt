@@ -22,6 +22,7 @@ mod listed;
 mod names;
 mod pages;
 mod parts;
+mod plain;
 mod sarif;
 mod sarif_places;
 mod sarif_rules;
@@ -43,6 +44,7 @@ pub use listed::{Stretch, is_listed, listed_steps};
 pub use names::{Names, PartName, Place};
 pub use pages::page_of;
 pub use parts::push_left_out;
+pub use plain::plain_report;
 pub use sarif::{sarif_report, sarif_unreadable};
 pub use text::{text_findings, text_report};
 pub use words::{

@@ -47,11 +47,11 @@ pub fn page_of(code: Code) -> &'static str {
         | Code::ReadsDiffer
         | Code::WritesDiffer => "FAULTS.md#rejections",
         Code::LoopIdle | Code::LoopGrowing => "MENDING.md#repairing-loops",
+        Code::NoPlainSpelling => "GRAMMAR.md#the-plain-spelling",
         Code::DeniedReads | Code::DeniedWrites | Code::DeniedUnbounded | Code::DeniedWarnings =>
-            "STRANGERS.md#scripts-of-strangers",
+            "TRUST.md#scripts-of-strangers",
         Code::Locale => "TRUST.md#the-locale",
-        Code::RepeatedReference | Code::DeniedSlow =>
-            "STRANGERS.md#what-a-limit-on-steps-doesnt-limit",
+        Code::RepeatedReference | Code::DeniedSlow => "TRUST.md#what-a-limit-on-steps-doesnt-limit",
         Code::OptionsInFirstLine | Code::LooksExtended => {
             "TRUST.md#options-and-the-scripts-first-line"
         }

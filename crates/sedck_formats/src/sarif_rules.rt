@@ -80,6 +80,7 @@ fn meaning_of(code: Code) -> &'static str {
         Code::DeniedUnbounded => "No limit on the steps of the script is known, which is denied",
         Code::DeniedWarnings => "The script has a warning, which is denied",
         Code::DeniedSlow => "The script has what may make a single step slow, which is denied",
+        Code::NoPlainSpelling => "A command has no plain spelling",
         Code::OptionsInFirstLine => "The first line gives sed options of which nothing is known",
         Code::BraceBehindLabel => "A } right behind a label, which some seds read as a part of it",
         Code::LooksExtended => "Bytes that look like an extended regular expression",

@@ -8,9 +8,6 @@ use sedck_flow::Node;
 use sedck_formats::{Letters, Names, Shown, Written, shown_of};
 use std::alloc::{AllocError, Global};
 
-/// What follows the script's end.
-const AFTER_END: &str = "next cycle, or the run ends";
-
 /// The commands that a run may reach, and the steps between them. A box has the place of a command and its line. Kinds of steps
 /// differ in their label and line; the label has `[t]` where the step is taken with the flag that `t` tests alone, and
 /// `[$]` where it is taken on the last line alone. A loop is red and bold. Of a script that is refused or not judged the graph has one box,
@@ -55,7 +52,7 @@ fn push_boxes(out: &mut Written, shown: &Shown, nodes: &[Node]) {
     let mut before = None;
     for node in nodes {
         if before != Some(node.at) {
-            push_box(out, shown, usize::from(node.at), node.at, "", AFTER_END);
+            push_box(out, shown, node.at);
         }
         before = Some(node.at);
     }

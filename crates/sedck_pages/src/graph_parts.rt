@@ -46,22 +46,15 @@ pub(crate) fn push_legend(out: &mut Written, has_loop: bool) {
     out.text("\"];\n");
 }
 
-/// Adds a box with this number: the place of a command, these flags, and the command's line. Without a command it is an oval for the
-/// script's end, with what follows it.
-pub(crate) fn push_box(
-    out: &mut Written,
-    shown: &Shown,
-    number: usize,
-    command: u16,
-    flags: &str,
-    after_end: &str,
-) {
-    let position = shown.source.positions.get(usize::from(command)).copied();
+/// Adds a box for the command of this number: its place, and its line. Without such a command it is an oval for the script's end.
+pub(crate) fn push_box(out: &mut Written, shown: &Shown, command: u16) {
+    let number = usize::from(command);
+    let position = shown.source.positions.get(number).copied();
     out.text("  n").number(number).text(" [label=\"");
     push_escaped_words(out, place_words(out.alloc(), shown.names, position));
-    out.text(flags).text("\\n");
+    out.text("\\n");
     let Some(position) = position else {
-        out.text(after_end).text("\", shape=oval];\n");
+        out.text("next cycle, or the run ends\", shape=oval];\n");
         return;
     };
     let line = command_line(out.alloc(), shown.source, command, position, BOX_WIDTH);

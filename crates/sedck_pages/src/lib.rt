@@ -7,7 +7,6 @@
 mod arrows;
 mod boxes;
 mod dot;
-mod dot_nodes;
 mod flow;
 mod graph_parts;
 mod lanes;
@@ -21,5 +20,4 @@ mod tables;
 mod top;
 
 pub use dot::dot_report;
-pub use dot_nodes::dot_nodes_report;
 pub use page::html_report;

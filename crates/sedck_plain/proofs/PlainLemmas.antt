@@ -6,11 +6,10 @@ use Rattle.sedck_script.specs.Program.{Program}
 use Rattle.sedck_script.specs.Spelling.{Spells}
 use Rattle.sedck_script.specs.Faults.{IsOfText, IsPlaced}
 use Rattle.sedck_script.specs.declared.fault.ScriptFault.{ScriptFault}
-use Rattle.sedck_script.specs.declared.fault.ScriptFault.TheVariants as script
 use Rattle.sedck_plain.specs.declared.plain.Fault.{Fault}
 use Rattle.sedck_plain.specs.declared.plain.Fault.TheVariants as fault
-use Rattle.sedck_plain.specs.Plain.{SpellSame, IsOutOfMemory, IsRefused, ReportsFault}
-use Rattle.sedck_plain.specs.Private.Refusals.{is_memory, fault_of, IsNoRefusal}
+use Rattle.sedck_plain.specs.Plain.{SpellSame, IsOutOfMemory, IsRefused, IsNoRefusal, ReportsFault}
+use Rattle.sedck_plain.specs.Private.Refusals.{is_memory, fault_of}
 
 -- a fault for another cause than memory is one of the text
 pub of_text : (why : ScriptFault) → is_memory why ≡ false → IsOfText why

@@ -1,9 +1,9 @@
 -- Programs that are tried as the same are, and each is tried as the same as itself.
 use Rattle.std.proofs.Common.{◌≡◌, ℕ, Bool, true, false, List, [], ◌∷◌, Option, Some, None, refl, ap, sym, ◌∙◌}
-use Rattle.std.specs.Prelude.{◌&&◌, ◌==◌, ◌↔◌}
+use Rattle.std.specs.Prelude.{◌&&◌, ◌↔◌}
 use Rattle.std.proofs.lemmas.Bool.{false≢true, eqb-true, eq-eqb, and_parts}
 use Rattle.sedck_script.specs.Program.{Pattern, Previous, Expression, Place, Line, Last, Context, Address, NoAddress, One, Two, Part, Text, Newline, Tab, Whole, Group, Substitution, Verb, Label, Branch, Test, Block, Append, Change, Insert, Read, Write, Substitute, Transliterate, Delete, DeleteFirstLine, Get, GetAppend, Hold, HoldAppend, List', Next, NextAppend, Print, PrintFirstLine, Quit, Exchange, LineNumber, Command, Program}
-use Rattle.sedck_plain.specs.Private.SameTrees.{same_numbers, same_number, same_tree}
+use Rattle.sedck_plain.specs.Private.SameTrees.{same_numbers, same_number}
 use Rattle.sedck_plain.specs.Private.SameScripts.{same_flag, same_pattern, same_place, same_address, same_part, same_parts, same_name, same_flags, same_substitution, same_verb, same_command, same_commands, same_programs}
 use Rattle.sedck_plain.proofs.SameTreeLemmas.{both, numbers-same, numbers-itself, number-same, number-itself, tree-same, tree-itself}
 

@@ -1,9 +1,8 @@
 -- What is promised of a script's plain text.
-use Rattle.std.specs.Prelude.{◌≡◌, ℕ, List, Result, Ok, Err}
+use Rattle.std.specs.Prelude.{◌≡◌, ℕ, List, Result, Err}
 use Rattle.sedck_script.specs.Program.{Program}
 use Rattle.sedck_script.specs.Spelling.{Spells}
 use Rattle.sedck_script.specs.Faults.{IsPlaced}
-use Rattle.sedck_script.specs.declared.fault.ScriptFault.{ScriptFault}
 use Rattle.sedck_plain.specs.declared.plain.Fault.{Fault}
 use Rattle.sedck_plain.specs.declared.plain.Fault.TheVariants as fault
 
@@ -21,6 +20,11 @@ IsOutOfMemory _ = ⊥
 abbrev pub IsRefused : {A : Type 0} → Result A Fault → Type 0
 IsRefused (Err (fault.Script why)) = Unit {0}
 IsRefused _ = ⊥
+
+-- the fault isn't that the script is refused
+abbrev pub IsNoRefusal : Fault → Type 0
+IsNoRefusal (fault.Script why) = ⊥
+IsNoRefusal _ = Unit {0}
 
 -- what is at the place of a refused script's fault is as the fault says
 abbrev pub ReportsFault : {A : Type 0} → List ℕ → Result A Fault → Type 0

@@ -2,48 +2,49 @@
 
 use crate::delimiters::{delimiter, push_part};
 use crate::expressions::push_number;
+use crate::lists::Source;
 use crate::same_commands::letter;
 use crate::substitutions::{pattern_text, push_lists, push_substitution};
 use sedck_script::{Address, Command, Pattern, Place, Verb};
-use std::alloc::{AllocError, Global};
+use std::alloc::AllocError;
 
 /// Adds the command, one of these, without the newline after it.
 pub(crate) fn push_command(
-    alloc: Global,
+    source: &Source,
     out: &mut Vec<u8>,
     commands: &[Command],
     command: &Command,
 ) -> Result<(), AllocError> {
-    push_address(alloc, out, &command.address)?;
+    push_address(source, out, &command.address)?;
     if command.negated {
         out.push(b'!')?;
     }
     out.push(letter(&command.verb))?;
-    push_taken(alloc, out, commands, &command.verb)
+    push_taken(source, out, commands, &command.verb)
 }
 
-fn push_address(alloc: Global, out: &mut Vec<u8>, address: &Address) -> Result<(), AllocError> {
+fn push_address(source: &Source, out: &mut Vec<u8>, address: &Address) -> Result<(), AllocError> {
     match address {
         Address::None => Ok(()),
-        Address::One(place) => push_place(alloc, out, place),
+        Address::One(place) => push_place(source, out, place),
         Address::Two(from, to) => {
-            push_place(alloc, out, from)?;
+            push_place(source, out, from)?;
             out.push(b',')?;
-            push_place(alloc, out, to)
+            push_place(source, out, to)
         }
     }
 }
 
-fn push_place(alloc: Global, out: &mut Vec<u8>, place: &Place) -> Result<(), AllocError> {
+fn push_place(source: &Source, out: &mut Vec<u8>, place: &Place) -> Result<(), AllocError> {
     match place {
-        Place::Line(n) => push_number(alloc, out, *n),
+        Place::Line(n) => push_number(source, out, *n),
         Place::Last => Ok(out.push(b'$')?),
-        Place::Context(pattern) => push_context(alloc, out, pattern),
+        Place::Context(pattern) => push_context(source, out, pattern),
     }
 }
 
-fn push_context(alloc: Global, out: &mut Vec<u8>, pattern: &Pattern) -> Result<(), AllocError> {
-    let expression = pattern_text(alloc, pattern)?;
+fn push_context(source: &Source, out: &mut Vec<u8>, pattern: &Pattern) -> Result<(), AllocError> {
+    let expression = pattern_text(source, pattern)?;
     let delimiter = delimiter(&expression, b"", b"");
     if delimiter != b'/' {
         out.push(b'\\')?;
@@ -54,7 +55,7 @@ fn push_context(alloc: Global, out: &mut Vec<u8>, pattern: &Pattern) -> Result<(
 
 /// Adds what the verb takes.
 fn push_taken(
-    alloc: Global,
+    source: &Source,
     out: &mut Vec<u8>,
     commands: &[Command],
     verb: &Verb,
@@ -66,8 +67,8 @@ fn push_taken(
             push_behind(out, b"\\\n", text)
         }
         Verb::Read(name) | Verb::Write(name) => push_behind(out, b" ", name),
-        Verb::Substitute(substitution) => push_substitution(alloc, out, substitution),
-        Verb::Transliterate(from, to) => push_lists(alloc, out, from, to),
+        Verb::Substitute(substitution) => push_substitution(source, out, substitution),
+        Verb::Transliterate(from, to) => push_lists(source, out, from, to),
         _ => Ok(()),
     }
 }

@@ -21,15 +21,23 @@ fn is_free(first: &[u8], second: &[u8], byte: u8) -> bool {
     !first.contains(&byte) && !second.contains(&byte)
 }
 
-/// The first byte that is in neither text: one of the list, or else another one that is no newline and no backslash.
+/// The first byte that is in neither text: one of the list, or else another one of ASCII, a control character last.
 fn free(first: &[u8], second: &[u8]) -> Option<u8> {
     for byte in DELIMITERS {
         if is_free(first, second, *byte) {
             return Some(*byte);
         }
     }
-    for byte in 33..=255u8 {
-        if byte != b'\\' && is_free(first, second, byte) {
+    match free_among(first, second, 33, 127) {
+        Some(byte) => Some(byte),
+        None => free_among(first, second, 1, 33),
+    }
+}
+
+/// The first byte from `start` to before `end` that can be a delimiter and is in neither text.
+fn free_among(first: &[u8], second: &[u8], start: u8, end: u8) -> Option<u8> {
+    for byte in start..end {
+        if byte != b'\\' && byte != b'\n' && is_free(first, second, byte) {
             return Some(byte);
         }
     }

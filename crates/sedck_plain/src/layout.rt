@@ -1,12 +1,19 @@
 //! Scripts: a command on each line, and what is in a block further to the right.
 
 use crate::commands::{is_open, push_command};
+use crate::lists::Source;
 use sedck_script::{Script, Verb};
 use std::alloc::{AllocError, Global};
 
-/// The text of the script, as it is to be checked.
-pub(crate) fn laid_out(alloc: Global, script: &Script) -> Result<Vec<u8>, AllocError> {
+/// The script as it is to be checked, of which this is the text, and where each command begins.
+pub(crate) fn laid_out(
+    alloc: Global,
+    text: &[u8],
+    script: &Script,
+) -> Result<(Vec<u8>, Vec<usize>), AllocError> {
+    let source = Source::new(alloc, text)?;
     let mut out = Vec::new(alloc);
+    let mut starts = Vec::new(alloc);
     if script.quiet() {
         out.extend_from_slice(b"#n\n")?;
     }
@@ -15,8 +22,9 @@ pub(crate) fn laid_out(alloc: Global, script: &Script) -> Result<Vec<u8>, AllocE
     let mut ends = Vec::new(alloc);
     for (place, command) in commands.iter().enumerate() {
         close_blocks(&mut out, &mut ends, place)?;
+        starts.push(out.len())?;
         indent(&mut out, ends.len())?;
-        push_command(alloc, &mut out, commands, command)?;
+        push_command(&source, &mut out, commands, command)?;
         out.push(b'\n')?;
         if let Verb::Block(end) = command.verb {
             ends.push(end)?;
@@ -28,7 +36,7 @@ pub(crate) fn laid_out(alloc: Global, script: &Script) -> Result<Vec<u8>, AllocE
             out.pop();
         }
     }
-    Ok(out)
+    Ok((out, starts))
 }
 
 /// Closes the blocks that end at the place.

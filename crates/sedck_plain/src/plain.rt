@@ -3,11 +3,12 @@
 ghost use Rattle.std.specs.Prelude.{◌≡◌, ◌↔◌, true, false, IfOk, IfErr};
 ghost use Rattle.sedck_script.specs.Program.{Program};
 ghost use Rattle.sedck_script.specs.Spelling.{Spells};
-ghost use Rattle.sedck_plain.specs.Plain.{SpellSame, IsOutOfMemory, IsRefused, ReportsFault};
-ghost use Rattle.sedck_plain.specs.Private.Refusals.{is_memory, fault_of, IsNoRefusal};
+ghost use Rattle.sedck_plain.specs.Plain.{SpellSame, IsOutOfMemory, IsRefused, IsNoRefusal, ReportsFault};
+ghost use Rattle.sedck_plain.specs.Private.Refusals.{is_memory, fault_of};
 
 use crate::layout::laid_out;
 use crate::same::same_program;
+use crate::same_commands::first_difference;
 use sedck_script::{Script, ScriptFault, parse};
 use std::alloc::{AllocError, Global};
 
@@ -16,8 +17,8 @@ use std::alloc::{AllocError, Global};
 pub enum Fault {
     /// The script is refused.
     Script(ScriptFault),
-    /// What was printed spells no script, or another one.
-    NoSpelling,
+    /// What was printed spells no script, or another one: the command at this place among the commands is read otherwise.
+    NoSpelling(usize),
     OutOfMemory,
 }
 
@@ -31,7 +32,7 @@ pub fn plain_text(alloc: Global, script: &[u8]) -> Result<Vec<u8>, Fault>
     ensures reported { ReportsFault script.now result }
 {
     match parse(alloc, script) {
-        Ok(program) => checked(alloc, &program),
+        Ok(program) => plain_of(alloc, script, &program),
         Err(fault) => Err(refusal(fault)),
     }
 }
@@ -56,19 +57,35 @@ fn refusal(fault: ScriptFault) -> Fault
     }
 }
 
-/// What is printed of the script, where it spells the script.
-fn checked(alloc: Global, program: &Script) -> Result<Vec<u8>, Fault>
+/// The same for a script that was read from the text: a text that spells it.
+///
+/// Of the script's own text only the order of bytes above 127 in bracket lists is taken.
+pub fn plain_of(alloc: Global, script: &[u8], program: &Script) -> Result<Vec<u8>, Fault>
     ensures spelled { IfOk result (λ text. Spells text.items program.now) }
     ensures fault { IfErr result IsNoRefusal }
 {
-    let Ok(text) = laid_out(alloc, program) else {
+    let Ok((text, starts)) = laid_out(alloc, script, program) else {
         return Err(Fault::OutOfMemory);
     };
     match spells(alloc, &text, program) {
         Ok(true) => Ok(text),
-        Ok(false) => Err(Fault::NoSpelling),
+        Ok(false) => Err(Fault::NoSpelling(misread(alloc, &text, &starts, program))),
         Err(_) => Err(Fault::OutOfMemory),
     }
+}
+
+/// The place of the command of this text that is read otherwise than it was, where the commands begin at these offsets.
+fn misread(alloc: Global, text: &[u8], starts: &[usize], program: &Script) -> usize {
+    match parse(alloc, text) {
+        Ok(other) => first_difference(program.commands(), other.commands()),
+        Err(fault) => place_at(starts, fault.place().unwrap_or(0)),
+    }
+}
+
+/// The place of the last command that begins at the offset or before it.
+fn place_at(starts: &[usize], offset: usize) -> usize {
+    let begun = starts.iter().take_while(|start| **start <= offset).count();
+    begun.saturating_sub(1)
 }
 
 /// Whether the text spells this script.

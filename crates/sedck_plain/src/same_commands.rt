@@ -401,3 +401,16 @@ pub(crate) fn same_commands(commands: &[Command], others: &[Command]) -> bool
     }
     others.len() <= commands.len()
 }
+
+/// The first place at which the commands differ.
+pub(crate) fn first_difference(commands: &[Command], others: &[Command]) -> usize {
+    for (place, command) in commands.iter().enumerate() {
+        let Some(other) = others.get(place) else {
+            return place;
+        };
+        if !same_command(command, other) {
+            return place;
+        }
+    }
+    commands.len().saturating_sub(1)
+}

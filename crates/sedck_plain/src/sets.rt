@@ -2,11 +2,15 @@
 //!
 //! The members are listed, or what the set lacks after a `^`: whichever is mostly ASCII. Bytes are in order, four or more in a
 //! row as a range; `]` is first, and a backslash, `[`, `^` and `-` are last, so that no letter is right after the backslash,
-//! which ssed would read as an escape. None of these and no newline ends a range. The classes `cntrl`, `space` and `punct` are
-//! written by name where they are listed whole.
+//! which ssed would read as an escape. A `-` is first where else a `]` would be right before it, and a `[` has another byte after
+//! it before a class. None of these and no newline ends a range. The classes `cntrl`, `space` and `punct` are written by name
+//! where they are listed whole; others that the script's own list has stay, since they have more characters in other locales.
+//! Bytes above 127 have the order that they have in that list, so that what is a character stays one; a list whose ranges have
+//! such bytes stays as it is.
 
+use crate::lists::{Source, contains};
 use sedck_bre::ByteSet;
-use std::alloc::{AllocError, Global};
+use std::alloc::AllocError;
 
 /// Whether each byte is listed.
 type Listed = [bool; 256];
@@ -29,13 +33,34 @@ fn high_count(bytes: &Listed) -> usize {
     bytes[128..].iter().filter(|is| **is).count()
 }
 
-/// A class that is written by its name.
+/// A class that may be written by its name.
 #[derive(Clone, Copy)]
 enum Class {
     Control,
     Space,
     Punctuation,
+    Blank,
+    Upper,
+    Lower,
+    Letter,
+    LetterOrDigit,
+    Graphic,
+    Printable,
 }
+
+/// In the order in which they are written.
+const CLASSES: &[Class; 10] = &[
+    Class::Control,
+    Class::Space,
+    Class::Punctuation,
+    Class::Blank,
+    Class::Upper,
+    Class::Lower,
+    Class::Letter,
+    Class::LetterOrDigit,
+    Class::Graphic,
+    Class::Printable,
+];
 
 impl Class {
     fn has(self, byte: u8) -> bool {
@@ -43,6 +68,13 @@ impl Class {
             Class::Control => byte < 32 || byte == 127,
             Class::Space => byte == b' ' || (byte >= 9 && byte <= 13),
             Class::Punctuation => byte.is_ascii_punctuation(),
+            Class::Blank => byte == b' ' || byte == 9,
+            Class::Upper => byte >= b'A' && byte <= b'Z',
+            Class::Lower => byte >= b'a' && byte <= b'z',
+            Class::Letter => byte.is_ascii_alphabetic(),
+            Class::LetterOrDigit => byte.is_ascii_alphanumeric(),
+            Class::Graphic => byte > 32 && byte < 127,
+            Class::Printable => byte >= 32 && byte < 127,
         }
     }
 
@@ -51,6 +83,22 @@ impl Class {
             Class::Control => b"[:cntrl:]",
             Class::Space => b"[:space:]",
             Class::Punctuation => b"[:punct:]",
+            Class::Blank => b"[:blank:]",
+            Class::Upper => b"[:upper:]",
+            Class::Lower => b"[:lower:]",
+            Class::Letter => b"[:alpha:]",
+            Class::LetterOrDigit => b"[:alnum:]",
+            Class::Graphic => b"[:graph:]",
+            Class::Printable => b"[:print:]",
+        }
+    }
+
+    /// Whether it is written by its name wherever all its bytes are left.
+    fn is_short(self, rest: &Listed) -> bool {
+        match self {
+            Class::Control | Class::Space => true,
+            Class::Punctuation => !is_graphic(rest),
+            _ => false,
         }
     }
 }
@@ -79,17 +127,54 @@ fn is_complement(members: &Listed, others: &Listed) -> bool {
 }
 
 /// Adds the bracket list of the set.
-pub(crate) fn push_set(alloc: Global, out: &mut Vec<u8>, set: &ByteSet) -> Result<(), AllocError> {
+pub(crate) fn push_set(
+    source: &Source,
+    out: &mut Vec<u8>,
+    set: &ByteSet,
+) -> Result<(), AllocError> {
     let members = listed(set, true);
     let others = listed(set, false);
-    if is_complement(&members, &others) {
-        out.extend_from_slice(b"[^")?;
-        push_listed(alloc, out, others, true)?;
-    } else {
-        out.push(b'[')?;
-        push_listed(alloc, out, members, false)?;
+    let complement = is_complement(&members, &others);
+    let bytes = if complement { others } else { members };
+    let mut high = Vec::new(source.alloc);
+    let written = source.written(set);
+    if let Some(text) = written {
+        push_high(&mut high, text)?;
+        if !is_high_part(&high, &bytes) {
+            return out.extend_from_slice(text);
+        }
     }
+    let start: &[u8] = if complement { b"[^" } else { b"[" };
+    out.extend_from_slice(start)?;
+    push_listed(
+        source,
+        out,
+        bytes,
+        complement,
+        written.unwrap_or(b""),
+        &high,
+    )?;
     Ok(out.push(b']')?)
+}
+
+/// Adds the bytes of the text that are no ASCII.
+fn push_high(out: &mut Vec<u8>, text: &[u8]) -> Result<(), AllocError> {
+    for byte in text {
+        if *byte > 127 {
+            out.push(*byte)?;
+        }
+    }
+    Ok(())
+}
+
+/// Whether these are the listed bytes that are no ASCII, each once at least.
+fn is_high_part(high: &[u8], bytes: &Listed) -> bool {
+    for byte in 128..=255u8 {
+        if bytes[usize::from(byte)] != high.contains(&byte) {
+            return false;
+        }
+    }
+    true
 }
 
 /// What a list has beside the bytes and ranges in order.
@@ -100,25 +185,41 @@ struct Marks {
     opening: bool,
     caret: bool,
     hyphen: bool,
+    /// A listed byte that may be written once more behind a `[`.
+    filler: Option<u8>,
 }
 
-/// Adds what is listed.
+/// Adds what is listed, with the classes that the written list has. Those that are no ASCII are these, if there are any, in this
+/// order.
 fn push_listed(
-    alloc: Global,
+    source: &Source,
     out: &mut Vec<u8>,
     bytes: Listed,
     complement: bool,
+    written: &[u8],
+    high: &[u8],
 ) -> Result<(), AllocError> {
     let mut rest = bytes;
-    let mut classes = Vec::new(alloc);
-    take_class(&mut classes, &mut rest, Class::Control)?;
-    take_class(&mut classes, &mut rest, Class::Space)?;
-    if !is_graphic(&rest) {
-        take_class(&mut classes, &mut rest, Class::Punctuation)?;
+    for byte in high {
+        rest[usize::from(*byte)] = false;
     }
-    let mut inside = Vec::new(alloc);
-    let marks = push_runs(&mut inside, &rest)?;
+    let mut classes = Vec::new(source.alloc);
+    push_classes(&mut classes, &bytes, &mut rest, written)?;
+    let mut inside = Vec::new(source.alloc);
+    let mut marks = push_runs(&mut inside, &rest)?;
+    marks.filler = filler_of(&bytes);
+    inside.extend_from_slice(high)?;
     push_marked(out, &marks, &inside, &classes, complement)
+}
+
+/// The first printable byte that is listed and has no meaning in lists, or else a tab.
+fn filler_of(bytes: &Listed) -> Option<u8> {
+    for byte in 32..127u8 {
+        if bytes[usize::from(byte)] && !b"-.:=[\\]^".contains(&byte) {
+            return Some(byte);
+        }
+    }
+    if bytes[9] { Some(b'\t') } else { None }
 }
 
 /// Whether all graphic characters are listed.
@@ -126,17 +227,39 @@ fn is_graphic(bytes: &Listed) -> bool {
     !bytes[33..127].contains(&false)
 }
 
-/// Writes the class by its name, and takes its bytes away, where all of them are listed.
-fn take_class(classes: &mut Vec<u8>, bytes: &mut Listed, class: Class) -> Result<(), AllocError> {
-    if !is_whole(bytes, class) {
-        return Ok(());
+/// Adds the classes, and takes their bytes away from the rest.
+fn push_classes(
+    out: &mut Vec<u8>,
+    bytes: &Listed,
+    rest: &mut Listed,
+    written: &[u8],
+) -> Result<(), AllocError> {
+    for class in CLASSES {
+        if is_named(bytes, *class, written) {
+            take_bytes(rest, *class);
+        }
     }
+    for class in CLASSES {
+        let named = is_named(bytes, *class, written);
+        if named || (class.is_short(rest) && is_whole(rest, *class)) {
+            take_bytes(rest, *class);
+            out.extend_from_slice(class.text())?;
+        }
+    }
+    Ok(())
+}
+
+/// Whether the written list has the class, and all its bytes are listed.
+fn is_named(bytes: &Listed, class: Class, written: &[u8]) -> bool {
+    contains(written, class.text()) && is_whole(bytes, class)
+}
+
+fn take_bytes(bytes: &mut Listed, class: Class) {
     for byte in 0..=255u8 {
         if class.has(byte) {
             bytes[usize::from(byte)] = false;
         }
     }
-    classes.extend_from_slice(class.text())
 }
 
 /// Adds the bytes in order, those in a row as a range. Answers which marks are to be written elsewhere.
@@ -147,6 +270,7 @@ fn push_runs(out: &mut Vec<u8>, bytes: &Listed) -> Result<Marks, AllocError> {
         opening: false,
         caret: false,
         hyphen: false,
+        filler: None,
     };
     let mut covered = 0;
     for byte in 0..=255u8 {
@@ -221,15 +345,64 @@ fn push_marked(
         let text: &[u8] = if marks.hyphen { b"-^" } else { b"[.^.]" };
         return out.extend_from_slice(text);
     }
-    push_if(out, marks.closing, b']')?;
+    let first = is_hyphen_first(marks, inside, classes);
+    push_if(out, first, b'-')?;
+    push_closing(out, marks, first)?;
     out.extend_from_slice(inside)?;
-    if marks.backslash {
-        out.extend_from_slice(b"\\\\")?;
-    }
-    push_if(out, marks.opening, b'[')?;
+    let is_last = marks.backslash && marks.filler.is_none() && is_opening_last(marks, complement);
+    push_backslash(out, marks.backslash && !is_last)?;
+    push_opening(out, marks, !classes.is_empty(), complement)?;
+    push_backslash(out, is_last)?;
     out.extend_from_slice(classes)?;
     push_if(out, marks.caret, b'^')?;
-    push_if(out, marks.hyphen, b'-')
+    push_if(out, marks.hyphen && !first, b'-')
+}
+
+/// Whether a `]` would be right before a last `-`, which toybox would take for a range from `]` to `]`, and leave out.
+fn is_hyphen_first(marks: &Marks, inside: &[u8], classes: &[u8]) -> bool {
+    let after_closing = marks.closing && inside.is_empty() && !marks.backslash && !marks.opening;
+    marks.hyphen && !marks.caret && (after_closing || !classes.is_empty())
+}
+
+/// Adds the `]` that is listed: as a symbol, where it isn't the first byte.
+fn push_closing(out: &mut Vec<u8>, marks: &Marks, behind: bool) -> Result<(), AllocError> {
+    if marks.closing && behind {
+        out.extend_from_slice(b"[.].]")
+    } else {
+        push_if(out, marks.closing, b']')
+    }
+}
+
+/// Whether a `[` is last in a list that begins with `[^]`.
+fn is_opening_last(marks: &Marks, complement: bool) -> bool {
+    complement && marks.closing && marks.opening && !marks.caret && !marks.hyphen
+}
+
+/// Adds the backslash that is listed.
+fn push_backslash(out: &mut Vec<u8>, is: bool) -> Result<(), AllocError> {
+    if is {
+        out.extend_from_slice(b"\\\\")
+    } else {
+        Ok(())
+    }
+}
+
+/// Adds the `[` that is listed. Before a class ssed would miss the class, and behind `[^]` toybox and ssed take a last `[` for the
+/// begin of another list: there it has a byte after it that is listed anyway, or the backslash.
+fn push_opening(
+    out: &mut Vec<u8>,
+    marks: &Marks,
+    is_before_class: bool,
+    complement: bool,
+) -> Result<(), AllocError> {
+    if !marks.opening {
+        return Ok(());
+    }
+    out.push(b'[')?;
+    match marks.filler {
+        Some(byte) if is_before_class || is_opening_last(marks, complement) => Ok(out.push(byte)?),
+        _ => Ok(()),
+    }
 }
 
 /// Whether something is written before a `^`.

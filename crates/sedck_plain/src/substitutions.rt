@@ -2,27 +2,28 @@
 
 use crate::delimiters::{delimiter, push_part};
 use crate::expressions::{push_number, push_tree};
+use crate::lists::Source;
 use sedck_script::{Part, Pattern, Substitution};
-use std::alloc::{AllocError, Global};
+use std::alloc::AllocError;
 
 /// The text of an expression; none for the empty one.
-pub(crate) fn pattern_text(alloc: Global, pattern: &Pattern) -> Result<Vec<u8>, AllocError> {
-    let mut text = Vec::new(alloc);
+pub(crate) fn pattern_text(source: &Source, pattern: &Pattern) -> Result<Vec<u8>, AllocError> {
+    let mut text = Vec::new(source.alloc);
     if let Pattern::Expr(expression) = pattern {
-        push_tree(expression.body(), alloc, &mut text)?;
+        push_tree(expression.body(), source, &mut text)?;
     }
     Ok(text)
 }
 
 /// Adds what `s` takes: delimited parts and flags.
 pub(crate) fn push_substitution(
-    alloc: Global,
+    source: &Source,
     out: &mut Vec<u8>,
     substitution: &Substitution,
 ) -> Result<(), AllocError> {
-    let expression = pattern_text(alloc, &substitution.pattern)?;
-    let mut literal = Vec::new(alloc);
-    let mut fixed = Vec::new(alloc);
+    let expression = pattern_text(source, &substitution.pattern)?;
+    let mut literal = Vec::new(source.alloc);
+    let mut fixed = Vec::new(source.alloc);
     push_literals(&mut literal, &substitution.parts, 1)?;
     push_literals(&mut fixed, &substitution.parts, 2)?;
     // References and escapes are of these bytes.
@@ -34,9 +35,9 @@ pub(crate) fn push_substitution(
     };
     out.push(delimiter)?;
     push_part(out, &expression, delimiter)?;
-    push_parts(alloc, out, &substitution.parts, delimiter)?;
+    push_parts(source, out, &substitution.parts, delimiter)?;
     out.push(delimiter)?;
-    push_flags(alloc, out, substitution)
+    push_flags(source, out, substitution)
 }
 
 /// Adds the texts of the replacement that are this long at least.
@@ -58,17 +59,28 @@ fn is_text(part: Option<&Part>) -> bool {
     }
 }
 
-/// Whether an `x` is a text of its own beside another text: it was escaped, so it was the delimiter.
+/// Whether an `x` is a text of its own beside a bare one: it was escaped, so it was the delimiter.
 fn has_escaped_letter(parts: &[Part]) -> bool {
-    let mut after_text = false;
+    let mut after_bare = false;
     for (place, part) in parts.iter().enumerate() {
-        let beside = after_text || is_text(parts.get(place + 1));
+        let beside = after_bare || is_bare(parts.get(place + 1));
         if beside && is_letter(part) {
             return true;
         }
-        after_text = is_text(Some(part));
+        after_bare = is_bare(Some(part));
     }
     false
+}
+
+/// Whether the part is a text that is written without a backslash before it, beside another text too.
+fn is_bare(part: Option<&Part>) -> bool {
+    match part {
+        Some(Part::Text(text)) => match single(text) {
+            Some(byte) => byte.is_ascii_alphanumeric(),
+            None => true,
+        },
+        _ => false,
+    }
 }
 
 fn is_letter(part: &Part) -> bool {
@@ -80,7 +92,7 @@ fn is_letter(part: &Part) -> bool {
 
 /// Adds the parts of the replacement.
 fn push_parts(
-    alloc: Global,
+    source: &Source,
     out: &mut Vec<u8>,
     parts: &[Part],
     delimiter: u8,
@@ -88,7 +100,7 @@ fn push_parts(
     let mut after_text = false;
     for (place, part) in parts.iter().enumerate() {
         let beside = after_text || is_text(parts.get(place + 1));
-        push_replacement(alloc, out, part, beside, delimiter)?;
+        push_replacement(source, out, part, beside, delimiter)?;
         after_text = is_text(Some(part));
     }
     Ok(())
@@ -96,7 +108,7 @@ fn push_parts(
 
 /// Adds one part of the replacement. Beside another text, one that can be escaped is: each is a text of its own.
 fn push_replacement(
-    alloc: Global,
+    source: &Source,
     out: &mut Vec<u8>,
     part: &Part,
     beside: bool,
@@ -109,7 +121,7 @@ fn push_replacement(
         Part::Whole => Ok(out.push(b'&')?),
         Part::Group(k) => {
             out.push(b'\\')?;
-            push_number(alloc, out, u32::from(*k))
+            push_number(source, out, u32::from(*k))
         }
     }
 }
@@ -142,12 +154,12 @@ fn is_escaped(byte: u8, beside: bool, delimiter: u8) -> bool {
 
 /// Adds the flags: the number, `g`, `p`, and `w` with its name.
 fn push_flags(
-    alloc: Global,
+    source: &Source,
     out: &mut Vec<u8>,
     substitution: &Substitution,
 ) -> Result<(), AllocError> {
     if let Some(n) = substitution.nth {
-        push_number(alloc, out, n)?;
+        push_number(source, out, n)?;
     }
     push_flag(out, substitution.global, b'g')?;
     push_flag(out, substitution.print, b'p')?;
@@ -166,8 +178,8 @@ fn push_flag(out: &mut Vec<u8>, is: bool, flag: u8) -> Result<(), AllocError> {
 }
 
 /// A list of `y`, before its delimiter is escaped.
-fn list_text(alloc: Global, bytes: &[u8]) -> Result<Vec<u8>, AllocError> {
-    let mut text = Vec::new(alloc);
+fn list_text(source: &Source, bytes: &[u8]) -> Result<Vec<u8>, AllocError> {
+    let mut text = Vec::new(source.alloc);
     for byte in bytes {
         match byte {
             b'\\' => text.extend_from_slice(b"\\\\")?,
@@ -180,13 +192,13 @@ fn list_text(alloc: Global, bytes: &[u8]) -> Result<Vec<u8>, AllocError> {
 
 /// Adds what `y` takes: two lists.
 pub(crate) fn push_lists(
-    alloc: Global,
+    source: &Source,
     out: &mut Vec<u8>,
     from: &[u8],
     to: &[u8],
 ) -> Result<(), AllocError> {
-    let from = list_text(alloc, from)?;
-    let to = list_text(alloc, to)?;
+    let from = list_text(source, from)?;
+    let to = list_text(source, to)?;
     let delimiter = delimiter(&from, &to, b"");
     out.push(delimiter)?;
     push_part(out, &from, delimiter)?;

@@ -68,6 +68,10 @@ pub enum Code {
     DeniedWarnings,
     DeniedSlow,
 
+    // The format `sed`.
+    /// A command that has no plain spelling.
+    NoPlainSpelling,
+
     // Warnings of how the script looks.
     OptionsInFirstLine,
     BraceBehindLabel,
@@ -187,6 +191,7 @@ impl Code {
             Code::DeniedUnbounded => "denied-unbounded",
             Code::DeniedWarnings => "denied-warnings",
             Code::DeniedSlow => "denied-slow",
+            Code::NoPlainSpelling => "no-plain-spelling",
             Code::OptionsInFirstLine => "options-in-first-line",
             Code::BraceBehindLabel => "brace-behind-label",
             Code::LooksExtended => "looks-extended",

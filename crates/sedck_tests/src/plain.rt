@@ -6,7 +6,7 @@ use std::alloc::Global;
 use std::process::Abort;
 
 /// A script, and its plain text.
-static SCRIPTS: [(&'static str, &'static str); 32] = [
+static SCRIPTS: [(&'static str, &'static str); 38] = [
     ("", ""),
     ("#n", "#n\n"),
     ("p;p", "p\np\n"),
@@ -37,12 +37,24 @@ static SCRIPTS: [(&'static str, &'static str); 32] = [
     ("s/\\(^*a\\)*\\1//", "s/\\(^\\*a\\)*\\1//\n"),
     ("s/[]a-c0123\\\\^[-]//", "s/[]0-3abc\\\\[^-]//\n"),
     ("s/[[:punct:][:space:]x]//", "s/[x[:space:][:punct:]]//\n"),
-    ("s/[^[:print:]]//", "s/[^ -~]//\n"),
+    ("s/[^[:print:]]//", "s/[^[:print:]]//\n"),
     ("s/[[:cntrl:]]//", "s/[[:cntrl:]]//\n"),
     (
         "s/[[.^.]]//;s/[[.^.]-]//;s/[^-^]//",
         "s/[[.^.]]//\ns/[-^]//\ns/[^^-]//\n",
     ),
+    (
+        "s/[a[:alnum:]_]//;s/[a-zA-Z0-9]//",
+        "s/[_[:alnum:]]//\ns/[0-9A-Za-z]//\n",
+    ),
+    ("s/[]-]//", "s/[-[.].]]//\n"),
+    (
+        "s/[[:blank:]-]//;s/[][:blank:]-]//",
+        "s/[-[:blank:]]//\ns/[-[.].][:blank:]]//\n",
+    ),
+    ("s/[[[:alpha:]]//", "s/[[A[:alpha:]]//\n"),
+    ("s/[^]ba[]//;s/[^][\\]//", "s/[^]ab[a]//\ns/[^][\\\\]//\n"),
+    ("s/a/\\/x\\//", "s,a,\\/x\\/,\n"),
     ("//p;s/a/b/", "//p\ns/a/b/\n"),
     ("s^[/,:|#%@!~=_;\"]^x^", "s$[!\"#%,/:;=@_|~]$x$\n"),
 ];

@@ -12,6 +12,11 @@ IsContents given left failed Other = given ≡ false
 IsContents given left failed TooLong = Unit {0}
 IsContents given left failed Unreadable = IsTrue failed
 
+-- a text is these bytes, where they are known
+abbrev pub IsTextOf : Option (List ℕ) → Contents → Type 0
+IsTextOf known (Text kind text) = IfSome known (λ bytes. text.items ≡ bytes)
+IsTextOf known _ = Unit {0}
+
 -- the status of a file that holds this
 abbrev pub ContentsStatus : (List ℕ → Option Holds) → Denied → Contents → ℕ → Type 0
 ContentsStatus found denied (Text kind text) status = TextStatus (found text.items) denied text.items status

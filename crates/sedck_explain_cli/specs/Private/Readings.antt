@@ -1,6 +1,6 @@
 -- What the reader has read.
 use Rattle.std.specs.Prelude.{map, option_map}
-use Rattle.sedck_explain_cli.specs.Readings.{Awaited, AnyWord, ItsCertificate, ItsDenied, ItsLocale, OtherValue, OnlyPaths, Asked}
+use Rattle.sedck_explain_cli.specs.Readings.{Awaited, AnyWord, ItsCertificate, ItsDenied, ItsLocale, ItsFormat, OtherValue, OnlyPaths, Asked}
 use Rattle.sedck_explain_cli.specs.declared.reading.Reading.{Reading}
 use Rattle.sedck_explain_cli.specs.declared.reading.Next.{Next}
 use Rattle.sedck_explain_cli.specs.declared.reading.Next.TheVariants as next
@@ -10,6 +10,7 @@ awaited_of next.Any = AnyWord
 awaited_of next.Certificate = ItsCertificate
 awaited_of next.Denied = ItsDenied
 awaited_of next.Locale = ItsLocale
+awaited_of next.Format = ItsFormat
 awaited_of next.Other = OtherValue
 awaited_of next.Path = OnlyPaths
 
@@ -18,6 +19,7 @@ asked_of r = record {
   certificate = option_map (λ path. path.now) r.certificate;
   denied = option_map (λ names. names.now) r.denied;
   locale = option_map (λ name. name.now) r.locale;
+  format = option_map (λ name. name.now) r.format;
   sed = r.sed;
   calls = r.calls;
   paths = map (λ path. path.now) r.paths.items;

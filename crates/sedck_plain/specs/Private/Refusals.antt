@@ -11,8 +11,3 @@ is_memory _ = false
 
 abbrev pub fault_of : ScriptFault → Fault
 fault_of why = if is_memory why then fault.OutOfMemory else fault.Script why
-
--- the fault isn't that the script is refused
-abbrev pub IsNoRefusal : Fault → Type 0
-IsNoRefusal (fault.Script why) = ⊥
-IsNoRefusal _ = Unit {0}

@@ -1,10 +1,10 @@
 //! What the engines answer and write, where streams fail after each byte and where none fails, and of texts that are too long.
 use super::fakes::{Reader, sink_with, source_of};
-use super::runs::{Ends, Engine, is_answered, is_answered_over_std, outcome};
+use super::runs::{Ends, Engine, Run, is_answered, is_answered_over_std, outcome};
 use super::{ACCEPTED, AMPLE, LOOP, LOOP_CERTIFICATE, LOOP_TEXT};
 use crate::texts::require;
 use sedck_cert::streams::FromRead;
-use std::alloc::Global;
+use std::alloc::AllocGlobal;
 use std::io::ErrorKind;
 use std::process::Abort;
 
@@ -92,28 +92,36 @@ static KINDS: [ErrorKind; 40] = [
     ErrorKind::Other,
 ];
 
+/// The run of the engine over the script and a certificate, of which this is due.
+fn run_of<'a>(
+    engine: &'a Engine,
+    script: &'a str,
+    ends: Ends,
+    answer: &'a str,
+    report: &'a str,
+) -> Run<'a> {
+    Run {
+        engine,
+        script,
+        certificate: LOOP_TEXT,
+        ends,
+        answer,
+        report,
+    }
+}
+
 /// Whether the failed read is reported, and nothing is written.
-fn fails_at(
-    rt: &impl Abort,
-    alloc: Global,
-    engine: &Engine,
-    script: &str,
-    ends: &Ends,
-    fault: &str,
-) {
-    let (texts, answer) = ((script, LOOP_TEXT), (fault, ""));
-    is_answered(rt, alloc, engine, texts, 1, ends, answer);
-    is_answered(rt, alloc, engine, texts, 2, ends, answer);
-    let kind = Some(ErrorKind::Interrupted);
-    is_answered_over_std(rt, alloc, engine, texts, ends, kind, answer);
+fn fails_at(rt: &(impl Abort + AllocGlobal), run: &Run) {
+    is_answered(rt, run, 1);
+    is_answered(rt, run, 2);
+    is_answered_over_std(rt, run, Some(ErrorKind::Interrupted));
 }
 
 /// Whether an error of each kind is reported where the script's reads fail, or the certificate's.
-fn fails_with_each_kind(
-    rt: &impl Abort,
-    alloc: Global,
-    engine: &Engine,
-    script: &str,
+fn fails_with_each_kind<'a>(
+    rt: &(impl Abort + AllocGlobal),
+    engine: &'a Engine,
+    script: &'a str,
     is_certificate: bool,
 ) {
     let (ends, fault) = if is_certificate {
@@ -122,8 +130,7 @@ fn fails_with_each_kind(
         ((1, AMPLE, 0), "cannot read script")
     };
     for kind in &KINDS {
-        let (texts, answer) = ((script, LOOP_TEXT), (fault, ""));
-        is_answered_over_std(rt, alloc, engine, texts, &ends, Some(*kind), answer);
+        is_answered_over_std(rt, &run_of(engine, script, ends, fault, ""), Some(*kind));
     }
 }
 
@@ -138,9 +145,9 @@ fn failing_sources(rt: HostRuntime) {
             } else {
                 ((before, 0, AMPLE), "cannot read script")
             };
-            fails_at(&rt, rt.alloc(), engine, *script, &ends, fault);
+            fails_at(&rt, &run_of(engine, *script, ends, fault, ""));
         }
-        fails_with_each_kind(&rt, rt.alloc(), engine, *script, *is_certificate);
+        fails_with_each_kind(&rt, engine, *script, *is_certificate);
     }
 }
 
@@ -154,35 +161,33 @@ fn sources_that_failed_before(rt: HostRuntime) {
     let mut unused = source_of(b"", AMPLE, AMPLE);
     let mut out = sink_with(rt.alloc(), AMPLE, AMPLE);
     for wanted in ["cannot read script", "yes"] {
-        let found = outcome(
-            &rt,
-            rt.alloc(),
-            &Engine::Files,
-            &mut script,
-            &mut unused,
-            &mut out,
-        );
+        let found = outcome(&rt, &Engine::Files, &mut script, &mut unused, &mut out);
         require(&rt, found.as_str() == wanted, b"read twice");
     }
 }
 
 /// Whether just the front of a report goes out where there is no more room, and this is said.
-fn goes_out(rt: &impl Abort, alloc: Global, engine: &Engine, script: &str, answer: (&str, &str)) {
-    let (texts, ends) = ((script, LOOP_TEXT), (AMPLE, AMPLE, answer.1.len()));
-    is_answered(rt, alloc, engine, texts, 1, &ends, answer);
-    is_answered(rt, alloc, engine, texts, 4, &ends, answer);
+fn goes_out<'a>(
+    rt: &(impl Abort + AllocGlobal),
+    engine: &'a Engine,
+    script: &'a str,
+    answer: &'a str,
+    front: &'a str,
+) {
+    let ends = (AMPLE, AMPLE, front.len());
+    let run = run_of(engine, script, ends, answer, front);
+    is_answered(rt, &run, 1);
+    is_answered(rt, &run, 4);
     // a call that takes no byte, and one that is interrupted
-    is_answered_over_std(rt, alloc, engine, texts, &ends, None, answer);
-    let kind = Some(ErrorKind::Interrupted);
-    is_answered_over_std(rt, alloc, engine, texts, &ends, kind, answer);
+    is_answered_over_std(rt, &run, None);
+    is_answered_over_std(rt, &run, Some(ErrorKind::Interrupted));
 }
 
 /// Whether a write that fails at once is reported, whatever its error.
-fn fails_at_once(rt: &impl Abort, alloc: Global, engine: &Engine, script: &str) {
-    let ends = (AMPLE, AMPLE, 0);
+fn fails_at_once<'a>(rt: &(impl Abort + AllocGlobal), engine: &'a Engine, script: &'a str) {
+    let run = run_of(engine, script, (AMPLE, AMPLE, 0), "cannot write", "");
     for kind in &KINDS {
-        let (texts, answer) = ((script, LOOP_TEXT), ("cannot write", ""));
-        is_answered_over_std(rt, alloc, engine, texts, &ends, Some(*kind), answer);
+        is_answered_over_std(rt, &run, Some(*kind));
     }
 }
 
@@ -191,10 +196,10 @@ fn failing_sinks(rt: HostRuntime) {
     for (engine, script, told, report) in &SINKS {
         for room in 0..report.len() {
             let front = report.get(..room).expect(&rt, "a beginning");
-            goes_out(&rt, rt.alloc(), engine, *script, ("cannot write", front));
+            goes_out(&rt, engine, *script, "cannot write", front);
         }
-        goes_out(&rt, rt.alloc(), engine, *script, (*told, *report));
-        fails_at_once(&rt, rt.alloc(), engine, *script);
+        goes_out(&rt, engine, *script, *told, *report);
+        fails_at_once(&rt, engine, *script);
     }
 }
 
@@ -250,12 +255,19 @@ static LIMITS: [(Engine, bool, usize, usize, &'static str); 7] = [
 fn limits(rt: HostRuntime) {
     let long = "\n".repeat(rt.alloc(), 1_700_000).expect(&rt, "memory");
     for (engine, is_certificate, script_end, certificate_end, fault) in &LIMITS {
-        let texts = if *is_certificate {
+        let (script, certificate) = if *is_certificate {
             ("", long.as_str())
         } else {
             (long.as_str(), "")
         };
-        let (ends, answer) = ((*script_end, *certificate_end, 0), (*fault, ""));
-        is_answered(&rt, rt.alloc(), engine, texts, 100_000, &ends, answer);
+        let run = Run {
+            engine,
+            script,
+            certificate,
+            ends: (*script_end, *certificate_end, 0),
+            answer: *fault,
+            report: "",
+        };
+        is_answered(&rt, &run, 100_000);
     }
 }

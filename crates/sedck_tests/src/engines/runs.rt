@@ -3,7 +3,7 @@ use super::fakes::{Reader, Writer, sink_with, source_of};
 use crate::texts::require;
 use sedck_cert::streams::{FromRead, FromWrite, Sink, Source};
 use sedck_cli::{Outcome, RunFault, run_check, run_files, run_graph, run_rank, run_upgrade};
-use std::alloc::Global;
+use std::alloc::{AllocGlobal, Global};
 use std::io::ErrorKind;
 use std::process::Abort;
 
@@ -20,15 +20,27 @@ pub enum Engine {
 /// After how many bytes the reads of the script fail, those of the certificate, and the writes.
 pub type Ends = (usize, usize, usize);
 
+/// A run of an engine, and what is due.
+#[derive(Drop)]
+pub struct Run<'a> {
+    pub engine: &'a Engine,
+    pub script: &'a str,
+    pub certificate: &'a str,
+    pub ends: Ends,
+    /// The outcome in a word, or the fault as it is printed.
+    pub answer: &'a str,
+    pub report: &'a str,
+}
+
 /// The outcome in a word, or the fault as it is printed.
 pub fn outcome<R: Source, C: Source, W: Sink>(
-    rt: &impl Abort,
-    alloc: Global,
+    rt: &(impl Abort + AllocGlobal),
     engine: &Engine,
     script: &mut R,
     certificate: &mut C,
     out: &mut W,
 ) -> String {
+    let alloc = rt.alloc();
     let answer = match engine {
         Engine::Check => run_check(alloc, script, certificate, out),
         Engine::Files => run_files(alloc, script, out),
@@ -49,38 +61,30 @@ fn told(rt: &impl Abort, alloc: Global, answer: Result<Outcome, RunFault>) -> St
     text.expect(rt, "memory")
 }
 
-/// Whether this is reported and these bytes went out, and whether a stream is reported exactly where one failed.
+/// Whether what is due is reported, its bytes went out, and a stream is reported exactly where one failed.
 fn require_answer(
     rt: &impl Abort,
-    script: &str,
+    run: &Run,
     reported: (&str, &[u8]),
-    failed: (bool, bool),
-    answer: (&str, &str),
+    read_failed: bool,
+    write_failed: bool,
 ) {
-    let is_told = reported.0 == answer.0 && reported.1 == answer.1.as_bytes();
-    require(rt, is_told, script.as_bytes());
-    let holds = failed.0 == answer.0.starts_with("cannot read")
-        && failed.1 == answer.0.starts_with("cannot write");
-    require(rt, holds, script.as_bytes());
+    let is_told = reported.0 == run.answer && reported.1 == run.report.as_bytes();
+    require(rt, is_told, run.script.as_bytes());
+    let holds = read_failed == run.answer.starts_with("cannot read")
+        && write_failed == run.answer.starts_with("cannot write");
+    require(rt, holds, run.script.as_bytes());
 }
 
-/// Whether a run over a script and a certificate, read and written in pieces, reports this and writes the report, and
+/// Whether the run over a script and a certificate, read and written in pieces, reports what is due and writes the report, and
 /// whether a stream that failed is reported.
-pub fn is_answered(
-    rt: &impl Abort,
-    alloc: Global,
-    engine: &Engine,
-    texts: (&str, &str),
-    piece: usize,
-    ends: &Ends,
-    answer: (&str, &str),
-) {
-    let mut script = source_of(texts.0.as_bytes(), piece, ends.0);
-    let mut certificate = source_of(texts.1.as_bytes(), piece, ends.1);
-    let mut out = sink_with(alloc, piece, ends.2);
-    let reported = outcome(rt, alloc, engine, &mut script, &mut certificate, &mut out);
-    let failed = (script.failed || certificate.failed, out.failed);
-    require_answer(rt, texts.0, (&reported, &out.bytes), failed, answer);
+pub fn is_answered(rt: &(impl Abort + AllocGlobal), run: &Run, piece: usize) {
+    let mut script = source_of(run.script.as_bytes(), piece, run.ends.0);
+    let mut certificate = source_of(run.certificate.as_bytes(), piece, run.ends.1);
+    let mut out = sink_with(rt.alloc(), piece, run.ends.2);
+    let reported = outcome(rt, run.engine, &mut script, &mut certificate, &mut out);
+    let read_failed = script.failed || certificate.failed;
+    require_answer(rt, run, (&reported, &out.bytes), read_failed, out.failed);
 }
 
 /// A reader of std of the text, one byte a call, whose failing call answers an error of this kind.
@@ -101,20 +105,13 @@ fn writer_with(alloc: Global, room: usize, kind: Option<ErrorKind>) -> FromWrite
 
 /// The same over readers and writers of std, one byte a call. Their failing calls answer errors of this kind; where there is
 /// none, a write takes no byte.
-pub fn is_answered_over_std(
-    rt: &impl Abort,
-    alloc: Global,
-    engine: &Engine,
-    texts: (&str, &str),
-    ends: &Ends,
-    kind: Option<ErrorKind>,
-    answer: (&str, &str),
-) {
-    let mut script = reader_of(texts.0, ends.0, kind);
-    let mut certificate = reader_of(texts.1, ends.1, kind);
-    let mut out = writer_with(alloc, ends.2, kind);
-    let reported = outcome(rt, alloc, engine, &mut script, &mut certificate, &mut out);
-    let failed = (script.failed() || certificate.failed(), out.failed());
+pub fn is_answered_over_std(rt: &(impl Abort + AllocGlobal), run: &Run, kind: Option<ErrorKind>) {
+    let mut script = reader_of(run.script, run.ends.0, kind);
+    let mut certificate = reader_of(run.certificate, run.ends.1, kind);
+    let mut out = writer_with(rt.alloc(), run.ends.2, kind);
+    let reported = outcome(rt, run.engine, &mut script, &mut certificate, &mut out);
+    let read_failed = script.failed() || certificate.failed();
+    let write_failed = out.failed();
     let bytes = out.into_inner().sink.bytes;
-    require_answer(rt, texts.0, (&reported, &bytes), failed, answer);
+    require_answer(rt, run, (&reported, &bytes), read_failed, write_failed);
 }

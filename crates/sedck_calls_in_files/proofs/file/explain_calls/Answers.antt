@@ -6,9 +6,9 @@ use Rattle.sedck_calls_in_files.proofs.file.explain_calls.Goals as goal
 
 pub loop-call-preserved : goal.loop-call-preserved
 loop-call-preserved g c =
-    let text = c.args.text.now in
+    let text = c.args.asked.now.file.text.now in
     let calls = c.args.calls.now in
-    let denied = c.args.scan.now.denied in
+    let denied = c.args.asked.now.scan.now.denied in
     let i = c.loop-call.call-index in
     let e = c.in_ok-explanation.explanation in
     let said = subst (λ found. IsSaidOf text (denied_of found denied) found.words.items found.script e) c.call-item.is c.in_ok-explanation.ensures.said in (

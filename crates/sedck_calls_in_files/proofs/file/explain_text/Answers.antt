@@ -5,13 +5,13 @@ use Rattle.sedck_calls_in_files.proofs.file.explain_text.Goals as goal
 
 pub returns : goal.returns
 returns g c =
-    let text = c.args.text.now in
-    let denied = c.args.scan.now.denied in
+    let text = c.args.asked.now.file.text.now in
+    let denied = c.args.asked.now.scan.now.denied in
     let found = c.in_ok-found.found in
     let first = c.in_ok-status.status in
     let is_first : first ≡ unread_status found.unread.items = c.in_ok-status.ensures ∙ ap unread_status c.deref.ensures.value in
     on_ok (IsWorst text denied first c.deref-2.result.now)
-    (TextStatus (g.F.Finder.found c.args.finder.now c.args.path.now text) denied text) c.explain_calls.result
+    (TextStatus (g.F.Finder.found c.args.finder.now c.args.asked.now.file.path.now text) denied text) c.explain_calls.result
     (λ status worst. (
       found,
       c.in_ok-found.ensures,

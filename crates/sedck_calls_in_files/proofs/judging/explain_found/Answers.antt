@@ -13,7 +13,8 @@ returns-clause-said c =
     let denied = denied_of c.args.found.now c.args.denied in
     let before = c.in_ok-explanation.explanation in
     let said : IsSaidOf file denied words script before =
-    subst (λ known. IsSaidOf file known words script before) c.with_locale-known.ensures c.in_ok-explanation.ensures.said in
+    subst (λ w. IsSaidOf file denied w script before) c.deref-3.ensures.value
+    (subst (λ known. IsSaidOf file known c.deref-3.result.now script before) c.with_locale.ensures c.in_ok-explanation.ensures.said) in
     if_ok_both (Agrees before) (λ e. e.status ≡ before.status) (IsSaidOf file denied words script) c.with_values.result
     (λ e agrees status. said_on file denied words script before e agrees status said)
     c.with_values.ensures.agrees c.with_values.ensures.status
@@ -26,7 +27,8 @@ returns-clause-yes c =
     let denied = denied_of c.args.found.now c.args.denied in
     let before = c.in_ok-explanation.explanation in
     let said : IsSaidOf file denied words script before =
-    subst (λ known. IsSaidOf file known words script before) c.with_locale-known.ensures c.in_ok-explanation.ensures.said in
+    subst (λ w. IsSaidOf file denied w script before) c.deref-3.ensures.value
+    (subst (λ known. IsSaidOf file known c.deref-3.result.now script before) c.with_locale.ensures c.in_ok-explanation.ensures.said) in
     if_ok_both (Agrees before) (λ e. e.status ≡ before.status) (λ e. e.status ≡ 0 → IsAcceptedScript file denied words script) c.with_values.result
     (λ e agrees status yes. yes_of_found file denied words script e (said_on file denied words script before e agrees status said) yes)
     c.with_values.ensures.agrees c.with_values.ensures.status

@@ -10,10 +10,10 @@ returns-then-is_open-clause-said c =
     let called = c.in_ok-explanation.explanation in
     let at = c.placed-explanation.result in
     let open_ : is_open c.args.text.now c.args.holes.now ≡ true = sym c.is_open.ensures ∙ c.if-is_open.true in
-    if_ok_both (Agrees at) (λ e. e.status ≡ status_with true at.status) (IsJudged c.args.denied c.args.call.now c.args.text.now c.args.holes.now) c.opened.result
+    if_ok_both (Agrees at) (λ e. e.status ≡ status_with true at.status) (IsJudged c.args.given.now.denied c.args.call.now c.args.text.now c.args.holes.now) c.opened.result
     (λ e agrees status. record {
       called = called;
-      is_called = subst (λ bytes. IsCalled bytes c.args.denied c.args.call.now called) c.deref.ensures.value c.in_ok-explanation.ensures.called;
+      is_called = subst (λ bytes. IsCalled bytes c.args.given.now.denied c.args.call.now called) c.deref.ensures.value c.in_ok-explanation.ensures.called;
       agrees = agrees_on called at e c.placed-explanation.ensures.agrees agrees;
       is_status = status ∙ ap (λ s. status_with true s) c.placed-explanation.ensures.status ∙ sym (ap (λ b. status_with b called.status) open_);
     })
@@ -25,7 +25,7 @@ returns-clause-said c =
     let known : is_open c.args.text.now c.args.holes.now ≡ false = sym c.is_open.ensures ∙ c.if-is_open.false in
     record {
       called = called;
-      is_called = subst (λ bytes. IsCalled bytes c.args.denied c.args.call.now called) c.deref.ensures.value c.in_ok-explanation.ensures.called;
+      is_called = subst (λ bytes. IsCalled bytes c.args.given.now.denied c.args.call.now called) c.deref.ensures.value c.in_ok-explanation.ensures.called;
       agrees = c.placed-explanation.ensures.agrees;
       is_status = c.placed-explanation.ensures.status ∙ sym (ap (λ b. status_with b called.status) known);
     }

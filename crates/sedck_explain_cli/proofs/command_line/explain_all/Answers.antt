@@ -9,8 +9,8 @@ use Rattle.sedck_explain_cli.proofs.command_line.explain_all.Goals.{in-Ok, in-Er
 pub loop-path-preserved : goal.loop-path-preserved
 loop-path-preserved g c =
     let before = c.loop-path.invariant in
-    let paths = scripts_of c.args.request.now in
-    let Has = StatusAt (g.O.Opener.known c.args.files.now) c.args.request.now in
+    let paths = scripts_of c.args.session.now.request.now in
+    let Has = StatusAt (g.O.Opener.known c.args.session.now.files.now) c.args.session.now.request.now in
     elim c.match-explain_path.branch [
       | in-Ok w ↦
           let is = w.status-is ∙ w.max-status.ensures in
@@ -18,7 +18,7 @@ loop-path-preserved g c =
             within = omega (arith, is, w.in-Ok.ensures.few, before.within);
             known = λ three. before.known (omega (arith, is, w.in-Ok.ensures.few, three));
             greatest = λ small. subst (IsGreatest Has (take (c.loop-path.path-index + 1) paths)) (sym is)
-                (greatest_item Has (λ path. path.now) c.deref-path-items.result.now c.args.request.now.scripts.items c.loop-path.path-index
+                (greatest_item Has (λ path. path.now) c.deref-path-items.result.now c.args.session.now.request.now.scripts.items c.loop-path.path-index
                 c.loop-path.status w.in-Ok.one _ c.deref-path-items.ensures.value c.loop-path-test.true
                 (before.greatest (omega (arith, is, small))) w.in-Ok.ensures.status);
             silent = λ small. subst (λ err. Keeps (g.E.Sink.taken c.args.err.now) (g.E.Sink.taken err)) (sym w.err-is) (before.silent (omega (arith, is, small)));

@@ -9,6 +9,6 @@ abbrev pub invariant-loop-path : goal.invariant-loop-path
 invariant-loop-path g l = record {
   within : l.status ≤ 4;
   known : l.status ≢ 3;
-  greatest : l.status < 3 → IsGreatest (StatusAt (g.O.Opener.known l.files) l.request) (take l.path-index (scripts_of l.request)) l.status;
+  greatest : l.status < 3 → IsGreatest (StatusAt (g.O.Opener.known l.session.files.now) l.session.request.now) (take l.path-index (scripts_of l.session.request.now)) l.status;
   silent : l.status < 3 → Keeps (g.E.Sink.taken l.initial.err) (g.E.Sink.taken l.err);
 }

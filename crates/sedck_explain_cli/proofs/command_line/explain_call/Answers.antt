@@ -1,14 +1,16 @@
 use Rattle.std.proofs.Common.{◌∙◌, ap, map, subst}
 use Rattle.sedck_explanation.specs.Called.{IsAcceptedCall}
 use Rattle.sedck_explain_cli.specs.CallStatus.{HasCallStatus}
+use Rattle.sedck_explain_cli.specs.Requests.{is_plain}
+use Rattle.sedck_explain_cli.specs.Spelled.{IsIn}
 use Rattle.sedck_explain_cli.proofs.command_line.explain_call.Goals as goal
 
 pub returns-in-Ok-explain_words-clause-yes : goal.returns-in-Ok-explain_words-clause-yes
 returns-in-Ok-explain_words-clause-yes g c = λ zero.
-    subst (IsAcceptedCall (g.O.Opener.known c.args.files.now) c.args.denied)
+    subst (IsAcceptedCall (g.O.Opener.known c.args.session.now.files.now) c.args.session.now.request.now.denied)
     (ap (map (λ word. word.now)) c.deref.ensures.value ∙ c.in-Ok.ensures) (c.in-Ok-explain_words.ensures.yes zero)
 
 pub returns-in-Ok-explain_words-clause-status : goal.returns-in-Ok-explain_words-clause-status
 returns-in-Ok-explain_words-clause-status g c = λ small.
-    subst (λ words. HasCallStatus (g.O.Opener.known c.args.files.now) c.args.denied words c.in-Ok-explain_words.status)
+    subst (λ words. IsIn (is_plain c.args.session.now.request.now.format) (HasCallStatus (g.O.Opener.known c.args.session.now.files.now) c.args.session.now.request.now.denied words) c.in-Ok-explain_words.status)
     (ap (map (λ word. word.now)) c.deref.ensures.value ∙ c.in-Ok.ensures) c.in-Ok-explain_words.ensures.status

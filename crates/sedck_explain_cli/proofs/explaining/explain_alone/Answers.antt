@@ -8,10 +8,10 @@ use Rattle.sedck_explain_cli.proofs.explaining.explain_alone.Goals as goal
 pub returns-clause-status : goal.returns-clause-status
 returns-clause-status g c =
     let left = g.R.Source.left c.args.script.now in
-    let reported = g.F.Reporter.reported c.args.reporter.now c.args.name.now in
+    let reported = g.F.Reporter.reported c.args.named.now.reporter.now c.args.named.now.name.now in
     let before = g.W.Sink.taken c.args.out.now in
     let after = g.W.Sink.taken c.written.new.out in
-    on_written (IsExplained reported c.args.denied left (record { before = before; after = after })) c.written.result c.in_ok-report.status (Appends before after c.deref-2.result.now)
+    on_written (IsExplained reported c.args.named.now.denied left (record { before = before; after = after })) c.written.result c.in_ok-report.status (Appends before after c.deref-2.result.now)
     c.written.ensures.status c.written.ensures.whole
     (λ whole. record {
       text = c.deref.result.now;

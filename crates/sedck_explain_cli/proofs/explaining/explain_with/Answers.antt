@@ -9,10 +9,10 @@ pub returns-clause-status : goal.returns-clause-status
 returns-clause-status g c =
     let left = g.R.Source.left c.args.script.now in
     let given = g.C.Source.left c.args.cert.now in
-    let reported = g.F.Reporter.reported c.args.reporter.now c.args.name.now in
+    let reported = g.F.Reporter.reported c.args.named.now.reporter.now c.args.named.now.name.now in
     let before = g.W.Sink.taken c.args.out.now in
     let after = g.W.Sink.taken c.written.new.out in
-    on_written (IsExplainedWith reported c.args.denied left given (record { before = before; after = after })) c.written.result
+    on_written (IsExplainedWith reported c.args.named.now.denied left given (record { before = before; after = after })) c.written.result
     c.in_ok-report.status (Appends before after c.deref-3.result.now) c.written.ensures.status c.written.ensures.whole
     (λ whole. record {
       text = c.deref.result.now;

@@ -3,13 +3,13 @@ use Rattle.sedck_plain.proofs.PlainLemmas.{same_all, refused_none, reported_none
 use Rattle.sedck_plain.proofs.plain.plain_text.Goals as goal
 
 pub returns-in-Ok-clause-same : goal.returns-in-Ok-clause-same
-returns-in-Ok-clause-same c = same_all _ _ _ c.in-Ok.ensures.spelled c.in-Ok.ensures.only c.checked.ensures.spelled
+returns-in-Ok-clause-same c = same_all _ _ _ c.in-Ok.ensures.spelled c.in-Ok.ensures.only c.plain_of.ensures.spelled
 
 pub returns-in-Ok-clause-refused : goal.returns-in-Ok-clause-refused
-returns-in-Ok-clause-refused c = refused_never _ _ _ c.in-Ok.ensures.spelled c.checked.ensures.fault
+returns-in-Ok-clause-refused c = refused_never _ _ _ c.in-Ok.ensures.spelled c.plain_of.ensures.fault
 
 pub returns-in-Ok-clause-reported : goal.returns-in-Ok-clause-reported
-returns-in-Ok-clause-reported c = reported_never _ _ c.checked.ensures.fault
+returns-in-Ok-clause-reported c = reported_never _ _ c.plain_of.ensures.fault
 
 pub returns-in-Err-clause-refused : goal.returns-in-Err-clause-refused
 returns-in-Err-clause-refused c = refused_none (Vec ℕ Global) _ c.in-Err.fault _ c.refusal.ensures c.in-Err.ensures.refused

@@ -1,4 +1,4 @@
-use Rattle.std.proofs.Common.{◌≡◌, ◌≤◌, ℕ, List, map, length, refl, arith}
+use Rattle.std.proofs.Common.{◌≤◌, List, map, length, refl, arith}
 use Rattle.sedck_script.specs.View.{part_of}
 use Rattle.sedck_script.specs.declared.script.Part.{Part}
 use Rattle.sedck_plain.specs.Private.SameScripts.{same_parts}

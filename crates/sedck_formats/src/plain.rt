@@ -1,0 +1,74 @@
+//! The format `sed`: an accepted script in its plain spelling, and of any other a report for people.
+
+ghost use Rattle.std.specs.Prelude.{◌≡◌, ◌⊎◌, IfOk};
+ghost use Rattle.sedck_script.specs.Spelling.{Spells};
+ghost use Rattle.sedck_formats.specs.Plain.{IsPlainReport};
+
+use crate::names::Names;
+use crate::text::text_findings;
+use sedck_explanation::{Code, Explanation, Finding, Level, not_judged};
+use sedck_plain::{Fault, plain_of};
+use sedck_script::Script;
+use std::alloc::{AllocError, Global};
+
+/// What is written of a script, and the exit status: where that is 0 the script in its plain spelling, for the output; else a report for
+/// people, for standard error: this one, unless the script is accepted and has no plain spelling.
+///
+/// The status is the explanation's, but 2 for an accepted script without a plain spelling.
+pub fn plain_report(
+    alloc: Global,
+    names: Names,
+    explanation: &Explanation,
+    report: Vec<u8>,
+) -> Result<(Vec<u8>, u8), AllocError>
+    ensures { IfOk result (λ made. IsPlainReport explanation.now made.0.items made.1) }
+{
+    match &explanation.script {
+        Some(script) if explanation.status == 0 => spelled(alloc, names, explanation, script),
+        _ => Ok((report, explanation.status)),
+    }
+}
+
+/// The script of the explanation in its plain spelling, or that it has none, with the status 2.
+fn spelled(
+    alloc: Global,
+    names: Names,
+    explanation: &Explanation,
+    script: &Script,
+) -> Result<(Vec<u8>, u8), AllocError>
+    ensures spelled { IfOk result (λ made. made.1 ≡ 0 → Spells made.0.items script.now) }
+    ensures status { IfOk result (λ made. (made.1 ≡ 0) ⊎ (made.1 ≡ 2)) }
+{
+    match plain_of(alloc, explanation.text, script) {
+        Ok(text) => Ok((text, 0)),
+        Err(Fault::NoSpelling(place)) => { Ok((unspelled(alloc, names, explanation, place)?, 2)) }
+        Err(_) => Err(AllocError),
+    }
+}
+
+/// The report on an accepted script of which this command has no plain spelling.
+fn unspelled(
+    alloc: Global,
+    names: Names,
+    explanation: &Explanation,
+    place: usize,
+) -> Result<Vec<u8>, AllocError> {
+    let mut findings = Vec::new(alloc);
+    findings.push(Finding {
+        level: Level::Error,
+        code: Code::NoPlainSpelling,
+        position: explanation.positions.get(place).copied(),
+        end: None,
+        message: String::from_str(
+            alloc,
+            "the script is accepted, but this command has no plain spelling",
+        )?,
+        hint: Some(
+            "leave one sign that could be a delimiter out of its lists, or out of its replacement",
+        ),
+        fix: None,
+        steps: Vec::new(alloc),
+    })?;
+    let refused = not_judged(alloc, explanation.text, findings);
+    text_findings(alloc, names, &refused, Level::Error, false)
+}

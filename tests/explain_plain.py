@@ -1,0 +1,174 @@
+"""Scripts in their plain spelling: the format `sed`. That seds read it alike is tried by `make seds`."""
+import os
+import sys
+
+sys.path.insert(0, os.path.join(os.path.dirname(os.path.abspath(__file__)), "seds"))
+from seds_draw import Grammar  # noqa: E402
+
+# A script and its plain spelling, by the rules of GRAMMAR.md.
+SPELLED = [
+    (b"", b""),
+    (b"#no\n", b""),
+    (b"#n\np", b"#n\np\n"),
+    (b"  2 , $ ! ! { p ; n }\n", b"2,$!{\n  p\n  n\n}\n"),
+    (b":a;n;ba;:c # c\nt\n", b":a\nn\nb a\n:c\nt\n"),
+    (b"a hello\\\nworld\n$!d", b"a\\\nhello\\\nworld\n$!d\n"),
+    (b"s|/|,|gp", b"s:/:,:gp\n"),
+    (b"s|[a-z][/]|&|3pgw f\n\\,x,r  g\n", b"s,[a-z][/],&,3gpw f\n/x/r g\n"),
+    (b"/a\\{0,\\}b\\{1,1\\}/d;y/\\//\\n/", b"/a*b\\{1\\}/d\ny,/,\\n,\n"),
+    (b"s/[[:digit:]x-z\\n-]//", b"s/[\\n0-9xyz-]//\n"),
+    ("s/[éè]é/x/;s/[^ü]*$//\n".encode(), "s/[éè]é/x/\ns/[^ü]*$//\n".encode()),
+    (b"s/a/b/w o\\", b"s/a/b/w o\\"),
+]
+
+# The words, after `--format sed`, of which nothing is written: the status, and the script.
+REPORTED = [
+    ([], b":a;ba\n", 1),
+    ([], b"s/a\\{2/x/\n", 2),
+    (["--deny", "writes"], b"w f\n", 1),
+    (["--deny", "warnings,slow"], b"s/\\(a*\\)*\\1//\n", 1),
+    (["--deny", "reads,writes,warnings,unbounded,slow"], b"G\n", 1),
+    (["--cert", "empty.cert"], b"p\n", 2),
+    (["--cert", "other.cert"], b"p;p\n", 1),
+]
+
+# The words of a call, its status, and its script in its plain spelling.
+CALLS = [
+    (["-n", "p;p"], 0, b"p\np\n"),
+    (["-ne", "$p", "-e", "i\\", "-e", "x", "f"], 0, b"$p\ni\\\nx\n"),
+    (["-f", "two.sed", "-e", "p"], 0, b"s/a/b/\nx\np\n"),
+    (["--version"], 0, b""),
+    (["-E", "p"], 2, b""),
+    (["-e", ":a;ba"], 1, b""),
+    (["-Q"], 2, b""),
+]
+
+FILE = b"""x=1
+sed -e 's|a|b|;p' f | sed -n '$p' g
+sed ":a;ba" f
+sed "s/a/$1/" f
+\tsed -i 'w out' f
+"""
+
+# Where a call is in that file, and the status and the script.
+PLACES = [
+    ("2:1", 0, b"s/a/b/\np\n"),
+    ("2:23", 0, b"$p\n"),
+    ("3", 1, b""),
+    ("4", 5, b""),
+    ("5", 0, b"w out\n"),
+    ("5:2", 0, b"w out\n"),
+    ("5:1", 3, b""),
+    ("2", 3, b""),
+    ("1", 3, b""),
+    ("6", 3, b""),
+    ("x", 3, b""),
+]
+
+# Words that aren't valid.
+INVALID = [
+    ["one.sed", "two.sed"],
+    ["--calls", "calls.sh"],
+    ["--calls", "--at", "2", "calls.sh", "calls.sh"],
+    ["--calls", "--at", "2"],
+    ["--at", "2", "one.sed"],
+    ["--at", "2", "--sed", "--", "p"],
+    ["--format", "text", "--calls", "--at", "2", "calls.sh"],
+]
+
+
+def unspelled():
+    """A script whose plain lists name every byte that could be a delimiter: three in a row are no range there. Its own delimiter, `>`, is
+    in the middle of a range."""
+    spans = [(first, first + 2) for first in range(1, 127, 3)]
+    lists = []
+    for first, last in spans:
+        inside = set(range(first, last + 1))
+        if inside & {10, 45, 91, 92, 93, 94}:
+            # Each of these means something in a list, or ends a line; what is beside them is listed by itself.
+            lists.append(b"[%s]" % bytes(sorted(inside - {10, 45, 91, 92, 93, 94}) or b"_"))
+        else:
+            lists.append(b"[%c-%c]" % (first, last))
+    lists += [b"[a-]", b"[a^]", b"[]a]"]
+    # The replacement has those that could be escaped in a list, side by side: escaped there, each would be a part of its own.
+    used = b"".join(lists) + b"/,;!@#%~_"
+    assert b">" not in used
+    return b"p\n s>%s>/,;!@#%%~_>\n" % b"".join(lists)
+
+
+def check(tools, count):
+    tools.write("one.sed", b"p\n")
+    tools.write("two.sed", b"s/a/b/\nx\n")
+    tools.write("empty.cert", b"")
+    tools.write("calls.sh", FILE)
+    status, certificate, _ = tools.sedck("rank", "one.sed")
+    tools.same("the certificate of another script", status, 0)
+    tools.write("other.cert", certificate)
+    for script, plain in SPELLED:
+        spelled(tools, script, plain)
+    for words, script, status in REPORTED:
+        reported(tools, words, script, status)
+    for words, status, plain in CALLS:
+        found = tools.explain("--format", "sed", "--sed", "--", *words)
+        tools.same("the call %r" % words, found[:2], (status, plain))
+        tools.same("what is reported of the call %r" % words, found[2], b"" if status == 0 else tools.explain("--sed", "--", *words)[1])
+    for place, status, plain in PLACES:
+        found = tools.explain("--format", "sed", "--calls", "--at", place, "calls.sh")
+        tools.same("the call at %s" % place, found[:2], (status, plain))
+        tools.same("whether something is reported of the call at %s" % place, found[2] != b"", status != 0)
+    for words in INVALID:
+        status, out, said = tools.explain("--format", "sed", *words)
+        tools.same("invalid: %r" % words, (status, out, said.startswith(b"sedck-explain: ")), (3, b"", True))
+    tools.same("a file that isn't there", tools.explain("--format", "sed", "none.sed")[:2], (4, b""))
+    tools.same("a folder", tools.explain("--format", "sed", "--calls", "--at", "1", ".")[:2], (4, b""))
+    none(tools)
+    check_drawn(tools, count)
+
+
+def spelled(tools, script, plain):
+    tools.write("script.sed", script)
+    tools.same("plain spelling of %r" % script, tools.explain("--format", "sed", "script.sed"), (0, plain, b""))
+    tools.same("the same by standard input", tools.explain("--format", "sed", given=script), (0, plain, b""))
+    tools.same("plain again: %r" % plain, tools.explain("--format=sed", given=plain), (0, plain, b""))
+    certificate = tools.sedck("rank", "script.sed")[1]
+    tools.write("script.cert", certificate)
+    tools.write("plain.sed", plain)
+    tools.same("the same certificate for %r" % plain, tools.sedck("check", "plain.sed", "script.cert"), tools.sedck("check", "script.sed", "script.cert"))
+    tools.same("with the certificate", tools.explain("--format", "sed", "--cert", "script.cert", "script.sed"), (0, plain, b""))
+
+
+def reported(tools, words, script, status):
+    """Nothing is written, and the report for people goes to standard error."""
+    tools.write("script.sed", script)
+    due = tools.explain(*words, "script.sed")
+    tools.same("the status of %r with %r" % (script, words), due[0], status)
+    tools.same("plain spelling of %r with %r" % (script, words), tools.explain("--format", "sed", *words, "script.sed"), (status, b"", due[1]))
+
+
+def none(tools):
+    """An accepted script without a plain spelling."""
+    script = unspelled()
+    tools.write("script.sed", script)
+    tools.same("it is accepted", tools.explain("--format", "gcc", "--level", "error", "script.sed")[:2], (0, b""))
+    status, out, said = tools.explain("--format", "sed", "script.sed")
+    tools.same("no plain spelling", (status, out, said.split(b"\n")[0].rpartition(b" ")[2]), (2, b"", b"[no-plain-spelling]"))
+    tools.same("the place of the command", said.split(b" ")[0], b"script.sed:2:2:")
+
+
+def check_drawn(tools, count):
+    """Of scripts that are drawn: what is accepted has a plain spelling, which is its own, with the same flow graph and the same files."""
+    done = 0
+    draw = Grammar(7)
+    for _ in range(count):
+        script = draw.script()
+        tools.write("script.sed", script)
+        if tools.sedck("rank", "script.sed")[0] != 0:
+            continue
+        status, plain, said = tools.explain("--format", "sed", "script.sed")
+        tools.same("plain spelling of the drawn %r" % script, (status, said), (0, b""))
+        tools.write("plain.sed", plain)
+        for word in ("graph", "files", "rank"):
+            tools.same("%s of %r" % (word, plain), tools.sedck(word, "plain.sed"), tools.sedck(word, "script.sed"))
+        tools.same("plain again: %r" % plain, tools.explain("--format", "sed", "plain.sed"), (0, plain, b""))
+        done += 1
+    tools.holds("some drawn scripts are accepted", done > count // 10)
