@@ -2,17 +2,21 @@
 """Tests wrapper/sed and wrapper/sedck-sed: python3 tests/wrapper.py build/sedck-explain, in the folder of the repository.
 
 They are installed in a scratch folder as `make install` does it, with the program, or with a stand-in for it where what it does is
-to be known: that one prints the report and the status that the test gives. What is due comes from the real sed and from the words of
-the call. Each test runs with each shell of SHELLS that the machine has. The status is 0 only where everything is as expected.
+to be known: that one prints the report, the text for sed and the status that the test gives, and where it gives no text that of the
+program. What is due comes from the real sed and from the words of the call. Each test runs with each shell of SHELLS that the machine has. The status is 0 only where everything is as expected.
 """
+import getopt
 import json
 import os
+import random
 import shutil
 import subprocess
 import sys
 import tempfile
 import threading
 from pathlib import Path
+
+from calls import FILES, LONG, SHORT, drawn
 
 TOP = Path(__file__).resolve().parent.parent
 SHELLS = ("dash", "bash", "busybox sh")
@@ -23,7 +27,11 @@ cat > /dev/null
 printf '%s\\n' "$*" >> "$NOTES/asked"
 for word do case $word in */dev/fd/*) cat "/dev/fd/${word##*/}" >> "$NOTES/checked" ;; esac; done
 [ -z "$CHANGES" ] || printf 's/^/changed/\\n' > "$CHANGES"
-case $2 in json) printf '%s\\n' "$REPORT" ;; *) echo "/dev/fd/9:1:1: error: what it finds [code]" ;; esac
+case $2 in
+    json) printf '%s\\n' "$REPORT" ;;
+    sed) [ -z "$PLAIN" ] || { printf '%s\\n' "$PLAIN"; exit "$SPELLED"; }; exec "$PROGRAM" "$@" ;;
+    *) echo "/dev/fd/9:1:1: error: what it finds [code]" ;;
+esac
 exit "$STATUS"
 """
 # A sed that says what it is and how it was called.
@@ -31,6 +39,35 @@ SPEAKING_SED = """#!/bin/sh
 [ "$*" != '--sandbox --version' ] || { echo '%s'; exit; }
 printf '<%%s>' "$@"
 """
+# The same, and it keeps the text that it gets as its script.
+KEEPING_SED = SPEAKING_SED % "" + """for word do case $word in /dev/fd/[0-9]) cat "$word" > "$NOTES/text" ;; esac; done
+"""
+TEXT = "/dev/fd/9"
+# Words of calls, those with which the mode `refuse` runs sed, and the script there.
+SPELLED = [
+    (["s/a/b/;p"], ["-f", TEXT], "s/a/b/\np\n"), (["p", "in"], ["-f", TEXT, "in"], "p\n"), (["-n", "p", "in"], ["-n", "-f", TEXT, "in"], "p\n"),
+    (["-ne", "p", "in"], ["-n", "-f", TEXT, "in"], "p\n"), (["-nep", "in"], ["-n", "-f", TEXT, "in"], "p\n"), (["-ep", "in"], ["-f", TEXT, "in"], "p\n"),
+    (["-e", "p", "-e", "d", "in"], ["-f", TEXT, "in"], "p\nd\n"), (["-e", "a\\", "-n", "-e", "b", "in"], ["-n", "-f", TEXT, "in"], "a\\\nb\n"),
+    (["-e", "p", "in", "-n"], ["-f", TEXT, "in", "-n"], "p\n"), (["p", "in", "-n", "in"], ["in", "-n", "-f", TEXT, "in"], "p\n"),
+    (["in", "-e", "p", "-s"], ["in", "-f", TEXT, "-s"], "p\n"), (["--expression", "p", "in"], ["-f", TEXT, "in"], "p\n"),
+    (["--expression=p", "-z", "in"], ["-f", TEXT, "-z", "in"], "p\n"), (["--e=p", "--", "in"], ["-f", TEXT, "--", "in"], "p\n"),
+    (["--posix", "p", "in"], ["--posix", "-f", TEXT, "in"], "p\n"), (["--sandbox", "p"], ["--sandbox", "-f", TEXT], "p\n"),
+    (["--debug", "-u", "p", "in"], ["--debug", "-u", "-f", TEXT, "in"], "p\n"), (["-f", "x.sed", "in"], ["-f", TEXT, "in"], "N\nP\nD\n"),
+    (["-nfx.sed", "--posix", "in"], ["-n", "-f", TEXT, "--posix", "in"], "N\nP\nD\n"), (["--file", "x.sed"], ["-f", TEXT], "N\nP\nD\n"),
+    (["--file=x.sed", "in"], ["-f", TEXT, "in"], "N\nP\nD\n"), (["-snf", "x.sed", "-e", "p", "-fx.sed", "in"], ["-sn", "-f", TEXT, "in"], "N\nP\nD\np\nN\nP\nD\n"),
+    (["--", "p", "-n", "-e"], ["-f", TEXT, "--", "-n", "-e"], "p\n"), (["-e", "p", "--", "-e", "in"], ["-f", TEXT, "--", "-e", "in"], "p\n"),
+    (["p", "--", "-in"], ["-f", TEXT, "--", "-in"], "p\n"), (["-n", "p", "-s", "--", "in"], ["-n", "-s", "-f", TEXT, "--", "in"], "p\n"),
+    (["-i", "p", "in"], ["-i", "-f", TEXT, "in"], "p\n"), (["-i.fe", "-e", "p", "in"], ["-i.fe", "-f", TEXT, "in"], "p\n"), (["-nife", "p", "in"], ["-nife", "-f", TEXT, "in"], "p\n"),
+    (["--in-place=.e", "p", "in"], ["--in-place=.e", "-f", TEXT, "in"], "p\n"), (["-I", ".f", "p", "in"], ["-I", ".f", "-f", TEXT, "in"], "p\n"), (["-nIfe", "p"], ["-nIfe", "-f", TEXT], "p\n"),
+    (["-sze", "p", "in", "in"], ["-sz", "-f", TEXT, "in", "in"], "p\n"), (["-l", "5", "l", "in"], ["-l", "5", "-f", TEXT, "in"], "l\n"), (["-nl", "5", "l"], ["-nl", "5", "-f", TEXT], "l\n"),
+    (["-l5", "-ne", "l"], ["-l5", "-n", "-f", TEXT], "l\n"), (["-ul5", "l"], ["-ul5", "-f", TEXT], "l\n"), (["--line-length", "5", "l"], ["--line-length", "5", "-f", TEXT], "l\n"),
+    (["--line=5", "l", "in"], ["--line=5", "-f", TEXT, "in"], "l\n"), (["p", "-"], ["-f", TEXT, "-"], "p\n"), (["p", "", "in"], ["-f", TEXT, "", "in"], "p\n"),
+    (["", "in"], ["-f", TEXT, "in"], ""), (["-e", "", "in"], ["-f", TEXT, "in"], ""), (["--expr=", "in"], ["-f", TEXT, "in"], ""), (["-nf", "/dev/null", "in"], ["-n", "-f", TEXT, "in"], ""),
+    (["#n\np", "in"], ["-f", TEXT, "in"], "#n\np\n"), (["-n", "p", "--version"], ["-n", "--version", "-f", TEXT], "p\n"), (["--version"], ["--version"], None), (["-n", "--help"], ["-n", "--help"], None),
+    (["p", "in\n", "a b", "$x", "é"], ["-f", TEXT, "in\n", "a b", "$x", "é"], "p\n"),
+]
+# Those of these that have an option or `--` behind an operand.
+BEHIND = [["-e", "p", "in", "-n"], ["p", "in", "-n", "in"], ["in", "-e", "p", "-s"], ["p", "--", "-in"], ["-n", "p", "-s", "--", "in"], ["-n", "p", "--version"]]
 failures = []
 
 
@@ -72,8 +109,8 @@ class Place:
     def call(self, *words, mode="log", given=b"", program="sed", shown=None, **variables):
         """The status, and the bytes on both streams. Variables whose name is `SHORT` are named SEDCK_SHORT, others as they are."""
         words = [word if isinstance(word, bytes) else word.encode() for word in words]
-        environment = {**os.environ, "PATH": self.path, "NOTES": str(self.top), "CHANGES": "", "STATUS": "0", "REPORT": report(),
-                       "TMPDIR": str(self.top / "temporary"), "LC_ALL": "C", "SEDCK_MODE": mode, "SEDCK_LOG": str(self.log)}
+        environment = {**os.environ, "PATH": self.path, "NOTES": str(self.top), "CHANGES": "", "STATUS": "0", "REPORT": report(), "PLAIN": "",
+                       "SPELLED": "0", "PROGRAM": os.path.abspath(sys.argv[1]), "TMPDIR": str(self.top / "temporary"), "LC_ALL": "C", "SEDCK_MODE": mode, "SEDCK_LOG": str(self.log)}
         environment.update({name if name in environment else "SEDCK_" + name: str(value) for name, value in variables.items()})
         # What `env` finds on the path, as a shell does.
         done = subprocess.run([b"/usr/bin/env", program.encode(), *words], cwd=self.here, env=environment, input=given, stdout=shown or subprocess.PIPE,
@@ -150,6 +187,15 @@ def check_answers(place):
         expect(status == 120 and said.count(b"[names-itself]\n") == 1 and own.read_text() == text, "refuse: a script that names itself: %d, %s" % (status, said))
         place.call("-f", "own.sed", *words)
         expect(own.read_text() != text, "log: %s: what is refused does no harm" % words)
+    # While sed reads its script, /dev/fd/3 is that file: of the first one the block that is read ends in the middle of a label, and what
+    # is left then runs for ever.
+    (place.here / "evil.sed").write_bytes(b"w /dev/fd/3\n:a\n#".ljust(4092, b"x") + b"\nb abc\n:abc\n")
+    place.lines()
+    for words in (["-f", "evil.sed"], ["w /dev/fd/3"]):
+        for mode in ("log", "refuse"):
+            status, out, said = place.call(*words, mode=mode, SED="/bin/true")
+            line, = place.lines()
+            expect((status, out) == (120 if mode == "refuse" else 0, b"") and not line["accepted"], "%s, %s: %d, %s" % (mode, words, status, said))
     for words in (["-s", "$d"], ["-z", "N;P;D"], ["-i", "$d"]):
         for name in ("one", "two"):
             (place.here / name).write_text("a\nb\n")
@@ -159,6 +205,145 @@ def check_answers(place):
             (place.here / name).write_text("a\nb\n")
         found = place.call(*words, "one", "two", mode="refuse")
         expect(found == due and [(place.here / name).read_text() for name in ("one", "two")] == texts, "refuse, %s: %s" % (words, found))
+
+
+def check_spelled(place):
+    """What sed gets in the mode `refuse`: the words of the call, with the plain spelling of the script in place of the script."""
+    place.install(place.top / "real/sed", KEEPING_SED)
+    keeping, explain = place.top / "real/sed", str(place.top / "bin/sedck-explain")
+    for name, text in {**FILES, "x.sed": "N;P;D", "in": "a\nb\n"}.items():
+        (place.here / name).write_text(text)
+
+    def shown(words):
+        return b"".join(b"<%s>" % word.encode() for word in words)
+
+    def spelled(words):
+        return subprocess.run([explain, "--format", "sed", "--sed", "--", *words], cwd=place.here, stdin=subprocess.DEVNULL, capture_output=True)
+
+    for words, due, text in SPELLED:
+        found = place.call(*words, mode="refuse", SED=keeping, GNU=0)
+        expect(found == (0, shown(due), b"") and place.note("text") == (b"" if text is None else text.encode()), "spelled, %s: %s" % (words, found))
+        found = place.call("POSIXLY_CORRECT=1", "sed", *words, program="env", mode="refuse", SED=keeping, GNU=0)
+        is_refused = words in BEHIND and found[:2] == (120, b"") and b"[option-after-operand]\n" in found[2]
+        expect(is_refused or words not in BEHIND and found == (0, shown(due), b""), "spelled, POSIXLY_CORRECT, %s: %s" % (words, found))
+        place.note("text")
+        found = place.call(*words, SED=keeping, GNU=0)
+        expect(found == (0, shown(words), b"") and place.note("text") == b"", "spelled, log, %s: %s" % (words, found))
+        if text is not None:
+            (place.here / "text").write_text(text)
+            again = spelled([word.replace(TEXT, "text") for word in due])
+            expect((again.returncode, again.stdout) == (0, text.encode()), "spelled, %s: other words: %s" % (words, again))
+
+    # Python's `getopt` reads the words that sed gets, and so does the program.
+    draw, count = random.Random(7), 0
+    for _ in range(400):
+        words = drawn(draw)
+        text = spelled(words)
+        if text.returncode != 0:
+            continue
+        options, operands = getopt.gnu_getopt(words, SHORT, LONG)
+        is_script = [name in ("-e", "-f", "--expression", "--file") for name, _ in options]
+        if not any(is_script) and operands:
+            due, operands = options + [("-f", TEXT)], operands[1:]
+        elif any(is_script):
+            last = max(at for at, so in enumerate(is_script) if so)
+            due = [option for at, option in enumerate(options) if not is_script[at] or at == last]
+            due[sum(not so for so in is_script[:last])] = ("-f", TEXT)
+        else:
+            due = options
+        status, out, said = place.call(*words, mode="refuse", SED=keeping, GNU=0)
+        if b"[same-file]" in said or b"[script-from-input]" in said:
+            continue
+        count += 1
+        found = out.decode()[1:-1].split("><")
+        expect((status, said) == (0, b"") and getopt.gnu_getopt(found, SHORT, LONG) == (due, operands), "spelled, drawn, %s: %d, %s, %s" % (words, status, found, said))
+        expect(place.note("text") == text.stdout, "spelled, drawn, %s: the text is another one" % words)
+        (place.here / "text").write_bytes(text.stdout)
+        again = spelled([word.replace(TEXT, "text") for word in found])
+        expect((again.returncode, again.stdout) == (0, text.stdout), "spelled, drawn, %s: other words: %s" % (words, again))
+    expect(count > 40, "spelled: %d calls are drawn" % count)
+
+    # Any text arrives as it is printed, and the words can't hold some of these.
+    long = "".join("s/%d/%s/\n" % (number, "x" * 90) for number in range(2000))
+    for name, text in (("long.sed", long), ("lines.sed", "a\\\n" + "\\\n" * 3 + "\n\n"), ("open.sed", "a\\\nx\\"), ("high.sed", bytes(range(128, 256)).decode("latin-1")), ("marks.sed", "a\\\n\1\2\x7f%s$(x)`x`*\r")):
+        if name == "high.sed":
+            (place.here / name).write_bytes(b"a\\\n" + text.encode("latin-1") + b"\nN;s/\xff\\n\x81/\x88/")
+        else:
+            (place.here / name).write_text(text)
+        due = spelled(["-f", name]).stdout
+        expect(len(due) > 4 and place.call("-f", name, mode="refuse", SED=keeping, GNU=0)[0] == 0 and place.note("text") == due, "spelled: %s doesn't arrive" % name)
+        if len(due) < 2000:
+            word = (place.here / name).read_bytes()
+            expect(place.call("-n", b"-e" + word, mode="refuse", SED=keeping, GNU=0)[0] == 0 and place.note("text") == due, "spelled: the text of %s doesn't arrive" % name)
+    expect(not os.listdir(place.top / "temporary"), "spelled: a copy is left")
+
+    # What the real sed prints and writes is the same.
+    files = {"one": b"a1\nb\n\nab\n", "two": b"x\ny\na", "zero": b"a\nb\0c\na\0"}
+    for words in (["s/a/b/;p", "one"], ["-n", "$p", "one", "two"], ["-ns", "$p", "one", "two"], ["-ne", "/b/{=;p}", "one"], ["-e", "a\\", "-e", "  x", "one"], ["a hello", "one"], ["1i\\\n  y\\\nz", "two"],
+                  [":x;n;$!bx", "one"], ["$!{N;P;D}", "one"], ["-z", "s/a$/X/;s/^b/Y/", "zero"], ["-e", "s/\\n/,/", "-z", "zero"], ["s/[\\n]/x/;s/\\(a\\)*/<\\1>/2g", "--posix", "one"],
+                  ["-e", "s/[\\n]/x/", "--posix", "one"], ["-i", "y/ab/ba/", "one", "two"], ["-i.old", "-e", "$d", "one"], ["-n", "-i", "/a/w out", "one"], ["w /dev/stdout", "two"],
+                  ["-f", "x.sed", "-e", "s/x/y/;t;d", "two"], ["-l", "5", "-n", "l", "one"], ["-l5", "l;r two", "one"], ["#n\np", "one"], ["--expression=1~2p", "one"], ["1,/b/c\\\nc", "one"],
+                  ["a\\\nx\\", "two"], ["q;s/a/b/w out", "one"], ["p", "one", "none", "two"], ["--", "s,a,/,", "one"], ["-s", "--posix", "-e", "$!N;s/^\\(.*\\)\\n/\\1 /", "two", "one"]):
+        def run(call):
+            for name, text in files.items():
+                (place.here / name).write_bytes(text)
+            for name in ("out", "one.old"):
+                (place.here / name).unlink(missing_ok=True)
+            return call(), {path.name: path.read_bytes() for path in place.here.iterdir() if path.is_file() and path.name != "text"}
+
+        due = run(lambda: real(*words, here=place.here, LC_ALL="C"))
+        found = run(lambda: place.call(*words, mode="refuse"))
+        is_due = found[0][0] == 120 if "1~2p" in words[0] else found == due
+        expect(is_due, "spelled: the real sed with %s: %s, and with the text %s" % (words, due[0], found[0]))
+
+
+def check_numbers(place):
+    """The numbers that sed gives to the text and to its other files lead nowhere before it runs, so a script or an operand that has one is refused."""
+    place.install(place.top / "real/sed", SPEAKING_SED % "")
+    (place.here / "in").write_text("a\n")
+    (place.here / "w3.sed").write_text("w /dev/fd/3\n")
+    for name, target in (("to-3", "/dev/fd/3"), ("to-9", "/proc/self/fd/9"), ("numbers", "/proc/self/fd"), ("thread", "/proc/thread-self/fd"), ("new-name", "nothing")):
+        (place.here / name).symlink_to(target)
+    keeping = {"mode": "refuse", "SED": place.top / "real/sed", "GNU": 0}
+    numbered = ["/dev/fd/%d" % number for number in range(3, 10)] + ["/proc/self/fd/3", "/dev/../dev/fd/9", "to-3", "to-9", "numbers/3", "numbers/8", "thread/4"]
+    for name in numbered:
+        for words in (["p", "in"], ["-f", "w3.sed", "in"]):
+            for lists in ({"writes": named(name)}, {"reads": named(name)}):
+                status, out, said = place.call(*words, PLAIN="p", REPORT=report(**lists), **keeping)
+                expect((status, out) == (120, b"") and b"[names-itself]\n" in said, "numbers, %s, %s: %d, %s" % (words, lists, status, said))
+        status, out, said = place.call("p", "in", name, **keeping)
+        expect((status, out) == (120, b"") and b"[same-file]\n" in said, "numbers, the operand %s: %d, %s" % (name, status, said))
+    for name in ("new-name", "new", "fd/x"):
+        found = place.call("p", "in", PLAIN="p", REPORT=report(writes=named(name)), **keeping)
+        expect(found == (0, b"<-f><%s><in>" % TEXT.encode(), b""), "numbers, %s: %s" % (name, found))
+    place.lines()
+    for name, lists, is_due in (("/dev/fd/3", "writes", True), ("/dev/fd/3", "reads", False), ("x/fd/new", "writes", False)):
+        place.call("p", "in", REPORT=report(**{lists: named(name)}), SED="/bin/true")
+        line, = place.lines()
+        expect(line["accepted"] != is_due and len(line["problems"]) == is_due, "numbers, log, %s, %s: %s" % (lists, name, line["problems"]))
+    # The numbers of streams that are closed are free, too; and what is open before stays.
+    for before, name, is_due in (("<&-", "/dev/fd/0", True), ("2>&-", "/dev/fd/2", True), ("<&-", "other", False), ("3< in", "/dev/fd/4", True), ("3> out", "/dev/fd/3", False), ("9< in", "/dev/fd/8", True)):
+        # Bash gives such a number to the file that it reads.
+        if place.shell == "bash" and name == "/dev/fd/2":
+            continue
+        done = place.call("-c", "sed p in %s" % before, program="sh", PLAIN="p", REPORT=report(writes=named(name)), **keeping)
+        due = (120, b"") if is_due else (0, b"<-f><%s><in>" % TEXT.encode())
+        expect(done[:2] == due, "numbers, %s, %s: %s" % (before, name, done))
+    for count, is_due in ((5, False), (6, True), (7, True)):
+        taken = " ".join("%d< in" % number for number in range(3, 3 + count))
+        place.lines()
+        found = place.call("-c", "sed -n p in " + taken, program="sh", PLAIN="p", **keeping)
+        expect(found[:2] == ((120, b"") if is_due else (0, b"<-n><-f></dev/fd/9><in>")) and (b"[not-copied]\n" in found[2]) == is_due, "numbers, %s: %s" % (taken, found))
+    # Where the text can't be had, nothing runs.
+    for given, code in (({"SPELLED": 4}, b"not-printed"), ({"SPELLED": 1}, b"not-printed"), ({"SPELLED": 3}, b"not-printed"), ({"TMPDIR": "/nowhere"}, b"not-copied")):
+        place.lines()
+        status, out, said = place.call("p", "in", **{"PLAIN": "p", **keeping, **given})
+        line, = place.lines()
+        expect((status, out) == (120, b"") and b"[%s]\n" % code in said and not line["accepted"] and len(line["problems"]) == 1, "numbers, %s: %d, %s" % (given, status, said))
+        for mode in ("log", "warn"):
+            found = place.call("p", "in", **{"PLAIN": "p", **keeping, **given, "mode": mode})
+            expect(found == (0, b"<p><in>", b""), "numbers, %s, %s: %s" % (mode, given, found))
+    expect(not os.listdir(place.top / "temporary"), "numbers: a copy is left")
 
 
 def check_words(place):
@@ -187,7 +372,7 @@ def check_files(place):
             found = place.call(*words, mode="refuse", given=b"a\n", CHANGES=name, GNU=0)
             expect(found == due and b"checkeda" in found[1], "files, %r: %s" % (words, found))
             expect(script.read_text() == "s/^/changed/\n", "files, %r: the file didn't change" % words)
-            expect(place.note("checked") == b"s/^/checked/p\n", "files, %r: something else was checked" % words)
+            expect(place.note("checked") == 2 * b"s/^/checked/p\n", "files, %r: something else was checked" % words)
             copies = place.lines()[0]["copies"]
             expect([text.encode("latin-1").decode() for text in copies.values()] == [name], "files, %r: the log has the copies %s" % (words, copies))
             script.unlink()
@@ -230,7 +415,8 @@ def check_streams(place):
         found = place.call("-f", "pipe", mode=mode, given=b"a\n")
         writer.join()
         pipe.unlink()
-        expect(found == (0, b"b\n", b"") and place.note("checked") == b"s/a/b/\n", "streams, %s: %s" % (mode, found))
+        checked = b"s/a/b/\n" * (2 if mode == "refuse" else 1)
+        expect(found == (0, b"b\n", b"") and place.note("checked") == checked, "streams, %s: %s" % (mode, found))
     place.note("asked")
     for name in ("-", "/dev/stdin"):
         found = place.call("-f", name, "0.sed", given=b"s/^/x/\n")
@@ -360,7 +546,7 @@ def check_absent(place):
             (["p", "big", "h"], "g", False), (["p", "big", "gg"], "g", False), (["p", "big"], "g", False), (["p", "big"], "to-none", False),
             (["s,a,b,w folder/g", "big"], "folder/g", False), (["g", "big"], "g", False), (["-e", "g", "big"], "g", False)]
     for words, name, is_due in rows:
-        for given, code in (({"writes": named("there") + "," + named(name)}, is_due), ({"reads": named(name)}, False)):
+        for given, code in (({"writes": named("there") + "," + named(name)}, is_due), ({"reads": named(name)}, "/dev/fd/7" in words)):
             status, _, said = place.call(*words, mode="refuse", REPORT=report(**given), SED="/bin/true")
             expect((status, b"[same-file]\n" in said) == (120 if code else 0, code), "absent, %s, %s: %d, %s" % (words, given, status, said))
     found = place.call("POSIXLY_CORRECT=1", "sed", "p", "big", "g", program="env", mode="refuse", REPORT=report(writes=named("g")), SED="/bin/true")
@@ -393,7 +579,7 @@ def check_locale(place):
 
     def call(*words, mode="refuse", sed="/bin/true", locale={}, **given):
         settings = ["%s=%s" % pair for pair in locale.items()]
-        return place.call("-u", "LC_ALL", "-u", "LC_CTYPE", "-u", "LANG", *settings, "sed", *words, program="env", mode=mode, SED=sed, **given)
+        return place.call("-u", "LC_ALL", "-u", "LC_CTYPE", "-u", "LANG", *settings, "sed", *words, program="env", mode=mode, SED=sed, PLAIN="p", **given)
 
     other = {"LC_ALL": "ja_JP.SJIS"}
     bytewise = ({}, {"LANG": "C"}, {"LC_CTYPE": "POSIX", "LANG": "C.UTF-8"}, {"LC_ALL": "C", "LC_CTYPE": "C.UTF-8", "LANG": "C.UTF-8"}, {"LC_ALL": "", "LC_CTYPE": "C", "LANG": "C.UTF-8"},
@@ -472,7 +658,8 @@ def check_sandbox(place):
     for says, given, is_added in rows:
         place.install(place.top / "real/sed", SPEAKING_SED % says)
         found = place.call("-n", "p", **{"mode": "refuse", "SED": place.top / "real/sed", **given})
-        expect(found == (0, b"<--sandbox>" * is_added + b"<-n><p>", b""), "sandbox, %s, %s: %s" % (says, given, found))
+        due = b"<-n><-f></dev/fd/9>" if "mode" not in given else b"<-n><p>"
+        expect(found == (0, b"<--sandbox>" * is_added + due, b""), "sandbox, %s, %s: %s" % (says, given, found))
 
 
     (place.here / "gnu").mkdir()
@@ -496,6 +683,8 @@ def main():
         before = len(failures)
         with tempfile.TemporaryDirectory(prefix="sedck-wrapper-") as folder:
             check_answers(Place(os.path.join(folder, "a"), shell, os.path.abspath(sys.argv[1])))
+            check_spelled(Place(os.path.join(folder, "c"), shell, os.path.abspath(sys.argv[1])))
+            check_numbers(Place(os.path.join(folder, "d"), shell))
             place = Place(os.path.join(folder, "b"), shell)
             for check in (check_words, check_files, check_streams, check_failing, check_recursion, check_log, check_places, check_absent, check_pipes,
                           check_locale, check_itself, check_sandbox, check_own):
