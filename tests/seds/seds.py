@@ -2,6 +2,7 @@
 """Runs real seds beside sedck: on scripts that are drawn, on the examples and on folders of your own.
 
     python3 tests/seds/seds.py build/sedck [--scripts N] [--seed S] [--jobs J] [--inputs K] [--folder DIR] [--sed NAME=COMMAND] ..
+        [--explain build/sedck-explain] [--only-plain]
     python3 tests/seds/seds.py build/sedck --table
 
 Scripts that hide commands, and substitutions, are drawn from all of the grammar (seds_draw.py); those that `sedck` accepts are run by
@@ -10,13 +11,16 @@ a finding (seds_hunt.py). A twentieth as many scripts, with K inputs each, and t
 GNU sed with `--debug`, and each step is held against the edges that `sedck graph` lists (seds_trace.py); the same steps are held against
 a graph with `keep` in place of `grow`, which must be caught. So must each script of the page docs/SEDS.md that some sed is known to read
 in another way, which is run without asking `sedck`, and two that run for ever in UTF-8, where it isn't asked whether a script is byte
-safe. At the end the page's table of statuses is run again, and rows that are others here are printed, which is no finding: that sed is
-of another version. With `--table` only what `sedck` answers in the page's tables is looked at. The status is 0 where nothing was found.
+safe. Accepted scripts are also run in their plain spelling (seds_plain.py), which the program of `--explain`, or the one beside `sedck`,
+writes; with `--only-plain` nothing else is run. At the end the page's table of statuses is run again, and rows that are others here are
+printed, which is no finding: that sed is of another version. With `--table` only what `sedck` answers in the page's tables is looked at.
+The status is 0 where nothing was found.
 Runs are in scratch folders, under limits, with a search path that has `touch` alone, and not as the superuser. Which scripts are
 drawn depends on N and S alone; locales that `localedef` has made may be kept in the folder of LOCPATH.
 """
 import argparse
 import collections
+import itertools
 import multiprocessing
 import os
 import shutil
@@ -27,6 +31,7 @@ sys.path.insert(0, os.path.dirname(os.path.abspath(__file__)))
 from seds_draw import Draw  # noqa: E402
 from seds_hunt import BEYOND_FIRST, Hunt, is_inside  # noqa: E402
 from seds_page import answers_of_sedck, compared  # noqa: E402
+from seds_plain import PlainHunt, has_plain  # noqa: E402
 from seds_run import Judge, Scratch, become_nobody, make_top  # noqa: E402
 from seds_trace import Graph, Trace, limit_of, unexplained  # noqa: E402
 from seds_ways import Abilities, locales_found  # noqa: E402
@@ -70,7 +75,7 @@ def seds_found(named):
 class Report:
     """Counts, and findings by kind and sed."""
     def __init__(self):
-        self.counts, self.found = collections.Counter(), []
+        self.counts, self.found, self.unspelled = collections.Counter(), [], []
 
     def count(self, what, by=1):
         self.counts[what] += by
@@ -84,6 +89,7 @@ class Report:
     def add(self, other):
         self.counts += other.counts
         self.found += other.found
+        self.unspelled += other.unspelled
 
     def lines(self):
         """A line for each count; then for each sed and kind how many findings there are, and the shortest scripts."""
@@ -95,6 +101,8 @@ class Report:
             yield "%s: %s: %s, in %d scripts" % ("apart" if apart else "FOUND", name, what, len(scripts))
             for script in sorted(scripts, key=len)[:SHOWN]:
                 yield "  script %r\n  input %r: %s" % (script, *scripts[script])
+        for script in sorted(self.unspelled, key=len)[:SHOWN]:
+            yield "no plain spelling: %r" % script
         yield "%d findings" % self.failures()
 
     def failures(self):
@@ -161,16 +169,20 @@ def prepare(top, seds, locales):
     prepare.locales, prepare.abilities = locales, None
 
 
-def hunt_of(report, seed):
+def hunt_of(report, seed, kind=Hunt):
     # What the seds know is found out by the first task, since a fault in what prepares a process would begin another one for ever.
     prepare.abilities = prepare.abilities or Abilities(prepare.scratch, prepare.seds, prepare.locales)
-    return Hunt(prepare.scratch, prepare.judge, prepare.seds, prepare.abilities, report, seed)
+    return kind(prepare.scratch, prepare.judge, prepare.seds, prepare.abilities, report, seed)
 
 
 def work(task):
     """One task: its report. What is drawn depends on the task's seed alone."""
     what, seed, argument = task
     report = Report()
+    if what in ("plain", "plain lengths", "plain script"):
+        hunt = hunt_of(report, seed, PlainHunt)
+        {"plain": hunt.texts, "plain lengths": hunt.lengths, "plain script": hunt.script}[what](argument)
+        return report
     hunt = hunt_of(report, seed)
     if what == "steps":
         draw = Draw(seed)
@@ -199,6 +211,28 @@ def known():
     return list(hunt.abilities.lines()), list(hunt.missed()), is_tried
 
 
+def unnoticed():
+    """Which wrong plain texts aren't noticed."""
+    return list(hunt_of(Report(), "", PlainHunt).unnoticed())
+
+
+def scripts_in(folders):
+    """The names and texts of the scripts there."""
+    for folder in folders:
+        for name in sorted(os.listdir(folder)):
+            if name.endswith(".sed"):
+                with open(os.path.join(folder, name), "rb") as text:
+                    yield name, text.read()
+
+
+def plain_tasks(scripts, seed, folders):
+    """The same scripts, of which a fifth are substitutions, in their plain spelling, and those of the folders."""
+    for at in range(0, scripts, BATCH):
+        yield "plain lengths" if at // BATCH % 5 == 4 else "plain", "%d %d" % (seed, at), min(BATCH, scripts - at)
+    for name, text in scripts_in(folders):
+        yield "plain script", "%d %s" % (seed, name), text
+
+
 def tasks(scripts, seed, inputs, folders):
     """Of the scripts a fifth are substitutions, and a twentieth more are held step by step."""
     for at in range(0, scripts, BATCH):
@@ -206,11 +240,8 @@ def tasks(scripts, seed, inputs, folders):
         yield what, "%d %d" % (seed, at), min(BATCH, scripts - at)
     for at in range(scripts // 20):
         yield "steps", "%d steps %d" % (seed, at), (None, inputs)
-    for folder in folders:
-        for name in sorted(os.listdir(folder)):
-            if name.endswith(".sed"):
-                with open(os.path.join(folder, name), "rb") as text:
-                    yield "steps", "%d %s" % (seed, name), (text.read(), inputs)
+    for name, text in scripts_in(folders):
+        yield "steps", "%d %s" % (seed, name), (text, inputs)
 
 
 def arguments():
@@ -223,6 +254,8 @@ def arguments():
     words.add_argument("--folder", action="append", default=[])
     words.add_argument("--sed", action="append", default=[])
     words.add_argument("--table", action="store_true")
+    words.add_argument("--explain")
+    words.add_argument("--only-plain", action="store_true")
     return words.parse_args()
 
 
@@ -240,14 +273,22 @@ def main():
         print("no sed is found")
         return 0
     folders = [os.path.join(TOP, "examples")] + asked.folder
-    top = make_top([sedck, sedck + "-explain"])
+    explain = os.path.abspath(asked.explain or sedck + "-explain")
+    top = make_top([sedck])
+    shutil.copy(explain, os.path.join(top, "sedck-explain"))
+    spells = has_plain(explain) and any(sed.is_gnu for sed in seds)
+    if not spells:
+        print("plain texts are left out: no GNU sed is found, or %s has no format sed" % explain)
     try:
         with multiprocessing.Pool(asked.jobs, prepare, (top, seds, locales_found(top))) as pool:
             lines, missed, is_tried = pool.apply(known)
             print("\n".join(lines), flush=True)
-            for part in pool.imap_unordered(work, tasks(asked.scripts, asked.seed, asked.inputs, folders)):
+            missed += pool.apply(unnoticed) if spells else []
+            every = () if asked.only_plain else tasks(asked.scripts, asked.seed, asked.inputs, folders)
+            plain = plain_tasks(asked.scripts, asked.seed, folders) if spells else ()
+            for part in pool.imap_unordered(work, itertools.chain(every, plain)):
                 report.add(part)
-            others = pool.apply(pages, (PAGE,))
+            others = [] if asked.only_plain else pool.apply(pages, (PAGE,))
     finally:
         shutil.rmtree(top, ignore_errors=True)
     for line in report.lines():
@@ -256,6 +297,11 @@ def main():
     missed += [line for is_fault, line in others if is_fault]
     for is_fault, line in others:
         print(("" if is_fault else "of another version: ") + line)
+    if len(report.unspelled) * 1000 > report.counts["plain texts: accepted scripts"]:
+        missed.append("more than one of a thousand accepted scripts has no plain spelling")
+        print(missed[-1])
+    if asked.only_plain:
+        return 1 if report.failures() or missed else 0
     if any(sed.is_gnu for sed in seds) and not report.counts["runs that a graph with keep for grow doesn't explain"]:
         missed.append("a graph with keep for grow was not caught")
         print(missed[-1])

@@ -12,6 +12,8 @@ import tempfile
 LIMIT_SECONDS = 3
 TOLD_SECONDS = 0.5
 LONG_SECONDS = 10
+# For the scripts of a batch.
+JUDGE_SECONDS = 60
 # A run on a busy machine may take so many times its limit, until it has had that much of a processor.
 PATIENCE = 20
 TICKS = os.sysconf("SC_CLK_TCK")
@@ -168,7 +170,7 @@ class Judge:
         paths = [os.path.join(self.folder, str(at)) for at in range(len(scripts))]
         for path, script in zip(paths, scripts):
             self.scratch.write(path, script)
-        self.scratch.spawn([self.explain, "--format", "json", "--"] + paths, LONG_SECONDS)
+        self.scratch.spawn([self.explain, "--format", "json", "--"] + paths, JUDGE_SECONDS)
         objects = [json.loads(line) for line in self.scratch.output().decode().split("\n")[:-1]]
         assert len(objects) == len(scripts), "sedck-explain doesn't answer for each script"
         return [self.judged(one) for one in objects]
