@@ -1,7 +1,7 @@
 #!/bin/sh
 # Checks the examples by what their README.md says: the answer in each row of its tables, each certificate as `rank`
 # writes it, what each command prints that the documents show, the answers in docs/FAULTS.md and docs/MENDING.md,
-# the tables of edges and faults, the picture, and docs/DEFINITIONS.md. Needs build/sedck, build/sedck-explain and Python 3; blocks that need
+# the table of edges, the pages of faults, the picture, and docs/DEFINITIONS.md. Needs build/sedck, build/sedck-explain and Python 3; blocks that need
 # more, as a sed, are left out where it is missing. Says what was left out and what failed, and ends with status 1 on any failure.
 
 CDPATH= cd -- "$(dirname -- "$0")/.." || exit 1
@@ -99,7 +99,7 @@ blocks_that_run() {
 # Each command of the console blocks, with all that it prints. After ```console come the words for `has` that a block needs.
 cd .. || exit 1
 PATH=$scratch/build:$PATH
-for document in README.md examples/README.md docs/RECIPES.md docs/TRUST.md docs/STRANGERS.md docs/CALLS.md; do
+for document in README.md examples/README.md docs/RECIPES.md docs/TRUST.md docs/CALLS.md; do
     awk 'sub(/^```console/, "needs") { on = 1 } /^```/ { on = 0 } on' "$documents/$document" > blocks
     blocks_that_run "$document" > shown
     run_shown "$document"
@@ -137,8 +137,8 @@ version=$(awk '/^## [0-9]/ { print $2; exit }' "$documents/CHANGELOG.md")
 [ "$(../build/sedck-explain --version)" = "sedck-explain $version" ] || fail "sedck-explain isn't of version $version, as CHANGELOG.md"
 # The Makefile, the hooks and the steps of the recipes.
 (cd "$documents" && python3 tests/recipes.py build/sedck build/sedck-explain) >&2 || fail "a recipe of docs/RECIPES.md doesn't do what it should"
-# The table of edges, what three pages say of faults, and the scripts of the pages on faults and loops.
-(cd "$documents" && python3 tests/faults.py build/sedck build/sedck-explain) >&2 || fail "the pages of faults and findings don't say the same"
+# The table of edges, what the pages say of faults, and the scripts of the pages on faults and loops.
+(cd "$documents" && python3 tests/faults.py build/sedck-explain) >&2 || fail "the pages of faults and findings don't say the same"
 (cd "$documents" && python3 tests/edges.py build/sedck docs/DEFINITIONS.md) >&2 || fail "a row of the table in docs/DEFINITIONS.md isn't what sedck graph lists"
 (cd "$documents" && python3 tests/pages.py build/sedck docs/FAULTS.md docs/MENDING.md) >&2 || fail "a script of docs/FAULTS.md or docs/MENDING.md isn't answered as the page says"
 

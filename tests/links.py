@@ -1,16 +1,20 @@
 #!/usr/bin/env python3
-"""Checks links, versions, edits and modules in the documents: python3 tests/links.py, in any folder.
+"""Checks links, versions, edits and crates in the documents: python3 tests/links.py, in any folder.
 
 Each link to a file of the repository must lead to one, and to a heading of it where it names one, also those to pages of docs/ that
 the code has as texts; each page is linked from README.md; the manual pages have the version of the first entry of CHANGELOG.md; each
-edit in the tables of wrong bodies of docs/PROVED.md is there, and each that the gate tries is in the first of them; docs/MAP.md has each
-module of each crate. The status is 0 only where all of this holds.
+edit says what is wrong and which function of its crate promises otherwise, and docs/PROVED.md lists those that the gate tries, as
+tools/edits.py does; CONTRIBUTING.md has a line for each crate of crates.txt, with the crates right below it, and each file of a crate's
+src begins with what it is for. The status is 0 only where all of this holds.
 """
 import re
 import sys
 from pathlib import Path
 
 TOP = Path(__file__).resolve().parent.parent
+sys.path.insert(0, str(TOP / "tools"))
+import edits
+
 PAGES = [TOP / "README.md", TOP / "CONTRIBUTING.md", TOP / "CHANGELOG.md", TOP / "examples" / "README.md"] + sorted((TOP / "docs").glob("*.md"))
 MANUAL = sorted((TOP / "man").glob("sedck*.[1-8]"))
 
@@ -34,35 +38,39 @@ def links(page):
             yield target, (page.parent / name).resolve() if name else page, head
 
 
-def edits(folder, head):
-    """The files of the edits in a table of wrong bodies: in its second column, each behind the name of its crate."""
-    table = (TOP / "docs" / "PROVED.md").read_text().partition("\n%s\n" % head)[2].partition("\n\n")[0]
-    for row in re.findall(r"^\| .*$", table, flags=re.M):
-        crate = ""
-        for word in re.findall(r"`([^`]+)`", row.split(" | ")[1]):
-            if word.startswith("sedck_"):
-                crate = word
-            else:
-                yield TOP / "crates" / crate / folder / (word + ".edit")
+def right_below(below):
+    """The crates right below each crate: those that it stands on, but for what another one of them stands on."""
+    whole = {name: set(names) for name, names in below.items()}
+    for _ in below:
+        for names in whole.values():
+            names.update(*[whole[name] for name in names])
+    return {name: {one for one in names if not any(one in whole[other] for other in names)} for name, names in below.items()}
 
 
-def unmapped():
-    """The modules that docs/MAP.md doesn't have under the heading of their crate, and those that it has and that aren't there."""
-    sections = re.split(r"^## `(\w+)`$", (TOP / "docs" / "MAP.md").read_text(), flags=re.M)
-    found = dict(zip(sections[1::2], sections[2::2]))
-    for crate in sorted(path.parent.name for path in TOP.glob("crates/*/src")):
-        named = {name for words in re.findall(r"^- (`[^:]*`): ", found.get(crate, ""), flags=re.M) for name in re.findall(r"`(\w+)`", words)}
-        there = {file.stem for file in (TOP / "crates" / crate / "src").glob("*.rt")} - {"lib", "laws"}
-        yield from ("%s::%s" % (crate, name) for name in sorted(named ^ there))
+def crates():
+    """Where the lines of CONTRIBUTING.md for the crates aren't those of crates.txt, and files of src that don't say what they are for."""
+    ours = {path.parent.name for path in TOP.glob("crates/*/src")}
+    rows = re.findall(r"^(\w+)(?: [^:\n]*)?:(.*)$", (TOP / "crates.txt").read_text(), flags=re.M)
+    due = right_below({name: ours & set(below.split()) for name, below in rows if name in ours})
+    lines = re.findall(r"^- `(sedck\w*)`(?: \(([^)]*)\))?: \S", (TOP / "CONTRIBUTING.md").read_text(), flags=re.M)
+    names = [name for name, _ in lines]
+    for name in sorted(ours ^ {name for name, _ in rows}):
+        yield "crates.txt and the folders of crates differ in %s" % name
+    for name in sorted(ours | set(names)):
+        if names.count(name) != (name in ours):
+            yield "CONTRIBUTING.md has %d lines for the crate %s, not %d" % (names.count(name), name, name in ours)
+    for name, below in lines:
+        if name in due and set(re.findall(r"`(\w+)`", below)) != due[name]:
+            yield "CONTRIBUTING.md: right below %s stand %s, by crates.txt" % (name, ", ".join(sorted(due[name])) or "no crates")
+    for file in sorted(TOP.glob("crates/*/src/**/*.rt")):
+        if not re.match(r"//! \S*\w", file.read_text()):
+            yield "%s doesn't begin with a line //! that says what it is for" % file.relative_to(TOP)
 
 
 def faults():
-    tried = list(edits("must-fail", "| wrong body | edits | refused by |"))
-    for file in tried + list(edits("planted", "| wrong body | planted edits | refused by |")):
-        if not file.exists():
-            yield "docs/PROVED.md: no edit %s" % file.relative_to(TOP)
-    for file in sorted({*TOP.glob("crates/*/must-fail/*.edit")} - {*tried}):
-        yield "docs/PROVED.md doesn't name %s" % file.relative_to(TOP)
+    yield from edits.head_faults()
+    if edits.tried() not in (TOP / "docs" / "PROVED.md").read_text():
+        yield "docs/PROVED.md doesn't list the edits that the gate tries as `python3 tools/edits.py --proved` does"
     for page in PAGES:
         for target, file, head in links(page):
             if not file.exists():
@@ -74,8 +82,7 @@ def faults():
             page = TOP / "docs" / name
             if not page.exists() or head not in anchors(page):
                 yield "%s: no heading %s#%s" % (source.relative_to(TOP), name, head)
-    for module in unmapped():
-        yield "docs/MAP.md and the code differ in the module %s" % module
+    yield from crates()
     linked = {file for _, file, _ in links(TOP / "README.md")}
     for page in PAGES[1:] + MANUAL:
         if page not in linked:

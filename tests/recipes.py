@@ -1,18 +1,19 @@
 #!/usr/bin/env python3
-"""Runs the Makefile, the hooks and the steps of docs/RECIPES.md, and the script of docs/STRANGERS.md, in scratch folders:
+"""Runs the Makefiles, the hooks and the steps of docs/RECIPES.md, and the script of docs/TRUST.md, in scratch folders:
 
     python3 tests/recipes.py build/sedck build/sedck-explain
 
 Each recipe is taken from the page, or from .pre-commit-hooks.yaml, and must pass what it should pass and refuse what it should
 refuse. One that needs a program which this machine lacks is left out, which is said. The status is 0 only where none fails.
 """
-import json
+import hashlib
 import os
 import re
 import shlex
 import shutil
 import subprocess
 import sys
+import tarfile
 import tempfile
 
 try:
@@ -58,8 +59,7 @@ class Scratch:
         os.makedirs(os.path.join(self.whole.name, "libexec", "sedck"))
         shutil.copy(os.path.join(TOP, "wrapper", "sedck-sed"), os.path.join(self.whole.name, "bin"))
         shutil.copy(os.path.join(TOP, "wrapper", "sed"), os.path.join(self.whole.name, "libexec", "sedck"))
-        self.environment = {"PATH": os.path.join(self.whole.name, "bin") + ":" + os.environ["PATH"], "HOME": self.whole.name, "LC_ALL": "C",
-                            "GIT_AUTHOR_NAME": "a", "GIT_AUTHOR_EMAIL": "a@b", "GIT_COMMITTER_NAME": "a", "GIT_COMMITTER_EMAIL": "a@b"}
+        self.environment = {"PATH": os.path.join(self.whole.name, "bin") + ":" + os.environ["PATH"], "HOME": self.whole.name, "LC_ALL": "C"}
         return self
 
     def __exit__(self, *_):
@@ -140,35 +140,11 @@ def inline(scratch):
     holds(scratch.run(0, "sh", "-c", block("Scripts inside of other files", "sh")) == "a\nb\n", "other texts")
 
 
-def inline_make(scratch):
-    scratch.write("notes.txt", "  a  \nb\n")
-    text = block("Scripts inside of makefiles", "make")
-    scratch.write("Makefile", text)
-    scratch.run(0, "make", "notes")
-    holds(scratch.text("notes") == "a\nb\n", "other texts")
-    os.remove(os.path.join(scratch.folder, "notes"))
-    scratch.write("Makefile", text.replace("s/^  *//", ":a\ns/^ / /\nta"))
-    holds("loop-idle" in scratch.run(2, "make", "notes") and not scratch.has("notes"), "a script with a loop is run")
-
-
-def calls(scratch):
-    makefile_text = "all:\n\t@echo a | sed s/a/b/\n\t@echo a | sed s/a/b/\n"
-    scratch.write("Makefile", makefile_text)
-    scratch.write("check-calls.sh", block("The calls of sed in a build", "sh"))
-    holds(scratch.run(0, "sh", "check-calls.sh") == "b\nb\n", "the calls aren't run")
-    holds(scratch.text("sed-calls").count("\n") == 1, "a script isn't noted once")
-    scratch.run(1, "sh", "check-calls.sh")
-    shutil.rmtree(os.path.join(scratch.folder, "sed-scripts"))
-    scratch.write("Makefile", makefile_text + "\t@echo a | sed -E 's/(a)/c/'\n")
-    says = scratch.run(1, "sh", "check-calls.sh").splitlines()
-    holds(says[:3] == ["b", "b", "c"] and [json.loads(line)["words"] for line in says[3:]] == [["-E", "s/(a)/c/"]], "the call isn't shown: %s" % says)
-
-
 def stranger(scratch):
-    """The script of docs/STRANGERS.md, for scripts that are run, that are denied, and that are longer than any script."""
+    """The script of docs/TRUST.md, for scripts that are run, that are denied, and that are longer than any script."""
     if not scratch.run(0, "sh", "-c", "sed --version 2> /dev/null || :").startswith("sed (GNU sed)"):
         raise LeftOut("sed isn't GNU sed")
-    scratch.write("run-stranger.sh", block("Check a copy, and run the copy", "sh", page="docs/STRANGERS.md"))
+    scratch.write("run-stranger.sh", block("Scripts of strangers", "sh", page="docs/TRUST.md"))
     scratch.write("good.sed", "s/a/b/\n")
     scratch.write("mail", "a\nxa\n")
     holds(scratch.run(0, "sh", "-c", "sh run-stranger.sh good.sed < mail") == "b\nxb\n", "other texts")
@@ -207,44 +183,6 @@ def vim(scratch):
     holds(scratch.text("certificate").split()[0] == name + "0:0e1", "the refused certificate isn't listed")
 
 
-def hook(scratch):
-    scratch.run(0, "git", "init", "-q", ".")
-    scratch.write(".git/hooks/pre-commit", block("A hook with certificates", "sh"), 0o755)
-    scratch.copy("odd-lines.sed")
-    scratch.copy("odd-lines.cert")
-    scratch.run(0, "git", "add", ".")
-    scratch.run(0, "git", "commit", "-qm", "a pair")
-    scratch.write("odd-lines.sed", ENDLESS)
-    scratch.run(0, "git", "add", ".")
-    holds("rejected 1 wrong-count" in scratch.run(1, "git", "commit", "-qm", "a loop"), "the rejection isn't shown")
-    scratch.copy("odd-lines.sed")
-    scratch.run(1, "git", "commit", "-qm", "what is staged counts")
-    scratch.run(0, "git", "add", ".")
-    scratch.run(0, "git", "rm", "-q", "--cached", "odd-lines.cert")
-    holds(scratch.run(1, "git", "commit", "-qm", "a certificate is missing") == "pre-commit: odd-lines.sed has no certificate\n", "a missing certificate isn't named")
-
-
-def hook_alone(scratch):
-    """The hook without certificates: what is staged counts, and names of any kind are taken."""
-    scratch.run(0, "git", "init", "-q", ".")
-    scratch.write(".git/hooks/pre-commit", block("A hook without certificates", "sh"), 0o755)
-    scratch.copy("odd-lines.sed", "in here/odd lines.sed")
-    scratch.write("notes.txt", "no script\n")
-    scratch.run(0, "git", "add", ".")
-    scratch.run(0, "git", "commit", "-qm", "a script")
-    scratch.write("in here/odd lines.sed", ENDLESS)
-    scratch.run(0, "git", "add", ".")
-    holds("in here/odd lines.sed:1:1: error: " in scratch.run(1, "git", "commit", "-qm", "a loop"), "the loop isn't shown")
-    scratch.write("-h.sed", ENDLESS)
-    scratch.run(0, "git", "add", ".")
-    holds("-h.sed:1:1: error: " in scratch.run(1, "git", "commit", "-qm", "two loops"), "a name that looks like an option isn't explained")
-    scratch.run(0, "git", "rm", "-qf", "--cached", "--", "-h.sed")
-    scratch.copy("odd-lines.sed", "in here/odd lines.sed")
-    scratch.run(1, "git", "commit", "-qm", "what is staged counts")
-    scratch.run(0, "git", "rm", "-qf", "--cached", "in here/odd lines.sed")
-    scratch.run(0, "git", "commit", "-qm", "a script less")
-
-
 def without_explain(scratch, *words):
     """What the command prints where sedck-explain isn't on the path; the status must be the first word."""
     path = scratch.environment["PATH"]
@@ -271,43 +209,6 @@ def make_check(scratch):
     scratch.run(1, "env", "srcdir=" + scratch.folder, "sh", "-c", "cd / && sh %s" % os.path.join(scratch.folder, test))
 
 
-def autopkgtest(scratch):
-    control = dict(line.split(": ") for line in block("autopkgtest", "text").splitlines())
-    holds(control["Tests"] == "sed-scripts" and "skippable" in control["Restrictions"].split(", "), "another test, or one that may not be skipped")
-    scratch.write("test", block("autopkgtest", "sh").replace("/usr/share/PACKAGE", os.path.join(scratch.folder, "installed")))
-    scratch.copy("odd-lines.sed", "installed/odd-lines.sed")
-    scratch.run(0, "sh", "test")
-    without_explain(scratch, 77, "sh", "test")
-    scratch.write("installed/odd-lines.sed", ENDLESS)
-    holds("odd-lines.sed:1:1: error: " in scratch.run(1, "sh", "test"), "the loop isn't shown")
-
-
-def matcher(scratch):
-    """The lines that the problem matcher takes, and the step that names it."""
-    pattern = json.loads(block("Annotations on GitHub", "json"))["problemMatcher"][0]["pattern"][0]
-    step, = yaml.safe_load(block("Annotations on GitHub", "yaml"))
-    scratch.copy("join-all-loop.sed", "scripts/join-all-loop.sed")
-    lines = scratch.run(1, "bash", "-e", "-c", step["run"]).splitlines()
-    holds(lines[0] == "::add-matcher::.github/sedck-matcher.json", "the matcher isn't named")
-    found = [match for match in (re.search(pattern["regexp"], line) for line in lines[1:]) if match]
-    taken = [found[0][pattern[name]] for name in ("file", "line", "column", "severity", "code")] if found else []
-    holds(taken == ["scripts/join-all-loop.sed", "1", "1", "error", "loop-idle"], "the matcher takes %s" % taken)
-
-
-def sarif(scratch):
-    explaining = yaml.safe_load(block("SARIF", "yaml"))[0]["run"]
-    pairs(scratch)
-    if subprocess.run([scratch.explain, "--format", "sarif", os.path.join(scratch.folder, "scripts/new.sed")], capture_output=True).returncode == 3:
-        raise LeftOut("this sedck-explain has no format sarif")
-    scratch.run(0, "bash", "-e", "-c", explaining)
-    run, = json.loads(scratch.text("sedck.sarif"))["runs"]
-    codes = [result["ruleId"] for result in run["results"]]
-    holds({"loop-idle", "unknown-label"} <= set(codes), "the results are %s" % codes)
-    rules = [rule["id"] for rule in run["tool"]["driver"].get("rules", [])]
-    holds(not rules or set(codes) <= set(rules) and len(set(rules)) == len(rules), "the rules are %s" % rules)
-    scratch.run(1, "bash", "-e", "-c", "rm -r sarif scripts; " + explaining)
-
-
 def fewer(scratch):
     """The comment that silences a warning, and where it doesn't."""
     scratch.write("quiet.sed", block("Fewer findings", "sed"))
@@ -321,106 +222,65 @@ def fewer(scratch):
 
 
 def pairs(scratch):
-    """The scripts that the page shows the failures of, and one without."""
+    """Scripts with certificates, of which two fail, and one without."""
     for name in ("endless-print", "lost-label", "odd-lines"):
         for end in (".sed", ".cert"):
             scratch.copy(name + end, "scripts/" + name + end)
     scratch.copy("last-line.sed", "scripts/new.sed")
 
 
-def failures_shown():
-    return "".join(line[4:] + "\n" for line in read("docs/RECIPES.md").split("\n") if line.startswith("    scripts/"))
+def certificates(scratch):
+    """The step that checks certificates: a line for each failure, and none without one."""
+    pairs(scratch)
+    scratch.write("check.sh", block("Certificates in the repository, or none", "sh"))
+    says = scratch.run(1, "sh", "check.sh").splitlines()
+    holds([line.split(": ")[0] for line in says] == ["scripts/endless-print.sed", "scripts/lost-label.sed", "scripts/new.sed"], "the failures are %s" % says)
+    holds("rejected 4 not-lowered" in says[0] and "unknown-label" in says[1] and "cannot read certificate" in says[2], "the failures are %s" % says)
+    for name in ("endless-print.sed", "lost-label.sed", "new.sed"):
+        os.remove(os.path.join(scratch.folder, "scripts", name))
+    holds(scratch.run(0, "sh", "check.sh") == "", "something is printed")
+    shutil.rmtree(os.path.join(scratch.folder, "scripts"))
+    scratch.run(1, "sh", "check.sh")
+
+
+# Files with a call or a script: the name, the text, whether a step passes, and what it says.
+FILES = [("a.sh", "sed s/a/b/ f\n", True, ""), ("-h.sh", "sed ':x;bx' f\n", False, "-h.sh:1:6: error: "), ("b.sh", 'sed "s/$a/b/" f\n', True, "b.sh:1:8: warning: "),
+         ("Makefile", "a:\n\tsed ':x;bx' f\n", False, "Makefile:2:7: error: "), ("d/e.sh", "sed 's/a' f\n", False, "e.sh:1:6: error: ")]
 
 
 def step(scratch):
-    pairs(scratch)
-    scratch.write("check-sed-scripts.sh", block("A step of continuous integration", "sh"))
-    holds(scratch.run(1, "sh", "check-sed-scripts.sh") == failures_shown(), "the failures aren't those that the page shows")
-    explaining = re.search(r"^In the loop above `(.*)` in place of `(.*)` shows", read("docs/RECIPES.md"), flags=re.M)
-    text = re.sub(r"sedck check .*?(?= 2>&1)", lambda _: explaining[1], scratch.text("check-sed-scripts.sh"))
-    says = scratch.run(1, "sh", "-c", text)
-    holds("endless-print.sed:3:1: error: " in says and "lost-label.sed:2:3: error: " in says, "the places aren't shown: " + says)
-    for name in ("endless-print.sed", "lost-label.sed", "new.sed"):
-        os.remove(os.path.join(scratch.folder, "scripts", name))
-    holds(scratch.run(0, "sh", "check-sed-scripts.sh") == "", "something is printed")
-    shutil.rmtree(os.path.join(scratch.folder, "scripts"))
-    scratch.run(1, "sh", "check-sed-scripts.sh")
-
-
-def lists(scratch):
-    pairs(scratch)
-    text = block("Certificates in the repository, or none", "sh")
-    for name in ("endless-print", "lost-label"):
-        os.remove(os.path.join(scratch.folder, "scripts", name + ".sed"))
-    for name in ("odd-lines", "new"):
-        scratch.run(0, "sh", "-c", "sedck files scripts/%s.sed > scripts/%s.files" % (name, name))
-    scratch.run(0, "sh", "-c", text)
-    scratch.copy("write-section.sed", "scripts/new.sed")
-    holds(scratch.run(1, "sh", "-c", text).startswith("scripts/new.sed: "), "another list isn't seen")
-    scratch.write("scripts/new.sed", ENDLESS)
-    holds(scratch.run(1, "sh", "-c", text).startswith("scripts/new.sed: "), "a loop isn't seen")
-
-
-def archive(scratch):
-    """The archive of the page, and the two variables that name it."""
-    os.makedirs(os.path.join(scratch.whole.name, "stage", "bin"))
-    shutil.copy(scratch.sedck, os.path.join(scratch.whole.name, "stage", "bin"))
-    making = [line for line in block("GitHub and GitLab", "sh").split("\n") if line and not line.startswith("make install ")]
-    says = subprocess.run(["sh", "-ec", "\n".join(making)], cwd=scratch.whole.name, capture_output=True, text=True, check=True).stdout
-    os.remove(os.path.join(scratch.whole.name, "bin", "sedck"))
-    scratch.environment.update(SEDCK_ARCHIVE="file://" + os.path.join(scratch.whole.name, "sedck.tar.gz"), SEDCK_SHA256=says.split()[0])
-    scratch.copy("odd-lines.sed", "scripts/odd-lines.sed")
-    scratch.copy("odd-lines.cert", "scripts/odd-lines.cert")
-    scratch.write("check-sed-scripts.sh", block("A step of continuous integration", "sh"))
-
-
-def github(scratch):
-    job = yaml.safe_load(block("GitHub and GitLab", "yaml"))["jobs"]["sed-scripts"]
-    archive(scratch)
-    get, check = [one["run"] for one in job["steps"] if "run" in one]
-    scratch.environment.update(RUNNER_TEMP=scratch.whole.name + "/temp", GITHUB_PATH=scratch.whole.name + "/path")
-    os.makedirs(scratch.whole.name + "/temp")
-    scratch.run(0, "bash", "-e", "-c", get)
-    with open(scratch.whole.name + "/path") as path:
-        scratch.environment["PATH"] = path.read().strip() + ":" + scratch.environment["PATH"]
-    scratch.run(0, "bash", "-e", "-c", check)
-    scratch.write("scripts/odd-lines.sed", ENDLESS)
-    scratch.run(1, "bash", "-e", "-c", check)
-    scratch.environment["SEDCK_SHA256"] = "0" * 64
-    shutil.rmtree(scratch.whole.name + "/temp/sedck")
-    scratch.run(1, "bash", "-e", "-c", get)
-
-
-def gitlab(scratch):
-    job = yaml.safe_load(block("GitHub and GitLab", "yaml", 1))["sed-scripts"]
-    archive(scratch)
-    lines = [line.replace("/tmp/", scratch.whole.name + "/") for line in job["before_script"] + job["script"] if not line.startswith("apt-get ")]
-    os.rename(scratch.whole.name + "/sedck.tar.gz", scratch.whole.name + "/fetched")
-    scratch.environment["SEDCK_ARCHIVE"] = "file://" + scratch.whole.name + "/fetched"
-    scratch.run(0, "bash", "-e", "-c", "\n".join(lines))
-
-
-def calls_of_tree(scratch):
-    """The step over a tree, and the hook: a loop and a refused script fail, an open hole passes, and each is named."""
-    step = block("The calls of sed in a tree", "sh")
-    entry = shlex.split({hook["id"]: hook for hook in yaml.safe_load(read(".pre-commit-hooks.yaml"))}["sedck-calls"]["entry"])
-    rows = [("a.sh", "sed s/a/b/ f\n", True, ""), ("-h.sh", "sed ':x;bx' f\n", False, "-h.sh:1:6: error: "), ("b.sh", 'sed "s/$a/b/" f\n', True, "b.sh:1:8: warning: "), ("Makefile", "a:\n\tsed ':x;bx' f\n", False, "Makefile:2:7: error: "),
-            ("d/e.sh", "sed 's/a' f\n", False, "e.sh:1:6: error: ")]
-    for name, text, passes, said in rows:
-        scratch.write(name, text)
-        for words in (["sh", "-c", step], [*entry, name]):
-            says = scratch.run(0 if passes else 1, *words)
-            holds(said in says if said else says == "", "of %s this is said:\n%s" % (name, says))
+    """The step over a tree, with the programs from an archive as `make dist` makes it: a loop and a refused script fail, and an open hole passes."""
+    whole = os.path.join(scratch.whole.name, "sedck.tar.gz")
+    with tarfile.open(whole, "w:gz", compresslevel=1) as archive:
+        archive.add(os.path.join(scratch.whole.name, "bin", "sedck-explain"), "sedck-1.1.0-kit/bin/sedck-explain")
+    with open(whole, "rb") as file:
+        scratch.environment.update(SEDCK_ARCHIVE="file://" + whole, SEDCK_SHA256=hashlib.sha256(file.read()).hexdigest(), TMPDIR=scratch.whole.name)
+    text = block("A step of continuous integration", "sh")
+    for name, content, passes, said in [*FILES, ("g.sed", ENDLESS, False, "g.sed:1:1: error: "), ("h.sed", "n\n", True, "")]:
+        scratch.write(name, content)
+        says = scratch.run(0 if passes else 1, "sh", "-c", text)
+        holds(said in says if said else ": error: " not in says and ": warning: " not in says, "of %s this is said:\n%s" % (name, says))
         os.remove(os.path.join(scratch.folder, name))
-    files = {hook["id"]: hook for hook in yaml.safe_load(read(".pre-commit-hooks.yaml"))}["sedck-calls"]["files"]
+    scratch.environment["SEDCK_SHA256"] = "0" * 64
+    scratch.run(1, "sh", "-c", text)
+
+
+def hook_of_calls(scratch):
+    """The hook sedck-calls: a loop and a refused script fail, an open hole passes, and each is named."""
+    hook = {hook["id"]: hook for hook in yaml.safe_load(read(".pre-commit-hooks.yaml"))}["sedck-calls"]
+    for name, text, passes, said in FILES:
+        scratch.write(name, text)
+        says = scratch.run(0 if passes else 1, *shlex.split(hook["entry"]), name)
+        holds(said in says if said else says == "", "of %s this is said:\n%s" % (name, says))
+        os.remove(os.path.join(scratch.folder, name))
     names = ["a.sh", "Makefile", "x/Makefile.in", "debian/rules", "debian/sedck.postinst", "ci.yml", "Dockerfile", "configure", "configure.ac", "a.c", "README", "rules"]
-    asked = [name for name in names if re.search(files, name)]
+    asked = [name for name in names if re.search(hook["files"], name)]
     holds(asked == names[:-3], "the hook is asked of %s" % asked)
 
 
 def pre_commit(scratch):
     hooks = {hook["id"]: hook for hook in yaml.safe_load(read(".pre-commit-hooks.yaml"))}
-    used = yaml.safe_load(block("A hook of pre-commit", "yaml"))["repos"][0]["hooks"]
+    used = yaml.safe_load(block("A hook", "yaml"))["repos"][0]["hooks"]
     holds(all(hook["id"] in hooks for hook in used), "the page shows a hook that isn't there")
     asked = [name for name in ("a.sed", "b.sin", "c.sed.in", "d.in", "sed.txt") if re.search(used[0]["files"], name)]
     holds(asked == ["a.sed", "b.sin", "c.sed.in"], "the page asks of the files %s" % asked)
@@ -442,9 +302,8 @@ def pre_commit(scratch):
 
 
 # Each recipe with the programs that it needs.
-RECIPES = [(makefile, "make sed"), (in_place, "sed"), (inline, "sed"), (inline_make, "make sed"), (calls, "make sed"), (calls_of_tree, "yaml"), (stranger, "sed"), (vim, "vim"), (hook, "git sed"), (hook_alone, "git"), (step, ""), (lists, ""),
-           (make_check, "make"), (autopkgtest, ""), (matcher, "yaml bash"), (sarif, "yaml bash jq"), (fewer, ""),
-           (github, "yaml bash curl tar sha256sum"), (gitlab, "yaml bash curl tar sha256sum"), (pre_commit, "yaml")]
+RECIPES = [(make_check, "make"), (pre_commit, "yaml"), (hook_of_calls, "yaml"), (step, "curl sha256sum tar"), (certificates, ""), (makefile, "make sed"),
+           (in_place, "sed"), (inline, "sed"), (vim, "vim"), (fewer, ""), (stranger, "sed")]
 
 
 def main():
@@ -464,7 +323,7 @@ def main():
                 failed += 1
                 print("recipes: %s: %s" % (recipe.__name__, failure))
     if not failed:
-        print("recipes: %d of docs/RECIPES.md and docs/STRANGERS.md do what they should" % run)
+        print("recipes: %d of docs/RECIPES.md and docs/TRUST.md do what they should" % run)
     return 1 if failed else 0
 
 
