@@ -559,12 +559,11 @@ def files(book, text, seen, blocks):
 
 
 def files_alone(book, seen, blocks):
-    """The files of these definitions, in reading order, each with its lines: its first lines say what they mean."""
+    """The files of these definitions, in reading order: the first lines of each say what they mean."""
     modules = sorted({b.module for b in blocks}, key=place_in_order)
     seen.modules.update(modules)
-    sizes = {module: size([b for b in book.all_blocks[module] if b in blocks]) for module in modules}
-    paths = {module: book.paths[module].relative_to(TOP) for module in modules}
-    return ", ".join(f"[`{paths[module].relative_to('crates')}`](../{paths[module]}) ({sizes[module]})" for module in modules) + "."
+    paths = [book.paths[module].relative_to(TOP) for module in modules]
+    return ", ".join(f"[`{path.relative_to('crates')}`](../{path})" for path in paths) + "."
 
 
 def group(book, text, seen, contracts_of, alone):
@@ -578,9 +577,9 @@ def group(book, text, seen, contracts_of, alone):
     new_types = sorted((t for t in types - seen.types if t in book.types), key=lambda t: (CRATES.index(t[0].split(".")[1]), t[1]))
     seen.types |= types
     sizes = {one: len(book.types[one][1].splitlines()) for one in new_types}
-    if new_types:
+    if new_types and not alone:
         names = ", ".join(f"`{module.split('.')[1]}::{name}` ({sizes[(module, name)]})" for module, name in new_types)
-        shown += f"{' ' if alone else chr(10) * 2}Types of the code: {names}."
+        shown += f"\n\nTypes of the code: {names}."
     return shown, size(new) + sum(sizes.values())
 
 

@@ -3,13 +3,10 @@ use Rattle.std.proofs.Common.{◌≡◌, ◌≤◌, ◌∙◌, ℕ, Bool, true, 
 use Rattle.std.specs.Prelude.{◌⊎◌}
 use Rattle.std.specs.Io.KnownBytes.{Keeps as KeepsBytes}
 use Rattle.sedck_errors.specs.declared.denied.Denied.{Denied}
-use Rattle.sedck_calls.specs.Calls.{IsCall}
-use Rattle.sedck_calls.specs.Scripts.{joined_texts}
-use Rattle.sedck_calls.specs.declared.call.Call.{Call}
 use Rattle.sedck_engines.specs.Inputs.{IsRead}
 use Rattle.sedck_engines.specs.Opened.{Known}
 use Rattle.sedck_engines.specs.declared.answer.RunFault.{RunFault}
-use Rattle.sedck_explanation.specs.Called.{AreParts, known_bytes}
+use Rattle.sedck_explanation.specs.Called.{known_bytes}
 use Rattle.sedck_explanation.proofs.Answering.{on_ok}
 use Rattle.sedck_explanation.specs.Denial.{status_under}
 use Rattle.sedck_explanation.specs.Explanations.{Keeps, KeepsScript, IsExplanation}
@@ -23,7 +20,7 @@ use Rattle.sedck_explain_cli.specs.Requests.{certificate_of}
 use Rattle.sedck_explain_cli.specs.Statuses.{IsGiven, IsGreatest, StatusAt}
 use Rattle.sedck_explain_cli.specs.declared.request.Request.{Request}
 use Rattle.sedck_explain_cli.specs.Private.Shown.{IsShown, SpellsFound}
-use Rattle.sedck_explain_cli.specs.Spelled.{IsPlainly, IsIn, Copies, WritesSame, IsSpelled, SpellsCall}
+use Rattle.sedck_explain_cli.specs.Spelled.{IsPlainly, IsIn, Copies, WritesSame, IsSpelled, SpellsAt, CopiesCall, SpellsCall}
 
 -- ---- The status
 
@@ -90,18 +87,14 @@ pub shown_yes : {E : Type 0} (plain : Bool) (P : Type 0) (e : Explanation) (out 
 shown_yes plain P e out err (Ok status) s holds = λ zero. holds (shown_zero plain e out err status s zero)
 shown_yes plain P e out err (Err why) s holds = tt
 
--- the words are a call, and what its script spells is written, its parts joined
-abbrev pub CopiesCall : Known → List (List ℕ) → Output → Type 0
-CopiesCall k words out = (call : Call) × (parts : List (List ℕ)) × IsCall words call × AreParts k words call.pieces.items parts × Copies (joined_texts parts) out
-
-pub shown_spells : {E : Type 0} (plain : Bool) (k : Known) (words : List (List ℕ)) (e : Explanation) (out err : Output) (r : Result ℕ E)
-    → IfOk r (IsShown plain e out err) → (e.status ≡ 0 → IfSome e.script (Writes out) → CopiesCall k words out)
-    → IfOk r (λ status. plain ≡ true → SpellsCall k words out status)
-shown_spells plain k words e out err (Ok status) s copies = λ is. record {
+pub shown_spells : {E : Type 0} (plain : Bool) (k : Known) (denied : Denied) (words : List (List ℕ)) (e : Explanation) (out err : Output) (r : Result ℕ E)
+    → IfOk r (IsShown plain e out err) → (e.status ≡ 0 → IfSome e.script (Writes out) → CopiesCall k denied words out)
+    → IfOk r (λ status. plain ≡ true → SpellsCall k denied words out status)
+shown_spells plain k denied words e out err (Ok status) s copies = λ is. record {
   spelled = λ zero. copies (shown_zero plain e out err status s zero) ((s.writes is).spelled zero);
   kept = (s.writes is).kept;
 }
-shown_spells plain k words e out err (Err why) s copies = tt
+shown_spells plain k denied words e out err (Err why) s copies = tt
 
 pub shown_silent : {E : Type 0} (plain : Bool) (e : Explanation) (out err : Output) (r : Result ℕ E) → IfOk r (IsShown plain e out err)
     → IfOk r (λ status. (plain ≡ false) ⊎ (status ≡ 0) → KeepsBytes err.before err.after)
@@ -122,25 +115,37 @@ shown_few plain e out err (Err why) s few = tt
 
 -- ---- Scripts
 
--- the status of what is read of the script at a path
+-- what is spelled of the script at a path
+pub path_spelled : (k : Known) (request : Request) (path text : List ℕ) (given : Option (List ℕ)) (out : Output) (r : Result ℕ RunFault)
+    → IsRead 1048577 (known_bytes k path) text → IsGiven k (certificate_of request) given → IfOk r (IsSpelled text given request.denied out)
+    → IfOk r (SpellsAt k request path out)
+path_spelled k request path text given out r is_text is_given spelled =
+    on_ok (IsSpelled text given request.denied out) (SpellsAt k request path out) r
+    (λ status s. record { text = text; is_text = is_text; given = given; is_given = is_given; is_spelled = s }) spelled
+
+-- its status
+spelled_status : (k : Known) (request : Request) (path : List ℕ) (out : Output) (status : ℕ) → SpellsAt k request path out status
+    → IsPlainly (StatusAt k request path) status
+spelled_status k request path out status s = (
+  s.is_spelled.explanation.status,
+  record {
+    text = s.text;
+    is_text = s.is_text;
+    given = s.given;
+    is_given = s.is_given;
+    explanation = s.is_spelled.explanation;
+    is_explanation = s.is_spelled.is_explanation;
+    is_status = refl;
+  },
+  s.is_spelled.is_status,
+)
+
 pub path_status : (k : Known) (request : Request) (path text : List ℕ) (given : Option (List ℕ)) (out : Output) (r : Result ℕ RunFault)
     → IsRead 1048577 (known_bytes k path) text → IsGiven k (certificate_of request) given → IfOk r (IsSpelled text given request.denied out)
     → IfOk r (IsPlainly (StatusAt k request path))
 path_status k request path text given out r is_text is_given spelled =
-    on_ok (IsSpelled text given request.denied out) (IsPlainly (StatusAt k request path)) r
-    (λ status s. (
-      s.explanation.status,
-      record {
-        text = text;
-        is_text = is_text;
-        given = given;
-        is_given = is_given;
-        explanation = s.explanation;
-        is_explanation = s.is_explanation;
-        is_status = refl;
-      },
-      s.is_status,
-    )) spelled
+    on_ok (SpellsAt k request path out) (IsPlainly (StatusAt k request path)) r (spelled_status k request path out)
+    (path_spelled k request path text given out r is_text is_given spelled)
 
 -- and of the only one
 pub one_greatest : (Has : List ℕ → ℕ → Type 0) (paths : List (List ℕ)) (path : List ℕ) (status : ℕ) → paths ≡ path ∷ [] → IsPlainly (Has path) status

@@ -2,16 +2,17 @@
 use Rattle.std.specs.Prelude.{◌≡◌, ◌≢◌, ℕ, Bool, MatchBool, List, [], ◌∷◌, Option}
 use Rattle.std.specs.Io.KnownBytes.{Keeps, Appends}
 use Rattle.sedck_plain.specs.Plain.{SpellSame}
-use Rattle.sedck_calls.specs.Calls.{IsCall}
 use Rattle.sedck_calls.specs.Scripts.{joined_texts}
-use Rattle.sedck_calls.specs.declared.call.Call.{Call}
 use Rattle.sedck_engines.specs.Inputs.{IsRead}
 use Rattle.sedck_engines.specs.Opened.{Known}
 use Rattle.sedck_errors.specs.declared.denied.Denied.{Denied}
-use Rattle.sedck_explanation.specs.Called.{AreParts, known_bytes}
+use Rattle.sedck_explanation.specs.Called.{IsAcceptedCall, known_bytes}
 use Rattle.sedck_explanation.specs.Explanations.{IsExplanation}
 use Rattle.sedck_explanation.specs.declared.explanation.Explanation.{Explanation}
 use Rattle.sedck_formats.specs.Plain.{Output, IsPlainStatus}
+use Rattle.sedck_explain_cli.specs.Requests.{certificate_of}
+use Rattle.sedck_explain_cli.specs.Statuses.{IsGiven}
+use Rattle.sedck_explain_cli.specs.declared.request.Request.{Request}
 
 -- the status of what has this one, or 2 where it is accepted and has no plain spelling
 abbrev pub IsPlainly : (ℕ → Type 0) → ℕ → Type 0
@@ -37,19 +38,24 @@ pub record IsSpelled (text : List ℕ) (given : Option (List ℕ)) (denied : Den
   pub is_status : IsPlainStatus explanation.status status
   pub writes : WritesSame text out status
 
--- so it is for what is read of the script at the path
-pub record SpellsAt (k : Known) (path : List ℕ) (out : Output) (status : ℕ) : Type 0 where
+-- so it is for what is read of the script at the path, and of the request's certificate, whose explanation the status is of
+pub record SpellsAt (k : Known) (request : Request) (path : List ℕ) (out : Output) (status : ℕ) : Type 0 where
   pub text : List ℕ
   pub is_text : IsRead 1048577 (known_bytes k path) text
-  pub writes : WritesSame text out status
+  pub given : Option (List ℕ)
+  pub is_given : IsGiven k (certificate_of request) given
+  pub is_spelled : IsSpelled text given request.denied out status
 
 -- and of the only script at these paths
-abbrev pub SpellsScript : Known → List (List ℕ) → Output → ℕ → Type 0
-SpellsScript k (path ∷ []) out status = SpellsAt k path out status
-SpellsScript k _ out status = ⊥
+abbrev pub SpellsScript : Known → Request → List (List ℕ) → Output → ℕ → Type 0
+SpellsScript k request (path ∷ []) out status = SpellsAt k request path out status
+SpellsScript k request _ out status = ⊥
 
--- with the status 0 the words are a call, and what its script spells is written, its parts joined; else nothing is written
-pub record SpellsCall (k : Known) (words : List (List ℕ)) (out : Output) (status : ℕ) : Type 0 where
-  pub spelled : status ≡ 0
-      → (call : Call) × (parts : List (List ℕ)) × IsCall words call × AreParts k words call.pieces.items parts × Copies (joined_texts parts) out
+-- the call with these words is accepted, and what its script spells is written, its parts joined
+abbrev pub CopiesCall : Known → Denied → List (List ℕ) → Output → Type 0
+CopiesCall k denied words out = (yes : IsAcceptedCall k denied words) × Copies (joined_texts yes.parts) out
+
+-- that is so with the status 0; else nothing is written
+pub record SpellsCall (k : Known) (denied : Denied) (words : List (List ℕ)) (out : Output) (status : ℕ) : Type 0 where
+  pub spelled : status ≡ 0 → CopiesCall k denied words out
   pub kept : status ≢ 0 → Keeps out.before out.after

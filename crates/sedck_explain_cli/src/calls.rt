@@ -33,7 +33,7 @@ pub fn explain_words<R: Input + AllocGlobal, O: Opener, F, W: Sink, E: Sink>(
 ) -> Result<u8, Unexplained>
     ensures few { IfOk result (λ status. status ≤ 2) }
     ensures status { IfOk result (IsIn (is_plain session.now.request.now.format) (HasCallStatus (O.known session.now.files.now) session.now.request.now.denied (map (λ word. word.now) words.now))) }
-    ensures spelled { IfOk result (λ status. is_plain session.now.request.now.format ≡ true → SpellsCall (O.known session.now.files.now) (map (λ word. word.now) words.now) (record { before = W.taken out.old; after = W.taken out.new }) status) }
+    ensures spelled { IfOk result (λ status. is_plain session.now.request.now.format ≡ true → SpellsCall (O.known session.now.files.now) session.now.request.now.denied (map (λ word. word.now) words.now) (record { before = W.taken out.old; after = W.taken out.new }) status) }
     ensures silent { IfOk result (λ status. (is_plain session.now.request.now.format ≡ false) ⊎ (status ≡ 0) → Keeps (E.taken err.old) (E.taken err.new)) }
     ensures yes { IfOk result (λ status. status ≡ 0 → IsAcceptedCall (O.known session.now.files.now) session.now.request.now.denied (map (λ word. word.now) words.now)) }
 {

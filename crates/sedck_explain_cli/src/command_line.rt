@@ -8,7 +8,7 @@ ghost use Rattle.sedck_engines.specs.Opened.{unknown};
 ghost use Rattle.sedck_explain_cli.specs.CallStatus.{HasCallStatus};
 ghost use Rattle.sedck_explain_cli.specs.Lines.{error_line};
 ghost use Rattle.sedck_explain_cli.specs.Requests.{certificate_of, scripts_of, is_plain};
-ghost use Rattle.sedck_explain_cli.specs.Spelled.{IsIn};
+ghost use Rattle.sedck_explain_cli.specs.Spelled.{IsIn, SpellsCall};
 ghost use Rattle.sedck_explain_cli.specs.Statuses.{HasStatus, StatusAt, IsGreatest};
 ghost use Rattle.sedck_explain_cli.specs.Answers.{call_of, asks_for_help, asks_for_plain, is_help as is_help_text, IsStatusOfCall, HasStatusFor, IsAnswered};
 
@@ -210,6 +210,7 @@ pub fn explain_call<R: Input + AllocGlobal, O: Opener, F, W: Sink, E: Sink>(
     ensures within { result ≤ 4 }
     ensures known { result ≢ 3 }
     ensures status { result < 3 → IsIn (is_plain session.now.request.now.format) (HasCallStatus (O.known session.now.files.now) session.now.request.now.denied (map (λ word. word.items) call.now)) result }
+    ensures spelled { result < 3 → is_plain session.now.request.now.format ≡ true → SpellsCall (O.known session.now.files.now) session.now.request.now.denied (map (λ word. word.items) call.now) (record { before = W.taken out.old; after = W.taken out.new }) result }
     ensures yes { result ≡ 0 → IsAcceptedCall (O.known session.now.files.now) session.now.request.now.denied (map (λ word. word.items) call.now) }
     ensures silent { result < 3 → (is_plain session.now.request.now.format ≡ false) ⊎ (result ≡ 0) → Keeps (E.taken err.old) (E.taken err.new) }
 {

@@ -32,7 +32,7 @@ pub fn spell_script<R: Input + AllocGlobal, O: Opener, F, W: Sink, E: Sink>(
 ) -> u8
     ensures within { result ≤ 4 }
     ensures status { result < 3 → IsPlainly (IsGreatest (StatusAt (O.known session.now.files.now) session.now.request.now) (scripts_of session.now.request.now)) result }
-    ensures spelled { result < 3 → SpellsScript (O.known session.now.files.now) (scripts_of session.now.request.now) (record { before = W.taken out.old; after = W.taken out.new }) result }
+    ensures spelled { result < 3 → SpellsScript (O.known session.now.files.now) session.now.request.now (scripts_of session.now.request.now) (record { before = W.taken out.old; after = W.taken out.new }) result }
     ensures refused { result ≡ 3 → Keeps (W.taken out.old) (W.taken out.new) }
     ensures silent { result ≡ 0 → Keeps (E.taken err.old) (E.taken err.new) }
 {
@@ -67,7 +67,7 @@ fn spell_path<R: Input + AllocGlobal, O: Opener, F, W: Sink, E: Sink>(
 ) -> Result<u8, RunFault>
     ensures few { IfOk result (λ status. status ≤ 2) }
     ensures status { IfOk result (IsPlainly (StatusAt (O.known session.now.files.now) session.now.request.now path.now)) }
-    ensures spelled { IfOk result (SpellsAt (O.known session.now.files.now) path.now (record { before = W.taken out.old; after = W.taken out.new })) }
+    ensures spelled { IfOk result (SpellsAt (O.known session.now.files.now) session.now.request.now path.now (record { before = W.taken out.old; after = W.taken out.new })) }
     ensures silent { IfOk result (λ status. status ≡ 0 → Keeps (E.taken err.old) (E.taken err.new)) }
 {
     let text = text_at(session, path)?;

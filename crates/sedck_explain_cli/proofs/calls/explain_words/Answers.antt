@@ -38,7 +38,7 @@ returns-in-Err-clause-spelled g c =
     let e = c.in_ok-explanation-in-Err.explanation in
     let out : Output = record { before = g.W.Sink.taken c.args.out.now; after = g.W.Sink.taken c.shown.new.out } in
     let err : Output = record { before = g.E.Sink.taken c.args.err.now; after = g.E.Sink.taken c.shown.new.err } in
-    shown_spells (is_plain c.args.session.now.request.now.format) known words e out err c.shown.result c.shown.ensures
+    shown_spells (is_plain c.args.session.now.request.now.format) known c.args.session.now.request.now.denied words e out err c.shown.result c.shown.ensures
     (λ zero writes. two_never e.status c.in_ok-explanation-in-Err.ensures.status zero)
 
 pub returns-then-has_foreign-clause-status : goal.returns-then-has_foreign-clause-status
@@ -71,7 +71,7 @@ returns-then-has_foreign-clause-spelled g c =
     let e = c.not_judged-explanation.result in
     let out : Output = record { before = g.W.Sink.taken c.args.out.now; after = g.W.Sink.taken c.shown-then-has_foreign.new.out } in
     let err : Output = record { before = g.E.Sink.taken c.args.err.now; after = g.E.Sink.taken c.shown-then-has_foreign.new.err } in
-    shown_spells (is_plain c.args.session.now.request.now.format) known words e out err c.shown-then-has_foreign.result c.shown-then-has_foreign.ensures
+    shown_spells (is_plain c.args.session.now.request.now.format) known c.args.session.now.request.now.denied words e out err c.shown-then-has_foreign.result c.shown-then-has_foreign.ensures
     (λ zero writes. two_never e.status c.not_judged-explanation.ensures.status zero)
 
 pub returns-clause-few : goal.returns-clause-few
@@ -142,5 +142,14 @@ returns-clause-spelled g c =
     subst (λ pieces. AreParts known words pieces parts) c.deref-2.ensures.value c.in_ok-parts.ensures in
     let is : e.status ≡ 0 → IsExplanation (joined_texts parts) None denied e =
     λ zero. subst (λ text. IsExplanation text None denied e) (c.deref-4.ensures.value ∙ c.in_ok-text.ensures ∙ ap (λ all. joined_texts (map (λ part. part.items) all)) c.deref-3.ensures.value) (c.in_ok-explanation.ensures.yes zero) in
-    shown_spells (is_plain c.args.session.now.request.now.format) known words e out err c.shown-2.result c.shown-2.ensures
-    (λ zero writes. (c.in-Ok.call, parts, c.in-Ok.ensures.call, are_parts, copied_yes (joined_texts parts) None denied e out (is zero) zero writes))
+    shown_spells (is_plain c.args.session.now.request.now.format) known c.args.session.now.request.now.denied words e out err c.shown-2.result c.shown-2.ensures
+    (λ zero writes. (record {
+      call = c.in-Ok.call;
+      is_call = c.in-Ok.ensures.call;
+      is_judged = subst (λ given. has_foreign given ≡ false) c.deref.ensures.value (sym c.has_foreign.ensures ∙ c.if-has_foreign.false);
+      parts = parts;
+      are_parts = are_parts;
+      explanation = e;
+      is_explanation = is zero;
+      is_yes = zero;
+    }, copied_yes (joined_texts parts) None denied e out (is zero) zero writes))

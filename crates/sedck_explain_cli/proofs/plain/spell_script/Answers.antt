@@ -16,4 +16,4 @@ pub returns-in-Ok-clause-spelled : goal.returns-in-Ok-clause-spelled
 returns-in-Ok-clause-spelled g c = λ small.
     let k = g.O.Opener.known c.args.session.now.files.now in
     let out : Output = record { before = g.W.Sink.taken c.args.out.now; after = g.W.Sink.taken c.spell_path.new.out } in
-    subst (λ paths. SpellsScript k paths out c.in-Ok.status) (sym c.in-Some.ensures) c.in-Ok.ensures.spelled
+    subst (λ paths. SpellsScript k c.args.session.now.request.now paths out c.in-Ok.status) (sym c.in-Some.ensures) c.in-Ok.ensures.spelled
