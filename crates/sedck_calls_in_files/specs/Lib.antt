@@ -2,5 +2,6 @@
 pub mod Placed
 pub mod Judged
 pub mod Scanned
+pub mod Lines
 -- What functions inside the crate promise each other.
 pub mod Private

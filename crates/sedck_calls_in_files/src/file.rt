@@ -43,10 +43,7 @@ fn report_places<W: Sink>(
     for offset in places {
         position = call_position(text, position, *offset);
         let explanation = explain_unread(asked.alloc, text, position)?;
-        let report = place_report(asked, &explanation)?;
-        if write_all(out, &report).is_err() {
-            return Err(Unexplained::Write);
-        }
+        write_all(out, &place_report(asked, &explanation)?)?;
     }
     Ok(status_of_places(places))
 }
@@ -80,10 +77,7 @@ pub fn explain_calls<W: Sink>(
         let explanation = explain_found(asked.alloc, text, position, call, asked.scan.denied)?;
         counts.add(CallAnswer::of(&explanation));
         status = greater(status, explanation.status);
-        let report = call_report(asked, position, call, &explanation)?;
-        if write_all(out, &report).is_err() {
-            return Err(Unexplained::Write);
-        }
+        write_all(out, &call_report(asked, position, call, &explanation)?)?;
     }
     Ok(status)
 }

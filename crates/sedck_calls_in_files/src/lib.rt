@@ -6,6 +6,7 @@
 #![tactic(auto)]
 
 mod answers;
+mod errors;
 mod file;
 mod finder;
 mod holes;
@@ -18,6 +19,7 @@ mod request;
 mod tracing;
 mod walk;
 
+pub use errors::{Unread, end, out_of_memory, unwritten};
 pub use file::{explain_calls, explain_text};
 pub use finder::{AsTheShell, Finder};
 pub use judging::explain_found;

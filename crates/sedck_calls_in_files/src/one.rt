@@ -11,13 +11,14 @@ ghost use Rattle.sedck_calls_in_files.specs.Private.Contents.{IsTextOf};
 ghost use Rattle.sedck_calls_in_files.specs.Private.Spelling.{SpellsCall, SpellsIn};
 
 use crate::answers::call_report;
+use crate::errors::{Unread, end, out_of_memory, unwritten};
 use crate::file::call_position;
 use crate::finder::Finder;
 use crate::judging::explain_found;
 use crate::reading::{Contents, contents_of};
 use crate::request::{File, FileScan};
-use crate::walk::{Walk, unread_words};
-use sedck_cert::streams::{Failed, FromRead, Sink, write_all};
+use crate::walk::{TOO_LONG, Walk};
+use sedck_cert::streams::{FromRead, Sink, write_all};
 use sedck_engines::Opener;
 use sedck_explanation::{Position, position_at};
 use sedck_formats::{Names, plain_report, shown_path};
@@ -31,6 +32,10 @@ pub struct At {
     pub line: usize,
     pub column: Option<usize>,
 }
+
+/// What is said where no call is there, or several.
+const NOT_ONE: &[u8] =
+    b"--at: not just one call of sed begins there (LINE:COLUMN chooses one of several)\n";
 
 /// Writes the script of the call that is there in its plain spelling, if it is accepted, and else a report to standard error. Answers the
 /// exit status: that of what is said of the call, but 2 for an accepted script without a plain spelling; 3 where no call is there, or
@@ -64,14 +69,18 @@ pub fn spell_call<R: Input + AllocGlobal, O: Opener, F: Finder, W: Sink, E: Sink
             };
             spell_in(&asked, walk.finder, at, out, err)
         }
-        Contents::TooLong => {
-            let reason = Some("it has more than 4,194,304 bytes");
-            unread(alloc, err, path, reason)
-        }
+        Contents::TooLong => unread(path, TOO_LONG, err),
         Contents::Other | Contents::Unreadable => {
-            unread(alloc, err, path, walk.files.why_unreadable(path))
+            unread(path, walk.files.why_unreadable(path), err)
         }
     }
+}
+
+/// Reports that the file can't be read, and why: the status 4.
+fn unread<E: Sink>(name: &str, reason: Option<&'static str>, err: &mut E) -> u8
+    ensures { result ≡ 4 }
+{
+    Unread { name, reason }.end(err)
 }
 
 /// What the file at the path holds, which is given.
@@ -116,7 +125,7 @@ fn spell_in<F: Finder, W: Sink, E: Sink>(
     };
     match one_at(asked.file.text, &found.calls, at) {
         Some(call) => spell_one(asked, call, out, err),
-        None => no_call(err),
+        None => end(err, NOT_ONE, 3),
     }
 }
 
@@ -189,57 +198,12 @@ fn sent<W: Sink, E: Sink>(report: &[u8], status: u8, out: &mut W, err: &mut E) -
     match status {
         0 => match write_all(out, report) {
             Ok(()) => 0,
-            Err(_) => fail(err, b"cannot write\n"),
+            Err(_) => unwritten(err),
         },
         1 | 2 | 5 => {
             let _ = write_all(err, report);
             status
         }
-        _ => fail(err, report),
+        _ => end(err, report, 4),
     }
-}
-
-/// Reports that no call is there, or several: the status 3.
-fn no_call<E: Sink>(err: &mut E) -> u8
-    ensures { result ≡ 3 }
-{
-    let _ = write_line(
-        err,
-        b"--at: not just one call of sed begins there (LINE:COLUMN chooses one of several)\n",
-    );
-    3
-}
-
-fn out_of_memory<E: Sink>(err: &mut E) -> u8
-    ensures { result ≡ 4 }
-{
-    fail(err, b"out of memory\n")
-}
-
-/// Reports that the file can't be read, and why: the status 4.
-fn unread<E: Sink>(alloc: Global, err: &mut E, path: &str, reason: Option<&'static str>) -> u8
-    ensures { result ≡ 4 }
-{
-    match unread_words(alloc, path, reason) {
-        Ok(words) => {
-            let _ = write_line(err, words.as_bytes());
-            let _ = write_all(err, b"\n");
-            4
-        }
-        Err(_) => out_of_memory(err),
-    }
-}
-
-/// Reports why nothing is said: the status 4.
-fn fail<E: Sink>(err: &mut E, words: &[u8]) -> u8
-    ensures { result ≡ 4 }
-{
-    let _ = write_line(err, words);
-    4
-}
-
-/// Writes the words after the program's name.
-fn write_line<E: Sink>(err: &mut E, words: &[u8]) -> Result<(), Failed> {
-    write_all(err, b"sedck-explain: ")?;
-    write_all(err, words)
 }

@@ -6,6 +6,7 @@ ghost use Rattle.sedck_calls_in_files.specs.Scanned.{PathStatus, IsWorstOf};
 ghost use Rattle.sedck_calls_in_files.specs.Private.Contents.{ContentsStatus, SourceStatus};
 
 use crate::answers::script_report;
+use crate::errors::{Unread, out_of_memory, unwritten, write_named};
 use crate::file::{explain_text, greater};
 use crate::finder::Finder;
 use crate::reading::{Contents, contents_of};
@@ -13,7 +14,7 @@ use crate::request::{File, FileScan, Look, Scan};
 use sedck_cert::streams::{Failed, FromRead, Sink, Source, write_all};
 use sedck_engines::{Input as InputOf, Opener, read_up_to};
 use sedck_explanation::{Unexplained, explain};
-use sedck_formats::{Counts, json_counts, json_unreadable, shown_letter};
+use sedck_formats::{Counts, json_counts, json_unreadable};
 use std::alloc::{AllocError, Global};
 use std::fs;
 use std::fs::Files;
@@ -21,6 +22,9 @@ use std::io::{Error, ErrorKind, Input};
 
 /// The most bytes of a script that are read: one more than scripts may have.
 const LONGEST_SCRIPT: usize = 1_048_577;
+
+/// Why a file that is too long can't be read.
+pub(crate) const TOO_LONG: Option<&'static str> = Some("it has more than 4,194,304 bytes");
 
 /// Folders of version control, which aren't walked.
 static HIDDEN: [&'static str; 5] = [".git", ".hg", ".svn", ".bzr", "_darcs"];
@@ -70,10 +74,8 @@ pub fn scan_files<
             let _ = write_unread(err, &pass.unread);
             4
         }
-        Err(fault) => {
-            let _ = write_fault(err, fault);
-            4
-        }
+        Err(Unexplained::Write) => unwritten(err),
+        Err(_) => out_of_memory(err),
     }
 }
 
@@ -164,10 +166,7 @@ impl<R: Files + Input + AllocGlobal + Clone + Drop, O: Opener, F: Finder> Walk<'
                 explain_text(&asked, self.finder, &mut pass.counts, out)
             }
             Contents::Other => Ok(0),
-            Contents::TooLong => {
-                let reason = Some("it has more than 4,194,304 bytes");
-                self.report_unread(path, reason, pass, out)
-            }
+            Contents::TooLong => self.report_unread(path, TOO_LONG, pass, out),
             Contents::Unreadable => self.skip(path, pass, out),
         }
     }
@@ -241,7 +240,7 @@ impl<R: Files + Input + AllocGlobal + Clone + Drop, O: Opener, F: Finder> Walk<'
         let own = Some(path.as_bytes());
         let explanation = explain(alloc, own, &text, None, self.scan.denied)?;
         pass.counts.scripts = pass.counts.scripts.saturating_add(1);
-        written(out, &script_report(alloc, self.scan, path, &explanation)?)?;
+        write_all(out, &script_report(alloc, self.scan, path, &explanation)?)?;
         Ok(explanation.status)
     }
 
@@ -280,10 +279,10 @@ impl<R: Files + Input + AllocGlobal + Clone + Drop, O: Opener, F: Finder> Walk<'
         ensures { IfOk result (λ status. status ≡ 4) }
     {
         let alloc = self.rt.alloc();
-        let message = unread_words(alloc, path, reason)?;
+        let message = Unread { name: path, reason }.words(alloc)?;
         pass.counts.unreadable = pass.counts.unreadable.saturating_add(1);
         if self.scan.look == Look::Json {
-            written(out, &json_unreadable(alloc, path, message.as_str())?)?;
+            write_all(out, &json_unreadable(alloc, path, message.as_str())?)?;
         }
         keep(&mut pass.unread, message)?;
         Ok(4)
@@ -299,10 +298,11 @@ fn write_counts<W: Sink>(
     out: &mut W,
 ) -> Result<(), Unexplained> {
     match look {
-        Look::Text { .. } => written(out, &counts.text(alloc)?),
-        Look::Json => written(out, &json_counts(alloc, counts, status)?),
-        Look::Gcc => Ok(()),
+        Look::Text { .. } => write_all(out, &counts.text(alloc)?)?,
+        Look::Json => write_all(out, &json_counts(alloc, counts, status)?)?,
+        Look::Gcc => {}
     }
+    Ok(())
 }
 
 /// Adds the entries of the folder, of which the first in order comes last. Whether all of its names could be read.
@@ -356,44 +356,10 @@ fn keep(unread: &mut Vec<String>, words: String) -> Result<(), AllocError> {
     Ok(unread.push(words)?)
 }
 
-/// What can't be read and why, in words.
-pub(crate) fn unread_words(
-    alloc: Global,
-    path: &str,
-    reason: Option<&'static str>,
-) -> Result<String, AllocError> {
-    let mut words = String::from_str(alloc, "cannot read ")?;
-    for letter in path.chars() {
-        words.push(shown_letter(letter))?;
-    }
-    if let Some(reason) = reason {
-        words.push_str(": ")?;
-        words.push_str(reason)?;
-    }
-    Ok(words)
-}
-
-/// Writes the bytes.
-fn written<W: Sink>(out: &mut W, bytes: &[u8]) -> Result<(), Unexplained> {
-    match write_all(out, bytes) {
-        Ok(()) => Ok(()),
-        Err(_) => Err(Unexplained::Write),
-    }
-}
-
-/// Writes why the scan ends.
-fn write_fault<E: Sink>(err: &mut E, fault: Unexplained) -> Result<(), Failed> {
-    match fault {
-        Unexplained::Write => write_all(err, b"sedck-explain: cannot write\n"),
-        _ => write_all(err, b"sedck-explain: out of memory\n"),
-    }
-}
-
 /// Writes a line for each that can't be read.
 fn write_unread<E: Sink>(err: &mut E, unread: &[String]) -> Result<(), Failed> {
     for words in unread {
-        write_all(err, b"sedck-explain: ")?;
-        write_all(err, words.as_bytes())?;
+        write_named(err, words.as_bytes())?;
         write_all(err, b"\n")?;
     }
     Ok(())

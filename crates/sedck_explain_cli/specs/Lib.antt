@@ -6,6 +6,5 @@ pub mod Requests
 pub mod Spelled
 -- What functions inside the crate promise each other.
 pub mod Private
-pub mod Lines
 pub mod Statuses
 pub mod Answers

@@ -1,7 +1,7 @@
 //! A call of sed, explained by its words.
 
 ghost use Rattle.std.specs.Prelude.{◌≡◌, ◌≢◌, ◌⊎◌, ◌≤◌, true, false, map, IfOk, OnOk};
-ghost use Rattle.std.specs.Io.KnownBytes.{Keeps, Appends};
+ghost use Rattle.std.specs.Io.KnownBytes.{Keeps};
 ghost use Rattle.sedck_explanation.specs.Called.{IsAcceptedCall};
 ghost use Rattle.sedck_explain_cli.specs.CallStatus.{HasCallStatus};
 ghost use Rattle.sedck_explain_cli.specs.Private.Shown.{IsShown};
@@ -88,35 +88,8 @@ fn shown<R: AllocGlobal, O, F, W: Sink, E: Sink>(
         .rendered(session.alloc(), names, names, explanation)?;
     if session.request.format.is_plain() {
         let (made, status) = plain_report(session.alloc(), names, explanation, made)?;
-        return plainly(out, err, &made, status);
+        return Ok(sent(out, err, &made, status)?);
     }
-    report(out, &made, explanation.status)
-}
-
-/// Writes what is to be written in the format `sed` with this status, and answers it.
-fn plainly<W: Sink, E: Sink>(
-    out: &mut W,
-    err: &mut E,
-    report: &[u8],
-    status: u8,
-) -> Result<u8, Unexplained>
-    ensures status { IfOk result (λ answered. answered ≡ status) }
-    ensures written { OnOk result (status ≡ 0 → Appends (W.taken out.old) (W.taken out.new) report.now) }
-    ensures kept { status ≢ 0 → Keeps (W.taken out.old) (W.taken out.new) }
-    ensures silent { status ≡ 0 → Keeps (E.taken err.old) (E.taken err.new) }
-{
-    match sent(out, err, report, status) {
-        Ok(status) => Ok(status),
-        Err(_) => Err(Unexplained::Write),
-    }
-}
-
-/// Writes the report, and answers the status.
-fn report<W: Sink>(out: &mut W, report: &[u8], status: u8) -> Result<u8, Unexplained>
-    ensures { IfOk result (λ answered. answered ≡ status) }
-{
-    match write_all(out, report) {
-        Ok(()) => Ok(status),
-        Err(_) => Err(Unexplained::Write),
-    }
+    write_all(out, &made)?;
+    Ok(explanation.status)
 }

@@ -2,11 +2,10 @@
 
 ghost use Rattle.std.specs.Prelude.{◌≡◌, ◌≢◌, ◌⊎◌, ◌<◌, ◌≤◌, ◌++◌, true, false, codes, map, None, IfOk, OnOk};
 ghost use Rattle.std.specs.Io.KnownBytes.{Keeps, Appends};
-ghost use Rattle.sedck_cert.specs.Streams.{ReportsFailure};
 ghost use Rattle.sedck_explanation.specs.Called.{IsAcceptedCall};
 ghost use Rattle.sedck_engines.specs.Opened.{unknown};
 ghost use Rattle.sedck_explain_cli.specs.CallStatus.{HasCallStatus};
-ghost use Rattle.sedck_explain_cli.specs.Lines.{error_line};
+ghost use Rattle.sedck_calls_in_files.specs.Lines.{error_line};
 ghost use Rattle.sedck_explain_cli.specs.Requests.{certificate_of, scripts_of, is_plain};
 ghost use Rattle.sedck_explain_cli.specs.Spelled.{IsIn, SpellsCall};
 ghost use Rattle.sedck_explain_cli.specs.Statuses.{HasStatus, StatusAt, IsGreatest};
@@ -23,17 +22,14 @@ use crate::unread::{unread_of, unread_part};
 use crate::words::Words;
 use clap::Error;
 use clap::error::ErrorKind;
-use sedck_calls_in_files::{AsTheShell, Finder};
-use sedck_cert::streams::{Failed, FromRead, Sink, Source, write_all};
+use sedck_calls_in_files::{AsTheShell, Finder, end, out_of_memory, unwritten};
+use sedck_cert::streams::{FromRead, Sink, Source, write_all};
 use sedck_engines::{FromFiles, Input as InputOf, Opener, RunFault};
 use sedck_explanation::{Denied, Unexplained};
 use sedck_formats::{ScriptCounts, json_unreadable, sarif_unreadable};
 use std::alloc::{AllocError, Global};
 use std::fs::Files;
 use std::io::{Input, Write};
-
-/// What is written to standard error is begun with.
-const NAME: &[u8] = b"sedck-explain: ";
 
 /// The whole program for the arguments after its name, and its exit status: of the scripts' statuses the greatest, which are 0 for
 /// accepted, 1 for a rejection, a loop or what is denied, and 2 for a refused text; 3 for invalid arguments, 4 where a stream fails or memory
@@ -219,10 +215,7 @@ pub fn explain_call<R: Input + AllocGlobal, O: Opener, F, W: Sink, E: Sink>(
     };
     match explain_words(session, &words, out, err) {
         Ok(status) => status,
-        Err(fault) => {
-            report_unexplained(session, &words, fault, out, err);
-            4
-        }
+        Err(fault) => report_unexplained(session, &words, fault, out, err),
     }
 }
 
@@ -237,39 +230,46 @@ fn slices_of<'a>(alloc: Global, words: &'a [Vec<u8>]) -> Result<Vec<&'a [u8]>, A
     Ok(slices)
 }
 
-/// Reports why a call isn't explained.
+/// Reports why a call isn't explained, and answers the exit status.
 fn report_unexplained<R: AllocGlobal, O: Opener, F, W: Sink, E: Sink>(
     session: &Session<R, O, F>,
     words: &[&[u8]],
     fault: Unexplained,
     out: &mut W,
     err: &mut E,
-) {
-    let _ = write_unexplained(session.files, err, words, fault);
-    let Unexplained::Unread(origin) = fault else {
-        return;
+) -> u8
+    ensures { result ≡ 4 }
+{
+    let fault = match fault {
+        Unexplained::Unread(origin) => {
+            let path = origin.text(words);
+            let status = unread_part(session.files, path).end(err);
+            let Err(fault) = write_unread_part(session, path, out) else {
+                return status;
+            };
+            fault
+        }
+        other => other,
     };
-    if !session.request.format.has_unreadable() {
-        return;
-    }
-    if let Err(fault) = write_unread_part(session, origin.text(words), out) {
-        let _ = write_unexplained(session.files, err, words, fault);
+    match fault {
+        Unexplained::Write => unwritten(err),
+        _ => out_of_memory(err),
     }
 }
 
-/// Writes the object of a call of which a file can't be read, so that programs find one for each call.
+/// Writes the object of a call of which a file can't be read, where the format has one, so that programs find one for each call.
 fn write_unread_part<R: AllocGlobal, O: Opener, F, W: Sink>(
     session: &Session<R, O, F>,
     path: &[u8],
     out: &mut W,
 ) -> Result<(), Unexplained> {
+    if !session.request.format.has_unreadable() {
+        return Ok(());
+    }
     let alloc = session.alloc();
     let message = unread_part(session.files, path).words(alloc)?;
     let report = unreadable(alloc, session.request.format, "sed", message.as_str())?;
-    match write_all(out, &report) {
-        Ok(()) => Ok(()),
-        Err(_) => Err(Unexplained::Write),
-    }
+    Ok(write_all(out, &report)?)
 }
 
 /// The object of what can't be read: a log in SARIF, or one in JSON.
@@ -282,21 +282,6 @@ fn unreadable(
     match format {
         Format::Sarif => sarif_unreadable(alloc, name, message),
         _ => json_unreadable(alloc, name, message),
-    }
-}
-
-/// Writes why a call isn't explained.
-fn write_unexplained<O: Opener, E: Sink>(
-    files: &O,
-    err: &mut E,
-    words: &[&[u8]],
-    fault: Unexplained,
-) -> Result<(), Failed> {
-    write_all(err, NAME)?;
-    match fault {
-        Unexplained::Unread(origin) => unread_part(files, origin.text(words)).write(err),
-        Unexplained::Write => write_all(err, b"cannot write\n"),
-        Unexplained::OutOfMemory => write_all(err, b"out of memory\n"),
     }
 }
 
@@ -415,7 +400,7 @@ fn is_followed<R: AllocGlobal, O: Opener, F, W: Sink, E: Sink>(
     out: &mut W,
     err: &mut E,
 ) -> bool {
-    report_fault(session, path, fault, err);
+    let _ = report_fault(session, path, fault, err);
     let RunFault::Read(input) = fault else {
         return false;
     };
@@ -425,7 +410,7 @@ fn is_followed<R: AllocGlobal, O: Opener, F, W: Sink, E: Sink>(
     match report_unread(session, path, input, out) {
         Ok(()) => true,
         Err(fault) => {
-            report_fault(session, path, fault, err);
+            let _ = report_fault(session, path, fault, err);
             false
         }
     }
@@ -440,11 +425,7 @@ fn report_unread<R: AllocGlobal, O: Opener, F, W: Sink>(
 ) -> Result<(), RunFault> {
     let alloc = session.alloc();
     let message = unread_of(session.files, session.request, path, input).words(alloc)?;
-    let name = if path == "-" {
-        session.request.stdin_name
-    } else {
-        path
-    };
+    let name = session.request.name_of(path);
     let report = unreadable(alloc, session.request.format, name, message.as_str())?;
     match write_all(out, &report) {
         Ok(()) => Ok(()),
@@ -452,51 +433,23 @@ fn report_unread<R: AllocGlobal, O: Opener, F, W: Sink>(
     }
 }
 
-/// Reports why a script couldn't be explained. It takes no memory.
+/// Reports why a script couldn't be explained, and answers the exit status. It takes no memory.
 pub(crate) fn report_fault<R, O: Opener, F, E: Sink>(
     session: &Session<R, O, F>,
     path: &str,
     fault: RunFault,
     err: &mut E,
-) {
-    let _ = write_fault(session.files, err, session.request, path, fault);
-}
-
-/// Writes the line of the fault.
-fn write_fault<O: Opener, E: Sink>(
-    files: &O,
-    err: &mut E,
-    request: &Request,
-    path: &str,
-    fault: RunFault,
-) -> Result<(), Failed> {
-    write_all(err, NAME)?;
+) -> u8
+    ensures { result ≡ 4 }
+{
     match fault {
-        RunFault::Read(input) => unread_of(files, request, path, input).write(err),
-        RunFault::Write => write_all(err, b"cannot write\n"),
+        RunFault::Read(input) => unread_of(session.files, session.request, path, input).end(err),
+        RunFault::Write => unwritten(err),
         // Texts that are refused are reported, so that memory is all that is left.
         RunFault::Script(_) | RunFault::Certificate(_) | RunFault::OutOfMemory => {
-            write_all(err, b"out of memory\n")
+            out_of_memory(err)
         }
     }
-}
-
-/// Writes why the program ends, and answers its exit status.
-pub(crate) fn end<E: Sink>(err: &mut E, words: &[u8], status: u8) -> u8
-    ensures status { result ≡ status }
-    ensures line { E.has_failed err.new ≡ false → Appends (E.taken err.old) (E.taken err.new) (codes "sedck-explain: " ++ words.now) }
-{
-    let _ = write_refusal(err, words);
-    status
-}
-
-/// Writes why the words are refused.
-fn write_refusal<E: Sink>(err: &mut E, words: &[u8]) -> Result<(), Failed>
-    ensures written { OnOk result (Appends (E.taken err.old) (E.taken err.new) (codes "sedck-explain: " ++ words.now)) }
-    ensures failure { ReportsFailure result (E.has_failed err.old) (E.has_failed err.new) }
-{
-    write_all(err, NAME)?;
-    write_all(err, words)
 }
 
 /// Writes what `clap` says of the words: the help or the version to the output, a refusal to standard error. Answers the exit
@@ -552,21 +505,6 @@ fn words_of(alloc: Global, error: &Error) -> Result<String, AllocError> {
         return Err(AllocError);
     }
     format!(in alloc; "{error}")
-}
-
-/// Reports that memory ran out, and answers the exit status.
-pub fn out_of_memory<E: Sink>(err: &mut E) -> u8
-    ensures { result ≡ 4 }
-{
-    end(err, b"out of memory\n", 4)
-}
-
-/// Reports that the output can't be written, and answers the exit status.
-fn unwritten<E: Sink>(err: &mut E) -> u8
-    ensures status { result ≡ 4 }
-    ensures line { E.has_failed err.new ≡ false → Appends (E.taken err.old) (E.taken err.new) (error_line (codes "cannot write")) }
-{
-    end(err, b"cannot write\n", 4)
 }
 
 /// The status once the report is flushed. A report that can't be flushed isn't written: then the status is 4, with a line that

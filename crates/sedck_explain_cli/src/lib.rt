@@ -20,12 +20,13 @@ mod unread;
 mod words;
 
 pub use calls::explain_words;
-pub use command_line::{explain_all, explain_call, flushed, out_of_memory, program, program_over};
+pub use command_line::{explain_all, explain_call, flushed, program, program_over};
 pub use explaining::{Named, explain_alone, explain_with};
 pub use format::{Format, NAMES, Style};
 pub use plain::{spell, spell_script};
 pub use reporter::Reporter;
 pub use request::{Request, request_of};
+pub use sedck_calls_in_files::out_of_memory;
 pub use sedck_explanation::{Denied, Level};
 pub use session::Session;
 pub use words::{Words, arguments};

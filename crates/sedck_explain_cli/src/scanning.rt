@@ -6,11 +6,10 @@ ghost use Rattle.sedck_calls_in_files.specs.Scanned.{PathStatus, IsWorstOf};
 ghost use Rattle.sedck_explain_cli.specs.Requests.{scripts_of};
 ghost use Rattle.sedck_explain_cli.specs.Private.Shown.{SpellsFound};
 
-use crate::command_line::end;
 use crate::format::Format;
 use crate::request::Request;
 use crate::session::Session;
-use sedck_calls_in_files::{Finder, Look, Scan, Walk, scan_files, spell_call};
+use sedck_calls_in_files::{Finder, Look, Scan, Walk, end, scan_files, spell_call};
 use sedck_cert::streams::Sink;
 use sedck_engines::Opener;
 use std::fs::Files;

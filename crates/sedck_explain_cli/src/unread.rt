@@ -1,18 +1,8 @@
 //! Files that can't be read, and why.
 
 use crate::request::Request;
-use sedck_cert::streams::{Failed, Sink, write_all};
+use sedck_calls_in_files::Unread;
 use sedck_engines::{Input, Opener};
-use sedck_formats::shown_letter;
-use std::alloc::{AllocError, Global};
-
-/// A file that can't be read.
-#[derive(Clone, Copy)]
-pub(crate) struct Unread<'a> {
-    pub name: &'a str,
-    /// Why, where that is known.
-    pub reason: Option<&'static str>,
-}
 
 /// Which file of the script at the path can't be read, and why.
 pub(crate) fn unread_of<'a, O: Opener>(
@@ -54,35 +44,4 @@ fn unread_file<'a, O: Opener>(files: &O, path: &'a str) -> Unread<'a> {
         files.why_unreadable(path)
     };
     Unread { name: path, reason }
-}
-
-impl Unread<'_> {
-    /// Writes which file can't be read, and why, with a newline after it. It takes no memory.
-    pub fn write<E: Sink>(self, err: &mut E) -> Result<(), Failed> {
-        write_all(err, b"cannot read ")?;
-        for letter in self.name.chars() {
-            write_all(
-                err,
-                shown_letter(letter).encode_utf8(&mut [0; 4]).as_bytes(),
-            )?;
-        }
-        if let Some(reason) = self.reason {
-            write_all(err, b": ")?;
-            write_all(err, reason.as_bytes())?;
-        }
-        write_all(err, b"\n")
-    }
-
-    /// The same in words, without the newline.
-    pub fn words(self, alloc: Global) -> Result<String, AllocError> {
-        let mut words = String::from_str(alloc, "cannot read ")?;
-        for letter in self.name.chars() {
-            words.push(shown_letter(letter))?;
-        }
-        if let Some(reason) = self.reason {
-            words.push_str(": ")?;
-            words.push_str(reason)?;
-        }
-        Ok(words)
-    }
 }

@@ -5,7 +5,7 @@ ghost use Rattle.sedck_explanation.specs.Called.{IsPart, AreParts, known_bytes};
 ghost use Rattle.sedck_engines.specs.Inputs.{IsRead};
 
 use sedck_calls::{Origin, Piece};
-use sedck_cert::streams::{FromRead, Source};
+use sedck_cert::streams::{Failed, FromRead, Source};
 use sedck_engines::{Opener, RunFault, read_script};
 use std::alloc::{AllocError, Global};
 use std::io::Input;
@@ -22,6 +22,12 @@ pub enum Unexplained {
 impl From<AllocError> for Unexplained {
     fn from(_: AllocError) -> Unexplained {
         Unexplained::OutOfMemory
+    }
+}
+
+impl From<Failed> for Unexplained {
+    fn from(_: Failed) -> Unexplained {
+        Unexplained::Write
     }
 }
 

@@ -143,13 +143,16 @@ returns-clause-spelled g c =
     let is : e.status ≡ 0 → IsExplanation (joined_texts parts) None denied e =
     λ zero. subst (λ text. IsExplanation text None denied e) (c.deref-4.ensures.value ∙ c.in_ok-text.ensures ∙ ap (λ all. joined_texts (map (λ part. part.items) all)) c.deref-3.ensures.value) (c.in_ok-explanation.ensures.yes zero) in
     shown_spells (is_plain c.args.session.now.request.now.format) known c.args.session.now.request.now.denied words e out err c.shown-2.result c.shown-2.ensures
-    (λ zero writes. (record {
-      call = c.in-Ok.call;
-      is_call = c.in-Ok.ensures.call;
-      is_judged = subst (λ given. has_foreign given ≡ false) c.deref.ensures.value (sym c.has_foreign.ensures ∙ c.if-has_foreign.false);
-      parts = parts;
-      are_parts = are_parts;
-      explanation = e;
-      is_explanation = is zero;
-      is_yes = zero;
-    }, copied_yes (joined_texts parts) None denied e out (is zero) zero writes))
+    (λ zero writes. (
+      record {
+        call = c.in-Ok.call;
+        is_call = c.in-Ok.ensures.call;
+        is_judged = subst (λ given. has_foreign given ≡ false) c.deref.ensures.value (sym c.has_foreign.ensures ∙ c.if-has_foreign.false);
+        parts = parts;
+        are_parts = are_parts;
+        explanation = e;
+        is_explanation = is zero;
+        is_yes = zero;
+      },
+      copied_yes (joined_texts parts) None denied e out (is zero) zero writes,
+    ))

@@ -1,5 +1,5 @@
 use Rattle.sedck_cert.proofs.Written.{on_ok_then, appends_join}
-use Rattle.sedck_explain_cli.proofs.command_line.write_refusal.Goals as goal
+use Rattle.sedck_calls_in_files.proofs.errors.write_named.Goals as goal
 
 pub returns-clause-written : goal.returns-clause-written
 returns-clause-written g c = on_ok_then c.write_all-2.result _ _ c.write_all-2.ensures.written

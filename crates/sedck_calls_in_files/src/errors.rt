@@ -1,0 +1,89 @@
+//! What the program writes to standard error: why it ends, and which file can't be read.
+
+ghost use Rattle.std.specs.Prelude.{◌≡◌, ◌++◌, false, codes, OnOk};
+ghost use Rattle.std.specs.Io.KnownBytes.{Appends};
+ghost use Rattle.sedck_cert.specs.Streams.{ReportsFailure};
+ghost use Rattle.sedck_calls_in_files.specs.Lines.{error_line};
+
+use sedck_cert::streams::{Failed, Sink, write_all};
+use sedck_formats::shown_letter;
+use std::alloc::{AllocError, Global};
+
+/// Writes why the program ends, and answers its exit status.
+pub fn end<E: Sink>(err: &mut E, words: &[u8], status: u8) -> u8
+    ensures status { result ≡ status }
+    ensures line { E.has_failed err.new ≡ false → Appends (E.taken err.old) (E.taken err.new) (codes "sedck-explain: " ++ words.now) }
+{
+    let _ = write_named(err, words);
+    status
+}
+
+/// Writes the words after the program's name.
+pub(crate) fn write_named<E: Sink>(err: &mut E, words: &[u8]) -> Result<(), Failed>
+    ensures written { OnOk result (Appends (E.taken err.old) (E.taken err.new) (codes "sedck-explain: " ++ words.now)) }
+    ensures failure { ReportsFailure result (E.has_failed err.old) (E.has_failed err.new) }
+{
+    write_all(err, b"sedck-explain: ")?;
+    write_all(err, words)
+}
+
+/// Reports that memory ran out, and answers the exit status.
+pub fn out_of_memory<E: Sink>(err: &mut E) -> u8
+    ensures { result ≡ 4 }
+{
+    end(err, b"out of memory\n", 4)
+}
+
+/// Reports that the output can't be written, and answers the exit status.
+pub fn unwritten<E: Sink>(err: &mut E) -> u8
+    ensures status { result ≡ 4 }
+    ensures line { E.has_failed err.new ≡ false → Appends (E.taken err.old) (E.taken err.new) (error_line (codes "cannot write")) }
+{
+    end(err, b"cannot write\n", 4)
+}
+
+/// A file that can't be read.
+#[derive(Clone, Copy)]
+pub struct Unread<'a> {
+    pub name: &'a str,
+    /// Why, where that is known.
+    pub reason: Option<&'static str>,
+}
+
+impl Unread<'_> {
+    /// Reports which file can't be read, and why, and answers the exit status. It takes no memory.
+    pub fn end<E: Sink>(self, err: &mut E) -> u8
+        ensures { result ≡ 4 }
+    {
+        let _ = self.write(err);
+        4
+    }
+
+    fn write<E: Sink>(self, err: &mut E) -> Result<(), Failed> {
+        write_named(err, b"cannot read ")?;
+        for letter in self.name.chars() {
+            write_all(
+                err,
+                shown_letter(letter).encode_utf8(&mut [0; 4]).as_bytes(),
+            )?;
+        }
+        if let Some(reason) = self.reason {
+            write_all(err, b": ")?;
+            write_all(err, reason.as_bytes())?;
+        }
+        write_all(err, b"\n")
+    }
+
+    /// The same in words, without the newline.
+    pub fn words(self, alloc: Global) -> Result<String, AllocError> {
+        let mut words = String::from_str(alloc, "cannot read ")?;
+        for letter in self.name.chars() {
+            words.push(shown_letter(letter))?;
+        }
+        if let Some(reason) = self.reason {
+            words.push_str(": ")?;
+            words.push_str(reason)?;
+        }
+        Ok(words)
+    }
+}
