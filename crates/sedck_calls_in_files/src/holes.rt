@@ -236,21 +236,11 @@ pub(crate) fn unread_warning(
     requires { position ≡ position_in file.now position.offset }
     ensures { IfOk result (λ findings. All (IsFindingIn file.now) findings.items) }
 {
-    let words =
-        "what begins here isn't understood, and calls of sed in it or behind it may be missed";
-    let hint = "close what is open, or write the call where it can be read";
-    let message = String::from_str(alloc, words)?;
-    let mut finding = call_finding(
-        alloc,
-        Level::Warning,
-        Code::NotUnderstood,
-        message,
-        Some(hint),
+    let words = (
+        "what begins here isn't understood, and calls of sed in it or behind it may be missed",
+        "close what is open, or write the call where it can be read",
     );
-    finding.position = Some(position);
-    let mut findings = Vec::new(alloc);
-    findings.push(finding)?;
-    Ok(findings)
+    warning_at(alloc, file, position, Code::NotUnderstood, words)
 }
 
 /// The warning of a script that isn't known.
@@ -263,7 +253,7 @@ pub(crate) fn unknown_warning(
     requires { position ≡ position_in file.now position.offset }
     ensures { IfOk result (λ findings. All (IsFindingIn file.now) findings.items) }
 {
-    let (words, hint) = match why {
+    let words = match why {
         Unknown::Words => (
             "a variable or a command gives the script or options of this call, so it is not judged",
             "write the script as it is, or give the value with --assume NAME=VALUE",
@@ -285,8 +275,22 @@ pub(crate) fn unknown_warning(
             "write `command sed` where the sed itself is called",
         ),
     };
-    let message = String::from_str(alloc, words)?;
-    let mut finding = call_finding(alloc, Level::Warning, Code::Unknowable, message, Some(hint));
+    warning_at(alloc, file, position, Code::Unknowable, words)
+}
+
+/// A warning at the position: these words and a hint.
+fn warning_at(
+    alloc: Global,
+    file: &[u8],
+    position: Position,
+    code: Code,
+    words: (&'static str, &'static str),
+) -> Result<Vec<Finding>, AllocError>
+    requires { position ≡ position_in file.now position.offset }
+    ensures { IfOk result (λ findings. All (IsFindingIn file.now) findings.items) }
+{
+    let message = String::from_str(alloc, words.0)?;
+    let mut finding = call_finding(alloc, Level::Warning, code, message, Some(words.1));
     finding.position = Some(position);
     let mut findings = Vec::new(alloc);
     findings.push(finding)?;

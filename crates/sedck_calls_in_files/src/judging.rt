@@ -9,7 +9,7 @@ ghost use Rattle.sedck_calls_in_files.specs.Judged.{Agrees, IsUnjudged, status_w
 use crate::holes::{open_warnings, unknown_warning, unread_warning, value_notes, written_words};
 use crate::placed::{place_findings, placed};
 use crate::places::Places;
-use crate::tracing::{bytes_of, is_in_file};
+use crate::tracing::{bytes_of, is_in_file, slices_of};
 use sedck_calls::{Call, CallFault, call_of};
 use sedck_explanation::{
     Denied, Explanation, Finding, Position, explain_called, foreign_findings, has_foreign,
@@ -91,7 +91,10 @@ fn explain_found_script<'a>(
             let findings = foreign_findings(given.alloc, given.shown, &call.given)?;
             reasons(given, findings)
         }
-        FoundScript::Refused(fault) => refused(given, *fault),
+        FoundScript::Refused(fault) => {
+            let findings = refusal_of(given.alloc, given.shown, *fault)?;
+            reasons(given, findings)
+        }
         FoundScript::Unknown(why) => unknown(given, *why),
     }
 }
@@ -115,15 +118,6 @@ fn with_values<'a>(
     let mut notes = value_notes(alloc, file, &mut places, followed)?;
     explanation.findings.append(&mut notes)?;
     Ok(explanation)
-}
-
-/// The words as slices.
-fn slices_of<'a>(alloc: Global, words: &'a [Vec<u8>]) -> Result<Vec<&'a [u8]>, AllocError> {
-    let mut slices = Vec::new(alloc);
-    for word in words {
-        slices.push(word.as_slice())?;
-    }
-    Ok(slices)
 }
 
 /// Explains the call, whose script is this text.
@@ -234,16 +228,6 @@ fn error_count(findings: &[Finding]) -> usize
         count += 1;
     }
     count
-}
-
-/// The explanation of words that no sed takes.
-fn refused<'a>(given: &Given<'a, '_>, fault: CallFault) -> Result<Explanation<'a>, AllocError>
-    requires { given.now.position ≡ position_in given.now.file.now given.now.position.offset }
-    ensures said { IfOk result (IsUnjudged 2) }
-    ensures places { IfOk result (λ e. All (IsFindingIn given.now.file.now) e.findings.items) }
-{
-    let findings = refusal_of(given.alloc, given.shown, fault)?;
-    reasons(given, findings)
 }
 
 /// The explanation of a script that isn't judged, for these reasons at the call.

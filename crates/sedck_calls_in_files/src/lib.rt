@@ -25,4 +25,5 @@ pub use finder::{AsTheShell, Finder};
 pub use judging::explain_found;
 pub use one::{At, spell_call};
 pub use request::{File, FileScan, Look, Scan};
+pub use tracing::slices_of;
 pub use walk::{Walk, scan_files};

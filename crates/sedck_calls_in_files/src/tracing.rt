@@ -8,6 +8,17 @@ use sedck_calls::{Call, Piece, joined};
 use sedck_traced::{Traced, has_hole, is_traced};
 use std::alloc::{AllocError, Global};
 
+/// The words as slices.
+pub fn slices_of<'a>(alloc: Global, words: &'a [Vec<u8>]) -> Result<Vec<&'a [u8]>, AllocError>
+    ensures { IfOk result (λ slices. map (λ word. word.now) slices.items ≡ map (λ word. word.items) words.now) }
+{
+    let mut slices = Vec::new(alloc);
+    for word in words {
+        slices.push(word.as_slice())?;
+    }
+    Ok(slices)
+}
+
 /// The bytes of the words.
 pub(crate) fn bytes_of<'a>(alloc: Global, words: &'a [Traced]) -> Result<Vec<&'a [u8]>, AllocError>
     ensures { IfOk result (λ slices. map (λ slice. slice.now) slices.items ≡ words_of words.now) }

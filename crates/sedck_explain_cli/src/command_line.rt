@@ -22,7 +22,7 @@ use crate::unread::{unread_of, unread_part};
 use crate::words::Words;
 use clap::Error;
 use clap::error::ErrorKind;
-use sedck_calls_in_files::{AsTheShell, Finder, end, out_of_memory, unwritten};
+use sedck_calls_in_files::{AsTheShell, Finder, end, out_of_memory, slices_of, unwritten};
 use sedck_cert::streams::{FromRead, Sink, Source, write_all};
 use sedck_engines::{FromFiles, Input as InputOf, Opener, RunFault};
 use sedck_explanation::{Denied, Unexplained};
@@ -217,17 +217,6 @@ pub fn explain_call<R: Input + AllocGlobal, O: Opener, F, W: Sink, E: Sink>(
         Ok(status) => status,
         Err(fault) => report_unexplained(session, &words, fault, out, err),
     }
-}
-
-/// The words as slices.
-fn slices_of<'a>(alloc: Global, words: &'a [Vec<u8>]) -> Result<Vec<&'a [u8]>, AllocError>
-    ensures { IfOk result (λ slices. map (λ word. word.now) slices.items ≡ map (λ word. word.items) words.now) }
-{
-    let mut slices = Vec::new(alloc);
-    for word in words {
-        slices.push(word.as_slice())?;
-    }
-    Ok(slices)
 }
 
 /// Reports why a call isn't explained, and answers the exit status.

@@ -3,7 +3,7 @@
 //! `clap` has read the words before, and refuses what isn't valid: so each word is read alone here, and no theorem rests on `clap`.
 
 ghost use Rattle.std.specs.Prelude.{◌≡◌, IfOk, OnOk, option_map};
-ghost use Rattle.sedck_explain_cli.specs.Readings.{texts_of, after, after_any, behind, is_option as is_option_text, read, is_named};
+ghost use Rattle.sedck_explain_cli.specs.Readings.{texts_of, after, after_any, after_word, behind, is_option as is_option_text, read, is_named};
 ghost use Rattle.sedck_explain_cli.specs.Private.Readings.{asked_of};
 
 use std::alloc::{AllocError, Global};
@@ -87,20 +87,22 @@ impl<'a> Reading<'a> {
     {
         if let Some(path) = rest_behind("--cert=", word) {
             self.certificate = Some(path);
-            return Ok(());
-        }
-        if let Some(names) = rest_behind("--deny=", word) {
+        } else if let Some(names) = rest_behind("--deny=", word) {
             self.denied = Some(names);
-            return Ok(());
-        }
-        if let Some(name) = rest_behind("--locale=", word) {
+        } else if let Some(name) = rest_behind("--locale=", word) {
             self.locale = Some(name);
-            return Ok(());
-        }
-        if let Some(name) = rest_behind("--format=", word) {
+        } else if let Some(name) = rest_behind("--format=", word) {
             self.format = Some(name);
-            return Ok(());
+        } else {
+            return self.add_whole(word);
         }
+        Ok(())
+    }
+
+    /// Reads a word with no value in it.
+    fn add_whole(&mut self, word: &'a str) -> Result<(), AllocError>
+        ensures { OnOk result (asked_of self.new ≡ after_word (asked_of self.old) word.entry.now) }
+    {
         match word {
             "--cert" => self.next = Next::Certificate,
             "--deny" => self.next = Next::Denied,

@@ -1,5 +1,5 @@
 use Rattle.std.proofs.Common.{◌≡◌, take, map}
-use Rattle.sedck_explain_cli.proofs.command_line.slices_of.Given as goal
+use Rattle.sedck_calls_in_files.proofs.tracing.slices_of.Given as goal
 
 -- the words so far
 abbrev pub invariant-loop-word : goal.invariant-loop-word
