@@ -1,10 +1,10 @@
 -- Programs that are tried as the same are, and each is tried as the same as itself.
 use Rattle.std.proofs.Common.{◌≡◌, ℕ, Bool, true, false, List, [], ◌∷◌, Option, Some, None, refl, ap, sym, ◌∙◌}
-use Rattle.std.specs.Prelude.{◌&&◌, ◌↔◌}
+use Rattle.std.specs.Prelude.{◌&&◌, ◌==◌, ◌↔◌, if◌then◌else◌}
 use Rattle.std.proofs.lemmas.Bool.{false≢true, eqb-true, eq-eqb, and_parts}
 use Rattle.sedck_script.specs.Program.{Pattern, Previous, Expression, Place, Line, Last, Context, Address, NoAddress, One, Two, Part, Text, Newline, Tab, Whole, Group, Substitution, Verb, Label, Branch, Test, Block, Append, Change, Insert, Read, Write, Substitute, Transliterate, Delete, DeleteFirstLine, Get, GetAppend, Hold, HoldAppend, List', Next, NextAppend, Print, PrintFirstLine, Quit, Exchange, LineNumber, Command, Program}
 use Rattle.sedck_plain.specs.Private.SameTrees.{same_numbers, same_number}
-use Rattle.sedck_plain.specs.Private.SameScripts.{same_flag, same_pattern, same_place, same_address, same_part, same_parts, same_name, same_flags, same_substitution, same_verb, same_command, same_commands, same_programs}
+use Rattle.sedck_plain.specs.Private.SameScripts.{same_flag, same_pattern, same_place, same_address, same_part, same_parts, same_name, same_flags, same_substitution, letter, words, target, is_substitute, is_transliterate, same_rest, same_verb, same_command, same_commands, same_programs}
 use Rattle.sedck_plain.proofs.SameTreeLemmas.{both, numbers-same, numbers-itself, number-same, number-itself, tree-same, tree-itself}
 
 flag-same : (a b : Bool) → same_flag a b ≡ true → a ≡ b
@@ -110,62 +110,86 @@ substitution-itself s =
     (both (same_flag s.print s.print) (same_number s.nth s.nth && same_name s.file s.file) (flag-itself s.print)
     (both (same_number s.nth s.nth) (same_name s.file s.file) (number-itself s.nth) (name-itself s.file)))))
 
-verb-same : (u v : Verb) → same_verb u v ≡ true → u ≡ v
-verb-same (Label a) (Label b) h = ap Label (sym (numbers-same b a h))
-verb-same (Append a) (Append b) h = ap Append (sym (numbers-same b a h))
-verb-same (Change a) (Change b) h = ap Change (sym (numbers-same b a h))
-verb-same (Insert a) (Insert b) h = ap Insert (sym (numbers-same b a h))
-verb-same (Read a) (Read b) h = ap Read (sym (numbers-same b a h))
-verb-same (Write a) (Write b) h = ap Write (sym (numbers-same b a h))
-verb-same (Branch n) (Branch m) h = ap Branch (sym (eqb-true m n h))
-verb-same (Test n) (Test m) h = ap Test (sym (eqb-true m n h))
-verb-same (Block n) (Block m) h = ap Block (sym (eqb-true m n h))
-verb-same (Substitute s) (Substitute t) h = ap Substitute (substitution-same s t h)
-verb-same (Transliterate f t) (Transliterate g u) h =
+-- the verb of this letter that has these words, or this target
+abbrev verb_with : ℕ → List ℕ → ℕ → Verb
+verb_with b a n =
+    if b == 58 then Label a else if b == 98 then Branch n else if b == 116 then Test n else if b == 123 then Block n
+    else if b == 97 then Append a else if b == 99 then Change a else if b == 105 then Insert a else if b == 114 then Read a
+    else if b == 119 then Write a else if b == 100 then Delete else if b == 68 then DeleteFirstLine else if b == 103 then Get
+    else if b == 71 then GetAppend else if b == 104 then Hold else if b == 72 then HoldAppend else if b == 108 then List'
+    else if b == 110 then Next else if b == 78 then NextAppend else if b == 112 then Print else if b == 80 then PrintFirstLine
+    else if b == 113 then Quit else if b == 120 then Exchange else LineNumber
+
+-- each is that of its own, but for `s` and `y`
+verb-with : (v : Verb) → (letter v == 115) ≡ false → (letter v == 121) ≡ false → v ≡ verb_with (letter v) (words v) (target v)
+verb-with (Substitute s) is other = absurd (false≢true (sym is))
+verb-with (Transliterate f t) other is = absurd (false≢true (sym is))
+verb-with (Label a) s y = refl
+verb-with (Append a) s y = refl
+verb-with (Change a) s y = refl
+verb-with (Insert a) s y = refl
+verb-with (Read a) s y = refl
+verb-with (Write a) s y = refl
+verb-with (Branch n) s y = refl
+verb-with (Test n) s y = refl
+verb-with (Block n) s y = refl
+verb-with Delete s y = refl
+verb-with DeleteFirstLine s y = refl
+verb-with Get s y = refl
+verb-with GetAppend s y = refl
+verb-with Hold s y = refl
+verb-with HoldAppend s y = refl
+verb-with List' s y = refl
+verb-with Next s y = refl
+verb-with NextAppend s y = refl
+verb-with Print s y = refl
+verb-with PrintFirstLine s y = refl
+verb-with Quit s y = refl
+verb-with Exchange s y = refl
+verb-with LineNumber s y = refl
+
+others-same : (u v : Verb) → (letter u == 115) ≡ false → (letter u == 121) ≡ false → same_verb u v ≡ true → u ≡ v
+others-same u v s y h =
+    let a = and_parts (letter u == letter v) (same_numbers (words u) (words v) && ((target u == target v) && same_rest u v)) h in
+    let b = and_parts (same_numbers (words u) (words v)) ((target u == target v) && same_rest u v) a.1 in
+    let c = and_parts (target u == target v) (same_rest u v) b.1 in
+    let l = eqb-true (letter u) (letter v) a.0 in
+    verb-with u s y
+    ∙ (ap (λ x. verb_with x (words u) (target u)) l
+    ∙ (ap (λ x. verb_with (letter v) x (target u)) (numbers-same (words u) (words v) b.0)
+    ∙ (ap (λ x. verb_with (letter v) (words v) x) (eqb-true (target u) (target v) c.0)
+    ∙ sym (verb-with v (ap (λ x. x == 115) (sym l) ∙ s) (ap (λ x. x == 121) (sym l) ∙ y)))))
+
+substitute-same : (s : Substitution) (v : Verb) → is_substitute s v ≡ true → Substitute s ≡ v
+substitute-same s (Substitute t) h = ap Substitute (substitution-same s t h)
+substitute-same s v h = absurd (false≢true h)
+
+transliterate-same : (f t : List ℕ) (v : Verb) → is_transliterate f t v ≡ true → Transliterate f t ≡ v
+transliterate-same f t (Transliterate g u) h =
     let e = and_parts (same_numbers g f) (same_numbers u t) h in
     cc (numbers-same g f e.0, numbers-same u t e.1)
-verb-same Delete Delete h = refl
-verb-same DeleteFirstLine DeleteFirstLine h = refl
-verb-same Get Get h = refl
-verb-same GetAppend GetAppend h = refl
-verb-same Hold Hold h = refl
-verb-same HoldAppend HoldAppend h = refl
-verb-same List' List' h = refl
-verb-same Next Next h = refl
-verb-same NextAppend NextAppend h = refl
-verb-same Print Print h = refl
-verb-same PrintFirstLine PrintFirstLine h = refl
-verb-same Quit Quit h = refl
-verb-same Exchange Exchange h = refl
-verb-same LineNumber LineNumber h = refl
-verb-same u v h = absurd (false≢true h)
+transliterate-same f t v h = absurd (false≢true h)
+
+-- the last of what is tried
+last-part : (a b c d : Bool) → (a && (b && (c && d))) ≡ true → d ≡ true
+last-part a b c d h = let one = and_parts a (b && (c && d)) h in let two = and_parts b (c && d) one.1 in let three = and_parts c d two.1 in three.1
+
+verb-same : (u v : Verb) → same_verb u v ≡ true → u ≡ v
+verb-same (Substitute s) v h = substitute-same s v (last-part (115 == letter v) (same_numbers [] (words v)) (0 == target v) (is_substitute s v) h)
+verb-same (Transliterate f t) v h =
+    transliterate-same f t v (last-part (121 == letter v) (same_numbers [] (words v)) (0 == target v) (is_transliterate f t v) h)
+verb-same u v h = others-same u v refl refl h
+
+rest-itself : (v : Verb) → same_rest v v ≡ true
+rest-itself (Substitute s) = substitution-itself s
+rest-itself (Transliterate f t) = both (same_numbers f f) (same_numbers t t) (numbers-itself f) (numbers-itself t)
+rest-itself v = refl
 
 verb-itself : (v : Verb) → same_verb v v ≡ true
-verb-itself (Label a) = numbers-itself a
-verb-itself (Append a) = numbers-itself a
-verb-itself (Change a) = numbers-itself a
-verb-itself (Insert a) = numbers-itself a
-verb-itself (Read a) = numbers-itself a
-verb-itself (Write a) = numbers-itself a
-verb-itself (Branch n) = eq-eqb n n refl
-verb-itself (Test n) = eq-eqb n n refl
-verb-itself (Block n) = eq-eqb n n refl
-verb-itself (Substitute s) = substitution-itself s
-verb-itself (Transliterate f t) = both (same_numbers f f) (same_numbers t t) (numbers-itself f) (numbers-itself t)
-verb-itself Delete = refl
-verb-itself DeleteFirstLine = refl
-verb-itself Get = refl
-verb-itself GetAppend = refl
-verb-itself Hold = refl
-verb-itself HoldAppend = refl
-verb-itself List' = refl
-verb-itself Next = refl
-verb-itself NextAppend = refl
-verb-itself Print = refl
-verb-itself PrintFirstLine = refl
-verb-itself Quit = refl
-verb-itself Exchange = refl
-verb-itself LineNumber = refl
+verb-itself v =
+    both (letter v == letter v) (same_numbers (words v) (words v) && ((target v == target v) && same_rest v v)) (eq-eqb (letter v) (letter v) refl)
+    (both (same_numbers (words v) (words v)) ((target v == target v) && same_rest v v) (numbers-itself (words v))
+    (both (target v == target v) (same_rest v v) (eq-eqb (target v) (target v) refl) (rest-itself v)))
 
 -- a command of these fields
 abbrev commanded : Address → Bool → Verb → Command

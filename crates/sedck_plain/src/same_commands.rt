@@ -3,7 +3,7 @@ ghost use Rattle.std.specs.Prelude.{◌≡◌, ◌&&◌, map};
 ghost use Rattle.std.specs.Option.{option_copied};
 ghost use Rattle.sedck_script.specs.View.{pattern_of, place_of, address_of, part_of, substitution_of, verb_of, command_of};
 ghost use Rattle.sedck_plain.specs.Private.SameTrees.{same_number};
-ghost use Rattle.sedck_plain.specs.Private.SameScripts.{same_flag, is_previous, is_expression, same_pattern, is_line, is_last, is_context, same_place, is_no_address, is_one, is_two, same_address, is_text, is_newline, is_tab, is_whole, is_group, same_part, same_parts, same_name, same_flags, same_substitution, letter, is_label, is_branch, is_test, is_block, is_append, is_change, is_insert, is_read, is_write, is_substitute, is_transliterate, same_verb, same_command, same_commands};
+ghost use Rattle.sedck_plain.specs.Private.SameScripts.{same_flag, is_previous, is_expression, same_pattern, is_line, is_last, is_context, same_place, is_no_address, is_one, is_two, same_address, is_text, is_newline, is_tab, is_whole, is_group, same_part, same_parts, same_name, same_flags, same_substitution, letter, words, target, is_substitute, is_transliterate, same_rest, same_verb, same_command, same_commands};
 
 use crate::same_trees::same_tree;
 use sedck_bre::Expr;
@@ -259,84 +259,28 @@ pub(crate) fn letter(verb: &Verb) -> u8
     }
 }
 
-fn is_label(other: &Verb, text: &[u8]) -> bool
-    ensures { result ≡ is_label text.now (verb_of other.now) }
+/// The text, the name or the label of a verb; empty where it has none.
+fn words<'a>(verb: &Verb<'a>) -> &'a [u8]
+    ensures { result.now ≡ words (verb_of verb.now) }
 {
-    match other {
-        Verb::Label(found) => *found == text,
-        _ => false,
+    match verb {
+        Verb::Label(text)
+        | Verb::Append(text)
+        | Verb::Change(text)
+        | Verb::Insert(text)
+        | Verb::Read(text)
+        | Verb::Write(text) => *text,
+        _ => b"",
     }
 }
 
-fn is_append(other: &Verb, text: &[u8]) -> bool
-    ensures { result ≡ is_append text.now (verb_of other.now) }
+/// Where a verb leads; 0 where it leads nowhere.
+fn target(verb: &Verb) -> usize
+    ensures { result ≡ target (verb_of verb.now) }
 {
-    match other {
-        Verb::Append(found) => *found == text,
-        _ => false,
-    }
-}
-
-fn is_change(other: &Verb, text: &[u8]) -> bool
-    ensures { result ≡ is_change text.now (verb_of other.now) }
-{
-    match other {
-        Verb::Change(found) => *found == text,
-        _ => false,
-    }
-}
-
-fn is_insert(other: &Verb, text: &[u8]) -> bool
-    ensures { result ≡ is_insert text.now (verb_of other.now) }
-{
-    match other {
-        Verb::Insert(found) => *found == text,
-        _ => false,
-    }
-}
-
-fn is_read(other: &Verb, text: &[u8]) -> bool
-    ensures { result ≡ is_read text.now (verb_of other.now) }
-{
-    match other {
-        Verb::Read(found) => *found == text,
-        _ => false,
-    }
-}
-
-fn is_write(other: &Verb, text: &[u8]) -> bool
-    ensures { result ≡ is_write text.now (verb_of other.now) }
-{
-    match other {
-        Verb::Write(found) => *found == text,
-        _ => false,
-    }
-}
-
-fn is_branch(other: &Verb, target: usize) -> bool
-    ensures { result ≡ is_branch target (verb_of other.now) }
-{
-    match other {
-        Verb::Branch(found) => *found == target,
-        _ => false,
-    }
-}
-
-fn is_test(other: &Verb, target: usize) -> bool
-    ensures { result ≡ is_test target (verb_of other.now) }
-{
-    match other {
-        Verb::Test(found) => *found == target,
-        _ => false,
-    }
-}
-
-fn is_block(other: &Verb, target: usize) -> bool
-    ensures { result ≡ is_block target (verb_of other.now) }
-{
-    match other {
-        Verb::Block(found) => *found == target,
-        _ => false,
+    match verb {
+        Verb::Branch(target) | Verb::Test(target) | Verb::Block(target) => *target,
+        _ => 0,
     }
 }
 
@@ -360,23 +304,24 @@ fn is_transliterate(other: &Verb, from: &[u8], to: &[u8]) -> bool
     }
 }
 
+/// Whether both have the same lists or the same substitution, if the first one has any.
+fn same_rest(one: &Verb, other: &Verb) -> bool
+    ensures { result ≡ same_rest (verb_of one.now) (verb_of other.now) }
+{
+    match one {
+        Verb::Substitute(substitution) => is_substitute(other, substitution),
+        Verb::Transliterate(from, to) => is_transliterate(other, from, to),
+        _ => true,
+    }
+}
+
 fn same_verb(one: &Verb, other: &Verb) -> bool
     ensures { result ≡ same_verb (verb_of one.now) (verb_of other.now) }
 {
-    match one {
-        Verb::Label(name) => is_label(other, name),
-        Verb::Branch(target) => is_branch(other, *target),
-        Verb::Test(target) => is_test(other, *target),
-        Verb::Block(target) => is_block(other, *target),
-        Verb::Append(text) => is_append(other, text),
-        Verb::Change(text) => is_change(other, text),
-        Verb::Insert(text) => is_insert(other, text),
-        Verb::Read(name) => is_read(other, name),
-        Verb::Write(name) => is_write(other, name),
-        Verb::Substitute(substitution) => is_substitute(other, substitution),
-        Verb::Transliterate(from, to) => is_transliterate(other, from, to),
-        _ => letter(other) == letter(one),
-    }
+    letter(one) == letter(other)
+        && words(one) == words(other)
+        && target(one) == target(other)
+        && same_rest(one, other)
 }
 
 fn same_command(one: &Command, other: &Command) -> bool

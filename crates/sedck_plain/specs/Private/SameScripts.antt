@@ -126,41 +126,22 @@ letter Quit = 113
 letter Exchange = 120
 letter LineNumber = 61
 
-abbrev pub is_label : List ℕ → Verb → Bool
-is_label a (Label b) = same_numbers b a
-is_label a _ = false
+-- the text, the name or the label of a verb; empty where it has none
+abbrev pub words : Verb → List ℕ
+words (Label name) = name
+words (Append t) = t
+words (Change t) = t
+words (Insert t) = t
+words (Read name) = name
+words (Write name) = name
+words _ = []
 
-abbrev pub is_branch : ℕ → Verb → Bool
-is_branch n (Branch m) = m == n
-is_branch n _ = false
-
-abbrev pub is_test : ℕ → Verb → Bool
-is_test n (Test m) = m == n
-is_test n _ = false
-
-abbrev pub is_block : ℕ → Verb → Bool
-is_block n (Block m) = m == n
-is_block n _ = false
-
-abbrev pub is_append : List ℕ → Verb → Bool
-is_append a (Append b) = same_numbers b a
-is_append a _ = false
-
-abbrev pub is_change : List ℕ → Verb → Bool
-is_change a (Change b) = same_numbers b a
-is_change a _ = false
-
-abbrev pub is_insert : List ℕ → Verb → Bool
-is_insert a (Insert b) = same_numbers b a
-is_insert a _ = false
-
-abbrev pub is_read : List ℕ → Verb → Bool
-is_read a (Read b) = same_numbers b a
-is_read a _ = false
-
-abbrev pub is_write : List ℕ → Verb → Bool
-is_write a (Write b) = same_numbers b a
-is_write a _ = false
+-- where a verb leads; 0 where it leads nowhere
+abbrev pub target : Verb → ℕ
+target (Branch n) = n
+target (Test n) = n
+target (Block n) = n
+target _ = 0
 
 abbrev pub is_substitute : Substitution → Verb → Bool
 is_substitute s (Substitute t) = same_substitution s t
@@ -170,19 +151,14 @@ abbrev pub is_transliterate : List ℕ → List ℕ → Verb → Bool
 is_transliterate f t (Transliterate g u) = same_numbers g f && same_numbers u t
 is_transliterate f t _ = false
 
+-- the same lists or the same substitution, if the first one has any
+abbrev pub same_rest : Verb → Verb → Bool
+same_rest (Substitute s) v = is_substitute s v
+same_rest (Transliterate f t) v = is_transliterate f t v
+same_rest _ v = true
+
 abbrev pub same_verb : Verb → Verb → Bool
-same_verb (Label name) v = is_label name v
-same_verb (Branch n) v = is_branch n v
-same_verb (Test n) v = is_test n v
-same_verb (Block n) v = is_block n v
-same_verb (Append t) v = is_append t v
-same_verb (Change t) v = is_change t v
-same_verb (Insert t) v = is_insert t v
-same_verb (Read name) v = is_read name v
-same_verb (Write name) v = is_write name v
-same_verb (Substitute s) v = is_substitute s v
-same_verb (Transliterate f t) v = is_transliterate f t v
-same_verb u v = letter v == letter u
+same_verb u v = (letter u == letter v) && (same_numbers (words u) (words v) && ((target u == target v) && same_rest u v))
 
 abbrev pub same_command : Command → Command → Bool
 same_command c d = same_address c.address d.address && (same_flag c.negated d.negated && same_verb c.verb d.verb)
