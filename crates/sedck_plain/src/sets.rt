@@ -136,24 +136,15 @@ pub(crate) fn push_set(
     let others = listed(set, false);
     let complement = is_complement(&members, &others);
     let bytes = if complement { others } else { members };
-    let mut high = Vec::new(source.alloc);
     let written = source.written(set);
     if let Some(text) = written {
-        push_high(&mut high, text)?;
-        if !is_high_part(&high, &bytes) {
+        if !has_high_part(text, &bytes) {
             return out.extend_from_slice(text);
         }
     }
     let start: &[u8] = if complement { b"[^" } else { b"[" };
     out.extend_from_slice(start)?;
-    push_listed(
-        source,
-        out,
-        bytes,
-        complement,
-        written.unwrap_or(b""),
-        &high,
-    )?;
+    push_listed(source, out, bytes, complement, written.unwrap_or(b""))?;
     Ok(out.push(b']')?)
 }
 
@@ -167,10 +158,10 @@ fn push_high(out: &mut Vec<u8>, text: &[u8]) -> Result<(), AllocError> {
     Ok(())
 }
 
-/// Whether these are the listed bytes that are no ASCII, each once at least.
-fn is_high_part(high: &[u8], bytes: &Listed) -> bool {
+/// Whether the text has just the listed bytes that are no ASCII, each once at least, beside ASCII.
+fn has_high_part(text: &[u8], bytes: &Listed) -> bool {
     for byte in 128..=255u8 {
-        if bytes[usize::from(byte)] != high.contains(&byte) {
+        if bytes[usize::from(byte)] != text.contains(&byte) {
             return false;
         }
     }
@@ -189,18 +180,18 @@ struct Marks {
     filler: Option<u8>,
 }
 
-/// Adds what is listed, with the classes that the written list has. Those that are no ASCII are these, if there are any, in this
-/// order.
+/// Adds what is listed, with the classes that the written list has. Those that are no ASCII are in its order, if there are any.
 fn push_listed(
     source: &Source,
     out: &mut Vec<u8>,
     bytes: Listed,
     complement: bool,
     written: &[u8],
-    high: &[u8],
 ) -> Result<(), AllocError> {
+    let mut high = Vec::new(source.alloc);
+    push_high(&mut high, written)?;
     let mut rest = bytes;
-    for byte in high {
+    for byte in &high {
         rest[usize::from(*byte)] = false;
     }
     let mut classes = Vec::new(source.alloc);
@@ -208,7 +199,7 @@ fn push_listed(
     let mut inside = Vec::new(source.alloc);
     let mut marks = push_runs(&mut inside, &rest)?;
     marks.filler = filler_of(&bytes);
-    inside.extend_from_slice(high)?;
+    inside.extend_from_slice(&high)?;
     push_marked(out, &marks, &inside, &classes, complement)
 }
 
