@@ -6,6 +6,7 @@ ghost use Rattle.sedck_cert.specs.Streams.{ReportsFailure};
 ghost use Rattle.sedck_calls_in_files.specs.Lines.{error_line};
 
 use sedck_cert::streams::{Failed, Sink, write_all};
+use sedck_explanation::Unexplained;
 use sedck_formats::shown_letter;
 use std::alloc::{AllocError, Global};
 
@@ -40,6 +41,16 @@ pub fn unwritten<E: Sink>(err: &mut E) -> u8
     ensures line { E.has_failed err.new ≡ false → Appends (E.taken err.old) (E.taken err.new) (error_line (codes "cannot write")) }
 {
     end(err, b"cannot write\n", 4)
+}
+
+/// Reports why nothing more is explained, and answers the exit status.
+pub fn ended<E: Sink>(err: &mut E, fault: Unexplained) -> u8
+    ensures { result ≡ 4 }
+{
+    match fault {
+        Unexplained::Write => unwritten(err),
+        _ => out_of_memory(err),
+    }
 }
 
 /// A file that can't be read.

@@ -6,7 +6,7 @@ ghost use Rattle.sedck_calls_in_files.specs.Scanned.{PathStatus, IsWorstOf};
 ghost use Rattle.sedck_calls_in_files.specs.Private.Contents.{ContentsStatus, SourceStatus};
 
 use crate::answers::script_report;
-use crate::errors::{Unread, out_of_memory, unwritten, write_named};
+use crate::errors::{Unread, ended, write_named};
 use crate::file::{explain_text, greater};
 use crate::finder::Finder;
 use crate::reading::{Contents, contents_of};
@@ -74,8 +74,7 @@ pub fn scan_files<
             let _ = write_unread(err, &pass.unread);
             4
         }
-        Err(Unexplained::Write) => unwritten(err),
-        Err(_) => out_of_memory(err),
+        Err(fault) => ended(err, fault),
     }
 }
 

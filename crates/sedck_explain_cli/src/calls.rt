@@ -8,18 +8,18 @@ ghost use Rattle.sedck_explain_cli.specs.Private.Shown.{IsShown};
 ghost use Rattle.sedck_explain_cli.specs.Requests.{is_plain};
 ghost use Rattle.sedck_explain_cli.specs.Spelled.{IsIn, SpellsCall};
 
-use crate::part_names::part_names;
+use crate::format::Style;
 use crate::plain::sent;
 use crate::session::Session;
-use sedck_calls::{CallFault, call_of, joined};
+use sedck_calls::{CallFault, Origin, Piece, call_of, joined};
 use sedck_cert::streams::{Sink, write_all};
 use sedck_engines::Opener;
 use sedck_explanation::{
     Explanation, Unexplained, explain_called, foreign_findings, has_foreign, not_judged, parts_of,
-    refusal_of,
+    position_at, refusal_of,
 };
 use sedck_formats::{Names, PartName, plain_report};
-use std::alloc::{AllocGlobal, Global};
+use std::alloc::{AllocError, AllocGlobal, Global};
 use std::io::Input;
 
 /// Writes the report on the call of sed with these words after its name, and answers its exit status.
@@ -52,7 +52,7 @@ pub fn explain_words<R: Input + AllocGlobal, O: Opener, F, W: Sink, E: Sink>(
     let parts = parts_of(alloc, session.files, session.rt, words, &call.pieces)?;
     let text = joined(alloc, &parts)?;
     let explanation = explain_called(alloc, &text, words, &call, session.request.denied)?;
-    let names = part_names(alloc, &session.style(), words, &call.pieces, &parts)?;
+    let names = part_names(alloc, session.style(), words, &call.pieces, &parts)?;
     shown(session, &names, &explanation, out, err)
 }
 
@@ -92,4 +92,43 @@ fn shown<R: AllocGlobal, O, F, W: Sink, E: Sink>(
     }
     write_all(out, &made)?;
     Ok(explanation.status)
+}
+
+/// The names of the parts, each with the script's line with which its part begins.
+fn part_names(
+    alloc: Global,
+    style: Style,
+    words: &[&[u8]],
+    pieces: &[Piece],
+    parts: &[Vec<u8>],
+) -> Result<Vec<PartName>, AllocError> {
+    let mut names = Vec::new(alloc);
+    let mut line = 1usize;
+    let mut texts = 0usize;
+    for (piece, part) in pieces.iter().zip(parts.iter()) {
+        let name = match *piece {
+            Piece::Text(_) => {
+                texts = texts.saturating_add(1);
+                format!(in alloc; "-e {texts}")?
+            }
+            Piece::File(origin) => file_name(alloc, style, words, origin)?,
+        };
+        names.push(PartName { line, name })?;
+        // The end of a part is in its last line, and a newline follows.
+        line = line.saturating_add(position_at(part, part.len()).line);
+    }
+    Ok(names)
+}
+
+/// The path of a file, as the format shows it.
+fn file_name(
+    alloc: Global,
+    style: Style,
+    words: &[&[u8]],
+    origin: Origin,
+) -> Result<String, AllocError> {
+    match str::from_utf8(origin.text(words)) {
+        Ok(path) => style.shown(alloc, path),
+        Err(_) => String::from_str(alloc, "?"),
+    }
 }

@@ -18,7 +18,7 @@ use crate::plain::spell_script;
 use crate::request::{Request, request_of};
 use crate::scanning::{explain_files, spell_found};
 use crate::session::Session;
-use crate::unread::{unread_of, unread_part};
+use crate::unexplained::{is_followed, report_unexplained};
 use crate::words::Words;
 use clap::Error;
 use clap::error::ErrorKind;
@@ -219,61 +219,6 @@ pub fn explain_call<R: Input + AllocGlobal, O: Opener, F, W: Sink, E: Sink>(
     }
 }
 
-/// Reports why a call isn't explained, and answers the exit status.
-fn report_unexplained<R: AllocGlobal, O: Opener, F, W: Sink, E: Sink>(
-    session: &Session<R, O, F>,
-    words: &[&[u8]],
-    fault: Unexplained,
-    out: &mut W,
-    err: &mut E,
-) -> u8
-    ensures { result ≡ 4 }
-{
-    let fault = match fault {
-        Unexplained::Unread(origin) => {
-            let path = origin.text(words);
-            let status = unread_part(session.files, path).end(err);
-            let Err(fault) = write_unread_part(session, path, out) else {
-                return status;
-            };
-            fault
-        }
-        other => other,
-    };
-    match fault {
-        Unexplained::Write => unwritten(err),
-        _ => out_of_memory(err),
-    }
-}
-
-/// Writes the object of a call of which a file can't be read, where the format has one, so that programs find one for each call.
-fn write_unread_part<R: AllocGlobal, O: Opener, F, W: Sink>(
-    session: &Session<R, O, F>,
-    path: &[u8],
-    out: &mut W,
-) -> Result<(), Unexplained> {
-    if !session.request.format.has_unreadable() {
-        return Ok(());
-    }
-    let alloc = session.alloc();
-    let message = unread_part(session.files, path).words(alloc)?;
-    let report = unreadable(alloc, session.request.format, "sed", message.as_str())?;
-    Ok(write_all(out, &report)?)
-}
-
-/// The object of what can't be read: a log in SARIF, or one in JSON.
-fn unreadable(
-    alloc: Global,
-    format: Format,
-    name: &str,
-    message: &str,
-) -> Result<Vec<u8>, AllocError> {
-    match format {
-        Format::Sarif => sarif_unreadable(alloc, name, message),
-        _ => json_unreadable(alloc, name, message),
-    }
-}
-
 /// Explains each script of the request, in the order in which they are given, and answers the exit status: the greatest of theirs,
 /// or 4 where one can't be read, a write fails, or memory runs out. The report of several for people ends with how many there are of each
 /// answer.
@@ -378,66 +323,6 @@ fn explain_source<R: AllocGlobal, O: Opener, F, S: Source + Drop, W: Sink>(
     match session.files.open(certificate) {
         Ok(mut certificate) => explain_with(&named, &mut script, &mut certificate, out),
         Err(_) => Err(RunFault::Read(InputOf::Certificate)),
-    }
-}
-
-/// Reports why a script couldn't be explained. Whether the next one follows: after a failed write, or where memory runs out, none does.
-fn is_followed<R: AllocGlobal, O: Opener, F, W: Sink, E: Sink>(
-    session: &Session<R, O, F>,
-    path: &str,
-    fault: RunFault,
-    out: &mut W,
-    err: &mut E,
-) -> bool {
-    let _ = report_fault(session, path, fault, err);
-    let RunFault::Read(input) = fault else {
-        return false;
-    };
-    if !session.request.format.has_unreadable() {
-        return true;
-    }
-    match report_unread(session, path, input, out) {
-        Ok(()) => true,
-        Err(fault) => {
-            let _ = report_fault(session, path, fault, err);
-            false
-        }
-    }
-}
-
-/// Writes the object of a script that can't be read, so that programs find one for each script.
-fn report_unread<R: AllocGlobal, O: Opener, F, W: Sink>(
-    session: &Session<R, O, F>,
-    path: &str,
-    input: InputOf,
-    out: &mut W,
-) -> Result<(), RunFault> {
-    let alloc = session.alloc();
-    let message = unread_of(session.files, session.request, path, input).words(alloc)?;
-    let name = session.request.name_of(path);
-    let report = unreadable(alloc, session.request.format, name, message.as_str())?;
-    match write_all(out, &report) {
-        Ok(()) => Ok(()),
-        Err(_) => Err(RunFault::Write),
-    }
-}
-
-/// Reports why a script couldn't be explained, and answers the exit status. It takes no memory.
-pub(crate) fn report_fault<R, O: Opener, F, E: Sink>(
-    session: &Session<R, O, F>,
-    path: &str,
-    fault: RunFault,
-    err: &mut E,
-) -> u8
-    ensures { result ≡ 4 }
-{
-    match fault {
-        RunFault::Read(input) => unread_of(session.files, session.request, path, input).end(err),
-        RunFault::Write => unwritten(err),
-        // Texts that are refused are reported, so that memory is all that is left.
-        RunFault::Script(_) | RunFault::Certificate(_) | RunFault::OutOfMemory => {
-            out_of_memory(err)
-        }
     }
 }
 

@@ -1,16 +1,31 @@
 //! From sources to a report on a sink.
 
-ghost use Rattle.std.specs.Prelude.{◌≡◌, ◌≢◌, ◌≤◌, true, false, IsTrue, Some, None, IfOk, IfErr, OnOk};
+ghost use Rattle.std.specs.Prelude.{◌≡◌, ◌≢◌, ◌≤◌, true, false, ℕ, List, Option, Some, None, IsTrue, IfOk, IfErr, IfSome, OnOk};
 ghost use Rattle.std.specs.Option.{option_map};
 ghost use Rattle.std.specs.Io.KnownBytes.{Keeps, Appends};
+ghost use Rattle.sedck_explanation.specs.declared.explanation.Explanation.{Explanation};
 ghost use Rattle.sedck_engines.specs.declared.answer.RunFault.TheVariants as fault;
 ghost use Rattle.sedck_explain_cli.specs.Explained.{IsReport, IsExplained, IsExplainedWith, IsReason};
 
-use crate::reporter::Reporter;
 use sedck_cert::streams::{Sink, Source, write_all};
 use sedck_engines::{RunFault, read_certificate, read_script};
-use sedck_explanation::{Denied, explain};
+use sedck_explanation::{Denied, Explanation, explain};
 use std::alloc::{AllocError, Global};
+
+/// What makes a report of an explanation.
+pub trait Reporter {
+    /// The report on the script with this name, where it is known.
+    ghost reported: { Self → List ℕ → Explanation → Option (List ℕ) };
+
+    /// The report on the script with this name.
+    fn report(
+        &self,
+        alloc: Global,
+        name: &str,
+        explanation: &Explanation,
+    ) -> Result<Vec<u8>, AllocError>
+        ensures { IfOk result (λ report. IfSome (reported self.now name.now explanation.now) (λ known. report.items ≡ known)) };
+}
 
 /// A script by its name, and how it is reported.
 #[derive(Drop)]

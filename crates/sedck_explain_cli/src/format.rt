@@ -2,7 +2,7 @@
 
 ghost use Rattle.std.specs.Prelude.{None};
 
-use crate::reporter::Reporter;
+use crate::explaining::Reporter;
 use sedck_explanation::{Explanation, Level};
 use sedck_formats::{Names, gcc_report, json_report, sarif_report, shown_path, text_report};
 use sedck_pages::{dot_report, html_report};
@@ -64,11 +64,6 @@ impl Format {
             Format::Text | Format::Gcc | Format::Json => true,
             Format::Sarif | Format::Html | Format::Dot | Format::Sed => false,
         }
-    }
-
-    /// Whether the format says of a script that it can't be read.
-    pub(crate) fn has_unreadable(self) -> bool {
-        matches!(self, Format::Json | Format::Sarif)
     }
 
     /// The least level of findings where none is asked for: a script in which all is well has none for people and for editors. Of calls in

@@ -10,11 +10,11 @@ ghost use Rattle.sedck_explain_cli.specs.Requests.{certificate_of, scripts_of};
 ghost use Rattle.sedck_explain_cli.specs.Spelled.{IsPlainly, IsSpelled, SpellsAt, SpellsScript};
 ghost use Rattle.sedck_explain_cli.specs.Statuses.{IsGiven, IsGreatest, StatusAt};
 
-use crate::command_line::report_fault;
 use crate::explaining::{Named, own_path};
 use crate::format::Style;
 use crate::request::Request;
 use crate::session::Session;
+use crate::unexplained::report_fault;
 use sedck_calls_in_files::end;
 use sedck_cert::streams::{Failed, FromRead, Sink, write_all};
 use sedck_engines::{Input as InputOf, Opener, RunFault, read_certificate, read_script};

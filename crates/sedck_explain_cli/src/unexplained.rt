@@ -1,0 +1,134 @@
+//! What isn't explained, and why.
+
+ghost use Rattle.std.specs.Prelude.{◌≡◌};
+
+use crate::format::Format;
+use crate::session::Session;
+use sedck_calls_in_files::{Unread, ended, out_of_memory, unwritten};
+use sedck_cert::streams::{Sink, write_all};
+use sedck_engines::{Input, Opener, RunFault};
+use sedck_explanation::Unexplained;
+use sedck_formats::{json_unreadable, sarif_unreadable};
+
+/// Reports why a call isn't explained, and answers the exit status.
+pub(crate) fn report_unexplained<R: AllocGlobal, O: Opener, F, W: Sink, E: Sink>(
+    session: &Session<R, O, F>,
+    words: &[&[u8]],
+    fault: Unexplained,
+    out: &mut W,
+    err: &mut E,
+) -> u8
+    ensures { result ≡ 4 }
+{
+    let Unexplained::Unread(origin) = fault else {
+        return ended(err, fault);
+    };
+    let unread = unread_part(session.files, origin.text(words));
+    match report_unread(session, unread, "sed", out, err) {
+        Ok(()) => 4,
+        Err(fault) => ended(err, fault),
+    }
+}
+
+/// Reports why a script couldn't be explained. Whether the next one follows: after a failed write, or where memory runs out, none does.
+pub(crate) fn is_followed<R: AllocGlobal, O: Opener, F, W: Sink, E: Sink>(
+    session: &Session<R, O, F>,
+    path: &str,
+    fault: RunFault,
+    out: &mut W,
+    err: &mut E,
+) -> bool {
+    let RunFault::Read(input) = fault else {
+        let _ = report_fault(session, path, fault, err);
+        return false;
+    };
+    let unread = unread_of(session, path, input);
+    match report_unread(session, unread, session.request.name_of(path), out, err) {
+        Ok(()) => true,
+        Err(fault) => {
+            let _ = ended(err, fault);
+            false
+        }
+    }
+}
+
+/// Reports why a script couldn't be explained, and answers the exit status. It takes no memory.
+pub(crate) fn report_fault<R, O: Opener, F, E: Sink>(
+    session: &Session<R, O, F>,
+    path: &str,
+    fault: RunFault,
+    err: &mut E,
+) -> u8
+    ensures { result ≡ 4 }
+{
+    match fault {
+        RunFault::Read(input) => unread_of(session, path, input).end(err),
+        RunFault::Write => unwritten(err),
+        // Texts that are refused are reported, so that memory is all that is left.
+        RunFault::Script(_) | RunFault::Certificate(_) | RunFault::OutOfMemory => {
+            out_of_memory(err)
+        }
+    }
+}
+
+/// Reports that a file can't be read, and writes its object where the format has one, so that programs find one for each script or
+/// call, which has this name.
+fn report_unread<R: AllocGlobal, O, F, W: Sink, E: Sink>(
+    session: &Session<R, O, F>,
+    unread: Unread,
+    name: &str,
+    out: &mut W,
+    err: &mut E,
+) -> Result<(), Unexplained> {
+    let _ = unread.end(err);
+    let alloc = session.alloc();
+    let report = match session.request.format {
+        Format::Sarif => sarif_unreadable(alloc, name, unread.words(alloc)?.as_str())?,
+        Format::Json => json_unreadable(alloc, name, unread.words(alloc)?.as_str())?,
+        _ => return Ok(()),
+    };
+    Ok(write_all(out, &report)?)
+}
+
+/// Which file of the script at the path can't be read, and why.
+fn unread_of<'a, R, O: Opener, F>(
+    session: &Session<'_, '_, 'a, R, O, F>,
+    path: &'a str,
+    input: Input,
+) -> Unread<'a> {
+    match input {
+        Input::Script if path == "-" => Unread {
+            name: session.request.stdin_name,
+            reason: None,
+        },
+        Input::Script => unread_file(session.files, path),
+        Input::Certificate => {
+            unread_file(session.files, session.request.certificate.unwrap_or(path))
+        }
+    }
+}
+
+/// Why a file of a call's script can't be read.
+fn unread_part<'a, O: Opener>(files: &O, path: &'a [u8]) -> Unread<'a> {
+    match str::from_utf8(path) {
+        Ok("-") => Unread {
+            name: "-",
+            reason: None,
+        },
+        Ok(path) => unread_file(files, path),
+        Err(_) => Unread {
+            name: "?",
+            reason: Some("its name is not UTF-8"),
+        },
+    }
+}
+
+/// Why the file at the path can't be read. An argument has NUL where it isn't UTF-8.
+fn unread_file<'a, O: Opener>(files: &O, path: &'a str) -> Unread<'a> {
+    let reason = if path.contains('\0') {
+        Some("its name is not UTF-8")
+    } else {
+        files.why_unreadable(path)
+    };
+    Unread { name: path, reason }
+}
