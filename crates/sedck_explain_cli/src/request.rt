@@ -252,7 +252,7 @@ static CHOICES: [Choice; 11] = [
     Choice {
         name: "deny",
         takes: Takes::SomeOf("WHAT", DENIALS),
-        help: "What makes an accepted script end with status 1, with commas between: reads, writes, warnings, unbounded, slow",
+        help: "What makes an accepted script end with status 1; several have commas between",
     },
     Choice {
         name: "locale",
