@@ -12,9 +12,10 @@ import re, sys
 from pathlib import Path
 
 TOP = Path(__file__).resolve().parent.parent
-PARAMETERS, LINES, FUNCTIONS, READERS, RATIO = 5, 30, 100, 3000, 2.4
+PARAMETERS, LINES, FUNCTIONS, READERS, RATIO, EXPLAINING = 5, 30, 100, 3000, 2.4, 14000
 READING = ["sedck_text", "sedck_bre", "sedck_script"]
 PROVED = READING + ["sedck_flow", "sedck_cert", "sedck_search", "sedck_engines", "sedck_cli", "sedck"]
+OTHERS = ["sedck_plain", "sedck_model", "sedck_tests", "sedck_refusals", "sedck_runs"]
 FUNCTION = re.compile(r"^ *(?:pub(?:\(crate\))? )?fn (\w+)", re.M)
 
 
@@ -90,6 +91,8 @@ def main(words):
     ratio = sum(total[name][1] for name in PROVED) / sum(total[name][0] for name in PROVED)
     print(f"\nreaders ({', '.join(READING)}): {readers:,} lines of code, aim {READERS:,}")
     print(f"crates of the promise: {ratio:.2f} lines of proof for a line of code, aim {RATIO}")
+    explaining = sum(code for name, (code, _) in total.items() if name not in PROVED + OTHERS)
+    print(f"crates that explain scripts and find calls: {explaining:,} lines of code, aim {EXPLAINING:,}")
     if "--functions" in words:
         for row in sorted(everything, key=lambda row: -row[4])[:int(words[words.index("--functions") + 1])]:
             print(f"{row[4]:4} lines, {row[3]} parameters: {row[0]} {row[1]}::{row[2]}")
