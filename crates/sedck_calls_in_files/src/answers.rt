@@ -1,7 +1,8 @@
 //! The reports of calls, one after another.
 
 use crate::request::{FileScan, Look, Scan};
-use sedck_explanation::{Explanation, Level, Position, shown_name};
+use sedck_cert::streams::{Sink, write_all};
+use sedck_explanation::{Explanation, Level, Position, Unexplained, shown_name};
 use sedck_formats::{
     CallAt, Names, gcc_report, json_call, json_place, json_report, shown_path, text_answer,
     text_findings, text_report as text_report_of,
@@ -90,6 +91,14 @@ fn text_report(
     let answer = text_answer(alloc, &call, explanation, colour)?;
     report.extend_from_slice(&answer)?;
     Ok(report)
+}
+
+/// Writes the report.
+pub(crate) fn write_report<W: Sink>(
+    out: &mut W,
+    report: Result<Vec<u8>, AllocError>,
+) -> Result<(), Unexplained> {
+    Ok(write_all(out, &report?)?)
 }
 
 /// The words of the call as they can be shown.

@@ -4,11 +4,11 @@ ghost use Rattle.std.specs.Prelude.{◌≡◌, IfOk};
 ghost use Rattle.sedck_report.specs.Positions.{position_in};
 ghost use Rattle.sedck_calls_in_files.specs.Scanned.{IsWorst, TextStatus, unread_status, worse, rank as rank_of};
 
-use crate::answers::{call_report, place_report};
+use crate::answers::{call_report, place_report, write_report};
 use crate::finder::Finder;
 use crate::judging::{explain_found, explain_unread};
 use crate::request::FileScan;
-use sedck_cert::streams::{Sink, write_all};
+use sedck_cert::streams::Sink;
 use sedck_explanation::{Position, Unexplained, position_at, position_from};
 use sedck_formats::{CallAnswer, Counts};
 use sedck_found::FoundCall;
@@ -43,7 +43,7 @@ fn report_places<W: Sink>(
     for offset in places {
         position = call_position(text, position, *offset);
         let explanation = explain_unread(asked.alloc, text, position)?;
-        write_all(out, &place_report(asked, &explanation)?)?;
+        write_report(out, place_report(asked, &explanation))?;
     }
     Ok(status_of_places(places))
 }
@@ -77,7 +77,7 @@ pub fn explain_calls<W: Sink>(
         let explanation = explain_found(asked.alloc, text, position, call, asked.scan.denied)?;
         counts.add(CallAnswer::of(&explanation));
         status = greater(status, explanation.status);
-        write_all(out, &call_report(asked, position, call, &explanation)?)?;
+        write_report(out, call_report(asked, position, call, &explanation))?;
     }
     Ok(status)
 }

@@ -5,7 +5,7 @@ ghost use Rattle.std.specs.Io.KnownBytes.{Keeps};
 ghost use Rattle.sedck_calls_in_files.specs.Scanned.{PathStatus, IsWorstOf};
 ghost use Rattle.sedck_calls_in_files.specs.Private.Contents.{ContentsStatus, SourceStatus};
 
-use crate::answers::script_report;
+use crate::answers::{script_report, write_report};
 use crate::errors::{Unread, ended, write_named};
 use crate::file::{explain_text, greater};
 use crate::finder::Finder;
@@ -232,15 +232,26 @@ impl<R: Files + Input + AllocGlobal + Clone + Drop, O: Opener, F: Finder> Walk<'
         pass: &mut Pass,
         out: &mut W,
     ) -> Result<u8, Unexplained> {
+        match read_up_to(self.rt.alloc(), source, LONGEST_SCRIPT, InputOf::Script) {
+            Ok(text) => self.explain_whole(path, &text, pass, out),
+            Err(_) => self.skip(path, pass, out),
+        }
+    }
+
+    /// Explains the script at the path, which has this text.
+    fn explain_whole<W: Sink>(
+        &self,
+        path: &str,
+        text: &[u8],
+        pass: &mut Pass,
+        out: &mut W,
+    ) -> Result<u8, Unexplained> {
         let alloc = self.rt.alloc();
-        let Ok(text) = read_up_to(alloc, source, LONGEST_SCRIPT, InputOf::Script) else {
-            return self.skip(path, pass, out);
-        };
-        let own = Some(path.as_bytes());
-        let explanation = explain(alloc, own, &text, None, self.scan.denied)?;
+        let explanation = explain(alloc, Some(path.as_bytes()), text, None, self.scan.denied)?;
         pass.counts.scripts = pass.counts.scripts.saturating_add(1);
-        write_all(out, &script_report(alloc, self.scan, path, &explanation)?)?;
-        Ok(explanation.status)
+        let status = explanation.status;
+        write_report(out, script_report(alloc, self.scan, path, &explanation))?;
+        Ok(status)
     }
 
     /// Adds the entries of the folder to what is pending: status 0, or 4 where not all of their names can be read.
@@ -281,7 +292,7 @@ impl<R: Files + Input + AllocGlobal + Clone + Drop, O: Opener, F: Finder> Walk<'
         let message = Unread { name: path, reason }.words(alloc)?;
         pass.counts.unreadable = pass.counts.unreadable.saturating_add(1);
         if self.scan.look == Look::Json {
-            write_all(out, &json_unreadable(alloc, path, message.as_str())?)?;
+            write_report(out, json_unreadable(alloc, path, message.as_str()))?;
         }
         keep(&mut pass.unread, message)?;
         Ok(4)
@@ -297,11 +308,10 @@ fn write_counts<W: Sink>(
     out: &mut W,
 ) -> Result<(), Unexplained> {
     match look {
-        Look::Text { .. } => write_all(out, &counts.text(alloc)?)?,
-        Look::Json => write_all(out, &json_counts(alloc, counts, status)?)?,
-        Look::Gcc => {}
+        Look::Text { .. } => write_report(out, counts.text(alloc)),
+        Look::Json => write_report(out, json_counts(alloc, counts, status)),
+        Look::Gcc => Ok(()),
     }
-    Ok(())
 }
 
 /// Adds the entries of the folder, of which the first in order comes last. Whether all of its names could be read.
