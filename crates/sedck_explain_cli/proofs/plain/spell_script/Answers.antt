@@ -1,4 +1,4 @@
-use Rattle.std.proofs.Common.{sym, subst}
+use Rattle.std.proofs.Common.{sym, subst, arith}
 use Rattle.sedck_formats.specs.Plain.{Output}
 use Rattle.sedck_explain_cli.specs.Requests.{scripts_of}
 use Rattle.sedck_explain_cli.specs.Spelled.{SpellsScript}
@@ -17,3 +17,7 @@ returns-in-Ok-clause-spelled g c = λ small.
     let k = g.O.Opener.known c.args.session.now.files.now in
     let out : Output = record { before = g.W.Sink.taken c.args.out.now; after = g.W.Sink.taken c.spell_path.new.out } in
     subst (λ paths. SpellsScript k c.args.session.now.request.now paths out c.in-Ok.status) (sym c.in-Some.ensures) c.in-Ok.ensures.spelled
+
+-- what can't be explained has the status 4
+pub returns-in-Err-clause-spelled : goal.returns-in-Err-clause-spelled
+returns-in-Err-clause-spelled g c = λ small. absurd (omega (arith, c.report_fault.ensures, small))
