@@ -82,12 +82,12 @@ def headings():
 
 
 def check_headings(tools):
-    """Each page that a code has, whether it is printed here or not; how `Code` and the table fit is for the compiler."""
-    with open(os.path.join(TOP, "crates", "sedck_formats", "src", "pages.rt")) as file:
-        pages = re.findall(r'"(\w+\.md#[^"]*)"', file.read())
-    tools.holds("pages", len(pages) > 30)
-    for page in pages:
-        tools.holds("page %s" % page, page in headings())
+    """Each page that a code has, whether it is printed here or not; how `Code` and the table fit is for tests/faults.py."""
+    with open(os.path.join(TOP, "crates", "sedck_formats", "src", "codes.rt")) as file:
+        rows = re.findall(r"^([a-z-]+) (\w+\.md#\S+) (\S.*)$", file.read(), flags=re.M)
+    tools.holds("rows of codes", len(rows) > 80)
+    for code, page, _ in rows:
+        tools.holds("page %s of %s" % (page, code), page in headings())
 
 
 def positions_in(value):

@@ -3,7 +3,8 @@
 
 The faults and rejections of docs/FAULTS.md must be just those of man/sedck.5, by number and name, and a fault whose sections show
 scripts must be the answer to one of them; tests/pages.py says whether the answers are right. The findings of man/sedck-explain.1 must
-be just the codes of `Code` in sedck_report, by name, and all of these faults and rejections must be among them; it must name each
+be just the codes, by name, and all of these faults and rejections must be among them: the variants of `Code` in sedck_report, and the
+faults that a code names. Each code has a row in the table of sedck_formats, with its page and its meaning. The manual page must name each
 field of the format for programs. The status is 0 only where all of this holds.
 """
 import json
@@ -19,6 +20,8 @@ FAULT = r"(?:^## |^\| |, |^\| `rejected )(\d+) `?([a-z][\w-]+)(?=[`,:\n ])"
 # A refused expression is a finding by its own fault, and lack of memory is none.
 NO_FINDINGS = {"bad-expression", "out-of-memory"}
 CODES = "crates/sedck_report/src/code.rt"
+FAULTS = ["crates/sedck_script/src/fault.rt", "crates/sedck_bre/src/fault.rt", "crates/sedck_cert/src/reading.rt"]
+ROWS = "crates/sedck_formats/src/codes.rt"
 
 
 def section(text, head, mark):
@@ -41,12 +44,21 @@ def unshown(text, words):
 
 
 def codes():
-    """The names of the variants of `Code`, as `Code::name` answers them."""
+    """The names of the variants of `Code`, as `Code::name` answers them, and of the faults that a code names."""
     enum = section(read(CODES), "pub enum Code {", r"^}")
     variants = re.findall(r"^    (\w+),$", enum, flags=re.M)
     table = dict(re.findall(r'^ +Code::(\w+) => "([a-z-]+)",$', section(read(CODES), "        match self {", r"^        }"), flags=re.M))
     names = [re.sub(r"\B([A-Z])", r"-\1", variant).lower() for variant in variants]
-    return set(names) if names and [table.get(variant) for variant in variants] == names else set()
+    if not names or [table.get(variant) for variant in variants] != names:
+        return set()
+    faults = {name for path in FAULTS for name in re.findall(r'^ +\w+Fault::\w+(?: \{.*\})? => \(\s*\d+,\s*"([a-z-]+)",', read(path), flags=re.M)}
+    return set(names) | faults - NO_FINDINGS
+
+
+def rows_differ():
+    """How the names of the rows of codes differ from the codes: each has one row."""
+    rows = re.findall(r"^([a-z-]+) \w+\.md#\S+ \S", read(ROWS), flags=re.M)
+    return "" if sorted(rows) == sorted(codes()) else "rows that lack or are too many: %s" % sorted(set(rows) ^ codes())
 
 
 def findings_differ(names):
@@ -96,6 +108,9 @@ def main():
     if differs:
         wrong += 1
         print("man/sedck-explain.1, FINDINGS: " + differs)
+    if rows_differ():
+        wrong += 1
+        print("%s: %s" % (ROWS, rows_differ()))
     unnamed = fields_unnamed(os.path.abspath(sys.argv[1]))
     if unnamed:
         wrong += 1

@@ -1,9 +1,10 @@
 -- From what an engine answers to the answer.
-use Rattle.std.proofs.Common.{◌≡◌, ◌≢◌, ◌⊎◌, ℕ, List, Option, Some, None, Result, Ok, Err, IfOk, IfSome, refl, subst, inl, inr}
+use Rattle.std.proofs.Common.{◌≡◌, ◌≢◌, ◌⊎◌, ℕ, List, Option, Some, None, Result, Ok, Err, IfOk, IfSome, refl, inl, inr}
 use Rattle.sedck_script.specs.Program.{Program}
 use Rattle.sedck_script.specs.Spelling.{Spells}
 use Rattle.sedck_script.specs.declared.fault.ScriptFault.{ScriptFault}
 use Rattle.sedck_script.specs.declared.fault.ScriptFault.TheVariants as script
+use Rattle.sedck_script.proofs.ResultLemmas.{if_some_at}
 use Rattle.sedck_cert.specs.Certificate.{Certificate}
 use Rattle.sedck_cert.specs.Versions.{SpellsCertificate, IsFaultIn}
 use Rattle.sedck_cert.specs.Headline.{SpellsOnly, IsScriptFaultOf}
@@ -14,10 +15,6 @@ use Rattle.sedck_explanation.specs.declared.answer.Answer.{Answer}
 use Rattle.sedck_explanation.specs.declared.answer.Answer.TheVariants.{CertificateRefused, Accepted, Rejected, Endless}
 use Rattle.sedck_explanation.specs.Answers.{IsAnswer}
 use Rattle.sedck_explanation.specs.Private.Answering.{IsFoundAnswer, IsJudgedAnswer, refusal}
-
--- what holds of what is there holds of the value that is there
-pub of_some : {A : Type 0} (P : A → Type 0) (o : Option A) (x : A) → o ≡ Some x → IfSome o P → P x
-of_some P o x is holds = subst (λ o. IfSome o P) is holds
 
 certificate_refusal : (p : Program) (bytes : List ℕ) (why : CertFault)
     → (why ≡ cert.OutOfMemory) ⊎ (((c : Certificate) → ¬ SpellsCertificate bytes c) × IsFaultIn bytes why)
@@ -30,7 +27,7 @@ certificate_refusal p bytes why (inr is_fault) = is_fault
 pub certificate_refused : (p : Program) (bytes : List ℕ) (why : CertFault) (answer : Answer) → refusal (below.Certificate why) ≡ Some answer
     → (why ≡ cert.OutOfMemory) ⊎ (((c : Certificate) → ¬ SpellsCertificate bytes c) × IsFaultIn bytes why) → IsJudgedAnswer p bytes answer
 certificate_refused p bytes why answer is refused =
-    of_some (IsJudgedAnswer p bytes) (refusal (below.Certificate why)) answer is (certificate_refusal p bytes why refused)
+    if_some_at (IsJudgedAnswer p bytes) is (certificate_refusal p bytes why refused)
 
 -- the answer for the script's text, where this script is read from it
 pub judged_answer : (text bytes : List ℕ) (p : Program) (answer : Answer) → SpellsOnly text p → IsJudgedAnswer p bytes answer → IsAnswer text (Some bytes) answer
@@ -49,7 +46,7 @@ locate_refusal text given why refused is_fault = ((λ e. cc), refused (λ e. cc)
 pub locate_refused : (text : List ℕ) (given : Option (List ℕ)) (why : ScriptFault) (answer : Answer) → refusal (below.Script why) ≡ Some answer
     → (why ≢ script.OutOfMemory → (p : Program) → ¬ Spells text p) → IsScriptFaultOf text why → IsAnswer text given answer
 locate_refused text given why answer is refused is_fault =
-    of_some (IsAnswer text given) (refusal (below.Script why)) answer is (locate_refusal text given why refused is_fault)
+    if_some_at (IsAnswer text given) is (locate_refusal text given why refused is_fault)
 
 -- what `search` finds
 pub search_found : (text : List ℕ) (p : Program) (answer : Answer) → SpellsOnly text p → IsFoundAnswer p answer → IsAnswer text None answer

@@ -1,14 +1,17 @@
-//! What is said of a call that can be judged.
+//! What is said of a call of sed: of one that can be judged, and of one that can't.
 
-ghost use Rattle.std.specs.Prelude.{◌≡◌, ◌≤◌, None, IfOk};
+ghost use Rattle.std.specs.Prelude.{◌≡◌, ◌≤◌, None, [], IfOk};
 ghost use Rattle.sedck_explanation.specs.Called.{IsCalled, IsDenied, is_denied_call as is_denied};
-ghost use Rattle.sedck_explanation.specs.Explanations.{IsExplanation, Keeps};
+ghost use Rattle.sedck_explanation.specs.Explanations.{IsExplanation, Keeps, KeepsNothing};
+ghost use Rattle.sedck_explanation.specs.declared.answer.Answer.TheVariants.{NotJudged};
 
+use crate::answer::Answer;
 use crate::explaining::explain_call;
 use crate::explanation::Explanation;
 use crate::options::{call_warnings, denied_overwriting, is_in_place};
 use sedck_calls::Call;
 use sedck_errors::Denied;
+use sedck_report::{Code, Finding, Level};
 use std::alloc::{AllocError, Global};
 
 /// Explains a call whose script is this text: as the text is explained, with a warning where the call overwrites operands, which is an
@@ -44,14 +47,61 @@ fn denied_call<'a>(
     alloc: Global,
     words: &[&[u8]],
     call: &Call,
-    explanation: Explanation<'a>,
+    mut explanation: Explanation<'a>,
 ) -> Result<Explanation<'a>, AllocError>
     requires { Keeps explanation.text.now explanation.answer explanation }
     ensures { IfOk result (IsDenied explanation.entry.text.now explanation.entry) }
 {
-    let mut explanation = explanation;
     explanation.status = 1;
     let error = denied_overwriting(alloc, words, call)?;
     explanation.findings.insert(0, error)?;
     Ok(explanation)
+}
+
+/// The explanation of a call whose script isn't judged: these findings say why.
+pub fn not_judged<'a>(alloc: Global, text: &'a [u8], findings: Vec<Finding>) -> Explanation<'a>
+    ensures text { result.text.now ≡ text.now }
+    ensures answer { result.answer ≡ NotJudged }
+    ensures status { result.status ≡ 2 }
+    ensures keeps { KeepsNothing result }
+    ensures findings { result.findings ≡ findings }
+{
+    let answer = Answer::NotJudged;
+    let status = answer.status();
+    Explanation {
+        text,
+        answer,
+        status,
+        script: None,
+        positions: Vec::new(alloc),
+        findings,
+        reads: Vec::new(alloc),
+        writes: Vec::new(alloc),
+    }
+}
+
+/// A finding on the words of a call, which have no position in the script.
+pub fn call_finding(
+    alloc: Global,
+    level: Level,
+    code: Code,
+    message: String,
+    hint: Option<&'static str>,
+) -> Finding
+    ensures level { result.level ≡ level }
+    ensures code { result.code ≡ code }
+    ensures position { result.position ≡ None }
+    ensures end { result.end ≡ None }
+    ensures steps { result.steps.items ≡ [] }
+{
+    Finding {
+        level,
+        code,
+        position: None,
+        end: None,
+        message,
+        hint,
+        fix: None,
+        steps: Vec::new(alloc),
+    }
 }

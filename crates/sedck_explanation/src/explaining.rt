@@ -15,8 +15,7 @@ ghost use Rattle.sedck_explanation.specs.Private.Explaining.{Explains, Reports, 
 
 use crate::answer::{Answer, Answered, answer_of};
 use crate::explanation::Explanation;
-use crate::ignored::ignored_codes;
-use crate::reporting::reported;
+use crate::reporting::{ignored_codes, reported};
 use sedck_advice::{
     Concern, Slow, add_warnings, concern_warnings, ignoring_words, named_files, slow_of,
 };

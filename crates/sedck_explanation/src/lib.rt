@@ -7,17 +7,14 @@
 
 mod answer;
 mod called;
-mod calls;
 mod explaining;
 mod explanation;
-mod ignored;
 mod options;
 mod parts;
 mod reporting;
 
 pub use answer::Answer;
-pub use called::explain_called;
-pub use calls::{call_finding, not_judged};
+pub use called::{call_finding, explain_called, not_judged};
 pub use explaining::{explain, explain_call};
 pub use explanation::Explanation;
 pub use options::{foreign_findings, has_foreign, refusal_of};

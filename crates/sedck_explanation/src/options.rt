@@ -3,20 +3,13 @@
 ghost use Rattle.std.specs.Prelude.{◌≡◌, true, false, IfOk};
 ghost use Rattle.std.specs.List.{list_any};
 ghost use Rattle.sedck_report.specs.Levels.{has_warning, is_error, has_error};
-ghost use Rattle.sedck_explanation.specs.Called.{changes_language as is_language_option, is_foreign as is_foreign_option, has_foreign as has_foreign_option};
+ghost use Rattle.sedck_explanation.specs.Called.{is_foreign as is_foreign_option, has_foreign as has_foreign_option};
 ghost use Rattle.sedck_explanation.specs.Called.{is_overwriting as is_overwriting_option, is_in_place as is_in_place_call};
 
-use crate::calls::call_finding;
+use crate::called::call_finding;
 use sedck_calls::{Call, CallFault, CallOption, Given, Origin};
 use sedck_report::{Code, Finding, Level, shown_name};
 use std::alloc::{AllocError, Global};
-
-/// Whether sed reads another language with the option.
-fn changes_language(option: CallOption) -> bool
-    ensures { result ≡ is_language_option option }
-{
-    matches!(option, CallOption::Extended)
-}
 
 /// The option and its word's number, from 0; none for an operand.
 fn option_of(given: Given) -> Option<(CallOption, usize)> {
@@ -31,12 +24,7 @@ fn option_of(given: Given) -> Option<(CallOption, usize)> {
 pub fn has_foreign(given: &[Given]) -> bool
     ensures { result ≡ has_foreign_option given.now }
 {
-    for item in given {
-        if is_foreign(*item) {
-            return true;
-        }
-    }
-    false
+    given.iter().any(|item| is_foreign(*item))
 }
 
 /// Whether the option changes the language.
@@ -44,7 +32,7 @@ fn is_foreign(given: Given) -> bool
     ensures { result ≡ is_foreign_option given }
 {
     match given {
-        Given::Alone(option, _) | Given::With(option, _) => changes_language(option),
+        Given::Alone(option, _) | Given::With(option, _) => matches!(option, CallOption::Extended),
         Given::Operand(_) => false,
     }
 }
@@ -55,40 +43,27 @@ pub fn foreign_findings(
     words: &[&[u8]],
     given: &[Given],
 ) -> Result<Vec<Finding>, AllocError> {
+    let hint =
+        "write basic expressions: `\\(`, `\\)`, `\\{` and `\\}` for groups and intervals, `x\\{1,\\}` for `x+`, and several commands for `|`";
     let mut findings = Vec::new(alloc);
     for item in given {
-        let Some((option, word)) = option_of(*item) else {
+        let Some((CallOption::Extended, word)) = option_of(*item) else {
             continue;
         };
-        if let Some((what, hint)) = foreign_words(option) {
-            let number = word.saturating_add(1);
-            let text = Origin { word, from: 0 }.text(words);
-            let shown = shown_name(alloc, text)?;
-            let shown = shown.as_str();
-            let message = format!(in alloc;
-                "word {number}, \"{shown}\": {what}, so the script is not judged"
-            )?;
-            findings.push(call_finding(
-                alloc,
-                Level::Error,
-                Code::OtherLanguage,
-                message,
-                Some(hint),
-            ))?;
-        }
+        let number = word.saturating_add(1);
+        let shown = shown_name(alloc, Origin { word, from: 0 }.text(words))?;
+        let message = format!(in alloc;
+            "word {number}, \"{shown}\": with this option regular expressions are extended ones, so the script is not judged"
+        )?;
+        findings.push(call_finding(
+            alloc,
+            Level::Error,
+            Code::OtherLanguage,
+            message,
+            Some(hint),
+        ))?;
     }
     Ok(findings)
-}
-
-/// What the option changes, and what to write instead.
-fn foreign_words(option: CallOption) -> Option<(&'static str, &'static str)> {
-    match option {
-        CallOption::Extended => Some((
-            "with this option regular expressions are extended ones",
-            "write basic expressions: `\\(`, `\\)`, `\\{` and `\\}` for groups and intervals, `x\\{1,\\}` for `x+`, and several commands for `|`",
-        )),
-        _ => None,
-    }
 }
 
 /// A warning of the operands that `-i` overwrites, if there are any.
@@ -131,12 +106,7 @@ pub(crate) fn is_in_place(call: &Call) -> bool
 fn has_overwriting(given: &[Given]) -> bool
     ensures { result ≡ list_any is_overwriting_option given.now }
 {
-    for item in given {
-        if is_overwriting(*item) {
-            return true;
-        }
-    }
-    false
+    given.iter().any(|item| is_overwriting(*item))
 }
 
 /// Whether it is `-i`, or `-I` of the BSDs.
@@ -177,23 +147,16 @@ pub fn refusal_of(
             String::from_str(alloc, "there is no script")?,
             "a script is the first operand, or what `-e` or `-f` gives",
         ),
-        CallFault::BadWord(number) => (
-            bad_word(alloc, words, number)?,
-            "put operands that begin with a hyphen after `--`",
-        ),
+        CallFault::BadWord(word) => {
+            let number = word.saturating_add(1);
+            let shown = shown_name(alloc, Origin { word, from: 0 }.text(words))?;
+            let message = format!(in alloc;
+                "word {number}, \"{shown}\": unknown option, or its argument is missing"
+            )?;
+            (message, "put operands that begin with a hyphen after `--`")
+        }
     };
     let mut findings = Vec::new(alloc);
     findings.push(call_finding(alloc, Level::Error, Code::BadCall, message, Some(hint)))?;
     Ok(findings)
-}
-
-/// Which word no sed takes, in words.
-fn bad_word(alloc: Global, words: &[&[u8]], number: usize) -> Result<String, AllocError> {
-    let counted = number.saturating_add(1);
-    let mut message = format!(in alloc; "word {counted}: no sed takes \"")?;
-    if let Some(word) = words.get(number) {
-        message.push_str(shown_name(alloc, word)?.as_str())?;
-    }
-    message.push_str("\", or it lacks its argument")?;
-    Ok(message)
 }

@@ -4,7 +4,8 @@ ghost use Rattle.std.specs.Prelude.{◌≡◌, [], false, true, IfOk};
 ghost use Rattle.sedck_report.specs.Levels.{is_error};
 ghost use Rattle.sedck_explanation.specs.Private.Reporting.{AreReported};
 
-use sedck_errors::with_end;
+use sedck_advice::Word;
+use sedck_errors::{Denied, with_end};
 use sedck_report::{Code, Finding, Level};
 use sedck_script::Location;
 use std::alloc::{AllocError, Global};
@@ -45,4 +46,26 @@ fn is_ignored(finding: &Finding, ignored: &[Code]) -> bool
     ensures nothing { ignored.now ≡ [] → result ≡ false }
 {
     !finding.is_error() && ignored.contains(&finding.code)
+}
+
+/// The codes to be ignored, each once. A script silences nothing where the caller denies warnings.
+pub(crate) fn ignored_codes(
+    alloc: Global,
+    words: &[Word],
+    denied: Denied,
+) -> Result<Vec<Code>, AllocError>
+    ensures { IfOk result (λ codes. denied.warnings ≡ true → codes.items ≡ []) }
+{
+    let mut codes = Vec::new(alloc);
+    if denied.warnings {
+        return Ok(codes);
+    }
+    for word in words {
+        if let Some(code) = word.code()
+            && !codes.contains(&code)
+        {
+            codes.push(code)?;
+        }
+    }
+    Ok(codes)
 }

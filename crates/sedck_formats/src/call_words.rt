@@ -1,6 +1,6 @@
 //! A call of sed in a file, in words.
 
-use crate::parts::{Ink, NO_INK};
+use crate::words::{GREEN, RED, YELLOW, ink_where, push_inked};
 use crate::written::Written;
 use sedck_explanation::{Answer, Explanation, NamedFile, Position, shown_name};
 use std::alloc::{AllocError, Global};
@@ -69,23 +69,17 @@ pub fn text_answer(
     out.text(call.file).text(":").number(line);
     out.text(":").number(column).text(": ");
     let answer = CallAnswer::of(explanation);
-    let ink = if colour { ink_of(answer) } else { NO_INK };
-    ink.push(&mut out, answer.word());
+    let ink = match answer {
+        CallAnswer::Accepted => GREEN,
+        CallAnswer::AcceptedIf | CallAnswer::Unknown => YELLOW,
+        _ => RED,
+    };
+    push_inked(&mut out, ink_where(colour, ink), answer.word());
     if explanation.script.is_some() {
         push_files(&mut out, explanation);
     }
     out.text("\n");
     out.finished()
-}
-
-/// The colour of an answer.
-fn ink_of(answer: CallAnswer) -> Ink {
-    let on = match answer {
-        CallAnswer::Accepted => "\x1b[1;32m",
-        CallAnswer::AcceptedIf | CallAnswer::Unknown => "\x1b[1;33m",
-        _ => "\x1b[1;31m",
-    };
-    Ink { on, off: "\x1b[0m" }
 }
 
 /// Adds which files the script reads and writes.

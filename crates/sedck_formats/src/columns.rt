@@ -20,7 +20,8 @@ impl Columns {
             if offset < end {
                 inside.push(offset)?;
             } else {
-                end = offset.saturating_add(length_at(text, offset));
+                let letter = first_letter(text.get(offset..).unwrap_or(&[]));
+                end = offset.saturating_add(letter.map_or(1, |(_, length)| length));
             }
         }
         Ok(Columns { inside })
@@ -50,16 +51,6 @@ impl Columns {
 
     /// How many of the bytes are before this offset.
     fn count_before(&self, offset: usize) -> usize {
-        match self.inside.binary_search(&offset) {
-            Ok(count) | Err(count) => count,
-        }
-    }
-}
-
-/// How many bytes the character at this offset has.
-fn length_at(text: &[u8], offset: usize) -> usize {
-    match first_letter(text.get(offset..).unwrap_or(&[])) {
-        Some((_, length)) => length,
-        None => 1,
+        self.inside.partition_point(|inside| *inside < offset)
     }
 }

@@ -59,29 +59,8 @@ impl Counts {
     /// A line that says how many calls were found, and then how many there are of each answer that there is.
     pub fn text(self, alloc: Global) -> Result<Vec<u8>, AllocError> {
         let mut out = Written::new(alloc);
-        let calls = if self.calls == 1 {
-            " call of sed in "
-        } else {
-            " calls of sed in "
-        };
-        let files = if self.files == 1 { " file" } else { " files" };
-        out.grouped(self.calls as u64).text(calls);
-        out.grouped(self.files as u64).text(files);
-        self.push_parts(&mut out);
-        if self.scripts > 0 {
-            out.text("; ").grouped(self.scripts as u64);
-            out.text(if self.scripts == 1 {
-                " script"
-            } else {
-                " scripts"
-            });
-        }
-        out.text("\n");
-        out.finished()
-    }
-
-    /// Adds how many there are of each answer that there is.
-    fn push_parts(&self, out: &mut Written) {
+        out.counted(self.calls, " call of sed in ", " calls of sed in ")
+            .counted(self.files, " file", " files");
         let places = if self.unread == 1 {
             " place not understood"
         } else {
@@ -98,7 +77,12 @@ impl Counts {
             (self.unread, places),
             (self.unreadable, " not readable"),
         ];
-        push_counts(out, &parts);
+        push_counts(&mut out, &parts);
+        if self.scripts > 0 {
+            out.text("; ").counted(self.scripts, " script", " scripts");
+        }
+        out.text("\n");
+        out.finished()
     }
 }
 
@@ -137,9 +121,7 @@ impl ScriptCounts {
         let mut out = Written::new(alloc);
         let known = self.accepted.saturating_add(self.rejected);
         let others = self.refused.saturating_add(self.unreadable);
-        let scripts = known.saturating_add(others);
-        out.grouped(scripts as u64);
-        out.text(if scripts == 1 { " script" } else { " scripts" });
+        out.counted(known.saturating_add(others), " script", " scripts");
         let rejected = if may_be_denied {
             " with a loop or denied"
         } else {

@@ -4,7 +4,7 @@ use crate::letters::Letters;
 use crate::lines::{Shown, command_line, shown_of};
 use crate::listed::{is_listed, listed_steps};
 use crate::names::Names;
-use crate::parts::{NO_INK, prefix, push_headline, push_left_out};
+use crate::words::{prefix, push_headline, push_left_out};
 use crate::written::Written;
 use sedck_explanation::{Explanation, Finding, Level, Step};
 use std::alloc::{AllocError, Global};
@@ -38,7 +38,7 @@ fn push_finding(
     place: &str,
     finding: &Finding,
 ) -> Result<(), AllocError> {
-    push_headline(out, place, NO_INK, finding);
+    push_headline(out, place, "", finding);
     let stretches = listed_steps(out.alloc(), shown.script, &finding.steps)?;
     for stretch in &stretches {
         if stretch.left_out > 0 {
@@ -59,19 +59,12 @@ fn push_steps(out: &mut Written, shown: &Shown, steps: &[Step]) {
     for step in steps {
         out.words(prefix(out.alloc(), shown.names, step.position));
         out.text("note: ");
-        match step.position {
-            Some(position) => {
-                let line = command_line(
-                    out.alloc(),
-                    shown.source,
-                    step.node.at,
-                    position,
-                    NOTE_WIDTH,
-                );
-                out.text("`").words(line).text("`")
-            }
-            None => out.text("the script's end"),
-        };
+        if step.position.is_some() {
+            let line = command_line(out.alloc(), shown, step.node.at, NOTE_WIDTH);
+            out.text("`").words(line).text("`");
+        } else {
+            out.text("the script's end");
+        }
         out.text(" ").text(step.message.as_str()).text("\n");
     }
 }

@@ -1,12 +1,11 @@
-//! Findings in JSON.
+//! Findings and positions in JSON.
 
-use crate::json_places::{push_place, push_position};
+use crate::codes::page_of;
 use crate::json_text::Json;
 use crate::listed::is_listed;
-use crate::names::Names;
-use crate::pages::page_of;
-use crate::words::{kind_word, level_word};
-use sedck_explanation::{Finding, Fix, Level, NewText, Step};
+use crate::names::{Names, Place};
+use crate::words::level_word;
+use sedck_explanation::{Finding, Fix, Level, NewText, Position, Step};
 
 /// What explains that a script can't be read.
 const UNREADABLE_PAGE: &str = "FORMATS.md#the-formats-and-statuses-of-sedck-explain";
@@ -74,8 +73,8 @@ fn push_fix(out: &mut Json, names: Names, fix: Option<Fix>) {
         return;
     };
     out.object("fix");
-    push_position(out, "start", names, start);
-    push_position(out, "end", names, end);
+    push_place(out, "start", names, Some(start));
+    push_place(out, "end", names, Some(end));
     push_new_text(out, "text", text);
     out.close("}");
 }
@@ -102,9 +101,48 @@ fn push_step(out: &mut Json, names: Names, step: &Step) {
     out.open()
         .number("command", u64::from(step.node.at))
         .boolean("flag", step.node.flag)
-        .boolean("last", step.node.last)
-        .text_or_null("kind", step.kind.map(kind_word))
-        .text("message", step.message.as_str());
+        .boolean("last", step.node.last);
+    match step.kind {
+        Some(kind) => out.words("kind", format!(in out.alloc(); "{kind}")),
+        None => out.null("kind"),
+    };
+    out.text("message", step.message.as_str());
     push_place(out, "position", names, step.position);
     out.close("}");
+}
+
+/// Adds a list of positions.
+pub(crate) fn push_positions(out: &mut Json, key: &str, names: Names, positions: &[Position]) {
+    out.list(key);
+    for position in positions {
+        out.open();
+        push_members(out, names, *position);
+    }
+    out.close("]");
+}
+
+/// Adds the position, or null.
+pub(crate) fn push_place(out: &mut Json, key: &str, names: Names, position: Option<Position>) {
+    let Some(position) = position else {
+        out.null(key);
+        return;
+    };
+    out.object(key);
+    push_members(out, names, position);
+}
+
+/// Adds what says which byte it is, and ends the object.
+///
+/// - `offset`: in bytes, from 0, in the whole script.
+/// - `line`: from 1, in the part.
+/// - `column`: in bytes, from 1.
+/// - `part`: the part of a call's script in which it is; null where the script is a file.
+fn push_members(out: &mut Json, names: Names, position: Position) {
+    let Place { name, line, column } = names.place_of(position);
+    let part = (names.part_count() > 0).then_some(name);
+    out.number("offset", position.offset as u64)
+        .number("line", line as u64)
+        .number("column", column as u64)
+        .text_or_null("part", part)
+        .close("}");
 }

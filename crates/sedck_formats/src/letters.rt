@@ -67,10 +67,7 @@ pub(crate) fn first_letter(bytes: &[u8]) -> Option<(char, usize)> {
 pub fn mark_len(letters: Letters, bytes: &[u8]) -> usize {
     match letters {
         Letters::Ascii => 1,
-        Letters::Unicode => match shown_letter_of(bytes) {
-            Some((_, length)) => length,
-            None => 1,
-        },
+        Letters::Unicode => shown_letter_of(bytes).map_or(1, |(_, length)| length),
     }
 }
 
@@ -110,13 +107,8 @@ fn push_first(alloc: Global, shown: &mut String, bytes: &[u8]) -> Result<usize, 
 /// The character with which the bytes begin, where it can be seen, and how many bytes it has.
 fn shown_letter_of(bytes: &[u8]) -> Option<(char, usize)> {
     let (letter, length) = first_letter(bytes)?;
-    let is_seen = letter == ' '
-        || !(letter.is_control() || letter.is_whitespace() || is_unseen(letter));
-    if is_seen {
-        Some((letter, length))
-    } else {
-        None
-    }
+    let is_hidden = letter.is_control() || letter.is_whitespace() || is_unseen(letter);
+    (letter == ' ' || !is_hidden).then_some((letter, length))
 }
 
 /// Whether the character has no shape of its own, or turns what is around it: Unicode's `Default_Ignorable_Code_Point` and `Bidi_Control`,

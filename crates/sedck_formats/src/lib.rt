@@ -7,47 +7,38 @@
 #![tactic(auto)]
 
 mod call_words;
+mod codes;
 mod columns;
 mod counts;
 mod gcc;
-mod json_calls;
 mod json_findings;
 mod json_line;
-mod json_places;
 mod json_text;
 mod letters;
-mod limit;
 mod lines;
 mod listed;
 mod names;
-mod pages;
-mod parts;
 mod plain;
 mod sarif;
-mod sarif_places;
-mod sarif_rules;
 mod summary;
 mod text;
-mod uri;
 mod words;
 mod written;
 
 pub use call_words::{CallAnswer, CallAt, text_answer};
+pub use codes::page_of;
 pub use counts::{Counts, ScriptCounts};
 pub use gcc::gcc_report;
-pub use json_calls::{json_call, json_counts, json_place};
-pub use json_line::{json_report, json_unreadable};
+pub use json_line::{json_call, json_counts, json_place, json_report, json_unreadable};
 pub use letters::{Letters, line_in, mark_len};
-pub use limit::push_limit;
-pub use lines::{LinePart, Shown, Source, command_line, excerpt, shown_of};
+pub use lines::{LinePart, Shown, command_line, excerpt, shown_of};
 pub use listed::{Stretch, is_listed, listed_steps};
 pub use names::{Names, PartName, Place};
-pub use pages::page_of;
-pub use parts::push_left_out;
 pub use plain::plain_report;
 pub use sarif::{sarif_report, sarif_unreadable};
+pub use summary::push_steps;
 pub use text::{text_findings, text_report};
 pub use words::{
-    VERSION, answer_word, kind_word, level_word, place_words, shown_letter, shown_path,
+    VERSION, answer_word, level_word, place_words, push_left_out, shown_letter, shown_path,
 };
 pub use written::Written;

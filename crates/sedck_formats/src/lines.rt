@@ -3,27 +3,23 @@
 use crate::letters::{Letters, line_in, width_of};
 use crate::names::Names;
 use sedck_explanation::{Explanation, Position};
+use sedck_report::line_len;
 use sedck_script::Script;
 use std::alloc::{AllocError, Global};
 
 /// What stands for a part of a line that is left out.
 const CUT: &str = "...";
 
-/// The text of a script, where its commands are, and how its bytes are shown.
-#[derive(Clone, Copy)]
-pub struct Source<'a> {
-    pub text: &'a [u8],
-    pub positions: &'a [Position],
-    pub letters: Letters,
-}
-
 /// A script as reports name it and show it.
 #[derive(Clone, Copy)]
 pub struct Shown<'a> {
     pub names: Names<'a>,
-    pub source: Source<'a>,
+    pub text: &'a [u8],
+    /// Where its commands are.
+    pub positions: &'a [Position],
     /// The script, where it isn't refused.
     pub script: Option<&'a Script<'a>>,
+    pub letters: Letters,
 }
 
 /// The script of what is explained, by these names.
@@ -34,12 +30,10 @@ pub fn shown_of<'a>(
 ) -> Shown<'a> {
     Shown {
         names,
-        source: Source {
-            text: explanation.text,
-            positions: &explanation.positions,
-            letters,
-        },
+        text: explanation.text,
+        positions: &explanation.positions,
         script: explanation.script.as_ref(),
+        letters,
     }
 }
 
@@ -55,22 +49,25 @@ pub struct LinePart {
 /// dots for what is left out. The time doesn't depend on the line's length.
 pub fn excerpt(
     alloc: Global,
-    source: Source,
+    shown: &Shown,
     position: Position,
     limit: usize,
 ) -> Result<LinePart, AllocError> {
-    let letters = source.letters;
-    let before = before(source.text, position);
-    let behind = behind(source.text, position, limit);
+    let letters = shown.letters;
+    let before = before(shown.text, position);
+    let behind = behind(shown.text, position, limit);
     let needed = width(letters, last_part(before, limit));
     let room = limit.saturating_sub(width(letters, behind)).max(limit / 2);
     let left = fitting_end(letters, before, room.min(needed));
     let right = fitting_start(letters, behind, limit.saturating_sub(width(letters, left)));
-    let shown_left = line_in(alloc, letters, left)?;
-    let shown_right = line_in(alloc, letters, right)?;
     let front = cut_where(left.len() < before.len());
     let back = cut_where(right.len() < behind.len());
-    joined(alloc, front, &shown_left, &shown_right, back)
+    let left = line_in(alloc, letters, left)?;
+    let right = line_in(alloc, letters, right)?;
+    Ok(LinePart {
+        shown: format!(in alloc; "{front}{left}{right}{back}")?,
+        before: front.len().saturating_add(left.as_str().chars().count()),
+    })
 }
 
 /// Dots where something is left out.
@@ -78,60 +75,41 @@ fn cut_where(is_cut: bool) -> &'static str {
     if is_cut { CUT } else { "" }
 }
 
-/// The parts on both sides of the byte as one line.
-fn joined(
-    alloc: Global,
-    front: &str,
-    left: &str,
-    right: &str,
-    back: &str,
-) -> Result<LinePart, AllocError> {
-    Ok(LinePart {
-        shown: format!(in alloc; "{front}{left}{right}{back}")?,
-        before: front.len().saturating_add(left.chars().count()),
-    })
-}
-
-/// The line of a command, cut to `limit` characters and without the blanks around it. Where other commands precede the command in
-/// its line, it begins at the command's verb.
+/// The line of a command, cut to `limit` characters and without the blanks around it; nothing for the script's end. Where other commands
+/// precede the command in its line, it begins at the command's verb.
 pub fn command_line(
     alloc: Global,
-    source: Source,
+    shown: &Shown,
     command: u16,
-    position: Position,
     limit: usize,
 ) -> Result<String, AllocError> {
-    if is_preceded(source.positions, command, position.line) {
-        return rest_of_line(alloc, source, position, limit);
+    let command = usize::from(command);
+    let Some(position) = shown.positions.get(command) else {
+        return Ok(String::new(alloc));
+    };
+    let before = command
+        .checked_sub(1)
+        .and_then(|before| shown.positions.get(before));
+    if before.is_some_and(|before| before.line == position.line) {
+        return rest_of_line(alloc, shown, *position, limit);
     }
-    let whole = excerpt(alloc, source, position, limit)?;
+    let whole = excerpt(alloc, shown, *position, limit)?;
     String::from_str(alloc, whole.shown.as_str().trim_ascii())
 }
 
 /// The line from the position on, cut to `limit` characters.
 fn rest_of_line(
     alloc: Global,
-    source: Source,
+    shown: &Shown,
     position: Position,
     limit: usize,
 ) -> Result<String, AllocError> {
-    let rest = behind(source.text, position, limit);
-    let part = fitting_start(source.letters, rest, limit);
-    let shown = line_in(alloc, source.letters, part)?;
-    let words = shown.as_str().trim_ascii_end();
+    let rest = behind(shown.text, position, limit);
+    let part = fitting_start(shown.letters, rest, limit);
+    let line = line_in(alloc, shown.letters, part)?;
+    let words = line.as_str().trim_ascii_end();
     let back = cut_where(part.len() < rest.len());
     format!(in alloc; "{CUT}{words}{back}")
-}
-
-/// Whether the command before this one is in the same line.
-fn is_preceded(positions: &[Position], command: u16, line: usize) -> bool {
-    let Some(before) = usize::from(command).checked_sub(1) else {
-        return false;
-    };
-    match positions.get(before) {
-        Some(position) => position.line == line,
-        None => false,
-    }
 }
 
 /// What precedes the position in its line.
@@ -146,10 +124,7 @@ fn before(text: &[u8], position: Position) -> &[u8] {
 fn behind(text: &[u8], position: Position, limit: usize) -> &[u8] {
     let rest = text.get(position.offset..).unwrap_or(&[]);
     let part = rest.get(..limit.saturating_add(1)).unwrap_or(rest);
-    match part.iter().position(|byte| *byte == b'\n') {
-        Some(end) => part.get(..end).unwrap_or(part),
-        None => part,
-    }
+    &part[..line_len(part)]
 }
 
 /// The last bytes, no more than one over the limit.

@@ -39,10 +39,8 @@ pub fn listed_steps<'a>(
 ) -> Result<Vec<Stretch<'a>>, AllocError> {
     let mut marks = Vec::new(alloc);
     for (index, step) in steps.iter().enumerate() {
-        let is_marked = match steps.get(index.saturating_add(1)) {
-            Some(next) => matters(script, step, next.node),
-            None => false,
-        };
+        let next = steps.get(index.saturating_add(1));
+        let is_marked = next.is_some_and(|next| matters(script, step, next.node));
         marks.push(is_marked || steps.len() <= STEPS)?;
     }
     if steps.len() > STEPS {
@@ -60,28 +58,17 @@ fn matters(script: Option<&Script>, step: &Step, next: Node) -> bool {
     }
     let at = usize::from(from.at);
     let leads_on = usize::from(next.at) == at.saturating_add(1);
-    let command = match script {
-        Some(script) => script.commands().get(at),
-        None => None,
-    };
-    match command {
-        Some(command) => match &command.verb {
-            Verb::Test(_) => true,
-            Verb::Block(_) => false,
-            _ => !leads_on,
-        },
-        None => !leads_on,
+    let command = script.and_then(|script| script.commands().get(at));
+    match command.map(|command| &command.verb) {
+        Some(Verb::Test(_)) => true,
+        Some(Verb::Block(_)) => false,
+        _ => !leads_on,
     }
 }
 
 /// Takes marks in the middle away, where there are more than 24.
 fn thin(marks: &mut [bool]) {
-    let mut count = 0usize;
-    for mark in marks.iter() {
-        if *mark {
-            count = count.saturating_add(1);
-        }
-    }
+    let count = marks.iter().filter(|mark| **mark).count();
     let front = MATTERING / 2;
     let end = count.saturating_sub(front);
     let mut seen = 0usize;
@@ -112,10 +99,7 @@ fn fill(marks: &mut [bool]) {
 
 /// Whether there is a mark with this index.
 fn is_marked(marks: &[bool], index: usize) -> bool {
-    match marks.get(index) {
-        Some(mark) => *mark,
-        None => false,
-    }
+    marks.get(index).copied().unwrap_or(false)
 }
 
 /// The steps with marks, in stretches of which each but the first follows steps without marks.

@@ -4,19 +4,28 @@ ghost use Rattle.std.specs.Prelude.{IfOk};
 ghost use Rattle.std.specs.Str.{IsAscii};
 ghost use Rattle.sedck_report.specs.Ascii.{IsPrintableLine};
 
+use crate::codes::{meaning_of, page_of};
 use crate::columns::Columns;
 use crate::json_findings::push_new_text;
 use crate::json_text::Json;
 use crate::listed::is_listed;
-use crate::names::Names;
-use crate::sarif_places::{Script, push_address, push_artifact, push_location, push_region};
-use crate::sarif_rules::push_rule;
+use crate::names::{Names, Place};
 use crate::words::{VERSION, level_word};
-use sedck_explanation::{Code, Explanation, Finding, Fix, Level, Step};
+use percent_encoding::{AsciiSet, NON_ALPHANUMERIC, ascii_set, utf8_percent_encode};
+use sedck_explanation::{Code, Explanation, Finding, Fix, Level, Position, Step};
+use sedck_report::end_behind;
 use std::alloc::{AllocError, Global};
 
 /// Where the schema of the format is.
 const SCHEMA: &str = "https://json.schemastore.org/sarif-2.1.0.json";
+
+/// The script's names, its text, and the columns of its lines.
+#[derive(Clone, Copy)]
+struct Script<'a> {
+    names: Names<'a>,
+    text: &'a [u8],
+    columns: &'a Columns,
+}
 
 /// The log on a line, in ASCII, with the findings of at least this level.
 pub fn sarif_report(
@@ -73,6 +82,25 @@ fn push_run(out: &mut Json, codes: &[Code]) {
     out.close("]}}").text("columnKind", "unicodeCodePoints");
 }
 
+/// Adds the rule of the code: its name, what it means, and the page that explains it. The page has no address of its own, so that there is
+/// no `helpUri`.
+fn push_rule(out: &mut Json, code: Code) {
+    let alloc = out.alloc();
+    let meaning = meaning_of(code);
+    let page = page_of(code);
+    out.open()
+        .text("id", code.name())
+        .message("shortDescription", meaning);
+    let full = format!(in alloc; "{meaning}. The page docs/{page} explains it.");
+    out.object("fullDescription").words("text", full).close("}");
+    let text = format!(in alloc; "See docs/{page}");
+    let markdown = format!(in alloc; "See `docs/{page}`");
+    out.object("help")
+        .words("text", text)
+        .words("markdown", markdown)
+        .close("}}");
+}
+
 /// The log for a script that can't be read, on a line, in ASCII: it has no results, and a notification that says which file can't be, and
 /// why.
 pub fn sarif_unreadable(alloc: Global, name: &str, message: &str) -> Result<Vec<u8>, AllocError>
@@ -113,29 +141,21 @@ fn push_result(out: &mut Json, script: Script, codes: &[Code], finding: &Finding
 
 /// Begins a finding.
 fn push_message(out: &mut Json, codes: &[Code], finding: &Finding) {
+    let index = codes
+        .iter()
+        .position(|code| *code == finding.code)
+        .unwrap_or(0);
     out.open()
         .text("ruleId", finding.code.name())
-        .number("ruleIndex", index_of(codes, finding.code))
+        .number("ruleIndex", index as u64)
         .text("level", level_word(finding.level));
     let message = finding.message.as_str();
-    let Some(hint) = finding.hint else {
-        out.message("message", message);
-        return;
+    out.object("message");
+    match finding.hint {
+        Some(hint) => out.words("text", format!(in out.alloc(); "{message}; hint: {hint}")),
+        None => out.text("text", message),
     };
-    let both = format!(in out.alloc(); "{message}; hint: {hint}");
-    out.object("message").words("text", both).close("}");
-}
-
-/// The index of the code in the list, which has it.
-fn index_of(codes: &[Code], code: Code) -> u64 {
-    let mut index = 0u64;
-    for other in codes {
-        if *other == code {
-            break;
-        }
-        index = index.saturating_add(1);
-    }
-    index
+    out.close("}");
 }
 
 /// Adds the steps of a finding.
@@ -160,4 +180,68 @@ fn push_fix(out: &mut Json, script: Script, fix: Fix) {
     out.object("insertedContent");
     push_new_text(out, "text", text);
     out.close("}}]}]}]");
+}
+
+/// Adds what is between the positions, or the script as a whole.
+fn push_location(out: &mut Json, script: Script, start: Option<Position>, end: Option<Position>) {
+    out.object("physicalLocation");
+    push_artifact(out, script, start);
+    if let Some(start) = start {
+        push_region(out, "region", script, start, end);
+    }
+    out.close("}");
+}
+
+/// Adds the part in which the position is, or the script as a whole. A part that is no file, as `-e 2`, has a relative address as well,
+/// `-e%202`.
+fn push_artifact(out: &mut Json, script: Script, position: Option<Position>) {
+    let name = match position {
+        Some(position) => script.names.place_of(position).name,
+        None => script.names.whole(),
+    };
+    push_address(out, name);
+}
+
+/// Adds the address of the file with this path.
+fn push_address(out: &mut Json, path: &str) {
+    let uri = uri_of(out.alloc(), path);
+    out.object("artifactLocation").words("uri", uri).close("}");
+}
+
+/// Adds what is between the positions, of which the second is the first byte after it; without an end the byte at the start, if there
+/// is one in its line. Columns are in characters, offsets in bytes.
+fn push_region(out: &mut Json, key: &str, script: Script, start: Position, end: Option<Position>) {
+    let end = end.unwrap_or(end_behind(script.text, start, 1));
+    let Place { line, .. } = script.names.place_of(start);
+    let last = line.saturating_add(end.line.saturating_sub(start.line));
+    out.object(key)
+        .number("startLine", line as u64)
+        .number("startColumn", script.columns.start(start) as u64)
+        .number("endLine", last as u64)
+        .number("endColumn", script.columns.end(end) as u64);
+    // Offsets are those of the whole script, and so mean nothing in a part.
+    if script.names.part_count() == 0 {
+        let length = end.offset.saturating_sub(start.offset);
+        out.number("byteOffset", start.offset as u64)
+            .number("byteLength", length as u64);
+    }
+    out.close("}");
+}
+
+/// All but letters, digits and what stays as it is in the path of an address.
+const ESCAPED: AsciiSet = ascii_set!(
+    NON_ALPHANUMERIC
+        .remove(b'-')
+        .remove(b'.')
+        .remove(b'_')
+        .remove(b'~')
+        .remove(b'/')
+);
+
+/// The path as an address: relative, or of the scheme `file` where it begins with `/`.
+fn uri_of(alloc: Global, path: &str) -> Result<String, AllocError> {
+    let scheme = if path.starts_with('/') { "file://" } else { "" };
+    let mut uri = String::from_str(alloc, scheme)?;
+    utf8_percent_encode(path, ESCAPED).append_to(&mut uri)?;
+    Ok(uri)
 }

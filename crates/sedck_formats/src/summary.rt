@@ -1,32 +1,26 @@
 //! The answer, and what the script may do: its limit on steps, and its files.
 
-use crate::limit::push_limit;
 use crate::names::Names;
-use crate::parts::{Ink, NO_INK};
-use crate::words::place_words;
+use crate::words::{GREEN, RED, answer_word, ink_where, place_words, push_inked};
 use crate::written::Written;
+use sedck_cert::Bound;
 use sedck_explanation::{Answer, Explanation, NamedFile, Position, shown_name};
 
 /// The most positions of one file that are listed.
 const POSITIONS: usize = 8;
 
-/// The colours of a yes and of a no.
-#[derive(Clone, Copy)]
-pub(crate) struct Inks {
-    pub yes: Ink,
-    pub no: Ink,
-}
-
 /// Adds the answer, the limit on steps and the files. Of what is refused it adds nothing, and of what isn't judged no files.
-pub(crate) fn push_summary(out: &mut Written, names: Names, explanation: &Explanation, inks: Inks) {
-    let Inks { yes, no } = inks;
-    let (ink, answer, rest) = match &explanation.answer {
-        Answer::Accepted { .. } if explanation.is_denied() => {
-            (NO_INK, "denied", ", though every run ends\n")
-        }
-        Answer::Accepted { .. } => (yes, "accepted", ": every run ends\n"),
-        Answer::Rejected { .. } => (no, "rejected", ": the certificate doesn't fit the script\n"),
-        Answer::Endless(_) => (no, "loop", ": a run may never end\n"),
+pub(crate) fn push_summary(
+    out: &mut Written,
+    names: Names,
+    explanation: &Explanation,
+    colour: bool,
+) {
+    let (ink, rest) = match &explanation.answer {
+        Answer::Accepted { .. } if explanation.is_denied() => ("", ", though every run ends\n"),
+        Answer::Accepted { .. } => (GREEN, ": every run ends\n"),
+        Answer::Rejected { .. } => (RED, ": the certificate doesn't fit the script\n"),
+        Answer::Endless(_) => (RED, ": a run may never end\n"),
         Answer::NotJudged => {
             out.text(names.whole()).text(": not judged\n");
             return;
@@ -34,26 +28,40 @@ pub(crate) fn push_summary(out: &mut Written, names: Names, explanation: &Explan
         Answer::ScriptRefused(_) | Answer::CertificateRefused(_) => return,
     };
     out.text(names.whole()).text(": ");
-    ink.push(out, answer);
+    push_inked(out, ink_where(colour, ink), answer_word(explanation));
     out.text(rest);
-    push_steps(out, &explanation.answer);
+    push_steps(out, "  steps: ", &explanation.answer, "\n");
     push_files(out, names, "  reads: ", &explanation.reads);
     push_files(out, names, "  writes: ", &explanation.writes);
 }
 
-/// Adds the limit on steps of an accepted script, or that none is known.
-fn push_steps(out: &mut Written, answer: &Answer) {
+/// Adds the limit on steps of an accepted script between these words, with an example, or that none is known.
+pub fn push_steps(out: &mut Written, before: &str, answer: &Answer, behind: &str) {
     let Answer::Accepted { bound, .. } = answer else {
         return;
     };
-    out.text("  steps: ");
-    match bound {
-        Some(bound) => push_limit(out, *bound),
-        None => {
-            out.text("no limit is known");
+    out.text(before);
+    if let Some(bound) = bound {
+        out.text("at most ").grouped(bound.per_byte);
+        out.text(" a byte, plus ").grouped(bound.per_line);
+        out.text(" a line, plus ").grouped(bound.fixed);
+        if let Some(steps) = example_steps(*bound) {
+            out.text("; for 1,000 lines of 80 bytes at most ")
+                .grouped(steps);
         }
+    } else {
+        out.text("no limit is known");
     }
-    out.text("\n");
+    out.text(behind);
+}
+
+/// The limit for 1,000 lines of 80 bytes, where it is below 2^64.
+fn example_steps(bound: Bound) -> Option<u64> {
+    bound
+        .per_byte
+        .checked_mul(80_000)?
+        .checked_add(bound.per_line.checked_mul(1_000)?)?
+        .checked_add(bound.fixed)
 }
 
 /// Adds a line for each file, or one that says there is none.

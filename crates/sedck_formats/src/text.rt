@@ -1,13 +1,14 @@
 //! The report for people at a terminal: each finding with its line, and what an accepted script may do.
 
+use crate::codes::page_of;
 use crate::letters::Letters;
 use crate::lines::{Shown, command_line, excerpt, shown_of};
 use crate::listed::{is_listed, listed_steps};
 use crate::names::Names;
-use crate::pages::page_of;
-use crate::parts::{Ink, NO_INK, prefix, push_headline, push_left_out};
-use crate::summary::{Inks, push_summary};
-use crate::words::place_words;
+use crate::summary::push_summary;
+use crate::words::{
+    CYAN, RED, YELLOW, ink_where, place_words, prefix, push_headline, push_inked, push_left_out,
+};
 use crate::written::Written;
 use sedck_explanation::{Code, Explanation, Finding, Level, Position, Step};
 use std::alloc::{AllocError, Global};
@@ -17,17 +18,6 @@ const LINE_WIDTH: usize = 160;
 
 /// The most characters of a line that are shown beside a step.
 const STEP_WIDTH: usize = 40;
-
-/// Colours of a terminal.
-const RED: &str = "\x1b[1;31m";
-
-const YELLOW: &str = "\x1b[1;33m";
-
-const CYAN: &str = "\x1b[1;36m";
-
-const GREEN: &str = "\x1b[1;32m";
-
-const PLAIN: &str = "\x1b[0m";
 
 /// Each finding of at least this level with its line, a caret under the byte that is meant, its steps, its hint and its page; then the
 /// answer with the limit on steps and the files, but for what is refused or not judged. `colour` adds the colours of ANSI terminals.
@@ -40,11 +30,7 @@ pub fn text_report(
 ) -> Result<Vec<u8>, AllocError> {
     let mut out = Written::new(alloc);
     push_findings(&mut out, names, explanation, least, colour)?;
-    let inks = Inks {
-        yes: ink_where(colour, GREEN),
-        no: ink_where(colour, RED),
-    };
-    push_summary(&mut out, names, explanation, inks);
+    push_summary(&mut out, names, explanation, colour);
     out.finished()
 }
 
@@ -85,24 +71,6 @@ fn push_findings(
     Ok(())
 }
 
-/// The colour, where colours are wanted.
-fn ink_where(colour: bool, on: &'static str) -> Ink {
-    if colour {
-        Ink { on, off: PLAIN }
-    } else {
-        NO_INK
-    }
-}
-
-/// The colour of a level.
-fn level_colour(level: Level) -> &'static str {
-    match level {
-        Level::Error => RED,
-        Level::Warning => YELLOW,
-        Level::Note => CYAN,
-    }
-}
-
 /// Adds a finding; how wide the column of line numbers is.
 fn push_finding(
     out: &mut Written,
@@ -110,7 +78,11 @@ fn push_finding(
     finding: &Finding,
     colour: bool,
 ) -> Result<usize, AllocError> {
-    let ink = ink_where(colour, level_colour(finding.level));
+    let ink = match finding.level {
+        Level::Error => ink_where(colour, RED),
+        Level::Warning => ink_where(colour, YELLOW),
+        Level::Note => ink_where(colour, CYAN),
+    };
     let place = prefix(out.alloc(), shown.names, finding.position)?;
     push_headline(out, place.as_str(), ink, finding);
     let gutter = match finding.position {
@@ -127,9 +99,8 @@ fn push_finding(
 
 /// Adds a remark on a finding: what it is, and its words.
 fn push_remark(out: &mut Written, gutter: usize, what: &str, words: &str, colour: bool) {
-    out.spaces(gutter);
-    out.text(" = ");
-    ink_where(colour, CYAN).push(out, what);
+    out.spaces(gutter).text(" = ");
+    push_inked(out, ink_where(colour, CYAN), what);
     out.text(": ").text(words).text("\n");
 }
 
@@ -138,18 +109,16 @@ fn push_line(
     out: &mut Written,
     shown: &Shown,
     position: Position,
-    ink: Ink,
+    ink: &str,
 ) -> Result<usize, AllocError> {
     let line = shown.names.place_of(position).line;
     let number = format!(in out.alloc(); "{line}")?;
     let gutter = number.len().saturating_add(2).max(4);
-    let part = excerpt(out.alloc(), shown.source, position, LINE_WIDTH)?;
+    let part = excerpt(out.alloc(), shown, position, LINE_WIDTH)?;
     push_aligned(out, number.as_str(), gutter);
     out.text(" | ").text(part.shown.as_str()).text("\n");
-    out.spaces(gutter);
-    out.text(" | ");
-    out.spaces(part.before);
-    ink.push(out, "^");
+    out.spaces(gutter).text(" | ").spaces(part.before);
+    push_inked(out, ink, "^");
     out.text("\n");
     Ok(gutter)
 }
@@ -175,31 +144,16 @@ fn rows_of<'a>(
     for stretch in &stretches {
         let mut left_out = stretch.left_out;
         for step in stretch.steps {
-            rows.push(row_of(alloc, shown, step, left_out)?)?;
+            rows.push(Row {
+                left_out,
+                place: place_words(alloc, shown.names, step.position)?,
+                source: command_line(alloc, shown, step.node.at, STEP_WIDTH)?,
+                message: step.message.as_str(),
+            })?;
             left_out = 0;
         }
     }
     Ok(rows)
-}
-
-/// The parts of a step's line.
-fn row_of<'a>(
-    alloc: Global,
-    shown: &Shown,
-    step: &'a Step,
-    left_out: usize,
-) -> Result<Row<'a>, AllocError> {
-    Ok(Row {
-        left_out,
-        place: place_words(alloc, shown.names, step.position)?,
-        source: match step.position {
-            Some(position) => {
-                command_line(alloc, shown.source, step.node.at, position, STEP_WIDTH)?
-            }
-            None => String::new(alloc),
-        },
-        message: step.message.as_str(),
-    })
 }
 
 /// Adds the rows of steps in columns, and how many steps are left out.
@@ -208,16 +162,17 @@ fn push_rows(out: &mut Written, rows: &[Row], gutter: usize) {
     let (place, source) = widths(rows);
     for row in rows {
         if row.left_out > 0 {
-            out.spaces(before);
-            out.text("... ");
+            out.spaces(before).text("... ");
             push_left_out(out, row.left_out);
             out.text("\n");
         }
         out.spaces(before);
         push_aligned(out, row.place.as_str(), place);
         out.text("  ").text(row.source.as_str());
-        out.spaces(source.saturating_sub(row.source.len()));
-        out.text("  ").text(row.message).text("\n");
+        out.spaces(source.saturating_sub(row.source.len()))
+            .text("  ")
+            .text(row.message)
+            .text("\n");
     }
 }
 
@@ -234,8 +189,8 @@ fn widths(rows: &[Row]) -> (usize, usize) {
 
 /// Adds spaces up to the width, and the words.
 fn push_aligned(out: &mut Written, words: &str, width: usize) {
-    out.spaces(width.saturating_sub(width_of(words)));
-    out.text(words);
+    out.spaces(width.saturating_sub(width_of(words)))
+        .text(words);
 }
 
 /// How many characters the words have.

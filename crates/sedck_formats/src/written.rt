@@ -37,56 +37,54 @@ impl Written {
         self.alloc
     }
 
-    /// Adds a text as it is.
-    pub fn text(&mut self, text: &str) -> &mut Written {
-        if push_text(&mut self.out, text).is_err() {
-            self.is_refused = true;
-        }
+    /// Notes whether memory was refused.
+    fn note(&mut self, is_refused: bool) -> &mut Written {
+        self.is_refused = self.is_refused || is_refused;
         self
     }
 
-    /// Adds a byte as it is.
-    pub fn byte(&mut self, byte: u8) {
-        if self.out.push(byte).is_err() {
-            self.is_refused = true;
-        }
+    /// Words that were put together, or none where memory was refused for them.
+    fn made(&mut self, words: Result<String, AllocError>) -> String {
+        self.note(words.is_err());
+        words.unwrap_or(String::new(self.alloc))
     }
 
-    /// Adds words that were put together, unless memory was refused for them.
+    /// Adds a text as it is.
+    pub fn text(&mut self, text: &str) -> &mut Written {
+        let is_refused = push_text(&mut self.out, text).is_err();
+        self.note(is_refused)
+    }
+
+    /// Adds a byte as it is.
+    pub fn byte(&mut self, byte: u8) -> &mut Written {
+        let is_refused = self.out.push(byte).is_err();
+        self.note(is_refused)
+    }
+
+    /// Adds words that were put together.
     pub fn words(&mut self, words: Result<String, AllocError>) -> &mut Written {
-        match words {
-            Ok(words) => self.text(words.as_str()),
-            Err(_) => {
-                self.is_refused = true;
-                self
-            }
-        }
+        let words = self.made(words);
+        self.text(words.as_str())
     }
 
     /// Adds a text in HTML, with entities.
     pub fn html(&mut self, text: &str) -> &mut Written {
-        if push_html(&mut self.out, text).is_err() {
-            self.is_refused = true;
-        }
-        self
+        let is_refused = push_html(&mut self.out, text).is_err();
+        self.note(is_refused)
     }
 
-    /// Adds words that were put together in HTML, unless memory was refused for them.
+    /// Adds words that were put together in HTML.
     pub fn html_words(&mut self, words: Result<String, AllocError>) -> &mut Written {
-        match words {
-            Ok(words) => self.html(words.as_str()),
-            Err(_) => {
-                self.is_refused = true;
-                self
-            }
-        }
+        let words = self.made(words);
+        self.html(words.as_str())
     }
 
     /// Adds this many spaces.
-    pub fn spaces(&mut self, count: usize) {
+    pub fn spaces(&mut self, count: usize) -> &mut Written {
         for _ in 0..count {
             self.byte(b' ');
         }
+        self
     }
 
     /// Adds the number in decimal.
@@ -97,15 +95,8 @@ impl Written {
 
     /// Adds the number with a comma before each group of three digits.
     pub fn grouped(&mut self, number: u64) -> &mut Written {
-        match format!(in self.alloc; "{number}") {
-            Ok(digits) => self.groups(digits.as_str()),
-            Err(_) => self.is_refused = true,
-        }
-        self
-    }
-
-    /// Adds the digits with a comma before each group of three.
-    fn groups(&mut self, digits: &str) {
+        let digits = format!(in self.alloc; "{number}");
+        let digits = self.made(digits);
         let mut left = digits.len();
         for digit in digits.as_bytes() {
             if left % 3 == 0 && left < digits.len() {
@@ -114,5 +105,12 @@ impl Written {
             self.byte(*digit);
             left = left.saturating_sub(1);
         }
+        self
+    }
+
+    /// Adds how many there are of what these words name, one or several.
+    pub fn counted(&mut self, count: usize, one: &str, several: &str) -> &mut Written {
+        self.grouped(count as u64)
+            .text(if count == 1 { one } else { several })
     }
 }

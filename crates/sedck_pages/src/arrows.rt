@@ -1,6 +1,6 @@
 //! Arrows: the edges of a flow graph, put together where they have the same ends and the same kind.
 
-use crate::flow::{Flow, flow_of, is_of_loop};
+use crate::flow::{Flow, flow_of};
 use sedck_explanation::{Explanation, Position};
 use sedck_flow::{Edge, Kind};
 use std::alloc::{AllocError, Global};
@@ -29,7 +29,7 @@ impl Arrow {
             kind: edge.kind,
             with_flag: edge.from.flag,
             on_last: edge.from.last,
-            is_bold: is_of_loop(bold, edge),
+            is_bold: bold.binary_search(&edge).is_ok(),
         }
     }
 
@@ -55,11 +55,12 @@ impl Arrow {
 
     /// The edges of both.
     fn with(self, other: Arrow) -> Arrow {
-        let mut both = self;
-        both.with_flag = self.with_flag && other.with_flag;
-        both.on_last = self.on_last && other.on_last;
-        both.is_bold = self.is_bold || other.is_bold;
-        both
+        Arrow {
+            with_flag: self.with_flag && other.with_flag,
+            on_last: self.on_last && other.on_last,
+            is_bold: self.is_bold || other.is_bold,
+            ..self
+        }
     }
 }
 
@@ -72,22 +73,11 @@ pub(crate) fn arrows_of(alloc: Global, flow: &Flow) -> Result<Vec<Arrow>, AllocE
     merged(alloc, arrows)
 }
 
-/// The jumps of a script, in order. There are none where the script is refused.
+/// The jumps of a script, in order: the arrows that don't lead to the next command. There are none where the script is refused.
 pub(crate) fn jumps_of(alloc: Global, explanation: &Explanation) -> Result<Vec<Arrow>, AllocError> {
-    let flow = flow_of(alloc, explanation)?;
-    let arrows = arrows_of(alloc, &flow)?;
-    jumps_among(alloc, &arrows)
-}
-
-/// The arrows between commands that don't lead to the next one.
-fn jumps_among(alloc: Global, arrows: &[Arrow]) -> Result<Vec<Arrow>, AllocError> {
-    let mut jumps = Vec::new(alloc);
-    for arrow in arrows {
-        if arrow.to != arrow.from.saturating_add(1) {
-            jumps.push(*arrow)?;
-        }
-    }
-    Ok(jumps)
+    let mut arrows = arrows_of(alloc, &flow_of(alloc, explanation)?)?;
+    arrows.retain(|arrow| arrow.to != arrow.from.saturating_add(1));
+    Ok(arrows)
 }
 
 /// The jumps between the lines of the commands, each pair and kind once, in order. `end` is the line of the script's end.
@@ -99,25 +89,22 @@ pub(crate) fn line_jumps(
 ) -> Result<Vec<Arrow>, AllocError> {
     let mut lines = Vec::new(alloc);
     for jump in jumps {
-        let mut line = *jump;
-        line.from = line_of(positions, end, jump.from);
-        line.to = line_of(positions, end, jump.to);
-        lines.push(line)?;
+        lines.push(Arrow {
+            from: line_of(positions, end, jump.from),
+            to: line_of(positions, end, jump.to),
+            ..*jump
+        })?;
     }
     merged(alloc, lines)
 }
 
 /// The line of the command, or of the script's end.
 pub(crate) fn line_of(positions: &[Position], end: usize, command: usize) -> usize {
-    match positions.get(command) {
-        Some(position) => position.line,
-        None => end,
-    }
+    positions.get(command).map_or(end, |position| position.line)
 }
 
 /// The arrows in order, each pair and kind once.
-fn merged(alloc: Global, arrows: Vec<Arrow>) -> Result<Vec<Arrow>, AllocError> {
-    let mut arrows = arrows;
+fn merged(alloc: Global, mut arrows: Vec<Arrow>) -> Result<Vec<Arrow>, AllocError> {
     arrows.sort_by_key(|arrow| (arrow.from, arrow.to, arrow.kind))?;
     let mut out: Vec<Arrow> = Vec::new(alloc);
     for arrow in &arrows {

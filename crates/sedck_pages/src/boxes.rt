@@ -96,22 +96,10 @@ fn push_step(out: &mut Written, shown: &Shown, step: &Step) {
     out.text("<li>");
     push_place(out, shown.names, step.position);
     out.text(" ");
-    push_command(out, shown, step);
+    if step.position.is_some() {
+        let line = command_line(out.alloc(), shown, step.node.at, STEP_WIDTH);
+        out.text("<code>").html_words(line).text("</code> ");
+    }
     push_prose(out, step.message.as_str());
     out.text("</li>");
-}
-
-/// Adds the line of the step's command, if it has one.
-fn push_command(out: &mut Written, shown: &Shown, step: &Step) {
-    let Some(position) = step.position else {
-        return;
-    };
-    let line = command_line(
-        out.alloc(),
-        shown.source,
-        step.node.at,
-        position,
-        STEP_WIDTH,
-    );
-    out.text("<code>").html_words(line).text("</code> ");
 }

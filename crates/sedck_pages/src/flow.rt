@@ -2,7 +2,6 @@
 
 use sedck_explanation::{Answer, Explanation};
 use sedck_flow::{Edge, Node, edges_of};
-use sedck_script::Script;
 use sedck_search::reachability;
 use std::alloc::{AllocError, Global};
 
@@ -17,37 +16,27 @@ pub(crate) struct Flow {
     pub bold: Vec<Edge>,
 }
 
-/// What the two starts reach; nothing where the script is refused.
+/// What the two starts reach; nothing where the script is refused. The time is linear in the number of nodes.
 pub(crate) fn flow_of(alloc: Global, explanation: &Explanation) -> Result<Flow, AllocError> {
-    let bold = loop_edges(alloc, &explanation.answer)?;
-    match &explanation.script {
-        Some(script) => reached_part(alloc, script, bold),
-        None => Ok(Flow {
-            nodes: Vec::new(alloc),
-            edges: Vec::new(alloc),
-            bold,
-        }),
-    }
-}
-
-/// What the two starts reach. The time is linear in the number of nodes.
-fn reached_part(alloc: Global, script: &Script, bold: Vec<Edge>) -> Result<Flow, AllocError> {
-    let mut reached = Flow {
+    let mut flow = Flow {
         nodes: Vec::new(alloc),
         edges: Vec::new(alloc),
-        bold,
+        bold: loop_edges(alloc, &explanation.answer)?,
+    };
+    let Some(script) = &explanation.script else {
+        return Ok(flow);
     };
     let marks = reachability(alloc, script)?;
     for (index, mark) in marks.iter().enumerate() {
         if *mark {
             let node = Node::nth(index);
-            reached.nodes.push(node)?;
+            flow.nodes.push(node)?;
             for edge in edges_of(script, node) {
-                reached.edges.push(edge)?;
+                flow.edges.push(edge)?;
             }
         }
     }
-    Ok(reached)
+    Ok(flow)
 }
 
 /// The edges of the loop that was found, sorted; none for any other answer.
@@ -67,9 +56,4 @@ fn loop_edges(alloc: Global, answer: &Answer) -> Result<Vec<Edge>, AllocError> {
     }
     edges.sort()?;
     Ok(edges)
-}
-
-/// Whether the edge is among those of the loop, which are sorted.
-pub(crate) fn is_of_loop(edges: &[Edge], edge: Edge) -> bool {
-    edges.binary_search(&edge).is_ok()
 }

@@ -6,32 +6,23 @@ use std::alloc::{AllocError, Global};
 /// The most jumps that are drawn beside one line.
 const LANES: usize = 12;
 
-/// Arrows that share no line.
+/// Arrows that share no line, from the first line on.
 #[derive(Drop)]
 pub(crate) struct Lane {
     jumps: Vec<Arrow>,
-    next: usize,
 }
 
 impl Lane {
     /// Whether the jump shares no line with those that are here.
     fn has_room(&self, jump: Arrow) -> bool {
-        for other in &self.jumps {
-            if jump.top() <= other.bottom() && other.top() <= jump.bottom() {
-                return false;
-            }
-        }
-        true
+        self.jumps.iter().all(|other| other.bottom() < jump.top() || jump.bottom() < other.top())
     }
 
-    /// The jump that begins, ends or passes at the line. The lines are asked for in order, from the first one on.
-    pub(crate) fn at(&mut self, line: usize) -> Option<Arrow> {
-        let mut jump = self.jumps.get(self.next).copied()?;
-        if jump.bottom() < line {
-            self.next = self.next.saturating_add(1);
-            jump = self.jumps.get(self.next).copied()?;
-        }
-        if jump.top() <= line { Some(jump) } else { None }
+    /// The jump that begins, ends or passes at the line.
+    pub(crate) fn at(&self, line: usize) -> Option<Arrow> {
+        let above = self.jumps.partition_point(|jump| jump.bottom() < line);
+        let jump = self.jumps.get(above).copied()?;
+        (jump.top() <= line).then_some(jump)
     }
 }
 
@@ -43,8 +34,7 @@ pub(crate) struct Drawing {
 }
 
 /// Gives each jump a lane while there is room: those of the loop first, then the shorter ones.
-pub(crate) fn drawing_of(alloc: Global, jumps: Vec<Arrow>) -> Result<Drawing, AllocError> {
-    let mut jumps = jumps;
+pub(crate) fn drawing_of(alloc: Global, mut jumps: Vec<Arrow>) -> Result<Drawing, AllocError> {
     jumps.sort_by_key(|jump| (!jump.is_bold, jump.span()))?;
     let mut drawing = Drawing {
         lanes: Vec::new(alloc),
@@ -73,6 +63,6 @@ fn add_jump(alloc: Global, drawing: &mut Drawing, jump: Arrow) -> Result<(), All
     }
     let mut jumps = Vec::new(alloc);
     jumps.push(jump)?;
-    drawing.lanes.push(Lane { jumps, next: 0 })?;
+    drawing.lanes.push(Lane { jumps })?;
     Ok(())
 }

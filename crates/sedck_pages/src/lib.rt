@@ -8,7 +8,6 @@ mod arrows;
 mod boxes;
 mod dot;
 mod flow;
-mod graph_parts;
 mod lanes;
 mod listing;
 mod margin;

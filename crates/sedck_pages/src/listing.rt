@@ -35,46 +35,24 @@ pub(crate) fn push_listing(
     jumps: &[Arrow],
 ) -> Result<(), AllocError> {
     let alloc = out.alloc();
-    let text = shown.source.text;
-    let text = text.strip_suffix(b"\n").unwrap_or(text);
-    let end = line_count(text).saturating_add(1);
+    let text = shown.text.strip_suffix(b"\n").unwrap_or(shown.text);
+    let newlines = text.iter().filter(|byte| **byte == b'\n').count();
+    let end = newlines.saturating_add(2);
     let lines = line_jumps(alloc, jumps, &explanation.positions, end)?;
-    let mut margin = margin_of(alloc, explanation, least, lines, end)?;
+    let margin = margin_of(alloc, explanation, least, lines, end)?;
     push_legend(out, &margin);
-    push_rows(out, shown, &explanation.findings, &mut margin, text)
-}
-
-/// Adds each line of the text, and its end.
-fn push_rows(
-    out: &mut Written,
-    shown: &Shown,
-    findings: &[Finding],
-    margin: &mut Margin,
-    text: &[u8],
-) -> Result<(), AllocError> {
     let mut line = 1usize;
     for bytes in text.split(|byte| *byte == b'\n') {
-        push_start(out, margin, line);
-        push_line(out, shown.source.letters, line, bytes, margin.spots());
-        push_rest(out, shown, findings, margin, line)?;
+        push_start(out, &margin, line);
+        push_line(out, shown.letters, line, bytes, margin.spots(line));
+        push_rest(out, shown, &explanation.findings, &margin, line)?;
         line = line.saturating_add(1);
     }
-    push_start(out, margin, line);
+    push_start(out, &margin, end);
     out.text("<a class=\"number\" id=\"end\" href=\"#end\">end</a>");
-    push_rest(out, shown, findings, margin, line)?;
+    push_rest(out, shown, &explanation.findings, &margin, end)?;
     out.text("</ol>\n");
     Ok(())
-}
-
-/// How many lines the text has, where no newline ends the last one.
-fn line_count(text: &[u8]) -> usize {
-    let mut count = 1usize;
-    for byte in text {
-        if *byte == b'\n' {
-            count = count.saturating_add(1);
-        }
-    }
-    count
 }
 
 /// Adds the heading, the legend unless there are no jumps, and the start of the list.
@@ -83,36 +61,28 @@ fn push_legend(out: &mut Written, margin: &Margin) {
     if !margin.drawing.lanes.is_empty() {
         let loops = if margin.has_loop() { LOOP_LEGEND } else { "" };
         out.text(LEGEND).text(loops).text("</ul>\n");
-        push_left_out(out, margin.drawing.left_out);
+    }
+    if margin.drawing.left_out > 0 {
+        out.text("<p>").counted(
+            margin.drawing.left_out,
+            " jump isn't drawn for lack of space; the list of jumps has it.</p>\n",
+            " jumps aren't drawn for lack of space; the list of jumps has them.</p>\n",
+        );
     }
     out.text("<ol class=\"script\" style=\"--jumps:")
         .number(drawing_width(&margin.drawing))
         .text("px\">\n");
 }
 
-/// Adds how many jumps aren't drawn, if there are any.
-fn push_left_out(out: &mut Written, left_out: usize) {
-    if left_out == 0 {
-        return;
-    }
-    let words = if left_out == 1 {
-        " jump isn't drawn for lack of space; the list of jumps has it.</p>\n"
-    } else {
-        " jumps aren't drawn for lack of space; the list of jumps has them.</p>\n"
-    };
-    out.text("<p>").grouped(left_out as u64).text(words);
-}
-
 /// Begins a line, with the strokes beside it.
-fn push_start(out: &mut Written, margin: &mut Margin, line: usize) {
-    margin.go_to(line);
+fn push_start(out: &mut Written, margin: &Margin, line: usize) {
     let class = if margin.is_of_loop(line) {
         "\" class=\"loop\">"
     } else {
         "\">"
     };
     out.text("<li id=\"L").number(line).text(class);
-    push_strokes(out, &mut margin.drawing, line);
+    push_strokes(out, &margin.drawing, line);
 }
 
 /// Adds the number and the bytes of a line.
@@ -138,8 +108,12 @@ fn push_rest(
     if margin.is_of_loop(line) {
         out.text("<span class=\"tag\">loop</span>");
     }
-    push_returns(out, margin.returns());
-    for spot in margin.spots() {
+    // A long jump back has a link, since its other end may be out of sight.
+    for jump in margin.returns(line) {
+        out.text("<a class=\"tag soft\" href=\"#L").number(jump.to);
+        out.text("\">&uarr; ").number(jump.to).text("</a>");
+    }
+    for spot in margin.spots(line) {
         if let Some(finding) = findings.get(spot.finding) {
             if is_at_top(finding) {
                 push_mention(out, finding, spot.finding);
@@ -150,14 +124,6 @@ fn push_rest(
     }
     out.text("</li>\n");
     Ok(())
-}
-
-/// Adds a link for each long jump back, whose other end may be out of sight.
-fn push_returns(out: &mut Written, jumps: &[Arrow]) {
-    for jump in jumps {
-        out.text("<a class=\"tag soft\" href=\"#L").number(jump.to);
-        out.text("\">&uarr; ").number(jump.to).text("</a>");
-    }
 }
 
 /// Adds the bytes of a line, with a mark on those that a finding is about.

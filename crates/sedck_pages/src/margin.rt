@@ -24,38 +24,24 @@ pub(crate) struct Margin {
     pub drawing: Drawing,
     /// Sorted by line and column.
     spots: Vec<Spot>,
-    /// How many spots precede the line, and how many the next one.
-    first_spot: usize,
-    next_spot: usize,
     /// The jumps back over many lines, each pair of lines once, in order.
     returns: Vec<Arrow>,
-    /// How many of them leave lines before this one, and how many lines before the next one.
-    first_return: usize,
-    next_return: usize,
     of_loop: Vec<usize>,
 }
 
 impl Margin {
-    /// Goes on to the line. The lines are gone to in order, from the first one on.
-    pub(crate) fn go_to(&mut self, line: usize) {
-        self.first_spot = self.next_spot;
-        self.next_spot = spots_through(&self.spots, self.first_spot, line);
-        self.first_return = self.next_return;
-        self.next_return = returns_through(&self.returns, self.first_return, line);
-    }
-
     /// The findings at the line, by column.
-    pub(crate) fn spots(&self) -> &[Spot] {
-        self.spots
-            .get(self.first_spot..self.next_spot)
-            .unwrap_or(&[])
+    pub(crate) fn spots(&self, line: usize) -> &[Spot] {
+        let start = self.spots.partition_point(|spot| spot.line < line);
+        let end = self.spots.partition_point(|spot| spot.line <= line);
+        self.spots.get(start..end).unwrap_or(&[])
     }
 
     /// The long jumps back that leave the line.
-    pub(crate) fn returns(&self) -> &[Arrow] {
-        self.returns
-            .get(self.first_return..self.next_return)
-            .unwrap_or(&[])
+    pub(crate) fn returns(&self, line: usize) -> &[Arrow] {
+        let start = self.returns.partition_point(|jump| jump.from < line);
+        let end = self.returns.partition_point(|jump| jump.from <= line);
+        self.returns.get(start..end).unwrap_or(&[])
     }
 
     /// Whether there is a loop.
@@ -67,30 +53,6 @@ impl Margin {
     pub(crate) fn is_of_loop(&self, line: usize) -> bool {
         self.of_loop.binary_search(&line).is_ok()
     }
-}
-
-/// How many of the spots are above the line or at it, where so many are above it.
-fn spots_through(spots: &[Spot], above: usize, line: usize) -> usize {
-    let mut count = above;
-    for spot in spots.get(above..).unwrap_or(&[]) {
-        if spot.line > line {
-            break;
-        }
-        count = count.saturating_add(1);
-    }
-    count
-}
-
-/// How many of the jumps leave lines above this one or this one, where so many leave lines above it.
-fn returns_through(jumps: &[Arrow], above: usize, line: usize) -> usize {
-    let mut count = above;
-    for jump in jumps.get(above..).unwrap_or(&[]) {
-        if jump.from > line {
-            break;
-        }
-        count = count.saturating_add(1);
-    }
-    count
 }
 
 /// What is beside the lines, between which these jumps are; `end` is the line of the script's end.
@@ -105,10 +67,6 @@ pub(crate) fn margin_of(
         returns: long_returns(alloc, &jumps)?,
         drawing: drawing_of(alloc, jumps)?,
         spots: spots_of(alloc, explanation, least)?,
-        first_spot: 0,
-        next_spot: 0,
-        first_return: 0,
-        next_return: 0,
         of_loop: loop_lines(alloc, explanation, end)?,
     })
 }
@@ -117,11 +75,10 @@ pub(crate) fn margin_of(
 fn long_returns(alloc: Global, jumps: &[Arrow]) -> Result<Vec<Arrow>, AllocError> {
     let mut returns: Vec<Arrow> = Vec::new(alloc);
     for jump in jumps {
-        let is_known = match returns.last() {
-            Some(before) => before.from == jump.from && before.to == jump.to,
-            None => false,
-        };
-        if jump.to < jump.from && jump.span() >= LONG && !is_known {
+        let is_new = returns
+            .last()
+            .is_none_or(|before| before.from != jump.from || before.to != jump.to);
+        if jump.to < jump.from && jump.span() >= LONG && is_new {
             returns.push(*jump)?;
         }
     }

@@ -2,7 +2,7 @@
 
 use crate::arrows::Arrow;
 use crate::lanes::Drawing;
-use sedck_formats::{Written, kind_word};
+use sedck_formats::Written;
 
 /// How far lanes are apart.
 const STEP: usize = 10;
@@ -12,21 +12,17 @@ const ARROWS: usize = 18;
 
 /// How wide the drawing is.
 pub(crate) fn drawing_width(drawing: &Drawing) -> usize {
-    if drawing.lanes.is_empty() {
-        return 0;
+    match drawing.lanes.len() {
+        0 => 0,
+        lanes => lanes.saturating_mul(STEP).saturating_add(ARROWS),
     }
-    drawing
-        .lanes
-        .len()
-        .saturating_mul(STEP)
-        .saturating_add(ARROWS)
 }
 
-/// Adds what is drawn beside the line. The lines are added in order.
-pub(crate) fn push_strokes(out: &mut Written, drawing: &mut Drawing, line: usize) {
+/// Adds what is drawn beside the line.
+pub(crate) fn push_strokes(out: &mut Written, drawing: &Drawing, line: usize) {
     let width = drawing_width(drawing);
     let mut is_empty = true;
-    for (index, lane) in drawing.lanes.iter_mut().enumerate().rev() {
+    for (index, lane) in drawing.lanes.iter().enumerate().rev() {
         if let Some(jump) = lane.at(line) {
             out.text(if is_empty { OPENING } else { "" });
             is_empty = false;
@@ -71,9 +67,9 @@ impl Lengths {
 
 /// Adds what is drawn of one jump beside the line.
 fn push_jump(out: &mut Written, jump: Arrow, line: usize, lengths: Lengths) {
+    let kind = jump.kind;
     let bold = if jump.is_bold { " bold" } else { "" };
-    out.text("<g class=\"").text(kind_word(jump.kind));
-    out.text(bold).text("\">");
+    out.words(format!(in out.alloc(); "<g class=\"{kind}{bold}\">"));
     push_shape(out, shape(jump, line), lengths);
     if line == jump.to {
         push_shape(out, "<path class=\"head\" d=\"MW 8l-7-4v8z\"/>", lengths);
@@ -104,10 +100,8 @@ fn shape(jump: Arrow, line: usize) -> &'static str {
 fn push_shape(out: &mut Written, shape: &str, lengths: Lengths) {
     for letter in shape.as_bytes() {
         match lengths.named(*letter) {
-            Some(length) => {
-                out.number(length);
-            }
+            Some(length) => out.number(length),
             None => out.byte(*letter),
-        }
+        };
     }
 }

@@ -3,7 +3,7 @@
 use crate::arrows::Arrow;
 use crate::markup::push_place;
 use sedck_explanation::{Answer, Explanation, NamedFile, shown_name};
-use sedck_formats::{Names, Shown, Written, kind_word};
+use sedck_formats::{Names, Shown, Written};
 
 /// What precedes the rows of files.
 const FILES_HEAD: &str = "<div class=\"wide\"><table>
@@ -95,22 +95,18 @@ fn push_jump(out: &mut Written, shown: &Shown, jump: Arrow) {
     push_command(out, shown, jump.from);
     out.text("</td><td>");
     push_command(out, shown, jump.to);
+    let kind = jump.kind;
     let part = if jump.is_bold {
         ", part of the loop"
     } else {
         ""
     };
-    out.text("</td><td>").text(kind_word(jump.kind));
-    out.text(part).text("</td></tr>\n");
+    out.words(format!(in out.alloc(); "</td><td>{kind}{part}</td></tr>\n"));
 }
 
 /// Adds a link to the command with this number, or to the script's end.
 fn push_command(out: &mut Written, shown: &Shown, command: usize) {
-    push_place(
-        out,
-        shown.names,
-        shown.source.positions.get(command).copied(),
-    );
+    push_place(out, shown.names, shown.positions.get(command).copied());
 }
 
 /// Adds the ranks of an accepted certificate, a row for each command.

@@ -3,7 +3,7 @@
 use crate::boxes::{is_at_top, push_box};
 use crate::markup::push_prose;
 use sedck_explanation::{Answer, Explanation, Finding, Level};
-use sedck_formats::{Names, Shown, Written, is_listed, level_word, place_words, push_limit};
+use sedck_formats::{Names, Shown, Written, is_listed, level_word, place_words, push_steps};
 use std::alloc::AllocError;
 
 /// What precedes the findings.
@@ -20,7 +20,7 @@ pub(crate) fn push_top(
     let (class, answer) = answer_words(explanation);
     out.text("<p class=\"answer ").text(class);
     out.text("\">").text(answer).text("</p>\n");
-    push_steps(out, &explanation.answer);
+    push_steps(out, "<p>Steps of a run: ", &explanation.answer, ".</p>\n");
     push_counts(out, explanation);
     let mut heading = HEADING;
     for (index, finding) in explanation.findings.iter().enumerate() {
@@ -47,21 +47,6 @@ fn answer_words(explanation: &Explanation) -> (&'static str, &'static str) {
         Answer::CertificateRefused(_) => ("error", "The certificate is refused."),
         Answer::NotJudged => ("error", "The script is not judged."),
     }
-}
-
-/// Adds the limit on steps of an accepted script, or that none is known.
-fn push_steps(out: &mut Written, answer: &Answer) {
-    let Answer::Accepted { bound, .. } = answer else {
-        return;
-    };
-    out.text("<p>Steps of a run: ");
-    match bound {
-        Some(bound) => push_limit(out, *bound),
-        None => {
-            out.text("no limit is known");
-        }
-    }
-    out.text(".</p>\n");
 }
 
 /// Adds how many commands and files the script has, unless it is refused.

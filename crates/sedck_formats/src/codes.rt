@@ -1,0 +1,114 @@
+//! What is said of each code: the page of the documents that explains it, and what was found.
+
+use sedck_explanation::Code;
+
+/// The page in the folder `docs` and its heading, as a link there would name them.
+pub fn page_of(code: Code) -> &'static str {
+    page_and_meaning(code).0
+}
+
+/// What is found, in words without a full stop.
+pub(crate) fn meaning_of(code: Code) -> &'static str {
+    page_and_meaning(code).1
+}
+
+/// What the code's row says.
+fn page_and_meaning(code: Code) -> (&'static str, &'static str) {
+    let wanted = code.name();
+    for row in ROWS.lines() {
+        if let Some((name, rest)) = row.split_once(' ')
+            && name == wanted
+        {
+            return rest.split_once(' ').unwrap_or((rest, ""));
+        }
+    }
+    ("", "")
+}
+
+/// A row for each code: its name, its page, and what is found.
+static ROWS: &str = "\
+too-long FAULTS.md#1-too-long The script has more than 1,048,576 bytes
+nul-byte FAULTS.md#2-nul-byte The script contains a NUL byte
+unknown-command FAULTS.md#3-unknown-command A byte that is no command
+bad-address FAULTS.md#4-bad-address No address where one is expected, or an invalid line number
+too-many-addresses FAULTS.md#5-too-many-addresses More addresses than the command takes
+unterminated FAULTS.md#7-unterminated A delimiter is missing or invalid
+bad-replacement FAULTS.md#8-bad-replacement An unknown escape in a replacement, or a group that the expression does not have
+bad-flag FAULTS.md#9-bad-flag An unknown flag of s, or the same flag twice
+bad-transliteration FAULTS.md#10-bad-transliteration The lists of y differ in length, or one has an unknown escape
+missing-text FAULTS.md#11-missing-text No text after a, i or c
+missing-name FAULTS.md#12-missing-name No file name
+bad-label FAULTS.md#13-bad-label No label, or a byte that a label cannot have
+duplicate-label FAULTS.md#14-duplicate-label A label is defined twice
+unknown-label FAULTS.md#15-unknown-label A branch to a label that is not defined
+unopened-block FAULTS.md#16-unopened-block-17-unclosed-block A } that closes nothing
+unclosed-block FAULTS.md#16-unopened-block-17-unclosed-block A { that is not closed
+too-deep FAULTS.md#18-too-deep-19-too-many-commands A block inside 64 others, or a group inside 32
+too-many-commands FAULTS.md#18-too-deep-19-too-many-commands More than 4,095 commands
+extra-text FAULTS.md#20-extra-text Unexpected text after a command, or a byte there that seds read differently
+no-previous-expression FAULTS.md#21-no-previous-expression An empty expression in a script that has no other
+escaped-delimiter FAULTS.md#22-escaped-delimiter A backslash before a delimiter that cannot be escaped
+trailing-backslash FAULTS.md#1-trailing-backslash An expression ends in a lone backslash
+bad-escape FAULTS.md#2-bad-escape--and- An escape that POSIX does not define in an expression
+unclosed-bracket FAULTS.md#3-unclosed-bracket A bracket list, or a class in one, is not closed before the delimiter
+bad-bracket FAULTS.md#4-bad-bracket An invalid range, class or hyphen in a bracket list
+empty-set FAULTS.md#5-empty-set A bracket list that matches nothing
+unclosed-group FAULTS.md#6-unclosed-group-7-unopened-group A group that is not closed
+unopened-group FAULTS.md#6-unclosed-group-7-unopened-group The end of a group that is not open
+bad-interval FAULTS.md#8-bad-interval An invalid interval, or one with a number above 255
+nothing-to-repeat FAULTS.md#9-nothing-to-repeat Nothing before an interval that it could repeat
+double-repeat FAULTS.md#10-double-repeat What is already repeated is repeated again
+bad-reference FAULTS.md#11-bad-reference A reference to a group that is not closed before it
+too-many-groups FAULTS.md#12-too-deep-13-too-many-groups More than 99 groups in an expression
+bad-header FAULTS.md#faults-of-certificates The first line of the certificate is invalid
+bad-count FAULTS.md#faults-of-certificates The line with the number of commands is invalid
+bad-node FAULTS.md#faults-of-certificates A line with the ranks of a node is invalid
+bad-names FAULTS.md#faults-of-certificates A line with a name, or with the number of names, is invalid
+bad-end FAULTS.md#faults-of-certificates The certificate does not end with the line end
+wrong-count FAULTS.md#rejections The certificate was made for another number of commands
+start-unranked FAULTS.md#rejections A node where a run begins has no ranks
+leaves-ranked FAULTS.md#rejections A step leads from a node with ranks to one without
+not-lowered FAULTS.md#rejections A step does not lower the ranks as its kind requires
+reads-differ FAULTS.md#rejections The files that the script reads are not those of the certificate
+writes-differ FAULTS.md#rejections The files that the script writes are not those of the certificate
+loop-idle MENDING.md#repairing-loops A loop that reads no line and never shortens the pattern space
+loop-growing MENDING.md#repairing-loops A loop that reads no line and may lengthen the pattern space
+denied-reads TRUST.md#scripts-of-strangers The script reads a file, which is denied
+denied-writes TRUST.md#scripts-of-strangers The script writes a file, which is denied
+denied-unbounded TRUST.md#scripts-of-strangers No limit on the steps of the script is known, which is denied
+denied-warnings TRUST.md#scripts-of-strangers The script has a warning, which is denied
+denied-slow TRUST.md#what-a-limit-on-steps-doesnt-limit The script has what may make a single step slow, which is denied
+no-plain-spelling GRAMMAR.md#the-plain-spelling A command has no plain spelling
+options-in-first-line TRUST.md#options-and-the-scripts-first-line The first line gives sed options of which nothing is known
+brace-behind-label GRAMMAR.md#what-seds-read-differently A } right behind a label, which some seds read as a part of it
+looks-extended TRUST.md#options-and-the-scripts-first-line Bytes that look like an extended regular expression
+one-line-text GRAMMAR.md#what-seds-read-differently A text on the line of its command, which POSIX does not have
+silencing-comment GRAMMAR.md#what-seds-read-differently A comment that begins with n, by which BusyBox prints nothing by itself
+repeated-reference TRUST.md#what-a-limit-on-steps-doesnt-limit A group is repeated that has a reference in it, or to which there is one
+locale TRUST.md#the-locale Bytes that are part of a character in a locale of UTF-8, where sed then reads another script
+stream-name TRUST.md#names The name of a standard stream, which some seds read as a file
+device-name TRUST.md#devices-pipes-and-links The name of what may be no regular file
+absolute-name TRUST.md#names An absolute path
+upward-name TRUST.md#names A path that leads out of the directory where the script runs
+unprintable-name TRUST.md#names A name with bytes that a terminal may not show
+blank-at-end TRUST.md#names A name that ends in a space
+command-in-name TRUST.md#names A name that seems to contain a command or a comment
+hidden-name TRUST.md#names The name of a hidden file
+makefile-name TRUST.md#names The name of a makefile
+option-name TRUST.md#names A name that begins with a hyphen
+shell-byte-in-name TRUST.md#names A name with a byte that means something to a shell
+read-and-written TRUST.md#names The script reads and writes the same file
+same-file TRUST.md#names Two names for one file
+names-itself TRUST.md#the-scripts-own-file The script writes a file that has the name of its own
+unknown-code RECIPES.md#fewer-findings A comment ignores what is not the code of a warning or a note
+other-language CALLS.md#other-languages Options by which sed reads another language
+bad-call CALLS.md#words-that-are-refused Words that no sed takes
+in-place CALLS.md#in-place The operands are overwritten
+open-hole CALLS.md#what-isnt-known A part of the script is not known before a run
+unknowable CALLS.md#what-isnt-known Too much of the script is not known before a run
+known-value CALLS.md#what-isnt-known The value of a variable is taken from where the file sets it
+not-understood CALLS.md#what-isnt-known A part of the file cannot be read
+no-bound FORMATS.md#the-line-of-the-bound Every run ends, but no limit on its steps is known
+label-to-the-line-end SEDS.md#seds-of-the-bsds-and-macos Something follows a label on its line, which some seds read as a part of the label
+long-labels SEDS.md#seds-of-the-bsds-and-macos Two labels that agree in their first 8 bytes
+";
