@@ -1,76 +1,93 @@
-//! Commands that set variables.
+//! Commands and expansions that set variables, and the locale of a call.
 
-use crate::following::Spot;
-use crate::names::{Names, Scope};
-use crate::seds::{is_sed_path, is_sed_variable};
-use crate::units::{byte_at, byte_of, bytes_of, is_among, is_text, name_length};
+use crate::names::{Names, Scope, Spot};
+use crate::programs::{is_sed_path, is_sed_variable};
+use crate::units::{bytes_of, variable_length};
 use crate::values::written_value;
 use sedck_shell::{Pattern, ShellCommand, ShellWord};
-use sedck_traced::{Unit, hole_name};
-use std::alloc::AllocError;
+use sedck_traced::{
+    Result, Unit, begins_with, byte_at, hole_name, is_among, is_name_byte, is_one_of, is_text,
+    named,
+};
 
-/// Utilities whose operands may be assignments to variables of the shell, and that leave others as they are.
-static EXPORTING: &'static [&'static [u8]] = &[b"export", b"readonly"];
+/// What a utility sets by its operands.
+#[derive(Clone, Copy)]
+enum Utility {
+    /// Assignments to variables of the shell; others stay as they are.
+    Exporting,
+    /// Assignments to variables of its own.
+    Declaring,
+    /// Variables that it is given by their names.
+    Setting,
+    /// One that is the first operand ..
+    SettingFirst,
+    /// .. or the second one.
+    SettingSecond,
+    /// Maybe variables which it doesn't name, or it makes others do so.
+    Opening,
+    /// The same, and its operands are names of aliases.
+    Aliasing,
+    /// What its text sets.
+    Running,
+    /// A variable behind an option.
+    Printing,
+}
 
-/// Those that make variables of their own.
-static DECLARING: &'static [&'static [u8]] = &[b"local", b"declare", b"typeset"];
-
-/// Utilities that set or unset variables that they are given by their names.
-static SETTING: &'static [&'static [u8]] = &[
-    b"read",
-    b"unset",
-    b"getopts",
-    b"mapfile",
-    b"readarray",
-    b"for",
-    b"select",
+static UTILITIES: &'static [(Utility, &'static [&'static str])] = &[
+    (Utility::Exporting, &["export", "readonly"]),
+    (Utility::Declaring, &["local", "declare", "typeset"]),
+    (Utility::Setting, &["read", "unset"]),
+    (Utility::Setting, &["mapfile", "readarray"]),
+    (Utility::SettingFirst, &["for", "select"]),
+    (Utility::SettingSecond, &["getopts"]),
+    (Utility::Opening, &[".", "source", "let", "coproc"]),
+    (Utility::Aliasing, &["alias"]),
+    (Utility::Running, &["eval", "trap"]),
+    (Utility::Printing, &["printf"]),
 ];
 
-/// Utilities that may set variables which they don't name, or make others do so.
-static OPENING: &'static [&'static [u8]] = &[b".", b"source", b"alias", b"let", b"coproc"];
+/// Utilities that may make a variable read-only.
+static FIXING: &'static [&'static str] = &["readonly", "declare", "typeset", "local"];
 
 /// The longest path that is looked at.
 const LONGEST: usize = 256;
 
-/// Whether the word is an assignment.
-pub(crate) fn is_assignment(units: &[Unit]) -> bool {
-    assigned_from(units) != Assigned::Nothing
-}
-
 /// What a word assigns.
-#[derive(Clone, Copy, PartialEq, Eq)]
+#[derive(Clone, Copy)]
 enum Assigned {
-    Nothing,
     /// The value that begins with the unit of this number.
     Value(usize),
     /// A part of a value.
     Part,
 }
 
-/// What the word assigns to the name at its beginning.
-fn assigned_from(units: &[Unit]) -> Assigned {
-    let length = name_length(units);
-    if length == 0 {
-        return Assigned::Nothing;
-    }
+/// Whether the word is an assignment.
+pub(crate) fn is_assignment(units: &[Unit]) -> bool {
+    assigned_from(units).is_some()
+}
+
+/// What the word assigns to the name at its beginning, if it is an assignment.
+fn assigned_from(units: &[Unit]) -> Option<Assigned> {
+    let length = variable_length(units);
     let next = length.saturating_add(1);
     match (byte_at(units, length), byte_at(units, next)) {
-        (Some(b'='), _) => Assigned::Value(next),
-        (Some(b'+'), Some(b'=')) => Assigned::Part,
-        (Some(b'['), _) if has_subscript(units) => Assigned::Part,
-        _ => Assigned::Nothing,
+        _ if length == 0 => None,
+        (Some(b'='), _) => Some(Assigned::Value(next)),
+        (Some(b'+'), Some(b'=')) => Some(Assigned::Part),
+        (Some(b'['), _) if has_subscript(units) => Some(Assigned::Part),
+        _ => None,
     }
 }
 
 /// Whether the units have `]=` or `]+=`.
 fn has_subscript(units: &[Unit]) -> bool {
-    for index in 0..units.len() {
-        if byte_at(units, index) == Some(b']') {
-            let next = index.saturating_add(1);
-            return matches!(byte_at(units, next), Some(b'=' | b'+'));
+    match units.iter().position(|unit| unit.byte() == Some(b']')) {
+        Some(bracket) => {
+            let next = byte_at(units, bracket.saturating_add(1));
+            matches!(next, Some(b'=' | b'+'))
         }
+        None => false,
     }
-    false
 }
 
 /// The words without `command` and `builtin` before them, and without their options.
@@ -78,13 +95,10 @@ fn without_prefixes(words: &[ShellWord]) -> &[ShellWord] {
     let mut rest = words;
     for _ in 0..8 {
         rest = match rest {
-            [first, others @ ..]
-                if is_text(&first.units, b"command") || is_text(&first.units, b"builtin") => {
-                match others {
-                    [option, more @ ..] if is_text(&option.units, b"-p") => more,
-                    _ => others,
-                }
-            }
+            [first, others @ ..] if first.is("command") || first.is("builtin") => match others {
+                [option, more @ ..] if option.is("-p") => more,
+                _ => others,
+            },
             _ => return rest,
         };
     }
@@ -93,21 +107,20 @@ fn without_prefixes(words: &[ShellWord]) -> &[ShellWord] {
 
 impl Names<'_> {
     /// Notes what a command sets.
-    pub fn note_command(&mut self, command: &ShellCommand, scope: Scope) -> Result<(), AllocError> {
+    pub fn note_command(&mut self, command: &ShellCommand, scope: Scope) -> Result<()> {
         let words = command.words.as_slice();
-        let at = match words.first() {
-            Some(first) => first.start,
-            None => return Ok(()),
+        let Some(first) = words.first() else {
+            return Ok(());
         };
-        let spot = scope.spot(command.site, at);
-        let count = match words.iter().position(|word| !is_assignment(&word.units)) {
-            Some(count) => count,
-            None => words.len(),
-        };
+        let spot = scope.spot(command.site, first.start);
+        let count = words
+            .iter()
+            .position(|word| !is_assignment(&word.units))
+            .unwrap_or(words.len());
         let is_alone = count == words.len();
         for word in words.iter().take(count) {
             // Before a command IFS is set for that alone.
-            if is_alone || !is_text(word.units.get(..4).unwrap_or(&[]), b"IFS=") {
+            if is_alone || !begins_with(&word.units, "IFS=") {
                 self.note_word(word, spot, is_alone)?;
             }
         }
@@ -118,92 +131,70 @@ impl Names<'_> {
     }
 
     /// Notes what a command of this name sets by its operands.
-    fn note_utility(
-        &mut self,
-        name: &ShellWord,
-        operands: &[ShellWord],
-        spot: Spot,
-    ) -> Result<(), AllocError> {
-        let Some(name) = bytes_of(self.alloc, &name.units)? else {
+    fn note_utility(&mut self, name: &ShellWord, operands: &[ShellWord], spot: Spot) -> Result<()> {
+        let Some(bytes) = bytes_of(self.alloc, &name.units)? else {
             if self.is_sed_name(&name.units) {
                 return Ok(());
             }
             return self.note_open(spot);
         };
-        if is_among(&name, OPENING) {
-            if is_among(&name, &[b"alias"]) {
-                self.note_aliases(operands)?;
+        let Some(utility) = named(UTILITIES, &bytes) else {
+            return Ok(());
+        };
+        match utility {
+            Utility::Exporting => self.note_declared(operands, spot, false),
+            Utility::Declaring => self.note_declared(operands, spot, true),
+            Utility::Setting => self.note_names(operands, spot),
+            Utility::SettingFirst => self.note_names(operands.get(..1).unwrap_or(&[]), spot),
+            Utility::SettingSecond => self.note_names(operands.get(1..2).unwrap_or(&[]), spot),
+            Utility::Opening => self.note_open(spot),
+            Utility::Aliasing => {
+                for word in operands {
+                    if let Some(name) = self.name_of(word)? {
+                        self.functions.push(name)?;
+                    }
+                }
+                self.note_open(spot)
             }
-            return self.note_open(spot);
+            // The texts of words that are known are read by themselves.
+            Utility::Running if operands.iter().any(|word| has_hole(&word.units)) => {
+                self.note_open(spot)
+            }
+            Utility::Running => Ok(()),
+            Utility::Printing => self.note_printf(operands, spot),
         }
-        if is_among(&name, &[b"eval", b"trap"]) {
-            return self.note_open_words(operands, spot);
-        }
-        if is_among(&name, EXPORTING) || is_among(&name, DECLARING) {
-            return self.note_declared(operands, spot, is_among(&name, DECLARING));
-        }
-        if is_among(&name, &[b"printf"]) {
-            return self.note_printf(operands, spot);
-        }
-        if is_among(&name, SETTING) {
-            return self.note_names(named_operands(&name, operands), spot);
-        }
-        Ok(())
     }
 
     /// Whether the units are a variable that has the path of a sed.
     fn is_sed_name(&self, units: &[Unit]) -> bool {
         match *units {
-            [Unit::Hole(hole)] => match hole_name(self.written_hole(hole)) {
-                Some(name) => is_sed_variable(name),
-                None => false,
-            },
+            [Unit::Hole(hole)] => hole_name(self.written_hole(hole)).is_some_and(is_sed_variable),
             _ => false,
         }
     }
 
-    /// Notes the names that `alias` is given.
-    fn note_aliases(&mut self, operands: &[ShellWord]) -> Result<(), AllocError> {
-        for word in operands {
-            let length = name_length(&word.units);
-            if let Some(name) = bytes_of(self.alloc, word.units.get(..length).unwrap_or(&[]))? {
-                self.functions.push(name)?;
-            }
-        }
-        Ok(())
-    }
-
-    /// Notes that any variable may be set there, if a word isn't known: the texts of the others are read by themselves.
-    fn note_open_words(&mut self, words: &[ShellWord], spot: Spot) -> Result<(), AllocError> {
-        for word in words {
-            if has_hole(&word.units) {
-                return self.note_open(spot);
-            }
-        }
-        Ok(())
+    /// The name of a variable at the beginning of the word.
+    fn name_of(&self, word: &ShellWord) -> Result<Option<Vec<u8>>> {
+        let length = variable_length(&word.units);
+        bytes_of(self.alloc, word.units.get(..length).unwrap_or(&[]))
     }
 
     /// Notes the assignment that the word is; its value is known only if it stands.
-    fn note_word(&mut self, word: &ShellWord, spot: Spot, stands: bool) -> Result<(), AllocError> {
-        let length = name_length(&word.units);
-        let Some(name) = bytes_of(self.alloc, word.units.get(..length).unwrap_or(&[]))? else {
+    fn note_word(&mut self, word: &ShellWord, spot: Spot, stands: bool) -> Result<()> {
+        let (Some(name), Some(assigned)) = (self.name_of(word)?, assigned_from(&word.units)) else {
             return Ok(());
         };
-        let value = match assigned_from(&word.units) {
-            Assigned::Nothing => return Ok(()),
+        let value = match assigned {
             Assigned::Value(from) if stands => {
                 written_value(self.alloc, word.units.get(from..).unwrap_or(&[]))?
             }
             _ => None,
         };
-        let is_sed = self.begins_with_sed(word.units.get(length..).unwrap_or(&[]))?;
-        let at = Spot {
-            at: word.start,
-            ..spot
-        };
+        let is_sed = self.begins_with_sed(word.units.get(name.len()..).unwrap_or(&[]))?;
+        let at = word.start;
         match spot.scope {
             Scope::Other => self.note_unknown(name.clone()?)?,
-            _ => self.note(name.clone()?, value, at)?,
+            _ => self.note(name.clone()?, value, Spot { at, ..spot })?,
         }
         if is_sed {
             self.note_sed(&name);
@@ -212,44 +203,30 @@ impl Names<'_> {
     }
 
     /// Whether the value behind the sign that assigns it begins with the name of a sed, or with a variable that has one.
-    pub fn begins_with_sed(&self, units: &[Unit]) -> Result<bool, AllocError> {
-        let from = match units.iter().position(|unit| byte_of(*unit) == Some(b'=')) {
+    pub fn begins_with_sed(&self, units: &[Unit]) -> Result<bool> {
+        let from = match units.iter().position(|unit| unit.byte() == Some(b'=')) {
             Some(sign) => sign.saturating_add(1),
             None => 0,
         };
         let value = units.get(from..).unwrap_or(&[]);
-        let end = match value
+        let end = value
             .iter()
-            .position(|unit| matches!(byte_of(*unit), Some(b' ' | b'\t')))
-        {
-            Some(end) => end,
-            None => value.len(),
-        };
+            .position(|unit| matches!(unit.byte(), Some(b' ' | b'\t')))
+            .unwrap_or(value.len());
         let first = value.get(..end.min(LONGEST)).unwrap_or(&[]);
-        if self.is_sed_name(first) {
-            return Ok(true);
-        }
-        Ok(match bytes_of(self.alloc, first)? {
-            Some(path) => is_sed_path(&path),
-            None => false,
-        })
+        let path = bytes_of(self.alloc, first)?;
+        Ok(self.is_sed_name(first) || path.is_some_and(|path| is_sed_path(&path)))
     }
 
     /// Notes the operands of a utility that declares variables. An option may change values; `-n` makes a name refer to another one.
-    fn note_declared(
-        &mut self,
-        operands: &[ShellWord],
-        spot: Spot,
-        is_own: bool,
-    ) -> Result<(), AllocError> {
+    fn note_declared(&mut self, operands: &[ShellWord], spot: Spot, is_own: bool) -> Result<()> {
         let mut stands = true;
         for word in operands {
-            let length = name_length(&word.units);
+            let length = variable_length(&word.units);
+            let name = word.units.get(..length.saturating_add(1)).unwrap_or(&[]);
             if byte_at(&word.units, 0) == Some(b'-') {
-                stands = stands && (is_text(&word.units, b"-x") || is_text(&word.units, b"-r"));
-            } else if length == 0
-                || has_hole(word.units.get(..length.saturating_add(1)).unwrap_or(&[]))
-            {
+                stands = stands && (word.is("-x") || word.is("-r"));
+            } else if length == 0 || has_hole(name) {
                 self.note_open(spot)?;
             } else if is_assignment(&word.units) {
                 let is_plain = stands && word.pattern == Pattern::None;
@@ -265,27 +242,22 @@ impl Names<'_> {
     }
 
     /// Notes what `printf` sets with its option `-v`.
-    fn note_printf(&mut self, operands: &[ShellWord], spot: Spot) -> Result<(), AllocError> {
-        match operands {
-            [option, ..] if is_text(&option.units, b"-v") => {
-                self.note_names(operands.get(1..2).unwrap_or(&[]), spot)
-            }
-            [option, ..] => {
-                let is_open = match option.units.first() {
-                    Some(Unit::Hole(_)) => true,
-                    _ => is_text(option.units.get(..2).unwrap_or(&[]), b"-v"),
-                };
-                if is_open && self.form.has_dollar_quotes {
-                    return self.note_open(spot);
-                }
-                Ok(())
-            }
-            [] => Ok(()),
+    fn note_printf(&mut self, operands: &[ShellWord], spot: Spot) -> Result<()> {
+        let Some(option) = operands.first() else {
+            return Ok(());
+        };
+        if option.is("-v") {
+            return self.note_names(operands.get(1..2).unwrap_or(&[]), spot);
         }
+        let is_hole = matches!(option.units.first(), Some(Unit::Hole(_)));
+        if self.form.has_dollar_quotes && (is_hole || begins_with(&option.units, "-v")) {
+            return self.note_open(spot);
+        }
+        Ok(())
     }
 
     /// Notes that each of the names may be set, and any other if one of them isn't known.
-    fn note_names(&mut self, operands: &[ShellWord], spot: Spot) -> Result<(), AllocError> {
+    fn note_names(&mut self, operands: &[ShellWord], spot: Spot) -> Result<()> {
         for word in operands {
             if has_hole(&word.units) {
                 self.note_open(spot)?;
@@ -296,26 +268,71 @@ impl Names<'_> {
     }
 
     /// Notes that the name at the beginning of the word may be set.
-    fn note_named(&mut self, word: &ShellWord) -> Result<(), AllocError> {
-        let length = name_length(&word.units);
-        match bytes_of(self.alloc, word.units.get(..length).unwrap_or(&[]))? {
-            Some(name) if length > 0 => self.note_unknown(name),
+    fn note_named(&mut self, word: &ShellWord) -> Result<()> {
+        match self.name_of(word)? {
+            Some(name) if !name.is_empty() => self.note_unknown(name),
             _ => Ok(()),
         }
     }
-}
 
-/// The operands of the utility that are names of variables.
-fn named_operands<'a>(name: &[u8], operands: &'a [ShellWord]) -> &'a [ShellWord] {
-    let named = match name {
-        b"for" | b"select" => operands.get(..1),
-        b"getopts" => operands.get(1..2),
-        _ => Some(operands),
-    };
-    named.unwrap_or(&[])
+    /// Notes the variables that `${NAME=..}`, `${NAME:=..}` and arithmetic may set (XCU 2.6.2 and 2.6.4). `${!NAME=..}` sets one whose name
+    /// is a value.
+    pub fn note_expansions(&mut self) -> Result<()> {
+        let file = self.file;
+        let mut from = 0usize;
+        let mut is_arithmetic = false;
+        for (index, byte) in file.iter().enumerate() {
+            if is_name_byte(*byte) {
+                continue;
+            }
+            if from < index {
+                let before = file.get(from.saturating_sub(2)..from).unwrap_or(&[]);
+                let is_set = matches!(file.get(index..), Some([b'=', ..] | [b':', b'=', ..]));
+                self.is_open |= is_set && is_among(before, &["{!"]);
+                let may_be_set = match before {
+                    [b'$', b'{'] => is_set,
+                    [.., b'$' | b'{'] => false,
+                    _ => is_arithmetic,
+                };
+                if may_be_set {
+                    let mut name = Vec::new(self.alloc);
+                    name.extend_from_slice(file.get(from..index).unwrap_or(&[]))?;
+                    self.note_unknown(name)?;
+                }
+            }
+            let is_second = file.get(index.saturating_sub(1)) == Some(byte) && index > 0;
+            is_arithmetic = match *byte {
+                b'(' if is_second => true,
+                b')' if is_second => false,
+                b'\n' => false,
+                _ => is_arithmetic,
+            };
+            from = index.saturating_add(1);
+        }
+        Ok(())
+    }
 }
 
 /// Whether a part of the units isn't known.
 fn has_hole(units: &[Unit]) -> bool {
     units.iter().any(|unit| matches!(*unit, Unit::Hole(_)))
+}
+
+/// Whether an assignment of LC_ALL is one of C or of POSIX, where a character is a byte; none of another variable.
+pub(crate) fn is_c_locale(units: &[Unit]) -> Option<bool> {
+    begins_with(units, "LC_ALL").then_some(is_one_of(units, &["LC_ALL=C", "LC_ALL=POSIX"]))
+}
+
+/// Whether the command may make LC_ALL read-only: bash then runs a call behind an assignment to it in the locale that was before. What
+/// isn't known may be its name.
+pub(crate) fn may_fix_locale(words: &[ShellWord]) -> bool {
+    let mut is_fixing = false;
+    for word in words {
+        let is_hole = matches!(word.units.first(), Some(Unit::Hole(_)));
+        if is_fixing && (is_hole || begins_with(&word.units, "LC_ALL")) {
+            return true;
+        }
+        is_fixing = is_fixing || is_one_of(&word.units, FIXING);
+    }
+    false
 }

@@ -1,19 +1,18 @@
 //! Finds the calls of sed in a file.
 
-use crate::following::Spot;
 use crate::found::{Assumed, Found, FoundCall, FoundScript, OpenHole, Role, Unknown};
 use crate::names::{Names, Scope};
 use crate::parts::{Part, Runner, parts_of};
 use crate::programs::Program;
 use crate::script::{Around, script_of};
 use crate::texts::{Held, Reading};
-use crate::units::{byte_at, byte_of, bytes_of, is_text};
+use crate::units::bytes_of;
 use crate::values::{has_placeholder, line_starts, written_value};
 use crate::words::{CallWord, Filler};
-use sedck_hosts::{Kind, host_of, reads_dollar_quotes};
-use sedck_shell::{Dialect, Form, Pattern, ShellWord, Site};
-use sedck_traced::{Hole, Text, Unit, Way};
-use std::alloc::{AllocError, Global};
+use sedck_hosts::{Assignment, Kind, host_of, reads_dollar_quotes};
+use sedck_shell::{Dialect, Form, ShellWord, Site};
+use sedck_traced::{Hole, Result, Text, Unit, Way};
+use std::alloc::Global;
 use std::collections::BTreeMap;
 
 /// How many bytes before values may be read in all.
@@ -44,7 +43,7 @@ pub fn calls_in(
     path: &str,
     file: &[u8],
     assumed: &[Assumed],
-) -> Result<Found, AllocError> {
+) -> Result<Found> {
     let names = Names {
         alloc,
         kind,
@@ -65,98 +64,94 @@ pub fn calls_in(
         left: file.len().saturating_mul(4),
         unread: Vec::new(alloc),
     };
-    if kind == Kind::Shell {
-        reading.read(Text::Whole(file), Scope::Own(0), false)?;
-    } else {
-        read_host(alloc, &mut reading, kind, file)?;
+    match kind {
+        Kind::Shell => reading.read(Text::Whole(file), Scope::Own(0), false)?,
+        _ => read_host(&mut reading)?,
     }
     reading.read_inner()?;
     if kind != Kind::Make {
         reading.names.note_expansions()?;
     }
-    let unread = each_once(alloc, &reading.unread)?;
-    let mut calls = Vec::new(alloc);
+    let calls = calls_of(&reading)?;
+    let mut unread = reading.unread;
+    unread.sort()?;
+    unread.dedup();
+    Ok(Found { calls, unread })
+}
+
+/// The calls in the commands that were read, in the file's order, each once.
+fn calls_of(reading: &Reading<'_>) -> Result<Vec<FoundCall>> {
+    let names = &reading.names;
+    let mut calls = Vec::new(names.alloc);
     let mut filler = Filler {
-        names: &reading.names,
-        left: file.len().saturating_mul(2).saturating_add(SPARE),
+        names,
+        left: names.file.len().saturating_mul(2).saturating_add(SPARE),
         reach: REACH,
-        followed: Vec::new(alloc),
+        followed: Vec::new(names.alloc),
     };
     for held in &reading.held {
         add_calls(&mut calls, &mut filler, held)?;
     }
-    let calls = in_order(alloc, calls)?;
-    Ok(Found { calls, unread })
+    calls.sort_by_key(|call| call.start)?;
+    calls.dedup_by_key(|call| call.start);
+    Ok(calls)
 }
 
 /// Reads the shell text of a file that isn't a shell script, and the values of make's variables.
-fn read_host(
-    alloc: Global,
-    reading: &mut Reading<'_>,
-    kind: Kind,
-    file: &[u8],
-) -> Result<(), AllocError> {
-    let host = host_of(alloc, kind, file)?;
+fn read_host(reading: &mut Reading<'_>) -> Result<()> {
+    let (alloc, kind) = (reading.names.alloc, reading.names.kind);
+    let host = host_of(alloc, kind, reading.names.file)?;
     reading.unread.extend_from_slice(&host.unread)?;
     for (index, text) in host.texts.iter().enumerate() {
         let number = if kind == Kind::Autoconf { 0 } else { index };
         reading.read(Text::Units(text), Scope::Own(number), false)?;
     }
-    if kind != Kind::Make {
-        return Ok(());
-    }
-    reading.names.is_open = host.is_open;
-    for assignment in &host.assignments {
-        let name = assignment.name.clone()?;
-        let is_template = reading.names.form.dialect == Dialect::Template;
-        let value = if is_template && has_placeholder(&assignment.value) {
-            None
-        } else {
-            written_value(alloc, &assignment.value)?
-        };
-        let site = Site {
-            body: 0,
-            is_certain: assignment.is_certain,
-        };
-        let is_sed = reading.names.begins_with_sed(&assignment.value)?;
-        let spot = Scope::Own(0).spot(site, 0);
-        reading.names.note(name.clone()?, value, spot)?;
-        if is_sed {
-            reading.names.note_sed(&name);
+    if kind == Kind::Make {
+        reading.names.is_open = host.is_open;
+        for assignment in &host.assignments {
+            read_assignment(reading, assignment)?;
         }
-        reading.read(Text::Units(&assignment.value), Scope::Other, true)?;
     }
     Ok(())
 }
 
+/// Notes an assignment of make's, and reads its value.
+fn read_assignment(reading: &mut Reading<'_>, assignment: &Assignment) -> Result<()> {
+    let names = &mut reading.names;
+    let is_template = names.form.dialect == Dialect::Template;
+    let value = if is_template && has_placeholder(&assignment.value) {
+        None
+    } else {
+        written_value(names.alloc, &assignment.value)?
+    };
+    let site = Site {
+        body: 0,
+        is_certain: assignment.is_certain,
+    };
+    let spot = Scope::Own(0).spot(site, 0);
+    names.note(assignment.name.clone()?, value, spot)?;
+    if names.begins_with_sed(&assignment.value)? {
+        names.note_sed(&assignment.name);
+    }
+    reading.read(Text::Units(&assignment.value), Scope::Other, true)
+}
+
 /// Adds the calls in a command.
-fn add_calls(
-    calls: &mut Vec<FoundCall>,
-    filler: &mut Filler<'_>,
-    held: &Held,
-) -> Result<(), AllocError> {
-    let names = filler.names;
-    let command = &held.command;
-    let spot = held.scope.spot(command.site, 0);
-    let parts = parts_of(names.alloc, names, &command.words, spot)?;
+fn add_calls(calls: &mut Vec<FoundCall>, filler: &mut Filler<'_>, held: &Held) -> Result<()> {
+    let parts = parts_of(filler.names, &held.command.words, held.spot())?;
     filler.followed.clear();
-    let here = match &command.here {
-        Some(units) if parts.len() == 1 => Some(CallWord {
-            traced: filler.filled(units, spot)?,
-            pattern: Pattern::None,
-            start: 0,
-            end: 0,
-            is_path: false,
-        }),
+    let here = match &held.command.here {
+        Some(units) if parts.len() == 1 => {
+            let traced = filler.filled(units, held.spot())?;
+            Some(CallWord::of(traced, quoted(0, 0)))
+        }
         _ => None,
     };
     for part in &parts {
         if let Program::Sed = part.program {
-            let call = found_call(filler, held, *part, here.as_ref())?;
-            if let Some(call) = call {
-                if !held.is_value || has_script(&call.script) {
-                    calls.push(call)?;
-                }
+            match found_call(filler, held, *part, here.as_ref())? {
+                Some(call) if !held.is_value || has_script(&call.script) => calls.push(call)?,
+                _ => {}
             }
         }
     }
@@ -167,10 +162,15 @@ fn add_calls(
 fn has_script(script: &FoundScript) -> bool {
     match script {
         FoundScript::Refused(_) => false,
-        FoundScript::Text { call, .. } => !call.pieces.is_empty(),
-        FoundScript::Foreign(call) => !call.pieces.is_empty(),
+        FoundScript::Text { call, .. } | FoundScript::Foreign(call) => !call.pieces.is_empty(),
         FoundScript::Unknown(_) => true,
     }
+}
+
+/// What the file has between these offsets, of which a shell makes a part of one word.
+fn quoted(start: usize, end: usize) -> Hole {
+    let way = Way::Quoted;
+    Hole { start, end, way }
 }
 
 /// The call that a part of a command is; none where it is prose in a source of Autoconf.
@@ -179,37 +179,22 @@ fn found_call(
     held: &Held,
     part: Part,
     here: Option<&CallWord>,
-) -> Result<Option<FoundCall>, AllocError> {
+) -> Result<Option<FoundCall>> {
     let names = filler.names;
-    let command = &held.command;
-    let spot = held.scope.spot(command.site, 0);
-    let Some(name) = command.words.get(part.name) else {
+    let dialect = names.form.dialect;
+    let Some([name, others @ ..]) = held.command.words.get(part.name..part.end) else {
         return Ok(None);
     };
-    let from = part.name.saturating_add(1);
-    let others = command.words.get(from..part.end).unwrap_or(&[]);
-    if names.form.dialect == Dialect::Macros && is_prose(names.file, name, others) {
+    if dialect == Dialect::Macros && is_prose(names.file, name, others) {
         return Ok(None);
     }
     let mut named = Vec::new(names.alloc);
-    let mut words = named_options(filler, name, spot, &mut named)?;
-    if let Some(runner) = part.unknown.and_then(|number| command.words.get(number)) {
-        note_named(&mut named, runner, Role::Runner)?;
-    }
-    for word in others {
-        let mut word = filler.word(word, spot)?;
-        put_in(names, &mut word, part.runner, &command.words)?;
-        words.push(word)?;
-    }
-    let place = Hole {
-        start: name.start,
-        end: name.start.saturating_add(name.units.len().max(1)),
-        way: Way::Quoted,
-    };
+    let words = words_of(filler, held, part, &mut named)?;
+    let end = name.start.saturating_add(name.units.len().max(1));
     let around = Around {
         file: names.file,
-        dialect: names.form.dialect,
-        name: place,
+        dialect,
+        name: quoted(name.start, end),
         runner: part.runner,
         here,
         named: &named,
@@ -227,39 +212,49 @@ fn found_call(
         start: name.start,
         words: traced,
         script,
-        followed: filler.take_followed(),
+        followed: std::mem::replace(&mut filler.followed, Vec::new(names.alloc)),
         c_locale: part.c_locale,
     }))
 }
 
-/// The options in the value of a variable that is the name of the sed, where it is one. Where they aren't known, that is noted.
-fn named_options(
+/// The words of a call behind its name, with the options in the value of a variable that is the name. What isn't known of the name and of
+/// what runs it is noted.
+fn words_of(
     filler: &mut Filler<'_>,
-    name: &ShellWord,
-    spot: Spot,
+    held: &Held,
+    part: Part,
     named: &mut Vec<OpenHole>,
-) -> Result<Vec<CallWord>, AllocError> {
-    let none = Vec::new(filler.names.alloc);
-    let [Unit::Hole(hole)] = *name.units.as_slice() else {
-        return Ok(none);
-    };
-    if let Some(words) = filler.options(hole, spot)? {
+) -> Result<Vec<CallWord>> {
+    let command = held.command.words.as_slice();
+    let mut words = Vec::new(filler.names.alloc);
+    let Some([name, others @ ..]) = command.get(part.name..part.end) else {
         return Ok(words);
+    };
+    if let [Unit::Hole(hole)] = *name.units.as_slice() {
+        match filler.options(hole, held.spot())? {
+            Some(options) => words = options,
+            None => note_named(named, name, Role::Sed)?,
+        }
     }
-    note_named(named, name, Role::Sed)?;
-    Ok(none)
+    if let Some(runner) = part.unknown.and_then(|number| command.get(number)) {
+        note_named(named, runner, Role::Runner)?;
+    }
+    for word in others {
+        let mut word = filler.word(word, held.spot())?;
+        put_in(filler.names, &mut word, part.runner, command)?;
+        words.push(word)?;
+    }
+    Ok(words)
 }
 
 /// Notes a word of one hole, of which a shell may make several words.
-fn note_named(named: &mut Vec<OpenHole>, word: &ShellWord, role: Role) -> Result<(), AllocError> {
-    match *word.units.as_slice() {
-        [Unit::Hole(hole)] if hole.way.is_split() => Ok(named.push(OpenHole {
-            hole,
-            role,
-            delimiter: 0,
-        })?),
-        _ => Ok(()),
+fn note_named(named: &mut Vec<OpenHole>, word: &ShellWord, role: Role) -> Result<()> {
+    if let [Unit::Hole(hole)] = *word.units.as_slice() {
+        if hole.way.is_split() {
+            named.push(OpenHole::outside(hole, role))?;
+        }
     }
+    Ok(())
 }
 
 /// Puts holes into a word where what runs the sed puts in a name or a line.
@@ -268,7 +263,7 @@ fn put_in(
     word: &mut CallWord,
     runner: Runner,
     words: &[ShellWord],
-) -> Result<(), AllocError> {
+) -> Result<()> {
     match runner {
         Runner::Plain | Runner::Adding => {}
         Runner::Braces => word.open(b"{}"),
@@ -291,7 +286,7 @@ fn put_in(
 }
 
 /// Whether the file has a function or an alias with the name of the sed.
-fn is_redefined(names: &Names<'_>, name: &ShellWord) -> Result<bool, AllocError> {
+fn is_redefined(names: &Names<'_>, name: &ShellWord) -> Result<bool> {
     Ok(match bytes_of(names.alloc, &name.units)? {
         Some(name) => names.is_function(&name),
         None => false,
@@ -300,50 +295,14 @@ fn is_redefined(names: &Names<'_>, name: &ShellWord) -> Result<bool, AllocError>
 
 /// Whether the words are prose within brackets of M4: the name is right behind one, and the next word is letters alone.
 fn is_prose(file: &[u8], name: &ShellWord, others: &[ShellWord]) -> bool {
-    let before = match name.start.checked_sub(1) {
-        Some(offset) => file.get(offset),
-        None => None,
-    };
-    let is_plain = match others.first() {
-        Some(next) => {
-            !next.is_quoted
-                && next.units.len() > 1
-                && byte_at(&next.units, 0).is_some()
-                && next.units.iter().all(|unit| match byte_of(*unit) {
-                    Some(byte) => byte.is_ascii_alphabetic(),
-                    None => false,
-                })
-        }
-        None => true,
-    };
-    before == Some(&b'[') && is_plain && is_text(&name.units, b"sed")
-}
-
-/// The calls in the file's order, each once.
-fn in_order(alloc: Global, calls: Vec<FoundCall>) -> Result<Vec<FoundCall>, AllocError> {
-    let mut sorted = calls;
-    sorted.sort_by_key(|call| call.start)?;
-    let mut kept = Vec::new(alloc);
-    let mut last = None;
-    for call in sorted {
-        if last != Some(call.start) {
-            last = Some(call.start);
-            kept.push(call)?;
-        }
-    }
-    Ok(kept)
-}
-
-/// The offsets in order, each once.
-fn each_once(alloc: Global, offsets: &[usize]) -> Result<Vec<usize>, AllocError> {
-    let mut sorted = Vec::new(alloc);
-    sorted.extend_from_slice(offsets)?;
-    sorted.sort_by_key(|offset| *offset)?;
-    let mut kept = Vec::new(alloc);
-    for offset in sorted {
-        if kept.last() != Some(&offset) {
-            kept.push(offset)?;
-        }
-    }
-    Ok(kept)
+    let before = name
+        .start
+        .checked_sub(1)
+        .and_then(|offset| file.get(offset));
+    let is_plain = others.first().is_none_or(|next| {
+        let mut units = next.units.iter();
+        let is_word = !next.is_quoted && next.units.len() > 1;
+        is_word && units.all(|unit| unit.byte().is_some_and(|byte| byte.is_ascii_alphabetic()))
+    });
+    before == Some(&b'[') && is_plain && name.is("sed")
 }

@@ -5,8 +5,8 @@ use crate::parts::Runner;
 use crate::words::CallWord;
 use sedck_calls::{Call, CallOption, Given, Piece, Taken};
 use sedck_shell::Pattern;
-use sedck_traced::{Hole, Way};
-use std::alloc::{AllocError, Global};
+use sedck_traced::{Hole, Result, Way, is_among};
+use std::alloc::Global;
 
 /// The most conditions of a call.
 const MOST: usize = 1000;
@@ -28,7 +28,7 @@ impl Conditions<'_> {
         words: &'a [CallWord],
         name: Hole,
         runner: Runner,
-    ) -> Result<Conditions<'a>, AllocError> {
+    ) -> Result<Conditions<'a>> {
         let mut conditions = Conditions {
             words,
             holes: Vec::new(alloc),
@@ -42,25 +42,17 @@ impl Conditions<'_> {
         if runner == Runner::Adding && end.is_none() {
             conditions.push(name, Role::Added)?;
         }
-        if conditions.holes.len() > MOST {
-            conditions.is_unknown = true;
-        }
+        conditions.is_unknown |= conditions.holes.len() > MOST;
         Ok(conditions)
     }
 
     /// Adds a condition.
-    fn push(&mut self, hole: Hole, role: Role) -> Result<(), AllocError> {
-        Ok(
-            self.holes.push(OpenHole {
-                hole,
-                role,
-                delimiter: 0,
-            })?,
-        )
+    fn push(&mut self, hole: Hole, role: Role) -> Result<()> {
+        Ok(self.holes.push(OpenHole::outside(hole, role))?)
     }
 
     /// Adds the conditions on what a word gives. Behind the word of number `end` there are no options.
-    fn add_item(&mut self, call: &Call, item: Given, end: Option<usize>) -> Result<(), AllocError> {
+    fn add_item(&mut self, call: &Call, item: Given, end: Option<usize>) -> Result<()> {
         match item {
             Given::Alone(_, number) => self.add_word(number),
             Given::With(CallOption::Expression, origin) => self.add_pattern(origin.word),
@@ -74,15 +66,13 @@ impl Conditions<'_> {
                 self.add_word(origin.word)
             }
             Given::Operand(number) if is_script(call, number) => self.add_pattern(number),
-            Given::Operand(number) => match end {
-                Some(end) if end < number => Ok(()),
-                _ => self.add_operand(number),
-            },
+            Given::Operand(number) if is_behind(number, end) => Ok(()),
+            Given::Operand(number) => self.add_operand(number),
         }
     }
 
     /// Adds the conditions on a word that must be one word.
-    fn add_word(&mut self, number: usize) -> Result<(), AllocError> {
+    fn add_word(&mut self, number: usize) -> Result<()> {
         let Some(word) = self.words.get(number) else {
             return Ok(());
         };
@@ -96,7 +86,7 @@ impl Conditions<'_> {
     }
 
     /// Adds the condition on a word that is a pattern.
-    fn add_pattern(&mut self, number: usize) -> Result<(), AllocError> {
+    fn add_pattern(&mut self, number: usize) -> Result<()> {
         match self.words.get(number) {
             Some(word) if word.pattern != Pattern::None => self.push(word.place(), Role::Pattern),
             _ => Ok(()),
@@ -104,16 +94,13 @@ impl Conditions<'_> {
     }
 
     /// Adds the conditions on an operand, which must be no option. A name that `find` gives begins with where it began.
-    fn add_operand(&mut self, number: usize) -> Result<(), AllocError> {
+    fn add_operand(&mut self, number: usize) -> Result<()> {
         let Some(word) = self.words.get(number) else {
             return Ok(());
         };
-        if let Some(hole) = word.open_hole() {
+        let first = word.hole_at(0).filter(|_| !word.is_path);
+        if let Some(hole) = word.open_hole().or(first) {
             return self.push(hole, Role::Operand);
-        }
-        match word.hole_at(0) {
-            Some(hole) if !word.is_path => return self.push(hole, Role::Operand),
-            _ => {}
         }
         if word.pattern == Pattern::First {
             return self.push(word.place(), Role::Names);
@@ -122,18 +109,12 @@ impl Conditions<'_> {
     }
 
     /// Adds the condition on options that change the script and follow an operand: where POSIXLY_CORRECT is set they are operands.
-    fn add_order(&mut self, call: &Call, end: Option<usize>) -> Result<(), AllocError> {
+    fn add_order(&mut self, call: &Call, end: Option<usize>) -> Result<()> {
         let mut first = None;
         for item in &call.given {
             match *item {
-                Given::Operand(number) if first.is_none() => {
-                    let is_free = match end {
-                        Some(end) => number < end,
-                        None => true,
-                    };
-                    if is_free {
-                        first = Some(number);
-                    }
+                Given::Operand(number) if first.is_none() && !is_behind(number, end) => {
+                    first = Some(number);
                 }
                 Given::With(CallOption::Expression | CallOption::File, _)
                 | Given::Alone(CallOption::Help | CallOption::Version, _) => {
@@ -148,10 +129,15 @@ impl Conditions<'_> {
     }
 }
 
+/// Whether the operand of this number is behind the word that ends the options, if there is one.
+fn is_behind(number: usize, end: Option<usize>) -> bool {
+    end.is_some_and(|end| end < number)
+}
+
 /// The number of the word `--` that ends the options, if there is one: the only one that gives nothing and is no option.
 fn operands_start(given: &[Given], words: &[CallWord]) -> Option<usize> {
     for (number, word) in words.iter().enumerate() {
-        if word.traced.bytes.as_slice() == b"--".as_slice() && !is_given(given, number) {
+        if is_among(&word.traced.bytes, &["--"]) && !is_given(given, number) {
             return Some(number);
         }
     }

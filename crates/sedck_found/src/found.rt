@@ -89,6 +89,17 @@ pub struct OpenHole {
     pub delimiter: u8,
 }
 
+impl OpenHole {
+    /// One outside of expressions and replacements.
+    pub(crate) fn outside(hole: Hole, role: Role) -> OpenHole {
+        OpenHole {
+            hole,
+            role,
+            delimiter: 0,
+        }
+    }
+}
+
 /// What a hole may change.
 #[derive(Clone, Copy, Debug, PartialEq, Eq)]
 pub enum Role {

@@ -4,8 +4,8 @@ use crate::found::{OpenHole, Role};
 use crate::roles::{Place, Places};
 use crate::words::{CallWord, add, empty};
 use sedck_calls::{Call, Piece};
-use sedck_traced::{Hole, Origin, Traced, Way};
-use std::alloc::{AllocError, Global};
+use sedck_traced::{Hole, Origin, Result, Traced, Way};
+use std::alloc::Global;
 
 /// The most holes of a script.
 const MOST: usize = 1000;
@@ -32,7 +32,7 @@ pub(crate) fn roles_of(
     call: &Call,
     words: &[CallWord],
     here: Option<&CallWord>,
-) -> Result<Option<(Traced, Vec<OpenHole>)>, AllocError> {
+) -> Result<Option<(Traced, Vec<OpenHole>)>> {
     let mut roles = Roles {
         places: Places {
             place: Place::Command,
@@ -76,7 +76,7 @@ pub(crate) fn roles_of(
 
 impl Roles {
     /// Reads a word from this byte on.
-    fn read_part(&mut self, word: &CallWord, from: usize) -> Result<(), AllocError> {
+    fn read_part(&mut self, word: &CallWord, from: usize) -> Result<()> {
         let bytes = word.traced.bytes.get(from..).unwrap_or(&[]);
         let origins = word.traced.origins.get(from..).unwrap_or(&[]);
         for (byte, origin) in bytes.iter().zip(origins.iter()) {
@@ -86,7 +86,7 @@ impl Roles {
     }
 
     /// Reads a byte, or a hole.
-    fn read(&mut self, byte: u8, origin: Origin) -> Result<(), AllocError> {
+    fn read(&mut self, byte: u8, origin: Origin) -> Result<()> {
         if let Origin::Hole(hole) = origin {
             if self.last == Some(hole) {
                 return Ok(());
@@ -116,7 +116,7 @@ impl Roles {
     }
 
     /// Reads a hole.
-    fn read_hole(&mut self, hole: Hole) -> Result<(), AllocError> {
+    fn read_hole(&mut self, hole: Hole) -> Result<()> {
         if hole.way == Way::Several || self.holes.len() > MOST {
             self.is_unknown = true;
         }
@@ -140,14 +140,14 @@ impl Roles {
     }
 
     /// Puts a letter in place of a hole in the text of a command.
-    fn fill_text(&mut self, hole: Hole, role: Role) -> Result<(), AllocError> {
+    fn fill_text(&mut self, hole: Hole, role: Role) -> Result<()> {
         self.places.place = Place::Text;
         self.places.delimiter = 0;
         self.fill(hole, role, b"x")
     }
 
     /// Puts the letters in place of a hole that has this role.
-    fn fill(&mut self, hole: Hole, role: Role, letters: &[u8]) -> Result<(), AllocError> {
+    fn fill(&mut self, hole: Hole, role: Role, letters: &[u8]) -> Result<()> {
         let delimiter = self.places.delimiter;
         if letters.contains(&delimiter) {
             self.is_unknown = true;

@@ -1,12 +1,11 @@
 //! What is known of the values of variables.
 
-use crate::following::{Fact, Spot, is_followed, is_set_by_shell};
 use crate::found::Assumed;
 use crate::values::Value;
 use sedck_hosts::Kind;
 use sedck_shell::{Form, Site};
-use sedck_traced::{Hole, Unit, hole_name};
-use std::alloc::{AllocError, Global};
+use sedck_traced::{Hole, Result, Unit, hole_name, is_among};
+use std::alloc::Global;
 use std::collections::BTreeMap;
 
 /// Where a command runs.
@@ -31,16 +30,30 @@ impl Scope {
 
     /// The spot with this offset, of a command that is there in its text.
     pub fn spot(self, site: Site, at: usize) -> Spot {
-        let is_own = matches!(self, Scope::Own(_));
-        Spot {
-            scope: self,
-            site: Site {
-                body: site.body,
-                is_certain: site.is_certain && is_own,
-            },
-            at,
-        }
+        let (scope, mut site) = (self, site);
+        site.is_certain = site.is_certain && matches!(self, Scope::Own(_));
+        Spot { scope, site, at }
     }
+}
+
+/// Where a variable is set or used.
+#[derive(Clone, Copy, PartialEq, Eq)]
+pub(crate) struct Spot {
+    pub scope: Scope,
+    pub site: Site,
+    /// The offset in the file.
+    pub at: usize,
+}
+
+/// How the file sets a variable.
+#[derive(Drop)]
+pub(crate) struct Fact {
+    /// Its value; none if that isn't written, or it is set more than once.
+    pub value: Option<Vec<Unit>>,
+    /// Where it is set.
+    pub spot: Spot,
+    /// Whether a value that it is given somewhere begins with the name of a sed.
+    pub is_sed: bool,
 }
 
 /// What is known of the variables of a file.
@@ -66,12 +79,7 @@ pub(crate) struct Names<'a> {
 
 impl<'a> Names<'a> {
     /// Notes that the variable is set there, to this value if it is known.
-    pub fn note(
-        &mut self,
-        name: Vec<u8>,
-        value: Option<Vec<Unit>>,
-        spot: Spot,
-    ) -> Result<(), AllocError> {
+    pub fn note(&mut self, name: Vec<u8>, value: Option<Vec<Unit>>, spot: Spot) -> Result<()> {
         if let Some(fact) = self.facts.get_mut(name.as_slice()) {
             fact.value = None;
             return Ok(());
@@ -94,60 +102,33 @@ impl<'a> Names<'a> {
 
     /// Whether the variable may have the name of a sed, which the file gives it somewhere.
     pub fn may_be_sed(&self, name: &[u8]) -> bool {
-        match self.facts.get(name) {
-            Some(fact) => fact.is_sed,
-            None => false,
-        }
+        self.facts.get(name).is_some_and(|fact| fact.is_sed)
     }
 
     /// Notes that the variable is set to what isn't known.
-    pub fn note_unknown(&mut self, name: Vec<u8>) -> Result<(), AllocError> {
-        let site = Site {
-            body: 0,
-            is_certain: false,
-        };
-        self.note(name, None, Scope::Other.spot(site, 0))
+    pub fn note_unknown(&mut self, name: Vec<u8>) -> Result<()> {
+        self.note(name, None, Scope::Other.spot(Site::default(), 0))
     }
 
     /// Notes that a command there may set variables which it doesn't name.
-    pub fn note_open(&mut self, spot: Spot) -> Result<(), AllocError> {
+    pub fn note_open(&mut self, spot: Spot) -> Result<()> {
         self.may_fix_locale = true;
         let Some(text) = spot.scope.text() else {
             return Ok(());
         };
-        if let Some(first) = self.open.get_mut(&text) {
-            if spot.at < *first {
-                *first = spot.at;
-            }
-            return Ok(());
-        }
-        self.open.insert(text, spot.at)?;
+        let first = self.open.get(&text).copied().unwrap_or(spot.at);
+        self.open.insert(text, first.min(spot.at))?;
         Ok(())
-    }
-
-    /// What the file has between these offsets.
-    pub fn written(&self, start: usize, end: usize) -> &'a [u8] {
-        self.file.get(start..end).unwrap_or(&[])
     }
 
     /// What the file has in place of the hole.
     pub fn written_hole(&self, hole: Hole) -> &'a [u8] {
-        self.written(hole.start, hole.end)
-    }
-
-    /// Whether the file sets the variable.
-    pub fn is_set(&self, name: &[u8]) -> bool {
-        self.facts.get(name).is_some()
+        self.file.get(hole.start..hole.end).unwrap_or(&[])
     }
 
     /// Whether a function or an alias has the name.
     pub fn is_function(&self, name: &[u8]) -> bool {
-        for other in &self.functions {
-            if other.as_slice() == name {
-                return true;
-            }
-        }
-        false
+        self.functions.iter().any(|other| other.as_slice() == name)
     }
 
     /// The value that replaces the hole, which is there.
@@ -158,10 +139,8 @@ impl<'a> Names<'a> {
         if spot.scope == Scope::Other && !is_made {
             return None;
         }
-        for one in self.assumed {
-            if one.name == name {
-                return Some(Value::Given(one.value));
-            }
+        if let Some(one) = self.assumed.iter().find(|one| one.name == name) {
+            return Some(Value::Given(one.value));
         }
         if written.first() == Some(&b'@') {
             return None;
@@ -171,30 +150,60 @@ impl<'a> Names<'a> {
             Kind::Make => is_made && fact.spot.site.is_certain && !self.is_open,
             _ => self.is_followed(fact, name, hole, spot),
         };
-        if !is_there {
-            return None;
-        }
         match &fact.value {
-            Some(value) => Some(Value::Written(value)),
-            None => None,
+            Some(value) if is_there => Some(Value::Written(value)),
+            _ => None,
         }
     }
 
     /// Whether the variable with this name has the value there that the file writes.
     fn is_followed(&self, fact: &Fact, name: &[u8], hole: Hole, spot: Spot) -> bool {
-        let open = match spot.scope.text() {
-            Some(text) => self.open.get(&text).copied(),
-            None => None,
-        };
+        let open = spot
+            .scope
+            .text()
+            .and_then(|text| self.open.get(&text).copied());
         // Where the file sets IFS, a value may be split at any byte.
-        let may_split = hole.way.is_split() && self.is_set(b"IFS");
-        let used = Spot {
-            at: hole.start,
-            ..spot
-        };
-        !self.is_open && !may_split && !is_set_by_shell(name) && is_followed(fact, used, open)
+        let may_split = hole.way.is_split() && self.facts.get(b"IFS".as_slice()).is_some();
+        let at = hole.start;
+        let is_kept = is_followed(fact, Spot { at, ..spot }, open);
+        is_kept && !self.is_open && !may_split && !is_set_by_shell(name)
     }
 }
+
+/// Whether a variable that is used has the value which the file writes, whatever the environment, the arguments and the files are:
+///
+/// - The file sets it once, and to a text without expansions.
+/// - That is before the use, in the text that the same shell reads.
+/// - Each run of the text comes to the assignment: it is in no condition, loop, pipe, subshell or group, behind no `&&` or `||`, and
+///   doesn't run beside others. In a function the same holds of its runs, and the use is in that function.
+/// - Before the use no command may set variables that it doesn't name: `.`, `eval` and `trap` of what isn't known, `read`, `export` and
+///   the like with a name that isn't known, references to names, aliases, and a command whose name isn't known. Where the use itself is in
+///   a loop, a function or the like, none may in the whole text. `open` is the offset of the first one that may.
+fn is_followed(fact: &Fact, used: Spot, open: Option<usize>) -> bool {
+    let set = fact.spot;
+    let is_before = set.scope.text() == used.scope.text() && set.at < used.at;
+    let is_reached = set.site.is_certain && (set.site.body == 0 || set.site.body == used.site.body);
+    let is_once = used.site.is_certain && used.site.body == 0;
+    let is_kept = match open {
+        Some(offset) => is_once && used.at < offset,
+        None => true,
+    };
+    is_before && is_reached && is_kept
+}
+
+/// Whether the shell sets the variable by itself.
+fn is_set_by_shell(name: &[u8]) -> bool {
+    SET_BY_SHELL.iter().any(|names| is_among(name, names))
+}
+
+/// Variables that a shell sets by itself.
+static SET_BY_SHELL: &'static [&'static [&'static str]] = &[
+    &["_", "IFS", "PWD", "OLDPWD", "UID", "EUID", "PPID", "GROUPS"],
+    &["REPLY", "OPTARG", "OPTIND", "OPTERR", "LINENO", "MAPFILE"],
+    &["RANDOM", "SRANDOM", "SECONDS", "LINES", "COLUMNS"],
+    &["EPOCHSECONDS", "EPOCHREALTIME"],
+    &["COPROC", "DIRSTACK", "HISTCMD"],
+];
 
 /// The name of the variable whose value replaces all that is written: `$NAME`, `${NAME}`, `@NAME@`, and make's `$(NAME)`.
 pub(crate) fn replaced_name(written: &[u8], kind: Kind) -> Option<&[u8]> {

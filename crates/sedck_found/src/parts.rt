@@ -1,17 +1,15 @@
 //! The commands in the words of a command, which may run others.
 
-use crate::assigning::is_assignment;
-use crate::following::Spot;
-use crate::locale::is_c_locale;
-use crate::names::Names;
+use crate::assigning::{is_assignment, is_c_locale};
+use crate::names::{Names, Spot};
 use crate::programs::{Before, Program, Wrapper, before_command, program_of};
-use crate::units::{byte_at, bytes_of, is_among, is_text};
+use crate::units::bytes_of;
 use sedck_shell::ShellWord;
-use sedck_traced::Unit;
-use std::alloc::{AllocError, Global};
+use sedck_traced::{Result, byte_at, is_one_of};
+use std::alloc::Global;
 
 /// What `find` runs a command for.
-static EXECUTING: &'static [&'static [u8]] = &[b"-exec", b"-execdir", b"-ok", b"-okdir"];
+static EXECUTING: &'static [&'static str] = &["-exec", "-execdir", "-ok", "-okdir"];
 
 /// The most commands that run one another.
 const WRAPPED: usize = 8;
@@ -99,16 +97,11 @@ struct Finder<'a> {
 }
 
 /// The commands in these words of a command.
-pub(crate) fn parts_of(
-    alloc: Global,
-    names: &Names<'_>,
-    words: &[ShellWord],
-    spot: Spot,
-) -> Result<Vec<Part>, AllocError> {
+pub(crate) fn parts_of(names: &Names<'_>, words: &[ShellWord], spot: Spot) -> Result<Vec<Part>> {
     let mut finder = Finder {
         names,
         spot,
-        parts: Vec::new(alloc),
+        parts: Vec::new(names.alloc),
         runner: Runner::Plain,
         unknown: None,
         setter: Setter::Shell,
@@ -120,7 +113,7 @@ pub(crate) fn parts_of(
     };
     for (index, word) in words.iter().enumerate() {
         finder.read(index, word)?;
-        finder.follows_braces = is_text(&word.units, b"{}");
+        finder.follows_braces = word.is("{}");
         if !finder.is_found && matches!(finder.state, State::Word(_) | State::Other) {
             break;
         }
@@ -131,30 +124,41 @@ pub(crate) fn parts_of(
 
 impl Finder<'_> {
     /// Reads the word of this number.
-    fn read(&mut self, index: usize, word: &ShellWord) -> Result<(), AllocError> {
+    fn read(&mut self, index: usize, word: &ShellWord) -> Result<()> {
         match self.state {
-            State::Name => self.read_name(index, word),
-            State::Option(wrapper) => self.read_option(index, word, wrapper),
-            State::Argument(wrapper) => {
-                self.state = State::Option(wrapper);
-                Ok(())
+            State::Name | State::Operand(0) => return self.read_name(index, word),
+            State::Option(wrapper) => return self.read_option(index, word, wrapper),
+            State::Argument(wrapper) => self.state = State::Option(wrapper),
+            State::Operand(count) => self.state = State::Operand(count.saturating_sub(1)),
+            State::Find if is_one_of(&word.units, EXECUTING) => {
+                self.state = State::Name;
+                self.is_found = true;
+                self.runner = Runner::Find;
+                self.wrappers = 0;
+                self.set_by(Setter::Nothing);
             }
-            State::Operand(0) => self.read_name(index, word),
-            State::Operand(count) => {
-                self.state = State::Operand(count.saturating_sub(1));
-                Ok(())
+            State::Find => {}
+            State::Word(_) | State::Other => {
+                let is_end = word.is(";") || (self.follows_braces && word.is("+"));
+                if self.is_found && is_end {
+                    self.end(index)?;
+                    self.state = State::Find;
+                }
             }
-            State::Find => self.read_primary(word),
-            State::Word(_) | State::Other => self.read_word(index, word),
         }
+        Ok(())
     }
 
     /// Reads the name of a command, or an assignment before it.
-    fn read_name(&mut self, index: usize, word: &ShellWord) -> Result<(), AllocError> {
+    fn read_name(&mut self, index: usize, word: &ShellWord) -> Result<()> {
         self.state = State::Name;
-        let is_time = index == 0 && is_text(&word.units, b"-p");
-        if is_time || is_assignment(&word.units) {
-            self.note_locale(&word.units);
+        if is_assignment(&word.units) {
+            if let Some(is_c) = is_c_locale(&word.units) {
+                self.c_locale = is_c && self.is_kept();
+            }
+            return Ok(());
+        }
+        if index == 0 && word.is("-p") {
             return Ok(());
         }
         let program = program_of(self.names, word, self.spot)?;
@@ -179,15 +183,12 @@ impl Finder<'_> {
         Ok(())
     }
 
-    /// Notes what the assignment before a name says of the locale.
-    fn note_locale(&mut self, assignment: &[Unit]) {
-        if let Some(is_c) = is_c_locale(assignment) {
-            let is_kept = match self.setter {
-                Setter::Shell => !self.names.may_fix_locale,
-                Setter::Env => true,
-                Setter::Nothing => false,
-            };
-            self.c_locale = is_c && is_kept;
+    /// Whether an assignment before a name stands.
+    fn is_kept(&self) -> bool {
+        match self.setter {
+            Setter::Shell => !self.names.may_fix_locale,
+            Setter::Env => true,
+            Setter::Nothing => false,
         }
     }
 
@@ -213,12 +214,7 @@ impl Finder<'_> {
     }
 
     /// Reads a word behind the name of a wrapper.
-    fn read_option(
-        &mut self,
-        index: usize,
-        word: &ShellWord,
-        wrapper: Wrapper,
-    ) -> Result<(), AllocError> {
+    fn read_option(&mut self, index: usize, word: &ShellWord, wrapper: Wrapper) -> Result<()> {
         let before = match bytes_of(self.names.alloc, &word.units)? {
             Some(bytes) => {
                 self.note_replacing(index, wrapper, &bytes);
@@ -253,34 +249,8 @@ impl Finder<'_> {
         };
     }
 
-    /// Reads a word of `find`.
-    fn read_primary(&mut self, word: &ShellWord) -> Result<(), AllocError> {
-        let Some(bytes) = bytes_of(self.names.alloc, &word.units)? else {
-            return Ok(());
-        };
-        if is_among(&bytes, EXECUTING) {
-            self.state = State::Name;
-            self.is_found = true;
-            self.runner = Runner::Find;
-            self.wrappers = 0;
-            self.set_by(Setter::Nothing);
-        }
-        Ok(())
-    }
-
-    /// Reads a word of a command, which ends it if `find` runs it.
-    fn read_word(&mut self, index: usize, word: &ShellWord) -> Result<(), AllocError> {
-        let is_end = is_text(&word.units, b";")
-            || (self.follows_braces && is_text(&word.units, b"+"));
-        if self.is_found && is_end {
-            self.end(index)?;
-            self.state = State::Find;
-        }
-        Ok(())
-    }
-
     /// Ends the command before the word of this number.
-    fn end(&mut self, end: usize) -> Result<(), AllocError> {
+    fn end(&mut self, end: usize) -> Result<()> {
         if let State::Word(part) = self.state {
             self.parts.push(Part { end, ..part })?;
         }

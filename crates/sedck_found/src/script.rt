@@ -4,11 +4,10 @@ use crate::conditions::Conditions;
 use crate::found::{FoundScript, OpenHole, Unknown};
 use crate::holes::roles_of;
 use crate::parts::Runner;
-use crate::units::is_among;
 use crate::words::{CallWord, LONGEST};
 use sedck_calls::{Call, CallFault, CallOption, Given, Piece, call_of};
 use sedck_shell::Dialect;
-use sedck_traced::{Hole, Origin, Way, has_hole};
+use sedck_traced::{Hole, Origin, Result, Way, has_hole, is_among, is_name_byte};
 use std::alloc::{AllocError, Global};
 
 /// What is known of a call beside its words.
@@ -30,41 +29,45 @@ pub(crate) fn script_of(
     alloc: Global,
     words: &[CallWord],
     around: Around<'_>,
-) -> Result<FoundScript, AllocError> {
-    let Around {
-        file,
-        dialect,
-        here,
-        ..
-    } = around;
+) -> Result<FoundScript> {
     let mut slices = Vec::new(alloc);
     let mut length = 0usize;
-    let mut is_open = false;
     for word in words {
         slices.push(word.traced.bytes.as_slice())?;
         length = length.saturating_add(word.traced.bytes.len());
-        is_open = is_open || has_hole(&word.traced.origins);
     }
-    // What xargs adds may be the script.
-    is_open = is_open || around.runner == Runner::Adding;
     if length > LONGEST {
         return Ok(FoundScript::Unknown(Unknown::Words));
     }
-    let call = match call_of(alloc, &slices) {
-        Ok(call) => call,
-        Err(CallFault::OutOfMemory) => return Err(AllocError),
-        Err(_) if is_open => return Ok(FoundScript::Unknown(Unknown::Words)),
+    // What xargs adds may be the script.
+    let is_open = around.runner == Runner::Adding
+        || words.iter().any(|word| has_hole(&word.traced.origins));
+    let is_macro = around.dialect == Dialect::Macros;
+    match call_of(alloc, &slices) {
+        Ok(call) => script_in(alloc, call, words, around),
+        Err(CallFault::OutOfMemory) => Err(AllocError),
+        Err(_) if is_open => Ok(FoundScript::Unknown(Unknown::Words)),
         // A bracket of M4 may end a command.
-        Err(_) if dialect == Dialect::Macros => return Ok(FoundScript::Unknown(Unknown::Macro)),
-        Err(fault) => return Ok(FoundScript::Refused(fault)),
-    };
-    if has_foreign(&call.given) {
+        Err(_) if is_macro => Ok(FoundScript::Unknown(Unknown::Macro)),
+        Err(fault) => Ok(FoundScript::Refused(fault)),
+    }
+}
+
+/// The script of a call that a sed takes.
+fn script_in(
+    alloc: Global,
+    call: Call,
+    words: &[CallWord],
+    around: Around<'_>,
+) -> Result<FoundScript> {
+    let is_extended = |item: &Given| matches!(*item, Given::Alone(CallOption::Extended, _));
+    if call.given.iter().any(is_extended) {
         return Ok(FoundScript::Foreign(call));
     }
-    if let Some(unknown) = unknown_words(&call, words, here) {
+    if let Some(unknown) = unknown_words(&call, words, around.here) {
         return Ok(FoundScript::Unknown(unknown));
     }
-    let Some((text, mut holes)) = roles_of(alloc, &call, words, here)? else {
+    let Some((text, mut holes)) = roles_of(alloc, &call, words, around.here)? else {
         return Ok(FoundScript::Unknown(Unknown::Part));
     };
     let conditions = Conditions::of(alloc, &call, words, around.name, around.runner)?;
@@ -73,39 +76,23 @@ pub(crate) fn script_of(
     }
     holes.extend_from_slice(&conditions.holes)?;
     holes.extend_from_slice(around.named)?;
-    let is_macro = dialect == Dialect::Macros
-        && (has_macro_name(&text.bytes) || has_macro_hole(file, &text.origins));
+    let is_macro = around.dialect == Dialect::Macros
+        && (has_macro_name(&text.bytes) || has_macro_hole(around.file, &text.origins));
     if is_macro {
         return Ok(FoundScript::Unknown(Unknown::Macro));
     }
     Ok(FoundScript::Text { call, text, holes })
 }
 
-/// Whether an option changes the language.
-fn has_foreign(given: &[Given]) -> bool {
-    for item in given {
-        if let Given::Alone(CallOption::Extended, _) = *item {
-            return true;
-        }
-    }
-    false
-}
-
 /// Why the script isn't known, if its words say so.
 fn unknown_words(call: &Call, words: &[CallWord], here: Option<&CallWord>) -> Option<Unknown> {
-    let first = match call.pieces.first() {
-        Some(Piece::Text(origin) | Piece::File(origin)) => origin.word,
-        None => return None,
-    };
-    if has_open_word(&call.given, words, first) {
+    let (Piece::Text(origin) | Piece::File(origin)) = call.pieces.first()?;
+    if has_open_word(&call.given, words, origin.word) {
         return Some(Unknown::Words);
     }
-    for piece in &call.pieces {
-        if let Some(unknown) = unknown_piece(*piece, words, here) {
-            return Some(unknown);
-        }
-    }
-    None
+    call.pieces
+        .iter()
+        .find_map(|piece| unknown_piece(*piece, words, here))
 }
 
 /// Whether a word before the script begins with a hole, so that it may be another option, and isn't what an option takes.
@@ -115,18 +102,12 @@ fn has_open_word(given: &[Given], words: &[CallWord], first: usize) -> bool {
             return true;
         }
     }
-    for item in given {
-        if let Given::Operand(number) = *item {
-            let is_open = match words.get(number) {
-                Some(word) => number < first && word.is_hole(0),
-                None => false,
-            };
-            if is_open {
-                return true;
-            }
+    given.iter().any(|item| match *item {
+        Given::Operand(number) if number < first => {
+            words.get(number).is_some_and(|word| word.is_hole(0))
         }
-    }
-    false
+        _ => false,
+    })
 }
 
 /// Why the piece isn't known.
@@ -137,7 +118,7 @@ fn unknown_piece(piece: Piece, words: &[CallWord], here: Option<&CallWord>) -> O
                 Some(word) => word.traced.bytes.get(origin.from..).unwrap_or(&[]),
                 None => &[],
             };
-            let is_known = here.is_some() && is_among(path, &[b"-", b"/dev/stdin"]);
+            let is_known = here.is_some() && is_among(path, &["-", "/dev/stdin"]);
             if is_known { None } else { Some(Unknown::File) }
         }
         Piece::Text(origin) => {
@@ -157,13 +138,11 @@ fn unknown_piece(piece: Piece, words: &[CallWord], here: Option<&CallWord>) -> O
 fn has_macro_name(text: &[u8]) -> bool {
     let mut is_inside = false;
     for (index, byte) in text.iter().enumerate() {
-        if matches!(*byte, b'[' | b']') {
+        let begins_name = !is_inside && is_macro_name(text.get(index..).unwrap_or(&[]));
+        if begins_name || matches!(*byte, b'[' | b']') {
             return true;
         }
-        if !is_inside && is_macro_name(text.get(index..).unwrap_or(&[])) {
-            return true;
-        }
-        is_inside = byte.is_ascii_alphanumeric() || *byte == b'_';
+        is_inside = is_name_byte(*byte);
     }
     false
 }
@@ -174,20 +153,18 @@ fn is_macro_name(text: &[u8]) -> bool {
         [b'_', b'A', b'A'..=b'Z', b'_', ..] | [b'A', b'A'..=b'Z', b'_', ..] => true,
         [b'm', b'4', b'_', ..] | [b'L', b'T', b'_', ..] | [b'P', b'K', b'G', b'_', ..] => true,
         [b'd', b'n', b'l'] => true,
-        [b'd', b'n', b'l', next, ..] => !next.is_ascii_alphanumeric() && *next != b'_',
+        [b'd', b'n', b'l', next, ..] => !is_name_byte(*next),
         _ => false,
     }
 }
 
 /// Whether a hole is a quadrigraph of Autoconf, or a parameter of a macro.
 fn has_macro_hole(file: &[u8], origins: &[Origin]) -> bool {
-    for origin in origins {
-        if let Origin::Hole(hole) = *origin {
-            match file.get(hole.start..hole.end) {
-                Some([b'@', ..] | [b'$', b'0'..=b'9' | b'@' | b'*' | b'#']) => return true,
-                _ => {}
-            }
-        }
-    }
-    false
+    origins.iter().any(|origin| match *origin {
+        Origin::Hole(hole) => matches!(
+            file.get(hole.start..hole.end),
+            Some([b'@', ..] | [b'$', b'0'..=b'9' | b'@' | b'*' | b'#'])
+        ),
+        _ => false,
+    })
 }

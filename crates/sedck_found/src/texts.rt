@@ -1,15 +1,14 @@
 //! The texts of a file, and those in them that are handed to a shell.
 
-use crate::locale::may_fix_locale;
-use crate::mentions::mention_in;
-use crate::names::{Names, Scope};
+use crate::assigning::may_fix_locale;
+use crate::names::{Names, Scope, Spot};
 use crate::parts::{Part, parts_of};
-use crate::programs::Program;
-use crate::units::{byte_at, byte_of, bytes_of, end_of, is_text, start_of};
+use crate::programs::{Program, mention_in};
+use crate::units::{bytes_of, ends_with};
 use sedck_hosts::Kind;
 use sedck_shell::{ShellCommand, ShellWord, read_shell};
-use sedck_traced::{Text, Unit};
-use std::alloc::{AllocError, Global};
+use sedck_traced::{Result, Text, Unit, byte_at, is_text};
+use std::alloc::Global;
 
 /// How many levels of texts in texts are read.
 const LEVELS: usize = 6;
@@ -23,12 +22,18 @@ pub(crate) struct Held {
     pub is_value: bool,
 }
 
+impl Held {
+    /// Where it is.
+    pub fn spot(&self) -> Spot {
+        self.scope.spot(self.command.site, 0)
+    }
+}
+
 /// A text that is read next.
 #[derive(Drop)]
 pub(crate) struct Inner {
     units: Vec<Unit>,
     scope: Scope,
-    is_value: bool,
 }
 
 /// What was read of a file.
@@ -46,7 +51,7 @@ pub(crate) struct Reading<'a> {
 
 impl Reading<'_> {
     /// Reads a text.
-    pub fn read(&mut self, text: Text, scope: Scope, is_value: bool) -> Result<(), AllocError> {
+    pub fn read(&mut self, text: Text, scope: Scope, is_value: bool) -> Result<()> {
         let read = read_shell(self.names.alloc, text, self.names.form)?;
         if !is_value {
             self.unread.extend_from_slice(&read.unread)?;
@@ -58,156 +63,109 @@ impl Reading<'_> {
         }
         for command in read.commands {
             self.note(&command, scope)?;
-            self.hold(command, scope, is_value)?;
+            if may_call(&command.words) {
+                self.held.push(Held {
+                    command,
+                    scope,
+                    is_value,
+                })?;
+            }
         }
         Ok(())
     }
 
-    /// Keeps a command that may call sed.
-    fn hold(
-        &mut self,
-        command: ShellCommand,
-        scope: Scope,
-        is_value: bool,
-    ) -> Result<(), AllocError> {
-        if !may_call(&command.words) {
-            return Ok(());
-        }
-        Ok(
-            self.held.push(Held {
-                command,
-                scope,
-                is_value,
-            })?,
-        )
-    }
-
-    /// Notes that the command isn't understood.
-    fn note_start(&mut self, command: &ShellCommand) -> Result<(), AllocError> {
-        match command.words.first() {
-            Some(first) => Ok(self.unread.push(first.start)?),
-            None => Ok(()),
-        }
-    }
-
     /// Reads the texts in what was read, and those in them.
-    pub fn read_inner(&mut self) -> Result<(), AllocError> {
+    pub fn read_inner(&mut self) -> Result<()> {
         for _ in 0..LEVELS {
             let texts = std::mem::replace(&mut self.inner, Vec::new(self.names.alloc));
             for text in &texts {
-                self.read(Text::Units(&text.units), text.scope, text.is_value)?;
+                self.read(Text::Units(&text.units), text.scope, false)?;
             }
         }
         for text in &self.inner {
             if let Some(first) = text.units.first() {
-                self.unread.push(start_of(*first))?;
+                self.unread.push(first.start())?;
             }
         }
         Ok(())
     }
 
     /// Notes what a command sets, and the texts in it.
-    fn note(&mut self, command: &ShellCommand, scope: Scope) -> Result<(), AllocError> {
-        self.names.may_fix_locale = self.names.may_fix_locale || may_fix_locale(&command.words);
+    fn note(&mut self, command: &ShellCommand, scope: Scope) -> Result<()> {
+        let words = command.words.as_slice();
+        self.names.may_fix_locale |= may_fix_locale(words);
         if self.names.kind != Kind::Make {
             self.names.note_command(command, scope)?;
         }
-        let alloc = self.names.alloc;
-        let spot = Scope::Other.spot(command.site, 0);
-        let parts = parts_of(alloc, &self.names, &command.words, spot)?;
+        let parts = parts_of(&self.names, words, Scope::Other.spot(command.site, 0))?;
         if parts.is_empty() {
-            if let Some(offset) = mention_in(alloc, &command.words)? {
+            if let Some(offset) = mention_in(self.names.alloc, words)? {
                 self.unread.push(offset)?;
             }
         }
         for part in &parts {
-            let from = part.name.saturating_add(1);
-            let words = command.words.get(from..part.end).unwrap_or(&[]);
-            match part.program {
-                Program::Shell => self.note_shell(words, command)?,
-                Program::User => self.note_text(user_text(words), Scope::Other)?,
-                Program::Sourcing => self.note_sourced(command)?,
-                Program::Again => self.note_again(words, *part, command, scope)?,
-                _ => {}
-            }
+            self.note_part(*part, command, scope)?;
         }
         Ok(())
     }
 
-    /// Notes a here-document that `.` reads.
-    fn note_sourced(&mut self, command: &ShellCommand) -> Result<(), AllocError> {
-        match &command.here {
-            Some(_) => self.note_start(command),
-            None => Ok(()),
+    /// Notes the text that a part of a command has for a shell. A here-document that `.` reads isn't understood.
+    fn note_part(&mut self, part: Part, command: &ShellCommand, scope: Scope) -> Result<()> {
+        let Some([name, words @ ..]) = command.words.get(part.name..part.end) else {
+            return Ok(());
+        };
+        match (part.program, command.words.first()) {
+            (Program::Shell, _) => self.note_shell(words, command),
+            (Program::Again, _) => self.note_again(words, name.is("trap"), scope),
+            (Program::User, _) => match user_text(words) {
+                Some(text) => self.note_text(text, Scope::Other),
+                None => Ok(()),
+            },
+            (Program::Sourcing, Some(first)) if command.here.is_some() => {
+                Ok(self.unread.push(first.start)?)
+            }
+            _ => Ok(()),
         }
     }
 
     /// Notes the text that a shell is called with.
-    fn note_shell(
-        &mut self,
-        words: &[ShellWord],
-        command: &ShellCommand,
-    ) -> Result<(), AllocError> {
-        match shell_text(words) {
-            Input::Word(units) => self.note_text(Some(units), Scope::Other),
-            Input::Standard => match &command.here {
-                Some(units) => self.note_text(Some(units), Scope::Other),
-                None => Ok(()),
-            },
-            Input::File => Ok(()),
+    fn note_shell(&mut self, words: &[ShellWord], command: &ShellCommand) -> Result<()> {
+        match (shell_text(words), &command.here) {
+            (Input::Word(units), _) => self.note_text(units, Scope::Other),
+            (Input::Standard, Some(units)) => self.note_text(units, Scope::Other),
+            _ => Ok(()),
         }
     }
 
-    /// Notes the text of `eval` and of `trap`.
-    fn note_again(
-        &mut self,
-        words: &[ShellWord],
-        part: Part,
-        command: &ShellCommand,
-        scope: Scope,
-    ) -> Result<(), AllocError> {
-        let Some(name) = command.words.get(part.name) else {
-            return Ok(());
-        };
-        let is_trap = is_text(&name.units, b"trap");
-        if is_trap && words.len() < 2 {
-            return Ok(());
-        }
-        let scope = match scope {
-            Scope::Own(text) | Scope::Again(text) => Scope::Again(text),
-            Scope::Other => Scope::Other,
+    /// Notes the text of `eval`, or of `trap`, which has other operands behind it.
+    fn note_again(&mut self, words: &[ShellWord], is_trap: bool, scope: Scope) -> Result<()> {
+        let scope = match scope.text() {
+            Some(text) => Scope::Again(text),
+            None => Scope::Other,
         };
         match words {
-            [first] => self.note_text(Some(&first.units), scope),
-            [first, ..] if is_trap => self.note_text(Some(&first.units), scope),
             [] => Ok(()),
+            [_] if is_trap => Ok(()),
+            [first, ..] if is_trap => self.note_text(&first.units, scope),
             _ => {
                 let text = joined(self.names.alloc, words)?;
-                self.note_text(Some(&text), scope)
+                self.note_text(&text, scope)
             }
         }
     }
 
     /// Notes a text, which is read next.
-    fn note_text(&mut self, text: Option<&[Unit]>, scope: Scope) -> Result<(), AllocError> {
-        let Some(text) = text else {
-            return Ok(());
-        };
+    fn note_text(&mut self, text: &[Unit], scope: Scope) -> Result<()> {
         if text.len() > self.left {
-            return match text.first() {
-                Some(first) => Ok(self.unread.push(start_of(*first))?),
-                None => Ok(()),
-            };
+            if let Some(first) = text.first() {
+                self.unread.push(first.start())?;
+            }
+            return Ok(());
         }
         self.left = self.left.saturating_sub(text.len());
         let mut units = Vec::new(self.names.alloc);
         units.extend_from_slice(text)?;
-        self.inner.push(Inner {
-            units,
-            scope,
-            is_value: false,
-        })?;
-        Ok(())
+        Ok(self.inner.push(Inner { units, scope })?)
     }
 }
 
@@ -222,16 +180,15 @@ fn may_call(words: &[ShellWord]) -> bool {
 /// Whether the units end with `sed`.
 fn ends_with_sed(units: &[Unit]) -> bool {
     let from = units.len().saturating_sub(3);
-    is_text(units.get(from..).unwrap_or(&[]), b"sed")
+    is_text(units.get(from..).unwrap_or(&[]), "sed")
 }
 
 /// The words with a space between, as `eval` joins them.
-fn joined(alloc: Global, words: &[ShellWord]) -> Result<Vec<Unit>, AllocError> {
+fn joined(alloc: Global, words: &[ShellWord]) -> Result<Vec<Unit>> {
     let mut text = Vec::new(alloc);
     for word in words {
-        if let Some(last) = text.last() {
-            let offset = end_of(*last);
-            text.push(Unit::Byte(b' ', offset))?;
+        if let Some(end) = text.last().map(|last: &Unit| last.end()) {
+            text.push(Unit::Byte(b' ', end))?;
         }
         text.extend_from_slice(&word.units)?;
     }
@@ -258,7 +215,7 @@ fn shell_text(words: &[ShellWord]) -> Input<'_> {
         } else if matches!(byte_at(&word.units, 0), Some(b'-' | b'+')) {
             is_command = is_command || has_letter(&word.units, b'c');
             is_standard = is_standard || has_letter(&word.units, b's');
-            is_argument = takes_next(&word.units);
+            is_argument = takes_next(word);
         } else if is_command {
             return Input::Word(&word.units);
         } else if is_standard {
@@ -272,33 +229,25 @@ fn shell_text(words: &[ShellWord]) -> Input<'_> {
 
 /// Whether the word is a hyphen and letters, of which one is this one.
 fn has_letter(units: &[Unit], letter: u8) -> bool {
-    if byte_at(units, 0) != Some(b'-') || byte_at(units, 1) == Some(b'-') {
-        return false;
-    }
-    units.iter().any(|unit| byte_of(*unit) == Some(letter))
+    byte_at(units, 0) == Some(b'-')
+        && byte_at(units, 1) != Some(b'-')
+        && units.iter().any(|unit| unit.byte() == Some(letter))
 }
 
 /// Whether the next word is an argument of the option.
-fn takes_next(units: &[Unit]) -> bool {
-    match units.last() {
-        Some(last) if byte_at(units, 1) != Some(b'-') => {
-            matches!(byte_of(*last), Some(b'o' | b'O'))
-        }
-        _ => is_text(units, b"--rcfile") || is_text(units, b"--init-file"),
-    }
+fn takes_next(word: &ShellWord) -> bool {
+    let is_long = byte_at(&word.units, 1) == Some(b'-');
+    let is_options = ends_with(&word.units, b'o') || ends_with(&word.units, b'O');
+    (is_options && !is_long) || word.is("--rcfile") || word.is("--init-file")
 }
 
 /// The text that `su` with these words after its name hands to a shell.
 fn user_text(words: &[ShellWord]) -> Option<&[Unit]> {
-    let mut is_next = false;
-    for word in words {
-        if is_next {
-            return Some(&word.units);
-        }
-        let is_letters = has_letter(&word.units, b'c');
-        is_next = is_text(&word.units, b"--command")
-            || (is_letters
-                && byte_at(&word.units, word.units.len().saturating_sub(1)) == Some(b'c'));
-    }
-    None
+    let option = words.iter().position(|word| {
+        let is_last = has_letter(&word.units, b'c') && ends_with(&word.units, b'c');
+        is_last || word.is("--command")
+    })?;
+    words
+        .get(option.saturating_add(1))
+        .map(|word| word.units.as_slice())
 }

@@ -1,8 +1,8 @@
 //! The values of variables.
 
 use crate::found::KnownValue;
-use sedck_traced::{Origin, Unit, Way};
-use std::alloc::{AllocError, Global};
+use sedck_traced::{Origin, Result, Unit, Way, is_name_byte};
+use std::alloc::Global;
 
 /// The value of a variable.
 #[derive(Clone, Copy)]
@@ -35,8 +35,14 @@ impl Value<'_> {
         match self {
             Value::Given(_) => KnownValue::Given,
             Value::Written(units) => match units.first() {
-                Some(Unit::Byte(_, offset)) if is_made => KnownValue::Made(line_of(lines, *offset)),
-                Some(Unit::Byte(_, offset)) => KnownValue::Line(line_of(lines, *offset)),
+                Some(Unit::Byte(_, offset)) => {
+                    let line = lines.partition_point(|start| *start <= *offset);
+                    if is_made {
+                        KnownValue::Made(line)
+                    } else {
+                        KnownValue::Line(line)
+                    }
+                }
                 _ => KnownValue::Empty,
             },
         }
@@ -56,38 +62,32 @@ impl Value<'_> {
         }
     }
 
+    /// Whether it has one of these bytes.
+    pub fn has_any(self, bytes: &[u8]) -> bool {
+        (0..self.len()).any(|index| match self.get(index) {
+            Some((byte, _)) => bytes.contains(&byte),
+            None => false,
+        })
+    }
+
     /// Whether a shell leaves the value as it is where it comes into a word in this way.
     pub fn is_kept(self, way: Way) -> bool {
-        if way == Way::Several {
-            return false;
-        }
-        for index in 0..self.len() {
-            if let Some((byte, _)) = self.get(index) {
-                if (way.is_made() && is_quoting(byte)) || (way.is_split() && is_splitting(byte)) {
-                    return false;
-                }
-            }
-        }
-        true
+        let is_split = way.is_split() && (self.has_any(BLANKS) || self.has_any(SPECIAL));
+        way != Way::Several && !is_split && !(way.is_made() && self.has_any(QUOTING))
     }
 }
 
-/// The number of the line, from 1, that has the offset.
-fn line_of(lines: &[usize], offset: usize) -> usize {
-    let mut low = 0usize;
-    let mut high = lines.len();
-    for _ in 0..usize::BITS {
-        let middle = low.saturating_add(high.saturating_sub(low) / 2);
-        match lines.get(middle) {
-            Some(start) if middle < high && *start <= offset => low = middle.saturating_add(1),
-            _ => high = middle,
-        }
-    }
-    low
-}
+/// The bytes that separate the words of a value.
+pub(crate) const BLANKS: &[u8] = b" \t\n";
+
+/// Those that may match names of files, or be operators where the value is read.
+pub(crate) const SPECIAL: &[u8] = b"*?[;&|<>()#~{";
+
+/// Those that change what a shell reads, also between double quotes.
+const QUOTING: &[u8] = b"'\"\\$`\n";
 
 /// The offset of each line's first byte.
-pub(crate) fn line_starts(alloc: Global, file: &[u8]) -> Result<Vec<usize>, AllocError> {
+pub(crate) fn line_starts(alloc: Global, file: &[u8]) -> Result<Vec<usize>> {
     let mut starts = Vec::new(alloc);
     starts.push(0usize)?;
     for (index, byte) in file.iter().enumerate() {
@@ -98,26 +98,8 @@ pub(crate) fn line_starts(alloc: Global, file: &[u8]) -> Result<Vec<usize>, Allo
     Ok(starts)
 }
 
-/// Whether the byte changes what a shell reads, also between double quotes.
-fn is_quoting(byte: u8) -> bool {
-    matches!(byte, b'\'' | b'"' | b'\\' | b'$' | b'`' | b'\n')
-}
-
-/// Whether the byte separates the words of a value.
-pub(crate) fn is_blank(byte: u8) -> bool {
-    matches!(byte, b' ' | b'\t' | b'\n')
-}
-
-/// Whether the byte may split a value, match names of files, or be an operator where the value is read.
-fn is_splitting(byte: u8) -> bool {
-    is_blank(byte) || b"*?[;&|<>()#~{".contains(&byte)
-}
-
 /// A value, if the file has each of its bytes.
-pub(crate) fn written_value(
-    alloc: Global,
-    units: &[Unit],
-) -> Result<Option<Vec<Unit>>, AllocError> {
+pub(crate) fn written_value(alloc: Global, units: &[Unit]) -> Result<Option<Vec<Unit>>> {
     let mut value = Vec::new(alloc);
     for unit in units {
         match *unit {
@@ -139,7 +121,7 @@ pub(crate) fn has_placeholder(units: &[Unit]) -> bool {
                 is_open = true;
                 has_name = false;
             }
-            Unit::Byte(byte, _) if byte.is_ascii_alphanumeric() || byte == b'_' => has_name = true,
+            Unit::Byte(byte, _) if is_name_byte(byte) => has_name = true,
             _ => is_open = false,
         }
     }

@@ -1,15 +1,13 @@
 //! The words of a call, each byte with its place in the file.
 
-use crate::following::Spot;
 use crate::found::Followed;
-use crate::names::Names;
-use crate::seds::is_sed_variable;
-use crate::units::end_of;
-use crate::values::{Value, is_blank};
+use crate::names::{Names, Spot};
+use crate::programs::is_sed_variable;
+use crate::values::{BLANKS, SPECIAL, Value};
 use sedck_hosts::Kind;
 use sedck_shell::{Pattern, ShellWord};
-use sedck_traced::{Hole, Origin, Traced, Unit, Way, hole_name};
-use std::alloc::{AllocError, Global};
+use sedck_traced::{Hole, Origin, Result, Traced, Unit, Way, hole_name};
+use std::alloc::Global;
 
 /// A word of a call.
 #[derive(Drop)]
@@ -24,6 +22,17 @@ pub(crate) struct CallWord {
 }
 
 impl CallWord {
+    /// A word that the file has in place of the hole.
+    pub fn of(traced: Traced, hole: Hole) -> CallWord {
+        CallWord {
+            traced,
+            pattern: Pattern::None,
+            start: hole.start,
+            end: hole.end,
+            is_path: false,
+        }
+    }
+
     /// Whether what isn't known is there.
     pub fn is_hole(&self, index: usize) -> bool {
         self.hole_at(index).is_some()
@@ -39,23 +48,16 @@ impl CallWord {
 
     /// Where the file has the word.
     pub fn place(&self) -> Hole {
-        Hole {
-            start: self.start,
-            end: self.end,
-            way: Way::Quoted,
-        }
+        let (start, end, way) = (self.start, self.end, Way::Quoted);
+        Hole { start, end, way }
     }
 
     /// The first hole of which the shell may make several words, or that is there before the shell reads the text.
     pub fn open_hole(&self) -> Option<Hole> {
-        for origin in &self.traced.origins {
-            if let Origin::Hole(hole) = *origin {
-                if hole.way != Way::Quoted {
-                    return Some(hole);
-                }
-            }
-        }
-        None
+        self.traced.origins.iter().find_map(|origin| match *origin {
+            Origin::Hole(hole) if hole.way != Way::Quoted => Some(hole),
+            _ => None,
+        })
     }
 
     /// Puts a hole in place of each such text.
@@ -77,11 +79,10 @@ impl CallWord {
 
     /// Puts a hole in place of the bytes between these indices, if the file has them.
     fn open_between(&mut self, from: usize, end: usize) {
-        let last = end.saturating_sub(1);
-        let (Some(Origin::At(start)), Some(Origin::At(stop))) = (
-            self.traced.origins.get(from).copied(),
-            self.traced.origins.get(last).copied(),
-        ) else {
+        let origins = &mut self.traced.origins;
+        let first = origins.get(from).copied();
+        let last = origins.get(end.saturating_sub(1)).copied();
+        let (Some(Origin::At(start)), Some(Origin::At(stop))) = (first, last) else {
             return;
         };
         let hole = Hole {
@@ -90,7 +91,7 @@ impl CallWord {
             way: Way::Quoted,
         };
         for index in from..end {
-            if let Some(origin) = self.traced.origins.get_mut(index) {
+            if let Some(origin) = origins.get_mut(index) {
                 *origin = Origin::Hole(hole);
             }
             if let Some(byte) = self.traced.bytes.get_mut(index) {
@@ -101,15 +102,7 @@ impl CallWord {
 
     /// Whether nothing of it is known from there on.
     pub fn is_hole_from(&self, from: usize) -> bool {
-        if !self.is_hole(from) {
-            return false;
-        }
-        for index in from..self.traced.origins.len() {
-            if !self.is_hole(index) {
-                return false;
-            }
-        }
-        true
+        self.is_hole(from) && (from..self.traced.origins.len()).all(|index| self.is_hole(index))
     }
 }
 
@@ -122,7 +115,7 @@ pub(crate) fn empty(alloc: Global) -> Traced {
 }
 
 /// Adds a byte.
-pub(crate) fn add(traced: &mut Traced, byte: u8, origin: Origin) -> Result<(), AllocError> {
+pub(crate) fn add(traced: &mut Traced, byte: u8, origin: Origin) -> Result<()> {
     traced.bytes.push(byte)?;
     traced.origins.push(origin)?;
     Ok(())
@@ -142,21 +135,17 @@ pub(crate) struct Filler<'a> {
 
 impl Filler<'_> {
     /// A word with the values that are known.
-    pub fn word(&mut self, word: &ShellWord, spot: Spot) -> Result<CallWord, AllocError> {
-        let mut filled = CallWord {
-            traced: empty(self.names.alloc),
-            pattern: word.pattern,
-            start: word.start,
-            end: match word.units.last() {
-                Some(last) => end_of(*last),
-                None => word.start.saturating_add(2),
-            },
-            is_path: self.is_process(&word.units),
-        };
+    pub fn word(&mut self, word: &ShellWord, spot: Spot) -> Result<CallWord> {
         // What isn't known of a long word doesn't matter.
         let units = word.units.get(..LONGEST).unwrap_or(&word.units);
-        filled.traced = self.filled(units, spot)?;
-        Ok(filled)
+        let spare = word.start.saturating_add(2);
+        Ok(CallWord {
+            traced: self.filled(units, spot)?,
+            pattern: word.pattern,
+            start: word.start,
+            end: word.units.last().map_or(spare, |last| last.end()),
+            is_path: self.is_process(&word.units),
+        })
     }
 
     /// Whether the units begin with the path of a process, as `<(..)` makes it.
@@ -171,63 +160,39 @@ impl Filler<'_> {
     }
 
     /// Units with the values that are known. A word of one unit alone vanishes if that is nothing and isn't quoted.
-    pub fn filled(&mut self, units: &[Unit], spot: Spot) -> Result<Traced, AllocError> {
+    pub fn filled(&mut self, units: &[Unit], spot: Spot) -> Result<Traced> {
         let mut traced = empty(self.names.alloc);
         let is_alone = units.len() == 1;
         for unit in units {
             match *unit {
                 Unit::Byte(byte, offset) => add(&mut traced, byte, Origin::At(offset))?,
                 Unit::Escape(byte, offset) => add(&mut traced, byte, Origin::Escape(offset))?,
-                Unit::Hole(hole) => self.fill(&mut traced, hole, spot, is_alone)?,
+                Unit::Hole(hole) => match self.names.value_of(hole, spot) {
+                    Some(value) if self.fits(value, hole.way, is_alone) => {
+                        self.follow(hole, value)?;
+                        add_value(&mut traced, value)?;
+                    }
+                    _ => add(&mut traced, b'x', Origin::Hole(hole))?,
+                },
             }
         }
         Ok(traced)
     }
 
-    /// Adds the value that replaces the hole, if it is known.
-    fn fill(
-        &mut self,
-        traced: &mut Traced,
-        hole: Hole,
-        spot: Spot,
-        is_alone: bool,
-    ) -> Result<(), AllocError> {
-        match self.names.value_of(hole, spot) {
-            Some(value) if self.fits(value, hole.way, is_alone) => {
-                self.follow(hole, value)?;
-                for index in 0..value.len() {
-                    if let Some((byte, origin)) = value.get(index) {
-                        add(traced, byte, origin)?;
-                    }
-                }
-                Ok(())
-            }
-            _ => add(traced, b'x', Origin::Hole(hole)),
-        }
-    }
-
     /// Whether the value can be put in: a shell makes just one word of it.
     fn fits(&mut self, value: Value<'_>, way: Way, is_alone: bool) -> bool {
-        let length = value.len();
         let start = value.start();
         let is_near = start <= self.reach;
         self.reach = self.reach.saturating_sub(start);
-        is_near
-            && self.spend(length)
-            && !(way.is_split() && is_alone && length == 0)
-            && value.is_kept(way)
+        let vanishes = way.is_split() && is_alone && value.len() == 0;
+        is_near && self.spend(value.len()) && !vanishes && value.is_kept(way)
     }
 
     /// Notes that the hole is replaced by the value.
-    fn follow(&mut self, hole: Hole, value: Value<'_>) -> Result<(), AllocError> {
+    fn follow(&mut self, hole: Hole, value: Value<'_>) -> Result<()> {
         let value = value.source(&self.names.lines, self.names.kind == Kind::Make);
         let Hole { start, end, .. } = hole;
         Ok(self.followed.push(Followed { start, end, value })?)
-    }
-
-    /// The variables that were replaced since this was called.
-    pub fn take_followed(&mut self) -> Vec<Followed> {
-        std::mem::replace(&mut self.followed, Vec::new(self.names.alloc))
     }
 
     /// Whether a value of so many bytes may be put in yet.
@@ -238,73 +203,52 @@ impl Filler<'_> {
     }
 
     /// The words of the value behind its first one: options, if the value is the name of a sed with options. None where that isn't known.
-    pub fn options(&mut self, hole: Hole, spot: Spot) -> Result<Option<Vec<CallWord>>, AllocError> {
-        let alloc = self.names.alloc;
-        let Some(value) = self.names.value_of(hole, spot) else {
-            let written = self.names.written_hole(hole);
-            return match hole_name(written) {
-                Some(name) if self.names.may_be_sed(name) && !is_sed_variable(name) => {
-                    Ok(Some(several(alloc, hole)?))
-                }
-                _ => Ok(None),
-            };
-        };
-        self.follow(hole, value)?;
-        if !hole.way.is_split() {
-            return Ok(Some(Vec::new(alloc)));
+    pub fn options(&mut self, hole: Hole, spot: Spot) -> Result<Option<Vec<CallWord>>> {
+        let mut options = Vec::new(self.names.alloc);
+        if let Some(value) = self.names.value_of(hole, spot) {
+            self.follow(hole, value)?;
+            if !hole.way.is_split() {
+                return Ok(Some(options));
+            }
+            let fits = self.spend(value.len().saturating_mul(WORD));
+            if fits && value.is_kept(Way::MadeQuoted) && !value.has_any(SPECIAL) {
+                return Ok(Some(split_words(self.names.alloc, value, hole)?));
+            }
+        } else {
+            let may_be_sed = |name: &[u8]| self.names.may_be_sed(name) && !is_sed_variable(name);
+            if !hole_name(self.names.written_hole(hole)).is_some_and(may_be_sed) {
+                return Ok(None);
+            }
         }
-        let fits = self.spend(value.len().saturating_mul(WORD));
-        if fits && value.is_kept(Way::MadeQuoted) && !has_pattern(value) {
-            return Ok(Some(split_words(alloc, value, hole)?));
-        }
-        Ok(Some(several(alloc, hole)?))
-    }
-}
-
-/// A word in place of words that aren't known.
-fn several(alloc: Global, hole: Hole) -> Result<Vec<CallWord>, AllocError> {
-    let mut traced = empty(alloc);
-    let way = Way::Several;
-    add(&mut traced, b'x', Origin::Hole(Hole { way, ..hole }))?;
-    let mut options = Vec::new(alloc);
-    options.push(option_word(traced, hole))?;
-    Ok(options)
-}
-
-/// A word of the value of a hole.
-fn option_word(traced: Traced, hole: Hole) -> CallWord {
-    CallWord {
-        traced,
-        pattern: Pattern::None,
-        start: hole.start,
-        end: hole.end,
-        is_path: false,
+        let mut traced = empty(self.names.alloc);
+        let way = Way::Several;
+        add(&mut traced, b'x', Origin::Hole(Hole { way, ..hole }))?;
+        options.push(CallWord::of(traced, hole))?;
+        Ok(Some(options))
     }
 }
 
 /// The most bytes that the words of a call have.
 pub(crate) const LONGEST: usize = 1_048_576;
 
-/// Whether a shell may read the value as a pattern, or as more than words.
-fn has_pattern(value: Value<'_>) -> bool {
+/// Adds the bytes of a value.
+fn add_value(traced: &mut Traced, value: Value<'_>) -> Result<()> {
     for index in 0..value.len() {
-        if let Some((byte, _)) = value.get(index) {
-            if b"*?[;&|<>()#~{".contains(&byte) {
-                return true;
-            }
+        if let Some((byte, origin)) = value.get(index) {
+            add(traced, byte, origin)?;
         }
     }
-    false
+    Ok(())
 }
 
 /// The words of the value behind its first one.
-fn split_words(alloc: Global, value: Value<'_>, hole: Hole) -> Result<Vec<CallWord>, AllocError> {
+fn split_words(alloc: Global, value: Value<'_>, hole: Hole) -> Result<Vec<CallWord>> {
     let mut words = Vec::new(alloc);
     let mut traced = empty(alloc);
     let mut is_name = true;
     for index in 0..value.len().saturating_add(1) {
         if let Some((byte, origin)) = value.get(index) {
-            if !is_blank(byte) {
+            if !BLANKS.contains(&byte) {
                 add(&mut traced, byte, origin)?;
                 continue;
             }
@@ -314,7 +258,7 @@ fn split_words(alloc: Global, value: Value<'_>, hole: Hole) -> Result<Vec<CallWo
         }
         let traced = std::mem::replace(&mut traced, empty(alloc));
         if !is_name {
-            words.push(option_word(traced, hole))?;
+            words.push(CallWord::of(traced, hole))?;
         }
         is_name = false;
     }

@@ -1,17 +1,20 @@
 //! Dockerfiles: the commands of `RUN`, and those of `CMD`, `ENTRYPOINT` and `HEALTHCHECK`.
 
-use crate::docker_lines::{
-    Here, after_first, after_options, here_of, is_escape, is_foreign, uncontinued,
-};
-use crate::docker_lists::{is_list, sed_in_list};
 use crate::host::Host;
-use crate::kind::{Kind, interpreter_kind};
-use crate::parts::{
-    Part, after_any, after_blanks, between, bytes_of, is_ended, lines_of, push_newline, push_part,
-    split_word,
-};
-use sedck_traced::Unit;
-use std::alloc::{AllocError, Global};
+use crate::kind::{Kind, interpreter_kind, program_kind, split_last};
+use crate::parts::{Part, lines_of};
+use sedck_traced::{Result, Unit, has_byte, is_among};
+use std::alloc::Global;
+
+/// A here-document of an instruction.
+#[derive(Clone, Copy)]
+struct Here<'a> {
+    delimiter: &'a [u8],
+    /// Whether tabs before a line are taken off.
+    is_stripped: bool,
+    /// Whether it is the text that the shell reads, since nothing else stands in the instruction.
+    is_script: bool,
+}
 
 /// The state of reading a Dockerfile.
 #[derive(Drop)]
@@ -23,7 +26,7 @@ struct Docker<'a> {
     units: Vec<Unit>,
     /// Whether the next line continues the instruction.
     is_continued: bool,
-    here: Option<Here>,
+    here: Option<Here<'a>>,
     /// Whether the here-document is no shell text.
     is_skipped: bool,
     /// Whether the commands are those of another shell.
@@ -31,7 +34,7 @@ struct Docker<'a> {
 }
 
 /// The shell text of a Dockerfile; none behind a directive that changes how lines are continued.
-pub(crate) fn host_of_docker(alloc: Global, file: &[u8]) -> Result<Host, AllocError> {
+pub(crate) fn host_of_docker(alloc: Global, file: &[u8]) -> Result<Host> {
     let mut docker = Docker {
         alloc,
         file,
@@ -42,38 +45,37 @@ pub(crate) fn host_of_docker(alloc: Global, file: &[u8]) -> Result<Host, AllocEr
         is_skipped: false,
         is_foreign: false,
     };
+    let whole = Part::whole(file);
     let lines = lines_of(alloc, file, false)?;
     for line in &lines {
-        if is_escape(bytes_of(file, *line)) {
-            docker
-                .host
-                .note_unread(file, between(line.end, file.len()))?;
+        if is_escape(line.bytes()) {
+            docker.host.note_unread(whole.from(line.end))?;
             return Ok(docker.host);
         }
         docker.read_line(*line)?;
     }
     if docker.is_continued {
-        docker.end_instruction(between(0, file.len()))?;
+        docker.end_instruction(whole)?;
     }
     Ok(docker.host)
 }
 
-impl Docker<'_> {
+impl<'a> Docker<'a> {
     /// Reads a line.
-    fn read_line(&mut self, line: Part) -> Result<(), AllocError> {
+    fn read_line(&mut self, line: Part<'a>) -> Result<()> {
         if let Some(here) = self.here {
             return self.read_in_here(here, line);
         }
-        if is_ended(self.file, line) {
+        if line.is_ended() {
             return Ok(());
         }
-        let (text, is_continued) = uncontinued(self.file, line);
-        let start = if self.is_continued {
-            text.start
+        let (text, is_continued) = uncontinued(line);
+        let text = if self.is_continued {
+            text
         } else {
-            after_blanks(self.file, text)
+            text.after_blanks()
         };
-        push_part(&mut self.units, self.file, between(start, text.end))?;
+        text.push(&mut self.units)?;
         self.is_continued = is_continued;
         if is_continued {
             return Ok(());
@@ -82,31 +84,30 @@ impl Docker<'_> {
     }
 
     /// Ends an instruction, whose last line is given. Behind `ONBUILD` and `HEALTHCHECK` another one stands.
-    fn end_instruction(&mut self, line: Part) -> Result<(), AllocError> {
+    fn end_instruction(&mut self, line: Part<'a>) -> Result<()> {
         let units = std::mem::replace(&mut self.units, Vec::new(self.alloc));
         let mut rest: &[Unit] = &units;
         for _ in 0..3 {
             let Some(Unit::Byte(_, offset)) = rest.first() else {
                 break;
             };
-            let (name, words) = split_word(self.file, between(*offset, line.end));
+            let (name, words) = line.from(*offset).split_word();
             rest = after_options(after_first(rest));
-            if name.eq_ignore_ascii_case(b"RUN") {
+            let is = |other: &[u8]| name.eq_ignore_ascii_case(other);
+            if is(b"RUN") {
                 return self.read_run(rest, line);
             }
-            if name.eq_ignore_ascii_case(b"CMD") || name.eq_ignore_ascii_case(b"ENTRYPOINT") {
+            if is(b"CMD") || is(b"ENTRYPOINT") {
                 return self.add(rest);
             }
-            if name.eq_ignore_ascii_case(b"SHELL") {
-                self.is_foreign = is_foreign(bytes_of(self.file, words));
+            if is(b"SHELL") {
+                self.is_foreign = is_foreign(words.bytes());
             }
-            if name.eq_ignore_ascii_case(b"COPY") || name.eq_ignore_ascii_case(b"ADD") {
-                self.here = here_of(self.file, rest, line.end);
+            if is(b"COPY") || is(b"ADD") {
+                self.here = here_of(rest, line);
                 self.is_skipped = true;
             }
-            if !name.eq_ignore_ascii_case(b"ONBUILD")
-                && !name.eq_ignore_ascii_case(b"HEALTHCHECK")
-            {
+            if !is(b"ONBUILD") && !is(b"HEALTHCHECK") {
                 break;
             }
         }
@@ -114,28 +115,27 @@ impl Docker<'_> {
     }
 
     /// Reads the command of `RUN`, behind whose last line a here-document may stand.
-    fn read_run(&mut self, command: &[Unit], line: Part) -> Result<(), AllocError> {
-        let found = here_of(self.file, command, line.end);
-        self.here = found;
+    fn read_run(&mut self, command: &[Unit], line: Part<'a>) -> Result<()> {
+        self.here = here_of(command, line);
         self.is_skipped = false;
-        let Some(here) = found else {
-            return self.add(command);
-        };
-        if here.is_script {
-            return Ok(());
+        match self.here {
+            None => self.add(command),
+            Some(here) if here.is_script => Ok(()),
+            Some(_) => {
+                self.units.extend_from_slice(command)?;
+                line.push_newline(&mut self.units)
+            }
         }
-        self.units.extend_from_slice(command)?;
-        push_newline(&mut self.units, self.file, line)
     }
 
     /// Reads a line of a here-document.
-    fn read_in_here(&mut self, here: Here, line: Part) -> Result<(), AllocError> {
+    fn read_in_here(&mut self, here: Here<'a>, line: Part<'a>) -> Result<()> {
         let stripped = if here.is_stripped {
-            between(after_any(self.file, line, b"\t"), line.end)
+            line.after_any(b"\t")
         } else {
             line
         };
-        let is_last = bytes_of(self.file, stripped) == bytes_of(self.file, here.delimiter);
+        let is_last = stripped.bytes() == here.delimiter;
         if is_last {
             self.here = None;
         }
@@ -143,18 +143,18 @@ impl Docker<'_> {
             return Ok(());
         }
         if !here.is_script {
-            push_part(&mut self.units, self.file, line)?;
+            line.push(&mut self.units)?;
         } else if !is_last {
-            push_part(&mut self.units, self.file, stripped)?;
+            stripped.push(&mut self.units)?;
         }
         if is_last {
             return self.end_text();
         }
-        push_newline(&mut self.units, self.file, line)
+        line.push_newline(&mut self.units)
     }
 
     /// Ends a text with a here-document; one with another interpreter's name at its beginning isn't shell text.
-    fn end_text(&mut self) -> Result<(), AllocError> {
+    fn end_text(&mut self) -> Result<()> {
         let units = std::mem::replace(&mut self.units, Vec::new(self.alloc));
         if let Some(Unit::Byte(b'#', offset)) = units.first() {
             let bytes = self.file.get(*offset..).unwrap_or(&[]);
@@ -166,7 +166,7 @@ impl Docker<'_> {
     }
 
     /// Adds a command. A list of JSON's isn't read, since no shell reads it.
-    fn add(&mut self, command: &[Unit]) -> Result<(), AllocError> {
+    fn add(&mut self, command: &[Unit]) -> Result<()> {
         if is_list(command) {
             if let Some(offset) = sed_in_list(self.alloc, command)? {
                 self.host.unread.push(offset)?;
@@ -180,4 +180,209 @@ impl Docker<'_> {
         units.extend_from_slice(command)?;
         self.host.add(units)
     }
+}
+
+/// The units without the word that begins them, and without the blanks behind it.
+fn after_first(units: &[Unit]) -> &[Unit] {
+    let mut is_word = true;
+    for (index, unit) in units.iter().enumerate() {
+        let is_blank = matches!(*unit, Unit::Byte(b' ' | b'\t', _));
+        if is_blank {
+            is_word = false;
+        } else if !is_word {
+            return units.get(index..).unwrap_or(&[]);
+        }
+    }
+    &[]
+}
+
+/// The units without the options before a command.
+fn after_options(units: &[Unit]) -> &[Unit] {
+    let mut rest = units;
+    for _ in 0..32 {
+        if !matches!(rest, [Unit::Byte(b'-', _), Unit::Byte(b'-', _), ..]) {
+            break;
+        }
+        rest = after_first(rest);
+    }
+    rest
+}
+
+/// Whether the words of `SHELL` name another shell than one of POSIX's.
+fn is_foreign(words: &[u8]) -> bool {
+    let mut from = 0usize;
+    let mut quotes = 0usize;
+    for (index, byte) in words.iter().enumerate() {
+        if *byte == b'"' || *byte == b'/' {
+            quotes = quotes.saturating_add(usize::from(*byte == b'"'));
+            if quotes > 1 {
+                let name = words.get(from..index).unwrap_or(&[]);
+                return program_kind(name) != Some(Kind::Shell);
+            }
+            from = index.saturating_add(1);
+        }
+    }
+    true
+}
+
+/// The first here-document of an instruction with this last line. It is shell text by itself if nothing else stands in the instruction.
+fn here_of<'a>(units: &[Unit], line: Part<'a>) -> Option<Here<'a>> {
+    let mut before = b' ';
+    for (index, unit) in units.iter().enumerate() {
+        let Unit::Byte(byte, offset) = *unit else {
+            continue;
+        };
+        if byte == b'<' && before != b'<' {
+            let found = here_at(line.from(offset), index == 0);
+            if found.is_some() {
+                return found;
+            }
+        }
+        before = byte;
+    }
+    None
+}
+
+/// The here-document whose redirection begins the part: `<<`, perhaps `-`, and a name, perhaps quoted.
+fn here_at(whole: Part, is_first: bool) -> Option<Here<'_>> {
+    if !whole.bytes().starts_with(b"<<") {
+        return None;
+    }
+    let hyphen = whole.skip(2);
+    let is_stripped = hyphen.begins_with(b'-');
+    let name = after_quote(hyphen.skip(usize::from(is_stripped)));
+    let behind = name.after_name();
+    if behind.start == name.start {
+        return None;
+    }
+    Some(Here {
+        delimiter: name.to(behind.start).bytes(),
+        is_stripped,
+        is_script: is_first && after_quote(behind).is_ended(),
+    })
+}
+
+/// The part without a quote at its beginning.
+fn after_quote(part: Part) -> Part<'_> {
+    part.skip(usize::from(part.begins_with(b'"') || part.begins_with(b'\'')))
+}
+
+/// Whether the line is a directive that has a backquote continue lines.
+fn is_escape(line: &[u8]) -> bool {
+    let mut rest: &[u8] = b"#escape=`";
+    for byte in line {
+        if matches!(*byte, b' ' | b'\t') {
+            continue;
+        }
+        match rest {
+            [first, others @ ..] if byte.to_ascii_lowercase() == *first => rest = others,
+            _ => return false,
+        }
+    }
+    rest.is_empty()
+}
+
+/// The line without the backslash at its end that continues it, and whether there is one: blanks may follow it.
+fn uncontinued(line: Part) -> (Part<'_>, bool) {
+    let last = line.bytes().iter().rposition(|byte| !b" \t".contains(byte));
+    let end = line.start.saturating_add(last.unwrap_or(0));
+    let is_quoted = end > line.start && has_byte(line.file, end.saturating_sub(1), b'\\');
+    if end < line.end && has_byte(line.file, end, b'\\') && !is_quoted {
+        (line.to(end), true)
+    } else {
+        (line, false)
+    }
+}
+
+/// Where in a list the next byte is.
+#[derive(Clone, Copy)]
+enum Place {
+    /// Before a string.
+    Before,
+    /// In a string.
+    Inside,
+    /// Behind a backslash in a string.
+    Escape,
+    /// Behind a string.
+    Behind,
+    /// Behind the list.
+    End,
+}
+
+/// Where the byte behind this one is; none if no list has it there.
+fn next_place(place: Place, byte: u8) -> Option<Place> {
+    match (place, byte) {
+        (Place::Escape, _) => Some(Place::Inside),
+        (Place::Inside, b'"') => Some(Place::Behind),
+        (Place::Inside, b'\\') => Some(Place::Escape),
+        (Place::Inside, _) => Some(Place::Inside),
+        (_, b' ' | b'\t') => Some(place),
+        (Place::Before, b'"') => Some(Place::Inside),
+        (Place::Before | Place::Behind, b']') => Some(Place::End),
+        (Place::Behind, b',') => Some(Place::Before),
+        _ => None,
+    }
+}
+
+/// Whether the units are a list of strings, and no command of a shell as `[ "$a" = b ]`.
+fn is_list(units: &[Unit]) -> bool {
+    let [Unit::Byte(b'[', _), inner @ ..] = units else {
+        return false;
+    };
+    let mut place = Place::Before;
+    for unit in inner {
+        let Unit::Byte(byte, _) = *unit else {
+            return false;
+        };
+        let Some(next) = next_place(place, byte) else {
+            return false;
+        };
+        place = next;
+    }
+    matches!(place, Place::End)
+}
+
+/// The offset of the first sed in a list: a string that is its name or path, or a call in a string behind the name of a shell.
+fn sed_in_list(alloc: Global, units: &[Unit]) -> Result<Option<usize>> {
+    let mut list = Vec::new(alloc);
+    for unit in units {
+        if let Unit::Byte(byte, _) = *unit {
+            list.push(byte)?;
+        }
+    }
+    let strings = strings_of(alloc, &list)?;
+    let mut has_shell = false;
+    for string in &strings {
+        let (_, name) = split_last(string.bytes(), b'/');
+        if is_among(name, &["sed", "gsed"]) {
+            let index = string.end.saturating_sub(name.len());
+            return Ok(units.get(index).map(|unit| unit.start()));
+        }
+        if has_shell {
+            if let Some(index) = string.mention_of_sed() {
+                return Ok(units.get(index).map(|unit| unit.start()));
+            }
+        }
+        has_shell = has_shell || program_kind(name) == Some(Kind::Shell);
+    }
+    Ok(None)
+}
+
+/// The strings of a list, without their quotes.
+fn strings_of(alloc: Global, list: &[u8]) -> Result<Vec<Part<'_>>> {
+    let mut strings = Vec::new(alloc);
+    let mut string = Part::whole(list);
+    let mut is_inside = false;
+    let mut is_escaped = false;
+    for (index, byte) in list.iter().enumerate() {
+        let is_quote = *byte == b'"' && !is_escaped;
+        is_escaped = *byte == b'\\' && !is_escaped;
+        if is_quote && is_inside {
+            strings.push(string.to(index))?;
+        } else if is_quote {
+            string = string.from(index.saturating_add(1));
+        }
+        is_inside ^= is_quote;
+    }
+    Ok(strings)
 }

@@ -1,14 +1,13 @@
-//! The shell text of a file.
+//! The shell text of a file. That of a source of Autoconf is the whole file, without comments of M4.
 
-use crate::autoconf::host_of_autoconf;
 use crate::docker::host_of_docker;
 use crate::kind::Kind;
 use crate::make::host_of_make;
-use crate::parts::{Part, between, mention_of_sed, push_part};
+use crate::parts::Part;
 use crate::spec::host_of_spec;
 use crate::yaml::host_of_yaml;
-use sedck_traced::Unit;
-use std::alloc::{AllocError, Global};
+use sedck_traced::{Result, Unit, is_among, is_name_byte};
+use std::alloc::Global;
 
 /// An assignment of make's, as `NAME = value`; its value is a text of shell if the name is used in a recipe.
 #[derive(Drop)]
@@ -43,23 +42,20 @@ impl Host {
     }
 
     /// Adds a text, unless it has only blanks and newlines.
-    pub(crate) fn add(&mut self, units: Vec<Unit>) -> Result<(), AllocError> {
-        let mut has_text = false;
-        for unit in &units {
-            if !matches!(*unit, Unit::Byte(b' ' | b'\t' | b'\n' | b'\r', _)) {
-                has_text = true;
-                break;
-            }
-        }
-        if has_text {
+    pub(crate) fn add(&mut self, units: Vec<Unit>) -> Result<()> {
+        let is_blank = units.iter().all(|unit| matches!(
+            *unit,
+            Unit::Byte(b' ' | b'\t' | b'\n' | b'\r', _)
+        ));
+        if !is_blank {
             self.texts.push(units)?;
         }
         Ok(())
     }
 
     /// Notes the first call of sed that seems to be in a part which isn't read.
-    pub(crate) fn note_unread(&mut self, file: &[u8], part: Part) -> Result<(), AllocError> {
-        if let Some(offset) = mention_of_sed(file, part) {
+    pub(crate) fn note_unread(&mut self, part: Part) -> Result<()> {
+        if let Some(offset) = part.mention_of_sed() {
             self.unread.push(offset)?;
         }
         Ok(())
@@ -67,7 +63,7 @@ impl Host {
 }
 
 /// The shell text of a file of this kind; that of a shell script is the whole file.
-pub fn host_of(alloc: Global, kind: Kind, file: &[u8]) -> Result<Host, AllocError> {
+pub fn host_of(alloc: Global, kind: Kind, file: &[u8]) -> Result<Host> {
     let mut host = match kind {
         Kind::Shell => host_of_shell(alloc, file)?,
         Kind::Make => host_of_make(alloc, file)?,
@@ -82,10 +78,45 @@ pub fn host_of(alloc: Global, kind: Kind, file: &[u8]) -> Result<Host, AllocErro
 }
 
 /// The shell text of a shell script.
-fn host_of_shell(alloc: Global, file: &[u8]) -> Result<Host, AllocError> {
+fn host_of_shell(alloc: Global, file: &[u8]) -> Result<Host> {
     let mut host = Host::new(alloc);
     let mut units = Vec::new(alloc);
-    push_part(&mut units, file, between(0, file.len()))?;
+    Part::whole(file).push(&mut units)?;
+    host.add(units)?;
+    Ok(host)
+}
+
+/// Bytes that Autoconf writes in place of one.
+static QUADRIGRAPHS: &'static [&'static str] = &[
+    "@<:@", "@{:@", "@:>@", "@:}@", "@%:@", "@S|@", "@&t@",
+];
+
+/// The shell text of a source of Autoconf.
+fn host_of_autoconf(alloc: Global, file: &[u8]) -> Result<Host> {
+    let mut units = Vec::new(alloc);
+    let mut resume = 0usize;
+    let mut is_comment = false;
+    let mut before = b'\n';
+    for (index, byte) in file.iter().enumerate() {
+        let rest = file.get(index..).unwrap_or(&[]);
+        if *byte == b'\n' {
+            is_comment = false;
+        } else if !is_name_byte(before) {
+            is_comment |= matches!(rest, [b'd', b'n', b'l', next, ..] if !is_name_byte(*next));
+        }
+        before = *byte;
+        if is_comment || index < resume {
+            continue;
+        }
+        let end = index.saturating_add(4);
+        if is_among(file.get(index..end).unwrap_or(&[]), QUADRIGRAPHS) {
+            resume = end;
+            units.push(Unit::made(index, end))?;
+        } else {
+            units.push(Unit::Byte(*byte, index))?;
+        }
+    }
+    let mut host = Host::new(alloc);
     host.add(units)?;
     Ok(host)
 }

@@ -1,6 +1,7 @@
 //! The kinds of files that have shell text.
 
-use crate::parts::{after_blanks, between, is_one_of, split_word};
+use crate::parts::Part;
+use sedck_traced::{is_among, named};
 
 /// A kind of files that have shell text.
 #[derive(Clone, Copy, Debug, PartialEq, Eq)]
@@ -22,127 +23,84 @@ pub enum Kind {
 impl Kind {
     /// The kind with this name on the command line: sh, make, docker, yaml, spec or m4.
     pub fn named(name: &str) -> Option<Kind> {
-        kind_in(LANGUAGES, name.as_bytes())
+        named(LANGUAGES, name.as_bytes())
     }
 }
 
-/// A name, and the kind that it means.
-type Named = (&'static [u8], Kind);
+/// Names, with the kind that they mean.
+type Names = (Kind, &'static [&'static str]);
 
 /// The names of kinds on the command line.
-static LANGUAGES: &'static [Named] = &[
-    (b"sh", Kind::Shell),
-    (b"make", Kind::Make),
-    (b"docker", Kind::Docker),
-    (b"yaml", Kind::Yaml),
-    (b"spec", Kind::Spec),
-    (b"m4", Kind::Autoconf),
+static LANGUAGES: &'static [Names] = &[
+    (Kind::Shell, &["sh"]),
+    (Kind::Make, &["make"]),
+    (Kind::Docker, &["docker"]),
+    (Kind::Yaml, &["yaml"]),
+    (Kind::Spec, &["spec"]),
+    (Kind::Autoconf, &["m4"]),
 ];
 
 /// Names of files that mean something only as they are.
-static WHOLE: &'static [Named] = &[
-    (b"configure.in", Kind::Autoconf),
-    (b"config.status", Kind::Shell),
-    (b"config.status.in", Kind::Shell),
+static WHOLE: &'static [Names] = &[
+    (Kind::Autoconf, &["configure.in"]),
+    (Kind::Shell, &["config.status", "config.status.in"]),
 ];
 
-/// The names of folders, with the names of files that mean something in them alone.
-static IN_FOLDERS: &'static [(&'static [u8], &'static [Named])] = &[
-    (
-        b"debian",
-        &[(b"rules", Kind::Make), (b"config", Kind::Shell)],
-    ),
-    (b"DEBIAN", &[(b"config", Kind::Shell)]),
+/// The names of folders, with names of files that mean something in them alone.
+static IN_FOLDERS: &'static [(&'static str, &'static str, Kind)] = &[
+    ("debian", "rules", Kind::Make),
+    ("debian", "config", Kind::Shell),
+    ("DEBIAN", "config", Kind::Shell),
 ];
-
-/// The names of folders, with what names of files in them begin with.
-static PREFIXES: &'static [(&'static [u8], &'static [u8], Kind)] = &[(
-    b"po",
-    b"Rules-",
-    Kind::Make,
-)];
 
 /// Names of files, or what is behind the last dot of one. The scripts are those of Debian's packages but for one.
-static NAMES: &'static [Named] = &[
-    (b"preinst", Kind::Shell),
-    (b"postinst", Kind::Shell),
-    (b"prerm", Kind::Shell),
-    (b"postrm", Kind::Shell),
-    (b"configure", Kind::Shell),
-    (b"Makefile", Kind::Make),
-    (b"makefile", Kind::Make),
-    (b"GNUmakefile", Kind::Make),
-    (b"Kbuild", Kind::Make),
-    (b"Make-in", Kind::Make),
-    (b"Makevars", Kind::Make),
-    (b"Dockerfile", Kind::Docker),
-    (b"dockerfile", Kind::Docker),
-    (b"Containerfile", Kind::Docker),
+static NAMES: &'static [Names] = &[
+    (Kind::Shell, &["preinst", "postinst", "prerm", "postrm"]),
+    (Kind::Shell, &["configure"]),
+    (Kind::Make, &["Makefile", "makefile", "GNUmakefile"]),
+    (Kind::Make, &["Kbuild", "Make-in", "Makevars"]),
+    (Kind::Docker, &["Dockerfile", "dockerfile"]),
+    (Kind::Docker, &["Containerfile"]),
 ];
 
 /// What is behind the last dot of a name.
-static SUFFIXES: &'static [Named] = &[
-    (b"sh", Kind::Shell),
-    (b"bash", Kind::Shell),
-    (b"ksh", Kind::Shell),
-    (b"dash", Kind::Shell),
-    (b"mk", Kind::Make),
-    (b"mak", Kind::Make),
-    (b"make", Kind::Make),
-    (b"am", Kind::Make),
-    (b"yml", Kind::Yaml),
-    (b"yaml", Kind::Yaml),
-    (b"ac", Kind::Autoconf),
-    (b"m4", Kind::Autoconf),
-    (b"spec", Kind::Spec),
+static SUFFIXES: &'static [Names] = &[
+    (Kind::Shell, &["sh", "bash", "ksh", "dash"]),
+    (Kind::Make, &["mk", "mak", "make", "am"]),
+    (Kind::Yaml, &["yml", "yaml"]),
+    (Kind::Autoconf, &["ac", "m4"]),
+    (Kind::Spec, &["spec"]),
 ];
 
 /// What may be before a dot, whatever is behind it.
-static STEMS: &'static [Named] = &[
-    (b"Makefile", Kind::Make),
-    (b"makefile", Kind::Make),
-    (b"GNUmakefile", Kind::Make),
-    (b"Kbuild", Kind::Make),
-    (b"Makevars", Kind::Make),
-    (b"Rules", Kind::Make),
-    (b"Dockerfile", Kind::Docker),
+static STEMS: &'static [Names] = &[
+    (Kind::Make, &["Makefile", "makefile", "GNUmakefile"]),
+    (Kind::Make, &["Kbuild", "Makevars", "Rules"]),
+    (Kind::Docker, &["Dockerfile"]),
 ];
 
 /// What is behind the last dot of files in other languages, which no makefile has there: `Makefile.PL` is a script of Perl's.
-static OTHERS: &'static [&'static [u8]] = &[
-    b"PL", b"pl", b"pm", b"py", b"rb", b"js", b"ts", b"java", b"c", b"h", b"cc", b"cpp", b"hs",
-    b"html", b"xml", b"json", b"md",
+static OTHERS: &'static [&'static str] = &[
+    "PL", "pl", "pm", "py", "rb", "js", "ts", "java", "c", "h", "cc", "cpp", "hs", "html", "xml",
+    "json", "md",
 ];
 
 /// What may be before `.m4` in a source of Autoconf, behind another dot.
-static BEFORE_M4: &'static [&'static [u8]] = &[b"ac", b"in", b"sh"];
+static BEFORE_M4: &'static [&'static str] = &["ac", "in", "sh"];
 
 /// Names of programs. Shells are there also as they are named when a package is configured.
-static PROGRAMS: &'static [Named] = &[
-    (b"sh", Kind::Shell),
-    (b"bash", Kind::Shell),
-    (b"dash", Kind::Shell),
-    (b"ksh", Kind::Shell),
-    (b"ksh93", Kind::Shell),
-    (b"mksh", Kind::Shell),
-    (b"zsh", Kind::Shell),
-    (b"ash", Kind::Shell),
-    (b"@SHELL@", Kind::Shell),
-    (b"@BASH@", Kind::Shell),
-    (b"@POSIX_SHELL@", Kind::Shell),
-    (b"@SH@", Kind::Shell),
-    (b"make", Kind::Make),
-    (b"gmake", Kind::Make),
-    (b"bmake", Kind::Make),
+static PROGRAMS: &'static [Names] = &[
+    (Kind::Shell, &["sh", "bash", "dash", "ksh", "ksh93"]),
+    (Kind::Shell, &["mksh", "zsh", "ash"]),
+    (Kind::Shell, &["@SHELL@", "@BASH@", "@POSIX_SHELL@", "@SH@"]),
+    (Kind::Make, &["make", "gmake", "bmake"]),
 ];
 
 /// Names of shells that read `$'..'`.
-static DOLLAR_QUOTING: &'static [&'static [u8]] = &[
-    b"bash", b"@BASH@", b"ksh", b"ksh93", b"mksh", b"zsh",
-];
+static DOLLAR_QUOTING: &'static [&'static str] = &["bash", "@BASH@", "ksh", "ksh93", "mksh", "zsh"];
 
 /// Names of programs that run the one that is named next.
-static RUNNERS: &'static [&'static [u8]] = &[b"env", b"busybox"];
+static RUNNERS: &'static [&'static str] = &["env", "busybox"];
 
 /// The kind of a file with this path and these bytes, where it is known by its name or its first line. A shell or make in the first line
 /// says more than the name of a script or a makefile.
@@ -161,10 +119,7 @@ pub fn kind_of(path: &str, bytes: &[u8]) -> Option<Kind> {
 /// with an interpreter. A plain `sh` needn't read it.
 pub fn reads_dollar_quotes(path: &str, bytes: &[u8]) -> bool {
     if bytes.starts_with(b"#!") {
-        return match interpreter(bytes) {
-            Some(name) => is_one_of(name, DOLLAR_QUOTING),
-            None => false,
-        };
+        return interpreter(bytes).is_some_and(|name| is_among(name, DOLLAR_QUOTING));
     }
     let path = path.as_bytes();
     let path = path.strip_suffix(b".in").unwrap_or(path);
@@ -173,39 +128,20 @@ pub fn reads_dollar_quotes(path: &str, bytes: &[u8]) -> bool {
 
 /// What is before the last such byte, and what is behind it; nothing and all if there is none.
 pub(crate) fn split_last(bytes: &[u8], byte: u8) -> (&[u8], &[u8]) {
-    let mut count = 0usize;
-    for found in bytes.iter().rev() {
-        if *found == byte {
-            break;
-        }
-        count = count.saturating_add(1);
-    }
-    let from = bytes.len().saturating_sub(count);
-    (
-        bytes.get(..from.saturating_sub(1)).unwrap_or(&[]),
-        bytes.get(from..).unwrap_or(&[]),
-    )
-}
-
-/// The kind that the list has for the name.
-fn kind_in(list: &[Named], name: &[u8]) -> Option<Kind> {
-    for (other, kind) in list {
-        if *other == name {
-            return Some(*kind);
-        }
-    }
-    None
+    let Some(last) = bytes.iter().rposition(|other| *other == byte) else {
+        return (&[], bytes);
+    };
+    let behind = bytes.get(last.saturating_add(1)..).unwrap_or(&[]);
+    (bytes.get(..last).unwrap_or(&[]), behind)
 }
 
 /// The kind that a file with this name has in this folder alone.
 fn kind_in_folder(folder: &[u8], name: &[u8]) -> Option<Kind> {
-    for (other, files) in IN_FOLDERS {
-        if *other == folder {
-            return kind_in(files, name);
-        }
+    if is_among(folder, &["po"]) && name.starts_with(b"Rules-") {
+        return Some(Kind::Make);
     }
-    for (other, prefix, kind) in PREFIXES {
-        if *other == folder && name.starts_with(prefix) {
+    for (other, file, kind) in IN_FOLDERS {
+        if other.as_bytes() == folder && file.as_bytes() == name {
             return Some(*kind);
         }
     }
@@ -214,7 +150,7 @@ fn kind_in_folder(folder: &[u8], name: &[u8]) -> Option<Kind> {
 
 /// The kind by the file's name, from which `.in` is taken off, and by that of its folder.
 fn named_kind(folder: &[u8], name: &[u8]) -> Option<Kind> {
-    if let Some(kind) = kind_in(WHOLE, name) {
+    if let Some(kind) = named(WHOLE, name) {
         return Some(kind);
     }
     let name = name.strip_suffix(b".in").unwrap_or(name);
@@ -222,10 +158,9 @@ fn named_kind(folder: &[u8], name: &[u8]) -> Option<Kind> {
         return Some(kind);
     }
     let (stem, last) = split_last(name, b'.');
-    match kind_in(NAMES, last) {
-        Some(kind) => Some(kind),
-        None if stem.is_empty() => None,
-        None => dotted_kind(stem, last),
+    match named(NAMES, last) {
+        None if !stem.is_empty() => dotted_kind(stem, last),
+        found => found,
     }
 }
 
@@ -234,43 +169,32 @@ fn named_kind(folder: &[u8], name: &[u8]) -> Option<Kind> {
 fn dotted_kind(stem: &[u8], last: &[u8]) -> Option<Kind> {
     let (before, first) = split_last(stem, b'.');
     let is_lettered = matches!(first.first(), Some(byte) if byte.is_ascii_alphabetic());
-    match kind_in(STEMS, first) {
-        Some(Kind::Make) if is_one_of(last, OTHERS) => None,
+    let may_be_other = !before.is_empty() && is_lettered && !is_among(first, BEFORE_M4);
+    match named(STEMS, first) {
+        Some(Kind::Make) if is_among(last, OTHERS) => None,
         Some(kind) if before.is_empty() => Some(kind),
-        _
-            if matches!(last, b"m4")
-                && !before.is_empty()
-                && is_lettered
-                && !is_one_of(first, BEFORE_M4) => None,
-        _ => kind_in(SUFFIXES, last),
+        _ if may_be_other && is_among(last, &["m4"]) => None,
+        _ => named(SUFFIXES, last),
     }
 }
 
 /// The kind by the first line, which names an interpreter behind `#!`.
 pub(crate) fn interpreter_kind(bytes: &[u8]) -> Option<Kind> {
-    match interpreter(bytes) {
-        Some(name) => program_kind(name),
-        None => None,
-    }
+    program_kind(interpreter(bytes)?)
 }
 
 /// The name of the interpreter in the first line, without the path to it.
 fn interpreter(bytes: &[u8]) -> Option<&[u8]> {
-    let [b'#', b'!', line @ ..] = bytes else {
-        return None;
-    };
-    let mut end = line.len();
-    for (index, byte) in line.iter().enumerate() {
-        if matches!(*byte, b'\n' | b'\r') {
-            end = index;
-            break;
-        }
-    }
-    let mut rest = between(after_blanks(line, between(0, end)), end);
+    let line = bytes.strip_prefix(b"#!")?;
+    let end = line
+        .iter()
+        .position(|byte| b"\n\r".contains(byte))
+        .unwrap_or(line.len());
+    let mut rest = Part::whole(line).to(end).after_blanks();
     for _ in 0..8 {
-        let (word, next) = split_word(line, rest);
+        let (word, next) = rest.split_word();
         let (_, name) = split_last(word, b'/');
-        let is_passed = is_one_of(name, RUNNERS) || name.starts_with(b"-") || name.contains(&b'=');
+        let is_passed = is_among(name, RUNNERS) || name.starts_with(b"-") || name.contains(&b'=');
         if !is_passed {
             return Some(name);
         }
@@ -281,5 +205,5 @@ fn interpreter(bytes: &[u8]) -> Option<&[u8]> {
 
 /// The kind of what a program of this name reads.
 pub(crate) fn program_kind(name: &[u8]) -> Option<Kind> {
-    kind_in(PROGRAMS, name)
+    named(PROGRAMS, name)
 }

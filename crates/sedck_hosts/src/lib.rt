@@ -3,21 +3,12 @@
 //! Nothing is promised of what is read: what comes of it is compared with the file before it is judged.
 #![tactic(auto)]
 
-mod anchors;
-mod autoconf;
-mod blocks;
 mod docker;
-mod docker_lines;
-mod docker_lists;
 mod host;
 mod kind;
 mod make;
-mod make_functions;
-mod make_joins;
-mod make_lines;
 mod make_text;
 mod parts;
-mod quoting;
 mod scalars;
 mod spec;
 mod yaml;

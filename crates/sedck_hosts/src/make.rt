@@ -1,31 +1,94 @@
 //! Makefiles: lines of recipes, `$(shell ..)`, and assignments (POSIX.1-2024 XCU make, and GNU make).
 
 use crate::host::{Assignment, Host};
-use crate::make_lines::{
-    DIRECTIVES, Definition, Effect, Operator, begins_placeholder, definition_at, effect_of,
-    first_of, recipe_start,
-};
-use crate::make_text::{MadeText, Reading, conditional_end, read_make_text};
-use crate::parts::{
-    Part, after_any, after_blanks, between, bytes_of, has_byte, is_ended, is_one_of, lines_of,
-    split_word,
-};
-use sedck_traced::Unit;
-use std::alloc::{AllocError, Global};
-
-/// The words around the value of a variable that has several lines.
-const DEFINE: &[u8] = b"define";
-
-const ENDEF: &[u8] = b"endef";
+use crate::make_text::{MadeText, Reading, after_conditionals, read_make_text, reference_end};
+use crate::parts::{Part, lines_of};
+use sedck_traced::{Result, Unit, is_among, named};
+use std::alloc::Global;
 
 /// The variable whose value begins the lines of recipes in place of a tab.
 const PREFIX: &[u8] = b".RECIPEPREFIX";
 
+/// The name in whose place Autoconf puts an assignment to `MAKE`.
+const SET_MAKE: &[u8] = b"SET_MAKE";
+
+/// Words that may stand before an assignment.
+static MODIFIERS: &'static [&'static str] = &["export", "override", "private"];
+
+/// Words that begin a line which is neither a rule nor an assignment.
+static DIRECTIVES: &'static [&'static str] = &[
+    "ifeq", "ifneq", "ifdef", "ifndef", "if", "else", "endif", "include", "-include", "sinclude",
+    "load", "-load", "vpath", "undefine", "unexport", "endef",
+];
+
+/// What a directive does to the lines behind it.
+#[derive(Clone, Copy)]
+enum Effect {
+    /// They count under a condition only.
+    Begin,
+    /// They count for each value of a name.
+    Loop,
+    /// Those behind it don't any more.
+    End,
+    /// Others count with them that aren't read.
+    Include,
+}
+
+/// Directives of GNU make, and those of Automake.
+static EFFECTS: &'static [(Effect, &'static [&'static str])] = &[
+    (Effect::Begin, &["ifeq", "ifneq", "ifdef", "ifndef", "if"]),
+    (Effect::End, &["endif"]),
+    (Effect::Include, &["include", "-include", "sinclude"]),
+    (Effect::Include, &["load", "-load"]),
+];
+
+/// Directives of BSD's make, without the dot.
+static DOTTED: &'static [(Effect, &'static [&'static str])] = &[
+    (Effect::Begin, &["if", "ifdef", "ifndef"]),
+    (Effect::Begin, &["ifmake", "ifnmake"]),
+    (Effect::Loop, &["for"]),
+    (Effect::End, &["endif", "endfor"]),
+    (Effect::Include, &["include", "-include"]),
+    (Effect::Include, &["sinclude", "dinclude"]),
+];
+
+/// How an assignment sets its name.
+#[derive(Clone, Copy)]
+enum Operator {
+    /// To the value, as `=`, `:=`, `::=` and `:::=` do.
+    Set,
+    /// `?=`: to the value, if nothing else sets it.
+    Conditional,
+    /// `+=`.
+    Append,
+    /// `!=`: to what the shell writes.
+    Shell,
+}
+
+/// The operators of assignments.
+static OPERATORS: &'static [(&'static str, Operator)] = &[
+    ("=", Operator::Set),
+    (":=", Operator::Set),
+    ("::=", Operator::Set),
+    (":::=", Operator::Set),
+    ("?=", Operator::Conditional),
+    ("+=", Operator::Append),
+    ("!=", Operator::Shell),
+];
+
+/// An assignment of a line.
+#[derive(Clone, Copy)]
+struct Definition<'a> {
+    name: Part<'a>,
+    operator: Operator,
+    /// The value, which goes to the line's end.
+    value: Part<'a>,
+}
+
 /// The state of reading a makefile.
 #[derive(Drop)]
-struct Make<'a> {
+struct Make {
     alloc: Global,
-    file: &'a [u8],
     host: Host,
     /// Whether a line that begins with a tab is a recipe, whatever it looks like.
     is_in_rule: bool,
@@ -40,10 +103,9 @@ struct Make<'a> {
 }
 
 /// The shell text of a makefile.
-pub(crate) fn host_of_make(alloc: Global, file: &[u8]) -> Result<Host, AllocError> {
+pub(crate) fn host_of_make(alloc: Global, file: &[u8]) -> Result<Host> {
     let mut make = Make {
         alloc,
-        file,
         host: Host::new(alloc),
         is_in_rule: false,
         defines: 0,
@@ -58,27 +120,26 @@ pub(crate) fn host_of_make(alloc: Global, file: &[u8]) -> Result<Host, AllocErro
     Ok(make.host)
 }
 
-impl Make<'_> {
+impl Make {
     /// Reads a line with those that continue it.
-    fn read_line(&mut self, line: Part) -> Result<(), AllocError> {
-        let start = conditional_end(self.file, line);
-        self.is_marked = start > line.start;
-        let line = between(start, line.end);
-        let statement = after_modifiers(self.file, line);
+    fn read_line(&mut self, whole: Part) -> Result<()> {
+        let line = after_conditionals(whole);
+        self.is_marked = line.start > whole.start;
+        let statement = after_modifiers(line);
         if self.defines > 0 {
             return self.read_in_define(line, statement);
         }
-        let has_tab = bytes_of(self.file, line).starts_with(b"\t");
+        let has_tab = line.bytes().starts_with(b"\t");
         if has_tab && self.is_in_rule {
             return self.add(line, Reading::Recipe);
         }
-        if definition_at(self.file, statement).is_none() {
+        if definition_at(statement).is_none() {
             self.note_effect(statement);
             if has_tab {
                 return self.add(line, Reading::Recipe);
             }
         }
-        if is_ended(self.file, statement) {
+        if statement.is_ended() {
             return Ok(());
         }
         self.read_statement(statement)
@@ -86,102 +147,94 @@ impl Make<'_> {
 
     /// Notes what a directive does to the lines behind it. The names that a loop sets aren't read.
     fn note_effect(&mut self, line: Part) {
-        let effect = effect_of(self.file, line);
-        match effect {
-            Some(Effect::Begin | Effect::Loop) => {
-                self.conditions = self.conditions.saturating_add(1);
-            }
-            Some(Effect::End) => self.conditions = self.conditions.saturating_sub(1),
-            _ => {}
-        }
-        if matches!(effect, Some(Effect::Loop | Effect::Include)) {
-            self.host.is_open = true;
-        }
+        let Some(effect) = effect_of(line) else {
+            return;
+        };
+        self.host.is_open |= matches!(effect, Effect::Loop | Effect::Include);
+        self.conditions = match effect {
+            Effect::Begin | Effect::Loop => self.conditions.saturating_add(1),
+            Effect::End => self.conditions.saturating_sub(1),
+            Effect::Include => self.conditions,
+        };
     }
 
     /// Reads a line between `define` and `endef`.
-    fn read_in_define(&mut self, line: Part, statement: Part) -> Result<(), AllocError> {
-        let (word, _) = split_word(self.file, statement);
-        if word == ENDEF {
+    fn read_in_define(&mut self, line: Part, statement: Part) -> Result<()> {
+        let (word, _) = statement.split_word();
+        if is_among(word, &["endef"]) {
             self.defines = self.defines.saturating_sub(1);
-            return Ok(());
-        }
-        if word == DEFINE {
+        } else if is_among(word, &["define"]) {
             self.defines = self.defines.saturating_add(1);
-            return Ok(());
+        } else {
+            return self.add(line, Reading::Recipe);
         }
-        self.add(line, Reading::Recipe)
+        Ok(())
     }
 
     /// Reads a line that isn't one of a recipe.
-    fn read_statement(&mut self, line: Part) -> Result<(), AllocError> {
-        if let Some(definition) = definition_at(self.file, line) {
+    fn read_statement(&mut self, line: Part) -> Result<()> {
+        if let Some(definition) = definition_at(line) {
             self.is_in_rule = false;
             return self.read_definition(line, definition);
         }
-        let (word, rest) = split_word(self.file, line);
-        if word == DEFINE {
+        let (word, rest) = line.split_word();
+        if is_among(word, &["define"]) {
             self.is_in_rule = false;
             self.defines = 1;
-            let end = first_of(self.file, rest, b" \t=:?+!#");
-            return self.assign_unknown(between(rest.start, end), line);
+            let end = first_of(rest, b" \t=:?+!#");
+            return self.assign_unknown(rest.to(end).bytes(), line);
         }
-        if matches!(word, b"undefine") {
-            let (name, _) = split_word(self.file, rest);
-            let end = rest.start.saturating_add(name.len());
-            self.assign_unknown(between(rest.start, end), line)?;
+        if is_among(word, &["undefine"]) {
+            let (name, _) = rest.split_word();
+            self.assign_unknown(name, line)?;
         }
-        if is_one_of(word, DIRECTIVES) {
+        if is_among(word, DIRECTIVES) {
             return self.add(line, Reading::Value);
         }
         self.read_rule(line)
     }
 
     /// Reads a line with targets, behind which an assignment or a recipe may stand.
-    fn read_rule(&mut self, line: Part) -> Result<(), AllocError> {
-        let colon = first_of(self.file, line, b":#;");
-        if !has_byte(self.file, colon, b':') {
-            self.host.is_open = self.host.is_open || begins_placeholder(self.file, line);
+    fn read_rule(&mut self, line: Part) -> Result<()> {
+        let colon = line.from(first_of(line, b":#;"));
+        if !colon.begins_with(b':') {
+            self.host.is_open |= begins_placeholder(line);
             return self.add(line, Reading::Value);
         }
         self.is_in_rule = true;
-        let rest = between(
-            after_any(self.file, between(colon, line.end), b":"),
-            line.end,
-        );
-        let statement = after_modifiers(self.file, rest);
-        if let Some(definition) = definition_at(self.file, statement) {
+        let rest = colon.after_any(b":");
+        if let Some(definition) = definition_at(after_modifiers(rest)) {
             return self.add_unknown(line, definition);
         }
-        let end = first_of(self.file, rest, b";#");
-        self.add(between(line.start, end), Reading::Value)?;
-        if has_byte(self.file, end, b';') {
-            return self.add(between(end.saturating_add(1), line.end), Reading::Recipe);
+        let behind = line.from(first_of(rest, b";#"));
+        self.add(line.to(behind.start), Reading::Value)?;
+        if behind.begins_with(b';') {
+            return self.add(behind.skip(1), Reading::Recipe);
         }
         Ok(())
     }
 
     /// Adds a line of a recipe, and the arguments of `$(shell ..)` in a line.
-    fn add(&mut self, line: Part, reading: Reading) -> Result<(), AllocError> {
+    fn add(&mut self, line: Part, reading: Reading) -> Result<()> {
         let is_recipe = matches!(reading, Reading::Recipe);
-        let start = if is_recipe {
-            recipe_start(self.file, line)
+        let line = if is_recipe {
+            recipe_command(line)
         } else {
-            line.start
+            line
         };
         let MadeText {
             units,
             arguments,
             unread,
             has_eval,
-        } = read_make_text(self.alloc, self.file, between(start, line.end), reading)?;
+        } = read_make_text(self.alloc, line, reading)?;
         self.note(&unread, has_eval)?;
         if is_recipe {
             self.host.add(units)?;
         }
         for argument in &arguments {
             let reading = Reading::Argument(argument.level);
-            let text = read_make_text(self.alloc, self.file, argument.part, reading)?;
+            let text = read_make_text(self.alloc, argument.part, reading)?;
             self.note(&text.unread, text.has_eval)?;
             self.host.add(text.units)?;
         }
@@ -189,62 +242,59 @@ impl Make<'_> {
     }
 
     /// Notes calls of sed that aren't read, and whether make reads more.
-    fn note(&mut self, unread: &[usize], has_eval: bool) -> Result<(), AllocError> {
-        self.host.is_open = self.host.is_open || has_eval;
-        self.host.unread.extend_from_slice(unread)?;
-        Ok(())
+    fn note(&mut self, unread: &[usize], has_eval: bool) -> Result<()> {
+        self.host.is_open |= has_eval;
+        Ok(self.host.unread.extend_from_slice(unread)?)
     }
 
     /// Reads an assignment. With `!=` its value is shell text; after `+=` and `!=` the value of the name isn't known.
-    fn read_definition(&mut self, line: Part, definition: Definition) -> Result<(), AllocError> {
-        let value = between(definition.value, line.end);
-        if bytes_of(self.file, definition.name) == PREFIX && !is_ended(self.file, value) {
+    fn read_definition(&mut self, line: Part, definition: Definition<'_>) -> Result<()> {
+        let (name, operator) = (definition.name.bytes(), definition.operator);
+        let value = definition.value;
+        if name == PREFIX && !value.is_ended() {
             self.note_prefix(line)?;
         }
-        if matches!(definition.operator, Operator::Append)
-            || !is_known(bytes_of(self.file, definition.name))
-        {
+        if matches!(operator, Operator::Append) || !is_known(name) {
             return self.add_unknown(line, definition);
         }
         self.add(line, Reading::Value)?;
-        let text = read_make_text(self.alloc, self.file, value, Reading::Value)?;
-        if matches!(definition.operator, Operator::Shell) {
+        let text = read_make_text(self.alloc, value, Reading::Value)?;
+        if matches!(operator, Operator::Shell) {
             self.host.add(text.units)?;
-            return self.assign_unknown(definition.name, line);
+            return self.assign_unknown(name, line);
         }
-        let is_certain = matches!(definition.operator, Operator::Set)
-            && self.conditions == 0
-            && !self.is_marked;
-        self.assign(definition.name, text.units, is_certain)
+        let is_set = matches!(operator, Operator::Set);
+        let is_certain = is_set && self.conditions == 0 && !self.is_marked;
+        self.assign(name, text.units, is_certain)
     }
 
     /// Notes the first call of sed behind the line that changes how recipes begin: they aren't read.
-    fn note_prefix(&mut self, line: Part) -> Result<(), AllocError> {
+    fn note_prefix(&mut self, line: Part) -> Result<()> {
         if self.is_prefixed {
             return Ok(());
         }
         self.is_prefixed = true;
-        let rest = between(line.end, self.file.len());
-        self.host.note_unread(self.file, rest)
+        self.host
+            .note_unread(line.between(line.end, line.file.len()))
     }
 
     /// Adds an assignment to a name that isn't known, or of a value that is only a part or for some targets. It isn't read as a text.
-    fn add_unknown(&mut self, line: Part, definition: Definition) -> Result<(), AllocError> {
-        self.add(between(line.start, definition.value), Reading::Value)?;
-        self.add(between(definition.value, line.end), Reading::Unread)?;
-        self.assign_unknown(definition.name, line)
+    fn add_unknown(&mut self, line: Part, definition: Definition<'_>) -> Result<()> {
+        let value = definition.value;
+        self.add(line.to(value.start), Reading::Value)?;
+        self.add(value, Reading::Unread)?;
+        self.assign_unknown(definition.name.bytes(), line)
     }
 
     /// Adds an assignment of a value that isn't known: all of the line is its hole.
-    fn assign_unknown(&mut self, name: Part, line: Part) -> Result<(), AllocError> {
+    fn assign_unknown(&mut self, name: &[u8], line: Part) -> Result<()> {
         let mut value = Vec::new(self.alloc);
         value.push(Unit::made(line.start, line.end))?;
         self.assign(name, value, false)
     }
 
     /// Adds an assignment; one whose name isn't known may be any other.
-    fn assign(&mut self, name: Part, value: Vec<Unit>, is_certain: bool) -> Result<(), AllocError> {
-        let bytes = bytes_of(self.file, name);
+    fn assign(&mut self, bytes: &[u8], value: Vec<Unit>, is_certain: bool) -> Result<()> {
         if !is_known(bytes) {
             self.host.is_open = true;
             return Ok(());
@@ -265,18 +315,90 @@ fn is_known(name: &[u8]) -> bool {
     !name.is_empty() && !name.contains(&b'$') && !name.contains(&b'@')
 }
 
-/// Words that may stand before an assignment.
-static MODIFIERS: &'static [&'static [u8]] = &[b"export", b"override", b"private"];
-
-/// The line without blanks at its beginning, and without such words.
-fn after_modifiers(file: &[u8], line: Part) -> Part {
-    let mut rest = between(after_blanks(file, line), line.end);
+/// The line without blanks at its beginning, and without words that may stand before an assignment.
+fn after_modifiers(line: Part) -> Part<'_> {
+    let mut rest = line.after_blanks();
     for _ in 0..4 {
-        let (word, next) = split_word(file, rest);
-        if !is_one_of(word, MODIFIERS) {
+        let (word, next) = rest.split_word();
+        if !is_among(word, MODIFIERS) {
             break;
         }
         rest = next;
     }
     rest
+}
+
+/// What the line does to those behind it, if it is a directive.
+fn effect_of(line: Part) -> Option<Effect> {
+    if !line.begins_with(b'.') {
+        let end = first_of(line, b" \t#");
+        return named(EFFECTS, line.to(end).bytes());
+    }
+    let name = line.skip(1).after_blanks();
+    let end = name.after_any(b"-").after_name().start;
+    named(DOTTED, name.to(end).bytes())
+}
+
+/// Whether the line begins with a name with `@` around it in whose place any lines may stand.
+fn begins_placeholder(line: Part) -> bool {
+    let name = line.skip(1);
+    let behind = name.after_name();
+    let is_set_make = name.to(behind.start).bytes() == SET_MAKE;
+    line.begins_with(b'@') && behind.begins_with(b'@') && !is_set_make
+}
+
+/// The assignment that the part is, if it is one: a name, blanks, and an operator.
+fn definition_at(whole: Part) -> Option<Definition<'_>> {
+    let mut end = first_of(whole, b" \t=:;#");
+    let before = end.saturating_sub(1);
+    let sign = whole.file.get(before);
+    if whole.from(end).begins_with(b'=') && matches!(sign, Some(b'?' | b'+' | b'!')) {
+        end = before;
+    }
+    if end <= whole.start {
+        return None;
+    }
+    let rest = whole.from(end).after_blanks();
+    for (written, operator) in OPERATORS {
+        if rest.bytes().starts_with(written.as_bytes()) {
+            return Some(Definition {
+                name: whole.to(end),
+                operator: *operator,
+                value: rest.skip(written.len()).after_blanks(),
+            });
+        }
+    }
+    None
+}
+
+/// Where the first of these bytes is that stands outside of references and behind no backslash; the end of the part if there is none.
+fn first_of(part: Part, wanted: &[u8]) -> usize {
+    let mut resume = part.start;
+    for index in part.start..part.end {
+        if index < resume {
+            continue;
+        }
+        match part.file.get(index) {
+            Some(b'$') => resume = reference_end(part.from(index)),
+            Some(b'\\') => resume = index.saturating_add(2),
+            Some(byte) if wanted.contains(byte) => return index,
+            _ => {}
+        }
+    }
+    part.end
+}
+
+/// The command of a recipe's line: what is behind blanks, `@`, `-` and `+`, but not behind the `@` of a name with two of them around it.
+fn recipe_command(line: Part) -> Part<'_> {
+    for index in line.start..line.end {
+        let rest = line.from(index);
+        let name = rest.skip(1);
+        let behind = name.after_name();
+        match line.file.get(index) {
+            Some(b' ' | b'\t' | b'-' | b'+') => {}
+            Some(b'@') if behind.start <= name.start || !behind.begins_with(b'@') => {}
+            _ => return rest,
+        }
+    }
+    line.from(line.end)
 }

@@ -1,64 +1,60 @@
-//! Scalars of YAML on one line.
+//! Scalars of YAML: those on one line, and block scalars.
 
-use crate::parts::{Part, between, bytes_of, end_of, has_byte, is_ended};
-use sedck_traced::Unit;
-use std::alloc::{AllocError, Global};
+use crate::parts::Part;
+use sedck_traced::{Result, Unit};
+use std::alloc::Global;
 
 /// The text of a quoted scalar, whose first quote begins the part; none if it doesn't end there.
-pub(crate) fn quoted_units(
-    alloc: Global,
-    file: &[u8],
-    whole: Part,
-    quote: u8,
-) -> Result<Option<Vec<Unit>>, AllocError> {
+pub(crate) fn quoted_units(alloc: Global, whole: Part, quote: u8) -> Result<Option<Vec<Unit>>> {
     let mut units = Vec::new(alloc);
-    let from = whole.start.saturating_add(1);
-    let mut resume = from;
-    for index in from..whole.end {
+    let inner = whole.skip(1);
+    let mut resume = inner.start;
+    for index in inner.start..inner.end {
         if index < resume {
             continue;
         }
-        let Some(unit) = quoted_unit(file, between(index, whole.end), quote) else {
-            let is_whole = is_ended(file, between(index.saturating_add(1), whole.end));
-            return Ok(if is_whole { Some(units) } else { None });
+        let rest = inner.from(index);
+        let Some(unit) = quoted_unit(rest, quote) else {
+            return Ok(if rest.skip(1).is_ended() {
+                Some(units)
+            } else {
+                None
+            });
         };
-        resume = end_of(unit);
+        resume = unit.end();
         units.push(unit)?;
     }
     Ok(None)
 }
 
 /// The unit that begins the part, between these quotes; none if that is the quote at the end.
-fn quoted_unit(file: &[u8], part: Part, quote: u8) -> Option<Unit> {
-    let next = part.start.saturating_add(1);
-    if has_byte(file, part.start, quote) {
-        let is_pair = quote == b'\'' && next < part.end && has_byte(file, next, quote);
-        return if is_pair {
-            Some(Unit::Byte(quote, next))
-        } else {
-            None
-        };
+fn quoted_unit(part: Part, quote: u8) -> Option<Unit> {
+    let next = part.skip(1);
+    if part.begins_with(quote) {
+        let is_pair = quote == b'\'' && next.start < next.end && next.begins_with(quote);
+        return is_pair.then_some(Unit::Byte(quote, next.start));
     }
-    if quote == b'"' && has_byte(file, part.start, b'\\') {
-        return Some(escaped_unit(file, part.start, next));
+    if quote == b'"' && part.begins_with(b'\\') {
+        return Some(escaped_unit(part));
     }
-    Some(line_unit(file, part))
+    Some(line_unit(part))
 }
 
 /// The unit for which an escape sequence between double quotes stands: a hole where that isn't one byte.
-fn escaped_unit(file: &[u8], index: usize, next: usize) -> Unit {
-    match file.get(next) {
-        Some(byte) if matches!(*byte, b'\\' | b'"' | b'/') => Unit::Byte(*byte, next),
-        Some(b'n') => Unit::Escape(b'\n', index),
-        Some(b't') => Unit::Escape(b'\t', index),
-        _ => Unit::made(index, next.saturating_add(1)),
+fn escaped_unit(part: Part) -> Unit {
+    let next = part.start.saturating_add(1);
+    match part.file.get(next) {
+        Some(byte) if b"\\\"/".contains(byte) => Unit::Byte(*byte, next),
+        Some(b'n') => Unit::Escape(b'\n', part.start),
+        Some(b't') => Unit::Escape(b'\t', part.start),
+        _ => Unit::made(part.start, next.saturating_add(1)),
     }
 }
 
 /// The unit that begins the part of a line: a byte, or an expression as a hole.
-fn line_unit(file: &[u8], part: Part) -> Unit {
-    let end = template_end(file, part);
-    match file.get(part.start) {
+fn line_unit(part: Part) -> Unit {
+    let end = template_end(part);
+    match part.file.get(part.start) {
         Some(byte) if end <= part.start => Unit::Byte(*byte, part.start),
         _ => Unit::made(part.start, end),
     }
@@ -66,8 +62,8 @@ fn line_unit(file: &[u8], part: Part) -> Unit {
 
 /// Where an expression ends that begins the part: `${{ .. }}` of GitHub's, or `$[[ .. ]]` of GitLab's, which are replaced before a
 /// shell runs; 0 if none begins there. One that isn't closed goes to the part's end.
-fn template_end(file: &[u8], part: Part) -> usize {
-    let bytes = bytes_of(file, part);
+fn template_end(part: Part) -> usize {
+    let bytes = part.bytes();
     let closer = if bytes.starts_with(b"${{") {
         b'}'
     } else if bytes.starts_with(b"$[[") {
@@ -76,23 +72,22 @@ fn template_end(file: &[u8], part: Part) -> usize {
         return 0;
     };
     let mut before = b' ';
-    for index in part.start..part.end {
-        let byte = file.get(index).copied().unwrap_or(b' ');
-        if byte == closer && before == closer {
-            return index.saturating_add(1);
+    for (index, byte) in bytes.iter().enumerate() {
+        if *byte == closer && before == closer {
+            return part.start.saturating_add(index).saturating_add(1);
         }
-        before = byte;
+        before = *byte;
     }
     part.end
 }
 
 /// Adds a line, in which expressions are holes.
-pub(crate) fn push_line(units: &mut Vec<Unit>, file: &[u8], line: Part) -> Result<(), AllocError> {
+pub(crate) fn push_line(units: &mut Vec<Unit>, line: Part) -> Result<()> {
     let mut resume = line.start;
     for index in line.start..line.end {
         if index >= resume {
-            let unit = line_unit(file, between(index, line.end));
-            resume = end_of(unit);
+            let unit = line_unit(line.from(index));
+            resume = unit.end();
             units.push(unit)?;
         }
     }
@@ -100,25 +95,79 @@ pub(crate) fn push_line(units: &mut Vec<Unit>, file: &[u8], line: Part) -> Resul
 }
 
 /// The plain scalar that begins the part: it ends before a comment and blanks. None if it is no scalar but a key with its value.
-pub(crate) fn plain_scalar(file: &[u8], whole: Part) -> Option<Part> {
+pub(crate) fn plain_scalar(whole: Part) -> Option<Part<'_>> {
     let mut end = whole.start;
     let mut before = b' ';
-    for index in whole.start..whole.end {
-        let byte = file.get(index).copied().unwrap_or(b' ');
-        let is_blank = matches!(byte, b' ' | b'\t');
+    for (index, byte) in whole.bytes().iter().enumerate() {
+        let is_blank = b" \t".contains(byte);
         if before == b':' && is_blank {
             return None;
         }
-        if byte == b'#' && matches!(before, b' ' | b'\t') {
+        if *byte == b'#' && b" \t".contains(&before) {
             break;
         }
         if !is_blank {
-            end = index.saturating_add(1);
+            end = whole.start.saturating_add(index).saturating_add(1);
         }
-        before = byte;
+        before = *byte;
     }
     if before == b':' {
-        return None;
+        None
+    } else {
+        Some(whole.to(end))
     }
-    Some(between(whole.start, end))
+}
+
+/// The indentation that the header of a block scalar gives, behind `|` or `>`: 0 if it gives none. None if it is no header.
+pub(crate) fn header(whole: Part) -> Option<usize> {
+    let rest = whole.after_any(b"+-123456789");
+    let mut indentation = 0usize;
+    for byte in whole.to(rest.start).bytes() {
+        if byte.is_ascii_digit() {
+            indentation = usize::from(byte.wrapping_sub(b'0'));
+        }
+    }
+    rest.is_ended().then_some(indentation)
+}
+
+/// A block scalar.
+#[derive(Drop)]
+pub(crate) struct Block {
+    pub units: Vec<Unit>,
+    /// How many of its lines aren't blank.
+    pub count: usize,
+    /// The indentation of the node that has it.
+    parent: usize,
+    /// The indentation of its lines, once it is known.
+    indentation: Option<usize>,
+}
+
+impl Block {
+    /// No lines, in a node with this indentation. `given` is the one that the header adds to that.
+    pub fn new(alloc: Global, parent: usize, given: usize) -> Block {
+        Block {
+            units: Vec::new(alloc),
+            count: 0,
+            parent,
+            indentation: (given > 0).then_some(parent.saturating_add(given)),
+        }
+    }
+
+    /// Adds a line without its indentation; answers whether it is one of the block. The first line that isn't blank gives the indentation.
+    pub fn add_line(&mut self, line: Part) -> Result<bool> {
+        let text = line.after_any(b" ");
+        let found = text.start.saturating_sub(line.start);
+        if text.start < line.end {
+            let least = self.indentation.unwrap_or(self.parent.saturating_add(1));
+            if found < least {
+                return Ok(false);
+            }
+            self.indentation = Some(self.indentation.unwrap_or(found));
+            self.count = self.count.saturating_add(1);
+        }
+        let indented = line.skip(self.indentation.unwrap_or(found));
+        push_line(&mut self.units, indented)?;
+        line.push_newline(&mut self.units)?;
+        Ok(true)
+    }
 }

@@ -1,13 +1,10 @@
 //! Spec files of RPM: the sections that are shell text, where macros are holes.
 
 use crate::host::Host;
-use crate::make_lines::reference_end;
-use crate::parts::{
-    Part, QUOTES, after_any, after_blanks, between, bytes_of, is_call_at, is_one_of, lines_of,
-    name_end, push_newline, split_word,
-};
-use sedck_traced::Unit;
-use std::alloc::{AllocError, Global};
+use crate::make_text::reference_end;
+use crate::parts::{Part, QUOTES, lines_of};
+use sedck_traced::{Result, Unit, is_among, named};
+use std::alloc::Global;
 
 /// A macro that isn't closed.
 #[derive(Clone, Copy)]
@@ -20,85 +17,47 @@ struct Open {
     count: usize,
 }
 
-/// What a line that is no directive is by the word that begins it.
+/// What a line is by the word that begins it.
 #[derive(Clone, Copy)]
 enum Sort {
     /// It begins a section of shell text.
     Script,
     /// It begins another section.
     Section,
-    Text,
+    /// It is left out of a section's text ..
+    Directive,
+    /// .. and gives a macro its text.
+    Definition,
 }
 
-/// Words that begin a section of shell text.
-static SCRIPTS: &'static [&'static [u8]] = &[
-    b"%prep",
-    b"%conf",
-    b"%build",
-    b"%install",
-    b"%check",
-    b"%clean",
-    b"%generate_buildrequires",
-    b"%pre",
-    b"%post",
-    b"%preun",
-    b"%postun",
-    b"%pretrans",
-    b"%posttrans",
-    b"%preuntrans",
-    b"%postuntrans",
-    b"%verifyscript",
-    b"%trigger",
-    b"%triggerin",
-    b"%triggerprein",
-    b"%triggerun",
-    b"%triggerpostun",
-    b"%filetriggerin",
-    b"%filetriggerun",
-    b"%filetriggerpostun",
-    b"%transfiletriggerin",
-    b"%transfiletriggerun",
-    b"%transfiletriggerpostun",
+/// The words that begin such lines.
+static WORDS: &'static [(Sort, &'static [&'static str])] = &[
+    (Sort::Script, &["%prep", "%conf", "%build", "%install"]),
+    (Sort::Script, &["%check", "%clean", "%verifyscript"]),
+    (Sort::Script, &["%generate_buildrequires"]),
+    (Sort::Script, &["%pre", "%post", "%preun", "%postun"]),
+    (Sort::Script, &["%pretrans", "%posttrans"]),
+    (Sort::Script, &["%preuntrans", "%postuntrans"]),
+    (Sort::Script, &["%trigger", "%triggerin", "%triggerprein"]),
+    (Sort::Script, &["%triggerun", "%triggerpostun"]),
+    (Sort::Script, &["%filetriggerin", "%filetriggerun"]),
+    (Sort::Script, &["%filetriggerpostun", "%transfiletriggerin"]),
+    (Sort::Script, &["%transfiletriggerun"]),
+    (Sort::Script, &["%transfiletriggerpostun"]),
+    (Sort::Section, &["%files", "%description", "%changelog"]),
+    (Sort::Section, &["%package", "%sourcelist", "%patchlist"]),
+    (Sort::Section, &["%sepolicy"]),
+    (Sort::Directive, &["%if", "%ifarch", "%ifnarch", "%ifos"]),
+    (Sort::Directive, &["%ifnos", "%else", "%elif", "%elifarch"]),
+    (Sort::Directive, &["%elifos", "%endif", "%undefine"]),
+    (Sort::Directive, &["%include", "%dnl"]),
+    (Sort::Definition, &["%define", "%global"]),
 ];
-
-/// Words that begin another section.
-static SECTIONS: &'static [&'static [u8]] = &[
-    b"%files",
-    b"%description",
-    b"%changelog",
-    b"%package",
-    b"%sourcelist",
-    b"%patchlist",
-    b"%sepolicy",
-];
-
-/// Words that begin a line which is left out of a section's text.
-static DIRECTIVES: &'static [&'static [u8]] = &[
-    b"%if",
-    b"%ifarch",
-    b"%ifnarch",
-    b"%ifos",
-    b"%ifnos",
-    b"%else",
-    b"%elif",
-    b"%elifarch",
-    b"%elifos",
-    b"%endif",
-    b"%define",
-    b"%global",
-    b"%undefine",
-    b"%include",
-    b"%dnl",
-];
-
-/// Those that give a macro its text.
-static DEFINITIONS: &'static [&'static [u8]] = &[b"%define", b"%global"];
 
 /// The state of reading a spec file.
 #[derive(Drop)]
-struct Spec<'a> {
+struct Spec {
     alloc: Global,
-    file: &'a [u8],
     host: Host,
     /// The text of the section.
     units: Vec<Unit>,
@@ -118,10 +77,9 @@ struct Spec<'a> {
 }
 
 /// The shell text of a spec file.
-pub(crate) fn host_of_spec(alloc: Global, file: &[u8]) -> Result<Host, AllocError> {
+pub(crate) fn host_of_spec(alloc: Global, file: &[u8]) -> Result<Host> {
     let mut spec = Spec {
         alloc,
-        file,
         host: Host::new(alloc),
         units: Vec::new(alloc),
         is_shell: false,
@@ -136,73 +94,74 @@ pub(crate) fn host_of_spec(alloc: Global, file: &[u8]) -> Result<Host, AllocErro
     for line in &lines {
         spec.read_line(*line)?;
     }
-    spec.end_section(file.len())?;
+    spec.end_section(Part::whole(file).from(file.len()))?;
     Ok(spec.host)
 }
 
-impl Spec<'_> {
+impl Spec {
     /// Reads a line. Blanks may stand before a directive.
-    fn read_line(&mut self, line: Part) -> Result<(), AllocError> {
-        let (word, rest) = split_word(self.file, line);
-        let start = after_blanks(self.file, line);
-        let (directive, _) = split_word(self.file, between(start, line.end));
-        if is_one_of(directive, DIRECTIVES) {
-            self.is_definition = is_one_of(directive, DEFINITIONS);
+    fn read_line(&mut self, line: Part) -> Result<()> {
+        let (word, rest) = line.split_word();
+        let (directive, _) = line.after_blanks().split_word();
+        let sort = named(WORDS, directive);
+        if let Some(Sort::Directive | Sort::Definition) = sort {
+            self.is_definition = matches!(sort, Some(Sort::Definition));
             return self.read_text(line, true);
         }
-        match sort_of(word) {
-            Sort::Script => self.begin_section(line, has_shell(self.file, rest)),
-            Sort::Section => self.begin_section(line, false),
-            Sort::Text => self.read_text(line, self.is_continued),
+        match named(WORDS, word) {
+            Some(Sort::Script) => self.begin_section(line, has_shell(rest)),
+            Some(Sort::Section) => self.begin_section(line, false),
+            _ => self.read_text(line, self.is_continued),
         }
     }
 
     /// Begins a section with this line.
-    fn begin_section(&mut self, line: Part, is_shell: bool) -> Result<(), AllocError> {
-        self.end_section(line.start)?;
+    fn begin_section(&mut self, line: Part, is_shell: bool) -> Result<()> {
+        self.end_section(line)?;
         self.is_shell = is_shell;
         self.is_other = !is_shell;
         Ok(())
     }
 
     /// Reads a line of a section.
-    fn read_text(&mut self, line: Part, is_left_out: bool) -> Result<(), AllocError> {
+    fn read_text(&mut self, line: Part, is_left_out: bool) -> Result<()> {
         self.is_left_out = is_left_out;
-        self.is_continued = is_left_out && bytes_of(self.file, line).ends_with(b"\\");
+        self.is_continued = is_left_out && line.bytes().ends_with(b"\\");
         for index in line.start..line.end {
-            if index < self.resume {
-                continue;
-            }
-            if let Some(byte) = self.file.get(index) {
-                self.read(line.end, index, *byte)?;
+            match line.file.get(index) {
+                Some(byte) if index >= self.resume => self.read(line.from(index), *byte)?,
+                _ => {}
             }
         }
         if self.is_text() {
-            push_newline(&mut self.units, self.file, line)?;
+            line.push_newline(&mut self.units)?;
         }
         Ok(())
     }
 
-    /// Ends the section at this offset, and what is open in it.
-    fn end_section(&mut self, end: usize) -> Result<(), AllocError> {
+    /// Ends the section before this line, and what is open in it.
+    fn end_section(&mut self, line: Part) -> Result<()> {
         let units = std::mem::replace(&mut self.units, Vec::new(self.alloc));
         self.host.add(units)?;
         if let Some(open) = self.open {
-            self.note_macro(open, end)?;
+            self.note_macro(line.between(open.start, line.start))?;
         }
         self.is_continued = false;
         self.open = None;
         Ok(())
     }
 
-    /// Notes a call of sed in a macro with brackets that ends before this offset.
-    fn note_macro(&mut self, open: Open, end: usize) -> Result<(), AllocError> {
-        let is_definition = self.is_left_out && self.is_definition;
-        if self.is_other && !is_definition {
+    /// Notes a call of sed in a macro with brackets, which begins the part.
+    fn note_macro(&mut self, part: Part) -> Result<()> {
+        if self.is_other && !self.is_in_definition() {
             return Ok(());
         }
-        let inner = between(open.start.saturating_add(2), end);
-        self.host.note_unread(self.file, inner)
+        self.host.note_unread(part.skip(2))
+    }
+
+    /// Whether what is read gives a macro its text.
+    fn is_in_definition(&self) -> bool {
+        self.is_left_out && self.is_definition
     }
 
     /// Whether what is read is shell text: outside of macros in a section of it.
@@ -211,74 +170,57 @@ impl Spec<'_> {
     }
 
     /// Adds a unit, if it is shell text.
-    fn add(&mut self, unit: Unit) -> Result<(), AllocError> {
+    fn add(&mut self, unit: Unit) -> Result<()> {
         if self.is_text() {
             self.units.push(unit)?;
         }
         Ok(())
     }
 
-    /// Reads the byte at this offset of a line with this end.
-    fn read(&mut self, end: usize, index: usize, byte: u8) -> Result<(), AllocError> {
+    /// Reads the byte that begins this part of a line.
+    fn read(&mut self, rest: Part, byte: u8) -> Result<()> {
         if let Some(open) = self.open {
-            return self.read_in_macro(open, index, byte);
+            return self.read_in_macro(open, rest, byte);
         }
-        self.note_defined(between(index, end))?;
-        if byte != b'%' {
-            return self.add(Unit::Byte(byte, index));
-        }
-        let next = index.saturating_add(1);
-        let rest = between(next, end);
-        match bytes_of(self.file, rest) {
-            [b'%', ..] => {
-                self.resume = next.saturating_add(1);
-                self.add(Unit::Byte(b'%', next))
-            }
-            [opener, ..] if matches!(*opener, b'{' | b'(' | b'[') => {
-                self.resume = next.saturating_add(1);
-                self.open = Some(Open {
-                    start: index,
-                    opener: *opener,
-                    closer: match *opener {
-                        b'{' => b'}',
-                        b'(' => b')',
-                        _ => b']',
-                    },
-                    count: 0,
-                });
-                Ok(())
-            }
-            _ => {
-                let after = macro_end(self.file, rest);
-                if after <= index {
-                    return self.add(Unit::Byte(b'%', index));
-                }
-                self.resume = after;
-                self.add(Unit::made(index, after))
-            }
-        }
-    }
-
-    /// Notes a call of sed that begins this part of a line in the text of a macro, which isn't read.
-    fn note_defined(&mut self, rest: Part) -> Result<(), AllocError> {
-        let is_definition = self.is_left_out && self.is_definition;
-        if is_definition && is_call_at(self.file, rest, QUOTES) {
+        // What is in the text of a macro isn't read.
+        if self.is_in_definition() && rest.is_call(QUOTES) {
             self.host.unread.push(rest.start)?;
         }
+        if byte != b'%' {
+            return self.add(Unit::Byte(byte, rest.start));
+        }
+        let (opener, closer) = match rest.skip(1).bytes().first() {
+            Some(b'{') => (b'{', b'}'),
+            Some(b'(') => (b'(', b')'),
+            Some(b'[') => (b'[', b']'),
+            _ => {
+                let (unit, end) = percent_unit(rest);
+                self.resume = end;
+                return self.add(unit);
+            }
+        };
+        self.resume = rest.skip(2).start;
+        self.open = Some(Open {
+            start: rest.start,
+            opener,
+            closer,
+            count: 0,
+        });
         Ok(())
     }
 
     /// Reads a byte of a macro with brackets, which may close it. What is in `%(..)` is read by the shell when it is replaced.
-    fn read_in_macro(&mut self, open: Open, index: usize, byte: u8) -> Result<(), AllocError> {
+    fn read_in_macro(&mut self, open: Open, rest: Part, byte: u8) -> Result<()> {
+        let part = rest.between(open.start, rest.start);
         let mut count = open.count;
         if byte == open.closer && count == 0 {
             self.open = None;
             if byte == b')' {
-                self.add_command(between(open.start.saturating_add(2), index))?;
+                self.add_command(part.skip(2))?;
             } else {
-                self.note_macro(open, index)?;
+                self.note_macro(part)?;
             }
-            return self.add(Unit::made(open.start, index.saturating_add(1)));
+            return self.add(Unit::made(open.start, rest.start.saturating_add(1)));
         }
         if byte == open.opener {
             count = count.saturating_add(1);
@@ -290,12 +232,12 @@ impl Spec<'_> {
     }
 
     /// Adds what is in `%(..)`; calls of sed in macros there aren't read.
-    fn add_command(&mut self, inner: Part) -> Result<(), AllocError> {
-        let units = command_units(self.alloc, self.file, inner)?;
+    fn add_command(&mut self, inner: Part) -> Result<()> {
+        let units = command_units(self.alloc, inner)?;
         for unit in &units {
             if let Unit::Hole(hole) = *unit {
-                let within = between(hole.start.saturating_add(2), hole.end);
-                self.host.note_unread(self.file, within)?;
+                let within = inner.between(hole.start, hole.end).skip(2);
+                self.host.note_unread(within)?;
             }
         }
         self.host.add(units)
@@ -303,26 +245,23 @@ impl Spec<'_> {
 }
 
 /// The units of what is in `%(..)`: macros in it are holes.
-fn command_units(alloc: Global, file: &[u8], whole: Part) -> Result<Vec<Unit>, AllocError> {
+fn command_units(alloc: Global, whole: Part) -> Result<Vec<Unit>> {
     let mut units = Vec::new(alloc);
     let mut resume = whole.start;
     for index in whole.start..whole.end {
         if index < resume {
             continue;
         }
-        let next = index.saturating_add(1);
-        match bytes_of(file, between(index, whole.end)) {
-            [b'%', b'%', ..] => {
-                resume = next.saturating_add(1);
-                units.push(Unit::Byte(b'%', next))?;
-            }
+        let rest = whole.from(index);
+        match rest.bytes() {
             [b'%', b'{' | b'(', ..] => {
-                resume = reference_end(file, index, whole.end);
+                resume = reference_end(rest);
                 units.push(Unit::made(index, resume))?;
             }
-            [b'%', ..] if macro_end(file, between(next, whole.end)) > index => {
-                resume = macro_end(file, between(next, whole.end));
-                units.push(Unit::made(index, resume))?;
+            [b'%', ..] => {
+                let (unit, end) = percent_unit(rest);
+                resume = end;
+                units.push(unit)?;
             }
             [byte, ..] => units.push(Unit::Byte(*byte, index))?,
             [] => {}
@@ -331,36 +270,29 @@ fn command_units(alloc: Global, file: &[u8], whole: Part) -> Result<Vec<Unit>, A
     Ok(units)
 }
 
-/// Where the macro's name ends that begins the part, after `?` and `!`; 0 if none does. A name begins with no digit and has three letters
-/// at least.
-fn macro_end(file: &[u8], whole: Part) -> usize {
-    let name = after_any(file, whole, b"?!");
-    let end = name_end(file, between(name, whole.end));
-    let is_number = matches!(file.get(name), Some(b'0'..=b'9'));
-    if is_number || end.saturating_sub(name) < 3 {
-        return 0;
+/// The unit of a percent sign that begins the part, and its end: of a macro without brackets, of `%%`, or of the sign itself.
+fn percent_unit(part: Part) -> (Unit, usize) {
+    let next = part.skip(1);
+    if next.bytes().starts_with(b"%") {
+        return (Unit::Byte(b'%', next.start), next.skip(1).start);
     }
-    end
-}
-
-/// What a line that is no directive is by the word that begins it.
-fn sort_of(word: &[u8]) -> Sort {
-    if is_one_of(word, SCRIPTS) {
-        Sort::Script
-    } else if is_one_of(word, SECTIONS) {
-        Sort::Section
-    } else {
-        Sort::Text
+    let name = next.after_any(b"?!");
+    let end = name.after_name().start;
+    let is_number = matches!(part.file.get(name.start), Some(b'0'..=b'9'));
+    // A name begins with no digit and has three letters at least.
+    if is_number || end.saturating_sub(name.start) < 3 {
+        return (Unit::Byte(b'%', part.start), next.start);
     }
+    (Unit::made(part.start, end), end)
 }
 
 /// Whether a section with these options is run by a shell: with no option `-p`, or one with a shell's path.
-fn has_shell(file: &[u8], options: Part) -> bool {
+fn has_shell(options: Part) -> bool {
     let mut rest = options;
     for _ in 0..8 {
-        let (word, next) = split_word(file, rest);
-        if matches!(word, b"-p") {
-            let (program, _) = split_word(file, next);
+        let (word, next) = rest.split_word();
+        if is_among(word, &["-p"]) {
+            let (program, _) = next.split_word();
             return program.ends_with(b"sh") && !program.ends_with(b"csh");
         }
         rest = next;

@@ -1,36 +1,26 @@
 //! Files of continuous integration: the shell text of the keys that have it.
 
-use crate::anchors::Anchors;
-use crate::blocks::{block_at, header};
 use crate::host::Host;
-use crate::parts::{
-    Part, after_any, after_blanks, between, bytes_of, has_byte, is_ended, is_name_byte, is_one_of,
-    lines_of, split_word,
-};
-use crate::scalars::{plain_scalar, push_line, quoted_units};
-use std::alloc::{AllocError, Global};
+use crate::parts::{Part, lines_of};
+use crate::scalars::{Block, header, plain_scalar, push_line, quoted_units};
+use sedck_traced::{Result, is_among, is_name_byte};
+use std::alloc::Global;
+use std::collections::BTreeMap;
 
 /// Keys whose values are shell text.
-static KEYS: &'static [&'static [u8]] = &[
-    b"run",
-    b"script",
-    b"before_script",
-    b"after_script",
-    b"install",
-    b"before_install",
-    b"after_success",
-    b"after_failure",
-    b"before_deploy",
-    b"after_deploy",
-    b"before_cache",
-    b"bash",
-    b"command",
+static KEYS: &'static [&'static [&'static str]] = &[
+    &["run", "script", "before_script", "after_script"],
+    &["install", "before_install", "before_cache"],
+    &["after_success", "after_failure"],
+    &["before_deploy", "after_deploy"],
+    &["bash", "command"],
 ];
 
 /// How the values of `shell:` begin that name no shell of POSIX's.
-static FOREIGN: &'static [&'static [u8]] = &[
-    b"py", b"pw", b"po", b"pe", b"cmd", b"node", b"ruby", b"fish",
-];
+static FOREIGN: &'static [&'static str] = &["py", "pw", "po", "pe", "cmd", "node", "ruby", "fish"];
+
+/// How often each byte of a file may be looked at as a part of nodes.
+const LOOKED_AT: usize = 8;
 
 /// The sequence that is the value of a key with shell text.
 #[derive(Clone, Copy)]
@@ -43,10 +33,10 @@ struct List {
 
 /// A line without what begins it.
 #[derive(Clone, Copy)]
-struct Line {
+struct Line<'a> {
     number: usize,
     /// What stands behind spaces and the dashes of sequences.
-    text: Part,
+    text: Part<'a>,
     indentation: usize,
     /// The indentation of the text.
     column: usize,
@@ -54,15 +44,28 @@ struct Line {
     dash: Option<usize>,
 }
 
+/// The beginning of a value.
+#[derive(Clone, Copy)]
+struct Value<'a> {
+    /// Its first line ..
+    text: Part<'a>,
+    /// .. and the number of that.
+    number: usize,
+    /// The indentation of the node that has it: of its key, or of the dash before it.
+    parent: usize,
+}
+
 /// The state of reading a file of YAML.
 #[derive(Drop)]
 struct Yaml<'a> {
     alloc: Global,
-    file: &'a [u8],
-    lines: Vec<Part>,
+    lines: Vec<Part<'a>>,
     host: Host,
     list: Option<List>,
-    anchors: Anchors,
+    /// The values before a line that begin with an anchor and weren't read, by its name: shell text may stand elsewhere by their aliases.
+    anchors: BTreeMap<Vec<u8>, Value<'a>>,
+    /// How many bytes of such values may be looked at yet, so that the time stays linear.
+    left: usize,
     /// The indentation of the keys of a step whose `shell:` is no shell of POSIX's.
     foreign: Option<usize>,
     /// The number of the line with which reading goes on.
@@ -70,16 +73,16 @@ struct Yaml<'a> {
 }
 
 /// The shell text of a file of YAML.
-pub(crate) fn host_of_yaml(alloc: Global, file: &[u8]) -> Result<Host, AllocError> {
+pub(crate) fn host_of_yaml(alloc: Global, file: &[u8]) -> Result<Host> {
     let lines = lines_of(alloc, file, false)?;
     let count = lines.len();
     let mut yaml = Yaml {
         alloc,
-        file,
         lines,
         host: Host::new(alloc),
         list: None,
-        anchors: Anchors::new(alloc, file.len()),
+        anchors: BTreeMap::new(alloc),
+        left: file.len().saturating_mul(LOOKED_AT),
         foreign: None,
         resume: 0,
     };
@@ -91,101 +94,84 @@ pub(crate) fn host_of_yaml(alloc: Global, file: &[u8]) -> Result<Host, AllocErro
     Ok(yaml.host)
 }
 
-impl Yaml<'_> {
+impl<'a> Yaml<'a> {
     /// Reads the line of this number.
-    fn read_line(&mut self, number: usize) -> Result<(), AllocError> {
-        let Some(whole) = self.lines.get(number) else {
-            return Ok(());
+    fn read_line(&mut self, number: usize) -> Result<()> {
+        let line = match self.lines.get(number) {
+            Some(whole) if !whole.is_ended() => after_dashes(number, *whole),
+            _ => return Ok(()),
         };
-        let whole = *whole;
-        if is_ended(self.file, whole) {
-            return Ok(());
-        }
-        let line = after_dashes(self.file, number, whole);
         let list = self.list;
         let is_item = self.is_item(line);
-        if key_end(self.file, line.text).is_none() {
-            if is_item {
-                return self.read_value(line, line.dash.unwrap_or(0), line.text);
-            }
-            if let Some(list) = list {
-                return self.read_within(line, list);
-            }
+        if key_end(line.text).is_some() {
+            return self.read_key(line);
         }
-        self.read_key(line)
-    }
-
-    /// Reads a line without a key behind a key with shell text, which isn't an item of its sequence: the value itself, or a part of an
-    /// item.
-    fn read_within(&mut self, line: Line, list: List) -> Result<(), AllocError> {
-        let outer = list.items.unwrap_or(list.key);
-        if line.indentation > outer {
-            return self.read_value(line, line.dash.unwrap_or(outer), line.text);
+        // An item of the sequence, the value itself, or a part of an item.
+        match list.map(|list| list.items.unwrap_or(list.key)) {
+            Some(outer) if is_item || line.indentation > outer => {
+                let parent = line.dash.unwrap_or(outer);
+                self.read_value(value_in(line, line.text, parent))
+            }
+            _ => self.read_key(line),
         }
-        self.read_key(line)
     }
 
     /// Whether the line begins an item of the sequence. Another line may end the sequence.
-    fn is_item(&mut self, line: Line) -> bool {
+    fn is_item(&mut self, line: Line<'a>) -> bool {
         let Some(list) = self.list else {
             return false;
         };
-        let has_dash = line.dash.is_some();
-        let is_item = has_dash
+        let items = list.items.unwrap_or(line.indentation);
+        let is_item = line.dash.is_some()
             && line.indentation >= list.key
-            && list.items.unwrap_or(line.indentation) == line.indentation;
+            && items == line.indentation;
         if is_item {
-            self.list = Some(List {
-                key: list.key,
-                items: Some(line.indentation),
-            });
-        } else if line.indentation <= list.items.unwrap_or(line.indentation) {
+            let (key, items) = (list.key, Some(items));
+            self.list = Some(List { key, items });
+        } else if line.indentation <= items {
             self.list = None;
         }
         is_item
     }
 
     /// Reads a line with a key.
-    fn read_key(&mut self, line: Line) -> Result<(), AllocError> {
-        let Some(end) = key_end(self.file, line.text) else {
-            return self.note_mapping(line);
+    fn read_key(&mut self, line: Line<'a>) -> Result<()> {
+        let Some(end) = key_end(line.text) else {
+            // A mapping in brackets may have a call of sed, as `- {run: sed p}`.
+            if line.text.begins_with(b'{') {
+                return self.host.note_unread(line.text);
+            }
+            return Ok(());
         };
-        let key = unquoted(bytes_of(self.file, between(line.text.start, end)));
-        let after = between(end.saturating_add(1), line.text.end);
-        let value = between(after_blanks(self.file, after), after.end);
+        let key = unquoted(line.text.to(end).bytes());
+        let value = value_in(
+            line,
+            line.text.from(end).skip(1).after_blanks(),
+            line.column,
+        );
         self.end_step(line);
-        if matches!(key, b"shell") && is_foreign(bytes_of(self.file, value)) {
+        if is_among(key, &["shell"]) && is_foreign(value.text.bytes()) {
             self.foreign = Some(line.column);
         }
-        if is_one_of(key, KEYS) && self.foreign != Some(line.column) {
-            self.list = Some(List {
-                key: line.column,
-                items: None,
-            });
-            return self.read_value(line, line.column, value);
+        if KEYS.iter().any(|keys| is_among(key, keys)) && self.foreign != Some(line.column) {
+            let (key, items) = (line.column, None);
+            self.list = Some(List { key, items });
+            return self.read_value(value);
         }
-        if has_byte(self.file, value.start, b'&') {
-            let (number, column) = (line.number, line.column);
-            self.anchors
-                .note(self.alloc, self.file, value, number, column)?;
+        if value.text.begins_with(b'&') {
+            let mut name = Vec::new(self.alloc);
+            name.extend_from_slice(anchor_of(value.text))?;
+            self.anchors.insert(name, value)?;
         }
-        let value = after_anchor(self.file, value);
-        match self.file.get(value.start) {
-            Some(b'|' | b'>') => self.read_block(line, line.column, value, 0),
-            _ => Ok(()),
-        }
-    }
-
-    /// Notes a call of sed in a mapping in brackets that begins the line, as `- {run: sed p}`.
-    fn note_mapping(&mut self, line: Line) -> Result<(), AllocError> {
-        if has_byte(self.file, line.text.start, b'{') {
-            return self.host.note_unread(self.file, line.text);
+        let value = after_anchor(value);
+        if value.text.begins_with(b'|') || value.text.begins_with(b'>') {
+            return self.read_block(value, 0);
         }
         Ok(())
     }
 
     /// Forgets the `shell:` of a step that the line ends.
-    fn end_step(&mut self, line: Line) {
+    fn end_step(&mut self, line: Line<'a>) {
         if let Some(column) = self.foreign {
             if line.column < column || (line.dash.is_some() && line.column <= column) {
                 self.foreign = None;
@@ -193,186 +179,207 @@ impl Yaml<'_> {
         }
     }
 
-    /// Reads a value of shell text, in a node with this indentation; an anchor may stand before it. Nothing is there before a sequence.
-    /// A folded block is a text only if it has one line, since newlines become spaces in it. The node of an alias isn't read.
-    fn read_value(&mut self, line: Line, parent: usize, value: Part) -> Result<(), AllocError> {
-        let value = after_anchor(self.file, value);
-        if is_ended(self.file, value) {
+    /// Reads a value of shell text; an anchor may stand before it. Nothing is there before a sequence. A folded block is a text only if it
+    /// has one line, since newlines become spaces in it. The node of an alias isn't read.
+    fn read_value(&mut self, value: Value<'a>) -> Result<()> {
+        let value = after_anchor(value);
+        if value.text.is_ended() {
             return Ok(());
         }
-        if has_byte(self.file, value.start, b'*') {
-            self.note_alias(value)?;
+        if value.text.begins_with(b'*') {
+            self.note_alias(value.text)?;
         }
-        match self.file.get(value.start) {
-            Some(b'|') => self.read_block(line, parent, value, usize::MAX),
-            Some(b'>') => self.read_block(line, parent, value, 1),
-            Some(quote) if matches!(*quote, b'\'' | b'"') => {
-                match quoted_units(self.alloc, self.file, value, *quote)? {
+        match value.text.file.get(value.text.start) {
+            Some(b'|') => self.read_block(value, usize::MAX),
+            Some(b'>') => self.read_block(value, 1),
+            Some(quote) if b"'\"".contains(quote) => {
+                match quoted_units(self.alloc, value.text, *quote)? {
                     Some(units) => self.host.add(units),
-                    None => self.pass_value(line, parent, value),
+                    None => self.pass_value(value),
                 }
             }
-            Some(b'[' | b'{' | b'*' | b'!' | b'%' | b'@' | b'`') => {
-                self.pass_value(line, parent, value)
-            }
-            _ => self.read_plain(line, parent, value),
+            Some(sign) if b"[{*!%@`".contains(sign) => self.pass_value(value),
+            _ => self.read_plain(value),
         }
     }
 
-    /// Notes a call of sed in the node of the alias that begins the value.
-    fn note_alias(&mut self, value: Part) -> Result<(), AllocError> {
-        let Some(node) = self.anchors.take(self.file, &self.lines, value) else {
+    /// Notes a call of sed in the node, with its anchor, of the alias that begins the text. Where no more may be looked at, the end of the
+    /// node isn't known.
+    fn note_alias(&mut self, alias: Part<'a>) -> Result<()> {
+        let Some(anchor) = self.anchors.remove(anchor_of(alias)) else {
             return Ok(());
         };
-        if self.anchors.is_spent() {
-            self.host.unread.push(node.start)?;
-            return Ok(());
+        let mut end = anchor.text.start;
+        let lines = self.lines.get(anchor.number..).unwrap_or(&[]);
+        for (index, line) in lines.iter().enumerate() {
+            if self.left == 0 || (index > 0 && is_behind(*line, anchor.parent)) {
+                break;
+            }
+            self.left = self.left.saturating_sub(line.end.saturating_sub(end));
+            end = line.end;
         }
-        self.host.note_unread(self.file, node)
+        if self.left == 0 {
+            return Ok(self.host.unread.push(anchor.text.start)?);
+        }
+        self.host.note_unread(anchor.text.to(end))
+    }
+
+    /// The number of the line behind the value, which begins another node.
+    fn line_behind(&self, value: Value<'a>) -> usize {
+        let from = value.number.saturating_add(1);
+        let lines = self.lines.get(from..).unwrap_or(&[]);
+        match lines.iter().position(|line| is_node(*line, value.parent)) {
+            Some(index) => from.saturating_add(index),
+            None => self.lines.len(),
+        }
     }
 
     /// Passes a value that isn't read, with the lines that belong to it, and notes a call of sed in it.
-    fn pass_value(&mut self, line: Line, parent: usize, value: Part) -> Result<(), AllocError> {
-        self.resume = self.lines.len();
-        for number in line.number.saturating_add(1)..self.lines.len() {
-            match self.lines.get(number) {
-                Some(next) if is_node(self.file, *next, parent) => {
-                    self.resume = number;
-                    break;
-                }
-                _ => {}
-            }
-        }
-        self.note_lines(value.start)
+    fn pass_value(&mut self, value: Value<'a>) -> Result<()> {
+        self.resume = self.line_behind(value);
+        self.note_lines(value)
     }
 
-    /// Notes a call of sed between this offset and the line with which reading goes on.
-    fn note_lines(&mut self, start: usize) -> Result<(), AllocError> {
+    /// Notes a call of sed in the value, which ends before the line with which reading goes on.
+    fn note_lines(&mut self, value: Value<'a>) -> Result<()> {
         match self.lines.get(self.resume.saturating_sub(1)) {
-            Some(last) => {
-                let part = between(start, last.end);
-                self.host.note_unread(self.file, part)
-            }
+            Some(last) => self.host.note_unread(value.text.to(last.end)),
             None => Ok(()),
         }
     }
 
     /// Reads a block scalar, which is a text if no more of its lines have text; with none it is no shell text at all.
-    fn read_block(
-        &mut self,
-        line: Line,
-        parent: usize,
-        value: Part,
-        most: usize,
-    ) -> Result<(), AllocError> {
-        let rest = between(value.start.saturating_add(1), value.end);
-        let Some(given) = header(self.file, rest) else {
+    fn read_block(&mut self, value: Value<'a>, most: usize) -> Result<()> {
+        let Some(given) = header(value.text.skip(1)) else {
             return if most > 0 {
-                self.pass_value(line, parent, value)
+                self.pass_value(value)
             } else {
                 Ok(())
             };
         };
-        let from = line.number.saturating_add(1);
-        let block = block_at(self.alloc, self.file, &self.lines, from, parent, given)?;
-        self.resume = block.next;
+        let mut block = Block::new(self.alloc, value.parent, given);
+        self.resume = self.lines.len();
+        for number in value.number.saturating_add(1)..self.lines.len() {
+            if let Some(line) = self.lines.get(number) {
+                if !block.add_line(*line)? {
+                    self.resume = number;
+                    break;
+                }
+            }
+        }
         if block.count <= most {
             return self.host.add(block.units);
         }
         if most > 0 {
-            return self.note_lines(value.start);
+            return self.note_lines(value);
         }
         Ok(())
     }
 
     /// Reads a plain scalar, unless it goes on on the next line.
-    fn read_plain(&mut self, line: Line, parent: usize, value: Part) -> Result<(), AllocError> {
-        let Some(scalar) = plain_scalar(self.file, value) else {
-            return self.pass_value(line, parent, value);
-        };
-        for number in line.number.saturating_add(1)..self.lines.len() {
-            match self.lines.get(number) {
-                Some(next) if is_node(self.file, *next, parent) => break,
-                Some(next) if !is_ended(self.file, *next) => {
-                    return self.pass_value(line, parent, value);
-                }
-                _ => {}
+    fn read_plain(&mut self, value: Value<'a>) -> Result<()> {
+        let from = value.number.saturating_add(1);
+        let others = self.lines.get(from..self.line_behind(value)).unwrap_or(&[]);
+        let goes_on = others.iter().any(|line| !line.is_ended());
+        match plain_scalar(value.text) {
+            Some(scalar) if !goes_on => {
+                let mut units = Vec::new(self.alloc);
+                push_line(&mut units, scalar)?;
+                self.host.add(units)
             }
+            _ => self.pass_value(value),
         }
-        let mut units = Vec::new(self.alloc);
-        push_line(&mut units, self.file, scalar)?;
-        self.host.add(units)
     }
+}
+
+/// The value that has this text on the line, in a node with this indentation.
+fn value_in<'a>(line: Line<'a>, text: Part<'a>, parent: usize) -> Value<'a> {
+    Value {
+        text,
+        number: line.number,
+        parent,
+    }
+}
+
+/// The value without the anchor that begins it.
+fn after_anchor(value: Value<'_>) -> Value<'_> {
+    if !value.text.begins_with(b'&') {
+        return value;
+    }
+    let (_, text) = value.text.split_word();
+    Value { text, ..value }
+}
+
+/// The name behind the byte that begins an anchor or an alias.
+fn anchor_of(text: Part) -> &[u8] {
+    let (word, _) = text.split_word();
+    word.get(1..).unwrap_or(&[])
+}
+
+/// The indentation of the line.
+fn indentation_of(line: Part) -> usize {
+    line.after_any(b" ").start.saturating_sub(line.start)
+}
+
+/// Whether the line isn't in the value of a key with this indentation, in which the items of a sequence may be.
+fn is_behind(line: Part, column: usize) -> bool {
+    let has_dash = line.after_any(b" ").begins_with(b'-');
+    let indentation = indentation_of(line);
+    !line.is_ended() && (indentation < column || (indentation == column && !has_dash))
 }
 
 /// Whether the line begins another node than one with this indentation: it isn't blank, and isn't indented more.
-fn is_node(file: &[u8], line: Part, parent: usize) -> bool {
-    let start = after_any(file, line, b" ");
-    start.saturating_sub(line.start) <= parent && !is_ended(file, line)
+fn is_node(line: Part, parent: usize) -> bool {
+    indentation_of(line) <= parent && !line.is_ended()
 }
 
 /// The line without the dashes of sequences that begin it.
-fn after_dashes(file: &[u8], number: usize, whole: Part) -> Line {
-    let mut start = after_any(file, whole, b" ");
-    let indentation = start.saturating_sub(whole.start);
+fn after_dashes(number: usize, whole: Part) -> Line<'_> {
+    let mut text = whole.after_any(b" ");
+    let indentation = text.start.saturating_sub(whole.start);
     let mut dash = None;
     for _ in 0..8 {
-        match bytes_of(file, between(start, whole.end)) {
+        match text.bytes() {
             [b'-'] | [b'-', b' ' | b'\t', ..] => {}
             _ => break,
         }
-        dash = Some(start.saturating_sub(whole.start));
-        start = after_blanks(file, between(start.saturating_add(1), whole.end));
+        dash = Some(text.start.saturating_sub(whole.start));
+        text = text.skip(1).after_blanks();
     }
     Line {
         number,
-        text: between(start, whole.end),
+        text,
         indentation,
-        column: start.saturating_sub(whole.start),
+        column: text.start.saturating_sub(whole.start),
         dash,
     }
 }
 
 /// Where the key ends that begins the part, before its colon; none if no key does.
-fn key_end(file: &[u8], part: Part) -> Option<usize> {
-    for index in part.start..part.end {
-        match file.get(index) {
-            Some(byte) if is_name_byte(*byte) || matches!(*byte, b'-' | b'.' | b'"' | b'\'') => {}
-            Some(b':') if index > part.start => {
-                let next = index.saturating_add(1);
-                let is_key = next >= part.end || matches!(file.get(next), Some(b' ' | b'\t'));
-                return if is_key { Some(index) } else { None };
-            }
-            _ => return None,
+fn key_end(part: Part) -> Option<usize> {
+    let bytes = part.bytes();
+    let length = bytes
+        .iter()
+        .position(|byte| !is_name_byte(*byte) && !b"-.\"'".contains(byte))?;
+    match bytes.get(length..) {
+        Some([b':'] | [b':', b' ' | b'\t', ..]) if length > 0 => {
+            Some(part.start.saturating_add(length))
         }
+        _ => None,
     }
-    None
 }
 
 /// The key without quotes around it.
 fn unquoted(key: &[u8]) -> &[u8] {
     match key {
-        [b'"', inner @ .., b'"'] => inner,
-        [b'\'', inner @ .., b'\''] => inner,
+        [b'"', inner @ .., b'"'] | [b'\'', inner @ .., b'\''] => inner,
         _ => key,
     }
 }
 
-/// The value without the anchor that begins it.
-fn after_anchor(file: &[u8], value: Part) -> Part {
-    if !has_byte(file, value.start, b'&') {
-        return value;
-    }
-    let (_, rest) = split_word(file, value);
-    rest
-}
-
 /// Whether a `shell:` with this value is no shell of POSIX's.
 fn is_foreign(value: &[u8]) -> bool {
-    for name in FOREIGN {
-        if value.starts_with(name) {
-            return true;
-        }
-    }
-    false
+    FOREIGN
+        .iter()
+        .any(|name| value.starts_with(name.as_bytes()))
 }

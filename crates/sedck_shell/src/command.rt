@@ -1,6 +1,6 @@
 //! What shell text has: commands, and their words.
 
-use sedck_traced::Unit;
+use sedck_traced::{Unit, is_text};
 use std::alloc::Global;
 
 /// A word of a command, without its quoting.
@@ -37,7 +37,7 @@ pub struct ShellCommand {
 }
 
 /// Where in its text a command is.
-#[derive(Clone, Copy, Debug, PartialEq, Eq)]
+#[derive(Clone, Copy, Debug, Default, PartialEq, Eq)]
 pub struct Site {
     /// The number of the function whose body has it; 0 where it is in none. The text's functions have numbers from 1 on.
     pub body: usize,
@@ -66,5 +66,9 @@ impl ShellWord {
             is_quoted: false,
             pattern: Pattern::None,
         }
+    }
+    /// Whether it has these bytes.
+    pub fn is(&self, text: &str) -> bool {
+        is_text(&self.units, text)
     }
 }

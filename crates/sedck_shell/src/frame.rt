@@ -55,12 +55,16 @@ pub(crate) enum Awaited {
     /// Another word of a redirection.
     Skipped,
     /// The delimiter of a here-document.
-    Delimiter {
-        /// Whether leading tabs are taken off.
-        is_stripped: bool,
-        /// Whether it is for descriptor 0.
-        is_input: bool,
-    },
+    Delimiter(Delimiter),
+}
+
+/// How a here-document is read whose delimiter is the next word.
+#[derive(Clone, Copy)]
+pub(crate) struct Delimiter {
+    /// Whether leading tabs are taken off.
+    pub is_stripped: bool,
+    /// Whether it is for descriptor 0.
+    pub is_input: bool,
 }
 
 /// A command of which words may follow.
@@ -109,10 +113,12 @@ pub(crate) struct Frame {
     pub is_process: bool,
     pub braces: Braces,
     pub flow: Flow,
+    /// The functions around the one whose body is read, each with how much is open in it.
+    pub outer: Vec<(usize, usize)>,
 }
 
 /// Braces in a word that some shells expand: `{a,b}` and `{1..9}`.
-#[derive(Clone, Copy)]
+#[derive(Clone, Copy, Default)]
 pub(crate) struct Braces {
     /// The number of the unit with the first brace.
     pub from: Option<usize>,
@@ -122,23 +128,13 @@ pub(crate) struct Braces {
     pub to: Option<usize>,
 }
 
-impl Braces {
-    pub const NONE: Braces = Braces {
-        from: None,
-        has_list: false,
-        to: None,
-    };
-}
-
 /// Where the next command is in the text.
-#[derive(Drop)]
+#[derive(Clone, Copy, Default)]
 pub(crate) struct Flow {
     /// The number of the function whose body is read; 0 if none is.
     pub body: usize,
     /// How many conditions, loops and groups are open in it.
     pub depth: usize,
-    /// The functions around it, each with how much was open in it.
-    pub outer: Vec<(usize, usize)>,
     /// Whether the body of a function comes next.
     pub begins_function: bool,
     /// Whether it depends on a command before it, or is in a pipe.
@@ -153,10 +149,7 @@ impl Draft {
     pub fn new(alloc: Global) -> Draft {
         Draft {
             words: Vec::new(alloc),
-            site: Site {
-                body: 0,
-                is_certain: false,
-            },
+            site: Site::default(),
             here: None,
             target: None,
         }
@@ -186,16 +179,9 @@ impl Frame {
             parentheses: 0,
             is_several: false,
             is_process: false,
-            braces: Braces::NONE,
-            flow: Flow {
-                body: 0,
-                depth: 0,
-                outer: Vec::new(alloc),
-                begins_function: false,
-                is_conditional: false,
-                is_awaited: false,
-                list: 0,
-            },
+            braces: Braces::default(),
+            flow: Flow::default(),
+            outer: Vec::new(alloc),
         }
     }
 

@@ -4,17 +4,13 @@
 //! next line. Nothing is promised of what is read: what comes of it is compared with the file before it is judged.
 #![tactic(auto)]
 
-mod bodies;
-mod brackets;
 mod command;
 mod expansions;
-mod flow;
 mod frame;
 mod operators;
 mod output;
 mod quotes;
 mod reader;
-mod units;
 mod words;
 
 pub use command::{Pattern, ShellCommand, ShellText, ShellWord, Site};

@@ -1,12 +1,10 @@
-//! Reads texts one after another, and puts together what was read.
+//! Reads texts one after another, with their here-documents (XCU 2.7.4), and puts together what was read.
 
-use crate::bodies::Pending;
-use crate::command::{ShellCommand, ShellText};
-use crate::frame::{Draft, Frame, Mark, Quote};
-use crate::reader::{Form, Job, Output, Reader};
-use crate::units::{byte_at, start_of};
-use sedck_traced::{Text, Unit};
-use std::alloc::{AllocError, Global};
+use crate::command::{ShellCommand, ShellText, ShellWord};
+use crate::frame::{Delimiter, Draft, Frame, Quote};
+use crate::reader::{Form, Job, MISSES, Output, Reader};
+use sedck_traced::{Result, Text, Unit};
+use std::alloc::Global;
 
 /// How often reading goes on at a next line.
 const RESTARTS: usize = 8;
@@ -15,7 +13,7 @@ const RESTARTS: usize = 8;
 const LEVELS: usize = 6;
 
 /// The commands of the text, also those in `$(..)`, in backquotes, in parentheses and in functions.
-pub fn read_shell(alloc: Global, text: Text, form: Form) -> Result<ShellText, AllocError> {
+pub fn read_shell(alloc: Global, text: Text, form: Form) -> Result<ShellText> {
     let mut output = Output {
         commands: Vec::new(alloc),
         bodies: Vec::new(alloc),
@@ -31,74 +29,44 @@ pub fn read_shell(alloc: Global, text: Text, form: Form) -> Result<ShellText, Al
     for _ in 0..LEVELS {
         let jobs = std::mem::replace(&mut output.jobs, Vec::new(alloc));
         for job in &jobs {
-            output = read_job(alloc, job, form, output)?;
+            output = match job.body {
+                Some(number) => read_body(alloc, job, number, form, output)?,
+                None => read_text(alloc, Text::Units(&job.units), form, output)?,
+            };
         }
     }
     finished(alloc, output)
 }
 
-/// Reads a command between backquotes, or a here-document.
-fn read_job(alloc: Global, job: &Job, form: Form, output: Output) -> Result<Output, AllocError> {
-    match job.body {
-        Some(number) => read_body(alloc, job, number, form, output),
-        None => read_text(alloc, Text::Units(&job.units), form, output),
-    }
-}
-
 /// Reads a text. Where a quote or an expansion isn't closed, reading goes on at the line after it.
-fn read_text(alloc: Global, text: Text, form: Form, output: Output) -> Result<Output, AllocError> {
+fn read_text(alloc: Global, text: Text, form: Form, output: Output) -> Result<Output> {
     let mut output = output;
     let mut from = 0usize;
     for _ in 0..RESTARTS {
-        let (next, read) = read_from(alloc, text, form, from, output)?;
-        output = read;
-        match next {
-            Some(next) if next > from => from = next,
+        let mut reader = new_reader(alloc, text, form, Quote::None, output);
+        reader.resume = from;
+        reader.opened = from;
+        reader.read_all()?;
+        let is_closed = reader.is_closed();
+        if is_closed {
+            reader.end_command()?;
+        }
+        if !is_closed || !reader.frames.is_empty() {
+            let start = reader.start_at(reader.opened);
+            reader.output.unread.push(start)?;
+        }
+        let (opened, mark) = (reader.opened, reader.mark);
+        output = reader.output;
+        if is_closed {
+            break;
+        }
+        output.forget(mark);
+        match (opened..text.len()).find(|index| text.byte(*index) == Some(b'\n')) {
+            Some(newline) if newline >= from => from = newline.saturating_add(1),
             _ => break,
         }
     }
     Ok(output)
-}
-
-/// Reads a text from this number on, and answers with which number to go on, if something isn't closed.
-fn read_from(
-    alloc: Global,
-    text: Text,
-    form: Form,
-    from: usize,
-    output: Output,
-) -> Result<(Option<usize>, Output), AllocError> {
-    let mut reader = new_reader(alloc, text, form, Quote::None, output);
-    reader.resume = from;
-    reader.opened = from;
-    for index in from..text.len() {
-        if index < reader.resume {
-            continue;
-        }
-        if let Some(unit) = text.get(index) {
-            reader.read(index, unit)?;
-        }
-    }
-    let is_closed = reader.is_closed();
-    if is_closed {
-        reader.end_command()?;
-    }
-    let is_understood = is_closed && reader.frames.is_empty();
-    let next = next_line(text, reader.opened);
-    let opened = match text.get(reader.opened) {
-        Some(unit) => start_of(unit),
-        None => 0,
-    };
-    let mark = reader.mark;
-    let mut output = reader.output;
-    if !is_understood {
-        output.unread.push(opened)?;
-    }
-    if is_closed {
-        return Ok((None, output));
-    }
-    output.forget(mark);
-    Ok((next, output))
 }
 
 /// Reads a here-document.
@@ -108,17 +76,9 @@ fn read_body(
     number: usize,
     form: Form,
     output: Output,
-) -> Result<Output, AllocError> {
-    let text = Text::Units(&job.units);
-    let mut reader = new_reader(alloc, text, form, job.quote, output);
-    for index in 0..text.len() {
-        if index < reader.resume {
-            continue;
-        }
-        if let Some(unit) = text.get(index) {
-            reader.read(index, unit)?;
-        }
-    }
+) -> Result<Output> {
+    let mut reader = new_reader(alloc, Text::Units(&job.units), form, job.quote, output);
+    reader.read_all()?;
     reader.leave_frames()?;
     let body = std::mem::replace(&mut reader.top.word.units, Vec::new(alloc));
     if let Some(place) = reader.output.bodies.get_mut(number) {
@@ -135,58 +95,33 @@ fn new_reader<'a>(
     quote: Quote,
     output: Output,
 ) -> Reader<'a> {
-    let pending: Vec<Pending> = Vec::new(alloc);
-    let mark: Mark = output.mark();
     Reader {
         alloc,
         text,
         form,
         top: Frame::new(alloc, quote),
         frames: Vec::new(alloc),
-        pending,
+        pending: Vec::new(alloc),
         resume: 0,
         opened: 0,
-        mark,
+        mark: output.mark(),
         brackets: 0,
         output,
     }
 }
 
-/// The number of the first unit of the next line.
-fn next_line(text: Text, from: usize) -> Option<usize> {
-    for index in from..text.len() {
-        if byte_at(text, index) == Some(b'\n') {
-            return Some(index.saturating_add(1));
-        }
-    }
-    None
-}
-
 /// The commands with their here-documents.
-fn finished(alloc: Global, output: Output) -> Result<ShellText, AllocError> {
-    let Output {
-        commands: drafts,
-        mut bodies,
-        jobs,
-        functions,
-        mut unread,
-        misses: _,
-        looked: _,
-        has_looked: _,
-        is_full: _,
-    } = output;
+fn finished(alloc: Global, output: Output) -> Result<ShellText> {
+    let (mut bodies, mut unread) = (output.bodies, output.unread);
     let mut commands = Vec::new(alloc);
-    for draft in drafts {
+    for draft in output.commands {
         let Draft {
             words,
             site,
             here,
             target,
         } = draft;
-        let here = match here {
-            Some(number) => body_at(&mut bodies, number),
-            None => None,
-        };
+        let here = here.and_then(|number| bodies.get_mut(number)?.take());
         commands.push(ShellCommand {
             words,
             site,
@@ -194,22 +129,132 @@ fn finished(alloc: Global, output: Output) -> Result<ShellText, AllocError> {
             target,
         })?;
     }
-    for job in &jobs {
+    for job in &output.jobs {
         if let Some(unit) = job.units.first() {
-            unread.push(start_of(*unit))?;
+            unread.push(unit.start())?;
         }
     }
     Ok(ShellText {
         commands,
-        functions,
+        functions: output.functions,
         unread,
     })
 }
 
-/// Takes the here-document of this number.
-fn body_at(bodies: &mut Vec<Option<Vec<Unit>>>, number: usize) -> Option<Vec<Unit>> {
-    match bodies.get_mut(number) {
-        Some(place) => place.take(),
-        None => None,
+/// A here-document that is awaited.
+#[derive(Drop)]
+pub(crate) struct Pending {
+    delimiter: Vec<u8>,
+    /// Whether a part of the delimiter is quoted, so that nothing in the text is expanded.
+    is_quoted: bool,
+    /// Whether tabs at the beginnings of lines are left out.
+    is_stripped: bool,
+    number: usize,
+    /// The offset in the file of the delimiter.
+    start: usize,
+}
+
+impl Reader<'_> {
+    /// Awaits a here-document that ends with this word, as the input of the command if it is for descriptor 0.
+    pub fn await_body(&mut self, word: ShellWord, how: Delimiter) -> Result<()> {
+        let mut delimiter = Vec::new(self.alloc);
+        for unit in &word.units {
+            match unit.byte() {
+                Some(byte) => delimiter.push(byte)?,
+                None => return Ok(self.output.unread.push(word.start)?),
+            }
+        }
+        let number = self.output.bodies.len();
+        self.output.bodies.push(None)?;
+        if how.is_input {
+            self.top.command.here = Some(number);
+        }
+        let pending = Pending {
+            delimiter,
+            is_quoted: word.is_quoted,
+            is_stripped: how.is_stripped,
+            number,
+            start: word.start,
+        };
+        Ok(self.pending.push(pending)?)
     }
+
+    /// Takes the here-documents that are awaited, from this number on, to be read by themselves.
+    pub fn read_bodies(&mut self, from: usize) -> Result<()> {
+        let pending = std::mem::replace(&mut self.pending, Vec::new(self.alloc));
+        self.resume = from;
+        for one in &pending {
+            if self.output.misses >= MISSES {
+                break;
+            }
+            let Some((end, after)) = body_end(self.text, self.resume, one) else {
+                return self.output.miss(one.start);
+            };
+            let units = lines_of(self.alloc, self.text, self.resume, end, one.is_stripped)?;
+            let quote = if one.is_quoted {
+                Quote::Verbatim
+            } else {
+                Quote::Body
+            };
+            let body = Some(one.number);
+            self.output.jobs.push(Job { units, quote, body })?;
+            self.resume = after;
+        }
+        Ok(())
+    }
+}
+
+/// Where the here-document that begins at this number ends: before its delimiter's line, and with it.
+fn body_end(text: Text, from: usize, pending: &Pending) -> Option<(usize, usize)> {
+    let length = text.len();
+    let mut line = from;
+    for index in from..length.saturating_add(1) {
+        if index < length && text.byte(index) != Some(b'\n') {
+            continue;
+        }
+        let after = index.saturating_add(1).min(length);
+        if is_delimiter(text, line, index, pending) {
+            return Some((line, after));
+        }
+        line = after;
+    }
+    None
+}
+
+/// Whether the line between these numbers is the delimiter.
+fn is_delimiter(text: Text, line: usize, end: usize, pending: &Pending) -> bool {
+    let length = pending.delimiter.len();
+    let start = if pending.is_stripped {
+        end.saturating_sub(length).max(line)
+    } else {
+        line
+    };
+    end.saturating_sub(start) == length
+        && (line..start).all(|index| text.byte(index) == Some(b'\t'))
+        && (start..end)
+            .zip(pending.delimiter.iter())
+            .all(|(index, byte)| text.byte(index) == Some(*byte))
+}
+
+/// The units between these numbers, without the tabs at the beginnings of lines if they are left out.
+fn lines_of(
+    alloc: Global,
+    text: Text,
+    from: usize,
+    end: usize,
+    is_stripped: bool,
+) -> Result<Vec<Unit>> {
+    let mut lines = Vec::new(alloc);
+    let mut begins_line = true;
+    for index in from..end {
+        let Some(unit) = text.get(index) else {
+            break;
+        };
+        if begins_line && is_stripped && unit.byte() == Some(b'\t') {
+            continue;
+        }
+        begins_line = unit.byte() == Some(b'\n');
+        lines.push(unit)?;
+    }
+    Ok(lines)
 }

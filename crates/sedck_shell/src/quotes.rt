@@ -1,33 +1,14 @@
-//! Quoting (XCU 2.2).
+//! Quoting (XCU 2.2), and the quotes of M4, which are around the arguments of macros in the sources of Autoconf.
 
-use crate::frame::Quote;
+use crate::frame::{Enclosure, Quote};
 use crate::reader::{Dialect, Reader};
-use crate::units::{byte_at, byte_of, end_at, end_of, start_of};
-use sedck_traced::{Text, Unit, Way, escape_byte};
-use std::alloc::AllocError;
+use sedck_traced::{Result, Text, Unit, Way, escape_byte};
 
 impl Reader<'_> {
-    /// Reads what begins a quoted part or an expansion.
-    pub fn read_quoting(&mut self, index: usize, unit: Unit, byte: u8) -> Result<(), AllocError> {
-        match byte {
-            b'\'' => {
-                self.open_quote(index, unit, Quote::Single);
-                Ok(())
-            }
-            b'"' => {
-                self.open_quote(index, unit, Quote::Double);
-                Ok(())
-            }
-            b'\\' => self.read_backslash(index, unit),
-            b'$' => self.read_expansion(index, unit),
-            _ => self.read_backquote(index, unit),
-        }
-    }
-
     /// Begins a quoted part.
     pub fn open_quote(&mut self, index: usize, unit: Unit, quote: Quote) {
         self.note_opening(index);
-        self.begin_word(start_of(unit));
+        self.begin_word(unit.start());
         self.top.word.is_quoted = true;
         self.set_quote(quote);
     }
@@ -40,26 +21,26 @@ impl Reader<'_> {
             Quote::Either
         };
         self.open_quote(index, unit, quote);
-        self.top.quoted_from = start_of(unit);
+        self.top.quoted_from = unit.start();
     }
 
     /// Reads a unit between `$'` and `'` where shells differ, which makes a hole of it all. Behind a backslash they find different ends.
-    pub fn read_either(&mut self, index: usize, unit: Unit) -> Result<(), AllocError> {
-        match byte_of(unit) {
+    pub fn read_either(&mut self, index: usize, unit: Unit) -> Result<()> {
+        match unit.byte() {
             Some(b'\\') => {
                 let next = index.saturating_add(1);
                 self.resume = next.saturating_add(1);
-                if byte_at(self.text, next) == Some(b'\'') {
-                    self.output.unread.push(start_of(unit))?;
+                if self.text.byte(next) == Some(b'\'') {
+                    self.output.unread.push(unit.start())?;
                 }
-                Ok(())
             }
             Some(b'\'') => {
                 self.top.quote = Quote::None;
-                self.add_hole(self.top.quoted_from, end_of(unit), Way::Quoted)
+                return self.add_hole(self.top.quoted_from, unit.end(), Way::Quoted);
             }
-            _ => Ok(()),
+            _ => {}
         }
+        Ok(())
     }
 
     /// Begins a quoted part, or a comment.
@@ -69,13 +50,13 @@ impl Reader<'_> {
     }
 
     /// Reads a backslash that isn't quoted, and what it quotes: a newline behind it is left out with it.
-    fn read_backslash(&mut self, index: usize, unit: Unit) -> Result<(), AllocError> {
+    pub fn read_backslash(&mut self, index: usize, unit: Unit) -> Result<()> {
         let next = index.saturating_add(1);
         self.resume = next.saturating_add(1);
         let Some(quoted) = self.text.get(next) else {
             return Ok(());
         };
-        match byte_of(quoted) {
+        match quoted.byte() {
             Some(b'\n') => return Ok(()),
             Some(b'[') if self.form.dialect == Dialect::Macros => {
                 self.brackets = self.brackets.saturating_add(1);
@@ -83,38 +64,19 @@ impl Reader<'_> {
             Some(b']') => self.brackets = self.brackets.saturating_sub(1),
             _ => {}
         }
-        self.begin_word(start_of(unit));
+        self.begin_word(unit.start());
         self.top.word.is_quoted = true;
         self.add(quoted)
     }
 
-    /// Reads a unit between single quotes.
-    pub fn read_single(&mut self, index: usize, unit: Unit) -> Result<(), AllocError> {
-        if byte_of(unit) == Some(b'\'') {
-            self.top.quote = Quote::None;
-            return Ok(());
-        }
-        self.add_byte(index, unit)
-    }
-
-    /// Reads a unit between double quotes (XCU 2.2.3).
-    pub fn read_double(&mut self, index: usize, unit: Unit) -> Result<(), AllocError> {
-        match byte_of(unit) {
-            Some(b'"') => {
+    /// Reads a unit between double quotes (XCU 2.2.3), or of a here-document (XCU 2.7.4).
+    pub fn read_double(&mut self, index: usize, unit: Unit) -> Result<()> {
+        match unit.byte() {
+            Some(b'"') if self.top.quote == Quote::Double => {
                 self.top.quote = Quote::None;
                 Ok(())
             }
-            Some(b'\\') => self.read_backslash_in_double(index, unit, true),
-            Some(b'$') => self.read_expansion(index, unit),
-            Some(b'`') => self.read_backquote(index, unit),
-            _ => self.add_byte(index, unit),
-        }
-    }
-
-    /// Reads a unit of a here-document (XCU 2.7.4).
-    pub fn read_body(&mut self, index: usize, unit: Unit) -> Result<(), AllocError> {
-        match byte_of(unit) {
-            Some(b'\\') => self.read_backslash_in_double(index, unit, false),
+            Some(b'\\') => self.read_backslash_in_double(index, unit),
             Some(b'$') => self.read_expansion(index, unit),
             Some(b'`') => self.read_backquote(index, unit),
             _ => self.add_byte(index, unit),
@@ -123,32 +85,33 @@ impl Reader<'_> {
 
     /// Reads a backslash between double quotes or in a here-document: it quotes a dollar sign, a backquote, a backslash and a newline, and
     /// between double quotes a double quote.
-    fn read_backslash_in_double(
-        &mut self,
-        index: usize,
-        unit: Unit,
-        is_double: bool,
-    ) -> Result<(), AllocError> {
+    fn read_backslash_in_double(&mut self, index: usize, unit: Unit) -> Result<()> {
         let next = index.saturating_add(1);
-        let Some(quoted) = self.text.get(next) else {
-            return self.add(unit);
-        };
-        match byte_of(quoted) {
-            Some(b'\n') => {
-                self.resume = next.saturating_add(1);
+        let after = next.saturating_add(1);
+        match self.text.get(next) {
+            Some(quoted) if quoted.byte() == Some(b'\n') => {
+                self.resume = after;
                 Ok(())
             }
-            Some(b'"') if !is_double => self.add(unit),
-            Some(b'$' | b'`' | b'"' | b'\\') => {
-                self.resume = next.saturating_add(1);
+            Some(quoted) if self.is_quotable(quoted) => {
+                self.resume = after;
                 self.add(quoted)
             }
             _ => self.add(unit),
         }
     }
 
+    /// Whether a backslash before the unit quotes it there.
+    fn is_quotable(&self, unit: Unit) -> bool {
+        match unit.byte() {
+            Some(b'$' | b'`' | b'\\') => true,
+            Some(b'"') => self.top.quote == Quote::Double,
+            _ => false,
+        }
+    }
+
     /// Reads a unit between `$'` and `'` (XCU 2.2.4).
-    pub fn read_dollar(&mut self, index: usize, unit: Unit) -> Result<(), AllocError> {
+    pub fn read_dollar(&mut self, index: usize, unit: Unit) -> Result<()> {
         match unit {
             Unit::Byte(b'\'', _) => {
                 self.top.quote = Quote::None;
@@ -160,7 +123,7 @@ impl Reader<'_> {
     }
 
     /// Reads an escape sequence. One that doesn't stand for one byte by its letter alone is a hole.
-    fn read_escape(&mut self, index: usize, offset: usize) -> Result<(), AllocError> {
+    fn read_escape(&mut self, index: usize, offset: usize) -> Result<()> {
         let next = index.saturating_add(1);
         self.resume = next.saturating_add(1);
         let Some(Unit::Byte(letter, after)) = self.text.get(next) else {
@@ -173,27 +136,63 @@ impl Reader<'_> {
             _ => {
                 let more = digits_after(self.text, next, letter);
                 self.resume = self.resume.saturating_add(more);
-                let end = end_at(self.text, next.saturating_add(more));
+                let end = self.end_at(next.saturating_add(more));
                 self.add_hole(offset, end, Way::Quoted)
             }
         }
     }
 
-    /// Reads a unit of a comment, which ends before a newline.
-    pub fn read_comment(&mut self, index: usize, unit: Unit) -> Result<(), AllocError> {
-        if byte_of(unit) != Some(b'\n') {
-            return Ok(());
+    /// Reads `[`, which M4 doesn't look at in a comment outside of arguments.
+    pub fn open_bracket(&mut self, unit: Unit) -> Result<()> {
+        if self.top.quote != Quote::Comment || self.brackets > 0 {
+            self.brackets = self.brackets.saturating_add(1);
+        }
+        self.read_bracket(unit)
+    }
+
+    /// Reads `]`. Where it closes a bracket that was opened before a quote or an enclosure, an argument ends with it: the quote was an
+    /// apostrophe, and what it began is left.
+    pub fn close_bracket(&mut self, unit: Unit) -> Result<()> {
+        let is_open = self.brackets > 0;
+        self.brackets = self.brackets.saturating_sub(1);
+        if is_open && self.brackets < self.top.floor {
+            self.leave_quote();
+        }
+        self.read_bracket(unit)?;
+        for _ in 0..self.frames.len() {
+            if self.top.brackets <= self.brackets {
+                break;
+            }
+            self.top.quote = Quote::None;
+            self.close(unit.end())?;
+        }
+        Ok(())
+    }
+
+    /// Ends a quote, with what was read of the command, or a comment.
+    fn leave_quote(&mut self) {
+        match self.top.quote {
+            Quote::Single | Quote::Double | Quote::Dollar | Quote::Either => self.drop_command(),
+            _ => {}
         }
         self.top.quote = Quote::None;
-        self.read_bare(index, unit)
+    }
+
+    /// Reads a bracket that is counted: it ends a command where it isn't quoted.
+    fn read_bracket(&mut self, unit: Unit) -> Result<()> {
+        match (self.top.quote, self.top.enclosure) {
+            (Quote::Comment, _) => Ok(()),
+            (Quote::None, Enclosure::Parameter | Enclosure::Arithmetic) => Ok(()),
+            (Quote::None, _) => self.end_command(),
+            _ => self.add(unit),
+        }
     }
 }
 
 /// How many digits follow the letter of an escape sequence as a part of it.
 fn digits_after(text: Text, letter_index: usize, letter: u8) -> usize {
     let most = match letter {
-        b'0'..=b'7' => 2usize,
-        b'x' => 2,
+        b'0'..=b'7' | b'x' => 2usize,
         b'u' => 4,
         b'U' => 8,
         b'c' => 1,
@@ -201,7 +200,7 @@ fn digits_after(text: Text, letter_index: usize, letter: u8) -> usize {
     };
     for count in 0..most {
         let index = letter_index.saturating_add(1).saturating_add(count);
-        let is_part = match byte_at(text, index) {
+        let is_part = match text.byte(index) {
             Some(byte) if letter.is_ascii_digit() => matches!(byte, b'0'..=b'7'),
             Some(b'\'' | b'\\') | None => false,
             Some(byte) => letter == b'c' || byte.is_ascii_hexdigit(),

@@ -1,11 +1,10 @@
 //! The state of reading, and what each byte does by its quoting.
 
-use crate::bodies::Pending;
 use crate::command::{Pattern, ShellWord};
 use crate::frame::{Draft, Enclosure, Frame, Mark, Quote};
-use crate::units::{begins_name, byte_at, byte_of, end_at, name_end, name_length, start_of};
-use sedck_traced::{Text, Unit, Way};
-use std::alloc::{AllocError, Global};
+use crate::output::Pending;
+use sedck_traced::{Result, Text, Unit, Way, is_name_byte, name_length};
+use std::alloc::Global;
 
 /// How a text is made into shell text before it runs.
 #[derive(Clone, Copy, Debug, PartialEq, Eq)]
@@ -72,7 +71,7 @@ impl Output {
     }
 
     /// Notes that the end of what begins at this offset was looked for in vain.
-    pub fn miss(&mut self, offset: usize) -> Result<(), AllocError> {
+    pub fn miss(&mut self, offset: usize) -> Result<()> {
         self.misses = self.misses.saturating_add(1);
         Ok(self.unread.push(offset)?)
     }
@@ -106,9 +105,20 @@ pub(crate) struct Reader<'a> {
 }
 
 impl Reader<'_> {
+    /// Reads the units from the one with which reading goes on.
+    pub fn read_all(&mut self) -> Result<()> {
+        for index in self.resume..self.text.len() {
+            match self.text.get(index) {
+                Some(unit) if index >= self.resume => self.read(index, unit)?,
+                _ => {}
+            }
+        }
+        Ok(())
+    }
+
     /// Reads the unit of this number.
-    pub fn read(&mut self, index: usize, unit: Unit) -> Result<(), AllocError> {
-        match byte_of(unit) {
+    fn read(&mut self, index: usize, unit: Unit) -> Result<()> {
+        match unit.byte() {
             Some(b'[') if self.form.dialect == Dialect::Macros => self.open_bracket(unit),
             Some(b']') if self.form.dialect == Dialect::Macros => self.close_bracket(unit),
             _ => self.read_by_quote(index, unit),
@@ -116,21 +126,27 @@ impl Reader<'_> {
     }
 
     /// Reads a unit by the quoting around it.
-    fn read_by_quote(&mut self, index: usize, unit: Unit) -> Result<(), AllocError> {
+    fn read_by_quote(&mut self, index: usize, unit: Unit) -> Result<()> {
         match self.top.quote {
             Quote::None => self.read_bare(index, unit),
-            Quote::Single => self.read_single(index, unit),
-            Quote::Double => self.read_double(index, unit),
+            Quote::Single if unit.byte() == Some(b'\'') => {
+                self.top.quote = Quote::None;
+                Ok(())
+            }
+            Quote::Single | Quote::Verbatim => self.add_byte(index, unit),
+            Quote::Double | Quote::Body => self.read_double(index, unit),
             Quote::Dollar => self.read_dollar(index, unit),
             Quote::Either => self.read_either(index, unit),
-            Quote::Comment => self.read_comment(index, unit),
-            Quote::Body => self.read_body(index, unit),
-            Quote::Verbatim => self.add_byte(index, unit),
+            Quote::Comment if unit.byte() != Some(b'\n') => Ok(()),
+            Quote::Comment => {
+                self.top.quote = Quote::None;
+                self.read_bare(index, unit)
+            }
         }
     }
 
     /// Reads a unit that isn't quoted.
-    pub fn read_bare(&mut self, index: usize, unit: Unit) -> Result<(), AllocError> {
+    fn read_bare(&mut self, index: usize, unit: Unit) -> Result<()> {
         match self.top.enclosure {
             Enclosure::Parameter => self.read_parameter(index, unit),
             Enclosure::Arithmetic => self.read_arithmetic(index, unit),
@@ -139,45 +155,52 @@ impl Reader<'_> {
     }
 
     /// Reads a unit between commands, or in one.
-    fn read_in_commands(&mut self, index: usize, unit: Unit) -> Result<(), AllocError> {
-        let Some(byte) = byte_of(unit) else {
+    fn read_in_commands(&mut self, index: usize, unit: Unit) -> Result<()> {
+        let Some(byte) = unit.byte() else {
             return self.add(unit);
         };
         match byte {
             b' ' | b'\t' => self.end_word(),
             b'\n' => self.end_line(index),
-            b'\'' | b'"' | b'\\' | b'$' | b'`' => self.read_quoting(index, unit, byte),
+            b'\'' | b'"' => {
+                let quote = if byte == b'"' {
+                    Quote::Double
+                } else {
+                    Quote::Single
+                };
+                self.open_quote(index, unit, quote);
+                Ok(())
+            }
+            b'\\' => self.read_backslash(index, unit),
+            b'$' => self.read_expansion(index, unit),
+            b'`' => self.read_backquote(index, unit),
             b'#' | b'd' if !self.top.has_word && self.begins_comment(index, byte) => {
                 self.set_quote(Quote::Comment);
                 Ok(())
             }
-            b';' | b'&' | b'|' | b'<' | b'>' | b'(' | b')' => {
-                self.read_operator(index, unit, byte)
+            b';' | b'&' | b'|' | b'<' | b'>' | b'(' | b')' => self.read_operator(index, unit, byte),
+            b'~' if self.begins_tilde() => {
+                let end = self.name_end(index.saturating_add(1));
+                self.add_hole_to(unit, end.saturating_sub(1), Way::Quoted)
             }
-            b'~' if self.begins_tilde() => self.read_tilde(index, unit),
             b'*' | b'?' | b'[' | b'{' | b'}' | b',' | b'.' => self.read_sign(index, unit, byte),
             _ => self.add_byte(index, unit),
         }
     }
 
     /// Reads a byte that may make several words of one, outside of quotes.
-    fn read_sign(&mut self, index: usize, unit: Unit, byte: u8) -> Result<(), AllocError> {
+    fn read_sign(&mut self, index: usize, unit: Unit, byte: u8) -> Result<()> {
         let number = self.top.word.units.len();
         let braces = &mut self.top.braces;
-        let next = index.saturating_add(1);
+        let next = self.text.byte(index.saturating_add(1));
         match byte {
             b'{' if braces.from.is_none() => braces.from = Some(number),
             b',' => braces.has_list = braces.from.is_some(),
-            b'.' if byte_at(self.text, next) == Some(b'.') => {
-                braces.has_list = braces.from.is_some();
-            }
+            b'.' if next == Some(b'.') => braces.has_list = braces.from.is_some(),
             b'}' if braces.has_list => braces.to = Some(number),
+            b'*' | b'?' | b'[' if number == 0 => self.top.word.pattern = Pattern::First,
             b'*' | b'?' | b'[' if self.top.word.pattern == Pattern::None => {
-                self.top.word.pattern = if number == 0 {
-                    Pattern::First
-                } else {
-                    Pattern::Inside
-                };
+                self.top.word.pattern = Pattern::Inside;
             }
             _ => {}
         }
@@ -196,38 +219,29 @@ impl Reader<'_> {
         }
     }
 
-    /// Reads a tilde, and the name of a user behind it.
-    fn read_tilde(&mut self, index: usize, unit: Unit) -> Result<(), AllocError> {
-        let end = name_end(self.text, index.saturating_add(1));
-        self.resume = end;
-        let last = end.saturating_sub(1);
-        self.add_hole(start_of(unit), end_at(self.text, last), Way::Quoted)
-    }
-
     /// Whether a word that begins here is a comment to the line's end: `#`, or `dnl` of M4.
     fn begins_comment(&self, index: usize, byte: u8) -> bool {
-        if byte == b'#' {
-            return true;
-        }
         let next = index.saturating_add(1);
-        self.form.dialect == Dialect::Macros
-            && byte_at(self.text, next) == Some(b'n')
-            && byte_at(self.text, next.saturating_add(1)) == Some(b'l')
-            && name_end(self.text, index) == index.saturating_add(3)
+        byte == b'#'
+            || (self.form.dialect == Dialect::Macros
+                && self.text.byte(next) == Some(b'n')
+                && self.text.byte(next.saturating_add(1)) == Some(b'l')
+                && self.name_end(index) == index.saturating_add(3))
     }
 
     /// Adds a unit to the word, or the name with `@` around it that begins there.
-    pub fn add_byte(&mut self, index: usize, unit: Unit) -> Result<(), AllocError> {
-        if self.form.dialect != Dialect::Template || byte_of(unit) != Some(b'@') {
-            return self.add(unit);
-        }
-        match placeholder_end(self.text, index) {
-            Some(last) => {
-                self.resume = last.saturating_add(1);
-                self.add_hole(start_of(unit), end_at(self.text, last), self.made_way())
+    pub fn add_byte(&mut self, index: usize, unit: Unit) -> Result<()> {
+        let from = index.saturating_add(1);
+        if self.form.dialect == Dialect::Template
+            && unit.byte() == Some(b'@')
+            && self.text.byte(from).is_some_and(begins_name)
+        {
+            let last = self.name_end(from);
+            if self.text.byte(last) == Some(b'@') {
+                return self.add_hole_to(unit, last, self.made_way());
             }
-            None => self.add(unit),
         }
+        self.add(unit)
     }
 
     /// Opens what encloses the units from this number on.
@@ -237,7 +251,7 @@ impl Reader<'_> {
         from: usize,
         enclosure: Enclosure,
         is_hole: bool,
-    ) -> Result<(), AllocError> {
+    ) -> Result<()> {
         if enclosure != Enclosure::Group {
             self.note_opening(index);
         }
@@ -247,27 +261,22 @@ impl Reader<'_> {
         }
         let frame = self.frame_for(index, enclosure, is_hole);
         let outer = std::mem::replace(&mut self.top, frame);
-        self.frames.push(outer)?;
-        Ok(())
+        Ok(self.frames.push(outer)?)
     }
 
     /// The frame of what is opened.
     fn frame_for(&self, index: usize, enclosure: Enclosure, is_hole: bool) -> Frame {
+        let is_group = enclosure == Enclosure::Group;
         let mut frame = Frame::new(self.alloc, Quote::None);
         frame.enclosure = enclosure;
         frame.is_hole = is_hole;
-        frame.is_plain = self.top.is_plain
-            && self.top.quote == Quote::None
-            && enclosure == Enclosure::Group;
-        frame.opened = match self.text.get(index) {
-            Some(unit) => start_of(unit),
-            None => 0,
-        };
+        frame.is_plain = self.top.is_plain && self.top.quote == Quote::None && is_group;
+        frame.opened = self.start_at(index);
         frame.is_in_double = enclosure == Enclosure::Parameter
             && (self.top.is_in_double || matches!(self.top.quote, Quote::Double | Quote::Body));
         frame.brackets = self.brackets;
         frame.floor = self.brackets;
-        frame.flow.body = if self.top.flow.begins_function && enclosure == Enclosure::Group {
+        frame.flow.body = if self.top.flow.begins_function && is_group {
             self.output.functions.len()
         } else {
             self.top.flow.body
@@ -284,10 +293,9 @@ impl Reader<'_> {
     }
 
     /// Leaves all that is open, and goes on at the next line.
-    fn give_up_line(&mut self, index: usize) -> Result<(), AllocError> {
-        self.output
-            .unread
-            .push(end_at(self.text, index.saturating_sub(1)))?;
+    fn give_up_line(&mut self, index: usize) -> Result<()> {
+        let before = self.end_at(index.saturating_sub(1));
+        self.output.unread.push(before)?;
         self.top = Frame::new(self.alloc, Quote::Comment);
         self.top.brackets = self.brackets;
         self.top.floor = self.brackets;
@@ -296,26 +304,26 @@ impl Reader<'_> {
     }
 
     /// Closes what encloses, before the byte of this offset in the file.
-    pub fn close(&mut self, end: usize) -> Result<(), AllocError> {
+    pub fn close(&mut self, end: usize) -> Result<()> {
         self.end_command()?;
         let Some(outer) = self.frames.pop() else {
             return Ok(());
         };
         let inner = std::mem::replace(&mut self.top, outer);
         self.top.flow.begins_function = false;
-        if inner.is_hole {
-            let way = match inner.enclosure {
-                Enclosure::Parameter if inner.is_several => Way::Several,
-                Enclosure::Substitution if inner.is_process => Way::Quoted,
-                _ => self.way(),
-            };
-            return self.add_hole(inner.opened, end, way);
+        if !inner.is_hole {
+            return Ok(());
         }
-        Ok(())
+        let way = match inner.enclosure {
+            Enclosure::Parameter if inner.is_several => Way::Several,
+            Enclosure::Substitution if inner.is_process => Way::Quoted,
+            _ => self.way(),
+        };
+        self.add_hole(inner.opened, end, way)
     }
 
     /// Leaves all that encloses, whose units are lost.
-    pub fn leave_frames(&mut self) -> Result<(), AllocError> {
+    pub fn leave_frames(&mut self) -> Result<()> {
         if !self.frames.is_empty() {
             self.output.unread.push(self.top.opened)?;
         }
@@ -331,19 +339,27 @@ impl Reader<'_> {
     pub fn is_closed(&self) -> bool {
         self.top.is_plain && matches!(self.top.quote, Quote::None | Quote::Comment)
     }
+
+    /// The offset in the file where the unit of this number begins; 0 where the text ends before.
+    pub fn start_at(&self, index: usize) -> usize {
+        self.text.get(index).map_or(0, Unit::start)
+    }
+
+    /// The offset in the file behind it.
+    pub fn end_at(&self, index: usize) -> usize {
+        self.text.get(index).map_or(0, Unit::end)
+    }
+
+    /// Where the name that begins at this index ends.
+    pub fn name_end(&self, from: usize) -> usize {
+        let length = self.text.len();
+        (from..length)
+            .find(|index| !self.text.byte(*index).is_some_and(is_name_byte))
+            .unwrap_or(length)
+    }
 }
 
-/// The number of the second `@` of the name that begins with the first one.
-fn placeholder_end(text: Text, index: usize) -> Option<usize> {
-    let from = index.saturating_add(1);
-    match byte_at(text, from) {
-        Some(byte) if begins_name(byte) => {}
-        _ => return None,
-    }
-    let end = name_end(text, from);
-    if byte_at(text, end) == Some(b'@') {
-        Some(end)
-    } else {
-        None
-    }
+/// Whether a name of a variable may begin with the byte.
+pub(crate) fn begins_name(byte: u8) -> bool {
+    byte.is_ascii_alphabetic() || byte == b'_'
 }

@@ -1,20 +1,24 @@
-//! Words and ends of commands, and the reserved words (XCU 2.4).
+//! Words and ends of commands, the reserved words (XCU 2.4), and which commands run whenever their text does (XCU 2.9.2 to 2.9.5).
 
-use crate::command::ShellWord;
+use crate::command::{ShellWord, Site};
 use crate::frame::{Awaited, Braces, Draft, Enclosure, Quote};
 use crate::reader::{Dialect, Reader};
-use crate::units::{end_of, is_text, start_of};
-use sedck_traced::{Hole, Unit, Way};
-use std::alloc::AllocError;
+use sedck_traced::{Hole, Result, Unit, Way, is_one_of, is_text};
 
 /// The most commands of a text that are kept, so that memory is bounded.
 const MOST: usize = 100_000;
 
 /// Reserved words before a command, which are no words of it.
-static RESERVED: &'static [&'static [u8]] = &[
-    b"if", b"then", b"else", b"elif", b"fi", b"do", b"done", b"while", b"until", b"{", b"}", b"!",
-    b"time", b"coproc",
+static RESERVED: &'static [&'static str] = &[
+    "if", "then", "else", "elif", "fi", "do", "done", "while", "until", "{", "}", "!", "time",
+    "coproc",
 ];
+
+/// Words that begin a condition or a loop.
+static BEGINNINGS: &'static [&'static str] = &["if", "while", "until", "for", "select", "case"];
+
+/// Words that end one.
+static ENDS: &'static [&'static str] = &["fi", "done"];
 
 impl Reader<'_> {
     /// Begins a word at this offset in the file, if none is begun.
@@ -26,58 +30,52 @@ impl Reader<'_> {
     }
 
     /// Adds a unit to the word. What isn't known in the text that is read is there before its quotes are.
-    pub fn add(&mut self, unit: Unit) -> Result<(), AllocError> {
-        let start = crate::units::start_of(unit);
-        self.begin_word(start);
-        let unit = match unit {
-            Unit::Hole(hole) if hole.way == Way::Several => unit,
-            Unit::Hole(hole) => Unit::Hole(Hole {
-                way: self.made_way(),
-                ..hole
-            }),
-            Unit::Byte(0, _) => {
-                self.output.unread.push(start)?;
-                unit
+    pub fn add(&mut self, unit: Unit) -> Result<()> {
+        self.begin_word(unit.start());
+        let mut unit = unit;
+        match unit {
+            Unit::Hole(hole) if hole.way != Way::Several => {
+                let way = self.made_way();
+                unit = Unit::Hole(Hole { way, ..hole });
             }
-            _ => unit,
-        };
-        self.top.word.units.push(unit)?;
-        Ok(())
+            Unit::Byte(0, offset) => self.output.unread.push(offset)?,
+            _ => {}
+        }
+        Ok(self.top.word.units.push(unit)?)
     }
 
     /// Adds a hole to the word.
-    pub fn add_hole(&mut self, start: usize, end: usize, way: Way) -> Result<(), AllocError> {
-        if way == Way::Several {
-            self.top.is_several = true;
-        }
+    pub fn add_hole(&mut self, start: usize, end: usize, way: Way) -> Result<()> {
+        self.top.is_several |= way == Way::Several;
         self.begin_word(start);
-        self.top
-            .word
-            .units
-            .push(Unit::Hole(Hole { start, end, way }))?;
-        Ok(())
+        let hole = Hole { start, end, way };
+        Ok(self.top.word.units.push(Unit::Hole(hole))?)
+    }
+
+    /// Adds a hole in place of the units from this one on to that of the number, behind which reading goes on.
+    pub fn add_hole_to(&mut self, first: Unit, last: usize, way: Way) -> Result<()> {
+        self.resume = last.saturating_add(1);
+        self.add_hole(first.start(), self.end_at(last), way)
     }
 
     /// How what an expansion makes becomes a part of the word.
     pub fn way(&self) -> Way {
-        if self.top.quote == Quote::None && !self.top.is_in_double {
-            Way::Bare
-        } else {
-            Way::Quoted
+        match self.top.quote {
+            Quote::None if !self.top.is_in_double => Way::Bare,
+            _ => Way::Quoted,
         }
     }
 
     /// How what is in the text before it is read becomes a part of the word.
     pub fn made_way(&self) -> Way {
-        if self.top.quote == Quote::None {
-            Way::MadeBare
-        } else {
-            Way::MadeQuoted
+        match self.top.quote {
+            Quote::None => Way::MadeBare,
+            _ => Way::MadeQuoted,
         }
     }
 
     /// Ends the word, if one is begun.
-    pub fn end_word(&mut self) -> Result<(), AllocError> {
+    pub fn end_word(&mut self) -> Result<()> {
         if !self.top.has_word {
             return Ok(());
         }
@@ -85,25 +83,19 @@ impl Reader<'_> {
         let word = std::mem::replace(&mut self.top.word, ShellWord::new(self.alloc));
         self.top.has_word = false;
         self.top.flow.is_awaited = false;
-        let awaited = self.top.awaited;
-        self.top.awaited = Awaited::Word;
+        let awaited = std::mem::replace(&mut self.top.awaited, Awaited::Word);
         match awaited {
-            Awaited::Word => self.add_word(word),
-            Awaited::Target => {
-                self.top.command.target = Some(word);
-                Ok(())
-            }
-            Awaited::Skipped => Ok(()),
-            Awaited::Delimiter {
-                is_stripped,
-                is_input,
-            } => self.await_body(word, is_stripped, is_input),
+            Awaited::Word => return self.add_word(word),
+            Awaited::Delimiter(delimiter) => return self.await_body(word, delimiter),
+            Awaited::Target => self.top.command.target = Some(word),
+            Awaited::Skipped => {}
         }
+        Ok(())
     }
 
     /// Makes a hole of braces that some shells expand, and others don't.
     fn expand_braces(&mut self) {
-        let braces = std::mem::replace(&mut self.top.braces, Braces::NONE);
+        let braces = std::mem::replace(&mut self.top.braces, Braces::default());
         let (Some(from), Some(to)) = (braces.from, braces.to) else {
             return;
         };
@@ -111,104 +103,96 @@ impl Reader<'_> {
         let (Some(first), Some(last)) = (units.get(from).copied(), units.get(to).copied()) else {
             return;
         };
-        let hole = Hole {
-            start: start_of(first),
-            end: end_of(last),
-            way: Way::Several,
-        };
+        let (start, end, way) = (first.start(), last.end(), Way::Several);
         for index in from..to.saturating_add(1) {
             if let Some(unit) = units.get_mut(index) {
-                *unit = Unit::Hole(hole);
+                *unit = Unit::Hole(Hole { start, end, way });
             }
         }
     }
 
     /// Adds a word to the command, unless it is a reserved one.
-    fn add_word(&mut self, word: ShellWord) -> Result<(), AllocError> {
+    fn add_word(&mut self, word: ShellWord) -> Result<()> {
         if !word.is_quoted && self.read_reserved(&word.units)? {
             return Ok(());
         }
         self.top.flow.begins_function = false;
-        self.top.command.words.push(word)?;
-        Ok(())
+        Ok(self.top.command.words.push(word)?)
     }
 
     /// Whether the word is a reserved one where it stands. `case` and `esac` change what parentheses mean.
-    fn read_reserved(&mut self, units: &[Unit]) -> Result<bool, AllocError> {
+    fn read_reserved(&mut self, units: &[Unit]) -> Result<bool> {
         let is_first = self.top.command.words.is_empty();
-        if (is_first || self.top.is_pattern) && is_text(units, b"esac") {
+        if (is_first || self.top.is_pattern) && is_text(units, "esac") {
             self.end_compound();
             self.top.cases = self.top.cases.saturating_sub(1);
             self.top.is_pattern = false;
             self.top.command.words.clear();
             return Ok(true);
         }
-        if self.top.is_test && is_text(units, b"]]") {
+        if self.top.is_test && is_text(units, "]]") {
             self.top.is_test = false;
         }
-        if is_first {
-            self.top.is_test |= self.form.dialect != Dialect::Macros && is_text(units, b"[[");
-            self.note_flow(units);
-            return Ok(is_reserved(units));
+        if !is_first {
+            return self.read_second_reserved(units);
         }
-        self.read_second_reserved(units)
+        self.top.is_test |= self.form.dialect != Dialect::Macros && is_text(units, "[[");
+        self.note_flow(units);
+        Ok(is_one_of(units, RESERVED))
     }
 
     /// The same of a word that isn't the first one: `in` of `case`, `do` of `for`, and `{` of a function.
-    fn read_second_reserved(&mut self, units: &[Unit]) -> Result<bool, AllocError> {
+    fn read_second_reserved(&mut self, units: &[Unit]) -> Result<bool> {
         let words = &self.top.command.words;
-        let begins_case = words.len() == 2 && is_text(units, b"in") && begins_with(words, b"case");
-        let begins_body = words.len() == 2
-            && ((is_text(units, b"{") && begins_with(words, b"function"))
-                || (is_text(units, b"do") && begins_with(words, b"for")));
+        let is_third = words.len() == 2;
+        let begins_case = is_third && is_text(units, "in") && begins_with(words, "case");
+        let begins_body = is_third && is_text(units, "{") && begins_with(words, "function");
+        let begins_loop = is_third && is_text(units, "do") && begins_with(words, "for");
         if begins_case {
             self.top.cases = self.top.cases.saturating_add(1);
             self.top.is_pattern = true;
             self.top.parentheses = 0;
         }
-        if begins_body && is_text(units, b"{") {
+        if begins_body {
             let name = self.top.command.words.pop();
             self.begin_function(name)?;
             self.note_flow(units);
         }
-        if begins_case || begins_body {
+        let is_reserved = begins_case || begins_body || begins_loop;
+        if is_reserved {
             self.top.command.words.clear();
         }
-        Ok(begins_case || begins_body)
+        Ok(is_reserved)
     }
 
     /// Ends the command, if one is begun.
-    pub fn end_command(&mut self) -> Result<(), AllocError> {
+    pub fn end_command(&mut self) -> Result<()> {
         self.end_word()?;
         self.top.awaited = Awaited::Word;
         self.top.is_test = false;
         let mut command = std::mem::replace(&mut self.top.command, Draft::new(self.alloc));
-        if let Enclosure::Array = self.top.enclosure {
-            return self.note_array(&command.words);
+        let Some(first) = command.words.first() else {
+            return Ok(());
+        };
+        let start = first.start;
+        if self.top.enclosure == Enclosure::Array {
+            // What the words of an array are used for isn't followed.
+            if ends_with_sed(&first.units) {
+                self.output.unread.push(start)?;
+            }
+            return Ok(());
         }
-        if command.words.is_empty() || self.top.is_pattern || !self.top.has_commands() {
+        if self.top.is_pattern || !self.top.has_commands() {
             return Ok(());
         }
         command.site = self.site();
         if self.output.commands.len() < MOST {
-            return Ok(self.output.commands.push(command)?);
+            self.output.commands.push(command)?;
+        } else if !self.output.is_full {
+            self.output.is_full = true;
+            self.output.unread.push(start)?;
         }
-        if self.output.is_full {
-            return Ok(());
-        }
-        self.output.is_full = true;
-        match command.words.first() {
-            Some(word) => Ok(self.output.unread.push(word.start)?),
-            None => Ok(()),
-        }
-    }
-
-    /// Notes an array whose first word is a sed: what its words are used for isn't followed.
-    fn note_array(&mut self, words: &[ShellWord]) -> Result<(), AllocError> {
-        match words.first() {
-            Some(word) if ends_with_sed(&word.units) => Ok(self.output.unread.push(word.start)?),
-            _ => Ok(()),
-        }
+        Ok(())
     }
 
     /// Leaves the command that is read.
@@ -224,11 +208,11 @@ impl Reader<'_> {
         let words = &self.top.command.words;
         self.top.enclosure == Enclosure::Array
             || (self.top.is_test && words.is_empty())
-            || (words.len() == 2 && begins_with(words, b"case"))
+            || (words.len() == 2 && begins_with(words, "case"))
     }
 
     /// Ends a line, behind which here-documents may follow.
-    pub fn end_line(&mut self, index: usize) -> Result<(), AllocError> {
+    pub fn end_line(&mut self, index: usize) -> Result<()> {
         self.end_word()?;
         if !self.goes_on() {
             self.end_command()?;
@@ -239,28 +223,105 @@ impl Reader<'_> {
         }
         self.read_bodies(index.saturating_add(1))
     }
-}
 
-/// Whether the units are a reserved word before a command.
-fn is_reserved(units: &[Unit]) -> bool {
-    for word in RESERVED {
-        if is_text(units, word) {
-            return true;
+    /// Where the command is that is being read.
+    fn site(&self) -> Site {
+        let flow = self.top.flow;
+        Site {
+            body: flow.body,
+            is_certain: flow.depth == 0 && !flow.is_conditional && self.frames.is_empty(),
         }
     }
-    false
+
+    /// Notes what begins or ends with the first word of a command.
+    fn note_flow(&mut self, units: &[Unit]) {
+        if is_text(units, "{") {
+            self.open_block();
+        } else if is_text(units, "}") {
+            self.close_block();
+        } else if is_one_of(units, BEGINNINGS) {
+            self.top.flow.depth = self.top.flow.depth.saturating_add(1);
+        } else if is_one_of(units, ENDS) {
+            self.end_compound();
+        }
+        self.top.flow.begins_function = false;
+    }
+
+    /// Ends a condition or a loop.
+    fn end_compound(&mut self) {
+        self.top.flow.depth = self.top.flow.depth.saturating_sub(1);
+    }
+
+    /// Keeps the name of a function whose body comes next.
+    pub fn begin_function(&mut self, name: Option<ShellWord>) -> Result<()> {
+        if let Some(name) = name {
+            self.output.functions.push(name)?;
+            self.top.flow.begins_function = true;
+        }
+        Ok(())
+    }
+
+    /// Opens a group, or the body of a function.
+    fn open_block(&mut self) {
+        let flow = &mut self.top.flow;
+        let around = (flow.body, flow.depth);
+        if flow.begins_function && self.top.outer.push(around).is_ok() {
+            flow.body = self.output.functions.len();
+            flow.depth = 0;
+            flow.is_conditional = false;
+        } else {
+            flow.depth = flow.depth.saturating_add(1);
+        }
+    }
+
+    /// Closes a group, or the body of a function.
+    fn close_block(&mut self) {
+        if self.top.flow.depth > 0 {
+            self.end_compound();
+        } else if let Some((body, depth)) = self.top.outer.pop() {
+            self.top.flow.body = body;
+            self.top.flow.depth = depth;
+        }
+    }
+
+    /// Ends the command before `&&`, `||` or a pipe: what follows depends on it, and newlines may precede it.
+    pub fn join_commands(&mut self, is_pipe: bool) -> Result<()> {
+        self.end_word()?;
+        self.top.flow.is_conditional |= is_pipe;
+        self.end_command()?;
+        self.top.flow.is_conditional = true;
+        self.top.flow.is_awaited = true;
+        Ok(())
+    }
+
+    /// Ends a list of commands, unless an operator awaits another one.
+    pub fn end_list(&mut self) {
+        if !self.top.flow.is_awaited {
+            self.top.flow.is_conditional = false;
+            self.top.flow.list = self.output.commands.len();
+        }
+    }
+
+    /// Ends a list of commands that runs beside what follows.
+    pub fn end_beside(&mut self) {
+        for index in self.top.flow.list..self.output.commands.len() {
+            if let Some(command) = self.output.commands.get_mut(index) {
+                command.site.is_certain = false;
+            }
+        }
+        self.end_list();
+    }
 }
 
 /// Whether the units are `sed`, or a path that ends with it.
 fn ends_with_sed(units: &[Unit]) -> bool {
     let from = units.len().saturating_sub(4);
-    is_text(units, b"sed") || is_text(units.get(from..).unwrap_or(&[]), b"/sed")
+    is_text(units, "sed") || is_text(units.get(from..).unwrap_or(&[]), "/sed")
 }
 
 /// Whether the first of the words is this one.
-pub(crate) fn begins_with(words: &[ShellWord], text: &[u8]) -> bool {
-    match words.first() {
-        Some(word) => !word.is_quoted && is_text(&word.units, text),
-        None => false,
-    }
+pub(crate) fn begins_with(words: &[ShellWord], text: &str) -> bool {
+    words
+        .first()
+        .is_some_and(|word| !word.is_quoted && word.is(text))
 }

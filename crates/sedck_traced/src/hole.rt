@@ -41,26 +41,21 @@ impl Way {
 /// `@NAME@`; none where the hole is filled by a command. `written` is what the file has in place of the hole.
 pub fn hole_name(written: &[u8]) -> Option<&[u8]> {
     match written {
-        [b'$', b'(' | b'{', name @ ..] => non_empty(name_of(name)),
-        [b'$', name @ ..] => non_empty(name_of(name)),
-        [b'@', name @ ..] => non_empty(name_of(name)),
+        [b'$', b'(' | b'{', name @ ..] | [b'$' | b'@', name @ ..] => name_of(name),
         _ => None,
     }
 }
 
-/// The letters, digits and underscores at the beginning.
-fn name_of(text: &[u8]) -> &[u8] {
+/// The letters, digits and underscores at the beginning, if there are any.
+fn name_of(text: &[u8]) -> Option<&[u8]> {
     let length = text
         .iter()
         .position(|byte| !is_name_byte(*byte))
         .unwrap_or(text.len());
-    text.get(..length).unwrap_or(&[])
+    text.get(..length).filter(|name| !name.is_empty())
 }
 
-fn is_name_byte(byte: u8) -> bool {
+/// Whether a name of a variable may have the byte.
+pub fn is_name_byte(byte: u8) -> bool {
     byte.is_ascii_alphanumeric() || byte == b'_'
-}
-
-fn non_empty(name: &[u8]) -> Option<&[u8]> {
-    if name.is_empty() { None } else { Some(name) }
 }

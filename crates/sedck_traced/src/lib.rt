@@ -7,6 +7,8 @@ mod hole;
 mod origin;
 mod unit;
 
-pub use hole::{Hole, Way, hole_name};
-pub use origin::{Origin, Traced, escape_byte, has_hole, is_traced};
-pub use unit::{Text, Unit};
+pub use hole::{Hole, Way, hole_name, is_name_byte};
+pub use origin::{Origin, Traced, escape_byte, has_byte, has_hole, is_traced};
+pub use unit::{
+    Result, Text, Unit, begins_with, byte_at, is_among, is_one_of, is_text, name_length, named,
+};

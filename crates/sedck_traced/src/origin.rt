@@ -105,7 +105,7 @@ fn next_from(file: &[u8], from: usize, origin: Origin) -> usize
 }
 
 /// Whether the file has the byte at the offset.
-fn has_byte(file: &[u8], offset: usize, byte: u8) -> bool
+pub fn has_byte(file: &[u8], offset: usize, byte: u8) -> bool
     ensures { result ≡ is_at file.now offset byte }
 {
     match file.get(offset) {
