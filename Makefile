@@ -35,13 +35,13 @@ demo:
 try:
 	@python3 tools/try.py "$(RT)" $(SCRIPTS)
 
-# The gate proves everything and builds the programs; the tests are then those that stand alone, with `build` and `refusals-program` as
+# The gate proves everything and builds the programs; the tests are then those that stand alone, with `build` and the programs of tests as
 # they are, so that nothing is proved or built again. A C compiler that is missing is missed before the gate.
 test: build/refuse.so
 	@echo "Running the gate: every proof from nothing, wrong bodies, the tests and the programs (90 to 200 processor minutes) ..."
 	@python3 tools/gate.py "$(RT)"
 	@$(COPY)
-	@$(MAKE) --no-print-directory -o build -o refusals-program docs rows explain-tests refusals streams tools-tests calls-tests wrapper-tests
+	@$(MAKE) --no-print-directory -o build -o refusals-program -o runs-program docs rows explain-tests refusals streams tools-tests calls-tests wrapper-tests
 	@python3 tools/planted.py "$(RT)" --behind || true
 	@cat build/gate-cost
 
@@ -53,11 +53,12 @@ rows: build refusals-program
 	@echo "Running build/sedck on rows of scripts and certificates ..."
 	python3 tests/rows.py build/sedck crates/sedck_refusals/out/sedck_refusals
 
-explain-tests: build
+explain-tests: build runs-program
 	@echo "Testing the reports of sedck-explain ..."
 	python3 tests/explain.py build/sedck-explain build/sedck
 	python3 tests/hints.py build/sedck-explain build/sedck
 	python3 tests/fixes.py build/sedck-explain
+	python3 tests/parts.py crates/sedck_runs/out/sedck_runs
 
 # `sedck_refusals` makes one call twice, also those that sedck doesn't show; the library refuses one request for memory of the program that it is loaded into.
 refusals: build refusals-program build/refuse.so

@@ -4,29 +4,39 @@ ghost use Rattle.std.specs.Prelude.{OnOk};
 ghost use Rattle.sedck_advice.specs.Added.{AddsNoError};
 
 use crate::ignored::{Word, unknown_warnings};
-use crate::labels::label_notes;
-use crate::looks::look_warnings;
-use crate::names::name_warnings;
-use sedck_report::{Finding, NamedFile};
+use crate::labels::label_looks;
+use crate::looks::{looks_of, push_looks};
+use crate::names::{NamedFiles, name_warnings};
+use sedck_report::Finding;
 use sedck_script::Location;
 use std::alloc::{AllocError, Global};
 
+/// A script that was read.
+#[derive(Clone, Copy)]
+pub struct ReadScript<'a> {
+    pub text: &'a [u8],
+    pub locations: &'a [Location],
+    pub files: NamedFiles<'a>,
+    /// The words of comments that ignore warnings.
+    pub words: &'a [Word<'a>],
+}
+
 /// Adds the warnings of the script's looks, of the names of its files, and of words in its comments that are no codes; and the notes of its
-/// labels. `own` is the path of the script's own file, if it has one.
+/// labels.
 pub fn add_warnings(
     alloc: Global,
     findings: &mut Vec<Finding>,
-    text: &[u8],
-    locations: &[Location],
-    own: Option<&[u8]>,
-    reads: &[NamedFile],
-    writes: &[NamedFile],
-    words: &[Word],
+    script: ReadScript,
 ) -> Result<(), AllocError>
     ensures { OnOk result (AddsNoError findings.old.items findings.new.items) }
 {
-    look_warnings(alloc, findings, text, locations)?;
-    name_warnings(alloc, findings, own, reads, writes)?;
-    unknown_warnings(alloc, findings, text, words)?;
-    label_notes(alloc, findings, text, locations)
+    let ReadScript {
+        text,
+        locations,
+        ..
+    } = script;
+    push_looks(alloc, findings, &looks_of(alloc, text, locations)?)?;
+    name_warnings(alloc, findings, script.files)?;
+    unknown_warnings(alloc, findings, text, script.words)?;
+    push_looks(alloc, findings, &label_looks(alloc, text, locations)?)
 }

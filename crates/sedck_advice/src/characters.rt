@@ -2,8 +2,9 @@
 //! which they are parts.
 
 use crate::expressions::{Expression, expressions_in};
-use crate::lists::Reading;
+use crate::reading::Reading;
 use sedck_script::{Location, Part, Pattern, Script, Verb};
+use std::alloc::{AllocError, Global};
 use std::str;
 
 /// A byte above 127 in the text of a script, with the whole character that ends or begins with it, if it is a part of one.
@@ -17,24 +18,24 @@ pub(crate) struct Character {
 }
 
 /// The first such byte of the command that is repeated by itself, or else that is in no whole character, or in a list of `y`.
-pub(crate) fn character_in(text: &[u8], location: Location) -> Option<Character> {
-    let command = text.get(location.start..location.end)?;
-    let expressions = expressions_in(text, location);
-    for expression in expressions {
-        if let Some(expression) = expression
-            && let Some(character) = repeated_in(expression, command)
-        {
-            return Some(character);
+pub(crate) fn character_in(
+    alloc: Global,
+    text: &[u8],
+    location: Location,
+) -> Result<Option<Character>, AllocError> {
+    let command = text.get(location.start..location.end).unwrap_or(&[]);
+    let expressions = expressions_in(alloc, text, location)?;
+    for expression in &expressions {
+        if let Some(character) = repeated_in(*expression, command) {
+            return Ok(Some(character));
         }
     }
-    for expression in expressions {
-        if let Some(expression) = expression
-            && let Some(character) = broken_in(expression)
-        {
-            return Some(character);
+    for expression in &expressions {
+        if let Some(character) = broken_in(*expression) {
+            return Ok(Some(character));
         }
     }
-    listed_in(text, location)
+    Ok(listed_in(text, location))
 }
 
 /// The first byte of the expression that is in no whole character.
@@ -51,7 +52,7 @@ fn broken_in(expression: Expression) -> Option<Character> {
 
 /// The first byte above 127 that the expression repeats by itself.
 fn repeated_in(expression: Expression, command: &[u8]) -> Option<Character> {
-    let mut reading = Reading::START;
+    let mut reading = Reading::of_expression(expression.delimiter);
     let mut groups = 0usize;
     for (index, byte) in expression.bytes.iter().enumerate() {
         let end = index.saturating_add(1);
@@ -60,7 +61,7 @@ fn repeated_in(expression: Expression, command: &[u8]) -> Option<Character> {
             let may_be_grouped = may_be_grouped(expression, command, groups);
             return Some(character_before(expression, end, may_be_grouped));
         }
-        if reading.is_escaped() && *byte == b'(' {
+        if reading.is_escaped && *byte == b'(' {
             groups = groups.saturating_add(1);
         }
         reading = reading.after(*byte);

@@ -45,10 +45,15 @@ impl Concern {
     }
 
     /// The character at which the command is warned of, where that isn't its verb.
-    fn character_in(self, text: &[u8], location: Location) -> Option<Character> {
+    fn character_in(
+        self,
+        alloc: Global,
+        text: &[u8],
+        location: Location,
+    ) -> Result<Option<Character>, AllocError> {
         match self {
-            Concern::Endless => None,
-            Concern::Locale => character_in(text, location),
+            Concern::Endless => Ok(None),
+            Concern::Locale => character_in(alloc, text, location),
         }
     }
 
@@ -101,7 +106,7 @@ fn places_of(
     let mut offsets = Vec::new(alloc);
     let mut characters = Vec::new(alloc);
     for location in &located.locations {
-        let character = concern.character_in(text, *location);
+        let character = concern.character_in(alloc, text, *location)?;
         offsets.push(match character {
             Some(character) => character.start,
             None => location.verb,
@@ -122,19 +127,13 @@ fn place_at(
     character: Option<Character>,
     may_be_grouped: bool,
 ) -> Place {
-    let Some(character) = character else {
-        return Place {
-            position,
-            end: None,
-            fix: None,
-        };
-    };
-    let end = end_behind(text, position, character.length);
+    let end = character.map(|character| end_behind(text, position, character.length));
+    let grouped = character.and_then(|character| character.grouped);
     Place {
         position,
-        end: Some(end),
-        fix: match character.grouped {
-            Some(inside) if may_be_grouped => Some(Fix {
+        end,
+        fix: match (end, grouped) {
+            (Some(end), Some(inside)) if may_be_grouped => Some(Fix {
                 start: position,
                 end,
                 text: NewText::Group(inside),

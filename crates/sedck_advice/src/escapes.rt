@@ -1,6 +1,6 @@
 //! What to write in place of an escape of an expression that is refused.
 
-use crate::lists::Reading;
+use crate::reading::Reading;
 use crate::spot::{Purpose, Spot, behind_part};
 
 /// By the byte after the backslash, and by what is around it.
@@ -75,7 +75,7 @@ fn repeat_hint(spot: Spot) -> &'static str {
 
 /// For `\|`.
 fn bar_hint(spot: Spot) -> &'static str {
-    if spot.reading().is_in_group() {
+    if spot.reading().groups > 0 {
         return group_bar_hint(spot);
     }
     match spot.purpose() {
@@ -139,7 +139,7 @@ fn has_one_end(spot: Spot) -> bool {
     let mut reading = Reading::START;
     let mut ends: usize = 0;
     for byte in spot.rest.iter().take(length) {
-        if reading.is_escaped() && matches!(*byte, b'b' | b'<' | b'>') {
+        if reading.is_escaped && matches!(*byte, b'b' | b'<' | b'>') {
             ends = ends.saturating_add(1);
         }
         reading = reading.after(*byte);

@@ -1,26 +1,29 @@
 //! Signs of extended expressions in those of a script, which are read as basic ones.
 
+use crate::bytes::{is_blank, is_of_label};
 use crate::expressions::{Expression, expressions_in};
-use crate::hints::is_of_label;
-use crate::lists::{Reading, is_blank};
+use crate::reading::Reading;
 use sedck_script::Location;
+use std::alloc::{AllocError, Global};
 
 /// The first sign of an extended expression in what the command has of them.
-pub(crate) fn extended_in(text: &[u8], location: Location) -> Option<usize> {
-    for expression in expressions_in(text, location) {
-        if let Some(expression) = expression
-            && let Some(sign) = extended_at(expression)
-        {
-            return Some(sign);
+pub(crate) fn extended_in(
+    alloc: Global,
+    text: &[u8],
+    location: Location,
+) -> Result<Option<usize>, AllocError> {
+    for expression in &expressions_in(alloc, text, location)? {
+        if let Some(sign) = extended_at(*expression) {
+            return Ok(Some(sign));
         }
     }
-    None
+    Ok(None)
 }
 
 /// The first sign of an extended expression in this one.
 fn extended_at(expression: Expression) -> Option<usize> {
     let bytes = expression.bytes;
-    let mut seen = Seen::before(bytes);
+    let mut seen = Seen::before(expression);
     for (index, byte) in bytes.iter().enumerate() {
         let rest = bytes.get(index.saturating_add(1)..).unwrap_or(&[]);
         if let Some(sign) = seen.sign_at(index, *byte, rest) {
@@ -63,9 +66,9 @@ struct Pair {
 
 impl Seen {
     /// What is seen before the expression.
-    fn before(expression: &[u8]) -> Seen {
+    fn before(expression: Expression) -> Seen {
         Seen {
-            reading: Reading::START,
+            reading: Reading::of_expression(expression.delimiter),
             previous: None,
             may_repeat: false,
             is_markup: false,
@@ -77,7 +80,7 @@ impl Seen {
 
     /// Whether the next byte is neither in a list nor escaped.
     fn is_plain(self) -> bool {
-        !self.reading.is_in_list() && !self.reading.is_escaped()
+        !self.reading.is_in_list() && !self.reading.is_escaped
     }
 
     /// Where the sign is that is complete with this byte, which these follow.
@@ -111,7 +114,6 @@ impl Seen {
     fn after(self, index: usize, byte: u8) -> Seen {
         let is_plain = self.is_plain();
         let reading = self.reading.after(byte);
-        let is_escaped = self.reading.is_escaped();
         Seen {
             reading,
             previous: if is_plain && byte != b'\\' {
@@ -122,7 +124,7 @@ impl Seen {
             may_repeat: (self.reading.is_in_list() && !reading.is_in_list())
                 || (is_plain && matches!(byte, b')' | b'.')),
             is_markup: match byte {
-                b'\\' => is_escaped,
+                b'\\' => self.reading.is_escaped,
                 b'@' => is_plain,
                 _ => self.is_markup && byte.is_ascii_alphabetic(),
             },
@@ -172,27 +174,25 @@ impl Pair {
     fn after(self, index: usize, byte: u8, previous: Option<u8>) -> Pair {
         match (byte, self.start) {
             (b'(', None) => Pair {
-                is_literal: self.is_literal,
                 start: Some(index),
                 is_first: previous == Some(b'^'),
                 has_operator: false,
+                ..self
             },
             (b')', _) => Pair::none(self.is_literal),
             _ => Pair {
-                is_literal: self.is_literal,
-                start: self.start,
-                is_first: self.is_first,
                 has_operator: self.has_operator || matches!(byte, b'*' | b'[' | b'|'),
+                ..self
             },
         }
     }
 }
 
 /// Whether the expression has a `\(` or a `\{`.
-fn has_basic_sign(expression: &[u8]) -> bool {
-    let mut reading = Reading::START;
-    for byte in expression {
-        if reading.is_escaped() && matches!(*byte, b'(' | b'{') {
+fn has_basic_sign(expression: Expression) -> bool {
+    let mut reading = Reading::of_expression(expression.delimiter);
+    for byte in expression.bytes {
+        if reading.is_escaped && matches!(*byte, b'(' | b'{') {
             return true;
         }
         reading = reading.after(*byte);
@@ -225,15 +225,11 @@ fn begins_alternative(rest: &[u8]) -> bool {
 
 /// Whether what follows a `{` is a number or two, and a `}`.
 fn is_interval(rest: &[u8]) -> bool {
-    let behind = without_digits(rest);
-    if !begins_with_digit(rest) {
-        return false;
-    }
-    let behind = match behind.strip_prefix(b",") {
-        Some(second) => without_digits(second),
-        None => behind,
-    };
-    behind.starts_with(b"}")
+    let first = without_digits(rest);
+    let behind = first
+        .strip_prefix(b",")
+        .map_or(first, |second| without_digits(second));
+    begins_with_digit(rest) && behind.starts_with(b"}")
 }
 
 /// The text after the digits with which it begins.

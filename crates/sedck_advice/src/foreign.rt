@@ -1,7 +1,6 @@
 //! Texts that are no scripts of sed, by how they begin.
 
-use crate::hints::is_of_label;
-use crate::lists::{is_blank, without_blanks};
+use crate::bytes::{is_blank, is_of_label, without_blanks};
 
 /// What is said of a refused text that looks like something else.
 #[derive(Clone, Copy)]
@@ -63,12 +62,7 @@ fn other_lines(first: &[u8], second: &[u8]) -> Option<Foreign> {
 
 /// Whether the line begins with one of the shell's words.
 fn begins_command(line: &[u8]) -> bool {
-    for word in SHELL_WORDS {
-        if line.starts_with(*word) {
-            return true;
-        }
-    }
-    false
+    SHELL_WORDS.iter().any(|word| line.starts_with(*word))
 }
 
 /// Whether a word of the line ends in `sed`.
@@ -104,10 +98,6 @@ fn is_target(line: &[u8]) -> bool {
 
 /// How many letters, digits, `_`, `.` and `-` the line begins with.
 fn name_length(line: &[u8]) -> usize {
-    for (length, byte) in line.iter().enumerate() {
-        if !is_of_label(*byte) {
-            return length;
-        }
-    }
-    line.len()
+    let length = line.iter().position(|byte| !is_of_label(*byte));
+    length.unwrap_or(line.len())
 }

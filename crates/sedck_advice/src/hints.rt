@@ -1,7 +1,8 @@
 //! What to write in place of what is refused.
 
+use crate::bytes::{is_blank, without_blanks};
 use crate::escapes::escape_hint;
-use crate::lists::{is_blank, without_blanks};
+use crate::reading::{Place, Reading};
 use crate::spot::{Spot, behind_part};
 use sedck_bre::ReFault;
 use sedck_script::ScriptFault;
@@ -22,7 +23,20 @@ pub fn script_hint(fault: ScriptFault, spot: Spot) -> Option<&'static str> {
         ScriptFault::BadLabel { .. } => Some(label_hint(spot.rest)),
         ScriptFault::ExtraText { .. } => Some(end_hint(spot)),
         ScriptFault::EscapedDelimiter { .. } => Some(delimiter_hint(spot.rest)),
-        fault => other_hint(fault),
+        ScriptFault::TooLong { .. } | ScriptFault::TooManyCommands { .. } => {
+            Some("split the script into several that run one after another")
+        }
+        ScriptFault::Unterminated { .. } => Some(
+            "end each part with the delimiter, on the same line: `s/a/b/`; a newline, a backslash or a byte above 127 can't be the delimiter",
+        ),
+        ScriptFault::MissingName { .. } => Some(
+            "write the name after a blank; it goes on to the end of the line",
+        ),
+        ScriptFault::UnclosedBlock { .. } => Some(
+            "write its `}` on a line of its own; after a file name or a text it would be part of that",
+        ),
+        ScriptFault::NoPreviousExpression { .. } => Some("write the expression"),
+        _ => None,
     }
 }
 
@@ -99,12 +113,9 @@ fn multiples_hint(behind: &[u8]) -> &'static str {
 
 /// The byte after digits and blanks.
 fn verb_in(text: &[u8]) -> Option<u8> {
-    for byte in text {
-        if !is_blank(*byte) && !byte.is_ascii_digit() {
-            return Some(*byte);
-        }
-    }
-    None
+    text.iter()
+        .find(|byte| !is_blank(**byte) && !byte.is_ascii_digit())
+        .copied()
 }
 
 fn address_hint(spot: Spot) -> Option<&'static str> {
@@ -369,12 +380,8 @@ fn text_hint(rest: &[u8]) -> &'static str {
 /// Whether braces are next, after blanks or none, and a comment right after them.
 fn has_braced_comment(rest: &[u8]) -> bool {
     let braces = without_blanks(rest);
-    for byte in braces {
-        if *byte != b'}' {
-            return *byte == b'#' && braces.starts_with(b"}");
-        }
-    }
-    false
+    let behind = braces.iter().find(|byte| **byte != b'}');
+    braces.starts_with(b"}") && behind == Some(&b'#')
 }
 
 fn label_hint(rest: &[u8]) -> &'static str {
@@ -395,14 +402,14 @@ fn end_hint(spot: Spot) -> &'static str {
     if spot.rest.starts_with(b"\\\n") {
         return "BusyBox joins this line with the next one: end the name or the comment with another character";
     }
-    let line = current_line(spot.before);
-    match (ended_command(line), spot.rest.first()) {
+    let Reading { place, command, .. } = spot.in_script();
+    match (place, spot.rest.first()) {
         (_, Some(11 | 12)) => "BusyBox skips this character: begin the name with another one",
-        (Some(b's'), Some(b'g' | b'p' | b'w' | b'0'..=b'9' | b'I' | b'i' | b'm' | b'M' | b'e')) =>
+        (Place::Flags, Some(b'g' | b'p' | b'w' | b'0'..=b'9' | b'I' | b'i' | b'm' | b'M' | b'e')) =>
             "remove the blank before the flag: `s/a/b/p` for `s/a/b/ p`",
-        (Some(b'y'), Some(b'g')) =>
+        (Place::Command, Some(b'g')) if command == b'y' =>
             "`y` takes no flags, and always replaces every character: leave it out",
-        (Some(b':' | b'b' | b't'), _) =>
+        (Place::Label | Place::LabelEnd, _) =>
             "a label can't contain blanks: write `:two_words`, and the same after `b` and `t`; a command follows a `;` or a newline",
         (_, Some(b'0'..=b'9')) if matches!(spot.previous(), Some(b'q' | b'l' | b'L')) => {
             "an exit status of `q` and a width of `l` are extensions of GNU sed: leave them out"
@@ -411,95 +418,9 @@ fn end_hint(spot: Spot) -> &'static str {
     }
 }
 
-/// What precedes in the line, of which the last 512 bytes are looked at.
-pub(crate) fn current_line(before: &[u8]) -> &[u8] {
-    let near = before
-        .get(before.len().saturating_sub(512)..)
-        .unwrap_or(&[]);
-    let start = near.iter().rposition(|byte| *byte == b'\n');
-    near.get(start.map_or(0, |at| at + 1)..).unwrap_or(&[])
-}
-
-/// Whether the line ends in `s`, `y`, `:`, `b` or `t` with all that it takes: the verb.
-pub(crate) fn ended_command(line: &[u8]) -> Option<u8> {
-    for start in 0..line.len() {
-        let before = line.get(..start).unwrap_or(&[]);
-        let text = line.get(start..).unwrap_or(&[]);
-        if is_whole(before, text) {
-            return text.first().copied();
-        }
-    }
-    None
-}
-
-/// Whether the text is `s`, `y`, `:`, `b` or `t` with all that it takes, where this precedes it in its line.
-fn is_whole(before: &[u8], text: &[u8]) -> bool {
-    let part = text.get(2..).unwrap_or(&[]);
-    match (text.first(), text.get(1)) {
-        (Some(b's'), Some(delimiter)) => ends_in_flags(part, *delimiter, b"gpIiemM0123456789"),
-        (Some(b'y'), Some(delimiter)) => ends_in_flags(part, *delimiter, b""),
-        (Some(b':'), _) => without_blanks(before).is_empty() && is_label(text),
-        (Some(b'b' | b't'), _) => !ends_in_letter(before) && is_label(text),
-        _ => false,
-    }
-}
-
-fn ends_in_letter(text: &[u8]) -> bool {
-    matches!(text.last(), Some(byte) if byte.is_ascii_alphabetic())
-}
-
-/// Whether a byte, and then bytes of labels and blanks are all of the text.
-fn is_label(text: &[u8]) -> bool {
-    for byte in text.get(1..).unwrap_or(&[]) {
-        if !is_blank(*byte) && !is_of_label(*byte) {
-            return false;
-        }
-    }
-    true
-}
-
-/// Whether two parts, then these flags and blanks are all of the text.
-fn ends_in_flags(text: &[u8], delimiter: u8, flags: &[u8]) -> bool {
-    let second = behind_part(text, delimiter);
-    let behind = behind_part(second, delimiter);
-    let is_ended = second.len() > behind.len() && text.len() > second.len();
-    let has_two = text.get(text.len().saturating_sub(behind.len() + 1)) == Some(&delimiter);
-    is_ended
-        && has_two
-        && behind
-            .iter()
-            .all(|byte| is_blank(*byte) || flags.contains(byte))
-}
-
-/// Whether labels, and names in general, may have the byte.
-pub(crate) fn is_of_label(byte: u8) -> bool {
-    byte.is_ascii_alphanumeric() || matches!(byte, b'_' | b'.' | b'-')
-}
-
 fn delimiter_hint(rest: &[u8]) -> &'static str {
     if rest.starts_with(b"\\x") {
         return "GNU sed reads `\\x` as the start of a number: use a delimiter that isn't in the expression";
     }
     "use a delimiter that isn't in the expression"
-}
-
-fn other_hint(fault: ScriptFault) -> Option<&'static str> {
-    match fault {
-        ScriptFault::TooLong { .. } | ScriptFault::TooManyCommands { .. } => {
-            Some("split the script into several that run one after another")
-        }
-        ScriptFault::Unterminated { .. } => {
-            Some(
-                "end each part with the delimiter, on the same line: `s/a/b/`; a newline, a backslash or a byte above 127 can't be the delimiter",
-            )
-        }
-        ScriptFault::MissingName { .. } => Some(
-            "write the name after a blank; it goes on to the end of the line",
-        ),
-        ScriptFault::UnclosedBlock { .. } => Some(
-            "write its `}` on a line of its own; after a file name or a text it would be part of that",
-        ),
-        ScriptFault::NoPreviousExpression { .. } => Some("write the expression"),
-        _ => None,
-    }
 }

@@ -7,6 +7,7 @@
 #![tactic(auto)]
 
 mod adding;
+mod bytes;
 mod characters;
 mod comments;
 mod concerns;
@@ -18,22 +19,24 @@ mod foreign;
 mod hints;
 mod ignored;
 mod labels;
-mod lists;
 mod looks;
 mod mends;
 mod names;
 mod paths;
+mod reading;
 mod slow;
 mod spot;
 mod weights;
 
-pub use adding::add_warnings;
+pub use adding::{ReadScript, add_warnings};
+pub use bytes::is_blank;
 pub use concerns::{Concern, concern_warnings};
+pub use expressions::{Expression, expressions_in};
 pub use foreign::{Foreign, other_kind};
 pub use hints::{has_escaped_text, has_open_class, script_hint};
 pub use ignored::{Word, ignoring_words};
-pub use lists::{Reading, is_blank};
 pub use mends::{Mend, script_mend};
-pub use names::named_files;
+pub use names::{NamedFiles, named_files};
+pub use reading::{Place, Reading};
 pub use slow::{ITEM_LIMIT, Slow, slow_of};
 pub use spot::{Purpose, Spot, behind_part};

@@ -3,32 +3,95 @@
 ghost use Rattle.std.specs.Prelude.{OnOk};
 ghost use Rattle.sedck_advice.specs.Added.{AddsNoError};
 
+use crate::bytes::{is_blank, without_blanks};
 use crate::comments::silencing;
 use crate::extended::extended_in;
-use crate::lists::{is_blank, without_blanks};
+use crate::reading::{Place, Reading};
 use sedck_report::{
     Code, Finding, Fix, Level, NewText, Position, end_behind, line_len, position_at, positions,
 };
 use sedck_script::Location;
 use std::alloc::{AllocError, Global};
 
-/// Warns of options in the first line, of a `}` after a label, of comments that begin with an `n`, and of the first text on the line of
-/// its command and the first expression that looks like an extended one.
-pub(crate) fn look_warnings(
+/// What is said of a place in a script.
+#[derive(Clone, Copy)]
+pub(crate) struct Look {
+    pub position: Position,
+    pub end: Option<Position>,
+    pub code: Code,
+    pub message: &'static str,
+    pub hint: &'static str,
+    pub fix: Option<Fix>,
+}
+
+impl Look {
+    ghost use Rattle.std.specs.Prelude.{◌≡◌, false};
+    ghost use Rattle.sedck_report.specs.Levels.{is_error};
+
+    /// A note where all that is read so otherwise is a label, else a warning.
+    fn level(self) -> Level
+        ensures { is_error result ≡ false }
+    {
+        match self.code {
+            Code::LabelToTheLineEnd | Code::LongLabels => Level::Note,
+            _ => Level::Warning,
+        }
+    }
+}
+
+/// Adds a warning or a note for each of them.
+pub(crate) fn push_looks(
     alloc: Global,
     findings: &mut Vec<Finding>,
-    text: &[u8],
-    locations: &[Location],
+    looks: &[Look],
 ) -> Result<(), AllocError>
     ensures { OnOk result (AddsNoError findings.old.items findings.new.items) }
 {
-    if has_options(text) {
-        push_look(alloc, findings, options_look(text))?;
+    for look in looks {
+        findings.push(Finding {
+            level: look.level(),
+            code: look.code,
+            position: Some(look.position),
+            end: look.end,
+            message: String::from_str(alloc, look.message)?,
+            hint: Some(look.hint),
+            fix: look.fix,
+            steps: Vec::new(alloc),
+        })?;
     }
-    brace_warnings(alloc, findings, text, locations)?;
-    comment_warnings(alloc, findings, text, locations)?;
-    text_warning(alloc, findings, text, locations)?;
-    extended_warning(alloc, findings, text, locations)
+    Ok(())
+}
+
+/// Of options in the first line, of each `}` after a label, of each comment that begins with an `n`, and of the first text on the line of
+/// its command and the first expression that looks like an extended one: where one is written so, all are.
+pub(crate) fn looks_of(
+    alloc: Global,
+    text: &[u8],
+    locations: &[Location],
+) -> Result<Vec<Look>, AllocError> {
+    let mut looks = Vec::new(alloc);
+    if has_options(text) {
+        looks.push(options_look(text))?;
+    }
+    for position in &positions(alloc, text, &braces(alloc, text, locations)?)? {
+        looks.push(brace_look(*position))?;
+    }
+    for position in &positions(alloc, text, &silencing(alloc, text)?)? {
+        looks.push(comment_look(text, *position))?;
+    }
+    for location in locations {
+        if let Some(look) = text_look(text, *location) {
+            looks.push(look)?;
+            break;
+        }
+    }
+    for location in locations {
+        if let Some(offset) = extended_in(alloc, text, *location)? {
+            looks.push(extended_look(position_at(text, offset)))?;
+            break;
+        }
+    }
+    Ok(looks)
 }
 
 /// What is said of options in the first line.
@@ -42,23 +105,6 @@ fn options_look(text: &[u8]) -> Look {
         hint: "with `-E` the expressions mean something else, `-i` writes files, `-s` and `-z` divide the input differently",
         fix: None,
     }
-}
-
-/// A warning for each `}` that follows a label.
-fn brace_warnings(
-    alloc: Global,
-    findings: &mut Vec<Finding>,
-    text: &[u8],
-    locations: &[Location],
-) -> Result<(), AllocError>
-    ensures { OnOk result (AddsNoError findings.old.items findings.new.items) }
-{
-    let offsets = braces(alloc, text, locations)?;
-    let places = positions(alloc, text, &offsets)?;
-    for position in &places {
-        push_look(alloc, findings, brace_look(*position))?;
-    }
-    Ok(())
 }
 
 /// What is said of a `}` that follows a label.
@@ -75,23 +121,6 @@ fn brace_look(position: Position) -> Look {
             text: NewText::Plain(";"),
         }),
     }
-}
-
-/// A warning for each comment that some seds take for `#n`.
-fn comment_warnings(
-    alloc: Global,
-    findings: &mut Vec<Finding>,
-    text: &[u8],
-    locations: &[Location],
-) -> Result<(), AllocError>
-    ensures { OnOk result (AddsNoError findings.old.items findings.new.items) }
-{
-    let offsets = silencing(alloc, text, locations)?;
-    let places = positions(alloc, text, &offsets)?;
-    for position in &places {
-        push_look(alloc, findings, comment_look(text, *position))?;
-    }
-    Ok(())
 }
 
 /// What is said of a comment that begins with an `n`. At the start of a script GNU sed takes it for `#n` too: no mend keeps both readings.
@@ -122,75 +151,28 @@ fn comment_look(text: &[u8], position: Position) -> Look {
     }
 }
 
-/// A warning for the first text that is on the line of its command. Where one is written so, all are.
-fn text_warning(
-    alloc: Global,
-    findings: &mut Vec<Finding>,
-    text: &[u8],
-    locations: &[Location],
-) -> Result<(), AllocError>
-    ensures { OnOk result (AddsNoError findings.old.items findings.new.items) }
-{
-    for location in locations {
-        let command = text.get(location.verb..location.end).unwrap_or(&[]);
-        if let Some(given) = text_in_line(command) {
-            push_look(
-                alloc,
-                findings,
-                text_look(position_at(text, location.verb), given),
-            )?;
-            return Ok(());
-        }
-    }
-    Ok(())
-}
-
-/// The text of `a`, `c` or `i` where it is on the line of the command.
-fn text_in_line(command: &[u8]) -> Option<&[u8]> {
-    let [b'a' | b'c' | b'i', rest @ ..] = command else {
+/// What is said of a text on the line of its command. Where it begins with a backslash, `sed --posix` takes it.
+fn text_look(text: &[u8], location: Location) -> Option<Look> {
+    let [b'a' | b'c' | b'i', rest @ ..] = text.get(location.verb..location.end)? else {
         return None;
     };
     let given = without_blanks(rest);
     if given.starts_with(b"\\\n") {
-        None
-    } else {
-        Some(given)
+        return None;
     }
-}
-
-/// What is said of a text on the line of its command. Where it begins with a backslash, `sed --posix` takes it.
-fn text_look(position: Position, given: &[u8]) -> Look {
     let message = if given.starts_with(b"\\") {
         "seds that know the form of the standard alone refuse a text on the line of its command"
     } else {
         "`sed --posix`, and seds that know the form of the standard alone, refuse a text on the line of its command"
     };
-    Look {
-        position,
+    Some(Look {
+        position: position_at(text, location.verb),
         end: None,
         code: Code::OneLineText,
         message,
         hint: "write `a\\`, a newline and the text",
         fix: None,
-    }
-}
-
-/// A warning for the first expression that looks like an extended one.
-fn extended_warning(
-    alloc: Global,
-    findings: &mut Vec<Finding>,
-    text: &[u8],
-    locations: &[Location],
-) -> Result<(), AllocError>
-    ensures { OnOk result (AddsNoError findings.old.items findings.new.items) }
-{
-    for location in locations {
-        if let Some(offset) = extended_in(text, *location) {
-            push_look(alloc, findings, extended_look(position_at(text, offset)))?;
-            return Ok(());
-        }
-    }
-    Ok(())
+    })
 }
 
 /// What is said of a sign of an extended expression.
@@ -203,34 +185,6 @@ fn extended_look(position: Position) -> Look {
         hint: "write `\\(` and `\\)` for a group, `\\{1,\\}` for `+`, `\\{0,1\\}` for `?` and `\\{3\\}` for `{3}`; there is no `|`. If the character is meant, put it into a bracket list, as in `[+]`",
         fix: None,
     }
-}
-
-/// What is said of a place where something else may be meant.
-#[derive(Clone, Copy)]
-struct Look {
-    position: Position,
-    end: Option<Position>,
-    code: Code,
-    message: &'static str,
-    hint: &'static str,
-    fix: Option<Fix>,
-}
-
-/// Adds the warning that says this.
-fn push_look(alloc: Global, findings: &mut Vec<Finding>, look: Look) -> Result<(), AllocError>
-    ensures { OnOk result (AddsNoError findings.old.items findings.new.items) }
-{
-    findings.push(Finding {
-        level: Level::Warning,
-        code: look.code,
-        position: Some(look.position),
-        end: look.end,
-        message: String::from_str(alloc, look.message)?,
-        hint: Some(look.hint),
-        fix: look.fix,
-        steps: Vec::new(alloc),
-    })?;
-    Ok(())
 }
 
 /// Whether the first line calls sed with other options than `-n` and `-f`.
@@ -257,24 +211,15 @@ fn is_option(word: &[u8]) -> bool {
     }
 }
 
-/// Whether what is after the branch is right after its label, or after blanks where there is none.
-fn is_joined(branch: &[u8]) -> bool {
-    match branch {
-        [_, label @ ..] => !label.ends_with(b" ") && !label.ends_with(b"\t")
-            || label.iter().all(|byte| is_blank(*byte)),
-        [] => false,
-    }
-}
-
 /// Where branches end in a `}` that some seds take for a part of the label.
 fn braces(alloc: Global, text: &[u8], locations: &[Location]) -> Result<Vec<usize>, AllocError> {
     let mut offsets = Vec::new(alloc);
     for location in locations {
-        if let (Some(b'b' | b't'), Some(b'}')) = (text.get(location.verb), text.get(location.end)) {
-            let branch = text.get(location.verb..location.end).unwrap_or(&[]);
-            if is_joined(branch) {
-                offsets.push(location.end)?;
-            }
+        let command = text.get(location.verb..location.end).unwrap_or(&[]);
+        let end = Reading::SCRIPT.through(command).place;
+        let is_joined = matches!(end, Place::LabelBegin | Place::Label);
+        if is_joined && text.get(location.end) == Some(&b'}') {
+            offsets.push(location.end)?;
         }
     }
     Ok(offsets)

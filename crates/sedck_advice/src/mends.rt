@@ -1,7 +1,8 @@
 //! Mends that need no judgement: what to write in place of a few bytes, so that the script is read as GNU sed reads it now.
 
-use crate::hints::{BYTE_ORDER_MARK, current_line, ended_command, ends_in_return};
-use crate::lists::is_blank;
+use crate::bytes::is_blank;
+use crate::hints::{BYTE_ORDER_MARK, ends_in_return};
+use crate::reading::Place;
 use crate::spot::Spot;
 use sedck_bre::ReFault;
 use sedck_script::ScriptFault;
@@ -55,11 +56,11 @@ fn negation_mend(rest: &[u8]) -> Option<Mend> {
 
 /// Without the blanks before a flag of `s`.
 fn flag_mend(spot: Spot) -> Option<Mend> {
-    let line = current_line(spot.before);
-    if !is_new_flag(spot) || ended_command(line) != Some(b's') {
+    if !is_new_flag(spot) || spot.in_script().place != Place::Flags {
         return None;
     }
-    let blanks = line
+    let blanks = spot
+        .before
         .iter()
         .rev()
         .take_while(|byte| is_blank(**byte))
@@ -87,9 +88,9 @@ fn label_mend(rest: &[u8]) -> Option<Mend> {
     mend_where(rest.starts_with(b"}"), replaced(0, ";"))
 }
 
-/// For `\0`, where `&` isn't the delimiter: then it would be in the line before.
+/// For `\0`, where `&` isn't the delimiter.
 fn replacement_mend(spot: Spot) -> Option<Mend> {
-    let is_mended = spot.rest.starts_with(b"\\0") && !current_line(spot.before).contains(&b'&');
+    let is_mended = spot.rest.starts_with(b"\\0") && spot.in_script().delimiter != b'&';
     mend_where(is_mended, replaced(2, "&"))
 }
 

@@ -4,10 +4,7 @@ ghost use Rattle.std.specs.Prelude.{◌≡◌, IfOk, OnOk, map};
 ghost use Rattle.sedck_report.specs.Files.{names_of};
 ghost use Rattle.sedck_advice.specs.Added.{AddsNoError};
 
-use crate::doubts::{
-    Doubt, byte_doubt, command_doubt, doubt_where, end_doubt, hidden_doubt, makefile_doubt,
-    option_doubt, path_doubt, shell_doubt, upward_doubt,
-};
+use crate::doubts::{DOUBTS, is_doubtful, reason_of};
 use crate::paths::{Paths, has_name};
 use sedck_report::{Code, Finding, Level, NamedFile, Position, shown_name};
 use sedck_script::{Access, Script, name_of};
@@ -52,91 +49,92 @@ fn unplaced_files<'a>(alloc: Global, names: &[&'a [u8]]) -> Result<Vec<NamedFile
     Ok(files)
 }
 
+/// The files of a script: the path of its own, if it has one, and those that it names.
+#[derive(Clone, Copy)]
+pub struct NamedFiles<'a> {
+    pub own: Option<&'a [u8]>,
+    pub reads: &'a [NamedFile<'a>],
+    pub writes: &'a [NamedFile<'a>],
+}
+
+/// A name at which a reader should look twice.
+#[derive(Clone, Copy)]
+struct Doubt<'a> {
+    file: &'a NamedFile<'a>,
+    access: Access,
+    code: Code,
+}
+
 /// A warning for each name at which a reader should look twice, and each reason for it.
 pub(crate) fn name_warnings(
     alloc: Global,
     findings: &mut Vec<Finding>,
-    own: Option<&[u8]>,
-    reads: &[NamedFile],
-    writes: &[NamedFile],
+    files: NamedFiles,
 ) -> Result<(), AllocError>
     ensures { OnOk result (AddsNoError findings.old.items findings.new.items) }
 {
-    let paths = Paths::of(alloc, own, reads, writes)?;
-    side_warnings(alloc, findings, reads, writes, &paths, Access::Read)?;
-    side_warnings(alloc, findings, writes, reads, &paths, Access::Write)
-}
-
-/// The warnings for the names of one side.
-fn side_warnings(
-    alloc: Global,
-    findings: &mut Vec<Finding>,
-    files: &[NamedFile],
-    others: &[NamedFile],
-    paths: &Paths,
-    access: Access,
-) -> Result<(), AllocError>
-    ensures { OnOk result (AddsNoError findings.old.items findings.new.items) }
-{
-    for file in files {
-        file_warnings(alloc, findings, file, others, paths, access)?;
+    let doubts = doubts_of(alloc, files)?;
+    for doubt in &doubts {
+        push_warning(alloc, findings, *doubt)?;
     }
     Ok(())
 }
 
-/// A warning for each reason to look at this name twice.
-fn file_warnings(
+/// The reasons to look twice at names: first at those that are read.
+fn doubts_of<'a>(alloc: Global, files: NamedFiles<'a>) -> Result<Vec<Doubt<'a>>, AllocError> {
+    let paths = Paths::of(alloc, files)?;
+    let mut doubts = Vec::new(alloc);
+    for file in files.reads {
+        push_doubts(alloc, &mut doubts, &paths, file, Access::Read)?;
+    }
+    for file in files.writes {
+        push_doubts(alloc, &mut doubts, &paths, file, Access::Write)?;
+    }
+    Ok(doubts)
+}
+
+/// Adds the reasons to look twice at this name.
+fn push_doubts<'a>(
     alloc: Global,
-    findings: &mut Vec<Finding>,
-    file: &NamedFile,
-    others: &[NamedFile],
-    paths: &Paths,
+    doubts: &mut Vec<Doubt<'a>>,
+    paths: &Paths<'a>,
+    file: &'a NamedFile<'a>,
     access: Access,
-) -> Result<(), AllocError>
-    ensures { OnOk result (AddsNoError findings.old.items findings.new.items) }
-{
-    let doubts = [
-        path_doubt(file.name),
-        upward_doubt(file.name),
-        byte_doubt(file.name),
-        end_doubt(file.name),
-        command_doubt(file.name),
-        hidden_doubt(file.name),
-        makefile_doubt(file.name),
-        option_doubt(file.name),
-        shell_doubt(file.name),
-        both_doubt(file, others, access),
-        same_doubt(paths.is_shared(alloc, file.name)?),
-        own_doubt(paths.is_own(file.name), access),
-    ];
-    for doubt in doubts {
-        if let Some(doubt) = doubt {
-            push_warning(alloc, findings, file, access, doubt)?;
+) -> Result<(), AllocError> {
+    let name = file.name;
+    for code in &DOUBTS {
+        let is_meant = match *code {
+            // What is read of both is no matter.
+            Code::ReadAndWritten => access == Access::Write && has_name(paths.files.reads, name),
+            Code::NamesItself => access == Access::Write && paths.is_own(name),
+            Code::SameFile => paths.is_shared(alloc, name)?,
+            code => is_doubtful(code, name),
+        };
+        if is_meant {
+            doubts.push(Doubt {
+                file,
+                access,
+                code: *code,
+            })?;
         }
     }
     Ok(())
 }
 
 /// Adds the warning on the name for this reason, at the first command that names it.
-fn push_warning(
-    alloc: Global,
-    findings: &mut Vec<Finding>,
-    file: &NamedFile,
-    access: Access,
-    doubt: Doubt,
-) -> Result<(), AllocError>
+fn push_warning(alloc: Global, findings: &mut Vec<Finding>, doubt: Doubt) -> Result<(), AllocError>
     ensures { OnOk result (AddsNoError findings.old.items findings.new.items) }
 {
-    let does = match access {
+    let does = match doubt.access {
         Access::Read => "reads",
         Access::Write => "writes",
     };
-    let name = shown_name(alloc, file.name)?;
-    let reason = doubt.reason;
+    let name = shown_name(alloc, doubt.file.name)?;
+    let reason = reason_of(doubt.code);
     findings.push(Finding {
         level: Level::Warning,
         code: doubt.code,
-        position: file.positions.first().copied(),
+        position: doubt.file.positions.first().copied(),
         end: None,
         message: format!(in alloc; "this {does} \"{name}\": {reason}")?,
         hint: None,
@@ -144,31 +142,4 @@ fn push_warning(
         steps: Vec::new(alloc),
     })?;
     Ok(())
-}
-
-/// Of a name that the script reads too. Reported of the writing side alone.
-fn both_doubt(file: &NamedFile, others: &[NamedFile], access: Access) -> Option<Doubt> {
-    doubt_where(
-        access == Access::Write && has_name(others, file.name),
-        Code::ReadAndWritten,
-        "the script reads it too",
-    )
-}
-
-/// Of a name that may be that of the script's own file. What is read of it is no matter.
-fn own_doubt(is_own: bool, access: Access) -> Option<Doubt> {
-    doubt_where(
-        is_own && access == Access::Write,
-        Code::NamesItself,
-        "the script's own file has that name, and a sed empties it before it has read the whole script",
-    )
-}
-
-/// Of a name whose path is that of another one.
-fn same_doubt(is_shared: bool) -> Option<Doubt> {
-    doubt_where(
-        is_shared,
-        Code::SameFile,
-        "another name in the script leads to the same file, as `F` and `./F` do",
-    )
 }

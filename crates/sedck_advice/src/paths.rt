@@ -1,40 +1,35 @@
 //! Names that lead to one file, as `F` and `./F`.
 
+use crate::names::NamedFiles;
 use sedck_report::NamedFile;
 use std::alloc::{AllocError, Global};
 
 /// The paths of all names of a script, in order, each once for each name.
 #[derive(Drop)]
 pub(crate) struct Paths<'a> {
+    pub files: NamedFiles<'a>,
     sorted: Vec<Vec<u8>>,
-    /// The path of the script's own file, if it has one.
-    own: Option<&'a [u8]>,
 }
 
 impl<'a> Paths<'a> {
     /// The paths of these names. A name that is on both sides counts once.
-    pub(crate) fn of(
-        alloc: Global,
-        own: Option<&'a [u8]>,
-        reads: &[NamedFile],
-        writes: &[NamedFile],
-    ) -> Result<Paths<'a>, AllocError> {
+    pub(crate) fn of(alloc: Global, files: NamedFiles<'a>) -> Result<Paths<'a>, AllocError> {
         let mut sorted: Vec<Vec<u8>> = Vec::new(alloc);
-        for file in reads {
+        for file in files.reads {
             sorted.push(path_of(alloc, file.name)?)?;
         }
-        for file in writes {
-            if !has_name(reads, file.name) {
+        for file in files.writes {
+            if !has_name(files.reads, file.name) {
                 sorted.push(path_of(alloc, file.name)?)?;
             }
         }
         sorted.sort()?;
-        Ok(Paths { sorted, own })
+        Ok(Paths { files, sorted })
     }
 
     /// Whether the last part of this name is that of the script's own path: from which folder sed will be called isn't known.
     pub(crate) fn is_own(&self, name: &[u8]) -> bool {
-        match self.own {
+        match self.files.own {
             Some(own) => last_part(own) == last_part(name),
             None => false,
         }

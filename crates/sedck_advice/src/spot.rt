@@ -1,6 +1,7 @@
 //! What is around a fault, as far as a hint depends on it.
 
-use crate::lists::{Reading, is_blank, without_blanks};
+use crate::bytes::{is_blank, without_blanks};
+use crate::reading::{Place, Reading};
 
 /// Where a fault is, and what is around it.
 #[derive(Clone, Copy)]
@@ -39,9 +40,14 @@ impl<'a> Spot<'a> {
             .unwrap_or(b'/')
     }
 
-    /// Where a reader of the expression is at the fault.
+    /// A reader of the expression at the fault.
     pub fn reading(self) -> Reading {
-        Reading::of(self.inside())
+        Reading::of_expression(self.delimiter()).through(self.inside())
+    }
+
+    /// A reader of the script at the fault. What is before is read as POSIX has it, but for the expression that has the fault.
+    pub(crate) fn in_script(self) -> Reading {
+        Reading::SCRIPT.through(self.before)
     }
 
     /// The expression up to the fault.
@@ -99,13 +105,14 @@ impl<'a> Spot<'a> {
 
 /// What follows the delimiter that ends this part.
 pub fn behind_part(part: &[u8], delimiter: u8) -> &[u8] {
-    let mut is_escaped = false;
+    let mut reading = Reading {
+        place: Place::Replacement,
+        delimiter,
+        ..Reading::START
+    };
     for (index, byte) in part.iter().enumerate() {
-        if is_escaped {
-            is_escaped = false;
-        } else if *byte == b'\\' {
-            is_escaped = true;
-        } else if *byte == delimiter {
+        reading = reading.after(*byte);
+        if reading.place == Place::Flags {
             return part.get(index + 1..).unwrap_or(&[]);
         }
     }
@@ -114,10 +121,5 @@ pub fn behind_part(part: &[u8], delimiter: u8) -> &[u8] {
 
 /// The last byte that is no blank.
 fn last_byte(text: &[u8]) -> Option<u8> {
-    for byte in text.iter().rev() {
-        if !is_blank(*byte) {
-            return Some(*byte);
-        }
-    }
-    None
+    text.iter().rev().find(|byte| !is_blank(**byte)).copied()
 }

@@ -17,7 +17,8 @@ use crate::answer::{Answer, Answered, answer_of};
 use crate::explanation::Explanation;
 use crate::reporting::{ignored_codes, reported};
 use sedck_advice::{
-    Concern, Slow, add_warnings, concern_warnings, ignoring_words, named_files, slow_of,
+    Concern, NamedFiles, ReadScript, Slow, add_warnings, concern_warnings, ignoring_words,
+    named_files, slow_of,
 };
 use sedck_errors::{
     Denied, any_warning, certificate_refusal, loop_finding, rejection, script_refusal, unbounded,
@@ -167,21 +168,22 @@ fn reports(
     ensures warned { IfOk result (λ r. denied.warnings ≡ true → has_warning warnings.items ≡ true → has_warning r.1.items ≡ true) }
 {
     let locations = &located.locations;
-    let words = ignoring_words(alloc, text, locations)?;
+    let words = ignoring_words(alloc, text)?;
     let mut found = answer_findings(alloc, text, &located.script, &lists.positions, answer)?;
     found.append(&mut warnings)?;
     concern_warnings(alloc, &mut found, text, located, Concern::Endless)?;
     locale_warnings(alloc, &mut found, text, located, denied)?;
-    add_warnings(
-        alloc,
-        &mut found,
+    let script = ReadScript {
         text,
         locations,
-        lists.own,
-        &lists.reads,
-        &lists.writes,
-        &words,
-    )?;
+        files: NamedFiles {
+            own: lists.own,
+            reads: &lists.reads,
+            writes: &lists.writes,
+        },
+        words: &words,
+    };
+    add_warnings(alloc, &mut found, script)?;
     let slow = slow_of(&located.script, &lists.positions);
     let all = denied_findings(alloc, found, denied, answer, lists, slow)?;
     let status = answer.status_under(denied, any_warning(&all), slow.is_some());

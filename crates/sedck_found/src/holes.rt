@@ -1,8 +1,8 @@
 //! The holes of a script, with letters in their places that fit their roles.
 
 use crate::found::{OpenHole, Role};
-use crate::roles::{Place, Places};
 use crate::words::{CallWord, add, empty};
+use sedck_advice::{Place, Reading};
 use sedck_calls::{Call, Piece};
 use sedck_traced::{Hole, Origin, Result, Traced, Way};
 use std::alloc::Global;
@@ -13,7 +13,7 @@ const MOST: usize = 1000;
 /// The state of giving holes their roles.
 #[derive(Drop)]
 struct Roles {
-    places: Places,
+    reading: Reading,
     text: Traced,
     holes: Vec<OpenHole>,
     /// Whether a hole has no role, so that the script isn't known.
@@ -34,12 +34,7 @@ pub(crate) fn roles_of(
     here: Option<&CallWord>,
 ) -> Result<Option<(Traced, Vec<OpenHole>)>> {
     let mut roles = Roles {
-        places: Places {
-            place: Place::Command,
-            delimiter: b'/',
-            command: b'/',
-            is_first: false,
-        },
+        reading: Reading::SCRIPT,
         text: empty(alloc),
         holes: Vec::new(alloc),
         is_unknown: false,
@@ -60,7 +55,7 @@ pub(crate) fn roles_of(
         }
     }
     let Roles {
-        places: _,
+        reading: _,
         text,
         holes,
         is_unknown,
@@ -97,19 +92,19 @@ impl Roles {
         if self.follows_hole && self.changes_hole(byte) {
             self.is_unknown = true;
         }
-        let place = self.places.place;
-        self.places.pass(byte);
-        let is_escape = self.places.place == Place::ExpressionEscape;
-        self.follows_hole = self.follows_hole && is_escape;
-        self.follows_hyphen = byte == b'-' && place == Place::List;
+        let before = self.reading;
+        self.reading = before.after(byte);
+        self.follows_hole = self.follows_hole && self.reading.is_escaped;
+        self.follows_hyphen = byte == b'-'
+            && matches!(before.place, Place::List | Place::ListEscape);
         add(&mut self.text, byte, origin)
     }
 
     /// Whether the byte says how often what is before it is matched, or makes a range of it.
     fn changes_hole(&self, byte: u8) -> bool {
-        match self.places.place {
+        match self.reading.place {
+            Place::Expression if self.reading.is_escaped => matches!(byte, b'{' | b'+' | b'?'),
             Place::Expression => byte == b'*',
-            Place::ExpressionEscape => matches!(byte, b'{' | b'+' | b'?'),
             Place::List => byte == b'-',
             _ => false,
         }
@@ -120,13 +115,14 @@ impl Roles {
         if hole.way == Way::Several || self.holes.len() > MOST {
             self.is_unknown = true;
         }
-        match self.places.place {
+        match self.reading.place {
+            _ if self.reading.is_escaped => self.is_unknown = true,
             Place::Expression => self.fill(hole, Role::Expression, b"x*")?,
-            Place::List | Place::ListBegin | Place::ListNegated => {
+            Place::List | Place::ListBegin | Place::ListNegated | Place::ListEscape => {
                 if self.follows_hyphen {
                     self.is_unknown = true;
                 }
-                self.places.place = Place::List;
+                self.reading.place = Place::List;
                 self.fill(hole, Role::List, b"x")?;
             }
             Place::Replacement => self.fill(hole, Role::Replacement, b"&x")?,
@@ -141,14 +137,14 @@ impl Roles {
 
     /// Puts a letter in place of a hole in the text of a command.
     fn fill_text(&mut self, hole: Hole, role: Role) -> Result<()> {
-        self.places.place = Place::Text;
-        self.places.delimiter = 0;
+        self.reading.place = Place::Text;
+        self.reading.delimiter = 0;
         self.fill(hole, role, b"x")
     }
 
     /// Puts the letters in place of a hole that has this role.
     fn fill(&mut self, hole: Hole, role: Role, letters: &[u8]) -> Result<()> {
-        let delimiter = self.places.delimiter;
+        let delimiter = self.reading.delimiter;
         if letters.contains(&delimiter) {
             self.is_unknown = true;
         }

@@ -12,7 +12,6 @@ mod holes;
 mod names;
 mod parts;
 mod programs;
-mod roles;
 mod script;
 mod texts;
 mod units;

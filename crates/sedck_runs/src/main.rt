@@ -13,13 +13,16 @@
 //! a script or a line that can't be read, and 4 where a file can't be read or written, or memory ran out.
 //!
 //! `sedck_runs --places SCRIPT` says where each command begins in the script and where it ends, in bytes; which ones are labels, and which
-//! ones branch to the end of the script.
+//! ones branch to the end of the script. `sedck_runs --parts TEXTS` says of each text between bytes 0 in which part of a script its bytes
+//! are, by letters, and where its commands are.
 #![tactic(auto)]
 
 mod choosing;
+mod parts;
 mod report;
 mod seen;
 
+use parts::show_parts;
 use report::Counts;
 use sedck_script::{Located, Location, Script, Verb, locate};
 use seen::Trace;
@@ -36,7 +39,8 @@ fn main(rt: HostRuntime) -> ExitCode {
 }
 
 const USAGE: &str = "usage: sedck_runs SCRIPT < RUNS
-       sedck_runs --places SCRIPT";
+       sedck_runs --places SCRIPT
+       sedck_runs --parts TEXTS";
 
 /// Does what the arguments ask for; the exit status.
 fn answer(rt: &HostRuntime) -> io::Result<u8> {
@@ -46,6 +50,9 @@ fn answer(rt: &HostRuntime) -> io::Result<u8> {
     }
     if words.len() == 3 && words[1].as_str() == "--places" {
         return answer_script(rt, words[2].as_str(), true);
+    }
+    if words.len() == 3 && words[1].as_str() == "--parts" {
+        return show_parts(rt, words[2].as_str());
     }
     println!(rt; "{USAGE}")?;
     Ok(2)

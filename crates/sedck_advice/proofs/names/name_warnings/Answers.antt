@@ -1,5 +1,5 @@
-use Rattle.sedck_advice.proofs.Added.{ok_no_error}
+use Rattle.sedck_advice.proofs.Added.{no_error_trans}
 use Rattle.sedck_advice.proofs.names.name_warnings.Goals as goal
 
-pub returns : goal.returns
-returns c = ok_no_error _ _ _ c.side_warnings-2.result c.in_ok-side_warnings.ensures c.side_warnings-2.ensures
+pub loop-doubt-preserved : goal.loop-doubt-preserved
+loop-doubt-preserved c = no_error_trans _ _ _ c.loop-doubt.invariant c.in_ok-push_warning.ensures

@@ -47,10 +47,10 @@ returns-clause-reports c =
     let slow : is_some c.slow_of-slow.result ≡ is_slow script = c.slow_of-slow.ensures in
     let status : c.status_under-status.result ≡ status_under c.args.denied (has_warning all) (is_slow script) answer =
     c.status_under-status.ensures.value
-    ∙ ap (λ warned. status_under c.args.denied warned c.is_some.result answer) (c.any_warning.ensures ∙ ap has_warning c.deref-8.ensures.value)
+    ∙ ap (λ warned. status_under c.args.denied warned c.is_some.result answer) (c.any_warning.ensures ∙ ap has_warning c.deref-7.ensures.value)
     ∙ ap (λ is. status_under c.args.denied (has_warning all) is answer) (c.is_some.ensures ∙ slow) in
     let of_answer : AreFindingsOf text positions answer begun =
-    subst (λ (ps : List Position). AreFindingsOf text ps answer begun) c.deref-2.ensures.value c.in_ok-found.ensures in
+    subst (λ (ps : List Position). AreFindingsOf text ps answer begun) c.deref.ensures.value c.in_ok-found.ensures in
     let endless = c.concern_warnings.new.findings.items in
     let locale = c.locale_warnings.new.findings.items in
     let adds : AddsNoError begun found =
@@ -63,7 +63,7 @@ returns-clause-reports c =
     (warned_of_is_warned Endless endless (c.in_ok-concern_warnings.ensures.exactly ∙ ap (λ has. is_warned_of Endless given || has) is ∙ or_true (is_warned_of Endless given)))))
     (λ due is. c.in_ok-add_warnings.ensures.warned (c.in_ok-locale_warnings.ensures.warned due is)) in
     let reported : AreReported text ignored all findings =
-    subst (λ (codes : List Code). AreReported text codes all findings) c.deref-11.ensures.value c.in_ok-findings.ensures in
+    subst (λ (codes : List Code). AreReported text codes all findings) c.deref-10.ensures.value c.in_ok-findings.ensures in
     let errors = errors_reported text positions answer ignored all findings c.status_under-status.result reported
     (errors_of text positions c.args.denied (is_slow script) answer found all c.status_under-status.result
     (findings_stay text positions answer begun found adds of_answer)

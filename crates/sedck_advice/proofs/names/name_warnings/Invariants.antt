@@ -1,5 +1,5 @@
 use Rattle.sedck_advice.specs.Added.{AddsNoError}
-use Rattle.sedck_advice.proofs.names.file_warnings.Given as goal
+use Rattle.sedck_advice.proofs.names.name_warnings.Given as goal
 
 abbrev pub invariant-loop-doubt : goal.invariant-loop-doubt
 invariant-loop-doubt l = AddsNoError l.initial.findings.items l.findings.items

@@ -1,6 +1,0 @@
-use Rattle.std.proofs.Common.{refl}
-use Rattle.sedck_advice.proofs.Added.{no_error_push}
-use Rattle.sedck_advice.proofs.looks.push_look.Goals as goal
-
-pub returns : goal.returns
-returns c = no_error_push _ _ _ c.in_ok-push.ensures.items refl
