@@ -1,10 +1,11 @@
 //! What is reported of a certificate that is refused or rejected.
 
 ghost use Rattle.std.specs.Prelude.{◌≡◌, None, IfOk};
+ghost use Rattle.sedck_cert.specs.FaultText.{name_of as certificate_fault_name};
+ghost use Rattle.sedck_report.specs.Codes.{name_of};
 ghost use Rattle.sedck_report.specs.declared.finding.Level.TheVariants.{Error};
 ghost use Rattle.sedck_errors.specs.Errors.{rejection_position as position_of_rejection};
 
-use crate::faults::certificate_fault_code;
 use crate::steps::{position_of, step, target_step};
 use sedck_cert::{Cert, CertFault, Rejection};
 use sedck_flow::{Edge, Node};
@@ -16,19 +17,29 @@ use std::alloc::{AllocError, Global};
 pub fn certificate_refusal(alloc: Global, fault: CertFault) -> Result<Finding, AllocError>
     ensures level { IfOk result (λ finding. finding.level ≡ Error) }
     ensures position { IfOk result (λ finding. finding.position ≡ None) }
+    ensures code { IfOk result (λ finding. name_of finding.code ≡ certificate_fault_name fault) }
 {
-    let wanted = match fault {
-        CertFault::BadHeader { .. } => "`sedck 2`, or `sedck 1` for version 1",
-        CertFault::BadCount { .. } => "`commands` and the number of commands",
-        CertFault::BadNode { .. } => "the next node and its two ranks",
-        CertFault::BadNames { .. } => "the number of names in a list, or the next name in order",
-        CertFault::BadEnd { .. } => "`end`, and nothing after it",
+    let (code, wanted) = match fault {
+        CertFault::BadHeader { .. } => (
+            Code::BadHeader,
+            "`sedck 2`, or `sedck 1` for version 1",
+        ),
+        CertFault::BadCount { .. } => (
+            Code::BadCount,
+            "`commands` and the number of commands",
+        ),
+        CertFault::BadNode { .. } => (Code::BadNode, "the next node and its two ranks"),
+        CertFault::BadNames { .. } => (
+            Code::BadNames,
+            "the number of names in a list, or the next name in order",
+        ),
+        CertFault::BadEnd { .. } => (Code::BadEnd, "`end`, and nothing after it"),
         CertFault::OutOfMemory => return Err(AllocError),
     };
     let line = fault.line().unwrap_or(0);
     Ok(Finding {
         level: Level::Error,
-        code: certificate_fault_code(fault)?,
+        code,
         position: None,
         end: None,
         message: format!(in alloc; "line {line} of the certificate: expected {wanted}")?,

@@ -5,7 +5,6 @@
 mod certificates;
 mod denied;
 mod ends;
-mod faults;
 mod loops;
 mod refusals;
 mod steps;

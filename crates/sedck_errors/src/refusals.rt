@@ -9,12 +9,11 @@ ghost use Rattle.sedck_errors.specs.Errors.{IsFaultOffset, bytes_before, IsRepor
 ghost use Rattle.sedck_errors.specs.Private.Errors.{is_escaped, is_pair};
 
 use crate::ends::fault_length;
-use crate::faults::script_fault_code;
 use sedck_advice::{
     Mend, Spot, has_escaped_text, has_open_class, other_kind, script_hint, script_mend,
 };
 use sedck_bre::ReFault;
-use sedck_report::{Finding, Fix, Level, NewText, end_behind, position_at, skipped};
+use sedck_report::{Code, Finding, Fix, Level, NewText, end_behind, position_at, skipped};
 use sedck_script::ScriptFault;
 use std::alloc::{AllocError, Global};
 
@@ -22,6 +21,7 @@ use std::alloc::{AllocError, Global};
 pub fn script_refusal(alloc: Global, text: &[u8], fault: ScriptFault) -> Result<Finding, AllocError>
     requires { IsReportable text.now fault }
     ensures level { IfOk result (λ finding. finding.level ≡ Error) }
+    ensures code { IfOk result (λ finding. finding.code ≡ Code.Script fault) }
     ensures position { IfOk result (λ finding. (offset : ℕ) × IsFaultOffset text.now fault offset × (finding.position ≡ Some (position_in text.now offset))) }
 {
     let offset = offset_of(text, fault);
@@ -41,7 +41,7 @@ pub fn script_refusal(alloc: Global, text: &[u8], fault: ScriptFault) -> Result<
     let position = position_at(text, offset);
     Ok(Finding {
         level: Level::Error,
-        code: script_fault_code(fault)?,
+        code: Code::Script(fault),
         position: Some(position),
         end: Some(end_behind(text, position, fault_length(fault, spot))),
         message: String::from_str(alloc, message)?,

@@ -1,43 +1,20 @@
 -- The codes of findings, by name, this project's own.
 use Rattle.std.specs.Prelude.{ℕ, List, codes}
+use Rattle.sedck_bre.specs.FaultWords as expressions
+use Rattle.sedck_script.specs.FaultWords.{fault_name}
+use Rattle.sedck_script.specs.declared.fault.ScriptFault.{ScriptFault}
+use Rattle.sedck_script.specs.declared.fault.ScriptFault.TheVariants.{BadExpression}
 use Rattle.sedck_report.specs.declared.code.Code.{Code}
 use Rattle.sedck_report.specs.declared.code.Code.TheVariants as code
 
+-- the name of a script's fault: that of the expression's fault where it is in one
+abbrev pub script_name : ScriptFault → List ℕ
+script_name (BadExpression place cause) = expressions.fault_name cause
+script_name why = fault_name why
+
 -- users may rely on the name
 abbrev pub name_of : Code → List ℕ
-name_of code.TooLong = codes "too-long"
-name_of code.NulByte = codes "nul-byte"
-name_of code.UnknownCommand = codes "unknown-command"
-name_of code.BadAddress = codes "bad-address"
-name_of code.TooManyAddresses = codes "too-many-addresses"
-name_of code.Unterminated = codes "unterminated"
-name_of code.BadReplacement = codes "bad-replacement"
-name_of code.BadFlag = codes "bad-flag"
-name_of code.BadTransliteration = codes "bad-transliteration"
-name_of code.MissingText = codes "missing-text"
-name_of code.MissingName = codes "missing-name"
-name_of code.BadLabel = codes "bad-label"
-name_of code.DuplicateLabel = codes "duplicate-label"
-name_of code.UnknownLabel = codes "unknown-label"
-name_of code.UnopenedBlock = codes "unopened-block"
-name_of code.UnclosedBlock = codes "unclosed-block"
-name_of code.TooDeep = codes "too-deep"
-name_of code.TooManyCommands = codes "too-many-commands"
-name_of code.ExtraText = codes "extra-text"
-name_of code.NoPreviousExpression = codes "no-previous-expression"
-name_of code.EscapedDelimiter = codes "escaped-delimiter"
-name_of code.TrailingBackslash = codes "trailing-backslash"
-name_of code.BadEscape = codes "bad-escape"
-name_of code.UnclosedBracket = codes "unclosed-bracket"
-name_of code.BadBracket = codes "bad-bracket"
-name_of code.EmptySet = codes "empty-set"
-name_of code.UnclosedGroup = codes "unclosed-group"
-name_of code.UnopenedGroup = codes "unopened-group"
-name_of code.BadInterval = codes "bad-interval"
-name_of code.NothingToRepeat = codes "nothing-to-repeat"
-name_of code.DoubleRepeat = codes "double-repeat"
-name_of code.BadReference = codes "bad-reference"
-name_of code.TooManyGroups = codes "too-many-groups"
+name_of (code.Script why) = script_name why
 name_of code.BadHeader = codes "bad-header"
 name_of code.BadCount = codes "bad-count"
 name_of code.BadNode = codes "bad-node"

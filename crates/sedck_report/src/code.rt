@@ -1,46 +1,15 @@
 //! The codes of findings.
 
 ghost use Rattle.std.specs.Prelude.{◌≡◌};
+ghost use Rattle.sedck_report.specs.Codes.{name_of, script_name};
+
+use sedck_script::ScriptFault;
 
 /// What a finding is about. No later version gives another meaning to a code.
 #[derive(Clone, Copy, PartialEq, Eq)]
 pub enum Code {
-    // A script that is refused, by its fault.
-    TooLong,
-    NulByte,
-    UnknownCommand,
-    BadAddress,
-    TooManyAddresses,
-    Unterminated,
-    BadReplacement,
-    BadFlag,
-    BadTransliteration,
-    MissingText,
-    MissingName,
-    BadLabel,
-    DuplicateLabel,
-    UnknownLabel,
-    UnopenedBlock,
-    UnclosedBlock,
-    TooDeep,
-    TooManyCommands,
-    ExtraText,
-    NoPreviousExpression,
-    EscapedDelimiter,
-
-    // A script that is refused, by the fault of an expression. One that is nested too deep is `TooDeep` as well.
-    TrailingBackslash,
-    BadEscape,
-    UnclosedBracket,
-    BadBracket,
-    EmptySet,
-    UnclosedGroup,
-    UnopenedGroup,
-    BadInterval,
-    NothingToRepeat,
-    DoubleRepeat,
-    BadReference,
-    TooManyGroups,
+    /// A script that is refused.
+    Script(ScriptFault),
 
     // A certificate that is refused.
     BadHeader,
@@ -133,46 +102,12 @@ pub enum Code {
 }
 
 impl Code {
-    ghost use Rattle.sedck_report.specs.Codes.{name_of};
-
     /// The name that is printed: in lower case, with hyphens between its words.
     pub fn name(self) -> &'static str
         ensures { result.now ≡ name_of self }
     {
         match self {
-            Code::TooLong => "too-long",
-            Code::NulByte => "nul-byte",
-            Code::UnknownCommand => "unknown-command",
-            Code::BadAddress => "bad-address",
-            Code::TooManyAddresses => "too-many-addresses",
-            Code::Unterminated => "unterminated",
-            Code::BadReplacement => "bad-replacement",
-            Code::BadFlag => "bad-flag",
-            Code::BadTransliteration => "bad-transliteration",
-            Code::MissingText => "missing-text",
-            Code::MissingName => "missing-name",
-            Code::BadLabel => "bad-label",
-            Code::DuplicateLabel => "duplicate-label",
-            Code::UnknownLabel => "unknown-label",
-            Code::UnopenedBlock => "unopened-block",
-            Code::UnclosedBlock => "unclosed-block",
-            Code::TooDeep => "too-deep",
-            Code::TooManyCommands => "too-many-commands",
-            Code::ExtraText => "extra-text",
-            Code::NoPreviousExpression => "no-previous-expression",
-            Code::EscapedDelimiter => "escaped-delimiter",
-            Code::TrailingBackslash => "trailing-backslash",
-            Code::BadEscape => "bad-escape",
-            Code::UnclosedBracket => "unclosed-bracket",
-            Code::BadBracket => "bad-bracket",
-            Code::EmptySet => "empty-set",
-            Code::UnclosedGroup => "unclosed-group",
-            Code::UnopenedGroup => "unopened-group",
-            Code::BadInterval => "bad-interval",
-            Code::NothingToRepeat => "nothing-to-repeat",
-            Code::DoubleRepeat => "double-repeat",
-            Code::BadReference => "bad-reference",
-            Code::TooManyGroups => "too-many-groups",
+            Code::Script(fault) => script_fault_name(fault),
             Code::BadHeader => "bad-header",
             Code::BadCount => "bad-count",
             Code::BadNode => "bad-node",
@@ -225,5 +160,15 @@ impl Code {
             Code::LabelToTheLineEnd => "label-to-the-line-end",
             Code::LongLabels => "long-labels",
         }
+    }
+}
+
+/// The name of a script's fault: that of the expression's fault where it is in one.
+fn script_fault_name(fault: ScriptFault) -> &'static str
+    ensures { result.now ≡ script_name fault }
+{
+    match fault {
+        ScriptFault::BadExpression { fault, .. } => fault.name(),
+        fault => fault.name(),
     }
 }
