@@ -6,14 +6,11 @@ use Rattle.sedck_report.specs.declared.finding.Finding.{Finding}
 use Rattle.sedck_report.specs.declared.places.Position.{Position}
 use Rattle.sedck_advice.specs.Added.{AddsNoError}
 
-pub no_error_none : (old : List Finding) → AddsNoError old old
-no_error_none old = record { errors = refl; warned = λ warned. warned; first = λ position begins. begins }
-
 begins-append : (position : Option Position) (old more : List Finding) → BeginsWithError position old → BeginsWithError position (old ++ more)
 begins-append position [] more begins = absurd begins
 begins-append position (f ∷ old) more begins = begins
 
-or-false : (a b : Bool) → b ≡ false → (a || (b || false)) ≡ a
+pub or-false : (a b : Bool) → b ≡ false → (a || (b || false)) ≡ a
 or-false true b is = refl
 or-false false b is = rw is refl
 

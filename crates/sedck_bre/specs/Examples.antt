@@ -1,6 +1,6 @@
 -- Worked examples of expressions: which texts spell which trees, which spell none, and what some of them match.
 use Rattle.std.specs.Prelude.{ℕ, ◌≤◌, List, [], ◌∷◌, length, map, All, Some, None, codes}
-use Rattle.sedck_text.specs.Bytes.{caret, letter_a, letter_b, letter_c}
+use Rattle.sedck_text.specs.Bytes.{ascii}
 use Rattle.sedck_bre.specs.Tree.{Tree, Byte, Any, Set, Start, End, Maybe, Group, Ref, Seq, Repeat, trees}
 use Rattle.sedck_bre.specs.Match.{no_groups, Match, Language}
 use Rattle.sedck_bre.specs.WideMatch.{WideMatch}
@@ -24,17 +24,17 @@ spelled_texts =
     -- a `*` that is first, or directly after a `^` that is, is a byte
     ∷ (codes "*a", text_tree (codes "*a"))
     ∷ (codes "^*", sequence_of (Start ∷ Byte 42 ∷ []))
-    ∷ (codes "a*", sequence_of (star (Byte letter_a) ∷ []))
+    ∷ (codes "a*", sequence_of (star (Byte (ascii "a")) ∷ []))
     -- anchors; elsewhere `^` and `$` are bytes, and at an edge of a group they may be either
-    ∷ (codes "^a$", sequence_of (Start ∷ Byte letter_a ∷ End ∷ []))
+    ∷ (codes "^a$", sequence_of (Start ∷ Byte (ascii "a") ∷ End ∷ []))
     ∷ (codes "$a^", text_tree (codes "$a^"))
-    ∷ (codes "\\(^a\\)", sequence_of (Group 1 (sequence_of (Maybe caret ∷ Byte letter_a ∷ [])) ∷ []))
+    ∷ (codes "\\(^a\\)", sequence_of (Group 1 (sequence_of (Maybe (ascii "^") ∷ Byte (ascii "a") ∷ [])) ∷ []))
     -- groups are numbered by where they open
     ∷ (codes "\\(\\(.\\)\\2\\)*", sequence_of (star (Group 1 (sequence_of (Group 2 (sequence_of (Any ∷ [])) ∷ Ref 2 ∷ []))) ∷ []))
     -- intervals
     ∷ (
       codes "a\\{2\\}b\\{2,\\}c\\{0,3\\}",
-      sequence_of (Repeat (Byte letter_a) 2 (Some 2) ∷ Repeat (Byte letter_b) 2 None ∷ Repeat (Byte letter_c) 0 (Some 3) ∷ []),
+      sequence_of (Repeat (Byte (ascii "a")) 2 (Some 2) ∷ Repeat (Byte (ascii "b")) 2 None ∷ Repeat (Byte (ascii "c")) 0 (Some 3) ∷ []),
     )
     -- `+`, `?`, `{` and bars have no meaning of their own
     ∷ (codes "a+?{|}()", text_tree (codes "a+?{|}()"))
@@ -62,7 +62,7 @@ refused_texts =
 
 -- `\(ab\)\{2,3\}c*\1`
 abbrev pub two_or_three : Tree
-two_or_three = sequence_of (Repeat (Group 1 (text_tree (codes "ab"))) 2 (Some 3) ∷ star (Byte letter_c) ∷ Ref 1 ∷ [])
+two_or_three = sequence_of (Repeat (Group 1 (text_tree (codes "ab"))) 2 (Some 3) ∷ star (Byte (ascii "c")) ∷ Ref 1 ∷ [])
 
 -- `\(ab\)*\1`
 abbrev pub any_number : Tree
@@ -70,7 +70,7 @@ any_number = sequence_of (star (Group 1 (text_tree (codes "ab"))) ∷ Ref 1 ∷ 
 
 -- `\(\(a\)*b\)*\2`
 abbrev pub nested : Tree
-nested = sequence_of (star (Group 1 (sequence_of (star (Group 2 (text_tree (codes "a"))) ∷ Byte letter_b ∷ []))) ∷ Ref 2 ∷ [])
+nested = sequence_of (star (Group 1 (sequence_of (star (Group 2 (text_tree (codes "a"))) ∷ Byte (ascii "b") ∷ []))) ∷ Ref 2 ∷ [])
 
 pub record ExamplesHold : Type 0 where
   pub spelled : All (λ example. Shape example.0 example.1) spelled_texts

@@ -32,14 +32,14 @@ no_rejects text bytes report (Accepted, is, both) accepted = cc
 no_rejects text bytes report (Rejected why, is, both) accepted =
     not_accepted both.program both.cert why both.holds.0
     (subst (λ p. Accepts p both.cert) (both.spelled.only accepted.program accepted.spelled.spells)
-    (subst (λ c. Accepts accepted.program c) (both.written.only accepted.cert accepted.written.is_text) accepted.holds))
+    (subst (λ c. Accepts accepted.program c) (both.written.only accepted.cert accepted.written.spells) accepted.holds))
 
 -- no refusal but the words' and those of status 4 is right where both texts spell something
 pub no_refusal : (text bytes : List ℕ) (failed : Bool) (refusal : Refusal) → IsCause (two_files text bytes) (Check (97 ∷ []) (98 ∷ [])) failed refusal
     → SpellBoth text bytes Accepts → (status_of refusal ≡ 3) ⊎ (status_of refusal ≡ 4)
 no_refusal text bytes failed Usage is both = inl refl
 no_refusal text bytes failed (Run (fault.Script why)) is both = absurd (is.1.none both.program both.spelled.spells)
-no_refusal text bytes failed (Run (fault.Certificate why)) is both = absurd (is.2.none both.cert both.written.is_text)
+no_refusal text bytes failed (Run (fault.Certificate why)) is both = absurd (is.2.none both.cert both.written.spells)
 no_refusal text bytes failed (Run (fault.Read read)) is both = inr refl
 no_refusal text bytes failed (Run fault.Write) is both = inr refl
 no_refusal text bytes failed (Run fault.OutOfMemory) is both = inr refl

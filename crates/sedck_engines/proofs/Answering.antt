@@ -12,7 +12,7 @@ use Rattle.sedck_script.specs.declared.fault.ScriptFault.TheVariants as script
 use Rattle.sedck_cert.specs.Certificate.{Certificate}
 use Rattle.sedck_cert.specs.Text.{line, files_text, certificate_text}
 use Rattle.sedck_cert.specs.Versions.{SpellsCertificate, IsFaultIn}
-use Rattle.sedck_cert.specs.Headline.{SpellsOnly, IsTextOfOnly, IsAnswered, IsOutOfMemory, IsScriptFaultOf, ReportsFault, IsLimit, IsJudged}
+use Rattle.sedck_cert.specs.Headline.{Only, IsAnswered, IsOutOfMemory, IsScriptFaultOf, ReportsFault, IsLimit, IsJudged}
 use Rattle.sedck_cert.specs.declared.checking.Verdict.TheVariants.{Accepted}
 use Rattle.sedck_cert.specs.declared.limits.Bound.{Bound}
 use Rattle.sedck_cert.specs.declared.verifying.Judged.{Judged}
@@ -58,8 +58,8 @@ whole_script whole text is fits = is ∙ take_all 1048577 whole (omega (arith, l
 long_script : (whole text : List ℕ) → text ≡ take 1048577 whole → 1048576 < length text → 1048576 < length whole
 long_script whole text is long = omega (arith, length-take 1048577 whole, ap length is)
 
-pub spells_whole : (whole text : List ℕ) (p : Program) → text ≡ take 1048577 whole → SpellsOnly text p → SpellsOnly whole p
-spells_whole whole text p is spelled = subst (λ l. SpellsOnly l p) (whole_script whole text is spelled.spells.allowed.fits) spelled
+pub spells_whole : (whole text : List ℕ) (p : Program) → text ≡ take 1048577 whole → Only Spells text p → Only Spells whole p
+spells_whole whole text p is spelled = subst (λ l. Only Spells l p) (whole_script whole text is spelled.spells.allowed.fits) spelled
 
 -- the text of a script, or one that is too long
 refused_whole : (whole text : List ℕ) (why : ScriptFault) → text ≡ take 1048577 whole → IsRefusedScript text why
@@ -81,9 +81,9 @@ refused_whole whole text why is refused (inl long) =
 pub script_refused : (whole text : List ℕ) (why : ScriptFault) → text ≡ take 1048577 whole → IsRefusedScript text why → IsRefusedScript whole why
 script_refused whole text why is refused = refused_whole whole text why is refused (cases_lt 1048576 (length text))
 
-text_of_whole : (whole bytes : List ℕ) (c : Certificate) → bytes ≡ take 1572865 whole → IsTextOfOnly bytes c → IsTextOfOnly whole c
+text_of_whole : (whole bytes : List ℕ) (c : Certificate) → bytes ≡ take 1572865 whole → Only SpellsCertificate bytes c → Only SpellsCertificate whole c
 text_of_whole whole bytes c is written =
-    let same = is ∙ front_is_whole whole c (subst (λ l. SpellsCertificate l c) is written.is_text) in subst (λ l. IsTextOfOnly l c) same written
+    let same = is ∙ front_is_whole whole c (subst (λ l. SpellsCertificate l c) is written.spells) in subst (λ l. Only SpellsCertificate l c) same written
 
 no_text_of_whole : (whole bytes : List ℕ) → bytes ≡ take 1572865 whole → ((c : Certificate) → ¬ SpellsCertificate bytes c) → (c : Certificate) → ¬ SpellsCertificate whole c
 no_text_of_whole whole bytes is none c written =
@@ -230,7 +230,7 @@ upgrades_to known bytes c is written only =
     of_bytes 1572865 known bytes (λ b. UpgradesTo b Yes (certificate_text c)) is
     (λ whole front. (
       refl,
-      record { cert = c; written = text_of_whole whole bytes c front (record { is_text = written; only = only }); holds = refl },
+      record { cert = c; written = text_of_whole whole bytes c front (record { spells = written; only = only }); holds = refl },
     ))
 
 -- the report, once it is written

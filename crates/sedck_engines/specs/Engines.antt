@@ -8,7 +8,7 @@ use Rattle.sedck_script.specs.declared.fault.ScriptFault.TheVariants as script
 use Rattle.sedck_cert.specs.Certificate.{Certificate}
 use Rattle.sedck_cert.specs.Text.{certificate_text}
 use Rattle.sedck_cert.specs.Versions.{SpellsCertificate, IsFaultIn}
-use Rattle.sedck_cert.specs.Headline.{SpellsOnly, IsTextOfOnly, SpellBoth, IsVerdict, IsScriptFaultOf}
+use Rattle.sedck_cert.specs.Headline.{Only, SpellBoth, IsVerdict, IsScriptFaultOf}
 use Rattle.sedck_cert.specs.Streams.{AppendsPrefix}
 use Rattle.sedck_cert.specs.declared.reading.CertFault.{CertFault}
 use Rattle.sedck_cert.specs.declared.reading.CertFault.TheVariants as cert
@@ -40,7 +40,7 @@ ChecksTo text bytes outcome report = (verdict : Verdict) × (outcome ≡ verdict
 -- the same where the script alone is read
 pub record OfScript (text : List ℕ) (Holds : Program → Type 0) : Type 0 where
   pub program : Program
-  pub spelled : SpellsOnly text program
+  pub spelled : Only Spells text program
   pub holds : Holds program
 
 abbrev pub ListsFilesTo : List ℕ → Outcome → List ℕ → Type 0
@@ -66,7 +66,7 @@ ReportsScriptTo kind.Rank text outcome report = RanksTo text outcome report
 -- the same where the certificate alone is read
 pub record OfCertificate (bytes : List ℕ) (Holds : Certificate → Type 0) : Type 0 where
   pub cert : Certificate
-  pub written : IsTextOfOnly bytes cert
+  pub written : Only SpellsCertificate bytes cert
   pub holds : Holds cert
 
 -- the text of the certificate that is read

@@ -7,7 +7,7 @@ use Rattle.sedck_script.specs.declared.fault.ScriptFault.TheVariants as script
 use Rattle.sedck_script.proofs.ResultLemmas.{if_some_at}
 use Rattle.sedck_cert.specs.Certificate.{Certificate}
 use Rattle.sedck_cert.specs.Versions.{SpellsCertificate, IsFaultIn}
-use Rattle.sedck_cert.specs.Headline.{SpellsOnly, IsScriptFaultOf}
+use Rattle.sedck_cert.specs.Headline.{Only, IsScriptFaultOf}
 use Rattle.sedck_cert.specs.declared.reading.CertFault.{CertFault}
 use Rattle.sedck_cert.specs.declared.reading.CertFault.TheVariants as cert
 use Rattle.sedck_cert.specs.declared.verifying.Fault.TheVariants as below
@@ -30,7 +30,7 @@ certificate_refused p bytes why answer is refused =
     if_some_at (IsJudgedAnswer p bytes) is (certificate_refusal p bytes why refused)
 
 -- the answer for the script's text, where this script is read from it
-pub judged_answer : (text bytes : List ℕ) (p : Program) (answer : Answer) → SpellsOnly text p → IsJudgedAnswer p bytes answer → IsAnswer text (Some bytes) answer
+pub judged_answer : (text bytes : List ℕ) (p : Program) (answer : Answer) → Only Spells text p → IsJudgedAnswer p bytes answer → IsAnswer text (Some bytes) answer
 judged_answer text bytes p (CertificateRefused why) spelled h = ((p, spelled.spells), h.0, h.1)
 judged_answer text bytes p (Accepted c bound) spelled h =
     record { program = p; spelled = spelled; cert = c; written = h.0; holds = (refl, h.1, h.2) }
@@ -49,7 +49,7 @@ locate_refused text given why answer is refused is_fault =
     if_some_at (IsAnswer text given) is (locate_refusal text given why refused is_fault)
 
 -- what `search` finds
-pub search_found : (text : List ℕ) (p : Program) (answer : Answer) → SpellsOnly text p → IsFoundAnswer p answer → IsAnswer text None answer
+pub search_found : (text : List ℕ) (p : Program) (answer : Answer) → Only Spells text p → IsFoundAnswer p answer → IsAnswer text None answer
 search_found text p (Accepted cert bound) spelled found = (p, spelled, found)
 search_found text p (Endless walk) spelled found = (p, spelled, found)
 search_found text p _ spelled found = absurd found

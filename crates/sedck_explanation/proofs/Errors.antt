@@ -5,16 +5,13 @@ use Rattle.sedck_report.specs.declared.finding.Finding.{Finding}
 use Rattle.sedck_report.specs.declared.places.Position.{Position}
 use Rattle.sedck_errors.specs.declared.denied.Denied.{Denied}
 use Rattle.sedck_advice.specs.Added.{AddsNoError}
+use Rattle.sedck_advice.proofs.Added.{or-false}
 use Rattle.sedck_explanation.specs.Denial.{is_denied, status_under}
 use Rattle.sedck_explanation.specs.Errors.{BeginsWithAnswer}
 use Rattle.sedck_explanation.specs.Private.Errors.{IsRefused, AreFindingsOf, IsFindingOf}
 use Rattle.sedck_explanation.specs.Private.Explaining.{AreDeniedFindings}
 use Rattle.sedck_explanation.specs.declared.answer.Answer.{Answer}
 use Rattle.sedck_explanation.specs.declared.answer.Answer.TheVariants.{ScriptRefused, CertificateRefused, Accepted, Rejected, Endless, NotJudged}
-
-or-false : (a b : Bool) → b ≡ false → (a || (b || false)) ≡ a
-or-false true b is = refl
-or-false false b is = rw is refl
 
 -- ---- From the finding of the answer to all findings
 

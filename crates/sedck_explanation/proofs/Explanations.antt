@@ -8,7 +8,8 @@ use Rattle.sedck_script.specs.declared.location.Location.{Location}
 use Rattle.sedck_flow.specs.Run.{NamesForReading, NamesForWriting}
 use Rattle.sedck_cert.specs.Certificate.{Certificate}
 use Rattle.sedck_cert.specs.Ranked.{Accepts}
-use Rattle.sedck_cert.specs.Headline.{SpellsOnly}
+use Rattle.sedck_script.specs.Spelling.{Spells}
+use Rattle.sedck_cert.specs.Headline.{Only}
 use Rattle.sedck_cert.proofs.NamesListed.{reads_listed, writes_listed, only_list}
 use Rattle.sedck_report.specs.Positions.{position_in}
 use Rattle.sedck_errors.specs.declared.denied.Denied.{Denied}
@@ -34,7 +35,7 @@ accepted_names p q cert same accepts =
     )
 
 -- what is known of the answer for a script that was read
-pub of_script : (text : List ℕ) (given : Option (List ℕ)) (p : Program) (answer : Answer) → SpellsOnly text p → IsAnswer text given answer
+pub of_script : (text : List ℕ) (given : Option (List ℕ)) (p : Program) (answer : Answer) → Only Spells text p → IsAnswer text given answer
     → IsOfScript text p answer
 of_script text given p (ScriptRefused why) spelled is = (is.0, is.2.placed)
 of_script text (Some bytes) p (Accepted cert bound) spelled is =
@@ -47,7 +48,7 @@ of_script text given p NotJudged spelled is = absurd is
 
 -- a script that is read is kept
 pub keeps_script : (text : List ℕ) (given : Option (List ℕ)) (p : Program) (locations : List Location) (answer : Answer) (e : Explanation)
-    → SpellsOnly text p → ((items : List Item) (spelled : Items text items) → locations ≡ locations_of (length text) spelled)
+    → Only Spells text p → ((items : List Item) (spelled : Items text items) → locations ≡ locations_of (length text) spelled)
     → IsAnswer text given answer → KeepsLocated text p locations e → Keeps text answer e
 keeps_script text given p locations (ScriptRefused why) e spelled located is kept = absurd (is.1 p spelled.spells)
 keeps_script text given p locations NotJudged e spelled located is kept = absurd is
@@ -67,7 +68,7 @@ keeps_nothing text _ e refused kept = absurd refused
 
 -- the explanation of a script that is read
 pub explained_script : (text : List ℕ) (given : Option (List ℕ)) (denied : Denied) (p : Program) (locations : List Location) (answer : Answer) (e : Explanation)
-    → SpellsOnly text p → ((items : List Item) (spelled : Items text items) → locations ≡ locations_of (length text) spelled)
+    → Only Spells text p → ((items : List Item) (spelled : Items text items) → locations ≡ locations_of (length text) spelled)
     → IsAnswer text given answer → Explains text denied answer e → KeepsLocated text p locations e → IsExplanation text given denied e
 explained_script text given denied p locations answer e spelled located is explains kept = record {
   is_text = explains.is_text;

@@ -8,14 +8,14 @@ use Rattle.sedck_cert.specs.Certificate.{Certificate}
 use Rattle.sedck_cert.specs.Versions.{SpellsCertificate, IsFaultIn}
 use Rattle.sedck_cert.specs.Ranked.{Accepts}
 use Rattle.sedck_cert.specs.Rejections.{IsRejection}
-use Rattle.sedck_cert.specs.Headline.{SpellsOnly, SpellBoth, IsLimit, IsScriptFaultOf}
+use Rattle.sedck_cert.specs.Headline.{Only, SpellBoth, IsLimit, IsScriptFaultOf}
 use Rattle.sedck_search.specs.Found.{IsLoop}
 use Rattle.sedck_explanation.specs.declared.answer.Answer.{Answer}
 use Rattle.sedck_explanation.specs.declared.answer.Answer.TheVariants.{ScriptRefused, CertificateRefused, Accepted, Rejected, Endless, NotJudged}
 
 -- the text spells one script alone, for which this holds
 abbrev pub SpellsOneWith : List ℕ → (Program → Type 0) → Type 0
-SpellsOneWith text Holds = (p : Program) × SpellsOnly text p × Holds p
+SpellsOneWith text Holds = (p : Program) × Only Spells text p × Holds p
 
 -- the answer for a script's text and a certificate's text, where there is one
 abbrev pub IsAnswer : List ℕ → Option (List ℕ) → Answer → Type 0

@@ -5,7 +5,8 @@ use Rattle.sedck_script.specs.Program.{Program}
 use Rattle.sedck_script.specs.Names.{reads, writes}
 use Rattle.sedck_script.specs.Items.{Item, Items}
 use Rattle.sedck_script.specs.Locations.{locations_of}
-use Rattle.sedck_cert.specs.Headline.{SpellsOnly}
+use Rattle.sedck_script.specs.Spelling.{Spells}
+use Rattle.sedck_cert.specs.Headline.{Only}
 use Rattle.sedck_report.specs.Positions.{position_in}
 use Rattle.sedck_report.specs.Files.{names_of}
 use Rattle.sedck_report.specs.Levels.{has_warning}
@@ -33,7 +34,7 @@ AreVerbPositions text positions = (items : List Item) (spelled : Items text item
 pub record KeepsScript (text : List ℕ) (e : Explanation) : Type 0 where
   pub script : Program
   pub is_kept : e.script ≡ Some script
-  pub spelled : SpellsOnly text script
+  pub spelled : Only Spells text script
   pub reads : names_of e.reads.items ≡ reads script
   pub writes : names_of e.writes.items ≡ writes script
   pub positions : AreVerbPositions text e.positions.items

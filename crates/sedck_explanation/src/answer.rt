@@ -5,7 +5,8 @@ ghost use Rattle.std.specs.Option.{option_map};
 ghost use Rattle.sedck_script.specs.Locations.{locations_of};
 ghost use Rattle.sedck_script.specs.Items.{Item, Items};
 ghost use Rattle.sedck_cert.specs.Ranked.{Accepts};
-ghost use Rattle.sedck_cert.specs.Headline.{SpellsOnly};
+ghost use Rattle.sedck_script.specs.Spelling.{Spells};
+ghost use Rattle.sedck_cert.specs.Headline.{Only};
 ghost use Rattle.sedck_cert.specs.declared.verifying.Fault.TheVariants as below;
 ghost use Rattle.sedck_report.specs.Files.{is_there};
 ghost use Rattle.sedck_explanation.specs.Answers.{IsAnswer, status_of};
@@ -109,7 +110,7 @@ pub(crate) fn answer_of<'a>(
     certificate: Option<&[u8]>,
 ) -> Result<Answered<'a>, AllocError>
     ensures answer { IfOk result (λ a. IsAnswer text.now (option_map (λ bytes. bytes.now) certificate.entry) a.answer) }
-    ensures script { IfOk result (λ a. IfSome a.located (λ located. SpellsOnly text.now located.script)) }
+    ensures script { IfOk result (λ a. IfSome a.located (λ located. Only Spells text.now located.script)) }
     ensures locations { IfOk result (λ a. IfSome a.located (λ located. (items : List Item) (spelled : Items text.now items)
         → located.locations.items ≡ locations_of (length text.now) spelled)) }
     ensures refused { IfOk result (λ a. a.located ≡ None → IsRefused text.now a.answer) }

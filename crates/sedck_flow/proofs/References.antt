@@ -1,12 +1,13 @@
 -- Whether a replacement keeps groups is decided by cases; the length of what it makes.
 use Rattle.std.proofs.Common.{◌≡◌, ◌⊎◌, ℕ, ◌+◌, Bool, true, false, IsTrue, List, [], ◌∷◌, length, refl, ap, ◌∙◌, inl, inr, arith, length-append}
-use Rattle.std.specs.Prelude.{◌≢◌, ◌==◌, ◌||◌}
+use Rattle.std.specs.Prelude.{◌≢◌, ◌==◌}
 use Rattle.std.proofs.lemmas.Bool.{false≢true}
 use Rattle.std.proofs.lemmas.Bool.Decides.{nat_tests}
-use Rattle.sedck_bre.specs.Tree.{Tree, is_in}
+use Rattle.sedck_bre.specs.Tree.{Tree}
 use Rattle.sedck_bre.specs.Match.{text_of}
 use Rattle.sedck_bre.specs.Rests.{is_top_group, texts_length}
 use Rattle.sedck_bre.proofs.DifferentGroups.{AreDifferentTopGroups}
+use Rattle.sedck_script.proofs.ReferenceLemmas.{not_in}
 use Rattle.sedck_script.specs.References.{HasNoWhole, named_groups, IsNotIn, AreDistinct, AreTopGroups, KeepsGroups}
 use Rattle.sedck_script.specs.Program.{Pattern, Previous, Expression, Part, Text, Newline, Tab, Whole, Group, literal_length}
 use Rattle.sedck_flow.specs.Flow.{IsWholeAlone}
@@ -110,10 +111,6 @@ keeps_groups_or_not pattern parts = join (no_whole_or_not parts) (distinct_or_no
     join (inl no_whole) (inl distinct) (inr fails) = inr (λ h. fails h.top)
 
 -- ---- The groups
-
-not_in : (k : ℕ) (js : List ℕ) → IsNotIn k js → is_in k js ≡ false
-not_in k [] h = refl
-not_in k (j ∷ js) (differ, h) = let other : (j == k) ≡ false = grind (arith, nat_tests) in ap (λ b. b || is_in k js) other ∙ not_in k js h
 
 pub different_groups : (own : Tree) (ks : List ℕ) → AreDistinct ks → AreTopGroups (Expression own) ks → AreDifferentTopGroups own ks
 different_groups own [] distinct top = tt

@@ -3,14 +3,10 @@ use Rattle.std.proofs.Common.{◌≡◌, ℕ, ◌+◌, ◌<◌, List, [], ◌∷
 use Rattle.std.proofs.lemmas.List.{length-map, get_or-map, take_more}
 use Rattle.std.proofs.lemmas.Option.{slice_get_read}
 use Rattle.sedck_script.specs.Program.{Program}
-use Rattle.sedck_flow.specs.Run.{Event, State, Start, Step, Steps, Run, state_after}
+use Rattle.sedck_flow.specs.Run.{Event, State, Start, Step, Run, state_after}
+use Rattle.sedck_flow.proofs.RunsGoOn.{extended}
 use Rattle.sedck_model.specs.States.{event_of, state_of, move_of, IsFirstWrong}
 use Rattle.sedck_model.specs.declared.states.Move.{Move}
-
-steps_push : (p : Program) (s : State) (steps : List (Event × State)) (next : Event × State) → Steps p s steps
-    → Step p (state_after s steps) next.0 next.1 → Steps p s (steps ++ next ∷ [])
-steps_push p s [] next all one = (one, tt)
-steps_push p s (step ∷ more) next all one = (all.0, steps_push p step.1 more next all.1 one)
 
 state_after-push : (s : State) (steps : List (Event × State)) (next : Event × State) → state_after s (steps ++ next ∷ []) ≡ next.1
 state_after-push s [] next = refl
@@ -29,7 +25,7 @@ pub run_more : (p : Program) (lines : List (List ℕ)) (steps : List Move) (i : 
     → Step p s (event_of (get_or steps i d).event) (state_of (get_or steps i d).after) → Run p lines (take (i + 1) (map move_of steps))
 run_more p lines steps i d s below run here step =
     rw (one_more steps i d below)
-    (steps_push p (Start lines) (take i (map move_of steps)) (move_of (get_or steps i d)) run
+    (extended p (Start lines) (take i (map move_of steps)) (move_of (get_or steps i d)) run
     (subst (λ (t : State). Step p t (event_of (get_or steps i d).event) (state_of (get_or steps i d).after)) here step))
 
 pub here_after : (lines : List (List ℕ)) (steps : List Move) (i : ℕ) (d : Move) → i < length steps

@@ -4,12 +4,9 @@ use Rattle.std.specs.Prelude.{◌&&◌}
 use Rattle.std.specs.Option.{option_eq}
 use Rattle.std.proofs.lemmas.Bool.{eqb-true, eq-eqb, false≢true}
 use lib.Pointwise.{pointwise}
+use Rattle.sedck_bre.proofs.ReadLemmas.{and_left}
 use Rattle.sedck_model.specs.declared.spots.Span.{Span}
 use Rattle.sedck_model.specs.declared.spots.Spot.{Spot}
-
-both : (a b : Bool) → (a && b) ≡ true → (a ≡ true) × (b ≡ true)
-both true b h = (refl, h)
-both false b h = absurd (false≢true h)
 
 abbrev Tells : {X : Type 0} → (X → X → Bool) → Type 0
 Tells {X} same = (a b : X) → same a b ≡ true → a ≡ b
@@ -25,7 +22,7 @@ list_tells same tells [] [] h = refl
 list_tells same tells [] (b ∷ bs) h = absurd (false≢true h)
 list_tells same tells (a ∷ as') [] h = absurd (false≢true h)
 list_tells same tells (a ∷ as') (b ∷ bs) h =
-    let parts = both (same a b) (pointwise same as' bs) h in
+    let parts = and_left (same a b) (pointwise same as' bs) h in
     let first = tells a b parts.0 in
     let rest = list_tells same tells as' bs parts.1 in
     λ i. first i ∷ rest i
@@ -35,14 +32,14 @@ same_span a b = eqb a.start b.start && eqb a.end b.end
 
 span_tells : Tells same_span
 span_tells a b h =
-    let parts = both (eqb a.start b.start) (eqb a.end b.end) h in
+    let parts = and_left (eqb a.start b.start) (eqb a.end b.end) h in
     let start = eqb-true a.start b.start parts.0 in
     let end = eqb-true a.end b.end parts.1 in
     λ i. record { start = start i; end = end i }
 
 pub same_spot : (a b : Spot) → (eqb a.at b.at && pointwise (option_eq same_span) a.groups b.groups) ≡ true → a ≡ b
 same_spot a b h =
-    let parts = both (eqb a.at b.at) (pointwise (option_eq same_span) a.groups b.groups) h in
+    let parts = and_left (eqb a.at b.at) (pointwise (option_eq same_span) a.groups b.groups) h in
     let place = eqb-true a.at b.at parts.0 in
     let groups = list_tells (option_eq same_span) (option_tells same_span span_tells) a.groups b.groups parts.1 in
     λ i. record { at = place i; groups = groups i }

@@ -9,8 +9,8 @@ use Rattle.sedck_script.specs.declared.forms.TextVerb.{TextVerb}
 use Rattle.sedck_script.specs.declared.forms.TextVerb.TheVariants.{Append, Change, Insert}
 use Rattle.sedck_script.specs.declared.forms.JumpVerb.{JumpVerb}
 use Rattle.sedck_script.specs.declared.forms.JumpVerb.TheVariants.{Branch, Test}
-use Rattle.sedck_script.specs.declared.name_lists.Access.{Access}
-use Rattle.sedck_script.specs.declared.name_lists.Access.TheVariants.{Read, Write}
+use Rattle.sedck_script.specs.declared.names.Access.{Access}
+use Rattle.sedck_script.specs.declared.names.Access.TheVariants.{Read, Write}
 use Rattle.sedck_script.proofs.VerbBytes.{simple_byte}
 
 pub record IsTextByte (b : ℕ) : Type 0 where

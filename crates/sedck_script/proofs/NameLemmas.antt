@@ -18,7 +18,7 @@ use Rattle.sedck_script.specs.View.{verb_of, command_of}
 use Rattle.sedck_script.specs.Names.{accessed}
 use Rattle.sedck_script.specs.Private.NameReading.{all_accessed, with_any}
 use Rattle.sedck_script.specs.declared.script.Command.{Command}
-use Rattle.sedck_script.specs.declared.name_lists.Access.{Access}
+use Rattle.sedck_script.specs.declared.names.Access.{Access}
 
 is_less : (o : Ordering) → is_lt o ≡ true → o ≡ Less
 is_less Less h = refl

@@ -16,7 +16,7 @@ use Rattle.sedck_script.specs.Private.ItemReading.{item_of, commands_among, item
 use Rattle.sedck_script.specs.Private.AddressReading.{has_previous}
 use Rattle.sedck_script.specs.Private.Progress.{HasNoItems, item_patterns}
 use Rattle.sedck_script.specs.Private.ExpressionReading.{has_some}
-use Rattle.sedck_script.specs.declared.written.WrittenItem.{WrittenItem}
+use Rattle.sedck_script.specs.declared.items.WrittenItem.{WrittenItem}
 use Rattle.sedck_script.proofs.Nesting.{resolves_nests, resolves_length, label_written, labels_once}
 use Rattle.sedck_script.proofs.SortedNames.{Contains-cons_cases, Contains-cons_more}
 use Rattle.sedck_script.proofs.UniqueItems.{items_one}

@@ -56,7 +56,7 @@ more_same bits k =
     let is : bit_at (bit_or bits (2 ^ k)) k ≡ 1 = omega (arith, both, here, low) in
     rw is refl
 
-more_other : (bits k j : ℕ) → j ≢ k → names (bit_or bits (2 ^ k)) j ≡ names bits j
+pub more_other : (bits k j : ℕ) → j ≢ k → names (bit_or bits (2 ^ k)) j ≡ names bits j
 more_other bits k j other =
     let both = bit_at_or bits (2 ^ k) j in
     let there = bit_at-pow_other k j other in
@@ -228,7 +228,7 @@ names_top {own} {parts} h k named = in_top own k (named_groups parts) (sym (name
 abbrev nine : List ℕ
 nine = 1 ∷ 2 ∷ 3 ∷ 4 ∷ 5 ∷ 6 ∷ 7 ∷ 8 ∷ 9 ∷ []
 
-not_in : (k : ℕ) (ks : List ℕ) → IsNotIn k ks → is_in k ks ≡ false
+pub not_in : (k : ℕ) (ks : List ℕ) → IsNotIn k ks → is_in k ks ≡ false
 not_in k [] h = refl
 not_in k (j ∷ ks) h =
     let other : (j == k) ≡ false = grind (arith, nat_tests, h.0) in

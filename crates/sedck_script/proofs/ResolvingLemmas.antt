@@ -11,7 +11,7 @@ use Rattle.sedck_script.specs.Items.{WrittenVerb, Known, BranchTo, TestTo, Openi
 use Rattle.sedck_script.specs.Resolution.{Defines, MayBeBraced, LeadsTo, Resolves, done, known, branch, test, opening, closing}
 use Rattle.sedck_script.specs.Private.Reading.{label_place, HasLabels}
 use Rattle.sedck_script.specs.Private.ItemReading.{commands_among, verb_turn, Turned, Nests, IsKnownLabel, label_of, item_label, item_of, target_of, resolved_verb, TakesTarget}
-use Rattle.sedck_script.specs.declared.written.WrittenItem.{WrittenItem}
+use Rattle.sedck_script.specs.declared.items.WrittenItem.{WrittenItem}
 use Rattle.sedck_script.proofs.Nesting.{resolves_nests, resolves_length, nests_one, nests_behind, label_defined, plain_commands, plain_length, plain_label}
 
 -- what is known of the commands of the whole script

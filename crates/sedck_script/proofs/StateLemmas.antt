@@ -2,10 +2,10 @@
 use Rattle.std.proofs.Common.{◌≡◌, ℕ, suc, ◌<◌, Bool, List, [], ◌∷◌, ◌++◌, length, Option, Some, None, refl, ap, sym, ◌∙◌, subst, append_assoc, append-nil, length-append, arith}
 use Rattle.std.specs.Prelude.{All}
 use Rattle.std.proofs.Math.ListN.{get_or-append}
+use Rattle.sedck_text.specs.Bytes.{ascii}
 use Rattle.sedck_script.specs.Program.{Address, Verb}
 use Rattle.sedck_script.specs.Items.{WrittenVerb, Known, BranchTo, TestTo, Opening, Takes, Item, Written, Closing}
 use Rattle.sedck_script.specs.Faults.{StandsAt}
-use Rattle.sedck_script.specs.Cuts.{brace}
 use Rattle.sedck_script.specs.Private.ItemReading.{Turn, Opens, Closes, Stays, Jumps, verb_turn, commands_among, locations_in}
 use Rattle.sedck_script.specs.Private.Progress.{patterns_of, item_patterns, NotesLabel, NotesBlock}
 use Rattle.std.specs.Borrow.{Bor}
@@ -14,11 +14,11 @@ use Rattle.std.proofs.lemmas.List.Elements.{All-push}
 use Rattle.sedck_script.specs.Private.Reading.{HasLabels, label_place}
 use Rattle.sedck_script.specs.Private.VerbReading.{written_verb, is_braced, IsWrittenAt, DefinesKnown}
 use Rattle.sedck_script.specs.Resolution.{MayBeBraced}
-use Rattle.sedck_script.specs.declared.written.WrittenCommand.{WrittenCommand}
-use Rattle.sedck_script.specs.declared.written.WrittenItem.{WrittenItem}
-use Rattle.sedck_script.specs.declared.written.WrittenItem.TheVariants as item
-use Rattle.sedck_script.specs.declared.written.Written.{Written as WrittenCode}
-use Rattle.sedck_script.specs.declared.written.Written.TheVariants as code
+use Rattle.sedck_script.specs.declared.items.WrittenCommand.{WrittenCommand}
+use Rattle.sedck_script.specs.declared.items.WrittenItem.{WrittenItem}
+use Rattle.sedck_script.specs.declared.items.WrittenItem.TheVariants as item
+use Rattle.sedck_script.specs.declared.items.Written.{Written as WrittenCode}
+use Rattle.sedck_script.specs.declared.items.Written.TheVariants as code
 use Rattle.sedck_script.proofs.LabelPlaces.{labels_label, labels_other}
 
 pub among_append : (xs ys : List Item) → commands_among (xs ++ ys) ≡ commands_among xs ++ commands_among ys
@@ -46,8 +46,8 @@ locations_closing [] = refl
 locations_closing (item.Command x ∷ xs) = ap (λ t. x.location ∷ t) (locations_closing xs)
 locations_closing (item.Closing ∷ xs) = locations_closing xs
 
-pub opened_front : (text : List ℕ) (xs ys : List ℕ) → All (λ place. StandsAt text place brace) (xs ++ ys) → All (λ place. StandsAt text place brace) xs
-opened_front text xs ys h = λ k d lt. subst (λ place. StandsAt text place brace) (get_or-append xs ys d k lt) (h k d (omega (arith, length-append xs ys)))
+pub opened_front : (text : List ℕ) (xs ys : List ℕ) → All (λ place. StandsAt text place (ascii "{")) (xs ++ ys) → All (λ place. StandsAt text place (ascii "{")) xs
+opened_front text xs ys h = λ k d lt. subst (λ place. StandsAt text place (ascii "{")) (get_or-append xs ys d k lt) (h k d (omega (arith, length-append xs ys)))
 
 -- ---- Labels
 
@@ -79,13 +79,13 @@ Deeper Stays depth deep = deep ≡ depth
 Deeper (Jumps braced) depth deep = (deep ≡ depth) × MayBeBraced braced depth
 
 abbrev pub AreOpen : List ℕ → List ℕ → Type 0
-AreOpen text places = All (λ place. StandsAt text place brace) places
+AreOpen text places = All (λ place. StandsAt text place (ascii "{")) places
 
-open_push : (text xs : List ℕ) (x : ℕ) → AreOpen text xs → StandsAt text x brace → AreOpen text (xs ++ x ∷ [])
-open_push text xs x h k = All-push (λ place. StandsAt text place brace) xs x h k
+open_push : (text xs : List ℕ) (x : ℕ) → AreOpen text xs → StandsAt text x (ascii "{") → AreOpen text (xs ++ x ∷ [])
+open_push text xs x h k = All-push (λ place. StandsAt text place (ascii "{")) xs x h k
 
 pub blocks_noted : (v : WrittenVerb) (text old new : List ℕ) (place : ℕ) → NotesBlock (verb_turn v) old new place → (v ≡ Opening → length old < 64)
-    → (v ≡ Opening → StandsAt text place brace) → MayBeBraced (is_braced v) (length old) → AreOpen text old
+    → (v ≡ Opening → StandsAt text place (ascii "{")) → MayBeBraced (is_braced v) (length old) → AreOpen text old
     → Deeper (verb_turn v) (length old) (length new) × AreOpen text new
 blocks_noted (Known v) text old new place k few at may o = (ap length k, subst (AreOpen text) (sym k) o)
 blocks_noted (BranchTo l braced) text old new place k few at may o = ((ap length k, may), subst (AreOpen text) (sym k) o)

@@ -20,9 +20,6 @@ use Rattle.sedck_script.specs.View.{place_of}
 use Rattle.sedck_script.specs.declared.script.Place.{Place as CodePlace}
 use Rattle.sedck_script.proofs.FirstBytes.{heads, tails}
 
-one_place : {text r s : List ℕ} {q u : Place} → PlaceText text q r → PlaceText text u s → (q ≡ u) × (r ≡ s)
-one_place x y = place_one x y
-
 begins_no : {b : ℕ} {more text : List ℕ} → text ≡ b ∷ more → begins_address b ≡ true → BeginsNoPlace text → ⊥
 begins_no {b} e h n = both_ways (begins_address b) (not-true (begins_address b) (subst (λ t. BeginsNoPlace t) e n)) h
 
@@ -41,8 +38,8 @@ only_none n other behind marks begins left verb a l v = none_by n a
 one_by : {text r s marks begins left : List ℕ} {q : Place} {b : Address} {v : WrittenVerb} → PlaceText text q r → HasNoComma r
     → AddressText text b s → Longest is_mark s marks begins → VerbText begins v left → (b ≡ One q) × (s ≡ r)
 one_by x n p.none m v = absurd (no_place_here x m v)
-one_by x n (p.one y) m v = let one = one_place y x in (ap One one.0, one.1)
-one_by x n (p.two {more = more} {b = b} y c h d z) m v = absurd (n _ more b (longest_along (one_place y x).1 c) h)
+one_by x n (p.one y) m v = let one = place_one y x in (ap One one.0, one.1)
+one_by x n (p.two {more = more} {b = b} y c h d z) m v = absurd (n _ more b (longest_along (place_one y x).1 c) h)
 
 -- one address, after which no comma is
 pub only_one : {text r : List ℕ} {q : Place} → PlaceText text q r → HasNoComma r → IsOnlyAddress text (One q) r
@@ -53,12 +50,12 @@ two_by : {text r s blanks more front second rest marks begins left : List ℕ} {
     → Longest is_blank more front second → PlaceText second u rest
     → AddressText text b s → Longest is_mark s marks begins → VerbText begins v left → (b ≡ Two q u) × (s ≡ rest)
 two_by x l h d z p.none m v = absurd (no_place_here x m v)
-two_by x l h d z (p.one y) m v = absurd (no_comma_here (longest_along (one_place x y).1 l) h m v)
+two_by x l h d z (p.one y) m v = absurd (no_comma_here (longest_along (place_one x y).1 l) h m v)
 two_by x l h d z (p.two y i j k o) m v =
-    let first = one_place y x in
+    let first = place_one y x in
     let blanks = longest_one (longest_along first.1 i) l in
     let second = longest_one (longest_along (tails blanks.1) k) d in
-    pair_of first.0 (one_place (place_along second.1 o) z)
+    pair_of first.0 (place_one (place_along second.1 o) z)
 
 -- two addresses
 pub only_two : {text r second rest : List ℕ} {q u : Place} → PlaceText text q r → IsBehindComma r second → PlaceText second u rest
@@ -86,9 +83,9 @@ second_by : {text r s blanks more front second marks begins left : List ℕ} {c 
     → Longest is_blank more front second → ((u : Place) (t : List ℕ) → PlaceText second u t → ⊥)
     → AddressText text b s → Longest is_mark s marks begins → VerbText begins v left → ⊥
 second_by x l h d n p.none m v = no_place_here x m v
-second_by x l h d n (p.one y) m v = no_comma_here (longest_along (one_place x y).1 l) h m v
+second_by x l h d n (p.one y) m v = no_comma_here (longest_along (place_one x y).1 l) h m v
 second_by x l h d n (p.two y i j k o) m v =
-    let first = one_place y x in
+    let first = place_one y x in
     let blanks = longest_one (longest_along first.1 i) l in
     let second = longest_one (longest_along (tails blanks.1) k) d in
     n _ _ (place_along second.1 o)

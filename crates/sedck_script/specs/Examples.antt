@@ -1,6 +1,6 @@
 -- Worked examples of scripts: what some texts spell, part by part.
 use Rattle.std.specs.Prelude.{◌≡◌, ℕ, true, false, List, [], ◌∷◌, Some, codes}
-use Rattle.sedck_text.specs.Bytes.{newline, carriage_return, slash, backslash, letter_x}
+use Rattle.sedck_text.specs.Bytes.{newline, carriage_return, backslash, ascii}
 use Rattle.sedck_script.specs.Program.{Verb, NoAddress, One, Last, Part, Text, Whole, Newline, Label, Branch, Block, NextAppend, Print, Command}
 use Rattle.sedck_script.specs.Parts.{DelimitedExpression, ExpressionText, DelimitedList, FirstList, Replacement, EscapedPart, GivenText}
 use Rattle.sedck_script.specs.Items.{WrittenVerb, Known, BranchTo, Opening, Item, Written, Closing, VerbText, HasNoInnerReturn, Items}
@@ -46,25 +46,25 @@ pub record ExamplesHold : Type 0 where
   -- the block's target is the place after its `}`
   pub block_leads : Resolves block_commands [] 0 block_items block_commands
   -- the expression `a/b` after `s/`, written `a\/b`
-  pub escaped_slash : DelimitedExpression slash (codes "a\\/b/x/") (codes "a/b") (codes "x/")
+  pub escaped_slash : DelimitedExpression (ascii "/") (codes "a\\/b/x/") (codes "a/b") (codes "x/")
   -- where a bar is the delimiter, none can be written in the expression
   pub no_escaped_bar : (expression rest : List ℕ) → ¬ DelimitedExpression 124 (codes "a\\|b|c|") expression rest
   -- the expression `axb` after `sx`, written `a\xb`
-  pub escaped_x : ExpressionText letter_x (codes "a\\xbxyx") (codes "axb") (codes "yx")
+  pub escaped_x : ExpressionText (ascii "x") (codes "a\\xbxyx") (codes "axb") (codes "yx")
   -- where the expression has a `[`, no `\x` can be written in it
-  pub no_escaped_x : (expression rest : List ℕ) → ¬ ExpressionText letter_x (codes "[\\xa]xyx") expression rest
+  pub no_escaped_x : (expression rest : List ℕ) → ¬ ExpressionText (ascii "x") (codes "[\\xa]xyx") expression rest
   -- the first list of `y/[a]/bcd/`; in that of `y/[]/ab/` a bracket list is left open
-  pub closed_list : FirstList slash (codes "[a]/bcd/") (codes "[a]") (codes "bcd/")
-  pub no_open_list : (bytes rest : List ℕ) → ¬ FirstList slash (codes "[]/ab/") bytes rest
+  pub closed_list : FirstList (ascii "/") (codes "[a]/bcd/") (codes "[a]") (codes "bcd/")
+  pub no_open_list : (bytes rest : List ℕ) → ¬ FirstList (ascii "/") (codes "[]/ab/") bytes rest
   -- `t #` has no label, and no comment may be there
   pub no_comment_for_a_label : (verb : WrittenVerb) (rest : List ℕ) → ¬ VerbText (codes "t #") verb rest
   -- a carriage return may end a comment's line, and may not be inside of it
   pub return_last : HasNoInnerReturn (97 ∷ carriage_return ∷ [])
   pub return_inside : ¬ HasNoInnerReturn (97 ∷ carriage_return ∷ 98 ∷ [])
   -- the second list of `y/abc/\n\\\//` is a newline, a backslash and a slash
-  pub list_escapes : DelimitedList slash (codes "\\n\\\\\\//") (newline ∷ backslash ∷ slash ∷ []) []
+  pub list_escapes : DelimitedList (ascii "/") (codes "\\n\\\\\\//") (newline ∷ backslash ∷ ascii "/" ∷ []) []
   -- the replacement `x&\n` has three parts
-  pub parts : Replacement slash (codes "x&\\n/") (Text (codes "x") ∷ Whole ∷ Newline ∷ []) []
+  pub parts : Replacement (ascii "/") (codes "x&\\n/") (Text (codes "x") ∷ Whole ∷ Newline ∷ []) []
   -- `\U` is no part of a replacement
   pub no_case_conversion : (part : Part) → ¬ EscapedPart 85 part
   -- a backslash and a blank alone are no text of `a`, `c` or `i`

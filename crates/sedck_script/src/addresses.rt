@@ -1,20 +1,21 @@
-//! Addresses of commands.
+//! Addresses of commands, and decimal numbers.
 
-ghost use Rattle.std.specs.Prelude.{[], ◌≡◌, ◌≤◌, ◌<◌, ◌∷◌, ℕ, List, Some, None, length, drop, IsTrue, IfOk, IfErr, IfSome, IfNone};
-ghost use Rattle.sedck_script.specs.Cuts.{is_delimiter};
-ghost use Rattle.sedck_script.specs.Program as clean;
+ghost use Rattle.std.specs.Prelude.{[], ◌≡◌, ◌≤◌, ◌<◌, ◌∷◌, ℕ, List, Some, None, length, drop, IsTrue, IfOk, IfErr, IfSome, IfNone, min};
+ghost use Rattle.sedck_script.specs.Cuts.{is_delimiter, is_digit};
 ghost use Rattle.sedck_script.specs.Program.{place_patterns, address_patterns};
-ghost use Rattle.sedck_script.specs.Parts.{PlaceText, AddressText};
+ghost use Rattle.sedck_script.specs.Parts.{PlaceText, AddressText, Number};
 ghost use Rattle.sedck_script.specs.Faults.{IsPlaced, IsOfText};
 ghost use Rattle.sedck_text.specs.Cursors.{unread, Follows};
 ghost use Rattle.sedck_script.specs.Private.PieceReading.{IsPartPlaced};
 ghost use Rattle.sedck_script.specs.Private.AddressReading.{begins_address, has_previous, IsEmptyAt, ContextText, CustomText, BeginsPlace, BeginsNoPlace, IsOnlyAddress, IsNoCommand, IsBehindComma, HasNoComma, IsSecond, BeginsNoSecond};
+ghost use Rattle.std.specs.List.{list_all};
+ghost use Rattle.std.specs.Str.Parse.{digits_value};
+ghost use Rattle.sedck_script.specs.Program as clean;
 ghost use Rattle.sedck_script.specs.View as view;
 
-use crate::bytes::{is_delimiter, is_digit};
+use crate::bytes::{NUMBER_LIMIT, is_delimiter, is_digit};
 use crate::delimited::read_pattern;
 use crate::fault::ScriptFault;
-use crate::numbers::read_number;
 use crate::script::{Address, Pattern, Place};
 use sedck_text::{Class, Cursor};
 use std::alloc::Global;
@@ -196,4 +197,30 @@ pub fn split_address<'a>(
     };
     let empty = empty.or(empty_offset(&to, rest));
     Ok((Address::Two(from, to), empty, rest))
+}
+
+/// The value of the digits, or the limit where it is greater.
+fn value_of(digits: &[u8]) -> u64
+    requires { IsTrue (list_all is_digit digits.now) }
+    ensures { result ≡ min (digits_value 10 digits.now) NUMBER_LIMIT }
+{
+    let mut value = 0;
+    for digit in digits {
+        value = (value * 10 + u64::from(*digit - b'0')).min(NUMBER_LIMIT);
+    }
+    value
+}
+
+/// The number at the start, and what follows its digits.
+pub fn read_number<'a>(text: Cursor<'a>) -> Option<(u32, Cursor<'a>)>
+    ensures read { IfSome result (λ x. Number (unread text.entry) x.0 (unread x.1)) }
+    ensures same { IfSome result (λ x. x.1.whole ≡ text.entry.whole) }
+    ensures none { IfNone result ((n : ℕ) (rest : List ℕ) → Number (unread text.entry) n rest → ⊥) }
+{
+    let (digits, rest) = text.split(Class::Digit);
+    let value = value_of(digits);
+    if digits.is_empty() || value == 0 || value == NUMBER_LIMIT {
+        return None;
+    }
+    Some((value as u32, rest))
 }

@@ -2,8 +2,8 @@
 
 ghost use Rattle.std.specs.Prelude.{if◌then◌else◌, ◌≡◌, ◌≤◌, ◌<◌, ◌++◌, ◌==◌, ◌⊎◌, ◌-◌, ℕ, List, Bool, true, length, IfOk, IfErr, OnOk, OnErr};
 ghost use Rattle.std.specs.List.{list_any};
+ghost use Rattle.sedck_text.specs.Bytes.{ascii};
 ghost use Rattle.sedck_text.specs.Text.{one_of};
-ghost use Rattle.sedck_script.specs.Cuts.{bang, brace};
 ghost use Rattle.sedck_script.specs.Program as clean;
 ghost use Rattle.sedck_script.specs.Program.{address_patterns};
 ghost use Rattle.sedck_script.specs.Items.{WrittenVerb, Opening, VerbText, Takes, CommandText};
@@ -18,14 +18,13 @@ ghost use Rattle.sedck_script.specs.Private.Locating.{IsOnlyLocation};
 ghost use Rattle.sedck_script.specs.View.{address_of};
 
 use crate::addresses::split_address;
+use crate::bytes::{COMMAND_LIMIT, DEPTH_LIMIT};
 use crate::fault::ScriptFault;
 use crate::forms::{Form, form_of};
-use crate::limits::{COMMAND_LIMIT, DEPTH_LIMIT};
+use crate::items::{Reader, Written, WrittenCommand};
 use crate::location::Location;
-use crate::reader::Reader;
 use crate::script::{Address, Pattern, Verb};
 use crate::verbs::read_verb;
-use crate::written::{Written, WrittenCommand};
 use sedck_text::{Class, Cursor};
 use std::alloc::Global;
 
@@ -42,7 +41,7 @@ fn takes(form: &Form, address: &Address, negated: bool) -> bool
 
 /// Whether a verb of this form opens a block.
 fn opens_block(form: &Form) -> bool
-    ensures { (b : ℕ) → IsForm b form.now → result ≡ (b == brace) }
+    ensures { (b : ℕ) → IsForm b form.now → result ≡ (b == ascii "{") }
 {
     matches!(form, Form::Block)
 }

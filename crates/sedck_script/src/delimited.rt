@@ -1,24 +1,24 @@
-//! Parts between delimiters.
+//! Parts between delimiters, and bracket lists in them.
 
-ghost use Rattle.std.specs.Prelude.{◌≡◌, ◌<◌, ◌-◌, ◌∷◌, ℕ, List, IsTrue, IfOk, IfErr};
+ghost use Rattle.std.specs.Prelude.{◌≡◌, ◌<◌, ◌-◌, ◌∷◌, ℕ, List, IsTrue, IfOk, IfErr, ◌==◌, not, [], IfSome, IfNone};
 ghost use Rattle.std.specs.Cow.{cow_slice_items};
-ghost use Rattle.sedck_text.specs.Bytes.{letter_y};
-ghost use Rattle.sedck_bre.specs.Faults as expressions;
-ghost use Rattle.sedck_script.specs.Cuts.{is_delimiter};
+ghost use Rattle.sedck_text.specs.Bytes.{ascii};
+ghost use Rattle.sedck_script.specs.Cuts.{is_delimiter, Longest};
 ghost use Rattle.sedck_script.specs.Parts.{DelimitedExpression, begins_firmly, has_loose_quote, is_misread, ExpressionText, DelimitedList, FirstList};
 ghost use Rattle.sedck_script.specs.Faults.{StandsAt, IsRefusedExpression, IsOfText};
 ghost use Rattle.sedck_text.specs.Cursors.{unread, Follows};
-ghost use Rattle.sedck_script.specs.Program as clean;
 ghost use Rattle.sedck_script.specs.View.{pattern_of};
 ghost use Rattle.sedck_script.specs.Private.PieceReading.{IsPiece, PatternText, IsWrittenUpTo, IsFirstEscape, IsPartPlaced, list_escape};
 ghost use Rattle.sedck_script.specs.declared.delimited.Piece.{Piece};
+ghost use Rattle.sedck_script.specs.BracketLists.{BracketBegins, BracketList, BracketsClose};
+ghost use Rattle.sedck_bre.specs.Faults as expressions;
+ghost use Rattle.sedck_script.specs.Program as clean;
 
-use crate::bracket_lists::open_bracket;
 use crate::bytes::{can_be_escaped, is_digit, is_letter};
 use crate::fault::ScriptFault;
 use crate::script::Pattern;
 use sedck_bre::{ReFault, parse};
-use sedck_text::Cursor;
+use sedck_text::{Class, Cursor};
 use std::alloc::Global;
 use std::borrow::CowSlice;
 
@@ -305,7 +305,7 @@ pub fn read_first_list<'a>(
 ) -> Result<(Vec<u8>, Cursor<'a>), ScriptFault>
     requires delimiter { IsTrue (is_delimiter delimiter) }
     requires opened { Follows text delimiter }
-    requires verb { (1 < text.at) × StandsAt text.whole.now (text.at - 2) letter_y }
+    requires verb { (1 < text.at) × StandsAt text.whole.now (text.at - 2) (ascii "y") }
     ensures read { IfOk result (λ x. FirstList delimiter (unread text.entry) x.0.items (unread x.1)) }
     ensures same { IfOk result (λ x. x.1.whole ≡ text.entry.whole) }
     ensures refused { IfErr result (λ fault. IsOfText fault → (bytes : List ℕ) (rest : List ℕ) → FirstList delimiter (unread text.entry) bytes rest → ⊥) }
@@ -319,4 +319,58 @@ pub fn read_first_list<'a>(
         });
     }
     Ok((bytes, rest))
+}
+
+/// What follows the bytes with which a bracket list begins.
+fn bracket_begins(text: &[u8]) -> Option<&[u8]>
+    ensures some { IfSome result (λ begins. BracketBegins text.now begins.now) }
+    ensures none { IfNone result ((begins : List ℕ) → BracketBegins text.now begins → ⊥) }
+{
+    let (first, behind) = text.split_first()?;
+    if *first == b'^' {
+        let (_, begins) = behind.split_first()?;
+        return Some(begins);
+    }
+    Some(behind)
+}
+
+/// The bytes before the first `]`, and the text from there on.
+fn split_bracket(text: &[u8]) -> (&[u8], &[u8])
+    ensures { Longest (λ b. not (b == ascii "]")) text.now result.0.now result.1.now }
+{
+    text.split_at(Class::Except(b']').run_length(text))
+}
+
+/// What follows a bracket list after its `[`, where it is closed.
+fn behind_bracket_list(text: &[u8]) -> Option<&[u8]>
+    ensures some { IfSome result (λ behind. BracketList text.now behind.now) }
+    ensures none { IfNone result ((behind : List ℕ) → BracketList text.now behind → ⊥) }
+{
+    let begins = bracket_begins(text)?;
+    let (_, closing) = split_bracket(begins);
+    let (_, behind) = closing.split_first()?;
+    Some(behind)
+}
+
+/// What follows the `[` of the bracket list that is left open in the text, if one is.
+pub fn open_bracket(text: &[u8]) -> Option<&[u8]>
+    ensures none { IfNone result (BracketsClose text.now []) }
+    ensures closed { IfSome result (λ more. BracketsClose text.now (ascii "[" ∷ more.now)) }
+    ensures unclosed { IfSome result (λ more. (behind : List ℕ) → BracketList more.now behind → ⊥) }
+{
+    let mut rest = text;
+    while let Some((first, behind)) = rest.split_first() {
+        rest = behind;
+        if *first == b'[' {
+            let Some(after) = behind_bracket_list(behind) else {
+                return Some(behind);
+            };
+            rest = after;
+        } else if *first == b'\\' {
+            if let Some((_, after)) = behind.split_first() {
+                rest = after;
+            }
+        }
+    }
+    None
 }

@@ -7,11 +7,11 @@ ghost use Rattle.sedck_script.specs.Faults.{IsPlaced};
 ghost use Rattle.sedck_text.specs.Cursors.{unread};
 ghost use Rattle.sedck_script.specs.Private.FlagReading.{IsFlag, with_flags};
 
+use crate::addresses::read_number;
 use crate::bytes::{is_digit, is_ending};
-use crate::ends::end_of_flags;
 use crate::fault::ScriptFault;
 use crate::names::{name_fault, read_name};
-use crate::numbers::read_number;
+use crate::texts::end_of_flags;
 use sedck_text::{Class, Cursor};
 
 /// The flags of a substitution but its file.

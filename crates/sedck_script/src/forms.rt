@@ -7,7 +7,7 @@ ghost use Rattle.sedck_script.specs.Items.{Simple};
 ghost use Rattle.sedck_script.specs.Private.Forms.{IsForm};
 ghost use Rattle.sedck_script.specs.View.{verb_of};
 
-use crate::name_lists::Access;
+use crate::names::Access;
 use crate::script::Verb;
 
 /// A verb that a text follows.

@@ -1,8 +1,8 @@
-//! Items of a script.
+//! Items of a script: its commands as they are written, and the closings of blocks.
 
 ghost use Rattle.std.specs.Prelude.{false, ◌≡◌, ◌<◌, ◌≤◌, ◌+◌, ◌++◌, [], ◌∷◌, ℕ, List, length, map, IfOk, IfErr, OnOk};
 ghost use Rattle.std.specs.Option.{option_or};
-ghost use Rattle.sedck_text.specs.Bytes.{closing_brace};
+ghost use Rattle.sedck_text.specs.Bytes.{ascii};
 ghost use Rattle.sedck_script.specs.Cuts.{is_separator};
 ghost use Rattle.sedck_text.specs.Cursors.{unread};
 ghost use Rattle.sedck_script.specs.Items.{Item, Items};
@@ -13,15 +13,52 @@ ghost use Rattle.sedck_script.specs.Private.VerbReading.{written_verb};
 ghost use Rattle.sedck_script.specs.Private.ItemReading.{item_of, verb_turn, locations_in, Nests};
 
 use crate::commands::read_command;
-use crate::comments::read_comment;
-use crate::ends::end_of_command;
 use crate::fault::ScriptFault;
-use crate::label_places::add_label;
-use crate::reader::Reader;
-use crate::written::{Written, WrittenCommand, WrittenItem};
+use crate::labels::{Jump, add_label};
+use crate::location::Location;
+use crate::script::{Address, Verb};
+use crate::texts::{end_of_command, read_comment};
 use indexmap::IndexMap;
 use sedck_text::{Class, Cursor};
 use std::alloc::Global;
+
+/// Where a command begins, and what is known of those before it.
+#[derive(Clone, Copy)]
+pub struct Reader<'r, 'a> {
+    pub cursor: Cursor<'a>,
+    /// The places of the labels' commands.
+    pub labels: &'r IndexMap<&'a [u8], usize>,
+    /// How many blocks are open.
+    pub depth: usize,
+    /// How many commands are before it.
+    pub count: usize,
+}
+
+/// A verb as it is written.
+#[derive(Drop)]
+pub enum Written<'a> {
+    Known(Verb<'a>),
+    Label(&'a [u8]),
+    BranchTo(Jump<'a>),
+    TestTo(Jump<'a>),
+    Opening,
+}
+
+/// A command whose label hasn't become a place yet.
+#[derive(Drop)]
+pub struct WrittenCommand<'a> {
+    pub address: Address,
+    pub negated: bool,
+    pub verb: Written<'a>,
+    pub location: Location,
+}
+
+#[derive(Drop)]
+pub enum WrittenItem<'a> {
+    Command(WrittenCommand<'a>),
+    /// The `}` of a block.
+    Closing,
+}
 
 /// What has been read of a script.
 #[derive(Drop)]
@@ -43,7 +80,7 @@ fn close_block<'a>(
     behind: Cursor<'a>,
     progress: &mut Progress<'a>,
 ) -> Result<Cursor<'a>, ScriptFault>
-    requires begins { unread begins ≡ closing_brace ∷ unread behind }
+    requires begins { unread begins ≡ ascii "}" ∷ unread behind }
     requires behind { behind.whole ≡ begins.whole }
     requires progress { IsProgress begins.whole.now (unread begins) progress.old }
     ensures progress { IfOk result (λ rest. IsProgress begins.entry.whole.now (unread rest) progress.new) }

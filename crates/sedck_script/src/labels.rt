@@ -1,19 +1,21 @@
-//! Labels after `:`, `b` and `t`.
+//! Labels after `:`, `b` and `t`, and the places of the commands that define them.
 
-ghost use Rattle.std.specs.Prelude.{◌≡◌, ◌<◌, ◌+◌, ℕ, Bool, false, List, Option, length, is_some, option_copied, IfOk, IfErr, IfSome, OnOk};
+ghost use Rattle.std.specs.Prelude.{◌≡◌, ◌<◌, ◌+◌, ℕ, Bool, false, List, Option, length, is_some, option_copied, IfOk, IfErr, IfSome, OnOk, Some, if◌then◌else◌};
 ghost use Rattle.sedck_text.specs.Text.{begins, one_of};
 ghost use Rattle.sedck_text.specs.Cursors.{unread};
 ghost use Rattle.sedck_script.specs.Cuts.{is_ending, is_label_byte, IsEmptyOr, Longest};
 ghost use Rattle.sedck_script.specs.Parts.{Ends, LabelText};
 ghost use Rattle.sedck_script.specs.Items.{IsNoComment, IsNoBrace, EndsJump, begins_braced_comment};
 ghost use Rattle.sedck_script.specs.Faults.{IsLabelBehind, IsPlaced};
-ghost use Rattle.sedck_script.specs.Private.Reading.{IsLabelAt};
+ghost use Rattle.sedck_script.specs.Private.Reading.{IsLabelAt, label_place};
 ghost use Rattle.sedck_script.specs.Private.LabelReading.{BranchText, IsBehindVerb, IsBehindLabel};
 ghost use Rattle.sedck_script.specs.Private.VerbReading.{IsJumpAt};
+ghost use Rattle.std.specs.Str.{bytes_eq};
 
 use crate::bytes::is_ending;
-use crate::ends::end_of_command;
 use crate::fault::ScriptFault;
+use crate::texts::end_of_command;
+use indexmap::IndexMap;
 use sedck_text::{Class, Cursor};
 
 /// Where a branch or a test leads.
@@ -177,4 +179,24 @@ pub fn read_jump<'a>(text: Cursor<'a>) -> Result<(Jump<'a>, Cursor<'a>), ScriptF
         brace,
     };
     Ok((jump, rest))
+}
+
+/// The place that a map has for a label.
+pub fn place_of(labels: &IndexMap<&[u8], usize>, name: &[u8]) -> Option<usize>
+    ensures { result ≡ label_place labels.now name.now }
+{
+    labels.get(name).copied()
+}
+
+/// Adds a label at a place.
+pub fn add_label<'a>(
+    labels: &mut IndexMap<&'a [u8], usize>,
+    name: &'a [u8],
+    at: usize,
+) -> Result<(), ScriptFault>
+    ensures ok { OnOk result ((q : List ℕ) → label_place labels.new q ≡ (if bytes_eq name.now q then Some at else label_place labels.old q)) }
+    ensures err { IfErr result (λ fault. fault ≡ ScriptFault.OutOfMemory) }
+{
+    labels.insert(name, at)?;
+    Ok(())
 }

@@ -18,38 +18,28 @@
 #![tactic(auto)]
 
 mod addresses;
-mod bracket_lists;
 mod bytes;
 mod commands;
-mod comments;
 mod delimited;
-mod ends;
 mod expressions;
 mod fault;
 mod flags;
 mod forms;
 mod items;
-mod label_places;
 mod labels;
 pub mod laws;
-mod limits;
 mod location;
-mod name_lists;
 mod names;
-mod numbers;
 mod parsing;
-mod reader;
-mod references;
 mod replacements;
 mod resolving;
 mod script;
 mod substitutions;
 mod texts;
 mod verbs;
-mod written;
 
 pub use fault::ScriptFault;
 pub use location::Location;
-pub use name_lists::{Access, name_of};
+pub use names::{Access, name_of};
 pub use parsing::{Located, locate, parse};
 pub use script::{Address, Command, Part, Pattern, Place, Script, Substitution, Verb};

@@ -4,7 +4,7 @@ ghost use Rattle.std.specs.Prelude.{◌≡◌, IfOk, IfErr};
 ghost use Rattle.sedck_script.specs.Private.ItemReading.{locations_in};
 
 use crate::fault::ScriptFault;
-use crate::written::WrittenItem;
+use crate::items::WrittenItem;
 use std::alloc::Global;
 
 /// Where a command is in its script's text, in bytes from 0.

@@ -11,12 +11,12 @@ ghost use Rattle.sedck_script.specs.Private.Progress.{IsProgress};
 ghost use Rattle.sedck_script.specs.View.{command_of};
 ghost use Rattle.sedck_script.specs.Faults.{IsPlaced, IsFirstZero, IsOfText};
 
+use crate::bytes::TEXT_LIMIT;
 use crate::expressions::{has_expression, is_quiet};
 use crate::fault::ScriptFault;
 use crate::items::{Progress, read_items};
-use crate::limits::TEXT_LIMIT;
 use crate::location::{Location, locations};
-use crate::name_lists::{Access, sorted_names};
+use crate::names::{Access, sorted_names};
 use crate::resolving::linked;
 use crate::script::{Command, Script};
 use memchr::memchr;

@@ -10,10 +10,9 @@ ghost use Rattle.sedck_script.specs.Private.VerbReading.{written_verb, IsWritten
 ghost use Rattle.sedck_script.specs.Private.ItemReading.{item_of, commands_among, Nests, verb_turn, TakesTarget, IsItemAt, IsKnownLabel, IsLostLabel, label_of, item_label, target_of, resolved_command};
 
 use crate::fault::ScriptFault;
-use crate::label_places::place_of;
-use crate::labels::Jump;
+use crate::items::{Written, WrittenCommand, WrittenItem};
+use crate::labels::{Jump, place_of};
 use crate::script::{Command, Verb};
-use crate::written::{Written, WrittenCommand, WrittenItem};
 use indexmap::IndexMap;
 use std::alloc::Global;
 

@@ -1,7 +1,7 @@
 //! The verbs with delimited parts: `s` and `y`.
 
 ghost use Rattle.std.specs.Prelude.{◌≡◌, ◌≢◌, ◌<◌, ◌-◌, ℕ, List, ◌∷◌, length, IsTrue, IfOk, IfErr};
-ghost use Rattle.sedck_text.specs.Bytes.{letter_s, letter_y};
+ghost use Rattle.sedck_text.specs.Bytes.{ascii};
 ghost use Rattle.sedck_script.specs.Cuts.{is_delimiter};
 ghost use Rattle.sedck_script.specs.Program as clean;
 ghost use Rattle.sedck_script.specs.Items.{WrittenVerb, Known, VerbText};
@@ -12,13 +12,12 @@ ghost use Rattle.sedck_script.specs.Private.VerbReading.{AreLists, IsWrittenAt, 
 
 use crate::bytes::is_delimiter;
 use crate::delimited::{read_first_list, read_list, read_pattern};
-use crate::ends::end_of_command;
 use crate::fault::ScriptFault;
 use crate::flags::read_flags;
-use crate::references::{literal_length, outside_of};
-use crate::replacements::{greatest_group, read_replacement};
+use crate::items::Written;
+use crate::replacements::{greatest_group, literal_length, outside_of, read_replacement};
 use crate::script::{Substitution, Verb};
-use crate::written::Written;
+use crate::texts::end_of_command;
 use sedck_text::Cursor;
 use std::alloc::Global;
 
@@ -44,12 +43,12 @@ pub fn read_substitution<'a>(
     alloc: Global,
     text: Cursor<'a>,
 ) -> Result<(Written<'a>, Cursor<'a>), ScriptFault>
-    requires { Follows text letter_s }
-    ensures read { IfOk result (λ x. VerbText (letter_s ∷ unread text.entry) (written_verb x.0) (unread x.1)) }
+    requires { Follows text (ascii "s") }
+    ensures read { IfOk result (λ x. VerbText (ascii "s" ∷ unread text.entry) (written_verb x.0) (unread x.1)) }
     ensures same { IfOk result (λ x. x.1.whole ≡ text.entry.whole) }
     ensures no_label { IfOk result (λ x. (name : List ℕ) → written_verb x.0 ≢ Known (clean.Label name)) }
     ensures label { IfOk result (λ x. IsWrittenAt text.entry.whole.now x.0) }
-    ensures refused { IfErr result (λ fault. IsOfText fault → (verb : WrittenVerb) (rest : List ℕ) → VerbText (letter_s ∷ unread text.entry) verb rest → ⊥) }
+    ensures refused { IfErr result (λ fault. IsOfText fault → (verb : WrittenVerb) (rest : List ℕ) → VerbText (ascii "s" ∷ unread text.entry) verb rest → ⊥) }
     ensures placed { IfErr result (λ fault. IsPlaced text.entry.whole.now fault) }
 {
     let opening = text.offset() - 1;
@@ -82,8 +81,8 @@ fn read_lists<'a>(
 ) -> Result<(Vec<u8>, Vec<u8>, Cursor<'a>), ScriptFault>
     requires delimiter { IsTrue (is_delimiter delimiter) }
     requires opened { Follows text delimiter }
-    requires verb { (1 < text.at) × StandsAt text.whole.now (text.at - 2) letter_y }
-    requires stands { StandsAt text.whole.now opening letter_y }
+    requires verb { (1 < text.at) × StandsAt text.whole.now (text.at - 2) (ascii "y") }
+    requires stands { StandsAt text.whole.now opening (ascii "y") }
     ensures read { IfOk result (λ x. AreLists delimiter (unread text.entry) x.0.items x.1.items (unread x.2)) }
     ensures same { IfOk result (λ x. x.2.whole ≡ text.entry.whole) }
     ensures refused { IfErr result (λ fault. IsOfText fault → (from to rest : List ℕ) → AreLists delimiter (unread text.entry) from to rest → ⊥) }
@@ -102,12 +101,12 @@ pub fn read_transliteration<'a>(
     alloc: Global,
     text: Cursor<'a>,
 ) -> Result<(Written<'a>, Cursor<'a>), ScriptFault>
-    requires { Follows text letter_y }
-    ensures read { IfOk result (λ x. VerbText (letter_y ∷ unread text.entry) (written_verb x.0) (unread x.1)) }
+    requires { Follows text (ascii "y") }
+    ensures read { IfOk result (λ x. VerbText (ascii "y" ∷ unread text.entry) (written_verb x.0) (unread x.1)) }
     ensures same { IfOk result (λ x. x.1.whole ≡ text.entry.whole) }
     ensures no_label { IfOk result (λ x. (name : List ℕ) → written_verb x.0 ≢ Known (clean.Label name)) }
     ensures label { IfOk result (λ x. IsWrittenAt text.entry.whole.now x.0) }
-    ensures refused { IfErr result (λ fault. IsOfText fault → (verb : WrittenVerb) (rest : List ℕ) → VerbText (letter_y ∷ unread text.entry) verb rest → ⊥) }
+    ensures refused { IfErr result (λ fault. IsOfText fault → (verb : WrittenVerb) (rest : List ℕ) → VerbText (ascii "y" ∷ unread text.entry) verb rest → ⊥) }
     ensures placed { IfErr result (λ fault. IsPlaced text.entry.whole.now fault) }
 {
     let opening = text.offset() - 1;

@@ -1,9 +1,16 @@
-//! Texts of `a`, `c` and `i`.
+//! Texts of `a`, `c` and `i`, comments, and the ends of commands.
 
-ghost use Rattle.std.specs.Prelude.{◌≡◌, ℕ, List, IfSome, IfNone};
+ghost use Rattle.std.specs.Prelude.{◌≡◌, ℕ, List, IfSome, IfNone, IfOk, IfErr};
 ghost use Rattle.sedck_text.specs.Cursors.{unread};
-ghost use Rattle.sedck_script.specs.Parts.{Lines, GivenText};
+ghost use Rattle.sedck_script.specs.Parts.{Lines, GivenText, Ends, EndsFlags};
+ghost use Rattle.sedck_script.specs.Faults.{IsPlaced};
+ghost use Rattle.sedck_script.specs.Private.CommentReading.{CommentText};
+ghost use Rattle.sedck_text.specs.Text.{begins};
 
+use crate::bytes::is_ending;
+use crate::fault::ScriptFault;
+use crate::names::is_continued;
+use memchr::memchr;
 use sedck_text::{Class, Cursor};
 
 /// What follows the lines at the start.
@@ -57,4 +64,60 @@ pub fn read_text<'a>(text: Cursor<'a>) -> Option<(&'a [u8], Cursor<'a>)>
         return None;
     }
     Some(split_lines(behind))
+}
+
+/// What follows a comment, from the end of its line on. A carriage return may only be the last byte of the line.
+pub fn read_comment<'a>(text: Cursor<'a>) -> Result<Cursor<'a>, ScriptFault>
+    ensures read { IfOk result (λ rest. (line : List ℕ) × CommentText (unread text.entry) line (unread rest)) }
+    ensures same { IfOk result (λ x. x.whole ≡ text.entry.whole) }
+    ensures refused { IfErr result (λ fault. (line rest : List ℕ) → CommentText (unread text.entry) line rest → ⊥) }
+    ensures placed { IfErr result (λ fault. IsPlaced text.entry.whole.now fault) }
+{
+    let (line, rest) = text.split(Class::Except(b'\n'));
+    if let Some(at) = memchr(b'\r', line) {
+        if at + 1 < line.len() {
+            return Err(ScriptFault::ExtraText {
+                place: text.offset() + at,
+            });
+        }
+    }
+    Ok(rest)
+}
+
+/// The rest of the text from the end of a command on.
+pub fn end_of_command<'a>(text: Cursor<'a>) -> Result<Cursor<'a>, ScriptFault>
+    ensures read { IfOk result (λ rest. Ends (unread text.entry) (unread rest)) }
+    ensures same { IfOk result (λ x. x.whole ≡ text.entry.whole) }
+    ensures refused { IfErr result (λ fault. (rest : List ℕ) → Ends (unread text.entry) rest → ⊥) }
+    ensures placed { IfErr result (λ fault. IsPlaced text.entry.whole.now fault) }
+{
+    let rest = text.skip(Class::Blank);
+    if let Some(first) = rest.first() {
+        if !is_ending(first) {
+            return Err(ScriptFault::ExtraText {
+                place: rest.offset(),
+            });
+        }
+    }
+    Ok(rest)
+}
+
+/// The rest of the text from the end of a substitution on, after its flags.
+pub fn end_of_flags<'a>(text: Cursor<'a>) -> Result<Cursor<'a>, ScriptFault>
+    ensures read { IfOk result (λ rest. EndsFlags (unread text.entry) (unread rest)) }
+    ensures same { IfOk result (λ x. x.whole ≡ text.entry.whole) }
+    ensures refused { IfErr result (λ fault. (rest : List ℕ) → EndsFlags (unread text.entry) rest → ⊥) }
+    ensures placed { IfErr result (λ fault. IsPlaced text.entry.whole.now fault) }
+{
+    let rest = end_of_command(text)?;
+    let Some(b'#') = rest.first() else {
+        return Ok(rest);
+    };
+    let (line, behind) = rest.split(Class::Except(b'\n'));
+    if !behind.unread().is_empty() && is_continued(line) {
+        return Err(ScriptFault::ExtraText {
+            place: behind.offset() - 1,
+        });
+    }
+    Ok(rest)
 }

@@ -1,7 +1,7 @@
 //! Verbs with what they take.
 
 ghost use Rattle.std.specs.Prelude.{◌≡◌, ◌≢◌, ◌-◌, ℕ, List, ◌∷◌, IfOk, IfErr};
-ghost use Rattle.sedck_text.specs.Bytes.{colon};
+ghost use Rattle.sedck_text.specs.Bytes.{ascii};
 ghost use Rattle.sedck_script.specs.Program as clean;
 ghost use Rattle.sedck_script.specs.Items.{WrittenVerb, Known, Simple, VerbText};
 ghost use Rattle.sedck_script.specs.Faults.{IsPlaced, IsOfText};
@@ -10,17 +10,14 @@ ghost use Rattle.sedck_script.specs.View.{verb_of};
 ghost use Rattle.sedck_script.specs.Private.VerbReading.{written_verb, IsWrittenAt, DefinesKnown};
 ghost use Rattle.sedck_script.specs.Private.Forms.{IsForm, text_byte, file_byte, jump_byte};
 
-use crate::ends::end_of_command;
 use crate::fault::ScriptFault;
 use crate::forms::{Form, JumpVerb, TextVerb};
-use crate::label_places::place_of;
-use crate::labels::{read_definition, read_jump};
-use crate::name_lists::Access;
-use crate::names::{name_fault, read_name};
+use crate::items::Written;
+use crate::labels::{place_of, read_definition, read_jump};
+use crate::names::{Access, name_fault, read_name};
 use crate::script::Verb;
 use crate::substitutions::{read_substitution, read_transliteration};
-use crate::texts::read_text;
-use crate::written::Written;
+use crate::texts::{end_of_command, read_text};
 use indexmap::IndexMap;
 use sedck_text::{Class, Cursor};
 use std::alloc::Global;
@@ -94,12 +91,12 @@ fn read_label<'a>(
     labels: &IndexMap<&'a [u8], usize>,
     text: Cursor<'a>,
 ) -> Result<(Written<'a>, Cursor<'a>), ScriptFault>
-    requires { Follows text colon }
-    ensures read { IfOk result (λ x. VerbText (colon ∷ unread text.entry) (written_verb x.0) (unread x.1)) }
+    requires { Follows text (ascii ":") }
+    ensures read { IfOk result (λ x. VerbText (ascii ":" ∷ unread text.entry) (written_verb x.0) (unread x.1)) }
     ensures same { IfOk result (λ x. x.1.whole ≡ text.entry.whole) }
     ensures fresh { IfOk result (λ x. DefinesKnown labels.now (written_verb x.0) → ⊥) }
     ensures label { IfOk result (λ x. IsWrittenAt text.entry.whole.now x.0) }
-    ensures refused { IfErr result (λ fault. (verb : WrittenVerb) (rest : List ℕ) → VerbText (colon ∷ unread text.entry) verb rest → DefinesKnown labels.now verb) }
+    ensures refused { IfErr result (λ fault. (verb : WrittenVerb) (rest : List ℕ) → VerbText (ascii ":" ∷ unread text.entry) verb rest → DefinesKnown labels.now verb) }
     ensures placed { IfErr result (λ fault. IsPlaced text.entry.whole.now fault) }
 {
     let (name, offset, behind) = read_definition(text)?;

@@ -1,6 +1,6 @@
 -- How sets of reached nodes grow.
 use Rattle.std.proofs.Common.{◌≡◌, ◌⊎◌, ℕ, ◌+◌, ◌-◌, ◌*◌, ◌<◌, ◌≤◌, Bool, true, false, List, refl, sym, ap, ◌∙◌, subst, inl, inr, arith}
-use Rattle.std.proofs.lemmas.Bool.{cases_eq, cases_lt, true≢false}
+use Rattle.std.proofs.lemmas.Bool.{cases_eq, cases_lt}
 use Rattle.sedck_script.specs.Program.{Program}
 use Rattle.sedck_flow.specs.Nodes.{node_index}
 use Rattle.sedck_flow.specs.declared.graph.Node.{Node}
@@ -10,7 +10,7 @@ use Rattle.sedck_search.specs.Private.NodeSet.{has, IsNodeSet, HasChanged, IsEmp
 use Rattle.sedck_search.specs.Private.Reaching.{IsIn, IsClosed, Reaches, FollowedEdge}
 use Rattle.sedck_search.specs.Private.Frontier.{AddsNode, AddsReached, AddsTargets, AreSearchSets}
 use Rattle.sedck_search.specs.declared.filter.EdgeFilter.{EdgeFilter}
-use Rattle.sedck_search.proofs.NodeSets.{inserted_count, removed_count, count_within, fewer_or_same}
+use Rattle.sedck_search.proofs.NodeSets.{inserted_count, removed_count, count_within, fewer_or_same, not_both}
 use Rattle.sedck_flow.proofs.NodeLemmas.{node_same, node_at}
 use Rattle.sedck_search.proofs.Paths.{reaches_self, reaches-trans}
 
@@ -31,9 +31,6 @@ changed_new a b n h m x =
       | inl same ↦ inr (node_same m n same)
       | inr other ↦ inl (sym (h.others (node_index m) other) ∙ x)
     ]
-
-not_both : {b : Bool} → b ≡ true → b ≡ false → ⊥
-not_both h k = true≢false (sym h ∙ k)
 
 -- what is in a row without the node was in the set
 pub removed_was : (a b : List ℕ) (m : Node) → HasChanged a b (node_index m) false → (k : Node) → IsIn b k → IsIn a k

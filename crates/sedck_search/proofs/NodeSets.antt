@@ -2,12 +2,16 @@
 use Rattle.std.proofs.Common.{◌≡◌, ◌≢◌, ℕ, suc, ◌+◌, ◌*◌, ◌/◌, ◌%◌, ◌<◌, ◌≤◌, Bool, true, false, List, replicate, inl, inr, refl, sym, ap, ◌∙◌, arith}
 use Rattle.std.specs.Prelude.{slice_index, count_ones}
 use Rattle.std.specs.Int.{bit_at}
-use Rattle.std.proofs.lemmas.Bool.{cases_lt, false≢true}
+use Rattle.std.proofs.lemmas.Bool.{cases_lt, false≢true, true≢false}
 use Rattle.std.proofs.lemmas.Nat.{ones-le}
 use Rattle.sedck_search.specs.Rows.{bit_count}
 use Rattle.sedck_search.specs.Private.NodeSet.{has, IsNodeSet, HasChanged}
 use Rattle.sedck_search.proofs.Totals.{total, total_same, total_fewer, total_less, total_one_more, total_within, word_total, set_total}
 use Rattle.sedck_search.proofs.NodeBits.{bit_of, node_bit, at_node, word_below, none_behind, empty_set, empty_nodes}
+
+-- a bit has one value
+pub not_both : {b : Bool} → b ≡ true → b ≡ false → ⊥
+not_both h k = true≢false (sym h ∙ k)
 
 -- how many bits of a word of the set are set
 abbrev ones_at : List ℕ → ℕ → ℕ

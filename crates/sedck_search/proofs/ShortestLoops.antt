@@ -9,15 +9,14 @@ use Rattle.sedck_flow.specs.declared.graph.Edge.{Edge}
 use Rattle.sedck_flow.specs.declared.graph.Kind.{Kind}
 use Rattle.sedck_flow.proofs.EdgesInside.{inside}
 use Rattle.sedck_search.specs.Obstacle.{IsPath, IsWalk, walk_edges}
-use Rattle.sedck_search.specs.Private.Reaching.{AreFollowed, FollowedEdge, IsFollowed, IsIn}
+use Rattle.sedck_search.specs.Private.Reaching.{AreFollowed, FollowedEdge, IsIn}
 use Rattle.sedck_search.specs.Private.Distances.{HasDistance, AreDistances}
 use Rattle.sedck_search.specs.Private.Closing.{back_filter, closing_kind}
 use Rattle.sedck_search.specs.Private.ShortestLoop.{IsBegun, IsClosing, IsNearest, IsShortestLoop}
 use Rattle.sedck_search.specs.declared.filter.EdgeFilter.{EdgeFilter}
 use Rattle.sedck_search.specs.declared.answer.Form.{Form}
-use Rattle.sedck_search.specs.declared.answer.Form.TheVariants.{Idle, Growing}
-use Rattle.sedck_flow.specs.declared.graph.Kind.TheVariants.{Grow, Consume}
 use Rattle.sedck_search.specs.declared.answer.Walk.{Walk}
+use Rattle.sedck_search.proofs.ClosedWalks.{closing_follows}
 use Rattle.sedck_search.proofs.Paths.{path-append, followed-append}
 use Rattle.sedck_search.proofs.DistanceLemmas.{distance_least}
 
@@ -81,18 +80,11 @@ module _ (p : Program) (script : IsScript p) (filter : EdgeFilter) (distances : 
   }
 
 -- an edge that begins a loop of the form is followed
-begin_followed : (form : Form) (kind : Kind) → kind ≡ closing_kind form → IsFollowed (back_filter form) kind
-begin_followed Idle kind is = is
-begin_followed Growing kind is = λ consumes. differ (sym is ∙ consumes)
-  where
-    differ : Grow ≡ Consume → ⊥
-    differ e = cc
-
 -- it leads to a node of the set in which distances are known
 pub begin_reached : (p : Program) (form : Form) (n : Node) (distances : List ℕ) (h : AreDistances p (back_filter form) n distances) → (e : Edge)
     → Flow p e → e.kind ≡ closing_kind form → e.from ≡ n → IsIn h.reach e.to
 begin_reached p form n distances h e flow is_kind leaves =
-    h.closed e (flow, begin_followed form e.kind is_kind) (subst (IsIn h.reach) (sym leaves) h.here)
+    h.closed e (flow, closing_follows form e.kind is_kind) (subst (IsIn h.reach) (sym leaves) h.here)
 
 -- a nearest edge has a distance back
 pub near_small : (p : Program) → IsScript p → (form : Form) (closing first : Edge) (distances : List ℕ) → AreDistances p (back_filter form) closing.from distances

@@ -1,7 +1,7 @@
 -- A set of nodes, each turned to the other side of the last line, has as many nodes.
 use Rattle.std.proofs.Common.{◌≡◌, ◌≢◌, ◌⊎◌, ℕ, zero, suc, ◌+◌, ◌*◌, ◌/◌, ◌<◌, ◌≤◌, Bool, true, false, List, replicate, set, refl, sym, ap, ◌∙◌, subst, inl, inr, arith}
 use Rattle.std.specs.Prelude.{not, ◌%◌, ◌==◌, if◌then◌else◌}
-use Rattle.std.proofs.lemmas.Bool.{cases_eq, cases_lt, true≢false}
+use Rattle.std.proofs.lemmas.Bool.{cases_eq, cases_lt}
 use Rattle.sedck_script.specs.Program.{Program}
 use Rattle.sedck_flow.specs.Nodes.{node_index, nth_node}
 use Rattle.sedck_flow.specs.declared.graph.Node.{Node}
@@ -13,7 +13,7 @@ use Rattle.sedck_search.specs.Private.Reaching.{IsIn, Reaches, IsReachCount}
 use Rattle.sedck_search.specs.declared.filter.EdgeFilter.{EdgeFilter}
 use Rattle.sedck_search.specs.declared.filter.EdgeFilter.TheVariants.{Every}
 use Rattle.sedck_search.proofs.NodeBits.{inserted, inserted_set, with_bit, bit_of, empty_set, empty_nodes, empty_count}
-use Rattle.sedck_search.proofs.NodeSets.{fewer_or_same, inserted_count, node_inside}
+use Rattle.sedck_search.proofs.NodeSets.{fewer_or_same, inserted_count, node_inside, not_both}
 use Rattle.sedck_search.proofs.OtherSide.{reaches_turned}
 
 -- ---- A set of the numbers that pass a test
@@ -28,9 +28,6 @@ record IsRowOf (test : ℕ → Bool) (n : ℕ) (members : List ℕ) : Type 0 whe
   below : (i : ℕ) → has members i ≡ true → (i < n) × (test i ≡ true)
   passes : (i : ℕ) → i < n → test i ≡ true → has members i ≡ true
   counts : bit_count members ≡ counted test n
-
-not_both : {b : Bool} → b ≡ true → b ≡ false → ⊥
-not_both h k = true≢false (sym h ∙ k)
 
 less_or_same : (i n : ℕ) → i < suc n → (i < n) ⊎ (i ≡ n)
 less_or_same i n below = elim (cases_lt i n) [ inl less ↦ inl less | inr more ↦ inr (omega (arith, below, more)) ]

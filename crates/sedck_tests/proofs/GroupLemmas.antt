@@ -1,18 +1,10 @@
 -- Bits that name groups of an expression, and one more.
 use Rattle.std.proofs.Common.{◌≡◌, ◌≢◌, ℕ, ◌≤◌, ◌^◌, Bool, true, false, ◌==◌, IsTrue, refl, sym, ap, subst, ◌∙◌, arith}
-use Rattle.std.specs.Int.{bit_at}
 use Rattle.std.specs.Int.RustNames.{bit_or}
 use Rattle.std.proofs.lemmas.Bool.Decides.{nat_tests}
-use Rattle.std.proofs.lemmas.Nat.Bits.{bit_at_or, bit_at-pow_other}
 use Rattle.sedck_bre.specs.Tree.{Tree}
 use Rattle.sedck_bre.specs.Rests.{names, is_top_group, NamesTopGroups}
-
-names_other : (bits k j : ℕ) → j ≢ k → names (bit_or bits (2 ^ k)) j ≡ names bits j
-names_other bits k j other =
-    let both = bit_at_or bits (2 ^ k) j in
-    let there = bit_at-pow_other k j other in
-    let is : bit_at (bit_or bits (2 ^ k)) j ≡ bit_at bits j = omega (arith, both, there) in
-    ap (λ n. n == 1) is
+use Rattle.sedck_script.proofs.ReferenceLemmas.{more_other}
 
 pub names_more : (t : Tree) (bits k : ℕ) → NamesTopGroups t bits → 1 ≤ k → k ≤ 9 → IsTrue (is_top_group t k)
     → NamesTopGroups t (bit_or bits (2 ^ k))
@@ -24,4 +16,4 @@ names_more t bits k before first last top j named = go (k == j) refl
         subst (λ i. (1 ≤ i) × (i ≤ 9) × IsTrue (is_top_group t i)) same (first, last, top)
     go false s =
         let other : j ≢ k = λ e. grind (arith, nat_tests, e) in
-        before j (sym (names_other bits k j other) ∙ named)
+        before j (sym (more_other bits k j other) ∙ named)

@@ -6,7 +6,7 @@ use Rattle.sedck_cert.specs.Versions.{SpellsCertificate, IsFaultIn}
 use Rattle.sedck_cert.specs.Ranked.{Accepts}
 use Rattle.sedck_cert.specs.Rejections.{IsRejection}
 use Rattle.sedck_script.specs.declared.fault.ScriptFault.TheVariants as script
-use Rattle.sedck_cert.specs.Headline.{IsTextOfOnly, IsLimit}
+use Rattle.sedck_cert.specs.Headline.{Only, IsLimit}
 use Rattle.sedck_cert.specs.declared.limits.Bound.{Bound}
 use Rattle.sedck_cert.specs.declared.reading.CertFault.TheVariants as cert
 use Rattle.sedck_cert.specs.declared.verifying.Fault.{Fault}
@@ -22,8 +22,8 @@ IsAcceptedAnswer p c answer = (bound : Option Bound) × (answer ≡ Accepted c b
 -- the answer for a certificate's text
 abbrev pub IsJudgedAnswer : Program → List ℕ → Answer → Type 0
 IsJudgedAnswer p bytes (CertificateRefused why) = ((c : Certificate) → ¬ SpellsCertificate bytes c) × IsFaultIn bytes why
-IsJudgedAnswer p bytes (Accepted cert bound) = IsTextOfOnly bytes cert × Accepts p cert × IsLimit p cert bound
-IsJudgedAnswer p bytes (Rejected cert why) = IsTextOfOnly bytes cert × IsRejection p cert why
+IsJudgedAnswer p bytes (Accepted cert bound) = Only SpellsCertificate bytes cert × Accepts p cert × IsLimit p cert bound
+IsJudgedAnswer p bytes (Rejected cert why) = Only SpellsCertificate bytes cert × IsRejection p cert why
 IsJudgedAnswer p bytes _ = ⊥
 
 -- the answer of the search

@@ -1,9 +1,8 @@
 -- What the byte of a verb says of the rest of its command.
 use Rattle.std.specs.Prelude.{◌≡◌, ℕ, ◌∷◌}
-use Rattle.sedck_text.specs.Bytes.{letter_a, letter_b, letter_c, letter_i, letter_r, letter_s, letter_t, letter_w, letter_y}
+use Rattle.sedck_text.specs.Bytes.{ascii}
 use Rattle.sedck_text.specs.Cursors.{unread, Follows}
 use Rattle.sedck_text.specs.declared.cursor.Cursor.{Cursor}
-use Rattle.sedck_script.specs.Cuts.{colon, brace}
 use Rattle.sedck_script.specs.Items.{Simple}
 use Rattle.sedck_script.specs.View.{verb_of}
 use Rattle.sedck_script.specs.declared.forms.Form.{Form}
@@ -12,32 +11,32 @@ use Rattle.sedck_script.specs.declared.forms.TextVerb.{TextVerb}
 use Rattle.sedck_script.specs.declared.forms.TextVerb.TheVariants.{Append, Change, Insert}
 use Rattle.sedck_script.specs.declared.forms.JumpVerb.{JumpVerb}
 use Rattle.sedck_script.specs.declared.forms.JumpVerb.TheVariants.{Branch, Test}
-use Rattle.sedck_script.specs.declared.name_lists.Access.{Access}
-use Rattle.sedck_script.specs.declared.name_lists.Access.TheVariants.{Read, Write}
+use Rattle.sedck_script.specs.declared.names.Access.{Access}
+use Rattle.sedck_script.specs.declared.names.Access.TheVariants.{Read, Write}
 
 abbrev pub text_byte : TextVerb → ℕ
-text_byte Append = letter_a
-text_byte Change = letter_c
-text_byte Insert = letter_i
+text_byte Append = ascii "a"
+text_byte Change = ascii "c"
+text_byte Insert = ascii "i"
 
 abbrev pub file_byte : Access → ℕ
-file_byte Read = letter_r
-file_byte Write = letter_w
+file_byte Read = ascii "r"
+file_byte Write = ascii "w"
 
 abbrev pub jump_byte : JumpVerb → ℕ
-jump_byte Branch = letter_b
-jump_byte Test = letter_t
+jump_byte Branch = ascii "b"
+jump_byte Test = ascii "t"
 
 -- the verb of the byte takes this
 abbrev pub IsForm : ℕ → Form → Type 0
 IsForm b (form.Nothing verb) = Simple b (verb_of verb)
 IsForm b (form.Text verb) = b ≡ text_byte verb
 IsForm b (form.File access) = b ≡ file_byte access
-IsForm b form.Label = b ≡ colon
+IsForm b form.Label = b ≡ ascii ":"
 IsForm b (form.Jump verb) = b ≡ jump_byte verb
-IsForm b form.Block = b ≡ brace
-IsForm b form.Substitution = b ≡ letter_s
-IsForm b form.Transliteration = b ≡ letter_y
+IsForm b form.Block = b ≡ ascii "{"
+IsForm b form.Substitution = b ≡ ascii "s"
+IsForm b form.Transliteration = b ≡ ascii "y"
 
 -- a verb that takes this begins at the first cursor, and the second one is right after its byte
 pub record IsVerbAt (begins : Cursor) (taken : Form) (behind : Cursor) : Type 0 where

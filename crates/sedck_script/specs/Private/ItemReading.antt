@@ -9,9 +9,9 @@ use Rattle.sedck_script.specs.View.{address_of}
 use Rattle.sedck_script.specs.Private.Reading.{label_place}
 use Rattle.sedck_script.specs.Private.VerbReading.{written_verb, IsWrittenAt}
 use Rattle.sedck_script.specs.declared.location.Location.{Location}
-use Rattle.sedck_script.specs.declared.written.WrittenCommand.{WrittenCommand}
-use Rattle.sedck_script.specs.declared.written.WrittenItem.{WrittenItem}
-use Rattle.sedck_script.specs.declared.written.WrittenItem.TheVariants as code
+use Rattle.sedck_script.specs.declared.items.WrittenCommand.{WrittenCommand}
+use Rattle.sedck_script.specs.declared.items.WrittenItem.{WrittenItem}
+use Rattle.sedck_script.specs.declared.items.WrittenItem.TheVariants as code
 
 -- ---- Items
 

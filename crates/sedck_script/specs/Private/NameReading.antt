@@ -2,7 +2,7 @@
 use Rattle.std.specs.Prelude.{ℕ, List, Option, Some, None, flat_map}
 use Rattle.sedck_script.specs.Program.{Command}
 use Rattle.sedck_script.specs.Names.{accessed, with_name}
-use Rattle.sedck_script.specs.declared.name_lists.Access.{Access}
+use Rattle.sedck_script.specs.declared.names.Access.{Access}
 
 abbrev pub all_accessed : Access → List Command → List (List ℕ)
 all_accessed a cs = flat_map (λ c. accessed a c.verb) cs

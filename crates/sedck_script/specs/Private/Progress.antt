@@ -3,8 +3,8 @@ use Rattle.std.specs.Prelude.{◌≡◌, ℕ, ◌<◌, ◌≤◌, Bool, true, fa
 use Rattle.std.specs.Str.{bytes_eq}
 use Rattle.std.specs.Borrow.{Bor}
 use Rattle.std.specs.HashMap.{HashMap}
+use Rattle.sedck_text.specs.Bytes.{ascii}
 use Rattle.sedck_text.specs.Text.{one_of}
-use Rattle.sedck_script.specs.Cuts.{colon, brace}
 use Rattle.sedck_script.specs.Program.{Pattern, Address, NoAddress, One, Two, address_patterns, verb_patterns}
 use Rattle.sedck_script.specs.Items.{WrittenVerb, Known, BranchTo, TestTo, Opening, VerbText, Takes, Item, Written, Closing, Items}
 use Rattle.sedck_script.specs.Faults.{StandsAt}
@@ -15,8 +15,8 @@ use Rattle.sedck_script.specs.Private.Locating.{AreFirstLocations}
 use Rattle.sedck_script.specs.Private.AddressReading.{IsEmptyAt}
 use Rattle.sedck_script.specs.Private.VerbReading.{is_braced}
 use Rattle.sedck_script.specs.declared.items.Progress.{Progress}
-use Rattle.sedck_script.specs.declared.written.Written.{Written as WrittenCode}
-use Rattle.sedck_script.specs.declared.written.Written.TheVariants as code
+use Rattle.sedck_script.specs.declared.items.Written.{Written as WrittenCode}
+use Rattle.sedck_script.specs.declared.items.Written.TheVariants as code
 
 -- ---- A command
 
@@ -34,7 +34,7 @@ is_two (Two p q) = true
 abbrev pub takes : ℕ → Address → Bool → Bool
 takes b given negated =
     if one_of "}#" b then false
-    else if b == colon then is_none given && not negated
+    else if b == ascii ":" then is_none given && not negated
     else if b == 113 then not (is_two given)
     else true
 
@@ -78,7 +78,7 @@ pub record IsProgress (text rest : List ℕ) (progress : Progress) : Type 0 wher
   pub located : AreFirstLocations text rest (locations_in progress.items.items)
   pub few : progress.count ≤ 4095
   pub label_places : All (IsItemAt text) progress.items.items
-  pub opened : All (λ place. StandsAt text place brace) progress.open_blocks.items
+  pub opened : All (λ place. StandsAt text place (ascii "{")) progress.open_blocks.items
   pub empty : IsEmptyAt text (item_patterns (map item_of progress.items.items)) progress.empty
 
 -- the text has no items that close each block and are within the limits, and whose labels are there once

@@ -10,8 +10,8 @@ use Rattle.sedck_script.specs.View.{verb_of}
 use Rattle.sedck_script.specs.Private.Reading.{label_place, IsLabelPlace}
 use Rattle.sedck_script.specs.declared.fault.ScriptFault.TheVariants.{BadLabel}
 use Rattle.sedck_script.specs.declared.labels.Jump.{Jump}
-use Rattle.sedck_script.specs.declared.written.Written.{Written}
-use Rattle.sedck_script.specs.declared.written.Written.TheVariants as code
+use Rattle.sedck_script.specs.declared.items.Written.{Written}
+use Rattle.sedck_script.specs.declared.items.Written.TheVariants as code
 
 -- a verb as it is written, without the offset of its label
 abbrev pub written_verb : Written → WrittenVerb

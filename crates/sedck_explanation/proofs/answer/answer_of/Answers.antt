@@ -1,4 +1,5 @@
-use Rattle.sedck_cert.specs.Headline.{SpellsOnly}
+use Rattle.sedck_script.specs.Spelling.{Spells}
+use Rattle.sedck_cert.specs.Headline.{Only}
 use Rattle.sedck_explanation.proofs.Answering.{err_is_err, locate_refused, judged_answer, search_found}
 use Rattle.sedck_explanation.proofs.answer.answer_of.Goals as goal
 use Rattle.sedck_explanation.proofs.answer.answer_of.Goals.{in-Some+in_ok-answer-in-Some, in-None+in_ok-answer-in-None}
@@ -11,7 +12,7 @@ returns-in-Err-clause-answer c =
 
 pub returns-clause-answer : goal.returns-clause-answer
 returns-clause-answer c =
-    let spelled : SpellsOnly c.args.text.now c.in-Ok.located.script = record { spells = c.in-Ok.ensures.spelled; only = c.in-Ok.ensures.only } in
+    let spelled : Only Spells c.args.text.now c.in-Ok.located.script = record { spells = c.in-Ok.ensures.spelled; only = c.in-Ok.ensures.only } in
     elim c.match-certificate.branch [
       | in-Some+in_ok-answer-in-Some w ↦ rw (w.in-Some.is, w.answer-is) (judged_answer _ _ _ _ spelled w.in_ok-answer-in-Some.ensures)
       | in-None+in_ok-answer-in-None w ↦ rw (w.in-None.is, w.answer-is) (search_found _ _ _ spelled w.in_ok-answer-in-None.ensures)

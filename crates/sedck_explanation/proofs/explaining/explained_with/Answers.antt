@@ -3,7 +3,8 @@ use Rattle.sedck_script.specs.Items.{Item, Items}
 use Rattle.sedck_script.specs.Locations.{locations_of}
 use Rattle.sedck_script.specs.declared.parsing.Located.{Located}
 use Rattle.sedck_script.proofs.ResultLemmas.{if_some_at}
-use Rattle.sedck_cert.specs.Headline.{SpellsOnly}
+use Rattle.sedck_script.specs.Spelling.{Spells}
+use Rattle.sedck_cert.specs.Headline.{Only}
 use Rattle.sedck_explanation.specs.Explanations.{IsExplanation, KeepsNothing}
 use Rattle.sedck_explanation.specs.Private.Explaining.{Explains, KeepsLocated}
 use Rattle.sedck_explanation.proofs.Explanations.{on_both, of_script, explained_script, explained_refusal}
@@ -12,7 +13,7 @@ use Rattle.sedck_explanation.proofs.explaining.explained_with.Goals as goal
 pub explained-requires-clause-script : goal.explained-requires-clause-script
 explained-requires-clause-script c =
     of_script c.args.text.now _ c.in-Some.located.script c.in_ok-answer.field-0.answer
-    (if_some_at (λ (located : Located). SpellsOnly c.args.text.now located.script) c.in-Some.is c.in_ok-answer.ensures.script)
+    (if_some_at (λ (located : Located). Only Spells c.args.text.now located.script) c.in-Some.is c.in_ok-answer.ensures.script)
     c.in_ok-answer.ensures.answer
 
 pub returns-in-Some-clause-explanation : goal.returns-in-Some-clause-explanation
@@ -21,8 +22,8 @@ returns-in-Some-clause-explanation c =
     let answer = c.in_ok-answer.field-0.answer in
     let script = c.in-Some.located.script in
     let locations = c.in-Some.located.locations.items in
-    let spelled : SpellsOnly text script =
-    if_some_at (λ (located : Located). SpellsOnly text located.script) c.in-Some.is c.in_ok-answer.ensures.script in
+    let spelled : Only Spells text script =
+    if_some_at (λ (located : Located). Only Spells text located.script) c.in-Some.is c.in_ok-answer.ensures.script in
     let located : (items : List Item) (spells : Items text items) → locations ≡ locations_of (length text) spells =
     if_some_at (λ (located : Located). (items : List Item) (spells : Items text items) → located.locations.items ≡ locations_of (length text) spells)
     c.in-Some.is c.in_ok-answer.ensures.locations in

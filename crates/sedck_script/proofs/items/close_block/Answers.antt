@@ -2,8 +2,8 @@ use Rattle.std.proofs.Common.{◌≡◌, ℕ, suc, length, map, refl, ap, ◌∙
 use Rattle.std.specs.Prelude.{All}
 use Rattle.std.proofs.lemmas.List.{map_push}
 use Rattle.std.proofs.lemmas.List.Elements.{All-push}
+use Rattle.sedck_text.specs.Bytes.{ascii}
 use Rattle.sedck_script.specs.Faults.{StandsAt}
-use Rattle.sedck_script.specs.Cuts.{brace}
 use Rattle.sedck_script.specs.Private.ItemReading.{item_of, IsItemAt}
 use Rattle.sedck_script.specs.Private.Progress.{IsFront}
 use Rattle.sedck_script.proofs.ResultLemmas.{if_err_from}
@@ -41,6 +41,6 @@ returns-clause-progress c =
       few = c.requires.progress.few;
       label_places = rw c.in_ok-push.ensures.items (All-push (IsItemAt c.args.begins.whole.now) _ _ c.requires.progress.label_places tt);
       opened = opened_front c.args.begins.whole.now _ _ (subst
-          (λ xs. All (λ place. StandsAt c.args.begins.whole.now place brace) xs) c.in-Some.ensures.items c.requires.progress.opened);
+          (λ xs. All (λ place. StandsAt c.args.begins.whole.now place (ascii "{")) xs) c.in-Some.ensures.items c.requires.progress.opened);
       empty = rw (items, patterns_closing) c.requires.progress.empty;
     }

@@ -5,7 +5,7 @@ use Rattle.sedck_script.specs.View.{command_of}
 use Rattle.sedck_script.specs.Private.ItemReading.{item_of}
 use Rattle.sedck_script.specs.Private.Fields.{program_from}
 use Rattle.sedck_script.specs.Spelling.{Spells}
-use Rattle.sedck_script.specs.declared.name_lists.Access.TheVariants.{Read, Write}
+use Rattle.sedck_script.specs.declared.names.Access.TheVariants.{Read, Write}
 use Rattle.sedck_script.proofs.UniqueItems.{whole_one}
 use Rattle.sedck_script.proofs.SpelledIsScript.{spelled_script}
 use Rattle.sedck_script.proofs.parsing.script.Goals as goal

@@ -1,5 +1,5 @@
 use Rattle.std.proofs.Common.{◌<◌, ℕ, get_or}
-use Rattle.sedck_script.specs.declared.written.WrittenItem.{WrittenItem}
+use Rattle.sedck_script.specs.declared.items.WrittenItem.{WrittenItem}
 use Rattle.sedck_script.specs.Private.ItemReading.{IsKnownLabel, item_label, item_of}
 use Rattle.sedck_script.proofs.resolving.check_targets.Given as goal
 
