@@ -1,171 +1,135 @@
--- The set of a bracket list: its words have just the bits of its members.
-use Rattle.std.proofs.Common.{◌≡◌, ℕ, suc, zero, ◌+◌, ◌*◌, ◌/◌, ◌%◌, ◌^◌, ◌<◌, Bool, true, false, cond, List, [], ◌∷◌, length, inl, inr, refl, sym, ap, ◌∙◌, subst, arith, add-zero}
-use Rattle.std.specs.Prelude.{◌==◌, ◌||◌, ◌⊎◌, ◌↔◌, not, IsTrue, slice_index}
+-- The bytes that pass a test, and those of a set of four words.
+use Rattle.std.proofs.Common.{◌≡◌, ◌≢◌, ℕ, suc, zero, ◌+◌, ◌*◌, ◌/◌, ◌%◌, ◌^◌, ◌<◌, ◌≤◌, Bool, true, false, cond, List, [], ◌∷◌, refl, sym, ap, ◌∙◌, subst, inl, inr, arith}
+use Rattle.std.specs.Prelude.{◌==◌, ◌||◌, ◌&&◌, filter, slice_index}
+use Rattle.std.specs.List.{range_with_len}
 use Rattle.std.specs.Int.{bit_at, w64, trailing_zeros}
-use Rattle.std.proofs.Math.Nat.{pow-suc, add_comm, one-mul, sub_self}
-use Rattle.std.proofs.lemmas.List.Elements.{All-nil, All-cons}
-use Rattle.std.proofs.lemmas.Bool.{cases_lt, false≢true}
+use Rattle.std.proofs.lemmas.Bool.{and_parts, cases_eq, eqb-true, false≢true}
 use Rattle.std.proofs.lemmas.Bool.Decides.{nat_tests}
-use Rattle.std.proofs.lemmas.Nat.Bits.{bit_at-lt, bit_at-zero, bit_at_cat_low, bit_at_cat_high, bit_at_above, bit_at-trailing_zeros, same_from_bits_below}
-use Rattle.sedck_bre.specs.Match.{IsMember}
-use Rattle.sedck_bre.specs.WellFormed.{IsByteSet, HasMember}
-use Rattle.sedck_bre.specs.Private.BracketReading.{word_from, words_of}
-use Rattle.sedck_bre.specs.Private.Sets.{bit_of, some_word}
+use Rattle.std.proofs.lemmas.Nat.Bits.{bit_at-zero, bit_at-trailing_zeros}
+use Rattle.sedck_bre.specs.Tree.{is_in, bytes_where}
+use Rattle.sedck_bre.specs.View.{has_bit, bytes_in}
+use Rattle.sedck_bre.specs.Private.Sets.{AreWords, HasJust, bit_of, has_no_word}
 
-word_below : (test : ℕ → Bool) (base n : ℕ) → word_from test base n < 2 ^ n
-word_below test base zero = omega arith
-word_below test base (suc n) = go (test (base + n)) (word_below test base n)
+-- ---- The bytes that pass a test
+
+same_from : (p q : ℕ → Bool) (a n : ℕ) → ((b : ℕ) → b < a + n → p b ≡ q b) → filter p (range_with_len a n) ≡ filter q (range_with_len a n)
+same_from p q a zero h = refl
+same_from p q a (suc n) h =
+    ap (λ t. cond t (a ∷ filter p (range_with_len (a + 1) n)) (filter p (range_with_len (a + 1) n))) (h a (omega arith))
+    ∙ ap (λ bytes. cond (q a) (a ∷ bytes) bytes) (same_from p q (a + 1) n (λ b l. h b (omega arith)))
+
+pub same_where : (p q : ℕ → Bool) → ((b : ℕ) → b < 256 → p b ≡ q b) → bytes_where p ≡ bytes_where q
+same_where p q h = same_from p q 0 256 (λ b l. h b (omega arith))
+
+below_from : (p : ℕ → Bool) (b a n : ℕ) → b < a → is_in b (filter p (range_with_len a n)) ≡ false
+below_from p b a zero l = refl
+below_from p b a (suc n) l = go (p a) (below_from p b (a + 1) n (omega arith))
   where
-    go : (b : Bool) → word_from test base n < 2 ^ n → word_from test base n + cond b (2 ^ n) 0 < 2 ^ suc n
-    go true h = omega (arith, h, pow-suc 2 n)
-    go false h = omega (arith, h, pow-suc 2 n)
+    go : (t : Bool) → is_in b (filter p (range_with_len (a + 1) n)) ≡ false
+        → is_in b (cond t (a ∷ filter p (range_with_len (a + 1) n)) (filter p (range_with_len (a + 1) n))) ≡ false
+    go true h =
+        let other : (a == b) ≡ false = grind (arith, nat_tests) in
+        ap (λ x. x || is_in b (filter p (range_with_len (a + 1) n))) other ∙ h
+    go false h = h
 
-word_bit : (test : ℕ → Bool) (base n k : ℕ) → k < n → bit_at (word_from test base n) k ≡ bit_of (test (base + k))
-word_bit test base zero k l = absurd (omega arith)
-word_bit test base (suc n) k l = go (test (base + n)) refl (last k l) (λ less. word_bit test base n k less)
+in_from : (p : ℕ → Bool) (b a n : ℕ) → a ≤ b → b < a + n → is_in b (filter p (range_with_len a n)) ≡ p b
+in_from p b a zero low high = absurd (omega arith)
+in_from p b a (suc n) low high =
+    elim (cases_eq a b) [
+      | inl is ↦ here (p a) refl is
+      | inr differ ↦ later (p a) differ (in_from p b (a + 1) n (omega (arith, differ)) (omega arith))
+    ]
   where
-    last : (k : ℕ) → k < suc n → (k < n) ⊎ (k ≡ n)
-    last k l = elim (cases_lt k n) [ inl less ↦ inl less | inr more ↦ inr (omega arith) ]
+    rest : List ℕ
+    rest = filter p (range_with_len (a + 1) n)
 
-    above : bit_at (2 ^ n + word_from test base n) n ≡ 1
-    above = ap (λ m. bit_at (m + word_from test base n) n) (sym (one-mul (2 ^ n)))
-        ∙ bit_at_cat_high 1 n (word_from test base n) n (word_below test base n) (omega arith) ∙ ap (bit_at 1) (sub_self n)
+    here : (t : Bool) → p a ≡ t → a ≡ b → is_in b (cond t (a ∷ rest) rest) ≡ p b
+    here true e is =
+        let same : (a == b) ≡ true = grind (arith, nat_tests) in
+        ap (λ x. x || is_in b rest) same ∙ sym (ap p (sym is) ∙ e)
+    here false e is = below_from p b (a + 1) n (omega arith) ∙ sym (ap p (sym is) ∙ e)
 
-    below : (k : ℕ) → k < n → bit_at (2 ^ n + word_from test base n) k ≡ bit_at (word_from test base n) k
-    below k less = ap (λ m. bit_at (m + word_from test base n) k) (sym (one-mul (2 ^ n))) ∙ bit_at_cat_low 1 n (word_from test base n) k less
+    later : (t : Bool) → (a ≡ b → ⊥) → is_in b rest ≡ p b → is_in b (cond t (a ∷ rest) rest) ≡ p b
+    later true differ h =
+        let other : (a == b) ≡ false = grind (arith, nat_tests, differ) in
+        ap (λ x. x || is_in b rest) other ∙ h
+    later false differ h = h
 
-    go : (b : Bool) → test (base + n) ≡ b → (k < n) ⊎ (k ≡ n) → (k < n → bit_at (word_from test base n) k ≡ bit_of (test (base + k)))
-        → bit_at (word_from test base n + cond b (2 ^ n) 0) k ≡ bit_of (test (base + k))
-    go true e (inl less) again = ap (λ m. bit_at m k) (add_comm (word_from test base n) (2 ^ n)) ∙ below k less ∙ again less
-    go true e (inr is) again = ap (λ m. bit_at (word_from test base n + 2 ^ n) m) is ∙ ap (λ m. bit_at m n) (add_comm (word_from test base n) (2 ^ n))
-        ∙ above ∙ sym (ap (λ m. bit_of (test (base + m))) is ∙ ap bit_of e)
-    go false e (inl less) again = ap (λ m. bit_at m k) (add-zero (word_from test base n)) ∙ again less
-    go false e (inr is) again = ap (λ m. bit_at m k) (add-zero (word_from test base n))
-        ∙ bit_at_above (word_from test base n) n k (word_below test base n) (omega arith) ∙ sym (ap (λ m. bit_of (test (base + m))) is ∙ ap bit_of e)
+-- a byte is among them exactly where it passes
+pub in_where : (p : ℕ → Bool) (b : ℕ) → b < 256 → is_in b (bytes_where p) ≡ p b
+in_where p b l = in_from p b 0 256 (omega arith) (omega arith)
 
--- ---- The four words
+some_where : (p : ℕ → Bool) (b : ℕ) → b < 256 → p b ≡ true → bytes_where p ≢ []
+some_where p b l h none = false≢true (sym (ap (is_in b) none) ∙ (in_where p b l ∙ h))
 
-abbrev word_of : (ℕ → Bool) → ℕ → ℕ
-word_of test i = word_from test (64 * i) 64
+none_from : (a n : ℕ) → filter (λ b. false) (range_with_len a n) ≡ []
+none_from a zero = refl
+none_from a (suc n) = none_from (a + 1) n
 
--- the word of a byte, and its bit
-words_at : (test : ℕ → Bool) (i : ℕ) → i < 4 → slice_index (words_of test) i ≡ word_of test i
-words_at test zero l = refl
-words_at test (suc zero) l = refl
-words_at test (suc (suc zero)) l = refl
-words_at test (suc (suc (suc zero))) l = refl
-words_at test (suc (suc (suc (suc i)))) l = absurd (omega arith)
+-- ---- The bytes of four words
 
-pub words_member : (test : ℕ → Bool) (b : ℕ) → b < 256 → bit_at (slice_index (words_of test) (b / 64)) (b % 64) ≡ bit_of (test b)
-words_member test b l =
-    let within : b / 64 < 4 = omega arith in
-    let low : b % 64 < 64 = omega arith in
-    let whole : 64 * (b / 64) + b % 64 ≡ b = omega arith in
-    ap (λ w. bit_at w (b % 64)) (words_at test (b / 64) within) ∙ word_bit test (64 * (b / 64)) 64 (b % 64) low ∙ ap (λ m. bit_of (test m)) whole
+bit_is : (b : Bool) → (bit_of b == 1) ≡ b
+bit_is true = refl
+bit_is false = refl
 
-is_one : (b : Bool) → (bit_of b ≡ 1) ↔ IsTrue b
-is_one true = (λ _. refl, λ _. refl)
-is_one false = (λ h. absurd (omega (arith, h)), λ h. absurd (false≢true h))
+pub just_bytes : (words : List ℕ) (test : ℕ → Bool) → HasJust words test → bytes_in words ≡ bytes_where test
+unfolding bytes_in
+just_bytes words test just = same_where (has_bit words) test (λ b l. ap (λ n. n == 1) (just b l) ∙ bit_is (test b))
 
--- its members are those that pass the test
-pub words_members : (test : ℕ → Bool) (b : ℕ) → b < 256 → IsMember (words_of test) b ↔ IsTrue (test b)
-words_members test b l =
-    let bit = words_member test b l in
-    (λ h. (is_one (test b)).0 (sym bit ∙ h), λ h. bit ∙ (is_one (test b)).1 h)
-
--- it is a set of bytes
-pub words_set : (test : ℕ → Bool) → IsByteSet (words_of test)
-words_set test =
-    let small : (i : ℕ) → word_of test i < 2 ^ 64 = λ i. word_below test (64 * i) 64 in
-    let Small : ℕ → Type 0 = λ w. w < 2 ^ 64 in (
-      refl,
-      All-cons Small (word_of test 0) (word_of test 1 ∷ word_of test 2 ∷ word_of test 3 ∷ []) (small 0)
-          (All-cons Small (word_of test 1) (word_of test 2 ∷ word_of test 3 ∷ []) (small 1)
-          (All-cons Small (word_of test 2) (word_of test 3 ∷ []) (small 2) (All-cons Small (word_of test 3) [] (small 3) (All-nil Small)))),
-    )
-
--- ---- Two sets with the same members are one
-
-zero_or_one : (n i : ℕ) → (bit_at n i ≡ 1 → ⊥) → bit_at n i ≡ 0
-zero_or_one n i h = small (bit_at n i) (bit_at-lt n i) h
+no_word_at : (words : List ℕ) → has_no_word words ≡ true → (i : ℕ) → i < 4 → slice_index words i ≡ 0
+no_word_at words h i l =
+    let one = and_parts (slice_index words 0 == 0) ((slice_index words 1 == 0) && ((slice_index words 2 == 0) && (slice_index words 3 == 0))) h in
+    let two = and_parts (slice_index words 1 == 0) ((slice_index words 2 == 0) && (slice_index words 3 == 0)) one.1 in
+    let three = and_parts (slice_index words 2 == 0) (slice_index words 3 == 0) two.1 in
+    at (eqb-true (slice_index words 0) 0 one.0) (eqb-true (slice_index words 1) 0 two.0) (eqb-true (slice_index words 2) 0 three.0)
+    (eqb-true (slice_index words 3) 0 three.1) i l
   where
-    small : (m : ℕ) → m < 2 → (m ≡ 1 → ⊥) → m ≡ 0
-    small zero l h = refl
-    small (suc zero) l h = absurd (h refl)
-    small (suc (suc m)) l h = absurd (omega arith)
+    at : slice_index words 0 ≡ 0 → slice_index words 1 ≡ 0 → slice_index words 2 ≡ 0 → slice_index words 3 ≡ 0 → (i : ℕ) → i < 4 → slice_index words i ≡ 0
+    at a b c d zero l = a
+    at a b c d (suc zero) l = b
+    at a b c d (suc (suc zero)) l = c
+    at a b c d (suc (suc (suc zero))) l = d
+    at a b c d (suc (suc (suc (suc i)))) l = absurd (omega arith)
 
-bit_by : (n i : ℕ) (b : Bool) → ((bit_at n i ≡ 1) ↔ IsTrue b) → bit_at n i ≡ bit_of b
-bit_by n i true h = h.1 refl
-bit_by n i false h = zero_or_one n i (λ e. false≢true (h.0 e))
+pub none_in : (words : List ℕ) → has_no_word words ≡ true → bytes_in words ≡ []
+unfolding bytes_in
+none_in words h =
+    same_where (has_bit words) (λ b. false)
+    (λ b l. ap (λ w. bit_at w (b % 64) == 1) (no_word_at words h (b / 64) (omega arith)) ∙ ap (λ n. n == 1) (bit_at-zero (b % 64)))
+    ∙ none_from 0 256
 
--- the word of a set with these members
-word_same : (words : List ℕ) (test : ℕ → Bool) (i : ℕ) → i < 4 → slice_index words i < 2 ^ 64
-    → ((b : ℕ) → b < 256 → IsMember words b ↔ IsTrue (test b)) → slice_index words i ≡ word_of test i
-word_same words test i l small members =
-    same_from_bits_below 64 (slice_index words i) (word_of test i) small (word_below test (64 * i) 64)
-    (λ k less. let at : (64 * i + k) / 64 ≡ i = omega arith in
-    let low : (64 * i + k) % 64 ≡ k = omega arith in
-    let same : ((bit_at (slice_index words i) k ≡ 1) ↔ IsTrue (test (64 * i + k))) =
-    subst (λ m. (bit_at (slice_index words m) k ≡ 1) ↔ IsTrue (test (64 * i + k))) at
-    (subst (λ m. (bit_at (slice_index words ((64 * i + k) / 64)) m ≡ 1) ↔ IsTrue (test (64 * i + k))) low (members (64 * i + k) (omega arith))) in
-    bit_by (slice_index words i) k (test (64 * i + k)) same ∙ sym (word_bit test (64 * i) 64 k less))
+-- a word that isn't 0
+some_word : (words : List ℕ) → has_no_word words ≡ false → (i : ℕ) × (i < 4) × (slice_index words i ≡ 0 → ⊥)
+some_word words none =
+    go (slice_index words 0 == 0) (slice_index words 1 == 0) (slice_index words 2 == 0) (slice_index words 3 == 0) refl refl refl refl none
+  where
+    not_zero : (n : ℕ) → (n == 0) ≡ false → n ≡ 0 → ⊥
+    not_zero n e is = false≢true (sym e ∙ ap (λ m. m == 0) is)
 
-pub set_same : (words : List ℕ) (test : ℕ → Bool) → IsByteSet words → ((b : ℕ) → b < 256 → IsMember words b ↔ IsTrue (test b)) → words ≡ words_of test
-set_same (w ∷ x ∷ y ∷ z ∷ []) test set members =
-    let Small : ℕ → Type 0 = λ w. w < 2 ^ 64 in
-    let small = set.1 in
-    let first = word_same (w ∷ x ∷ y ∷ z ∷ []) test 0 (omega arith) (small 0 0 (omega arith)) members in
-    let second = word_same (w ∷ x ∷ y ∷ z ∷ []) test 1 (omega arith) (small 1 0 (omega arith)) members in
-    let third = word_same (w ∷ x ∷ y ∷ z ∷ []) test 2 (omega arith) (small 2 0 (omega arith)) members in
-    let last = word_same (w ∷ x ∷ y ∷ z ∷ []) test 3 (omega arith) (small 3 0 (omega arith)) members in
-    cc
-set_same [] test set members = absurd (omega (arith, set.0))
-set_same (w ∷ []) test set members = absurd (omega (arith, set.0))
-set_same (w ∷ x ∷ []) test set members = absurd (omega (arith, set.0))
-set_same (w ∷ x ∷ y ∷ []) test set members = absurd (omega (arith, set.0))
-set_same (w ∷ x ∷ y ∷ z ∷ v ∷ words) test set members = absurd (omega (arith, set.0))
-
--- ---- A set has a member where some word isn't 0
-
-word_tested : (w : ℕ) (others : Bool) → (w ≡ 0 → ⊥) → (not (w == 0) || others) ≡ true
-word_tested zero others h = absurd (h refl)
-word_tested (suc w) others h = let e : (suc w == 0) ≡ false = grind (arith, nat_tests) in ap (λ b. not b || others) e
-
-tested_later : (b others : Bool) → others ≡ true → (b || others) ≡ true
-tested_later true others h = refl
-tested_later false others h = h
-
-index_tested : (words : List ℕ) (i : ℕ) → i < length words → (slice_index words i ≡ 0 → ⊥) → some_word words ≡ true
-index_tested [] i l h = absurd (omega arith)
-index_tested (w ∷ words) zero l h = word_tested w (some_word words) h
-index_tested (w ∷ words) (suc i) l h = tested_later (not (w == 0)) (some_word words) (index_tested words i (omega arith) h)
-
-pub member_tested : (words : List ℕ) → length words ≡ 4 → HasMember words → some_word words ≡ true
-member_tested words long (b, below, member) =
-    index_tested words (b / 64) (omega arith) (λ e. let none : 0 ≡ 1 = sym (ap (λ w. bit_at w (b % 64)) e ∙ bit_at-zero (b % 64)) ∙ member in
-    absurd (omega (arith, none)))
-
-tested_index : (words : List ℕ) → some_word words ≡ true → (i : ℕ) × (i < length words) × (slice_index words i ≡ 0 → ⊥)
-tested_index [] h = absurd (false≢true h)
-tested_index (zero ∷ words) h = let later = tested_index words h in (suc later.0, omega (arith, later.1), later.2)
-tested_index (suc w ∷ words) h = (0, omega arith, λ e. absurd (omega (arith, e)))
+    go : (a b c d : Bool) → (slice_index words 0 == 0) ≡ a → (slice_index words 1 == 0) ≡ b → (slice_index words 2 == 0) ≡ c → (slice_index words 3 == 0) ≡ d
+        → (a && (b && (c && d))) ≡ false → (i : ℕ) × (i < 4) × (slice_index words i ≡ 0 → ⊥)
+    go false b c d e f g h k = (0, omega arith, not_zero (slice_index words 0) e)
+    go true false c d e f g h k = (1, omega arith, not_zero (slice_index words 1) f)
+    go true true false d e f g h k = (2, omega arith, not_zero (slice_index words 2) g)
+    go true true true false e f g h k = (3, omega arith, not_zero (slice_index words 3) h)
+    go true true true true e f g h k = absurd (false≢true (sym k))
 
 positive : (m : ℕ) → (m ≡ 0 → ⊥) → 0 < m
 positive zero h = absurd (h refl)
 positive (suc m) h = omega arith
 
-member_at : (words : List ℕ) (i k : ℕ) → k < 64 → bit_at (slice_index words i) k ≡ 1 → IsMember words (64 * i + k)
-member_at words i k l h =
+bit_set : (words : List ℕ) (i k : ℕ) → k < 64 → bit_at (slice_index words i) k ≡ 1 → has_bit words (64 * i + k) ≡ true
+bit_set words i k l h =
     let at : i ≡ (64 * i + k) / 64 = omega arith in
     let low : k ≡ (64 * i + k) % 64 = omega arith in
-    subst (λ m. bit_at (slice_index words m) ((64 * i + k) % 64) ≡ 1) at (subst (λ m. bit_at (slice_index words i) m ≡ 1) low h)
+    subst (λ m. (bit_at (slice_index words m) ((64 * i + k) % 64) == 1) ≡ true) at
+    (subst (λ m. (bit_at (slice_index words i) m == 1) ≡ true) low (ap (λ n. n == 1) h))
 
-pub tested_member : (words : List ℕ) → IsByteSet words → some_word words ≡ true → HasMember words
-tested_member words set h =
-    let found = tested_index words h in
-    let below : slice_index words found.0 < 2 ^ 64 = set.1 found.0 0 found.1 in
-    let bit = bit_at-trailing_zeros w64 (slice_index words found.0) (positive (slice_index words found.0) found.2) below in (
-      64 * found.0 + trailing_zeros w64 (slice_index words found.0),
-      omega (arith, set.0, found.1, bit.0),
-      member_at words found.0 (trailing_zeros w64 (slice_index words found.0)) bit.0 bit.1,
-    )
+pub some_in : (words : List ℕ) → AreWords words → has_no_word words ≡ false → bytes_in words ≢ []
+unfolding bytes_in
+some_in words four h =
+    let found = some_word words h in
+    let w : ℕ = slice_index words found.0 in
+    let below : w < 2 ^ 64 = four.1 found.0 0 (omega (arith, four.0, found.1)) in
+    let bit = bit_at-trailing_zeros w64 w (positive w found.2) below in
+    some_where (has_bit words) (64 * found.0 + trailing_zeros w64 w) (omega (arith, found.1, bit.0)) (bit_set words found.0 (trailing_zeros w64 w) bit.0 bit.1)

@@ -23,7 +23,7 @@ mutual
   pub widens : (t : Tree) → Widens (Match t) (WideMatch t)
   widens (Byte b) e w f m = m
   widens Any e w f (b, _, is, same) = (one_byte b w is, same)
-  widens (Set words) e w f (b, _, _, is, same) = (one_byte b w is, same)
+  widens (Set words) e w f (b, _, is, same) = (one_byte b w is, same)
   widens Start e w f m = m
   widens End e w f m = m
   widens (Maybe b) e w f m = m

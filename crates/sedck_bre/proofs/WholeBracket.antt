@@ -4,17 +4,16 @@ use Rattle.std.specs.Prelude.{◌==◌, ◌&&◌, ◌||◌, not, codes}
 use Rattle.std.proofs.Math.Seq.{take-append_seam}
 use Rattle.std.proofs.lemmas.Bool.{false≢true, eqb-true}
 use Rattle.sedck_text.specs.Text.{begins}
-use Rattle.sedck_bre.specs.WellFormed.{HasMember}
+use Rattle.sedck_bre.specs.Tree.{bytes_where}
 use Rattle.sedck_bre.specs.Brackets.{class_name, Element, One, Range, Members, WritesByte, WritesElement, WritesElements, opening, is_mistakable, is_listed, IsBracketList}
 use Rattle.sedck_bre.specs.Shape.{is_empty}
 use Rattle.sedck_bre.specs.Private.Reading.{◌>>=◌}
-use Rattle.sedck_bre.specs.Private.BracketReading.{element_at, before_elements, others, elements_at, words_of, inside_of, clear_of, set_of, elements_of, set_at, inside_at, bracket_at}
-use Rattle.sedck_bre.specs.Private.Sets.{some_word}
+use Rattle.sedck_bre.specs.Private.BracketReading.{element_at, before_elements, others, elements_at, some_of, inside_of, clear_of, set_of, elements_of, set_at, inside_at, bracket_at}
 use Rattle.sedck_bre.proofs.ReadLemmas.{bind_holds, cond_holds}
 use Rattle.sedck_bre.proofs.BracketLemmas.{one_front, begins_before, is_closing_front}
 use Rattle.sedck_bre.proofs.BracketSound.{AreElementsBefore, elements_take, written_front}
 use Rattle.sedck_bre.proofs.BracketComplete.{element_again}
-use Rattle.sedck_bre.proofs.BracketSets.{words_members, words_set, set_same, member_tested, tested_member}
+use Rattle.sedck_bre.proofs.SetLoop.{some_is}
 
 -- ---- The elements are read again
 
@@ -79,20 +78,15 @@ elements_again (e ∷ es) (suc n) first inside rest (u, v, is, one, more) some l
 
 -- ---- The whole list is read again
 
-set_again : (complement : Bool) (es : List Element) (words rest : List ℕ) → words ≡ words_of (is_listed complement es) → some_word words ≡ true
-    → set_of complement (es, rest) ≡ Some (words, rest)
-set_again complement es words rest is some =
-    ap (λ b. cond b (Some (words_of (is_listed complement es), rest)) None) (ap some_word (sym is) ∙ some) ∙ ap (λ w. Some (w, rest)) (sym is)
-
 inside_again : (inside rest : List ℕ) → inside_of (inside ++ 93 ∷ rest) rest ≡ inside
 inside_again inside rest =
     let size : length (inside ++ 93 ∷ rest) - length rest - 1 ≡ length inside = omega (arith, length-append inside (93 ∷ rest)) in
     ap (λ n. take n (inside ++ 93 ∷ rest)) size ∙ take-append_seam inside (93 ∷ rest)
 
-pub bracket_again : (u words rest : List ℕ) → IsBracketList u words → HasMember words → bracket_at (u ++ rest) ≡ Some (words, rest)
+pub bracket_again : (u words rest : List ℕ) → IsBracketList u words → words ≢ [] → bracket_at (u ++ rest) ≡ Some (words, rest)
 unfolding bracket_at
 bracket_again u words rest h member = ap (λ x. bracket_at (x ++ rest)) h.written
-    ∙ go h.complement h.sign (set_same words (is_listed h.complement h.elements) h.set h.members)
+    ∙ go h.complement h.sign h.set
   where
     text : List ℕ
     text = h.inside ++ 93 ∷ rest
@@ -100,8 +94,8 @@ bracket_again u words rest h member = ap (λ x. bracket_at (x ++ rest)) h.writte
     tail : (complement : Bool) → (opening complement ++ h.inside ++ codes "]") ++ rest ≡ opening complement ++ (h.inside ++ 93 ∷ rest)
     tail complement = append_assoc (opening complement ++ h.inside) (codes "]") rest ∙ append_assoc (opening complement) h.inside (93 ∷ rest)
 
-    set : (complement : Bool) → words ≡ words_of (is_listed complement h.elements) → set_of complement (h.elements, rest) ≡ Some (words, rest)
-    set complement is = set_again complement h.elements words rest is (member_tested words h.set.0 member)
+    set : (complement : Bool) → words ≡ bytes_where (is_listed complement h.elements) → set_of complement (h.elements, rest) ≡ Some (words, rest)
+    set complement is = ap (λ bytes. some_of bytes rest) (sym is) ∙ some_is words rest member
 
     clear : clear_of (h.inside ++ 93 ∷ rest) (h.elements, rest) ≡ Some (h.elements, rest)
     clear = ap (λ t. cond (is_mistakable t) None (Some (h.elements, rest))) (inside_again h.inside rest)
@@ -110,13 +104,13 @@ bracket_again u words rest h member = ap (λ x. bracket_at (x ++ rest)) h.writte
     enough : length h.elements ≤ length (h.inside ++ 93 ∷ rest)
     enough = omega (arith, elements_few h.elements true h.inside h.spelled, length-append h.inside (93 ∷ rest))
 
-    all : (complement : Bool) → words ≡ words_of (is_listed complement h.elements) → set_at complement text ≡ Some (words, rest)
+    all : (complement : Bool) → words ≡ bytes_where (is_listed complement h.elements) → set_at complement text ≡ Some (words, rest)
     all complement is =
         ap (λ o. o >>= clear_of text >>= set_of complement)
         (elements_again h.elements (length text + 1) true h.inside rest h.spelled (λ _. h.some) (omega (arith, enough)))
         ∙ ap (λ o. o >>= set_of complement) clear ∙ set complement is
 
-    go : (complement : Bool) → (complement ≡ false → begins "^" h.inside ≡ false) → words ≡ words_of (is_listed complement h.elements)
+    go : (complement : Bool) → (complement ≡ false → begins "^" h.inside ≡ false) → words ≡ bytes_where (is_listed complement h.elements)
         → bracket_at ((opening complement ++ h.inside ++ codes "]") ++ rest) ≡ Some (words, rest)
     go true sign is = ap bracket_at (tail true) ∙ all true is
     go false sign is =
@@ -127,15 +121,18 @@ bracket_again u words rest h member = ap (λ x. bracket_at (x ++ rest)) h.writte
 
 -- a bracket list is at the start of the text
 abbrev pub IsListBefore : List ℕ → List ℕ × List ℕ → Type 0
-IsListBefore text x = (u : List ℕ) × (text ≡ u ++ x.1) × (is_empty u ≡ false) × IsBracketList u x.0 × HasMember x.0
+IsListBefore text x = (u : List ℕ) × (text ≡ u ++ x.1) × (is_empty u ≡ false) × IsBracketList u x.0 × (x.0 ≢ [])
+
+some_holds : (bytes rest : List ℕ) (P : List ℕ × List ℕ → Type 0) → (bytes ≢ [] → P (bytes, rest)) → IfSome (some_of bytes rest) P
+some_holds [] rest P h = tt
+some_holds (b ∷ bytes) rest P h = h (λ e. cc e)
 
 list_before : (complement : Bool) (inside : List ℕ) (es : List Element) (rest : List ℕ) → (complement ≡ false → begins "^" inside ≡ false)
     → is_mistakable inside ≡ false → WritesElements true inside es → es ≢ []
     → IfSome (set_of complement (es, rest)) (IsListBefore (opening complement ++ (inside ++ 93 ∷ rest)))
 list_before complement inside es rest sign clear spelled some =
-    let words : List ℕ = words_of (is_listed complement es) in
-    cond_holds (some_word words) (Some (words, rest)) None (IsListBefore (opening complement ++ (inside ++ 93 ∷ rest)))
-    (λ h. (
+    some_holds (bytes_where (is_listed complement es)) rest (IsListBefore (opening complement ++ (inside ++ 93 ∷ rest)))
+    (λ member. (
       opening complement ++ inside ++ codes "]",
       sym (append_assoc (opening complement ++ inside) (codes "]") rest ∙ append_assoc (opening complement) inside (93 ∷ rest)),
       opened complement (inside),
@@ -148,12 +145,10 @@ list_before complement inside es rest sign clear spelled some =
         some = some;
         clear = clear;
         spelled = spelled;
-        set = words_set (is_listed complement es);
-        members = words_members (is_listed complement es);
+        set = refl;
       },
-      tested_member words (words_set (is_listed complement es)) h,
+      member,
     ))
-    (λ _. tt)
   where
     opened : (complement : Bool) (inside : List ℕ) → is_empty (opening complement ++ inside ++ codes "]") ≡ false
     opened true inside = refl

@@ -39,11 +39,11 @@ spelled_texts =
     -- `+`, `?`, `{` and bars have no meaning of their own
     ∷ (codes "a+?{|}()", text_tree (codes "a+?{|}()"))
     -- a `]` that is the first element of a list is a byte; so is a `-` that is the last
-    ∷ (codes "[]x]", sequence_of (Set (0 ∷ 72057594574798848 ∷ 0 ∷ 0 ∷ []) ∷ []))
-    ∷ (codes "[x-]", sequence_of (Set (35184372088832 ∷ 72057594037927936 ∷ 0 ∷ 0 ∷ []) ∷ []))
+    ∷ (codes "[]x]", sequence_of (Set (codes "]x") ∷ []))
+    ∷ (codes "[x-]", sequence_of (Set (codes "-x") ∷ []))
     -- a `[` is a byte of a list where no class or symbol begins, and a backslash before most bytes
-    ∷ (codes "[][]", sequence_of (Set (0 ∷ 671088640 ∷ 0 ∷ 0 ∷ []) ∷ []))
-    ∷ (codes "[\\t]", sequence_of (Set (0 ∷ 4503599895805952 ∷ 0 ∷ 0 ∷ []) ∷ []))
+    ∷ (codes "[][]", sequence_of (Set (codes "[]") ∷ []))
+    ∷ (codes "[\\t]", sequence_of (Set (codes "\\t") ∷ []))
     ∷ []
 
 abbrev pub refused_texts : List (List ℕ)

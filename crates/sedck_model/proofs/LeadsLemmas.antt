@@ -63,10 +63,10 @@ any_leads from to = (
   λ (w, cut, (b, small, is, groups)). (b, small, cut ∙ ap (λ v. v ++ to.rest) is, groups),
 )
 
-pub set_leads : (words : List ℕ) (from to : Reached) → Consumes (Set words) from to ↔ Leads (Set words) from to
-set_leads words from to = (
-  λ (b, (small, member), cut, groups). (b ∷ [], cut, (b, small, member, refl, groups)),
-  λ (w, cut, (b, small, member, is, groups)). (b, (small, member), cut ∙ ap (λ v. v ++ to.rest) is, groups),
+pub set_leads : (bytes : List ℕ) (from to : Reached) → Consumes (Set bytes) from to ↔ Leads (Set bytes) from to
+set_leads bytes from to = (
+  λ (b, member, cut, groups). (b ∷ [], cut, (b, member, refl, groups)),
+  λ (w, cut, (b, member, is, groups)). (b, member, cut ∙ ap (λ v. v ++ to.rest) is, groups),
 )
 
 pub maybe_leads : (c : ℕ) (from to : Reached) → ((to ≡ from) ⊎ Consumes (Maybe c) from to) ↔ Leads (Maybe c) from to

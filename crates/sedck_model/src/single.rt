@@ -1,8 +1,7 @@
 //! Items that lead to one place at most.
 
 ghost use Rattle.std.specs.Prelude.{◌≡◌, ◌≤◌, length, IfOk, IsTrue, ◌↔◌};
-ghost use Rattle.sedck_bre.specs.Match.{IsMember};
-ghost use Rattle.sedck_bre.specs.View.{tree};
+ghost use Rattle.sedck_bre.specs.View.{tree, has_bit};
 ghost use Rattle.sedck_model.specs.Private.Lists.{AreLed, AreWithin, IsNext};
 ghost use Rattle.sedck_model.specs.Private.Relations.{Takes, Consumes, Repeats, Passes};
 
@@ -88,7 +87,7 @@ fn takes(expression: &Bre, byte: u8) -> bool
 }
 
 fn is_member(set: ByteSet, byte: u8) -> bool
-    ensures { IsTrue result ↔ IsMember set.0 byte }
+    ensures { result ≡ has_bit set.0 byte }
 {
     (set.0[byte as usize / 64] >> (byte % 64)) & 1 == 1
 }

@@ -1,4 +1,5 @@
 pub mod ListLemmas
 pub mod SameTreeLemmas
+pub mod SetLemmas
 pub mod SameScriptLemmas
 pub mod PlainLemmas

@@ -2,8 +2,9 @@
 ghost use Rattle.std.specs.Prelude.{◌≡◌, ◌==◌, ◌&&◌, map};
 ghost use Rattle.std.specs.Option.{option_map};
 ghost use Rattle.sedck_bre.specs.Tree.{trees};
-ghost use Rattle.sedck_bre.specs.View.{tree};
-ghost use Rattle.sedck_plain.specs.Private.SameTrees.{is_byte, is_any, is_set, is_start, is_end, is_maybe, is_ref, group_body, items_of, repeated_body, same_number, same_tree, same_trees};
+ghost use Rattle.sedck_bre.specs.View.{tree, bytes_in};
+ghost use Rattle.sedck_bre.specs.Private.Sets.{AreWords};
+ghost use Rattle.sedck_plain.specs.Private.SameTrees.{same_numbers, is_byte, is_any, is_set, is_start, is_end, is_maybe, is_ref, group_body, items_of, repeated_body, same_number, same_tree, same_trees};
 
 use sedck_bre::{Bre, ByteSet};
 
@@ -26,12 +27,28 @@ fn is_any(other: &Bre) -> bool
 }
 
 fn is_set(other: &Bre, set: &ByteSet) -> bool
-    ensures { result ≡ is_set set.now.0 (tree other.now) }
+    ensures { result ≡ is_set (bytes_in set.now.0) (tree other.now) }
 {
     match other {
-        Bre::Set(found) => found.0 == set.0,
+        Bre::Set(found) => are_same(*found, *set),
         _ => false,
     }
+}
+
+/// Whether the sets have the same bytes.
+fn are_same(found: ByteSet, set: ByteSet) -> bool
+    ensures { result ≡ same_numbers (bytes_in found.0) (bytes_in set.0) }
+{
+    words_of(found) == words_of(set)
+}
+
+/// The words of the set, of which the type says that there are four.
+fn words_of(set: ByteSet) -> [u64; 4]
+    ensures same { result ≡ set.0 }
+    ensures words { AreWords result }
+{
+    let [first, second, third, last] = set.0;
+    [first, second, third, last]
 }
 
 fn is_start(other: &Bre) -> bool

@@ -1,8 +1,6 @@
 -- Bytes as they are shown, this project's own.
-use Rattle.std.specs.Prelude.{◌==◌, ◌+◌, ◌-◌, ◌/◌, ◌%◌, ℕ, Bool, not, List, [], ◌∷◌, ◌++◌, take, drop, nat_lt, codes, if◌then◌else◌}
-use Rattle.std.specs.List.{prefix_len}
-use Rattle.sedck_text.specs.Bytes.{newline, tab, backslash}
-use Rattle.sedck_report.specs.declared.places.Position.{Position}
+use Rattle.std.specs.Prelude.{◌==◌, ◌+◌, ◌/◌, ◌%◌, ℕ, Bool, List, [], ◌∷◌, ◌++◌, nat_lt, codes, if◌then◌else◌}
+use Rattle.sedck_text.specs.Bytes.{tab, backslash}
 
 -- printable ASCII, a blank too
 abbrev pub is_printable : ℕ → Bool

@@ -1,6 +1,6 @@
 -- Which scripts say the same by characters as by bytes, where a byte above 127 is a part of a character (XBD 6.1: in each locale the characters of
 -- the portable set have one byte). Ours, for UTF-8, where GNU sed, BusyBox and others match, repeat and replace whole characters.
-use Rattle.std.specs.Prelude.{◌≡◌, ℕ, ◌-◌, ◌==◌, ◌&&◌, ◌||◌, ◌++◌, Bool, true, false, List, nat_lt, flat_map, if◌then◌else◌}
+use Rattle.std.specs.Prelude.{◌≡◌, ℕ, ◌-◌, ◌==◌, ◌&&◌, ◌||◌, ◌++◌, Bool, false, List, nat_lt, flat_map, if◌then◌else◌}
 use Rattle.std.specs.List.{list_any}
 use Rattle.sedck_bre.specs.Tree.{Tree, Trees, Byte, Group, Seq, Repeat, Nil, Then}
 use Rattle.sedck_script.specs.Program.{Verb, Transliterate, Command, Program, address_patterns, verb_patterns, pattern_expressions}

@@ -1,7 +1,8 @@
 -- A way to read a bracket list.
-use Rattle.std.specs.Prelude.{ℕ, zero, suc, ◌+◌, ◌-◌, ◌^◌, ◌==◌, nat_eq, nat_le, Bool, true, false, not, ◌&&◌, if◌then◌else◌, List, [], ◌∷◌, ◌++◌, length, take, drop, Option, Some, None, codes}
-use Rattle.std.specs.List.{list_any, starts_with}
+use Rattle.std.specs.Prelude.{ℕ, zero, suc, ◌+◌, ◌-◌, ◌==◌, nat_eq, nat_le, Bool, true, false, not, ◌&&◌, if◌then◌else◌, List, [], ◌∷◌, ◌++◌, length, take, drop, Option, Some, None, codes}
+use Rattle.std.specs.List.{starts_with}
 use Rattle.sedck_text.specs.Text.{begins}
+use Rattle.sedck_bre.specs.Tree.{bytes_where}
 use Rattle.sedck_bre.specs.Brackets.{Class, upper, lower, alpha, digit, alnum, xdigit, space, blank, punct, graph, print, cntrl, class_name, Element, One, Range, Members, is_mistakable, is_listed}
 use Rattle.sedck_bre.specs.Private.Reading.{◌>>=◌}
 
@@ -90,17 +91,13 @@ elements_at zero first text = None
 elements_at (suc n) first text =
     if begins "]" text && not first then Some ([], drop 1 text) else (element_at first text >>= others (elements_at n))
 
--- the word of the members from base to base + 63
-abbrev pub word_from : (ℕ → Bool) → ℕ → ℕ → ℕ
-word_from test base zero = 0
-word_from test base (suc n) = word_from test base n + (if test (base + n) then 2 ^ n else 0)
-
-abbrev pub words_of : (ℕ → Bool) → List ℕ
-words_of test = word_from test 0 64 ∷ word_from test 64 64 ∷ word_from test 128 64 ∷ word_from test 192 64 ∷ []
+-- these bytes, if there is one
+abbrev pub some_of : List ℕ → List ℕ → Option (List ℕ × List ℕ)
+some_of [] text = None
+some_of (b ∷ bytes) text = Some (b ∷ bytes, text)
 
 abbrev pub set_of : Bool → List Element × List ℕ → Option (List ℕ × List ℕ)
-set_of complement (es, text) =
-    if list_any (λ w. not (w == 0)) (words_of (is_listed complement es)) then Some (words_of (is_listed complement es), text) else None
+set_of complement (es, text) = some_of (bytes_where (is_listed complement es)) text
 
 -- the text of the elements, up to the closing bracket before the rest
 abbrev pub inside_of : List ℕ → List ℕ → List ℕ

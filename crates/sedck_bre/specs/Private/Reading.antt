@@ -73,7 +73,7 @@ backslash inner deep opened closed [] = None
 backslash inner deep opened closed (b ∷ text) = escaped inner deep opened closed b text
 
 abbrev pub set_before : List ℕ × List ℕ → Option (Tree × List ℕ)
-set_before (words, rest) = Some (Set words, rest)
+set_before (bytes, rest) = Some (Set bytes, rest)
 
 abbrev pub tree_before : List ℕ → Tree → Option (Tree × List ℕ)
 tree_before rest t = Some (t, rest)

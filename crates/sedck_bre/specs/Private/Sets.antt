@@ -1,7 +1,6 @@
 -- Sets of bytes by their bits.
-use Rattle.std.specs.Prelude.{◌≡◌, ℕ, ◌+◌, ◌*◌, ◌<◌, ◌/◌, ◌%◌, ◌==◌, ◌&&◌, Bool, not, List, nat_lt, if◌then◌else◌, slice_index}
+use Rattle.std.specs.Prelude.{◌≡◌, ℕ, ◌+◌, ◌*◌, ◌^◌, ◌<◌, ◌/◌, ◌%◌, ◌==◌, ◌&&◌, Bool, List, length, nat_lt, if◌then◌else◌, slice_index, All}
 use Rattle.std.specs.Int.{bit_at}
-use Rattle.std.specs.List.{list_any}
 
 abbrev pub bit_of : Bool → ℕ
 bit_of b = if b then 1 else 0
@@ -14,9 +13,9 @@ HasJust words test = (b : ℕ) → b < 256 → bit_at (slice_index words (b / 64
 abbrev pub HasBitsBelow : ℕ → ℕ → ℕ → Type 0
 HasBitsBelow limit index word = (k : ℕ) → k < 64 → bit_at word k ≡ bit_of (nat_lt (64 * index + k) limit)
 
--- some word isn't 0
-abbrev pub some_word : List ℕ → Bool
-some_word words = list_any (λ w. not (w == 0)) words
+-- four words of 64 bits
+abbrev pub AreWords : List ℕ → Type 0
+AreWords words = (length words ≡ 4) × All (λ word. word < 2 ^ 64) words
 
 -- each of the four words is 0
 abbrev pub has_no_word : List ℕ → Bool

@@ -4,6 +4,7 @@ ghost use Rattle.std.specs.Prelude.{◌≡◌, ◌<◌, ◌≤◌, ◌&&◌, not
 ghost use Rattle.sedck_text.specs.Text.{begins};
 ghost use Rattle.sedck_text.specs.Cursors.{unread};
 ghost use Rattle.sedck_bre.specs.Brackets.{has_symbol, is_mistakable};
+ghost use Rattle.sedck_bre.specs.View.{bytes_in};
 ghost use Rattle.sedck_bre.specs.Private.BracketReading.{elements_of, set_at, bracket_at};
 ghost use Rattle.sedck_bre.specs.Private.BracketCode.{HasElements, signed, IsFlawIn};
 ghost use Rattle.sedck_bre.specs.Faults.{HasOneAt, IsPlaced};
@@ -149,7 +150,7 @@ fn read_set<'a>(
     cursor: Cursor<'a>,
 ) -> Result<(ByteSet, Cursor<'a>), ReFault>
     requires outer { HasOneAt cursor.whole.now outer "[" }
-    ensures value { Gives (λ x. (x.0.0, unread x.1)) result (set_at complemented (unread cursor.entry)) }
+    ensures value { Gives (λ x. (bytes_in x.0.0, unread x.1)) result (set_at complemented (unread cursor.entry)) }
     ensures same { IfOk result (λ x. x.1.whole ≡ cursor.entry.whole) }
     ensures shorter { IfOk result (λ x. length (unread x.1) < length (unread cursor.entry)) }
     ensures place { IfErr result (λ fault. IsPlaced cursor.entry.whole.now fault) }
@@ -171,7 +172,7 @@ fn read_set<'a>(
 /// The set of the bracket list at the start, and the cursor behind its closing bracket.
 pub(crate) fn read_bracket_list<'a>(cursor: Cursor<'a>) -> Result<(ByteSet, Cursor<'a>), ReFault>
     requires opens { begins "[" (unread cursor) ≡ true }
-    ensures value { Gives (λ x. (x.0.0, unread x.1)) result (bracket_at (unread cursor.entry)) }
+    ensures value { Gives (λ x. (bytes_in x.0.0, unread x.1)) result (bracket_at (unread cursor.entry)) }
     ensures same { IfOk result (λ x. x.1.whole ≡ cursor.entry.whole) }
     ensures shorter { IfOk result (λ x. length (unread x.1) < length (unread cursor.entry)) }
     ensures place { IfErr result (λ fault. IsPlaced cursor.entry.whole.now fault) }

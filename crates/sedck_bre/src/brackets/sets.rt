@@ -2,9 +2,8 @@
 
 ghost use Rattle.std.specs.Prelude.{◌≡◌, ◌+◌, ◌-◌, ◌<◌, ◌≤◌, ◌||◌, not, nat_lt, Bool, ℕ};
 ghost use Rattle.std.specs.Int.{bit_at};
-ghost use Rattle.sedck_bre.specs.WellFormed.{IsByteSet};
 ghost use Rattle.sedck_bre.specs.Brackets.{is_from};
-ghost use Rattle.sedck_bre.specs.Private.Sets.{HasJust, HasBitsBelow, has_no_word};
+ghost use Rattle.sedck_bre.specs.Private.Sets.{HasJust, HasBitsBelow, AreWords, has_no_word};
 
 use crate::tree::ByteSet;
 
@@ -77,7 +76,7 @@ pub(crate) fn range(first: u8, last: u8) -> ByteSet
 /// Whether the set has no byte.
 pub(crate) fn is_empty(set: ByteSet) -> bool
     ensures value { result ≡ has_no_word set.0 }
-    ensures words { IsByteSet set.0 }
+    ensures words { AreWords set.0 }
 {
     let [first, second, third, last] = set.0;
     first == 0 && second == 0 && third == 0 && last == 0

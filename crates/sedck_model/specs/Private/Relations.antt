@@ -1,7 +1,7 @@
 -- Where single items, groups and repetitions lead.
-use Rattle.std.specs.Prelude.{◌≡◌, ℕ, zero, suc, ◌<◌, ◌≤◌, List, ◌∷◌, ◌++◌, Option, None, Contains, if◌then◌else◌, slice_index_or}
+use Rattle.std.specs.Prelude.{◌≡◌, ℕ, zero, suc, ◌<◌, ◌≤◌, List, ◌∷◌, ◌++◌, Option, None, Contains, IsTrue, if◌then◌else◌, slice_index_or}
 use Rattle.sedck_bre.specs.Tree.{Tree, Byte, Any, Set, Maybe, Ref, is_in}
-use Rattle.sedck_bre.specs.Match.{IsMember, unset, with_text, text_of}
+use Rattle.sedck_bre.specs.Match.{unset, with_text, text_of}
 use Rattle.sedck_model.specs.declared.spots.Span.{Span}
 use Rattle.sedck_model.specs.declared.spots.Spot.{Spot}
 use Rattle.sedck_model.specs.Spots.{Reached, reached, groups_of}
@@ -11,7 +11,7 @@ use Rattle.sedck_model.specs.Private.Lists.{Relation, AddsLed, IsBetween}
 abbrev pub Takes : Tree → ℕ → Type 0
 Takes (Byte c) b = b ≡ c
 Takes Any b = b < 256
-Takes (Set words) b = (b < 256) × IsMember words b
+Takes (Set bytes) b = IsTrue (is_in b bytes)
 Takes (Maybe c) b = b ≡ c
 Takes t b = ⊥
 
@@ -27,7 +27,7 @@ Repeats k from to = (from.rest ≡ text_of from.groups k ++ to.rest) × (to.grou
 abbrev pub Passes : Tree → Relation
 Passes (Byte c) from to = Consumes (Byte c) from to
 Passes Any from to = Consumes Any from to
-Passes (Set words) from to = Consumes (Set words) from to
+Passes (Set bytes) from to = Consumes (Set bytes) from to
 Passes (Maybe c) from to = Consumes (Maybe c) from to
 Passes (Ref k) from to = Repeats k from to
 Passes t from to = ⊥

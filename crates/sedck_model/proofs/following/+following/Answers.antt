@@ -4,7 +4,7 @@ use Rattle.std.proofs.lemmas.List.{drop_more, drop_all, nil_from_length}
 use Rattle.std.proofs.lemmas.Bool.{eqb-true}
 use Rattle.sedck_bre.specs.Tree.{trees}
 use Rattle.sedck_bre.specs.Tree as spec
-use Rattle.sedck_bre.specs.View.{tree}
+use Rattle.sedck_bre.specs.View.{tree, bytes_in}
 use Rattle.sedck_bre.specs.Private.Sequence.{sequence}
 use Rattle.sedck_bre.specs.declared.tree.Bre.{Bre, the_lemmas}
 use Rattle.sedck_bre.proofs.ViewLemmas.{tree-Any, tree-Group, tree-Seq, tree-Repeat}
@@ -33,7 +33,7 @@ follow-returns-in-Byte-clause-led t c =
     (elim c.in-Byte.is [
       | inl (b, is) ↦ leads_as Passes e (spec.Byte b) (ap tree is ∙ tree-Byte b) (byte_leads b)
       | inr (inl is) ↦ leads_as Passes e spec.Any (ap tree is ∙ tree-Any) any_leads
-      | inr (inr (inl (set, is))) ↦ leads_as Passes e (spec.Set set.0) (ap tree is ∙ tree-Set set) (set_leads set.0)
+      | inr (inr (inl (set, is))) ↦ leads_as Passes e (spec.Set (bytes_in set.0)) (ap tree is ∙ tree-Set set) (set_leads (bytes_in set.0))
       | inr (inr (inr (k, is))) ↦ leads_as Passes e (spec.Ref k) (ap tree is ∙ tree-Ref k) (ref_leads k)
     ])
     c.pass-in-Byte.ensures.led

@@ -1,6 +1,6 @@
 use Rattle.std.proofs.Common.{◌≡◌, List, ℕ, Option, refl, sym, ap, ◌∙◌, subst, inl, inr}
 use Rattle.sedck_bre.specs.Tree.{Tree}
-use Rattle.sedck_bre.specs.View.{tree}
+use Rattle.sedck_bre.specs.View.{tree, bytes_in}
 use Rattle.sedck_bre.specs.declared.tree.Bre.{Bre}
 use Rattle.sedck_bre.proofs.ViewLemmas.{tree-Any}
 use Rattle.sedck_model.proofs.ViewLemmas.{tree-Byte, tree-Set, tree-Maybe}
@@ -26,6 +26,6 @@ returns-in-Byte c =
     elim c.in-Byte.is [
       | inl (b, is) ↦ passes text s next e (spec.Byte b) (ap tree is ∙ tree-Byte b) refl h
       | inr (inl is) ↦ passes text s next e spec.Any (ap tree is ∙ tree-Any) refl h
-      | inr (inr (inl (set, is))) ↦ passes text s next e (spec.Set set.0) (ap tree is ∙ tree-Set set) refl h
+      | inr (inr (inl (set, is))) ↦ passes text s next e (spec.Set (bytes_in set.0)) (ap tree is ∙ tree-Set set) refl h
       | inr (inr (inr (b, is))) ↦ passes text s next e (spec.Maybe b) (ap tree is ∙ tree-Maybe b) refl h
     ]

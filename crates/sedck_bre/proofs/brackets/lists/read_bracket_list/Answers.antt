@@ -3,6 +3,7 @@ use Rattle.sedck_text.specs.Text.{begins}
 use Rattle.sedck_text.specs.Cursors.{unread}
 use Rattle.sedck_text.specs.declared.cursor.Cursor.{Cursor}
 use Rattle.sedck_bre.specs.declared.tree.ByteSet.{ByteSet}
+use Rattle.sedck_bre.specs.View.{bytes_in}
 use Rattle.sedck_bre.specs.Private.BracketReading.{inside_at, set_at}
 use Rattle.sedck_bre.specs.Private.Gives.{Gives}
 use Rattle.sedck_bre.proofs.OffsetLemmas.{bracket_is}
@@ -10,7 +11,7 @@ use Rattle.sedck_bre.proofs.brackets.lists.read_bracket_list.Goals as goal
 
 -- the set and what follows it
 abbrev viewed : ByteSet × Cursor → List ℕ × List ℕ
-viewed x = (x.0.0, unread x.1)
+viewed x = (bytes_in x.0.0, unread x.1)
 
 pub returns-in-94-clause-value : goal.returns-in-94-clause-value
 returns-in-94-clause-value c =
