@@ -1,5 +1,5 @@
 -- The edges that are found for a verb are those that it has.
-use Rattle.std.proofs.Common.{◌≡◌, ◌⊎◌, ◌↔◌, ℕ, Bool, true, false, List, [], refl, sym, ap, ◌∙◌, subst, inl, inr, arith}
+use Rattle.std.proofs.Common.{◌≡◌, ◌⊎◌, ◌↔◌, ℕ, Bool, true, false, List, refl, sym, ap, ◌∙◌, subst, inl, inr, arith}
 use Rattle.std.specs.Prelude.{if◌then◌else◌}
 use Rattle.sedck_script.specs.Program.{Address, Two, Verb, Change, DeleteFirstLine, Next, Substitution, Substitute, Test, Program}
 use Rattle.sedck_script.specs.View.{verb_of}
@@ -15,30 +15,19 @@ use Rattle.sedck_flow.specs.Private.EdgeList.{AddsEdge, AddsLine, ListsTargets}
 use Rattle.sedck_flow.specs.declared.graph.Node.{Node}
 use Rattle.sedck_flow.specs.declared.graph.Kind.{Kind}
 use Rattle.sedck_flow.specs.declared.graph.Kind.TheVariants.{Consume, Shorten, Keep, Grow}
-use Rattle.sedck_flow.proofs.EdgeListLemmas.{lists_none, lists_more, lists_line, lists_same}
+use Rattle.sedck_flow.proofs.EdgeListLemmas.{lists_more, lists_same}
 
 -- the targets of one edge
 abbrev pub Only : Kind → Node → Kind → Node → Type 0
 Only kind to k n = (k ≡ kind) × (n ≡ to)
 
-pub one_edge : (kind : Kind) (to : Node) (edges : List ℕ) → AddsEdge kind to [] edges → ListsTargets edges (Only kind to)
-one_edge kind to edges adds =
-    lists_same edges (λ k t. ((k ≡ kind) × (t ≡ to)) ⊎ ⊥) (Only kind to) (λ k t. (elim [ inl h ↦ h | inr h ↦ absurd h ], λ h. inl h))
-    (lists_more [] edges (λ k t. ⊥) kind to lists_none adds)
-
--- the edges on which a line is read
-pub line_alone : (n to : Node) (edges : List ℕ) → AddsLine n to [] edges → ListsTargets edges (ReadsLine n (with_last to))
-line_alone n to edges adds =
-    lists_same edges (λ k t. ReadsLine n (with_last to) k t ⊎ ⊥) (ReadsLine n (with_last to))
-    (λ k t. (elim [ inl h ↦ h | inr h ↦ absurd h ], λ h. inl h)) (lists_line [] edges n to (λ k t. ⊥) lists_none adds)
-
 -- `c` at a range
-pub changes_range : (p : Program) (n : Node) (first all : List ℕ) (text : List ℕ) (place end : _) → ListsTargets first (ReadsLine n start)
+pub changes_range : (p : Program) (n : Node) (first all : List (Node × Kind)) (text : List ℕ) (place end : _) → ListsTargets first (ReadsLine n start)
     → AddsEdge Keep (next n) first all → ListsTargets all (VerbEdge p (Two place end) (Change text) n)
 changes_range p n first all text place end lists adds =
     lists_same all _ (VerbEdge p (Two place end) (Change text) n)
     (λ k t. (elim [ inl h ↦ inr h | inr h ↦ inl h ], elim [ inl h ↦ inr h | inr h ↦ inl h ]))
-    (lists_more first all (ReadsLine n start) Keep (next n) lists adds)
+    (lists_more first all (ReadsLine n start) _ lists adds)
 
 -- `D`
 abbrev Drops : Node → Kind → Node → Type 0
@@ -60,13 +49,12 @@ drop_targets n k t = (forth, back)
     back (inr (kind, flag, inl kept, to)) = inr (inl (kind, to ∙ ap (with_flag (start n.last)) kept))
     back (inr (kind, flag, inr reset, to)) = inr (inr (kind, to ∙ ap (with_flag (start n.last)) reset))
 
-pub drops : (p : Program) (a : Address) (n : Node) (first second all : List ℕ) → ListsTargets first (Only Shorten (start n.last))
+pub drops : (p : Program) (a : Address) (n : Node) (first second all : List (Node × Kind)) → ListsTargets first (Only Shorten (start n.last))
     → AddsEdge Shorten (with_flag (start n.last) n.flag) first second → AddsLine n (start n.last) second all
     → ListsTargets all (VerbEdge p a DeleteFirstLine n)
 drops p a n first second all lists adds line =
     lists_same all (DropsOne n) (VerbEdge p a DeleteFirstLine n) (drop_targets n)
-    (lists_line second all n (start n.last) _
-    (lists_more first second (Only Shorten (start n.last)) Shorten (with_flag (start n.last) n.flag) lists adds) line)
+    (lists_more second all _ _ (lists_more first second (Only Shorten (start n.last)) _ lists adds) line)
 
 -- `n` and `N`
 abbrev ReadsOne : Node → Kind → Node → Type 0
@@ -83,11 +71,11 @@ read_targets n k t = (forth, back)
     back (flag, inl kept, h) = inr (subst (λ f. ReadsLine n (with_last (with_flag (next n) f)) k t) kept h)
     back (flag, inr reset, h) = inl (subst (λ f. ReadsLine n (with_last (with_flag (next n) f)) k t) reset h)
 
-pub reads : (p : Program) (a : Address) (n : Node) (first all : List ℕ) → ListsTargets first (ReadsLine n (with_last (next n)))
+pub reads : (p : Program) (a : Address) (n : Node) (first all : List (Node × Kind)) → ListsTargets first (ReadsLine n (with_last (next n)))
     → AddsLine n (with_flag (next n) false) first all → ListsTargets all (VerbEdge p a Next n)
 reads p a n first all lists line =
     lists_same all (ReadsOne n) (VerbEdge p a Next n) (read_targets n)
-    (lists_line first all n (with_flag (next n) false) (ReadsLine n (with_last (next n))) lists line)
+    (lists_more first all (ReadsLine n (with_last (next n))) _ lists line)
 
 -- `s`
 never_both : (p : Program) (s : Substitution) → HasKind p s Shorten → HasKind p s Grow → ⊥
@@ -112,12 +100,12 @@ one_kind p s Grow Keep h (inl alone) = absurd (h.0 alone)
 one_kind p s Grow Keep h (inr j) = absurd (h.1 j.1)
 one_kind p s Grow Grow h j = refl
 
-pub substitutes : (p : Program) (a : Address) (s : Substitution) (kind : Kind) (n : Node) (first all : List ℕ) → HasKind p s kind
+pub substitutes : (p : Program) (a : Address) (s : Substitution) (kind : Kind) (n : Node) (first all : List (Node × Kind)) → HasKind p s kind
     → ListsTargets first (Only Keep (next n)) → AddsEdge kind (with_flag (next n) true) first all
     → ListsTargets all (VerbEdge p a (Substitute s) n)
 substitutes p a s kind n first all has lists adds =
     lists_same all _ (VerbEdge p a (Substitute s) n) (λ k t. (forth k t, back k t))
-    (lists_more first all (Only Keep (next n)) kind made lists adds)
+    (lists_more first all (Only Keep (next n)) _ lists adds)
   where
     made : Node
     made = with_flag (next n) true
@@ -131,19 +119,19 @@ substitutes p a s kind n first all has lists adds =
     back k t (inr (h, to)) = inl (one_kind p s k kind h has, to)
 
 -- `t`
-pub tests : (p : Program) (a : Address) (target : ℕ) (n : Node) (edges : List ℕ) (flag : Bool) → n.flag ≡ flag
+pub tests : (p : Program) (a : Address) (target : ℕ) (n : Node) (edges : List (Node × Kind)) (flag : Bool) → n.flag ≡ flag
     → ListsTargets edges (Only Keep (if flag then with_flag (moved_to n target) false else next n)) → ListsTargets edges (VerbEdge p a (Test target) n)
 tests p a target n edges flag is lists =
     subst (λ (f : Bool). ListsTargets edges (Only Keep (if f then with_flag (moved_to n target) false else next n))) (sym is) lists
 
 -- ---- By the verb as the code has it
 
-pub of_verb : (p : Program) (a : Address) (v w : Verb) (n : Node) (edges : List ℕ) → v ≡ w → ListsTargets edges (VerbEdge p a w n)
+pub of_verb : (p : Program) (a : Address) (v w : Verb) (n : Node) (edges : List (Node × Kind)) → v ≡ w → ListsTargets edges (VerbEdge p a w n)
     → ListsTargets edges (VerbEdge p a v n)
 of_verb p a v w n edges is lists = subst (λ (x : Verb). ListsTargets edges (VerbEdge p a x n)) (sym is) lists
 
 -- a verb that is none of these goes on to the next command
-pub other_verb : (p : Program) (a : Address) (v : Coded) (n : Node) (edges : List ℕ)
+pub other_verb : (p : Program) (a : Address) (v : Coded) (n : Node) (edges : List (Node × Kind))
     → ((target : ℕ) → v ≡ coded.Branch target → ⊥) → ((target : ℕ) → v ≡ coded.Test target → ⊥) → ((text : Bor (List ℕ)) → v ≡ coded.Change text → ⊥)
     → ((s : CodedSubstitution) → v ≡ coded.Substitute s → ⊥)
     → (v ≡ coded.Delete → ⊥) → (v ≡ coded.DeleteFirstLine → ⊥) → (v ≡ coded.Get → ⊥) → (v ≡ coded.GetAppend → ⊥) → (v ≡ coded.Next → ⊥)

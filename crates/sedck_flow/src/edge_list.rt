@@ -1,72 +1,46 @@
 //! The edges that leave one node: at most five, in order, each once.
 
-ghost use Rattle.std.specs.Prelude.{◌≡◌, ◌+◌, ◌<◌, ◌≤◌, [], length, slice_get};
-ghost use Rattle.sedck_flow.specs.Flow.{kind_index};
-ghost use Rattle.sedck_flow.specs.Private.EdgeList.{edge_at as numbered_edge, edge_number};
+ghost use Rattle.std.specs.Prelude.{◌≡◌, ◌+◌, ◌<◌, ◌≤◌, List, [], ◌∷◌, ◌++◌, length, insert, slice_get};
+ghost use Rattle.sedck_flow.specs.declared.graph.Node.{Node};
+ghost use Rattle.sedck_flow.specs.declared.graph.Kind.{Kind};
+ghost use Rattle.sedck_flow.specs.Private.EdgeList.{number};
 
-use crate::graph::{Edge, Kind, Node};
+use crate::graph::{Kind, Node};
 use std::marker::Model;
 
-/// Edges that leave one node, in order and each once, in no memory: each as its number among all that may leave it.
+/// The node and the kind of each edge that leaves one node, in order and each once, in no memory.
 #[derive(Drop)]
 pub(crate) struct EdgeList {
-    numbers: [u32; 5],
+    targets: [(Node, Kind); 5],
     count: usize,
 }
 
 impl Model for EdgeList {
-    ghost use Rattle.std.specs.Prelude.{◌≡◌, ◌<◌, ℕ, All, List, take, length, ◌≤◌};
+    ghost use Rattle.std.specs.Prelude.{◌≡◌, List, take, length, ◌≤◌};
+    ghost use Rattle.sedck_flow.specs.declared.graph.Node.{Node};
+    ghost use Rattle.sedck_flow.specs.declared.graph.Kind.{Kind};
 
-    ghost Value = { List ℕ };
+    ghost Value = { List (Node × Kind) };
 
-    ghost view = { λ a. take a.count a.numbers };
+    ghost view = { λ a. take a.count a.targets };
 
-    ghost invariant = { λ a. (length a.numbers ≡ 5) × (a.count ≤ 5) × All (λ number. number < 1048576) a.numbers };
+    ghost invariant = { λ a. (length a.targets ≡ 5) × (a.count ≤ 5) };
 }
 
-/// The place of the kind in the order of kinds.
-fn index_of(kind: Kind) -> u32
-    ensures { result ≡ kind_index kind }
+/// How many edges that may leave a node are before the one to this target.
+fn number_of(target: (Node, Kind)) -> u32
+    ensures { result ≡ number target }
 {
-    match kind {
-        Kind::Consume => 0,
-        Kind::Shorten => 1,
-        Kind::Keep => 2,
-        Kind::Grow => 3,
-    }
+    let (to, kind) = target;
+    4 * to.index() as u32 + kind as u32
 }
 
-/// The kind at this place.
-fn kind_at(index: u32) -> Kind
-    requires { index < 4 }
-    ensures { kind_index result ≡ index }
+/// Moves the last one to the index, and those from there on up.
+fn last_to(targets: &mut [(Node, Kind)], index: usize)
+    requires { index < length targets.old }
+    ensures { (front : List (Node × Kind)) (last : Node × Kind) → targets.old ≡ front ++ last ∷ [] → targets.new ≡ insert front index last }
 {
-    match index {
-        0 => Kind::Consume,
-        1 => Kind::Shorten,
-        2 => Kind::Keep,
-        _ => Kind::Grow,
-    }
-}
-
-/// How many edges that may leave a node are before the one of this kind to this node.
-fn number_of(kind: Kind, to: Node) -> u32
-    ensures number { result ≡ edge_number kind to }
-    ensures small { result < 1048576 }
-{
-    4 * to.index() as u32 + index_of(kind)
-}
-
-/// The edge from the node with this number.
-pub(crate) fn edge_at(from: Node, number: u32) -> Edge
-    requires { number < 1048576 }
-    ensures { result ≡ numbered_edge from number }
-{
-    Edge {
-        from,
-        to: Node::nth((number / 4) as usize),
-        kind: kind_at(number % 4),
-    }
+    targets[index..].rotate_right(1);
 }
 
 impl EdgeList {
@@ -75,8 +49,9 @@ impl EdgeList {
     pub(crate) fn new() -> Self
         ensures { result ≡ [] }
     {
+        let unused = (Node::start(false), Kind::Keep);
         EdgeList {
-            numbers: [0; 5],
+            targets: [unused; 5],
             count: 0,
         }
     }
@@ -88,21 +63,19 @@ impl EdgeList {
         ensures few { length result ≤ length self + 1 }
     {
         let count = self.count;
-        let mut numbers = self.numbers;
-        let mut carried = number_of(kind, to);
-        for i in 0..count {
-            let present = numbers[i];
-            if carried == present {
-                return EdgeList { numbers, count };
-            }
-            if carried < present {
-                numbers[i] = carried;
-                carried = present;
-            }
+        let mut targets = self.targets;
+        let number = number_of((to, kind));
+        let mut at = 0;
+        while at < count && number_of(targets[at]) < number {
+            at += 1;
         }
-        numbers[count] = carried;
+        if at < count && number_of(targets[at]) == number {
+            return EdgeList { targets, count };
+        }
+        targets[count] = (to, kind);
+        last_to(&mut targets[..count + 1], at);
         EdgeList {
-            numbers,
+            targets,
             count: count + 1,
         }
     }
@@ -127,13 +100,12 @@ impl EdgeList {
         self.count
     }
 
-    /// The number of the edge at this place in the list.
-    pub(crate) fn get(&self, at: usize) -> u32
+    /// The node and the kind of the edge at this place in the list.
+    pub(crate) fn get(&self, at: usize) -> (Node, Kind)
         requires { at < length self.now }
-        ensures number { slice_get self.now at ≡ Some result }
-        ensures small { result < 1048576 }
+        ensures { slice_get self.now at ≡ Some result }
     {
-        let numbers = &self.numbers;
-        numbers[at]
+        let targets = &self.targets;
+        targets[at]
     }
 }

@@ -7,7 +7,7 @@ ghost use Rattle.sedck_flow.specs.Flow.{node_past as node_past_verb, MayApplyAt,
 ghost use Rattle.sedck_flow.specs.Private.EdgeList.{ListsTargets};
 ghost use Rattle.sedck_flow.specs.Private.Least.{HasFormed};
 
-use crate::edge_list::{EdgeList, edge_at};
+use crate::edge_list::EdgeList;
 use crate::graph::{Edge, Kind, Node};
 use crate::verbs::{reading_line, verb_edges};
 use sedck_script::{Address, Command, Place, Script, Verb};
@@ -25,12 +25,12 @@ pub struct Edges<'s, 'a> {
 impl<'s, 'a> Model for Edges<'s, 'a> {
     ghost use Rattle.std.specs.Prelude.{List, drop, length, map, ◌≤◌};
     ghost use Rattle.sedck_flow.specs.declared.graph.Edge.{Edge};
-    ghost use Rattle.sedck_flow.specs.Private.EdgeList.{edge_at};
+    ghost use Rattle.sedck_flow.specs.Private.EdgeList.{edge_to};
 
     /// The edges that are still to come.
     ghost Value = { List Edge };
 
-    ghost view = { λ a. map (edge_at a.from) (drop a.next a.list) };
+    ghost view = { λ a. map (edge_to a.from) (drop a.next a.list) };
 
     ghost invariant = { λ a. a.next ≤ length a.list };
 }
@@ -48,9 +48,13 @@ impl<'s, 'a> Iterator for Edges<'s, 'a> {
         if self.next == self.list.len() {
             return None;
         }
-        let number = self.list.get(self.next);
+        let (to, kind) = self.list.get(self.next);
         self.next += 1;
-        Some(edge_at(self.from, number))
+        Some(Edge {
+            from: self.from,
+            to,
+            kind,
+        })
     }
 }
 

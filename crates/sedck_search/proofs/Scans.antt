@@ -19,42 +19,42 @@ pub record AreScanned (p : Program) (n : Node) (done coming : List Edge) (Holds 
   pub listed : ListsEdges (done ++ coming) (FlowFrom p n)
   pub held : (e : Edge) → Contains done e → Holds e
 
-module _ (p : Program) (n : Node) where
-  none_done : (Holds : Edge → Type 0) (e : Edge) → Contains [] e → Holds e
-  none_done Holds e (k, below, is) = absurd (omega (arith, below))
+none_done : (Holds : Edge → Type 0) (e : Edge) → Contains [] e → Holds e
+none_done Holds e (k, below, is) = absurd (omega (arith, below))
 
+module _ {p : Program} {n : Node} where
   pub scan_none : {Holds : Edge → Type 0} (coming : List Edge) → ListsEdges coming (FlowFrom p n) → AreScanned p n [] coming Holds
   scan_none {Holds} coming h = record { listed = h; held = none_done Holds }
 
   -- one edge more
-  pub scan_more : {Holds Holds' : Edge → Type 0} (done coming : List Edge) (e : Edge) → AreScanned p n done (e ∷ coming) Holds
+  pub scan_more : {Holds Holds' : Edge → Type 0} {done coming : List Edge} {e : Edge} → AreScanned p n done (e ∷ coming) Holds
       → ((f : Edge) → Holds f → Holds' f) → Holds' e → AreScanned p n (done ++ e ∷ []) coming Holds'
-  scan_more {Holds} {Holds'} done coming e h on at = record {
+  scan_more {Holds} {Holds'} {done} {coming} {e} h on at = record {
     listed = subst (λ edges. ListsEdges edges (FlowFrom p n)) (sym (append_assoc done (e ∷ []) coming)) h.listed;
     held = λ f x. elim (Contains-push_cases done e f x) [ inl before ↦ on f (h.held f before) | inr same ↦ subst Holds' same at ];
   }
 
   -- the edge that comes next
-  pub scan_next : {Holds : Edge → Type 0} (done iterator coming : List Edge) (e : Edge) → iterator ≡ e ∷ coming → AreScanned p n done iterator Holds
+  pub scan_next : {Holds : Edge → Type 0} {done iterator coming : List Edge} {e : Edge} → iterator ≡ e ∷ coming → AreScanned p n done iterator Holds
       → AreScanned p n done (e ∷ coming) Holds
-  scan_next {Holds} done iterator coming e is h = subst (λ edges. AreScanned p n done edges Holds) is h
+  scan_next {Holds} {done} is h = subst (λ edges. AreScanned p n done edges Holds) is h
 
   -- each edge that comes is one of the node's
-  pub edge_coming : {Holds : Edge → Type 0} (done coming : List Edge) (e : Edge) → AreScanned p n done (e ∷ coming) Holds → FlowFrom p n e
-  edge_coming done coming e h = (h.listed.same e).0 (Contains-append_right done (e ∷ coming) e (0, omega arith, refl))
+  pub edge_coming : {Holds : Edge → Type 0} {done coming : List Edge} {e : Edge} → AreScanned p n done (e ∷ coming) Holds → FlowFrom p n e
+  edge_coming {done = done} {coming = coming} {e = e} h = (h.listed.same e).0 (Contains-append_right done (e ∷ coming) e (0, omega arith, refl))
 
   -- after the last edge it holds for all
-  pub scan_all : {Holds : Edge → Type 0} (done : List Edge) → AreScanned p n done [] Holds → (e : Edge) → FlowFrom p n e → Holds e
-  scan_all done h e is_edge = h.held e (subst (λ edges. Contains edges e) (append-nil done) ((h.listed.same e).1 is_edge))
+  pub scan_all : {Holds : Edge → Type 0} {done : List Edge} → AreScanned p n done [] Holds → (e : Edge) → FlowFrom p n e → Holds e
+  scan_all {done = done} h e is_edge = h.held e (subst (λ edges. Contains edges e) (append-nil done) ((h.listed.same e).1 is_edge))
 
-  pub scan_end : {Holds : Edge → Type 0} (done iterator : List Edge) → iterator ≡ [] → AreScanned p n done iterator Holds → (e : Edge)
+  pub scan_end : {Holds : Edge → Type 0} {done iterator : List Edge} → iterator ≡ [] → AreScanned p n done iterator Holds → (e : Edge)
       → FlowFrom p n e → Holds e
-  scan_end {Holds} done iterator is h = scan_all done (subst (λ edges. AreScanned p n done edges Holds) is h)
+  scan_end {Holds} {done} is h = scan_all (subst (λ edges. AreScanned p n done edges Holds) is h)
 
   -- it leads to a node of the script
-  pub target_coming : {Holds : Edge → Type 0} → IsScript p → (done coming : List Edge) (e : Edge) → AreScanned p n done (e ∷ coming) Holds
+  pub target_coming : {Holds : Edge → Type 0} {done coming : List Edge} {e : Edge} → IsScript p → AreScanned p n done (e ∷ coming) Holds
       → e.to.at ≤ length p.commands
-  target_coming script done coming e h = (inside p script.targets e (edge_coming done coming e h).0).1
+  target_coming {e = e} script h = (inside p script.targets e (edge_coming h).0).1
 
 -- a node of the script has its place in a list with four places a command and four for the end
 pub place_in : {A : Type 0} (p : Program) (xs : List A) → length xs ≡ node_count (length p.commands) → (n : Node) → n.at ≤ length p.commands → node_index n < length xs

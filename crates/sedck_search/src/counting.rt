@@ -8,8 +8,8 @@ ghost use Rattle.sedck_search.specs.Private.Components.{AreSets, IsOrderOf};
 ghost use Rattle.sedck_search.specs.declared.filter.EdgeFilter.TheVariants.{Every};
 
 use crate::components::count_from;
-use crate::filter::EdgeFilter;
-use crate::order::{Order, UNVISITED};
+use crate::filter::{EdgeFilter, Graph};
+use crate::order::Order;
 use crate::other_side::{asks_for_last, count_turned};
 use crate::sets::{Sets, find_reached};
 use sedck_flow::Node;
@@ -40,92 +40,74 @@ pub(crate) fn counts_of(
     counts.extend_from_slice(marks)?;
     let mut order = Order::new(alloc, marks.len())?;
     let mut sets = Sets::new(alloc, marks.len())?;
-    count_all(script, filter, &mut order, &mut sets, &mut counts);
+    let graph = Graph { script, filter };
+    count_all(graph, &mut order, &mut sets, &mut counts);
     Ok(counts)
 }
 
 /// Counts what each marked node reaches.
-fn count_all(
-    script: &Script,
-    filter: EdgeFilter,
-    order: &mut Order,
-    sets: &mut Sets,
-    counts: &mut [u16],
-)
-    requires script { IsScript script.now }
-    requires filter { filter ≢ Every }
-    requires order { IsOrderOf script.now filter order.old }
-    requires sets { AreSets script.now filter sets.old }
-    requires counted { ArePartlyCounted script.now filter counts.old }
-    ensures { AreCounted script.now filter counts.new }
+fn count_all(graph: Graph, order: &mut Order, sets: &mut Sets, counts: &mut [u16])
+    requires script { IsScript graph.script.now }
+    requires filter { graph.filter ≢ Every }
+    requires order { IsOrderOf graph.script.now graph.filter order.old }
+    requires sets { AreSets graph.script.now graph.filter sets.old }
+    requires counted { ArePartlyCounted graph.script.now graph.filter counts.old }
+    ensures { AreCounted graph.entry.script.now graph.entry.filter counts.new }
 {
-    count_side(script, filter, 0, order, sets, counts);
-    if !asks_for_last(script) {
-        count_turned(script, filter, counts);
+    count_side(graph, 0, order, sets, counts);
+    if !asks_for_last(graph.script) {
+        count_turned(graph, counts);
     }
-    count_side(script, filter, 1, order, sets, counts);
-    count_rest(script, filter, sets, counts);
+    count_side(graph, 1, order, sets, counts);
+    count_rest(graph, sets, counts);
 }
 
 /// Counts the components of every second node, from this one on.
-fn count_side(
-    script: &Script,
-    filter: EdgeFilter,
-    first: usize,
-    order: &mut Order,
-    sets: &mut Sets,
-    counts: &mut [u16],
-)
-    requires script { IsScript script.now }
+fn count_side(graph: Graph, first: usize, order: &mut Order, sets: &mut Sets, counts: &mut [u16])
+    requires script { IsScript graph.script.now }
     requires first { first ≤ 1 }
-    requires order { IsOrderOf script.now filter order.old }
-    requires sets { AreSets script.now filter sets.old }
-    requires counted { ArePartlyCounted script.now filter counts.old }
-    ensures order { IsOrderOf script.now filter order.new }
-    ensures sets { AreSets script.now filter sets.new }
-    ensures counted { ArePartlyCounted script.now filter counts.new }
+    requires order { IsOrderOf graph.script.now graph.filter order.old }
+    requires sets { AreSets graph.script.now graph.filter sets.old }
+    requires counted { ArePartlyCounted graph.script.now graph.filter counts.old }
+    ensures order { IsOrderOf graph.entry.script.now graph.entry.filter order.new }
+    ensures sets { AreSets graph.entry.script.now graph.entry.filter sets.new }
+    ensures counted { ArePartlyCounted graph.entry.script.now graph.entry.filter counts.new }
 {
     // No followed edge leads back to the other side: its sets give way.
     sets.kept.nodes = 0;
     for step in 0..counts.len() / 2 {
         let root = 2 * step + first;
         if counts[root] == UNCOUNTED {
-            count_from(script, filter, root, order, sets, counts);
+            count_from(graph, root, order, sets, counts);
         }
     }
 }
 
 /// Counts the nodes that are left, if any is: the order in which nodes are counted makes none, but no proof rests on it.
-fn count_rest(script: &Script, filter: EdgeFilter, sets: &mut Sets, counts: &mut [u16])
-    requires script { IsScript script.now }
-    requires sets { AreSets script.now filter sets.old }
-    requires counted { ArePartlyCounted script.now filter counts.old }
-    ensures { AreCounted script.now filter counts.new }
+fn count_rest(graph: Graph, sets: &mut Sets, counts: &mut [u16])
+    requires script { IsScript graph.script.now }
+    requires sets { AreSets graph.script.now graph.filter sets.old }
+    requires counted { ArePartlyCounted graph.script.now graph.filter counts.old }
+    ensures { AreCounted graph.entry.script.now graph.entry.filter counts.new }
 {
     for index in 0..counts.len() {
-        count_node(script, filter, index, sets, counts);
+        count_node(graph, index, sets, counts);
     }
 }
 
 /// Counts what the node with this index reaches, where it is marked.
-pub(crate) fn count_node(
-    script: &Script,
-    filter: EdgeFilter,
-    index: usize,
-    sets: &mut Sets,
-    counts: &mut [u16],
-)
-    requires script { IsScript script.now }
-    requires inside { index < node_count (length script.now.commands) }
-    requires sets { AreSets script.now filter sets.old }
-    requires counted { ArePartlyCounted script.now filter counts.old }
-    ensures sets { AreSets script.now filter sets.new }
-    ensures counted { ArePartlyCounted script.now filter counts.new }
+pub(crate) fn count_node(graph: Graph, index: usize, sets: &mut Sets, counts: &mut [u16])
+    requires script { IsScript graph.script.now }
+    requires inside { index < node_count (length graph.script.now.commands) }
+    requires sets { AreSets graph.script.now graph.filter sets.old }
+    requires counted { ArePartlyCounted graph.script.now graph.filter counts.old }
+    ensures sets { AreSets graph.entry.script.now graph.entry.filter sets.new }
+    ensures counted { ArePartlyCounted graph.entry.script.now graph.entry.filter counts.new }
     ensures done { slice_get counts.new index ≢ Some 65535 }
     ensures others { (i : ℕ) → i ≢ index → slice_get counts.new i ≡ slice_get counts.old i }
 {
     if counts[index] == UNCOUNTED {
-        find_reached(script, filter, counts, Node::nth(index), sets);
+        find_reached(graph, counts, Node::nth(index), sets);
         counts[index] = sets.reached.len() as u16;
     }
 }

@@ -8,70 +8,63 @@ ghost use Rattle.sedck_flow.specs.declared.graph.Node.{Node};
 ghost use Rattle.sedck_search.specs.Private.Reaching.{FollowedEdge, IsClosed, IsIn};
 ghost use Rattle.sedck_search.specs.Private.Distances.{ArePathLengths, AreDistances, HasNeighborWithin, HasDistance, IsSettled, total};
 
-use crate::filter::EdgeFilter;
+use crate::filter::Graph;
 use crate::kept_sets::KeptSets;
 use crate::node_set::NodeSet;
-use crate::reaching::add_reached;
+use crate::reaching::{Known, add_reached};
 use sedck_flow::{Edge, Node, edges_of, node_count};
-use sedck_script::Script;
 use std::alloc::{AllocError, Global};
 
 /// The mark of a node without a distance: more than any distance.
 const NONE: u16 = u16::MAX;
 
 /// How many followed edges it takes at least from each node to this one.
-pub(crate) fn distances_to(
-    alloc: Global,
-    script: &Script,
-    filter: EdgeFilter,
-    to: Node,
-) -> Result<Vec<u16>, AllocError>
-    requires script { IsScript script.now }
-    requires inside { to.at ≤ length script.now.commands }
-    ensures { IfOk result (λ distances. AreDistances script.now filter to distances.items) }
+pub(crate) fn distances_to(alloc: Global, graph: Graph, to: Node) -> Result<Vec<u16>, AllocError>
+    requires script { IsScript graph.script.now }
+    requires inside { to.at ≤ length graph.script.now.commands }
+    ensures { IfOk result (λ distances. AreDistances graph.entry.script.now graph.entry.filter to distances.items) }
 {
     let mut distances = Vec::new(alloc);
-    for index in 0..node_count(script.commands().len()) {
+    for index in 0..node_count(graph.script.commands().len()) {
         distances.push(if index == to.index() { 0 } else { NONE })?;
     }
     let none = KeptSets::none(alloc);
     let mut reached = NodeSet::new();
     let mut frontier = NodeSet::new();
-    add_reached(script, filter, &none, &[], to, &mut reached, &mut frontier);
-    settle(script, filter, to, &reached, &mut distances);
+    let known = Known {
+        graph,
+        kept: &none,
+        counts: &[],
+    };
+    add_reached(known, to, &mut reached, &mut frontier);
+    settle(graph, to, &reached, &mut distances);
     Ok(distances)
 }
 
 /// Shortens distances as long as any gets shorter. `_to` is there for the contract alone: the node that they lead to.
-fn settle(script: &Script, filter: EdgeFilter, _to: Node, reached: &NodeSet, distances: &mut [u16])
-    requires script { IsScript script.now }
+fn settle(graph: Graph, _to: Node, reached: &NodeSet, distances: &mut [u16])
+    requires script { IsScript graph.script.now }
     requires here { IsIn reached.now _to }
-    requires closed { IsClosed script.now filter reached.now }
-    requires some { ArePathLengths script.now filter _to distances.old }
-    ensures { AreDistances script.now filter _to distances.new }
+    requires closed { IsClosed graph.script.now graph.filter reached.now }
+    requires some { ArePathLengths graph.script.now graph.filter _to distances.old }
+    ensures { AreDistances graph.entry.script.now graph.entry.filter _to distances.new }
 {
-    while relax_all(script, filter, _to, reached, distances) {}
+    while relax_all(graph, _to, reached, distances) {}
 }
 
 /// Shortens the distance of each node of the set by those of its targets, from the last node on. It answers whether
 /// any is shorter now. `_to` is there for the contract alone.
-fn relax_all(
-    script: &Script,
-    filter: EdgeFilter,
-    _to: Node,
-    reached: &NodeSet,
-    distances: &mut [u16],
-) -> bool
-    requires script { IsScript script.now }
-    requires some { ArePathLengths script.now filter _to distances.old }
-    ensures some { ArePathLengths script.now filter _to distances.new }
+fn relax_all(graph: Graph, _to: Node, reached: &NodeSet, distances: &mut [u16]) -> bool
+    requires script { IsScript graph.script.now }
+    requires some { ArePathLengths graph.script.now graph.filter _to distances.old }
+    ensures some { ArePathLengths graph.entry.script.now graph.entry.filter _to distances.new }
     ensures shorter { result ≡ true → total distances.new < total distances.old }
-    ensures settled { result ≡ false → (n : Node) → IsIn reached.now n → IsSettled script.now filter distances.new n }
+    ensures settled { result ≡ false → (n : Node) → IsIn reached.now n → IsSettled graph.entry.script.now graph.entry.filter distances.new n }
 {
     let mut shorter = false;
     for step in 0..distances.len() {
         let index = distances.len() - 1 - step;
-        if relax_at(script, filter, _to, reached, index, distances) {
+        if relax_at(graph, _to, reached, index, distances) {
             shorter = true;
         }
     }
@@ -80,26 +73,19 @@ fn relax_all(
 
 /// Shortens the distance of the node with this index, if it is in the set, and answers whether it is shorter now.
 /// `_to` is there for the contract alone.
-fn relax_at(
-    script: &Script,
-    filter: EdgeFilter,
-    _to: Node,
-    reached: &NodeSet,
-    index: usize,
-    distances: &mut [u16],
-) -> bool
-    requires script { IsScript script.now }
-    requires inside { index < node_count (length script.now.commands) }
-    requires some { ArePathLengths script.now filter _to distances.old }
-    ensures some { ArePathLengths script.now filter _to distances.new }
+fn relax_at(graph: Graph, _to: Node, reached: &NodeSet, index: usize, distances: &mut [u16]) -> bool
+    requires script { IsScript graph.script.now }
+    requires inside { index < node_count (length graph.script.now.commands) }
+    requires some { ArePathLengths graph.script.now graph.filter _to distances.old }
+    ensures some { ArePathLengths graph.entry.script.now graph.entry.filter _to distances.new }
     ensures shorter { result ≡ true → total distances.new < total distances.old }
     ensures same { result ≡ false → distances.new ≡ distances.old }
-    ensures settled { result ≡ false → (n : Node) → IsIn reached.now n → node_index n ≡ index → IsSettled script.now filter distances.old n }
+    ensures settled { result ≡ false → (n : Node) → IsIn reached.now n → node_index n ≡ index → IsSettled graph.entry.script.now graph.entry.filter distances.old n }
 {
     if !reached.has(index) {
         return false;
     }
-    let distance = relaxed(script, filter, Node::nth(index), distances);
+    let distance = relaxed(graph, Node::nth(index), distances);
     if distance >= distances[index] {
         return false;
     }
@@ -108,16 +94,16 @@ fn relax_at(
 }
 
 /// The shortest distance from the node that its edges give.
-fn relaxed(script: &Script, filter: EdgeFilter, node: Node, distances: &[u16]) -> u16
-    requires script { IsScript script.now }
-    requires inside { node.at ≤ length script.now.commands }
-    requires long { length distances.now ≡ node_count (length script.now.commands) }
-    ensures least { (e : Edge) → FollowedEdge script.now filter e → e.from ≡ node → (after : ℕ) → HasDistance distances.now e.to after → result ≤ suc after }
-    ensures some { result < 65535 → (distance : ℕ) × (result ≡ suc distance) × HasNeighborWithin script.now filter distances.now node distance }
+fn relaxed(graph: Graph, node: Node, distances: &[u16]) -> u16
+    requires script { IsScript graph.script.now }
+    requires inside { node.at ≤ length graph.script.now.commands }
+    requires long { length distances.now ≡ node_count (length graph.script.now.commands) }
+    ensures least { (e : Edge) → FollowedEdge graph.entry.script.now graph.entry.filter e → e.from ≡ node → (after : ℕ) → HasDistance distances.now e.to after → result ≤ suc after }
+    ensures some { result < 65535 → (distance : ℕ) × (result ≡ suc distance) × HasNeighborWithin graph.entry.script.now graph.entry.filter distances.now node distance }
 {
     let mut least = NONE;
-    for edge in edges_of(script, node) {
-        if filter.follows(edge.kind) {
+    for edge in edges_of(graph.script, node) {
+        if graph.filter.follows(edge.kind) {
             least = least.min(distances[edge.to.index()].saturating_add(1));
         }
     }
@@ -125,23 +111,17 @@ fn relaxed(script: &Script, filter: EdgeFilter, node: Node, distances: &[u16]) -
 }
 
 /// The first followed edge from the node to one from which the distance is so long.
-pub(crate) fn nearer_edge(
-    script: &Script,
-    filter: EdgeFilter,
-    node: Node,
-    distance: u16,
-    distances: &[u16],
-) -> Edge
-    requires script { IsScript script.now }
-    requires inside { node.at ≤ length script.now.commands }
-    requires long { length distances.now ≡ node_count (length script.now.commands) }
-    requires some { (e : Edge) × FollowedEdge script.now filter e × (e.from ≡ node) × HasDistance distances.now e.to distance }
-    ensures followed { FollowedEdge script.now filter result }
+pub(crate) fn nearer_edge(graph: Graph, node: Node, distance: u16, distances: &[u16]) -> Edge
+    requires script { IsScript graph.script.now }
+    requires inside { node.at ≤ length graph.script.now.commands }
+    requires long { length distances.now ≡ node_count (length graph.script.now.commands) }
+    requires some { (e : Edge) × FollowedEdge graph.script.now graph.filter e × (e.from ≡ node) × HasDistance distances.now e.to distance }
+    ensures followed { FollowedEdge graph.entry.script.now graph.entry.filter result }
     ensures leaves { result.from ≡ node }
     ensures distance { HasDistance distances.now result.to distance }
 {
-    for edge in edges_of(script, node) {
-        if filter.follows(edge.kind) && distances[edge.to.index()] == distance {
+    for edge in edges_of(graph.script, node) {
+        if graph.filter.follows(edge.kind) && distances[edge.to.index()] == distance {
             return edge;
         }
     }

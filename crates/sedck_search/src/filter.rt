@@ -4,6 +4,7 @@ ghost use Rattle.std.specs.Prelude.{◌↔◌, IsTrue};
 ghost use Rattle.sedck_search.specs.Private.Reaching.{IsFollowed};
 
 use sedck_flow::Kind;
+use sedck_script::Script;
 
 /// Which edges are followed from node to node.
 #[derive(Clone, Copy, Debug, PartialEq, Eq)]
@@ -27,4 +28,11 @@ impl EdgeFilter {
             EdgeFilter::Kept => kind == Kind::Keep,
         }
     }
+}
+
+/// The flow graph of a script, of which some edges are followed.
+#[derive(Clone, Copy)]
+pub(crate) struct Graph<'a> {
+    pub(crate) script: &'a Script<'a>,
+    pub(crate) filter: EdgeFilter,
 }

@@ -10,7 +10,7 @@ ghost use Rattle.sedck_search.specs.Private.ShortestLoop.{IsClosing, IsNearest, 
 
 use crate::answer::{Form, Walk};
 use crate::distances::{distances_to, nearer_edge};
-use crate::filter::EdgeFilter;
+use crate::filter::{EdgeFilter, Graph};
 use sedck_flow::{Edge, Kind, Node, edges_of};
 use sedck_script::Script;
 use std::alloc::{AllocError, Global};
@@ -61,7 +61,8 @@ pub(crate) fn loop_from(
     ensures { IfOk result (IsShortestLoop script.now form closing.from) }
 {
     let filter = back_filter(form);
-    let distances = distances_to(alloc, script, filter, closing.from)?;
+    let graph = Graph { script, filter };
+    let distances = distances_to(alloc, graph, closing.from)?;
     let first = nearest(script, closing, &distances);
     let mut nodes = Vec::new(alloc);
     let mut kinds = Vec::new(alloc);
@@ -71,7 +72,7 @@ pub(crate) fn loop_from(
     let mut at = first.to;
     let distance = distances[at.index()];
     for step in 0..distance {
-        let edge = nearer_edge(script, filter, at, distance - 1 - step, &distances);
+        let edge = nearer_edge(graph, at, distance - 1 - step, &distances);
         nodes.push(edge.to)?;
         kinds.push(edge.kind)?;
         at = edge.to;

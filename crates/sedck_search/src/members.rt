@@ -8,30 +8,28 @@ ghost use Rattle.sedck_search.specs.Private.Reaching.{ArePartlyCounted};
 ghost use Rattle.sedck_search.specs.Private.Components.{AreSets, IsMember, IsOrderOf};
 
 use crate::counting::UNCOUNTED;
-use crate::filter::EdgeFilter;
+use crate::filter::Graph;
 use crate::node_set::NodeSet;
 use crate::order::Order;
 use crate::sets::Sets;
-use sedck_script::Script;
 
 /// Counts the nodes of the component of the root, which is counted: those above it on the stack, in the order in
 /// which they were visited, so that the one that each links to is counted before it.
 pub(crate) fn count_component(
-    script: &Script,
-    filter: EdgeFilter,
+    graph: Graph,
     root: usize,
     order: &mut Order,
     sets: &mut Sets,
     counts: &mut [u16],
 )
-    requires script { IsScript script.now }
+    requires script { IsScript graph.script.now }
     requires inside { root < length counts.old }
-    requires order { IsOrderOf script.now filter order.old }
-    requires sets { AreSets script.now filter sets.old }
-    requires counted { ArePartlyCounted script.now filter counts.old }
-    ensures order { IsOrderOf script.now filter order.new }
-    ensures sets { AreSets script.now filter sets.new }
-    ensures counted { ArePartlyCounted script.now filter counts.new }
+    requires order { IsOrderOf graph.script.now graph.filter order.old }
+    requires sets { AreSets graph.script.now graph.filter sets.old }
+    requires counted { ArePartlyCounted graph.script.now graph.filter counts.old }
+    ensures order { IsOrderOf graph.entry.script.now graph.entry.filter order.new }
+    ensures sets { AreSets graph.entry.script.now graph.entry.filter sets.new }
+    ensures counted { ArePartlyCounted graph.entry.script.now graph.entry.filter counts.new }
 {
     let bottom = usize::from(order.positions[root]);
     let count = sets.reached.len() as u16;

@@ -9,18 +9,18 @@ ghost use Rattle.sedck_search.specs.Private.OtherSide.{IsLastAlone, AsksNotForLa
 ghost use Rattle.sedck_search.specs.declared.filter.EdgeFilter.TheVariants.{Every};
 
 use crate::counting::{UNCOUNTED, UNREACHED};
-use crate::filter::EdgeFilter;
+use crate::filter::Graph;
 use sedck_script::{Address, Place, Script};
 
 /// Counts the marked nodes on the last line whose nodes before it are counted, in a script that doesn't ask for the last line:
 /// both reach as many.
-pub(crate) fn count_turned(script: &Script, filter: EdgeFilter, counts: &mut [u16])
-    requires script { IsScript script.now }
-    requires filter { filter ≢ Every }
-    requires never { AsksNotForLast script.now }
-    requires counted { ArePartlyCounted script.now filter counts.old }
+pub(crate) fn count_turned(graph: Graph, counts: &mut [u16])
+    requires script { IsScript graph.script.now }
+    requires filter { graph.filter ≢ Every }
+    requires never { AsksNotForLast graph.script.now }
+    requires counted { ArePartlyCounted graph.script.now graph.filter counts.old }
     ensures long { length counts.new ≡ length counts.old }
-    ensures counted { ArePartlyCounted script.now filter counts.new }
+    ensures counted { ArePartlyCounted graph.entry.script.now graph.entry.filter counts.new }
 {
     for step in 0..counts.len() / 2 {
         let count = counts[2 * step];

@@ -7,10 +7,10 @@ ghost use Rattle.sedck_search.specs.Private.Reaching.{ArePartlyCounted};
 ghost use Rattle.sedck_search.specs.declared.filter.EdgeFilter.{EdgeFilter};
 
 use crate::counting::{UNCOUNTED, UNREACHED};
-use crate::filter::EdgeFilter;
+use crate::filter::{EdgeFilter, Graph};
 use crate::kept_sets::KeptSets;
 use crate::node_set::NodeSet;
-use crate::reaching::add_reached;
+use crate::reaching::{Known, add_reached};
 use sedck_flow::{Node, node_count};
 use sedck_script::Script;
 use std::alloc::{AllocError, Global};
@@ -24,24 +24,14 @@ pub fn reachability(alloc: Global, script: &Script) -> Result<Vec<bool>, AllocEr
     let none = KeptSets::none(alloc);
     let mut reached = NodeSet::new();
     let mut frontier = NodeSet::new();
-    add_reached(
-        script,
-        EdgeFilter::Every,
-        &none,
-        &[],
-        Node::start(false),
-        &mut reached,
-        &mut frontier,
-    );
-    add_reached(
-        script,
-        EdgeFilter::Every,
-        &none,
-        &[],
-        Node::start(true),
-        &mut reached,
-        &mut frontier,
-    );
+    let filter = EdgeFilter::Every;
+    let known = Known {
+        graph: Graph { script, filter },
+        kept: &none,
+        counts: &[],
+    };
+    add_reached(known, Node::start(false), &mut reached, &mut frontier);
+    add_reached(known, Node::start(true), &mut reached, &mut frontier);
     let mut marks = Vec::new(alloc);
     for index in 0..count {
         marks.push(reached.has(index))?;

@@ -9,75 +9,62 @@ ghost use Rattle.sedck_search.specs.Private.KeptSets.{AreCounts, AreKept};
 ghost use Rattle.sedck_search.specs.Private.Frontier.{AddsNode, AddsReached, AddsTarget, AddsTargets, AreSearchSets};
 ghost use Rattle.sedck_flow.specs.declared.graph.Edge.{Edge};
 
-use crate::filter::EdgeFilter;
+use crate::filter::Graph;
 use crate::kept_sets::KeptSets;
 use crate::node_set::NodeSet;
 use sedck_flow::{Node, edges_of};
-use sedck_script::Script;
+
+/// A graph, and what is known of it: sets that are kept, and the counts that say for which nodes they are.
+#[derive(Clone, Copy)]
+pub(crate) struct Known<'a> {
+    pub(crate) graph: Graph<'a>,
+    pub(crate) kept: &'a KeptSets,
+    pub(crate) counts: &'a [u16],
+}
 
 /// Adds all that the node reaches to the set, out of which no edge leads. The frontier is empty before and after.
-pub(crate) fn add_reached(
-    script: &Script,
-    filter: EdgeFilter,
-    kept: &KeptSets,
-    counts: &[u16],
-    node: Node,
-    reached: &mut NodeSet,
-    frontier: &mut NodeSet,
-)
-    requires script { IsScript script.now }
-    requires kept { AreKept script.now filter kept.now.sets.items }
-    requires counts { AreCounts script.now filter counts.now }
-    requires inside { node.at ≤ length script.now.commands }
+pub(crate) fn add_reached(known: Known, node: Node, reached: &mut NodeSet, frontier: &mut NodeSet)
+    requires script { IsScript known.graph.script.now }
+    requires kept { AreKept known.graph.script.now known.graph.filter known.kept.now.sets.items }
+    requires counts { AreCounts known.graph.script.now known.graph.filter known.counts.now }
+    requires inside { node.at ≤ length known.graph.script.now.commands }
     requires reached { IsNodeSet reached.old }
     requires frontier { IsNodeSet frontier.old }
     requires idle { IsEmpty frontier.old }
-    requires closed { IsClosed script.now filter reached.old }
-    ensures closed { IsClosed script.now filter reached.new }
-    ensures grown { AddsReached script.now filter node reached.old reached.new }
+    requires closed { IsClosed known.graph.script.now known.graph.filter reached.old }
+    ensures closed { IsClosed known.entry.graph.script.now known.entry.graph.filter reached.new }
+    ensures grown { AddsReached known.entry.graph.script.now known.entry.graph.filter node reached.old reached.new }
     ensures sets { IsNodeSet reached.new × IsNodeSet frontier.new }
     ensures idle { IsEmpty frontier.new }
 {
     let mut first = add_node(node, reached, frontier, node.index());
     while let Some(index) = frontier.next_from(first) {
         frontier.remove(index);
-        first = visit(
-            script,
-            filter,
-            kept,
-            counts,
-            Node::nth(index),
-            reached,
-            frontier,
-            index,
-        );
+        first = visit(known, Node::nth(index), reached, frontier, index);
     }
 }
 
 /// Adds all nodes to which followed edges lead from the node. It answers from where on the frontier has nodes.
 fn visit(
-    script: &Script,
-    filter: EdgeFilter,
-    kept: &KeptSets,
-    counts: &[u16],
+    known: Known,
     node: Node,
     reached: &mut NodeSet,
     frontier: &mut NodeSet,
     first: usize,
 ) -> usize
-    requires script { IsScript script.now }
-    requires kept { AreKept script.now filter kept.now.sets.items }
-    requires counts { AreCounts script.now filter counts.now }
-    requires inside { node.at ≤ length script.now.commands }
+    requires script { IsScript known.graph.script.now }
+    requires kept { AreKept known.graph.script.now known.graph.filter known.kept.now.sets.items }
+    requires counts { AreCounts known.graph.script.now known.graph.filter known.counts.now }
+    requires inside { node.at ≤ length known.graph.script.now.commands }
     requires sets { AreSearchSets reached.old frontier.old }
     ensures sets { AreSearchSets reached.new frontier.new }
-    ensures targets { AddsTargets script.now filter node reached.old frontier.old reached.new frontier.new first result }
-    ensures added { (e : Edge) → FollowedEdge script.now filter e → e.from ≡ node → IsIn reached.new e.to }
+    ensures targets { AddsTargets known.entry.graph.script.now known.entry.graph.filter node reached.old frontier.old reached.new frontier.new first result }
+    ensures added { (e : Edge) → FollowedEdge known.entry.graph.script.now known.entry.graph.filter e → e.from ≡ node → IsIn reached.new e.to }
 {
     let mut first = first;
-    for edge in edges_of(script, node) {
-        if filter.follows(edge.kind) {
-            first = add_target(kept, counts, edge.to, reached, frontier, first);
+    for edge in edges_of(known.graph.script, node) {
+        if known.graph.filter.follows(edge.kind) {
+            first = add_target(known, edge.to, reached, frontier, first);
         }
     }
     first
@@ -85,8 +72,7 @@ fn visit(
 
 /// Adds the node, or what it reaches, where a set is kept for it. It answers from where on the frontier has nodes.
 fn add_target(
-    kept: &KeptSets,
-    counts: &[u16],
+    known: Known,
     node: Node,
     reached: &mut NodeSet,
     frontier: &mut NodeSet,
@@ -95,11 +81,11 @@ fn add_target(
     requires inside { node_index node < 16384 }
     requires sets { AreSearchSets reached.old frontier.old }
     ensures sets { AreSearchSets reached.new frontier.new }
-    ensures target { AddsTarget kept.now.sets.items counts.now node reached.old frontier.old reached.new frontier.new first result }
+    ensures target { AddsTarget known.entry.kept.now.sets.items known.entry.counts.now node reached.old frontier.old reached.new frontier.new first result }
     ensures added { IsIn reached.new node }
 {
     if !reached.has(node.index())
-        && let Some(set) = kept.of(node.index(), counts)
+        && let Some(set) = known.kept.of(node.index(), known.counts)
     {
         reached.add_all(set);
         return first;

@@ -8,12 +8,11 @@ ghost use Rattle.sedck_search.specs.Private.KeptSets.{AreCounts, AreKept};
 ghost use Rattle.sedck_search.specs.Private.Reaching.{IsClosed, IsIn, IsReachOf, Reaches};
 ghost use Rattle.sedck_search.specs.Private.Components.{AreSets};
 
-use crate::filter::EdgeFilter;
+use crate::filter::Graph;
 use crate::kept_sets::KeptSets;
 use crate::node_set::NodeSet;
-use crate::reaching::add_reached;
+use crate::reaching::{Known, add_reached};
 use sedck_flow::{Node, edges_of};
-use sedck_script::Script;
 use std::alloc::{AllocError, Global};
 
 /// The sets that are kept, what the node counted last reaches, and the frontier of a walk, empty outside of walks.
@@ -43,53 +42,37 @@ impl Sets {
 }
 
 /// Finds all that the node reaches: a kept set of one of its targets, and what a walk adds to it.
-pub(crate) fn find_reached(
-    script: &Script,
-    filter: EdgeFilter,
-    counts: &[u16],
-    node: Node,
-    sets: &mut Sets,
-)
-    requires script { IsScript script.now }
-    requires inside { node.at ≤ length script.now.commands }
-    requires counts { AreCounts script.now filter counts.now }
-    requires sets { AreSets script.now filter sets.old }
-    ensures sets { AreSets script.now filter sets.new }
-    ensures reached { IsReachOf script.now filter node sets.new.reached }
+pub(crate) fn find_reached(graph: Graph, counts: &[u16], node: Node, sets: &mut Sets)
+    requires script { IsScript graph.script.now }
+    requires inside { node.at ≤ length graph.script.now.commands }
+    requires counts { AreCounts graph.script.now graph.filter counts.now }
+    requires sets { AreSets graph.script.now graph.filter sets.old }
+    ensures sets { AreSets graph.entry.script.now graph.entry.filter sets.new }
+    ensures reached { IsReachOf graph.entry.script.now graph.entry.filter node sets.new.reached }
 {
-    start_from_target(script, filter, &sets.kept, counts, node, &mut sets.reached);
-    add_reached(
-        script,
-        filter,
-        &sets.kept,
+    let known = Known {
+        graph,
+        kept: &sets.kept,
         counts,
-        node,
-        &mut sets.reached,
-        &mut sets.frontier,
-    );
+    };
+    start_from_target(known, node, &mut sets.reached);
+    add_reached(known, node, &mut sets.reached, &mut sets.frontier);
 }
 
 /// Takes over the largest set that is kept for a target of the node, or no node.
-fn start_from_target(
-    script: &Script,
-    filter: EdgeFilter,
-    kept: &KeptSets,
-    counts: &[u16],
-    node: Node,
-    reached: &mut NodeSet,
-)
-    requires script { IsScript script.now }
-    requires inside { node.at ≤ length script.now.commands }
-    requires counts { AreCounts script.now filter counts.now }
-    requires kept { AreKept script.now filter kept.now.sets.items }
+fn start_from_target(known: Known, node: Node, reached: &mut NodeSet)
+    requires script { IsScript known.graph.script.now }
+    requires inside { node.at ≤ length known.graph.script.now.commands }
+    requires counts { AreCounts known.graph.script.now known.graph.filter known.counts.now }
+    requires kept { AreKept known.graph.script.now known.graph.filter known.kept.now.sets.items }
     ensures is_set { IsNodeSet reached.new }
-    ensures closed { IsClosed script.now filter reached.new }
-    ensures reached { (m : Node) → IsIn reached.new m → Reaches script.now filter node m }
+    ensures closed { IsClosed known.entry.graph.script.now known.entry.graph.filter reached.new }
+    ensures reached { (m : Node) → IsIn reached.new m → Reaches known.entry.graph.script.now known.entry.graph.filter node m }
 {
     let mut size = 0;
-    for edge in edges_of(script, node) {
-        if filter.follows(edge.kind)
-            && let Some(set) = kept.of(edge.to.index(), counts)
+    for edge in edges_of(known.graph.script, node) {
+        if known.graph.filter.follows(edge.kind)
+            && let Some(set) = known.kept.of(edge.to.index(), known.counts)
         {
             let nodes = set.len();
             if nodes > size {

@@ -8,23 +8,14 @@ use Rattle.sedck_search.proofs.components.lowest_link.Goals as goal
 
 pub bounds-counts-to : goal.bounds-counts-to
 bounds-counts-to c =
-    let p = c.args.script.now in
-    let scan = scan_next p c.args.node c.loop-edge.yielded c.loop-edge.edge-iterator c.next.new.self c.in-Some.edge c.in-Some.ensures.steps
-    c.loop-edge.invariant.edges in
-    omega (
-      arith,
-      c.index-to.ensures,
-      place_in p c.args.counts.now c.requires.counts c.in-Some.edge.to
-          (target_coming p c.args.node c.requires.script c.loop-edge.yielded c.next.new.self c.in-Some.edge scan),
-    )
+    let scan = scan_next c.in-Some.ensures.steps c.loop-edge.invariant.edges in
+    omega (arith, c.index-to.ensures, place_in c.args.graph.script.now c.args.counts.now c.requires.counts c.in-Some.edge.to (target_coming c.requires.script scan))
 
 pub bounds-positions-link : goal.bounds-positions-link
 bounds-positions-link c =
-    let p = c.args.script.now in
     let e : Edge = c.in-Some.edge in
-    let scan = scan_next p c.args.node c.loop-edge.yielded c.loop-edge.edge-iterator c.next.new.self e c.in-Some.ensures.steps c.loop-edge.invariant.edges in
-    let place = place_in p c.args.counts.now c.requires.counts e.to
-    (target_coming p c.args.node c.requires.script c.loop-edge.yielded c.next.new.self e scan) in
+    let scan = scan_next c.in-Some.ensures.steps c.loop-edge.invariant.edges in
+    let place = place_in c.args.graph.script.now c.args.counts.now c.requires.counts e.to (target_coming c.requires.script scan) in
     let link = entry_is c.args.links.now e.to c.index-to.result c.from-link.result c.index-to.ensures
     (omega (arith, c.index-to.ensures, place, c.requires.long)) (sym c.from-link.ensures) in
     omega (arith, c.requires.below (node_index e.to) c.from-link.result link, c.requires.positions)
@@ -32,17 +23,16 @@ bounds-positions-link c =
 -- the target reaches the node that it links to
 pub loop-edge-preserved-then-positions-link : goal.loop-edge-preserved-then-positions-link
 loop-edge-preserved-then-positions-link c =
-    let p = c.args.script.now in
+    let p = c.args.graph.script.now in
     let e : Edge = c.in-Some.edge in
-    let scan = scan_next p c.args.node c.loop-edge.yielded c.loop-edge.edge-iterator c.next.new.self e c.in-Some.ensures.steps c.loop-edge.invariant.edges in
-    let place = place_in p c.args.counts.now c.requires.counts e.to
-    (target_coming p c.args.node c.requires.script c.loop-edge.yielded c.next.new.self e scan) in
+    let scan = scan_next c.in-Some.ensures.steps c.loop-edge.invariant.edges in
+    let place = place_in p c.args.counts.now c.requires.counts e.to (target_coming c.requires.script scan) in
     let link = entry_is c.args.links.now e.to c.index-to.result c.from-link.result c.index-to.ensures
     (omega (arith, c.index-to.ensures, place, c.requires.long)) (sym c.from-link.ensures) in
     record {
-      edges = scan_more p c.args.node c.loop-edge.yielded c.next.new.self e scan (λ f h. h) tt;
+      edges = scan_more scan (λ f h. h) tt;
       inside = c.requires.below (node_index e.to) c.from-link.result link;
-      reached = λ m is. reaches-trans p c.args.filter c.args.node e.to m
-          (reaches_from p c.args.filter c.args.node e (edge_coming p c.args.node c.loop-edge.yielded c.next.new.self e scan)
+      reached = λ m is. reaches-trans p c.args.graph.filter c.args.node e.to m
+          (reaches_from p c.args.graph.filter c.args.node e (edge_coming scan)
           (c.follows.ensures.0 c.if-follows.true)) (c.requires.links e.to m (link ∙ ap Some (sym is)));
     }

@@ -11,7 +11,7 @@ use Rattle.sedck_search.proofs.Counts.{counted_set, reach_count, partly_counts}
 use Rattle.sedck_search.proofs.counting.count_node.Goals as goal
 
 pub find_reached-requires-clause-counts : goal.find_reached-requires-clause-counts
-find_reached-requires-clause-counts c = partly_counts c.args.script.now c.args.filter c.args.counts.now c.requires.counted
+find_reached-requires-clause-counts c = partly_counts c.args.graph.script.now c.args.graph.filter c.args.counts.now c.requires.counted
 
 pub overflow_cast-counts : goal.overflow_cast-counts
 overflow_cast-counts c =
@@ -20,13 +20,13 @@ overflow_cast-counts c =
 
 pub returns-then-counts-index-clause-counted : goal.returns-then-counts-index-clause-counted
 returns-then-counts-index-clause-counted c =
-    let p = c.args.script.now in
+    let p = c.args.graph.script.now in
     let s = c.find_reached.new.sets.reached in
     let reach = c.find_reached.ensures.reached in
-    let positive = counts_node s reach.is_set (node_index c.nth.result) ((reach.same c.nth.result).1 (reaches_self p c.args.filter c.nth.result)) in
-    subst₂ (λ i v. ArePartlyCounted p c.args.filter (set c.args.counts.now i v)) c.nth.ensures (sym c.len.ensures.value)
-    (counted_set p c.args.filter c.args.counts.now c.requires.counted c.nth.result
-    (omega (arith, c.nth.ensures, c.requires.inside)) (bit_count s) (reach_count p c.args.filter c.nth.result s reach) positive
+    let positive = counts_node s reach.is_set (node_index c.nth.result) ((reach.same c.nth.result).1 (reaches_self p c.args.graph.filter c.nth.result)) in
+    subst₂ (λ i v. ArePartlyCounted p c.args.graph.filter (set c.args.counts.now i v)) c.nth.ensures (sym c.len.ensures.value)
+    (counted_set p c.args.graph.filter c.args.counts.now c.requires.counted c.nth.result
+    (omega (arith, c.nth.ensures, c.requires.inside)) (bit_count s) (reach_count p c.args.graph.filter c.nth.result s reach) positive
     (count_within s reach.is_set) (entry_is c.args.counts.now c.nth.result c.args.index 65535 (sym c.nth.ensures)
     (omega (arith, c.requires.counted.long, c.requires.inside)) c.if-counts-index.true))
 

@@ -7,7 +7,7 @@ use Rattle.sedck_search.proofs.counting.count_rest.Given as goal
 -- the nodes so far are counted
 abbrev pub invariant-loop-index : goal.invariant-loop-index
 invariant-loop-index l = record {
-  counted : ArePartlyCounted l.script l.filter l.counts;
-  sets : AreSets l.script l.filter l.sets;
+  counted : ArePartlyCounted l.fn.graph.script.now l.fn.graph.filter l.counts;
+  sets : AreSets l.fn.graph.script.now l.fn.graph.filter l.sets;
   done : (i : ℕ) → i < l.index → slice_get l.counts i ≢ Some 65535;
 }

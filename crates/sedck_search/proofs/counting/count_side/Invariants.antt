@@ -4,7 +4,7 @@ use Rattle.sedck_search.proofs.counting.count_side.Given as goal
 
 abbrev pub invariant-loop-step : goal.invariant-loop-step
 invariant-loop-step l = record {
-  order : IsOrderOf l.script l.filter l.order;
-  sets : AreSets l.script l.filter l.sets;
-  counted : ArePartlyCounted l.script l.filter l.counts;
+  order : IsOrderOf l.fn.graph.script.now l.fn.graph.filter l.order;
+  sets : AreSets l.fn.graph.script.now l.fn.graph.filter l.sets;
+  counted : ArePartlyCounted l.fn.graph.script.now l.fn.graph.filter l.counts;
 }

@@ -30,11 +30,11 @@ loop-index-preserved c =
 
 pub settle-requires-clause-some : goal.settle-requires-clause-some
 settle-requires-clause-some c =
-    let count : length c.commands.result.now ≡ length c.args.script.now.commands = sym (length-map c.commands.result.now command_of)
+    let count : length c.commands.result.now ≡ length c.args.graph.script.now.commands = sym (length-map c.commands.result.now command_of)
     ∙ ap length c.commands.ensures.commands in
     let inv = c.loop-index.invariant in
-    let end : c.loop-index.index ≡ node_count (length c.args.script.now.commands) =
+    let end : c.loop-index.index ≡ node_count (length c.args.graph.script.now.commands) =
     omega (arith, count, c.loop-index-test.false, c.loop-index.auto.index-end) in
-    subst (ArePathLengths c.args.script.now c.args.filter c.args.to) (sym c.deref_mut.ensures.value)
-    (some_distances c.args.script.now c.args.filter c.args.to c.loop-index.distances.items (inv.long ∙ end) c.requires.inside
+    subst (ArePathLengths c.args.graph.script.now c.args.graph.filter c.args.to) (sym c.deref_mut.ensures.value)
+    (some_distances c.args.graph.script.now c.args.graph.filter c.args.to c.loop-index.distances.items (inv.long ∙ end) c.requires.inside
     (λ i below. inv.entries i (omega (arith, below, inv.long))))

@@ -6,51 +6,31 @@ use Rattle.sedck_search.proofs.distances.nearer_edge.Goals as goal
 
 pub bounds-distances-index : goal.bounds-distances-index
 bounds-distances-index c =
-    let p = c.args.script.now in
-    let scan = scan_next p c.args.node c.loop-edge.yielded c.loop-edge.edge-iterator c.next.new.self c.in-Some.edge c.in-Some.ensures.steps
-    c.loop-edge.invariant in
-    omega (
-      arith,
-      c.index.ensures,
-      place_in p c.args.distances.now c.requires.long c.in-Some.edge.to
-          (target_coming p c.args.node c.requires.script c.loop-edge.yielded c.next.new.self c.in-Some.edge scan),
-    )
+    let scan = scan_next c.in-Some.ensures.steps c.loop-edge.invariant in
+    omega (arith, c.index.ensures, place_in c.args.graph.script.now c.args.distances.now c.requires.long c.in-Some.edge.to (target_coming c.requires.script scan))
 
 pub returns-then-distances-index-clause-followed : goal.returns-then-distances-index-clause-followed
 returns-then-distances-index-clause-followed c =
-    let p = c.args.script.now in
-    let scan = scan_next p c.args.node c.loop-edge.yielded c.loop-edge.edge-iterator c.next.new.self c.in-Some.edge c.in-Some.ensures.steps
-    c.loop-edge.invariant in
-    ((edge_coming p c.args.node c.loop-edge.yielded c.next.new.self c.in-Some.edge scan).0, c.follows.ensures.0 c.if-follows.true)
+    let scan = scan_next c.in-Some.ensures.steps c.loop-edge.invariant in
+    ((edge_coming scan).0, c.follows.ensures.0 c.if-follows.true)
 
 pub returns-then-distances-index-clause-leaves : goal.returns-then-distances-index-clause-leaves
 returns-then-distances-index-clause-leaves c =
-    let p = c.args.script.now in
-    let scan = scan_next p c.args.node c.loop-edge.yielded c.loop-edge.edge-iterator c.next.new.self c.in-Some.edge c.in-Some.ensures.steps
-    c.loop-edge.invariant in
-    (edge_coming p c.args.node c.loop-edge.yielded c.next.new.self c.in-Some.edge scan).1
+    let scan = scan_next c.in-Some.ensures.steps c.loop-edge.invariant in
+    (edge_coming scan).1
 
 pub returns-then-distances-index-clause-distance : goal.returns-then-distances-index-clause-distance
 returns-then-distances-index-clause-distance c =
-    let p = c.args.script.now in
-    let scan = scan_next p c.args.node c.loop-edge.yielded c.loop-edge.edge-iterator c.next.new.self c.in-Some.edge c.in-Some.ensures.steps
-    c.loop-edge.invariant in
+    let scan = scan_next c.in-Some.ensures.steps c.loop-edge.invariant in
     let below : c.index.result < length c.args.distances.now =
-    omega (
-      arith,
-      c.index.ensures,
-      place_in p c.args.distances.now c.requires.long c.in-Some.edge.to
-          (target_coming p c.args.node c.requires.script c.loop-edge.yielded c.next.new.self c.in-Some.edge scan),
-    ) in
+    omega (arith, c.index.ensures, place_in c.args.graph.script.now c.args.distances.now c.requires.long c.in-Some.edge.to (target_coming c.requires.script scan)) in
     entry_is c.args.distances.now c.in-Some.edge.to c.index.result c.args.distance c.index.ensures below c.if-distances-index.true
 
 -- this edge isn't such a one
 pub loop-edge-preserved : goal.loop-edge-preserved
 loop-edge-preserved c =
-    let p = c.args.script.now in
-    let scan = scan_next p c.args.node c.loop-edge.yielded c.loop-edge.edge-iterator c.next.new.self c.in-Some.edge c.in-Some.ensures.steps
-    c.loop-edge.invariant in
-    scan_more p c.args.node c.loop-edge.yielded c.next.new.self c.in-Some.edge scan (λ f h. h) (λ followed has. elim c.else-follows.branch [
+    let scan = scan_next c.in-Some.ensures.steps c.loop-edge.invariant in
+    scan_more scan (λ f h. h) (λ followed has. elim c.else-follows.branch [
       | else-follows-via-then-follows+else-distances-index w ↦ w.if-distances-index.false
           (entry_of c.args.distances.now c.in-Some.edge.to w.index.result c.args.distance w.index.ensures has)
       | else-follows-via-else-follows w ↦ absurd (true≢false (sym (c.follows.ensures.1 followed) ∙ w.if-follows.false))
@@ -60,5 +40,5 @@ loop-edge-preserved c =
 pub unreachable-requires : goal.unreachable-requires
 unreachable-requires c =
     let some = c.requires.some in
-    scan_end c.args.script.now c.args.node c.loop-edge.yielded c.loop-edge.edge-iterator c.in-None.ensures.steps.0 c.loop-edge.invariant some.0
+    scan_end c.in-None.ensures.steps.0 c.loop-edge.invariant some.0
     (some.1.0, some.2) some.1.1 some.3

@@ -35,7 +35,7 @@ loop-step-preserved c =
             shorter = λ is. omega (arith, ap total unchanged, inv.shorter (sym w.shorter-is ∙ is));
             same = λ is. unchanged ∙ inv.same (sym w.shorter-is ∙ is);
             settled = λ is n reached above. elim (cases_lt (node_index n + c.loop-step.step) (length c.args.distances.now)) [
-              | inl less ↦ subst (λ distances. IsSettled c.args.script.now c.args.filter distances n) (inv.same (sym w.shorter-is ∙ is))
+              | inl less ↦ subst (λ distances. IsSettled c.args.graph.script.now c.args.graph.filter distances n) (inv.same (sym w.shorter-is ∙ is))
                   (c.relax_at.ensures.settled w.if-relax_at.false n reached (omega (arith, less, above, inv.some.long, c.requires.some.long)))
               | inr more ↦ inv.settled (sym w.shorter-is ∙ is) n reached more
             ];

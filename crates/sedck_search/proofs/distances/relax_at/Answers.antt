@@ -21,6 +21,6 @@ returns-clause-some c =
     let was = entry_is distances c.nth.result c.args.index old (sym c.nth.ensures) below refl in
     let small : c.relaxed-distance.result < 65535 = omega (arith, c.if-distance-distances.false, c.requires.some.small c.nth.result old was) in
     let goes = c.relaxed-distance.ensures.some small in
-    subst (λ v. ArePathLengths c.args.script.now c.args.filter c.args._to (set distances c.args.index v)) (sym goes.1)
-    (subst (λ i. ArePathLengths c.args.script.now c.args.filter c.args._to (set distances i (suc goes.0))) c.nth.ensures
-    (distances_set c.args.script.now c.args.filter c.args._to distances c.requires.some c.nth.result goes.0 old was (omega (arith, c.if-distance-distances.false, goes.1)) goes.2))
+    subst (λ v. ArePathLengths c.args.graph.script.now c.args.graph.filter c.args._to (set distances c.args.index v)) (sym goes.1)
+    (subst (λ i. ArePathLengths c.args.graph.script.now c.args.graph.filter c.args._to (set distances i (suc goes.0))) c.nth.ensures
+    (distances_set c.args.graph.script.now c.args.graph.filter c.args._to distances c.requires.some c.nth.result goes.0 old was (omega (arith, c.if-distance-distances.false, goes.1)) goes.2))

@@ -6,35 +6,22 @@ use Rattle.sedck_search.proofs.distances.relaxed.Goals as goal
 
 pub bounds-distances-index : goal.bounds-distances-index
 bounds-distances-index c =
-    let p = c.args.script.now in
-    let scan = scan_next p c.args.node c.loop-edge.yielded c.loop-edge.edge-iterator c.next.new.self c.in-Some.edge c.in-Some.ensures.steps
-    c.loop-edge.invariant.edges in
-    omega (
-      arith,
-      c.index.ensures,
-      place_in p c.args.distances.now c.requires.long c.in-Some.edge.to
-          (target_coming p c.args.node c.requires.script c.loop-edge.yielded c.next.new.self c.in-Some.edge scan),
-    )
+    let scan = scan_next c.in-Some.ensures.steps c.loop-edge.invariant.edges in
+    omega (arith, c.index.ensures, place_in c.args.graph.script.now c.args.distances.now c.requires.long c.in-Some.edge.to (target_coming c.requires.script scan))
 
 pub loop-edge-preserved-then-follows : goal.loop-edge-preserved-then-follows
 loop-edge-preserved-then-follows c =
-    let p = c.args.script.now in
     let e = c.in-Some.edge in
     let distances = c.args.distances.now in
-    let scan = scan_next p c.args.node c.loop-edge.yielded c.loop-edge.edge-iterator c.next.new.self e c.in-Some.ensures.steps c.loop-edge.invariant.edges in
-    let flow = edge_coming p c.args.node c.loop-edge.yielded c.next.new.self e scan in
-    let below : c.index.result < length distances = omega (
-      arith,
-      c.index.ensures,
-      place_in p distances c.requires.long e.to
-          (target_coming p c.args.node c.requires.script c.loop-edge.yielded c.next.new.self e scan),
-    ) in
+    let scan = scan_next c.in-Some.ensures.steps c.loop-edge.invariant.edges in
+    let flow = edge_coming scan in
+    let below : c.index.result < length distances = omega (arith, c.index.ensures, place_in c.args.graph.script.now distances c.requires.long e.to (target_coming c.requires.script scan)) in
     let distance : ℕ = get_or distances c.index.result 0 in
     let has : HasDistance distances e.to distance = entry_is distances e.to c.index.result distance c.index.ensures below refl in
     let less : c.min-least.result ≤ c.loop-edge.least = omega (arith, c.min-least.ensures) in
     let at : c.min-least.result ≤ suc distance = omega (arith, c.min-least.ensures, c.saturating_add.ensures) in
     record {
-      edges = scan_more p c.args.node c.loop-edge.yielded c.next.new.self e scan
+      edges = scan_more scan
           (λ f held followed after h. omega (arith, held followed after h, less))
           (λ followed after h. omega (arith, at, entry_of distances e.to c.index.result after c.index.ensures h));
       some = λ small. elim (cases_lt (suc distance) c.loop-edge.least) [
@@ -52,11 +39,9 @@ loop-edge-preserved-then-follows c =
 
 pub loop-edge-preserved : goal.loop-edge-preserved
 loop-edge-preserved c =
-    let p = c.args.script.now in
-    let scan = scan_next p c.args.node c.loop-edge.yielded c.loop-edge.edge-iterator c.next.new.self c.in-Some.edge c.in-Some.ensures.steps
-    c.loop-edge.invariant.edges in
+    let scan = scan_next c.in-Some.ensures.steps c.loop-edge.invariant.edges in
     record {
-      edges = scan_more p c.args.node c.loop-edge.yielded c.next.new.self c.in-Some.edge scan (λ f held. held)
+      edges = scan_more scan (λ f held. held)
           (λ followed after h. absurd (true≢false (sym (c.follows.ensures.1 followed) ∙ c.if-follows.false)));
       some = c.loop-edge.invariant.some;
     }

@@ -7,15 +7,8 @@ use Rattle.sedck_search.proofs.loops.first_closing_from.Goals as goal
 
 pub bounds-counts-index-then-is_of : goal.bounds-counts-index-then-is_of
 bounds-counts-index-then-is_of c =
-    let p = c.args.script.now in
-    let scan = scan_next p c.args.node c.loop-edge.yielded c.loop-edge.edge-iterator c.next.new.self c.in-Some.edge c.in-Some.ensures.steps
-    c.loop-edge.invariant in
-    omega (
-      arith,
-      c.index-then-is_of.ensures,
-      place_in p c.args.counts.now c.requires.long c.in-Some.edge.to
-          (target_coming p c.args.node c.requires.script c.loop-edge.yielded c.next.new.self c.in-Some.edge scan),
-    )
+    let scan = scan_next c.in-Some.ensures.steps c.loop-edge.invariant in
+    omega (arith, c.index-then-is_of.ensures, place_in c.args.script.now c.args.counts.now c.requires.long c.in-Some.edge.to (target_coming c.requires.script scan))
 
 -- a node without a count closes nothing
 pub returns-then-count-eq0 : goal.returns-then-count-eq0
@@ -31,17 +24,12 @@ returns-then-counts-index c =
     let p = c.args.script.now in
     let counts = c.args.counts.now in
     let e = c.in-Some.edge in
-    let scan = scan_next p c.args.node c.loop-edge.yielded c.loop-edge.edge-iterator c.next.new.self e c.in-Some.ensures.steps c.loop-edge.invariant in
-    let flow = edge_coming p c.args.node c.loop-edge.yielded c.next.new.self e scan in
+    let scan = scan_next c.in-Some.ensures.steps c.loop-edge.invariant in
+    let flow = edge_coming scan in
     let count : ℕ = get_or counts c.index.result 0 in
     let from_below : c.index.result < length counts = omega (arith, c.index.ensures, place_in p counts c.requires.long c.args.node c.requires.inside) in
     let to_below : c.index-then-is_of.result < length counts =
-    omega (
-      arith,
-      c.index-then-is_of.ensures,
-      place_in p counts c.requires.long e.to
-          (target_coming p c.args.node c.requires.script c.loop-edge.yielded c.next.new.self e scan),
-    ) in (
+    omega (arith, c.index-then-is_of.ensures, place_in p counts c.requires.long e.to (target_coming c.requires.script scan)) in (
       record {
         is_edge = flow.0;
         is_kind = c.is_of.ensures.0 c.if-is_of.true;
@@ -56,12 +44,11 @@ returns-then-counts-index c =
 -- this edge doesn't close a walk
 pub loop-edge-preserved : goal.loop-edge-preserved
 loop-edge-preserved c =
-    let p = c.args.script.now in
     let counts = c.args.counts.now in
     let e = c.in-Some.edge in
-    let scan = scan_next p c.args.node c.loop-edge.yielded c.loop-edge.edge-iterator c.next.new.self e c.in-Some.ensures.steps c.loop-edge.invariant in
-    let flow = edge_coming p c.args.node c.loop-edge.yielded c.next.new.self e scan in
-    scan_more p c.args.node c.loop-edge.yielded c.next.new.self e scan (λ f h. h) (λ closes. elim c.else-is_of.branch [
+    let scan = scan_next c.in-Some.ensures.steps c.loop-edge.invariant in
+    let flow = edge_coming scan in
+    scan_more scan (λ f h. h) (λ closes. elim c.else-is_of.branch [
       | else-is_of-via-then-is_of+else-counts-index w ↦ w.if-counts-index.false
           (entry_of counts e.to w.index-then-is_of.result closes.count w.index-then-is_of.ensures closes.after
           ∙ sym (entry_of counts e.from c.index.result closes.count (c.index.ensures ∙ ap node_index (sym flow.1)) closes.before))
@@ -69,5 +56,5 @@ loop-edge-preserved c =
     ])
 
 pub returns : goal.returns
-returns c = λ e closes leaves. scan_end c.args.script.now c.args.node c.loop-edge.yielded c.loop-edge.edge-iterator c.in-None.ensures.steps.0
+returns c = λ e closes leaves. scan_end c.in-None.ensures.steps.0
     c.loop-edge.invariant e (closes.is_edge, leaves) closes

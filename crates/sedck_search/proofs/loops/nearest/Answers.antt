@@ -25,7 +25,7 @@ loop-edge-init c =
       leaves = refl;
       distance = distance.0;
       has_distance = distance.1;
-      edges = scan_none c.args.script.now c.args.closing.from c.into_iter-edge-iterator.result
+      edges = scan_none c.into_iter-edge-iterator.result
           (subst (λ edges. ListsEdges edges (FlowFrom c.args.script.now c.args.closing.from))
           (sym c.into_iter-edge-iterator.ensures.into_iter_gives) c.edges_of-edge-items.ensures.edges);
     }
@@ -34,14 +34,8 @@ pub bounds-distances-index : goal.bounds-distances-index
 bounds-distances-index c =
     let p = c.args.script.now in
     let from = c.args.closing.from in
-    let scan = scan_next p from c.loop-edge.yielded c.loop-edge.edge-iterator c.next.new.self c.in-Some.edge c.in-Some.ensures.steps
-    c.loop-edge.invariant.edges in
-    omega (
-      arith,
-      c.index.ensures,
-      place_in p c.args.distances.now c.requires.long c.in-Some.edge.to
-          (target_coming p from c.requires.script c.loop-edge.yielded c.next.new.self c.in-Some.edge scan),
-    )
+    let scan = scan_next c.in-Some.ensures.steps c.loop-edge.invariant.edges in
+    omega (arith, c.index.ensures, place_in p c.args.distances.now c.requires.long c.in-Some.edge.to (target_coming c.requires.script scan))
 
 -- the nearest so far leads to a node of the script
 nearest_place : (p : Program) → IsScript p → (distances : List ℕ) → length distances ≡ node_count (length p.commands) → (e : Edge) → Flow p e → (i : ℕ)
@@ -66,16 +60,15 @@ bounds-distances-index-then-is_of c =
 -- this edge is nearer
 pub loop-edge-preserved-then-distances-index : goal.loop-edge-preserved-then-distances-index
 loop-edge-preserved-then-distances-index c =
-    let p = c.args.script.now in
     let distances = c.args.distances.now in
     let from = c.args.closing.from in
     let e = c.in-Some.edge in
     let inv = c.loop-edge.invariant in
-    let scan = scan_next p from c.loop-edge.yielded c.loop-edge.edge-iterator c.next.new.self e c.in-Some.ensures.steps inv.edges in
-    let flow = edge_coming p from c.loop-edge.yielded c.next.new.self e scan in
+    let scan = scan_next c.in-Some.ensures.steps inv.edges in
+    let flow = edge_coming scan in
     let distance : ℕ = get_or distances c.index.result 0 in
     let below : c.index.result < length distances = omega
-    (arith, c.index.ensures, place_in p distances c.requires.long e.to (target_coming p from c.requires.script c.loop-edge.yielded c.next.new.self e scan)) in
+    (arith, c.index.ensures, place_in c.args.script.now distances c.requires.long e.to (target_coming c.requires.script scan)) in
     let less : distance < inv.distance = omega (
       arith,
       c.if-distances-index.true,
@@ -87,7 +80,7 @@ loop-edge-preserved-then-distances-index c =
       leaves = flow.1;
       distance = distance;
       has_distance = entry_is distances e.to c.index.result distance c.index.ensures below refl;
-      edges = scan_more p from c.loop-edge.yielded c.next.new.self e scan
+      edges = scan_more scan
           (λ f held kind other has. omega (arith, less, held kind other has))
           (λ kind other has. omega (arith, entry_of distances e.to c.index.result other c.index.ensures has));
     }
@@ -95,19 +88,18 @@ loop-edge-preserved-then-distances-index c =
 -- this one isn't
 pub loop-edge-preserved : goal.loop-edge-preserved
 loop-edge-preserved c =
-    let p = c.args.script.now in
     let distances = c.args.distances.now in
     let from = c.args.closing.from in
     let e = c.in-Some.edge in
     let inv = c.loop-edge.invariant in
-    let scan = scan_next p from c.loop-edge.yielded c.loop-edge.edge-iterator c.next.new.self e c.in-Some.ensures.steps inv.edges in
+    let scan = scan_next c.in-Some.ensures.steps inv.edges in
     record {
       is_edge = inv.is_edge;
       is_kind = inv.is_kind;
       leaves = inv.leaves;
       distance = inv.distance;
       has_distance = inv.has_distance;
-      edges = scan_more p from c.loop-edge.yielded c.next.new.self e scan (λ f held. held) (λ kind other has. elim c.else-is_of.branch [
+      edges = scan_more scan (λ f held. held) (λ kind other has. elim c.else-is_of.branch [
         | else-is_of-via-then-is_of+else-distances-index w ↦
             omega (
               arith,
@@ -128,6 +120,5 @@ returns c =
       leaves = inv.leaves;
       distance = inv.distance;
       has_distance = inv.has_distance;
-      nearest = λ f flow kind leaves other has. scan_end c.args.script.now c.args.closing.from c.loop-edge.yielded c.loop-edge.edge-iterator
-          c.in-None.ensures.steps.0 inv.edges f (flow, leaves) kind other has;
+      nearest = λ f flow kind leaves other has. scan_end c.in-None.ensures.steps.0 inv.edges f (flow, leaves) kind other has;
     }

@@ -18,10 +18,10 @@ overflow_cast-count c =
     omega (arith, small)
 
 -- one member more is counted
-counted_one : (c : goal.Joined-counts-node) → ArePartlyCounted c.args.script.now c.args.filter c.if-counts-node.counts
+counted_one : (c : goal.Joined-counts-node) → ArePartlyCounted c.args.graph.script.now c.args.graph.filter c.if-counts-node.counts
 counted_one c = elim c.if-counts-node.branch [
   | then-counts-node+then-is_member w ↦
-      let p = c.args.script.now in
+      let p = c.args.graph.script.now in
       let inv = c.loop-position.invariant in
       let count = node_count (length p.commands) in
       let long = c.requires.order.long in
@@ -34,8 +34,8 @@ counted_one c = elim c.if-counts-node.branch [
       let marked = entry_is c.loop-position.counts n.0 c.at-node.result 65535 (sym n.1)
       (omega (arith, c.at-node.ensures, long, inv.counted.long)) w.if-counts-node.true in
       let value : bit_count c.loop-position.sets.reached ≡ c.len-count.result = ap bit_count inv.same ∙ sym c.len-count.ensures.value in
-      rw w.counts-is (subst₂ (λ i v. ArePartlyCounted p c.args.filter (set c.loop-position.counts i v)) n.1 value
-      (member_counted p c.args.filter c.loop-position.counts inv.counted c.loop-position.sets.reached inv.sets.is_reached inv.sets.closed n.0 m.0
+      rw w.counts-is (subst₂ (λ i v. ArePartlyCounted p c.args.graph.filter (set c.loop-position.counts i v)) n.1 value
+      (member_counted p c.args.graph.filter c.loop-position.counts inv.counted c.loop-position.sets.reached inv.sets.is_reached inv.sets.closed n.0 m.0
       n_inside m_inside r member marked))
   | else-counts-node w ↦ rw w.counts-is c.loop-position.invariant.counted
 ]

@@ -16,10 +16,10 @@ pub loop-step-preserved : goal.loop-step-preserved
 loop-step-preserved c =
     elim c.if-count-ne-UNREACHED.branch [
       | then-count-ne-UNREACHED+then-count+then-counts-step w ↦
-          let p = c.args.script.now in
+          let p = c.args.graph.script.now in
           let k : ℕ = c.loop-step.step in
           let counts = c.loop-step.counts in
-          let partly : ArePartlyCounted p c.args.filter counts = c.loop-step.invariant in
+          let partly : ArePartlyCounted p c.args.graph.filter counts = c.loop-step.invariant in
           let n : Node = nth_node (2 * k) in
           let m : Node = turned n in
           let place : node_index m ≡ 2 * k + 1 = turned_place k in
@@ -28,13 +28,13 @@ loop-step-preserved c =
           let m_inside : m.at ≤ length p.commands = n_inside in
           let count : ℕ = get_or counts (2 * k) 0 in
           let positive : 0 < count = omega (arith, w.if-count-ne-UNREACHED.true) in
-          let is = counted_is p c.args.filter counts partly n n_inside count (entry_is counts n (2 * k) count (sym (index-nth (2 * k))) (omega (arith, below)) refl)
+          let is = counted_is p c.args.graph.filter counts partly n n_inside count (entry_is counts n (2 * k) count (sym (index-nth (2 * k))) (omega (arith, below)) refl)
           positive w.if-count.true in
           let within : count ≤ 16384 = omega (arith, count_within is.members is.reach.is_set, is.counts) in
           let marked = entry_is counts m (2 * k + 1) 65535 (sym place) below w.if-counts-step.true in
           rw w.counts-is
-          (subst (λ i. ArePartlyCounted p c.args.filter (set counts i count)) place
-          (counted_set p c.args.filter counts partly m m_inside count (turned_count p c.requires.never c.args.filter c.requires.filter n count is) positive within
+          (subst (λ i. ArePartlyCounted p c.args.graph.filter (set counts i count)) place
+          (counted_set p c.args.graph.filter counts partly m m_inside count (turned_count p c.requires.never c.args.graph.filter c.requires.filter n count is) positive within
           marked))
       | else-count-ne-UNREACHED w ↦ rw w.counts-is c.loop-step.invariant
     ]

@@ -2,4 +2,4 @@ use Rattle.sedck_search.specs.Private.Reaching.{ArePartlyCounted}
 use Rattle.sedck_search.proofs.other_side.count_turned.Given as goal
 
 abbrev pub invariant-loop-step : goal.invariant-loop-step
-invariant-loop-step l = ArePartlyCounted l.script l.fn.filter l.counts
+invariant-loop-step l = ArePartlyCounted l.fn.graph.script.now l.fn.graph.filter l.counts

@@ -4,21 +4,20 @@ use Rattle.sedck_flow.specs.declared.graph.Node.{Node}
 use Rattle.sedck_flow.specs.declared.graph.Edge.{Edge}
 use Rattle.sedck_flow.proofs.EdgesInside.{inside}
 use Rattle.sedck_search.specs.declared.filter.EdgeFilter.{EdgeFilter}
-use Rattle.sedck_search.specs.Private.Reaching.{IsFollowed, IsIn, Reaches}
+use Rattle.sedck_search.specs.Private.Reaching.{Reaches}
 use Rattle.sedck_search.specs.Private.KeptSets.{AreCounts, AreKept}
 use Rattle.sedck_search.specs.Private.Frontier.{AddsTarget, AddsTargets, AreSearchSets}
 use Rattle.sedck_search.proofs.Counts.{kept_reached}
 use Rattle.sedck_search.proofs.Paths.{index_below, reaches_from}
-use Rattle.sedck_search.proofs.Scans.{AreScanned, edge_coming, scan_more}
+use Rattle.sedck_search.proofs.Scans.{scan_next, edge_coming, scan_more}
 use Rattle.sedck_search.proofs.Frontiers.{targets_then, targets_node, targets_kept}
 use Rattle.sedck_search.proofs.reaching.visit.Goals as goal
 
 pub add_target-first-requires-clause-inside : goal.add_target-first-requires-clause-inside
 add_target-first-requires-clause-inside c =
-    let scan = subst (λ coming. AreScanned c.args.script.now c.args.node c.loop-edge.yielded coming
-    (λ e. IsFollowed c.args.filter e.kind → IsIn c.loop-edge.reached e.to)) c.in-Some.ensures.steps c.loop-edge.invariant.edges in
-    let flow = edge_coming c.args.script.now c.args.node c.loop-edge.yielded c.next.new.self c.in-Some.edge scan in
-    index_below c.args.script.now c.requires.script c.in-Some.edge.to (inside c.args.script.now c.requires.script.targets c.in-Some.edge flow.0).1
+    let scan = scan_next c.in-Some.ensures.steps c.loop-edge.invariant.edges in
+    let flow = edge_coming scan in
+    index_below c.args.known.graph.script.now c.requires.script c.in-Some.edge.to (inside c.args.known.graph.script.now c.requires.script.targets c.in-Some.edge flow.0).1
 
 -- one target, or what it reaches
 one_target : (p : Program) (filter : EdgeFilter) (from to : Node) → Reaches p filter from to → to.at ≤ length p.commands
@@ -36,21 +35,20 @@ one_target p filter from to r inside sets counts members frontier members' front
 -- the target is in the set now
 pub loop-edge-preserved-then-follows : goal.loop-edge-preserved-then-follows
 loop-edge-preserved-then-follows c =
-    let p = c.args.script.now in
+    let p = c.args.known.graph.script.now in
     let node : Node = c.args.node in
     let e : Edge = c.in-Some.edge in
-    let scan = subst (λ coming. AreScanned p node c.loop-edge.yielded coming
-    (λ f. IsFollowed c.args.filter f.kind → IsIn c.loop-edge.reached f.to)) c.in-Some.ensures.steps c.loop-edge.invariant.edges in
-    let flow = edge_coming p node c.loop-edge.yielded c.next.new.self e scan in
-    let one = one_target p c.args.filter node e.to (reaches_from p c.args.filter node e flow (c.follows.ensures.0 c.if-follows.true))
-    (inside p c.requires.script.targets e flow.0).1 c.args.kept.now.sets.items c.args.counts.now c.loop-edge.reached c.loop-edge.frontier
+    let scan = scan_next c.in-Some.ensures.steps c.loop-edge.invariant.edges in
+    let flow = edge_coming scan in
+    let one = one_target p c.args.known.graph.filter node e.to (reaches_from p c.args.known.graph.filter node e flow (c.follows.ensures.0 c.if-follows.true))
+    (inside p c.requires.script.targets e flow.0).1 c.args.known.kept.now.sets.items c.args.known.counts.now c.loop-edge.reached c.loop-edge.frontier
     c.add_target-first.new.reached c.add_target-first.new.frontier c.loop-edge.first c.add_target-first.result c.requires.kept c.requires.counts
     c.loop-edge.invariant.sets c.add_target-first.ensures.sets c.add_target-first.ensures.target in
     record {
-      edges = scan_more p node c.loop-edge.yielded c.next.new.self e scan
+      edges = scan_more scan
           (λ f held followed. one.kept f.to (held followed)) (λ _. c.add_target-first.ensures.added);
       sets = c.add_target-first.ensures.sets;
-      targets = targets_then p c.args.filter node c.args.reached.now c.args.frontier.now c.loop-edge.reached c.loop-edge.frontier
+      targets = targets_then p c.args.known.graph.filter node c.args.reached.now c.args.frontier.now c.loop-edge.reached c.loop-edge.frontier
           c.add_target-first.new.reached c.add_target-first.new.frontier c.args.first c.loop-edge.first c.add_target-first.result
           c.loop-edge.invariant.targets one;
     }

@@ -1,61 +1,39 @@
-use Rattle.std.proofs.Common.{◌≡◌, ◌≢◌, ◌<◌, length, get_or, length-take, length-set, take, add-one, refl, sym, ap, ◌∙◌, subst, arith}
-use Rattle.std.proofs.lemmas.List.Elements.{All-get_or, All-set}
-use Rattle.sedck_flow.specs.Private.EdgeList.{edge_number, AddsNumber}
-use Rattle.sedck_flow.proofs.EdgeListLemmas.{with_number, place_less, place_more, place_same, place_last, adds_number}
+use Rattle.std.proofs.Common.{◌≡◌, ◌<◌, ◌+◌, ◌++◌, ℕ, length, get_or, set, take, drop, length-take-le, sym, ap, ◌∙◌, subst, arith}
+use Rattle.std.specs.Prelude.{insert}
+use Rattle.std.proofs.lemmas.List.{get_or-take, get_or_default, take_more_set, take_at}
+use Rattle.std.proofs.lemmas.List.Edits.{length-insert}
+use Rattle.sedck_flow.specs.Private.EdgeList.{number, AddsEdge}
+use Rattle.sedck_flow.specs.declared.graph.Node.{Node}
+use Rattle.sedck_flow.specs.declared.graph.Kind.{Kind}
+use Rattle.sedck_flow.proofs.EdgeListLemmas.{adds}
+use Rattle.sedck_flow.proofs.edge_list.EdgeList.with.Goals.{then-loop-at-test+else-number_of-number, else-loop-at-test, else-at-count-via-then-at-count+else-number_of-number-2, else-at-count-via-else-at-count}
 use Rattle.sedck_flow.proofs.edge_list.EdgeList.with.Goals as goal
-use Rattle.sedck_flow.proofs.edge_list.EdgeList.with.Goals.{then-carried-present-2, else-carried-present-2}
 
-pub loop-i-init : goal.loop-i-init
-loop-i-init c = record {
-  room = c.self.invariant.0;
-  small = c.self.invariant.2;
-  carried = c.number_of-carried.ensures.small;
-  wanted = ap (λ m. with_number m (take c.self.inside.count c.self.inside.numbers)) c.number_of-carried.ensures.number;
-}
-
-pub returns-then-carried-present-clause-edges : goal.returns-then-carried-present-clause-edges
-returns-then-carried-present-clause-edges c =
-    let number = edge_number c.args.kind c.args.to in
-    let listed =
-    place_same c.loop-i.numbers c.loop-i.i c.self.inside.count c.loop-i.carried _ 0 c.loop-i-test.true (omega arith) refl c.if-carried-present.true
-    ∙ c.loop-i.invariant.wanted ∙ ap (with_number number) c.self.view_is in
-    subst (AddsNumber number c.args.self) (sym listed) (adds_number number c.args.self)
-
-pub loop-i-preserved : goal.loop-i-preserved
-loop-i-preserved c =
-    let present = get_or c.loop-i.numbers c.loop-i.i 0 in
-    let inside : c.loop-i.i < length c.loop-i.numbers = omega (arith, c.loop-i-test.true, c.loop-i.invariant.room) in
-    let small : present < 1048576 = All-get_or (λ number. number < 1048576) c.loop-i.numbers c.loop-i.i 0 inside c.loop-i.invariant.small in
-    let other : c.loop-i.carried ≢ present = c.if-carried-present.false in
-    elim c.if-carried-present-2.branch [
-      | then-carried-present-2 w ↦ record {
-        room = omega (arith, ap length w.numbers-is, length-set c.loop-i.numbers c.loop-i.i c.loop-i.carried, c.loop-i.invariant.room);
-        small = rw w.numbers-is (All-set (λ number. number < 1048576) c.loop-i.numbers c.loop-i.i c.loop-i.carried c.loop-i.invariant.carried c.loop-i.invariant.small);
-        carried = rw w.carried-is small;
-        wanted =
-            rw (w.numbers-is, w.carried-is, add-one)
-            (place_less c.loop-i.numbers c.loop-i.i c.self.inside.count c.loop-i.carried _ 0 c.loop-i-test.true (omega arith) refl
-            w.if-carried-present-2.true
-            ∙ c.loop-i.invariant.wanted);
-      }
-      | else-carried-present-2 w ↦ record {
-        room = omega (arith, ap length w.numbers-is, c.loop-i.invariant.room);
-        small = rw w.numbers-is c.loop-i.invariant.small;
-        carried = rw w.carried-is c.loop-i.invariant.carried;
-        wanted =
-            let more : present < c.loop-i.carried = omega (arith, other, w.if-carried-present-2.false) in
-            rw (w.numbers-is, w.carried-is, add-one)
-            (place_more c.loop-i.numbers c.loop-i.i c.self.inside.count c.loop-i.carried _ 0 c.loop-i-test.true (omega arith) refl more
-            ∙ c.loop-i.invariant.wanted);
-      }
-    ]
-
+-- it is put where it belongs
 pub returns-clause-edges : goal.returns-clause-edges
 returns-clause-edges c =
-    let number = edge_number c.args.kind c.args.to in
-    let at_end : c.loop-i.i ≡ c.self.inside.count = omega arith in
-    let room : c.self.inside.count < 5 = omega (arith, ap length c.self.view_is, length-take c.self.inside.count c.self.inside.numbers) in
-    let listed =
-    place_last c.loop-i.numbers c.self.inside.count c.loop-i.carried (omega (arith, room, c.loop-i.invariant.room))
-    ∙ rw at_end at c.loop-i.invariant.wanted ∙ ap (with_number number) c.self.view_is in
-    rw add-one (subst (AddsNumber number c.args.self) (sym listed) (adds_number number c.args.self))
+    let y : Node × Kind = (c.args.to, c.args.kind) in
+    let n : ℕ = c.self.inside.count in
+    let old = c.self.inside.targets in
+    let long : length (take n old) ≡ n = length-take-le n old (omega (arith, c.self.invariant.0, c.self.invariant.1)) in
+    let room : n < length old = omega (arith, c.requires.room, long, ap length c.self.view_is, c.self.invariant.0) in
+    let listed : c.last_to.new.targets ≡ insert (take n old) c.loop-at.at y = c.last_to.ensures (take n old) y (take_more_set old n y room) in
+    let placed : length c.last_to.new.targets ≡ n + 1 =
+    omega (arith, ap length listed, length-insert (take n old) c.loop-at.at y (omega (arith, long, c.loop-at.invariant.within)), long) in
+    let behind : c.loop-at.at < n → number y < number (get_or old c.loop-at.at y) =
+    λ less. elim c.else-at-count.branch [
+      | else-at-count-via-then-at-count+else-number_of-number-2 w ↦ elim c.loop-at-test.branch [
+        | then-loop-at-test+else-number_of-number v ↦
+            let at : v.number_of.result ≡ number (get_or old c.loop-at.at y) =
+            v.number_of.ensures ∙ ap number (get_or_default old c.loop-at.at _ y (omega (arith, less, room))) in
+            omega (arith, at, w.number_of-then-at-count.ensures ∙ sym v.number_of.ensures, c.number_of-number.ensures, v.if-number_of-number.false, w.if-number_of-number-2.false)
+        | else-loop-at-test v ↦ absurd (omega (arith, less))
+      ]
+      | else-at-count-via-else-at-count w ↦ absurd (omega (arith, less))
+    ] in
+    subst (λ s. AddsEdge c.args.kind c.args.to s (take (n + 1) (c.last_to.new.targets ++ drop (n + 1) (set old n y)))) c.self.view_is
+    (subst (AddsEdge c.args.kind c.args.to (take n old)) (sym (take_at c.last_to.new.targets _ (n + 1) placed ∙ listed))
+    (adds y (take n old) c.loop-at.at
+    (λ k less. let below : k < n = omega (arith, less, c.loop-at.invariant.within) in
+    subst (λ x. number x < number y) (sym (get_or-take n old k y below)) (c.loop-at.invariant.before k less))
+    (λ less. subst (λ x. number y < number x) (sym (get_or-take n old c.loop-at.at y (omega (arith, less, long)))) (behind (omega (arith, less, long))))))
