@@ -9,6 +9,7 @@ use Rattle.sedck_engines.specs.Opened.{Known}
 use Rattle.sedck_errors.specs.declared.denied.Denied.{Denied}
 use Rattle.sedck_explanation.specs.Called.{known_bytes}
 use Rattle.sedck_explanation.specs.declared.parts.Unexplained.{Unexplained}
+use Rattle.sedck_explanation.specs.declared.status.Status.{Status}
 use Rattle.sedck_explanation.proofs.Answering.{on_ok}
 use Rattle.sedck_explanation.proofs.KnownBytes.{file_bytes}
 use Rattle.sedck_calls_in_files.specs.Scanned.{Holds, TextStatus, PathStatus}
@@ -38,7 +39,7 @@ text_read (Some bytes) mid head rest added text taken is_head is_rest is same wi
     whole ∙ all_read (Some bytes) mid head rest taken is_head is_rest (subst (λ t. length t ≤ 4194304) whole within)
 
 -- the status of what was read of a source
-pub source_status : (left : Option (List ℕ)) (failed : Bool) (found : List ℕ → Option Holds) (denied : Denied) (c : Contents) (status : ℕ)
+pub source_status : (left : Option (List ℕ)) (failed : Bool) (found : List ℕ → Option Holds) (denied : Denied) (c : Contents) (status : Status)
     → IsContents true left failed c → ContentsStatus found denied c status → SourceStatus left failed found denied status
 source_status None failed found denied (Text kind text) status is has = inr (inr tt)
 source_status (Some bytes) failed found denied (Text kind text) status is has =
@@ -49,7 +50,7 @@ source_status left failed found denied Unreadable status is has = inl has
 
 -- the same at a path: of an open file what is known of its path
 path_status : (k : Known) (left : Option (List ℕ)) (failed : Bool) (found : List ℕ → List ℕ → Option Holds) (denied : Denied)
-    (path : List ℕ) (status : ℕ) → IfSome (known_bytes k path) (λ bytes. left ≡ Some bytes) → (IsTrue failed → k.may_fail)
+    (path : List ℕ) (status : Status) → IfSome (known_bytes k path) (λ bytes. left ≡ Some bytes) → (IsTrue failed → k.may_fail)
     → SourceStatus left failed (found path) denied status → PathStatus k found denied path status
 path_status k left failed found denied path status same fails (inl is) = inl is
 path_status k left failed found denied path status same fails (inr (inl is)) = inr (inl (fails is))
@@ -61,7 +62,7 @@ path_status k left failed found denied path status same fails (inr (inr has)) = 
     of_known (Some bytes) left same has = subst (λ l. IfSome l (λ bytes. TextStatus (found path bytes) denied bytes status)) same has
 
 pub open_status : (k : Known) (left : Option (List ℕ)) (failed : Bool) (found : List ℕ → List ℕ → Option Holds) (denied : Denied)
-    (path : List ℕ) (is_input : Bool) (r : Result ℕ Unexplained) → is_input ≡ bytes_eq path (codes "-") → is_input ≡ false
+    (path : List ℕ) (is_input : Bool) (r : Result Status Unexplained) → is_input ≡ bytes_eq path (codes "-") → is_input ≡ false
     → IfSome (k.bytes_at path) (λ bytes. left ≡ Some bytes) → (IsTrue failed → k.may_fail) → IfOk r (SourceStatus left failed (found path) denied)
     → IfOk r (PathStatus k found denied path)
 open_status k left failed found denied path is_input r is other same fails has =

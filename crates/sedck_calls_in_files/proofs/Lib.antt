@@ -1,5 +1,5 @@
 mod Lists
 mod Yes
 mod Said
-mod Worst
+pub mod Worst
 mod Contents

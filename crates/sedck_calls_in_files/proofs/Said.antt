@@ -4,6 +4,8 @@ use Rattle.sedck_calls.specs.declared.call.Call.{Call}
 use Rattle.sedck_explanation.specs.Called.{has_foreign}
 use Rattle.sedck_errors.specs.declared.denied.Denied.{Denied}
 use Rattle.sedck_explanation.specs.declared.explanation.Explanation.{Explanation}
+use Rattle.sedck_explanation.specs.declared.status.Status.{Status}
+use Rattle.sedck_explanation.specs.declared.status.Status.TheVariants as exit
 use Rattle.sedck_found.specs.declared.found.FoundScript.{FoundScript}
 use Rattle.sedck_found.specs.declared.found.OpenHole.{OpenHole}
 use Rattle.sedck_found.specs.declared.found.FoundScript.TheVariants.{Text, Foreign, Refused, Unknown}
@@ -18,7 +20,7 @@ agrees_on one two three first second = record {
   writes = second.writes ∙ first.writes;
 }
 
-unjudged_on : (n : ℕ) (before e : Explanation) → Agrees before e → e.status ≡ before.status → IsUnjudged n before → IsUnjudged n e
+unjudged_on : (n : Status) (before e : Explanation) → Agrees before e → e.status ≡ before.status → IsUnjudged n before → IsUnjudged n e
 unjudged_on n before e agrees status said = record { answer = agrees.answer ∙ said.answer; is_status = status ∙ said.is_status }
 
 judged_on : (denied : Denied) (call : Call) (text : Traced) (holes : List OpenHole) (before e : Explanation) → Agrees before e → e.status ≡ before.status
@@ -38,18 +40,18 @@ call_on : (file : List ℕ) (denied : Denied) (words : List Traced) (call : Call
     → Agrees before e → e.status ≡ before.status → IsSaidOfCall file denied words call text holes before
     → IsSaidOfCall file denied words call text holes e
 call_on file denied words call text holes before e agrees status said =
-    either_on (has_foreign call.given.items) _ _ _ _ (unjudged_on 2 before e agrees status)
-    (either_on (is_in_file file words call text) _ _ _ _ (judged_on denied call text holes before e agrees status) (unjudged_on 5 before e agrees status)) said
+    either_on (has_foreign call.given.items) _ _ _ _ (unjudged_on exit.Refused before e agrees status)
+    (either_on (is_in_file file words call text) _ _ _ _ (judged_on denied call text holes before e agrees status) (unjudged_on exit.Unknown before e agrees status)) said
 
 text_on : (file : List ℕ) (denied : Denied) (words : List Traced) (text : Traced) (holes : List OpenHole) (before e : Explanation) → Agrees before e
     → e.status ≡ before.status → IsSaidOfText file denied words text holes before → IsSaidOfText file denied words text holes e
 text_on file denied words text holes before e agrees status (inl known) =
     inl (known.0, known.1, call_on file denied words known.0 text holes before e agrees status known.2)
-text_on file denied words text holes before e agrees status (inr none) = inr (none.0, unjudged_on 5 before e agrees status none.1)
+text_on file denied words text holes before e agrees status (inr none) = inr (none.0, unjudged_on exit.Unknown before e agrees status none.1)
 
 pub said_on : (file : List ℕ) (denied : Denied) (words : List Traced) (script : FoundScript) (before e : Explanation) → Agrees before e
     → e.status ≡ before.status → IsSaidOf file denied words script before → IsSaidOf file denied words script e
 said_on file denied words (Text call text holes) before e agrees status said = text_on file denied words text holes.items before e agrees status said
-said_on file denied words (Foreign call) before e agrees status said = unjudged_on 2 before e agrees status said
-said_on file denied words (Refused fault) before e agrees status said = unjudged_on 2 before e agrees status said
-said_on file denied words (Unknown why) before e agrees status said = unjudged_on 5 before e agrees status said
+said_on file denied words (Foreign call) before e agrees status said = unjudged_on exit.Refused before e agrees status said
+said_on file denied words (Refused fault) before e agrees status said = unjudged_on exit.Refused before e agrees status said
+said_on file denied words (Unknown why) before e agrees status said = unjudged_on exit.Unknown before e agrees status said

@@ -2,20 +2,23 @@
 use Rattle.std.proofs.Common.{◌<◌, ◌+◌, ℕ, List, [], ◌∷◌, ◌++◌, map, length, get_or, take, sym, ap, subst}
 use Rattle.std.proofs.lemmas.List.{take_more, map-append}
 use Rattle.sedck_errors.specs.declared.denied.Denied.{Denied}
+use Rattle.sedck_explanation.specs.Status.{worse}
+use Rattle.sedck_explanation.specs.declared.status.Status.{Status}
+use Rattle.sedck_explanation.specs.declared.status.Status.TheVariants.{Accepted}
 use Rattle.sedck_explanation.specs.declared.explanation.Explanation.{Explanation}
 use Rattle.sedck_found.specs.declared.found.FoundCall.{FoundCall}
 use Rattle.sedck_calls_in_files.specs.Judged.{IsSaidOf, denied_of}
-use Rattle.sedck_calls_in_files.specs.Scanned.{IsWorst, IsWorstOf, worse}
+use Rattle.sedck_calls_in_files.specs.Scanned.{IsWorst, IsWorstOf}
 
 -- one call more
-worst_snoc : (file : List ℕ) (denied : Denied) (known : ℕ) (calls : List FoundCall) (found : FoundCall) (status : ℕ) (e : Explanation)
+worst_snoc : (file : List ℕ) (denied : Denied) (known : Status) (calls : List FoundCall) (found : FoundCall) (status : Status) (e : Explanation)
     → IsWorst file denied known calls status → IsSaidOf file (denied_of found denied) found.words.items found.script e
     → IsWorst file denied known (calls ++ found ∷ []) (worse status e.status)
 worst_snoc file denied known [] found status e worst said = (e, said, ap (λ s. worse s e.status) worst)
 worst_snoc file denied known (first ∷ calls) found status e worst said =
     (worst.0, worst.1, worst_snoc file denied (worse known worst.0.status) calls found status e worst.2 said)
 
-pub next_worst : (file : List ℕ) (denied : Denied) (known : ℕ) (calls : List FoundCall) (i : ℕ) (d : FoundCall) (status : ℕ) (e : Explanation)
+pub next_worst : (file : List ℕ) (denied : Denied) (known : Status) (calls : List FoundCall) (i : ℕ) (d : FoundCall) (status : Status) (e : Explanation)
     → i < length calls → IsWorst file denied known (take i calls) status
     → IsSaidOf file (denied_of (get_or calls i d) denied) (get_or calls i d).words.items (get_or calls i d).script e
     → IsWorst file denied known (take (i + 1) calls) (worse status e.status)
@@ -26,16 +29,16 @@ next_worst file denied known calls i d status e within worst said =
 -- ---- Paths
 
 -- one path more
-worst_path : (Has : List ℕ → ℕ → Type 0) (known : ℕ) (front : List (List ℕ)) (path : List ℕ) (status one : ℕ) → IsWorstOf Has known front status
+worst_path : (Has : List ℕ → Status → Type 0) (known : Status) (front : List (List ℕ)) (path : List ℕ) (status one : Status) → IsWorstOf Has known front status
     → Has path one → IsWorstOf Has known (front ++ path ∷ []) (worse status one)
 worst_path Has known [] path status one worst has = (one, has, ap (λ s. worse s one) worst)
 worst_path Has known (first ∷ front) path status one worst has =
     (worst.0, worst.1, worst_path Has (worse known worst.0) front path status one worst.2 has)
 
-pub next_path : {X : Type 0} (Has : List ℕ → ℕ → Type 0) (f : X → List ℕ) (items : List X) (i : ℕ) (d : X) (status one : ℕ) → i < length items
-    → IsWorstOf Has 0 (map f (take i items)) status → Has (f (get_or items i d)) one
-    → IsWorstOf Has 0 (map f (take (i + 1) items)) (worse status one)
+pub next_path : {X : Type 0} (Has : List ℕ → Status → Type 0) (f : X → List ℕ) (items : List X) (i : ℕ) (d : X) (status one : Status) → i < length items
+    → IsWorstOf Has Accepted (map f (take i items)) status → Has (f (get_or items i d)) one
+    → IsWorstOf Has Accepted (map f (take (i + 1) items)) (worse status one)
 next_path Has f items i d status one within worst has =
-    subst (λ front. IsWorstOf Has 0 (map f front) (worse status one)) (sym (take_more items i d within))
-    (subst (λ front. IsWorstOf Has 0 front (worse status one)) (sym (map-append f (take i items) (get_or items i d ∷ [])))
-    (worst_path Has 0 (map f (take i items)) (f (get_or items i d)) status one worst has))
+    subst (λ front. IsWorstOf Has Accepted (map f front) (worse status one)) (sym (take_more items i d within))
+    (subst (λ front. IsWorstOf Has Accepted front (worse status one)) (sym (map-append f (take i items) (get_or items i d ∷ [])))
+    (worst_path Has Accepted (map f (take i items)) (f (get_or items i d)) status one worst has))

@@ -1,12 +1,15 @@
--- What a status of 0 says of a call.
-use Rattle.std.proofs.Common.{◌≡◌, ◌∙◌, ◌⊎◌, inl, inr, ◌==◌, ℕ, suc, Bool, true, false, MatchBool, List, [], ◌∷◌, None, if◌then◌else◌, refl, sym, ap, arith}
+-- What a yes says of a call.
+use Rattle.std.proofs.Common.{◌≡◌, ◌∙◌, ◌⊎◌, inl, inr, ℕ, Bool, true, false, MatchBool, List, [], ◌∷◌, None, refl, sym, ap}
 use Rattle.std.proofs.lemmas.Bool.{true≢false}
 use Rattle.sedck_calls.specs.Calls.{IsCall}
 use Rattle.sedck_calls.specs.declared.call.Call.{Call}
 use Rattle.sedck_explanation.specs.Called.{has_foreign, is_denied_call, IsDenied, IsCalled}
 use Rattle.sedck_errors.specs.declared.denied.Denied.{Denied}
 use Rattle.sedck_explanation.specs.Explanations.{IsExplanation}
+use Rattle.sedck_explanation.specs.Status.{is_accepted}
+use Rattle.sedck_explanation.specs.declared.status.Status.{Status}
 use Rattle.sedck_explanation.specs.declared.explanation.Explanation.{Explanation}
+use Rattle.sedck_explanation.specs.declared.status.Status.TheVariants as exit
 use Rattle.sedck_found.specs.declared.found.FoundScript.{FoundScript}
 use Rattle.sedck_found.specs.declared.found.OpenHole.{OpenHole}
 use Rattle.sedck_found.specs.declared.found.FoundScript.TheVariants.{Text, Foreign, Refused, Unknown}
@@ -19,30 +22,25 @@ by_test true A B holds = inl (refl, holds)
 by_test false A B holds = inr (refl, holds)
 
 -- a yes is one of a script that is known
-yes_is_known : (partly : Bool) (status : ℕ) → status_with partly status ≡ 0 → (partly ≡ false) × (status ≡ 0)
+yes_is_known : (partly : Bool) (status : Status) → status_with partly status ≡ exit.Accepted → (partly ≡ false) × (status ≡ exit.Accepted)
 yes_is_known false status is = (refl, is)
-yes_is_known true status is = absurd (by_status (status == 0) refl is)
-  where
-    by_status : (b : Bool) → (status == 0) ≡ b → (if b then 5 else status) ≡ 0 → ⊥
-    by_status true zero five = omega (arith, five)
-    by_status false other none = true≢false (ap (λ n. n == 0) (sym none) ∙ other)
+yes_is_known true exit.Accepted is = absurd (cc is)
+yes_is_known true _ is = absurd (cc is)
 
-yes_is_judged : (status : ℕ) (e : Explanation) → IsUnjudged (suc status) e → e.status ≡ 0 → ⊥
-yes_is_judged status e said is =
-    let positive = said.is_status in
-    omega (arith, positive, is)
+yes_is_judged : (status : Status) (e : Explanation) → is_accepted status ≡ false → IsUnjudged status e → e.status ≡ exit.Accepted → ⊥
+yes_is_judged status e other said is = true≢false (sym (ap is_accepted (sym said.is_status ∙ is)) ∙ other)
 
 -- the script of a call that is explained with a yes
-yes_explained : (text : List ℕ) (denied : Denied) (call : Call) (e : Explanation) → IsCalled text denied call e → e.status ≡ 0
-    → (judged : Explanation) × IsExplanation text None denied judged × (judged.status ≡ 0)
+yes_explained : (text : List ℕ) (denied : Denied) (call : Call) (e : Explanation) → IsCalled text denied call e → e.status ≡ exit.Accepted
+    → (judged : Explanation) × IsExplanation text None denied judged × (judged.status ≡ exit.Accepted)
 yes_explained text denied call e called is = by_cases (by_test _ _ _ called.said)
   where
     by_cases : ((is_denied_call denied call called.judged.status ≡ true) × IsDenied text called.judged e)
         ⊎ ((is_denied_call denied call called.judged.status ≡ false) × (e ≡ called.judged))
-        → (judged : Explanation) × IsExplanation text None denied judged × (judged.status ≡ 0)
+        → (judged : Explanation) × IsExplanation text None denied judged × (judged.status ≡ exit.Accepted)
     by_cases (inl denial) =
-        let one = denial.1.status in
-        absurd (omega (arith, one, is))
+        let clash : exit.Rejected ≡ exit.Accepted = sym denial.1.status ∙ is in
+        absurd (cc clash)
     by_cases (inr same) = (called.judged, called.is_explanation, sym (ap (λ x. x.status) same.1) ∙ is)
 
 -- where nothing is open, nothing is in any of the two ways
@@ -51,7 +49,7 @@ closed text [] is = (is, refl)
 closed text (hole ∷ holes) is = absurd (true≢false is)
 
 yes_of_call : (file : List ℕ) (denied : Denied) (words : List Traced) (call : Call) (text : Traced) (holes : List OpenHole) (e : Explanation)
-    → IsCall (words_of words) call → IsSaidOfCall file denied words call text holes e → e.status ≡ 0
+    → IsCall (words_of words) call → IsSaidOfCall file denied words call text holes e → e.status ≡ exit.Accepted
     → IsAcceptedText file denied words text holes
 yes_of_call file denied words call text holes e is_call said is = by_language (by_test _ _ _ said)
   where
@@ -74,25 +72,25 @@ yes_of_call file denied words call text holes e is_call said is = by_language (b
         }
 
     by_file : has_foreign call.given.items ≡ false
-        → ((is_in_file file words call text ≡ true) × IsJudged denied call text holes e) ⊎ ((is_in_file file words call text ≡ false) × IsUnjudged 5 e)
+        → ((is_in_file file words call text ≡ true) × IsJudged denied call text holes e) ⊎ ((is_in_file file words call text ≡ false) × IsUnjudged exit.Unknown e)
         → IsAcceptedText file denied words text holes
     by_file judged (inl traced) = accepted judged traced.0 traced.1
-    by_file judged (inr other) = absurd (yes_is_judged 4 e other.1 is)
+    by_file judged (inr other) = absurd (yes_is_judged exit.Unknown e refl other.1 is)
 
-    by_language : ((has_foreign call.given.items ≡ true) × IsUnjudged 2 e)
-        ⊎ ((has_foreign call.given.items ≡ false) × MatchBool (is_in_file file words call text) (IsJudged denied call text holes e) (IsUnjudged 5 e))
+    by_language : ((has_foreign call.given.items ≡ true) × IsUnjudged exit.Refused e)
+        ⊎ ((has_foreign call.given.items ≡ false) × MatchBool (is_in_file file words call text) (IsJudged denied call text holes e) (IsUnjudged exit.Unknown e))
         → IsAcceptedText file denied words text holes
-    by_language (inl foreign) = absurd (yes_is_judged 1 e foreign.1 is)
+    by_language (inl foreign) = absurd (yes_is_judged exit.Refused e refl foreign.1 is)
     by_language (inr judged) = by_file judged.0 (by_test _ _ _ judged.1)
 
 yes_of_text : (file : List ℕ) (denied : Denied) (words : List Traced) (text : Traced) (holes : List OpenHole) (e : Explanation)
-    → IsSaidOfText file denied words text holes e → e.status ≡ 0 → IsAcceptedText file denied words text holes
+    → IsSaidOfText file denied words text holes e → e.status ≡ exit.Accepted → IsAcceptedText file denied words text holes
 yes_of_text file denied words text holes e (inl known) is = yes_of_call file denied words known.0 text holes e known.1 known.2 is
-yes_of_text file denied words text holes e (inr none) is = absurd (yes_is_judged 4 e none.1 is)
+yes_of_text file denied words text holes e (inr none) is = absurd (yes_is_judged exit.Unknown e refl none.1 is)
 
 pub yes_of_found : (file : List ℕ) (denied : Denied) (words : List Traced) (script : FoundScript) (e : Explanation)
-    → IsSaidOf file denied words script e → e.status ≡ 0 → IsAcceptedScript file denied words script
+    → IsSaidOf file denied words script e → e.status ≡ exit.Accepted → IsAcceptedScript file denied words script
 yes_of_found file denied words (Text call text holes) e said is = yes_of_text file denied words text holes.items e said is
-yes_of_found file denied words (Foreign call) e said is = absurd (yes_is_judged 1 e said is)
-yes_of_found file denied words (Refused fault) e said is = absurd (yes_is_judged 1 e said is)
-yes_of_found file denied words (Unknown why) e said is = absurd (yes_is_judged 4 e said is)
+yes_of_found file denied words (Foreign call) e said is = absurd (yes_is_judged exit.Refused e refl said is)
+yes_of_found file denied words (Refused fault) e said is = absurd (yes_is_judged exit.Refused e refl said is)
+yes_of_found file denied words (Unknown why) e said is = absurd (yes_is_judged exit.Unknown e refl said is)

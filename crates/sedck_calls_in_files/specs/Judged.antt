@@ -1,5 +1,5 @@
 -- What is said of a call of sed in a file, this project's own.
-use Rattle.std.specs.Prelude.{◌≡◌, ◌⊎◌, ◌==◌, ◌&&◌, ◌||◌, ℕ, Bool, true, false, MatchBool, List, [], ◌∷◌, map, None, if◌then◌else◌}
+use Rattle.std.specs.Prelude.{◌≡◌, ◌⊎◌, ◌&&◌, ◌||◌, ℕ, Bool, true, false, MatchBool, List, [], ◌∷◌, map, None, if◌then◌else◌}
 use Rattle.std.specs.List.{list_all, list_any}
 use Rattle.std.specs.Str.{bytes_eq}
 use Rattle.sedck_calls.specs.Calls.{IsCall}
@@ -12,8 +12,11 @@ use Rattle.sedck_explanation.specs.Called.{has_foreign, IsCalled}
 use Rattle.sedck_report.specs.Files.{names_of}
 use Rattle.sedck_errors.specs.declared.denied.Denied.{Denied}
 use Rattle.sedck_explanation.specs.Explanations.{IsExplanation}
+use Rattle.sedck_explanation.specs.Status.{is_accepted}
+use Rattle.sedck_explanation.specs.declared.status.Status.{Status}
 use Rattle.sedck_explanation.specs.declared.answer.Answer.TheVariants.{NotJudged}
 use Rattle.sedck_explanation.specs.declared.explanation.Explanation.{Explanation}
+use Rattle.sedck_explanation.specs.declared.status.Status.TheVariants as exit
 use Rattle.sedck_found.specs.declared.found.FoundCall.{FoundCall}
 use Rattle.sedck_found.specs.declared.found.FoundScript.{FoundScript}
 use Rattle.sedck_found.specs.declared.found.OpenHole.{OpenHole}
@@ -54,7 +57,7 @@ is_in_file file words call text =
 -- ---- What is said
 
 -- it isn't judged
-pub record IsUnjudged (status : ℕ) (e : Explanation) : Type 0 where
+pub record IsUnjudged (status : Status) (e : Explanation) : Type 0 where
   pub answer : e.answer ≡ NotJudged
   pub is_status : e.status ≡ status
 
@@ -66,8 +69,8 @@ pub record Agrees (before e : Explanation) : Type 0 where
   pub writes : names_of e.writes.items ≡ names_of before.writes.items
 
 -- what isn't known before a run makes no yes
-abbrev pub status_with : Bool → ℕ → ℕ
-status_with partly status = if partly && (status == 0) then 5 else status
+abbrev pub status_with : Bool → Status → Status
+status_with partly status = if partly && is_accepted status then exit.Unknown else status
 
 -- something isn't known: a byte of the script takes the place of it, or it is one of what the words depend on
 abbrev pub is_open : Traced → List OpenHole → Bool
@@ -81,17 +84,17 @@ pub record IsJudged (denied : Denied) (call : Call) (text : Traced) (holes : Lis
   pub agrees : Agrees called e
   pub is_status : e.status ≡ status_with (is_open text holes) called.status
 
--- with another language it isn't judged (2); nor where the file doesn't have what was read (5)
+-- with another language it isn't judged; nor is it known where the file doesn't have what was read
 abbrev pub IsSaidOfCall : List ℕ → Denied → List Traced → Call → Traced → List OpenHole → Explanation → Type 0
 IsSaidOfCall file denied words call text holes e =
-    MatchBool (has_foreign call.given.items) (IsUnjudged 2 e)
-    (MatchBool (is_in_file file words call text) (IsJudged denied call text holes e) (IsUnjudged 5 e))
+    MatchBool (has_foreign call.given.items) (IsUnjudged exit.Refused e)
+    (MatchBool (is_in_file file words call text) (IsJudged denied call text holes e) (IsUnjudged exit.Unknown e))
 
 -- the words are a call
 abbrev pub IsSaidOfText : List ℕ → Denied → List Traced → Traced → List OpenHole → Explanation → Type 0
 IsSaidOfText file denied words text holes e =
     ((call : Call) × IsCall (words_of words) call × IsSaidOfCall file denied words call text holes e)
-    ⊎ (((call : Call) → IsCall (words_of words) call → ⊥) × IsUnjudged 5 e)
+    ⊎ (((call : Call) → IsCall (words_of words) call → ⊥) × IsUnjudged exit.Unknown e)
 
 -- what is denied of a call, where the words before its name may make it run in the locale C
 abbrev pub denied_of : FoundCall → Denied → Denied
@@ -100,14 +103,14 @@ denied_of found denied = record denied { c_locale = denied.c_locale || found.c_l
 -- what is said of a call, by what was found of its script
 abbrev pub IsSaidOf : List ℕ → Denied → List Traced → FoundScript → Explanation → Type 0
 IsSaidOf file denied words (Text call text holes) e = IsSaidOfText file denied words text holes.items e
-IsSaidOf file denied words (Foreign call) e = IsUnjudged 2 e
-IsSaidOf file denied words (Refused fault) e = IsUnjudged 2 e
-IsSaidOf file denied words (Unknown why) e = IsUnjudged 5 e
+IsSaidOf file denied words (Foreign call) e = IsUnjudged exit.Refused e
+IsSaidOf file denied words (Refused fault) e = IsUnjudged exit.Refused e
+IsSaidOf file denied words (Unknown why) e = IsUnjudged exit.Unknown e
 
 -- ---- A yes
 
 -- The call is accepted: its words are a call, none of whose options changes the language; the file has the words and the script where
--- their origins say; nothing of the script is unknown, and nothing that the words depend on; and it is explained with the status 0.
+-- their origins say; nothing of the script is unknown, and nothing that the words depend on; and it is explained and accepted.
 pub record IsAcceptedText (file : List ℕ) (denied : Denied) (words : List Traced) (text : Traced) (holes : List OpenHole) : Type 0 where
   pub call : Call
   pub is_call : IsCall (words_of words) call
@@ -117,7 +120,7 @@ pub record IsAcceptedText (file : List ℕ) (denied : Denied) (words : List Trac
   pub unconditional : holes ≡ []
   pub explanation : Explanation
   pub is_explanation : IsExplanation text.bytes.items None denied explanation
-  pub is_yes : explanation.status ≡ 0
+  pub is_yes : explanation.status ≡ exit.Accepted
 
 -- the call has a script, and is accepted
 abbrev pub IsAcceptedScript : List ℕ → Denied → List Traced → FoundScript → Type 0

@@ -80,7 +80,7 @@ fn text_report(
     let shown = shown_path(alloc, asked.file.path)?;
     let path = shown.as_str();
     let mut report = text_findings(alloc, Names::of_file(path), explanation, least, colour)?;
-    if least != Level::Note && explanation.status == 0 {
+    if least != Level::Note && explanation.status.is_accepted() {
         return Ok(report);
     }
     let call = CallAt {

@@ -6,12 +6,12 @@ ghost use Rattle.sedck_cert.specs.Streams.{ReportsFailure};
 ghost use Rattle.sedck_calls_in_files.specs.Lines.{error_line};
 
 use sedck_cert::streams::{Failed, Sink, write_all};
-use sedck_explanation::Unexplained;
+use sedck_explanation::{Status, Unexplained};
 use sedck_formats::shown_letter;
 use std::alloc::{AllocError, Global};
 
 /// Writes why the program ends, and answers its exit status.
-pub fn end<E: Sink>(err: &mut E, words: &[u8], status: u8) -> u8
+pub fn end<E: Sink>(err: &mut E, words: &[u8], status: Status) -> Status
     ensures status { result ≡ status }
     ensures line { E.has_failed err.new ≡ false → Appends (E.taken err.old) (E.taken err.new) (codes "sedck-explain: " ++ words.now) }
 {
@@ -29,23 +29,23 @@ pub(crate) fn write_named<E: Sink>(err: &mut E, words: &[u8]) -> Result<(), Fail
 }
 
 /// Reports that memory ran out, and answers the exit status.
-pub fn out_of_memory<E: Sink>(err: &mut E) -> u8
-    ensures { result ≡ 4 }
+pub fn out_of_memory<E: Sink>(err: &mut E) -> Status
+    ensures { result ≡ Status.Failed }
 {
-    end(err, b"out of memory\n", 4)
+    end(err, b"out of memory\n", Status::Failed)
 }
 
 /// Reports that the output can't be written, and answers the exit status.
-pub fn unwritten<E: Sink>(err: &mut E) -> u8
-    ensures status { result ≡ 4 }
+pub fn unwritten<E: Sink>(err: &mut E) -> Status
+    ensures status { result ≡ Status.Failed }
     ensures line { E.has_failed err.new ≡ false → Appends (E.taken err.old) (E.taken err.new) (error_line (codes "cannot write")) }
 {
-    end(err, b"cannot write\n", 4)
+    end(err, b"cannot write\n", Status::Failed)
 }
 
 /// Reports why nothing more is explained, and answers the exit status.
-pub fn ended<E: Sink>(err: &mut E, fault: Unexplained) -> u8
-    ensures { result ≡ 4 }
+pub fn ended<E: Sink>(err: &mut E, fault: Unexplained) -> Status
+    ensures { result ≡ Status.Failed }
 {
     match fault {
         Unexplained::Write => unwritten(err),
@@ -63,11 +63,11 @@ pub struct Unread<'a> {
 
 impl Unread<'_> {
     /// Reports which file can't be read, and why, and answers the exit status. It takes no memory.
-    pub fn end<E: Sink>(self, err: &mut E) -> u8
-        ensures { result ≡ 4 }
+    pub fn end<E: Sink>(self, err: &mut E) -> Status
+        ensures { result ≡ Status.Failed }
     {
         let _ = self.write(err);
-        4
+        Status::Failed
     }
 
     fn write<E: Sink>(self, err: &mut E) -> Result<(), Failed> {

@@ -12,21 +12,18 @@ use crate::places::Places;
 use crate::tracing::{bytes_of, is_in_file, slices_of};
 use sedck_calls::{Call, CallFault, call_of};
 use sedck_explanation::{
-    Denied, Explanation, Finding, Position, explain_called, foreign_findings, has_foreign,
+    Denied, Explanation, Finding, Position, Status, explain_called, foreign_findings, has_foreign,
     not_judged, refusal_of,
 };
 use sedck_found::{Followed, FoundCall, FoundScript, OpenHole, Unknown};
 use sedck_traced::{Traced, has_hole};
 use std::alloc::{AllocError, Global};
 
-/// The status of a call of which something isn't known before a run.
-const UNKNOWN: u8 = 5;
-
 /// Explains a call that was found in the file, which has it at this position. The explanation's positions are those of the file.
 ///
-/// Its status is 0 only where the words and the script are in the file, nothing of the script is unknown, nothing must hold so that the
-/// words are as they are read, and it is accepted; 5 where something isn't known before a run, and nothing worse is found; else that of a
-/// call that is given by its words.
+/// It is accepted only where the words and the script are in the file, nothing of the script is unknown, nothing must hold so that the
+/// words are as they are read, and the script is accepted; `Unknown` where something isn't known before a run, and nothing worse is
+/// found; else its status is that of a call that is given by its words.
 pub fn explain_found<'a>(
     alloc: Global,
     file: &'a [u8],
@@ -37,7 +34,7 @@ pub fn explain_found<'a>(
     requires { position ≡ position_in file.now position.offset }
     ensures said { IfOk result (IsSaidOf file.now (denied_of found.now denied) found.now.words.items found.now.script) }
     ensures places { IfOk result (λ e. All (IsFindingIn file.now) e.findings.items) }
-    ensures yes { IfOk result (λ e. e.status ≡ 0 → IsAcceptedScript file.now (denied_of found.now denied) found.now.words.items found.now.script) }
+    ensures yes { IfOk result (λ e. e.status ≡ Status.Accepted → IsAcceptedScript file.now (denied_of found.now denied) found.now.words.items found.now.script) }
 {
     let written = written_words(alloc, file, &found.words)?;
     let shown = slices_of(alloc, &written)?;
@@ -210,8 +207,8 @@ fn opened<'a>(
     let mut rest = explanation.findings.split_off(errors)?;
     explanation.findings.append(&mut warnings)?;
     explanation.findings.append(&mut rest)?;
-    if explanation.status == 0 {
-        explanation.status = UNKNOWN;
+    if explanation.status.is_accepted() {
+        explanation.status = Status::Unknown;
     }
     Ok(explanation)
 }
@@ -233,7 +230,7 @@ fn error_count(findings: &[Finding]) -> usize
 /// The explanation of a script that isn't judged, for these reasons at the call.
 fn reasons<'a>(given: &Given<'a, '_>, findings: Vec<Finding>) -> Result<Explanation<'a>, AllocError>
     requires { given.now.position ≡ position_in given.now.file.now given.now.position.offset }
-    ensures said { IfOk result (IsUnjudged 2) }
+    ensures said { IfOk result (IsUnjudged Status.Refused) }
     ensures places { IfOk result (λ e. All (IsFindingIn given.now.file.now) e.findings.items) }
 {
     let mut findings = findings;
@@ -249,22 +246,22 @@ pub(crate) fn explain_unread<'a>(
     position: Position,
 ) -> Result<Explanation<'a>, AllocError>
     requires { position ≡ position_in file.now position.offset }
-    ensures status { IfOk result (λ e. e.status ≡ 5) }
+    ensures status { IfOk result (λ e. e.status ≡ Status.Unknown) }
     ensures places { IfOk result (λ e. All (IsFindingIn file.now) e.findings.items) }
 {
     let mut explanation = not_judged(alloc, file, unread_warning(alloc, file, position)?);
-    explanation.status = UNKNOWN;
+    explanation.status = Status::Unknown;
     Ok(explanation)
 }
 
 /// The explanation of a script that isn't known.
 fn unknown<'a>(given: &Given<'a, '_>, why: Unknown) -> Result<Explanation<'a>, AllocError>
     requires { given.now.position ≡ position_in given.now.file.now given.now.position.offset }
-    ensures said { IfOk result (IsUnjudged 5) }
+    ensures said { IfOk result (IsUnjudged Status.Unknown) }
     ensures places { IfOk result (λ e. All (IsFindingIn given.now.file.now) e.findings.items) }
 {
     let warnings = unknown_warning(given.alloc, given.file, given.position, why)?;
     let mut explanation = not_judged(given.alloc, given.file, warnings);
-    explanation.status = UNKNOWN;
+    explanation.status = Status::Unknown;
     Ok(explanation)
 }

@@ -1,6 +1,6 @@
 //! One call of sed in a file, whose script is written in its plain spelling.
 
-ghost use Rattle.std.specs.Prelude.{◌≡◌, ◌≢◌, ◌≤◌, Contains, IfOk, IfSome};
+ghost use Rattle.std.specs.Prelude.{◌≡◌, ◌≢◌, Contains, IfOk, IfSome};
 ghost use Rattle.std.specs.Io.KnownBytes.{Keeps, Appends};
 ghost use Rattle.sedck_explanation.specs.Called.{known_bytes};
 ghost use Rattle.sedck_explanation.specs.declared.explanation.Explanation.{Explanation};
@@ -20,7 +20,7 @@ use crate::request::{File, FileScan};
 use crate::walk::{TOO_LONG, Walk};
 use sedck_cert::streams::{FromRead, Sink, write_all};
 use sedck_engines::Opener;
-use sedck_explanation::{Position, position_at};
+use sedck_explanation::{Position, Status, position_at};
 use sedck_formats::{Names, plain_report, shown_path};
 use sedck_found::FoundCall;
 use std::alloc::{AllocError, Global};
@@ -38,19 +38,18 @@ const NOT_ONE: &[u8] =
     b"--at: not just one call of sed begins there (LINE:COLUMN chooses one of several)\n";
 
 /// Writes the script of the call that is there in its plain spelling, if it is accepted, and else a report to standard error. Answers the
-/// exit status: that of what is said of the call, but 2 for an accepted script without a plain spelling; 3 where no call is there, or
-/// several; 4 where the file can't be read, a write fails or memory runs out.
+/// exit status: that of what is said of the call, but `Refused` for an accepted script without a plain spelling; `Misused` where no call
+/// is there, or several; `Failed` where the file can't be read, a write fails or memory runs out.
 pub fn spell_call<R: Input + AllocGlobal, O: Opener, F: Finder, W: Sink, E: Sink>(
     walk: &Walk<R, O, F>,
     path: &str,
     at: At,
     out: &mut W,
     err: &mut E,
-) -> u8
-    ensures within { result ≤ 5 }
-    ensures spelled { result ≢ 3 → result ≢ 4 → SpellsOne (O.known walk.now.files.now) (F.found walk.now.finder.now) walk.now.scan.now.denied path.now (record { before = W.taken out.old; after = W.taken out.new }) result }
-    ensures refused { result ≡ 3 → Keeps (W.taken out.old) (W.taken out.new) }
-    ensures silent { result ≡ 0 → Keeps (E.taken err.old) (E.taken err.new) }
+) -> Status
+    ensures spelled { result ≢ Status.Misused → result ≢ Status.Failed → SpellsOne (O.known walk.now.files.now) (F.found walk.now.finder.now) walk.now.scan.now.denied path.now (record { before = W.taken out.old; after = W.taken out.new }) result }
+    ensures refused { result ≡ Status.Misused → Keeps (W.taken out.old) (W.taken out.new) }
+    ensures silent { result ≡ Status.Accepted → Keeps (E.taken err.old) (E.taken err.new) }
 {
     let alloc = walk.rt.alloc();
     let Ok(contents) = contents_at(walk, path) else {
@@ -76,9 +75,9 @@ pub fn spell_call<R: Input + AllocGlobal, O: Opener, F: Finder, W: Sink, E: Sink
     }
 }
 
-/// Reports that the file can't be read, and why: the status 4.
-fn unread<E: Sink>(name: &str, reason: Option<&'static str>, err: &mut E) -> u8
-    ensures { result ≡ 4 }
+/// Reports that the file can't be read, and why.
+fn unread<E: Sink>(name: &str, reason: Option<&'static str>, err: &mut E) -> Status
+    ensures { result ≡ Status.Failed }
 {
     Unread { name, reason }.end(err)
 }
@@ -114,18 +113,17 @@ fn spell_in<F: Finder, W: Sink, E: Sink>(
     at: At,
     out: &mut W,
     err: &mut E,
-) -> u8
-    ensures within { result ≤ 5 }
-    ensures spelled { result ≢ 3 → result ≢ 4 → SpellsIn (F.found finder.now asked.now.file.path.now asked.now.file.text.now) asked.now.scan.now.denied asked.now.file.text.now (record { before = W.taken out.old; after = W.taken out.new }) result }
-    ensures refused { result ≡ 3 → Keeps (W.taken out.old) (W.taken out.new) }
-    ensures silent { result ≡ 0 → Keeps (E.taken err.old) (E.taken err.new) }
+) -> Status
+    ensures spelled { result ≢ Status.Misused → result ≢ Status.Failed → SpellsIn (F.found finder.now asked.now.file.path.now asked.now.file.text.now) asked.now.scan.now.denied asked.now.file.text.now (record { before = W.taken out.old; after = W.taken out.new }) result }
+    ensures refused { result ≡ Status.Misused → Keeps (W.taken out.old) (W.taken out.new) }
+    ensures silent { result ≡ Status.Accepted → Keeps (E.taken err.old) (E.taken err.new) }
 {
     let Ok(found) = finder.find(asked.alloc, &asked.file, asked.scan.assumed) else {
         return out_of_memory(err);
     };
     match one_at(asked.file.text, &found.calls, at) {
         Some(call) => spell_one(asked, call, out, err),
-        None => end(err, NOT_ONE, 3),
+        None => end(err, NOT_ONE, Status::Misused),
     }
 }
 
@@ -161,11 +159,15 @@ fn is_at(position: Position, at: At) -> bool {
 }
 
 /// The same for this call.
-fn spell_one<W: Sink, E: Sink>(asked: &FileScan, call: &FoundCall, out: &mut W, err: &mut E) -> u8
-    ensures within { result ≤ 5 }
-    ensures known { result ≢ 3 }
-    ensures spelled { result ≢ 4 → SpellsCall asked.now.scan.now.denied asked.now.file.text.now call.now (record { before = W.taken out.old; after = W.taken out.new }) result }
-    ensures silent { result ≡ 0 → Keeps (E.taken err.old) (E.taken err.new) }
+fn spell_one<W: Sink, E: Sink>(
+    asked: &FileScan,
+    call: &FoundCall,
+    out: &mut W,
+    err: &mut E,
+) -> Status
+    ensures known { result ≢ Status.Misused }
+    ensures spelled { result ≢ Status.Failed → SpellsCall asked.now.scan.now.denied asked.now.file.text.now call.now (record { before = W.taken out.old; after = W.taken out.new }) result }
+    ensures silent { result ≡ Status.Accepted → Keeps (E.taken err.old) (E.taken err.new) }
 {
     match report_of(asked, call) {
         Ok((report, status)) => sent(&report, status, out, err),
@@ -174,7 +176,7 @@ fn spell_one<W: Sink, E: Sink>(asked: &FileScan, call: &FoundCall, out: &mut W, 
 }
 
 /// What is written of the call, and the exit status.
-fn report_of(asked: &FileScan, call: &FoundCall) -> Result<(Vec<u8>, u8), AllocError>
+fn report_of(asked: &FileScan, call: &FoundCall) -> Result<(Vec<u8>, Status), AllocError>
     ensures { IfOk result (λ made. (e : Explanation) × IsSaidOf asked.now.file.text.now (denied_of call.now asked.now.scan.now.denied) call.now.words.items call.now.script e × IsPlainReport e made.0.items made.1) }
 {
     let alloc = asked.alloc;
@@ -187,23 +189,22 @@ fn report_of(asked: &FileScan, call: &FoundCall) -> Result<(Vec<u8>, u8), AllocE
 }
 
 /// Writes what is to be written with this status, and answers the exit status.
-fn sent<W: Sink, E: Sink>(report: &[u8], status: u8, out: &mut W, err: &mut E) -> u8
-    ensures within { result ≤ 5 }
-    ensures known { result ≢ 3 }
-    ensures same { result ≢ 4 → result ≡ status }
-    ensures written { result ≡ 0 → Appends (W.taken out.old) (W.taken out.new) report.now }
-    ensures kept { result ≢ 4 → result ≢ 0 → Keeps (W.taken out.old) (W.taken out.new) }
-    ensures silent { result ≡ 0 → Keeps (E.taken err.old) (E.taken err.new) }
+fn sent<W: Sink, E: Sink>(report: &[u8], status: Status, out: &mut W, err: &mut E) -> Status
+    ensures known { result ≢ Status.Misused }
+    ensures same { result ≢ Status.Failed → result ≡ status }
+    ensures written { result ≡ Status.Accepted → Appends (W.taken out.old) (W.taken out.new) report.now }
+    ensures kept { result ≢ Status.Failed → result ≢ Status.Accepted → Keeps (W.taken out.old) (W.taken out.new) }
+    ensures silent { result ≡ Status.Accepted → Keeps (E.taken err.old) (E.taken err.new) }
 {
     match status {
-        0 => match write_all(out, report) {
-            Ok(()) => 0,
+        Status::Accepted => match write_all(out, report) {
+            Ok(()) => Status::Accepted,
             Err(_) => unwritten(err),
         },
-        1 | 2 | 5 => {
+        Status::Misused => end(err, report, Status::Failed),
+        _ => {
             let _ = write_all(err, report);
             status
         }
-        _ => end(err, report, 4),
     }
 }

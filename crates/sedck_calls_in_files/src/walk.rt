@@ -1,19 +1,19 @@
 //! Files and folders, one after another.
 
-ghost use Rattle.std.specs.Prelude.{◌≡◌, ◌≢◌, ◌≤◌, map, IfOk};
+ghost use Rattle.std.specs.Prelude.{◌≡◌, ◌≢◌, map, IfOk};
 ghost use Rattle.std.specs.Io.KnownBytes.{Keeps};
 ghost use Rattle.sedck_calls_in_files.specs.Scanned.{PathStatus, IsWorstOf};
 ghost use Rattle.sedck_calls_in_files.specs.Private.Contents.{ContentsStatus, SourceStatus};
 
 use crate::answers::{script_report, write_report};
 use crate::errors::{Unread, ended, write_named};
-use crate::file::{explain_text, greater};
+use crate::file::explain_text;
 use crate::finder::Finder;
 use crate::reading::{Contents, contents_of};
 use crate::request::{File, FileScan, Look, Scan};
 use sedck_cert::streams::{Failed, FromRead, Sink, Source, write_all};
 use sedck_engines::{Input as InputOf, Opener, read_up_to};
-use sedck_explanation::{Unexplained, explain};
+use sedck_explanation::{Status, Unexplained, explain};
 use sedck_formats::{Counts, json_counts, json_unreadable};
 use std::alloc::{AllocError, Global};
 use std::fs;
@@ -48,8 +48,8 @@ pub struct Walk<'a, 'b, R, O, F> {
 }
 
 /// Explains each call in the files and in those below the folders, in sorted order, writes the reports and at the end how many there
-/// are, and answers the exit status: that of the calls which tells most, in the order 2, 1, 5, 0, or 4 where a file can't be read, a
-/// write fails or memory runs out. Links in folders aren't followed. What can't be read is reported at the end.
+/// are, and answers the exit status: that of the calls which tells most, or `Failed` where a file can't be read, a write fails or memory runs
+/// out. Links in folders aren't followed. What can't be read is reported at the end.
 ///
 /// Files are opened by the opener, and folders are those of the system.
 pub fn scan_files<
@@ -58,11 +58,10 @@ pub fn scan_files<
     F: Finder,
     W: Sink,
     E: Sink,
->(walk: &Walk<R, O, F>, out: &mut W, err: &mut E) -> u8
-    ensures within { result ≤ 5 }
-    ensures known { result ≢ 3 }
-    ensures worst { result ≢ 4 → IsWorstOf (PathStatus (O.known walk.now.files.now) (F.found walk.now.finder.now) walk.now.scan.now.denied) 0 (map (λ path. path.now) walk.now.scan.now.paths.now) result }
-    ensures silent { result ≢ 4 → Keeps (E.taken err.old) (E.taken err.new) }
+>(walk: &Walk<R, O, F>, out: &mut W, err: &mut E) -> Status
+    ensures known { result ≢ Status.Misused }
+    ensures worst { result ≢ Status.Failed → IsWorstOf (PathStatus (O.known walk.now.files.now) (F.found walk.now.finder.now) walk.now.scan.now.denied) Status.Accepted (map (λ path. path.now) walk.now.scan.now.paths.now) result }
+    ensures silent { result ≢ Status.Failed → Keeps (E.taken err.old) (E.taken err.new) }
 {
     let mut pass = Pass {
         counts: Counts::NONE,
@@ -72,47 +71,46 @@ pub fn scan_files<
         Ok(status) if pass.unread.is_empty() => status_of(status),
         Ok(_) => {
             let _ = write_unread(err, &pass.unread);
-            4
+            Status::Failed
         }
         Err(fault) => ended(err, fault),
     }
 }
 
 /// The status where all was read and written.
-fn status_of(status: u8) -> u8
-    ensures within { result ≤ 5 }
-    ensures known { result ≢ 3 }
-    ensures same { result ≢ 4 → result ≡ status }
+fn status_of(status: Status) -> Status
+    ensures known { result ≢ Status.Misused }
+    ensures same { result ≢ Status.Failed → result ≡ status }
 {
     match status {
-        0 | 1 | 2 | 5 => status,
-        _ => 4,
+        Status::Misused => Status::Failed,
+        _ => status,
     }
 }
 
 impl<R: Files + Input + AllocGlobal + Clone + Drop, O: Opener, F: Finder> Walk<'_, '_, R, O, F> {
     /// Visits all that is given, and writes how many calls there are. Answers the status that tells most.
-    fn visit_all<W: Sink>(&self, pass: &mut Pass, out: &mut W) -> Result<u8, Unexplained>
-        ensures { IfOk result (IsWorstOf (PathStatus (O.known self.now.files.now) (F.found self.now.finder.now) self.now.scan.now.denied) 0
+    fn visit_all<W: Sink>(&self, pass: &mut Pass, out: &mut W) -> Result<Status, Unexplained>
+        ensures { IfOk result (IsWorstOf (PathStatus (O.known self.now.files.now) (F.found self.now.finder.now) self.now.scan.now.denied) Status.Accepted
             (map (λ path. path.now) self.now.scan.now.paths.now)) }
     {
-        let mut status = 0;
+        let mut status = Status::Accepted;
         for path in self.scan.paths {
             let one = self.visit_path(path, pass, out)?;
-            status = greater(status, one);
+            status = status.worse(one);
         }
         write_counts(self.rt.alloc(), self.scan.look, pass.counts, status, out)?;
         Ok(status)
     }
 
-    /// Visits a file that is given, or a folder with all that is below it: the status that tells most, 4 where something can't be
-    /// read. The path `-` is standard input.
+    /// Visits a file that is given, or a folder with all that is below it: the status that tells most, `Failed` where something
+    /// can't be read. The path `-` is standard input.
     fn visit_path<W: Sink>(
         &self,
         path: &str,
         pass: &mut Pass,
         out: &mut W,
-    ) -> Result<u8, Unexplained>
+    ) -> Result<Status, Unexplained>
         ensures { IfOk result (PathStatus (O.known self.now.files.now) (F.found self.now.finder.now) self.now.scan.now.denied path.now) }
     {
         if path == "-" {
@@ -131,7 +129,7 @@ impl<R: Files + Input + AllocGlobal + Clone + Drop, O: Opener, F: Finder> Walk<'
         source: &mut S,
         pass: &mut Pass,
         out: &mut W,
-    ) -> Result<u8, Unexplained>
+    ) -> Result<Status, Unexplained>
         ensures { IfOk result (SourceStatus (S.left source.old) (S.has_failed source.new) (F.found self.now.finder.now path.now) self.now.scan.now.denied) }
     {
         let contents = contents_of(self.rt.alloc(), path, self.scan.kind, true, source)?;
@@ -148,7 +146,7 @@ impl<R: Files + Input + AllocGlobal + Clone + Drop, O: Opener, F: Finder> Walk<'
         contents: &Contents,
         pass: &mut Pass,
         out: &mut W,
-    ) -> Result<u8, Unexplained>
+    ) -> Result<Status, Unexplained>
         ensures { IfOk result (ContentsStatus (F.found self.now.finder.now path.now) self.now.scan.now.denied contents.now) }
     {
         match contents {
@@ -164,7 +162,7 @@ impl<R: Files + Input + AllocGlobal + Clone + Drop, O: Opener, F: Finder> Walk<'
                 };
                 explain_text(&asked, self.finder, &mut pass.counts, out)
             }
-            Contents::Other => Ok(0),
+            Contents::Other => Ok(Status::Accepted),
             Contents::TooLong => self.report_unread(path, TOO_LONG, pass, out),
             Contents::Unreadable => self.skip(path, pass, out),
         }
@@ -184,7 +182,7 @@ impl<R: Files + Input + AllocGlobal + Clone + Drop, O: Opener, F: Finder> Walk<'
         folder: &str,
         pass: &mut Pass,
         out: &mut W,
-    ) -> Result<u8, Unexplained> {
+    ) -> Result<Status, Unexplained> {
         let mut pending = Vec::new(self.rt.alloc());
         let mut status = self.enter(folder, &mut pending, pass, out)?;
         for _ in 0..u64::MAX {
@@ -192,7 +190,7 @@ impl<R: Files + Input + AllocGlobal + Clone + Drop, O: Opener, F: Finder> Walk<'
                 break;
             };
             let one = self.visit_entry(next.as_str(), &mut pending, pass, out)?;
-            status = greater(status, one);
+            status = status.worse(one);
         }
         Ok(status)
     }
@@ -204,7 +202,7 @@ impl<R: Files + Input + AllocGlobal + Clone + Drop, O: Opener, F: Finder> Walk<'
         pending: &mut Vec<String>,
         pass: &mut Pass,
         out: &mut W,
-    ) -> Result<u8, Unexplained> {
+    ) -> Result<Status, Unexplained> {
         let Ok(metadata) = fs::symlink_metadata(self.rt, path) else {
             return self.skip(path, pass, out);
         };
@@ -212,7 +210,7 @@ impl<R: Files + Input + AllocGlobal + Clone + Drop, O: Opener, F: Finder> Walk<'
             return self.enter(path, pending, pass, out);
         }
         if !metadata.is_file() {
-            return Ok(0);
+            return Ok(Status::Accepted);
         }
         let Ok(mut file) = self.files.open(path) else {
             return self.skip(path, pass, out);
@@ -231,7 +229,7 @@ impl<R: Files + Input + AllocGlobal + Clone + Drop, O: Opener, F: Finder> Walk<'
         source: &mut S,
         pass: &mut Pass,
         out: &mut W,
-    ) -> Result<u8, Unexplained> {
+    ) -> Result<Status, Unexplained> {
         match read_up_to(self.rt.alloc(), source, LONGEST_SCRIPT, InputOf::Script) {
             Ok(text) => self.explain_whole(path, &text, pass, out),
             Err(_) => self.skip(path, pass, out),
@@ -245,7 +243,7 @@ impl<R: Files + Input + AllocGlobal + Clone + Drop, O: Opener, F: Finder> Walk<'
         text: &[u8],
         pass: &mut Pass,
         out: &mut W,
-    ) -> Result<u8, Unexplained> {
+    ) -> Result<Status, Unexplained> {
         let alloc = self.rt.alloc();
         let explanation = explain(alloc, Some(path.as_bytes()), text, None, self.scan.denied)?;
         pass.counts.scripts = pass.counts.scripts.saturating_add(1);
@@ -254,23 +252,23 @@ impl<R: Files + Input + AllocGlobal + Clone + Drop, O: Opener, F: Finder> Walk<'
         Ok(status)
     }
 
-    /// Adds the entries of the folder to what is pending: status 0, or 4 where not all of their names can be read.
+    /// Adds the entries of the folder to what is pending, unless not all of their names can be read.
     fn enter<W: Sink>(
         &self,
         folder: &str,
         pending: &mut Vec<String>,
         pass: &mut Pass,
         out: &mut W,
-    ) -> Result<u8, Unexplained> {
+    ) -> Result<Status, Unexplained> {
         if add_entries(self.rt, folder, pending)? {
-            return Ok(0);
+            return Ok(Status::Accepted);
         }
         self.skip(folder, pass, out)
     }
 
-    /// Keeps that the file or folder can't be read: status 4.
-    fn skip<W: Sink>(&self, path: &str, pass: &mut Pass, out: &mut W) -> Result<u8, Unexplained>
-        ensures { IfOk result (λ status. status ≡ 4) }
+    /// Keeps that the file or folder can't be read.
+    fn skip<W: Sink>(&self, path: &str, pass: &mut Pass, out: &mut W) -> Result<Status, Unexplained>
+        ensures { IfOk result (λ status. status ≡ Status.Failed) }
     {
         let reason = match self.files.why_unreadable(path) {
             Some("it is a directory") => Some("not all of its names can be read"),
@@ -278,15 +276,15 @@ impl<R: Files + Input + AllocGlobal + Clone + Drop, O: Opener, F: Finder> Walk<'
         };
         self.report_unread(path, reason, pass, out)
     }
-    /// Keeps that a file can't be read, and reports it where each has an object: status 4.
+    /// Keeps that a file can't be read, and reports it where each has an object.
     fn report_unread<W: Sink>(
         &self,
         path: &str,
         reason: Option<&'static str>,
         pass: &mut Pass,
         out: &mut W,
-    ) -> Result<u8, Unexplained>
-        ensures { IfOk result (λ status. status ≡ 4) }
+    ) -> Result<Status, Unexplained>
+        ensures { IfOk result (λ status. status ≡ Status.Failed) }
     {
         let alloc = self.rt.alloc();
         let message = Unread { name: path, reason }.words(alloc)?;
@@ -295,7 +293,7 @@ impl<R: Files + Input + AllocGlobal + Clone + Drop, O: Opener, F: Finder> Walk<'
             write_report(out, json_unreadable(alloc, path, message.as_str()))?;
         }
         keep(&mut pass.unread, message)?;
-        Ok(4)
+        Ok(Status::Failed)
     }
 }
 
@@ -304,7 +302,7 @@ fn write_counts<W: Sink>(
     alloc: Global,
     look: Look,
     counts: Counts,
-    status: u8,
+    status: Status,
     out: &mut W,
 ) -> Result<(), Unexplained> {
     match look {

@@ -17,7 +17,7 @@ fn main(rt: HostRuntime) -> ExitCode {
         Ok(words) => program(&rt, &words, colour, &mut out, &mut err),
         Err(_) => out_of_memory(&mut err),
     };
-    ExitCode::from(flushed(status, out.into_inner(), &mut err))
+    ExitCode::from(flushed(status, out.into_inner(), &mut err).code())
 }
 
 /// Whether the user hasn't asked for no colours (no-color.org): `NO_COLOR` is empty or isn't set.

@@ -9,6 +9,7 @@ use Rattle.sedck_explanation.specs.Called.{has_foreign, AreParts, IsCalled}
 use Rattle.sedck_engines.specs.Opened.{Known}
 use Rattle.sedck_errors.specs.declared.denied.Denied.{Denied}
 use Rattle.sedck_explanation.specs.declared.explanation.Explanation.{Explanation}
+use Rattle.sedck_explanation.specs.Status.{Status, Refused}
 use Rattle.sedck_explain_cli.specs.CallStatus.{HasCallStatus}
 
 -- words with a fault are no call
@@ -19,19 +20,19 @@ no_call words fault.NoScript is other call called =
     called.has_script (subst LacksScript e is.2)
 no_call words fault.OutOfMemory is other call called = absurd (other refl)
 
-pub refused_call : {E : Type 0} (k : Known) (denied : Denied) (words : List (List ℕ)) (why : CallFault) (r : Result ℕ E) → IsFault words why
-    → IfOk r (λ status. status ≡ 2) → OnOk r (why ≢ fault.OutOfMemory) → IfOk r (HasCallStatus k denied words)
+pub refused_call : {E : Type 0} (k : Known) (denied : Denied) (words : List (List ℕ)) (why : CallFault) (r : Result Status E) → IsFault words why
+    → IfOk r (λ status. status ≡ Refused) → OnOk r (why ≢ fault.OutOfMemory) → IfOk r (HasCallStatus k denied words)
 refused_call k denied words why (Ok status) is two other = inr (no_call words why is other, two)
 refused_call k denied words why (Err e) is two other = two
 
-pub foreign_call : {E : Type 0} (k : Known) (denied : Denied) (words : List (List ℕ)) (call : Call) (status : ℕ) (r : Result ℕ E)
-    → IsCall words call → has_foreign call.given.items ≡ true → IfOk r (λ answered. answered ≡ status) → status ≡ 2
+pub foreign_call : {E : Type 0} (k : Known) (denied : Denied) (words : List (List ℕ)) (call : Call) (status : Status) (r : Result Status E)
+    → IsCall words call → has_foreign call.given.items ≡ true → IfOk r (λ answered. answered ≡ status) → status ≡ Refused
     → IfOk r (HasCallStatus k denied words)
 foreign_call k denied words call status (Ok answered) is foreign same two = inl (call, is, rw foreign (same ∙ two))
 foreign_call k denied words call status (Err e) is foreign same two = same
 
 pub judged_call : {E : Type 0} (k : Known) (denied : Denied) (words : List (List ℕ)) (call : Call) (parts : List (List ℕ)) (e : Explanation)
-    (r : Result ℕ E) → IsCall words call → has_foreign call.given.items ≡ false → AreParts k words call.pieces.items parts
+    (r : Result Status E) → IsCall words call → has_foreign call.given.items ≡ false → AreParts k words call.pieces.items parts
     → IsCalled (joined_texts parts) denied call e → IfOk r (λ answered. answered ≡ e.status) → IfOk r (HasCallStatus k denied words)
 judged_call k denied words call parts e (Ok answered) is judged are called same = inl (
   call,

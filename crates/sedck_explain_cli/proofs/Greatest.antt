@@ -1,17 +1,19 @@
 -- From what was explained to the statuses of scripts.
-use Rattle.std.proofs.Common.{◌≡◌, ◌∙◌, ◌<◌, ◌+◌, ℕ, suc, max, List, [], ◌∷◌, ◌++◌, map, take, length, get_or, Option, Some, None, Result, IfOk, IfSome, refl, sym, ap, subst, take-suc, arith}
-use Rattle.std.proofs.lemmas.List.{length-map, get_or-map}
+use Rattle.std.proofs.Common.{◌≡◌, ◌<◌, ◌+◌, ℕ, nat_le, Bool, true, false, if◌then◌else◌, List, map, take, length, get_or, Option, Some, None, Result, IfOk, IfSome, refl, sym, subst}
 use Rattle.sedck_engines.specs.Opened.{Known}
 use Rattle.sedck_engines.specs.declared.answer.RunFault.{RunFault}
 use Rattle.sedck_errors.specs.declared.denied.Denied.{Denied}
+use Rattle.sedck_explanation.specs.Status.{Status, Accepted, Failed, rank, worse}
 use Rattle.sedck_explanation.specs.declared.explanation.Explanation.{Explanation}
 use Rattle.sedck_explanation.proofs.Answering.{on_ok}
 use Rattle.sedck_explanation.proofs.KnownBytes.{read_known}
 use Rattle.sedck_formats.specs.Plain.{Output}
+use Rattle.sedck_calls_in_files.specs.Scanned.{IsWorstOf}
+use Rattle.sedck_calls_in_files.proofs.Worst.{next_path}
 use Rattle.sedck_explain_cli.specs.Explained.{IsExplained, IsExplainedWith}
-use Rattle.sedck_explain_cli.specs.Statuses.{IsGiven, HasStatus, IsGreatest}
+use Rattle.sedck_explain_cli.specs.Statuses.{IsGiven, HasStatus}
 
-pub known_status : (k : Known) (denied : Denied) (certificate known left : Option (List ℕ)) (r : Result ℕ RunFault)
+pub known_status : (k : Known) (denied : Denied) (certificate known left : Option (List ℕ)) (r : Result Status RunFault)
     → IfSome known (λ bytes. left ≡ Some bytes) → IfOk r (HasStatus k denied certificate left) → IfOk r (HasStatus k denied certificate known)
 known_status k denied certificate known left r same has =
     on_ok (HasStatus k denied certificate left) (HasStatus k denied certificate known) r
@@ -26,7 +28,7 @@ known_status k denied certificate known left r same has =
     }) has
 
 pub alone_status : (k : Known) (reported : Explanation → Option (List ℕ)) (denied : Denied) (certificate script : Option (List ℕ))
-    (out : Output) (r : Result ℕ RunFault) → certificate ≡ None → IfOk r (IsExplained reported denied script out)
+    (out : Output) (r : Result Status RunFault) → certificate ≡ None → IfOk r (IsExplained reported denied script out)
     → IfOk r (HasStatus k denied certificate script)
 alone_status k reported denied certificate script out r none explained =
     on_ok (IsExplained reported denied script out) (HasStatus k denied certificate script) r
@@ -41,7 +43,7 @@ alone_status k reported denied certificate script out r none explained =
     }) explained
 
 pub with_status : (k : Known) (reported : Explanation → Option (List ℕ)) (denied : Denied) (certificate script : Option (List ℕ))
-    (path : List ℕ) (left : Option (List ℕ)) (out : Output) (r : Result ℕ RunFault) → certificate ≡ Some path
+    (path : List ℕ) (left : Option (List ℕ)) (out : Output) (r : Result Status RunFault) → certificate ≡ Some path
     → IfSome (k.bytes_at path) (λ bytes. left ≡ Some bytes) → IfOk r (IsExplainedWith reported denied script left out)
     → IfOk r (HasStatus k denied certificate script)
 with_status k reported denied certificate script path left out r some same explained =
@@ -58,26 +60,26 @@ with_status k reported denied certificate script path left out r some same expla
     }) explained
 
 -- one script more
-greatest_snoc : (Has : List ℕ → ℕ → Type 0) (front : List (List ℕ)) (path : List ℕ) (status one : ℕ) → IsGreatest Has front status
-    → Has path one → IsGreatest Has (front ++ path ∷ []) (max one status)
-greatest_snoc Has [] path status one is has = (one, 0, has, refl, ap (max one) is)
-greatest_snoc Has (first ∷ rest) path status one is has =
-    (is.0, max one is.1, is.2, greatest_snoc Has rest path is.1 one is.3 has, ap (max one) is.4 ∙ omega arith)
+pub worst_item : {X : Type 0} (Has : List ℕ → Status → Type 0) (f : X → List ℕ) (given items : List X) (index : ℕ) (status one : Status) (d : X)
+    → given ≡ items → index < length given → IsWorstOf Has Accepted (map f (take index items)) status → Has (f (get_or given index d)) one
+    → IsWorstOf Has Accepted (map f (take (index + 1) items)) (worse status one)
+worst_item Has f given items index status one d same below is has =
+    next_path Has f items index d status one (subst (λ l. index < length l) same below) is (subst (λ l. Has (f (get_or l index d)) one) same has)
 
-next : (n : ℕ) → n + 1 ≡ suc n
-next n = omega arith
+-- what holds of both holds of the one that tells more
+pub worse_has : (P : Status → Type 0) (one other : Status) → P one → P other → P (worse one other)
+worse_has P one other here there = of_test (nat_le (rank other) (rank one))
+  where
+    of_test : (b : Bool) → P (if b then one else other)
+    of_test true = here
+    of_test false = there
 
-pub greatest_next : (Has : List ℕ → ℕ → Type 0) (paths : List (List ℕ)) (index status one : ℕ) → index < length paths
-    → IsGreatest Has (take index paths) status → Has (get_or paths index []) one → IsGreatest Has (take (index + 1) paths) (max one status)
-greatest_next Has paths index status one below is has =
-    subst (λ front. IsGreatest Has front (max one status)) (sym (ap (λ n. take n paths) (next index) ∙ take-suc paths index [] below))
-    (greatest_snoc Has (take index paths) (get_or paths index []) status one is has)
+-- a failure tells most
+pub failed_stays : (one : Status) → worse Failed one ≡ Failed
+failed_stays Accepted = refl
+failed_stays _ = refl
 
--- the same for the next of some items
-pub greatest_item : {X : Type 0} (Has : List ℕ → ℕ → Type 0) (f : X → List ℕ) (given items : List X) (index status one : ℕ) (d : X)
-    → given ≡ items → index < length given → IsGreatest Has (take index (map f items)) status → Has (f (get_or given index d)) one
-    → IsGreatest Has (take (index + 1) (map f items)) (max one status)
-greatest_item Has f given items index status one d same below is has =
-    let within = subst (λ l. index < length l) same below in
-    greatest_next Has (map f items) index status one (subst (λ n. index < n) (sym (length-map items f)) within) is
-    (subst (λ path. Has path one) (sym (get_or-map f items index d [] within)) (subst (λ l. Has (f (get_or l index d)) one) same has))
+-- and a yes least
+pub yes_gives_way : (one : Status) → one ≡ worse Accepted one
+yes_gives_way Accepted = refl
+yes_gives_way _ = refl

@@ -1,5 +1,5 @@
 -- From what is written in the format `sed` to what is promised of it.
-use Rattle.std.proofs.Common.{◌≡◌, ◌≤◌, ◌∙◌, ℕ, Bool, true, false, List, [], ◌∷◌, Option, Result, Ok, Err, IfOk, IfSome, inl, inr, refl, sym, subst, arith}
+use Rattle.std.proofs.Common.{◌≡◌, ◌∙◌, ℕ, Bool, true, false, List, [], ◌∷◌, Option, Result, Ok, Err, IfOk, IfSome, inl, inr, refl, sym, subst}
 use Rattle.std.specs.Prelude.{◌⊎◌}
 use Rattle.std.specs.Io.KnownBytes.{Keeps as KeepsBytes}
 use Rattle.sedck_errors.specs.declared.denied.Denied.{Denied}
@@ -12,34 +12,37 @@ use Rattle.sedck_explanation.specs.Denial.{status_under}
 use Rattle.sedck_explanation.specs.Explanations.{Keeps, KeepsScript, IsExplanation}
 use Rattle.sedck_explanation.specs.declared.answer.Answer.{Answer}
 use Rattle.sedck_explanation.specs.declared.answer.Answer.TheVariants.{Accepted, Rejected, Endless, ScriptRefused, CertificateRefused, NotJudged}
+use Rattle.sedck_explanation.specs.Status.{Status, IsOfAnswer}
 use Rattle.sedck_explanation.specs.declared.explanation.Explanation.{Explanation}
+use Rattle.sedck_explanation.specs.declared.status.Status.TheVariants as exit
 use Rattle.sedck_formats.specs.Plain.{Output, IsPlainStatus, IsPlainOutput, Writes}
-use Rattle.sedck_calls_in_files.specs.Scanned.{Holds}
+use Rattle.sedck_calls_in_files.specs.Scanned.{Holds, IsWorstOf}
 use Rattle.sedck_explain_cli.specs.Answers.{HasOneStatus}
 use Rattle.sedck_explain_cli.specs.Requests.{certificate_of}
-use Rattle.sedck_explain_cli.specs.Statuses.{IsGiven, IsGreatest, StatusAt}
+use Rattle.sedck_explain_cli.specs.Statuses.{IsGiven, StatusAt}
 use Rattle.sedck_explain_cli.specs.declared.request.Request.{Request}
+use Rattle.sedck_explain_cli.proofs.Greatest.{yes_gives_way}
 use Rattle.sedck_explain_cli.specs.Private.Shown.{IsShown, SpellsFound}
 use Rattle.sedck_explain_cli.specs.Spelled.{IsPlainly, IsIn, Copies, WritesSame, IsSpelled, SpellsAt, CopiesCall, SpellsCall}
 
 -- ---- The status
 
--- what is written with the status 0 is accepted
-pub judged_zero : (judged status : ℕ) → IsPlainStatus judged status → status ≡ 0 → judged ≡ 0
-judged_zero judged status (inl same) zero = sym same ∙ zero
-judged_zero judged status (inr both) zero = both.0
+-- what is written with that of a yes is accepted
+pub judged_yes : (judged status : Status) → IsPlainStatus judged status → status ≡ exit.Accepted → judged ≡ exit.Accepted
+judged_yes judged status (inl same) yes = sym same ∙ yes
+judged_yes judged status (inr both) yes = both.0
 
 -- ---- The script
 
--- a script with the status 0 is kept
+-- an accepted script is kept
 kept_script : (text : List ℕ) (denied : Denied) (warned slow : Bool) (e : Explanation) (answer : Answer)
-    → e.status ≡ status_under denied warned slow answer → Keeps text answer e → e.status ≡ 0 → KeepsScript text e
-kept_script text denied warned slow e (Accepted cert bound) is keeps zero = keeps
-kept_script text denied warned slow e (Rejected cert why) is keeps zero = keeps
-kept_script text denied warned slow e (Endless walk) is keeps zero = keeps
-kept_script text denied warned slow e (CertificateRefused why) is keeps zero = keeps
-kept_script text denied warned slow e (ScriptRefused why) is keeps zero = let two = sym is ∙ zero in cc two
-kept_script text denied warned slow e NotJudged is keeps zero = let two = sym is ∙ zero in cc two
+    → e.status ≡ status_under denied warned slow answer → Keeps text answer e → e.status ≡ exit.Accepted → KeepsScript text e
+kept_script text denied warned slow e (Accepted cert bound) is keeps yes = keeps
+kept_script text denied warned slow e (Rejected cert why) is keeps yes = keeps
+kept_script text denied warned slow e (Endless walk) is keeps yes = keeps
+kept_script text denied warned slow e (CertificateRefused why) is keeps yes = keeps
+kept_script text denied warned slow e (ScriptRefused why) is keeps yes = let clash : exit.Refused ≡ exit.Accepted = sym is ∙ yes in cc clash
+kept_script text denied warned slow e NotJudged is keeps yes = let clash : exit.Refused ≡ exit.Accepted = sym is ∙ yes in cc clash
 
 -- what spells it is a copy of the text
 copied : (text : List ℕ) (e : Explanation) (out : Output) → KeepsScript text e → IfSome e.script (Writes out) → Copies text out
@@ -48,75 +51,75 @@ copied text e out kept writes =
     (written.0, record { program = kept.script; spelled = kept.spelled.spells; only = kept.spelled.only; same = written.1 }, written.2)
 
 pub copied_yes : (text : List ℕ) (given : Option (List ℕ)) (denied : Denied) (e : Explanation) (out : Output) → IsExplanation text given denied e
-    → e.status ≡ 0 → IfSome e.script (Writes out) → Copies text out
-copied_yes text given denied e out is zero writes =
-    copied text e out (kept_script text denied _ _ e e.answer is.is_status is.keeps zero) writes
+    → e.status ≡ exit.Accepted → IfSome e.script (Writes out) → Copies text out
+copied_yes text given denied e out is yes writes =
+    copied text e out (kept_script text denied _ _ e e.answer is.is_status is.keeps yes) writes
 
 -- ---- What is written
 
-pub writes_same : (text : List ℕ) (given : Option (List ℕ)) (denied : Denied) (e : Explanation) (out : Output) (status : ℕ)
+pub writes_same : (text : List ℕ) (given : Option (List ℕ)) (denied : Denied) (e : Explanation) (out : Output) (status : Status)
     → IsExplanation text given denied e → IsPlainStatus e.status status → IsPlainOutput e.script out status → WritesSame text out status
 writes_same text given denied e out status is same writes = record {
-  spelled = λ zero. copied_yes text given denied e out is (judged_zero e.status status same zero) (writes.spelled zero);
+  spelled = λ yes. copied_yes text given denied e out is (judged_yes e.status status same yes) (writes.spelled yes);
   kept = writes.kept;
 }
 
-at_most_two : (judged status : ℕ) → IsPlainStatus judged status → judged ≤ 2 → status ≤ 2
-at_most_two judged status (inl same) few = omega (arith, same, few)
-at_most_two judged status (inr both) few = let two = both.1 in omega (arith, two)
+of_answer : (judged status : Status) → IsPlainStatus judged status → IsOfAnswer judged → IsOfAnswer status
+of_answer judged status (inl same) few = subst IsOfAnswer (sym same) few
+of_answer judged status (inr both) few = subst IsOfAnswer (sym both.1) ((λ e. cc e), (λ e. cc e), (λ e. cc e))
 
 -- ---- In one format or another
 
 -- the status of what is shown, by what is known of the one that is judged
-shown_status : (plain : Bool) (Has : ℕ → Type 0) (e : Explanation) (out err : Output) (status : ℕ) → IsShown plain e out err status → Has e.status
+shown_status : (plain : Bool) (Has : Status → Type 0) (e : Explanation) (out err : Output) (status : Status) → IsShown plain e out err status → Has e.status
     → IsIn plain Has status
 shown_status true Has e out err status s has = (e.status, has, s.is_status)
 shown_status false Has e out err status s has = subst Has (sym s.is_status) has
 
-shown_zero : (plain : Bool) (e : Explanation) (out err : Output) (status : ℕ) → IsShown plain e out err status → status ≡ 0 → e.status ≡ 0
-shown_zero true e out err status s zero = judged_zero e.status status s.is_status zero
-shown_zero false e out err status s zero = sym s.is_status ∙ zero
+yes_shown : (plain : Bool) (e : Explanation) (out err : Output) (status : Status) → IsShown plain e out err status → status ≡ exit.Accepted → e.status ≡ exit.Accepted
+yes_shown true e out err status s yes = judged_yes e.status status s.is_status yes
+yes_shown false e out err status s yes = sym s.is_status ∙ yes
 
-pub all_shown : {E : Type 0} (plain : Bool) (Has : ℕ → Type 0) (e : Explanation) (out err : Output) (r : Result ℕ E)
+pub all_shown : {E : Type 0} (plain : Bool) (Has : Status → Type 0) (e : Explanation) (out err : Output) (r : Result Status E)
     → IfOk r (IsShown plain e out err) → Has e.status → IfOk r (IsIn plain Has)
 all_shown plain Has e out err (Ok status) s has = shown_status plain Has e out err status s has
 all_shown plain Has e out err (Err why) s has = tt
 
-pub shown_yes : {E : Type 0} (plain : Bool) (P : Type 0) (e : Explanation) (out err : Output) (r : Result ℕ E)
-    → IfOk r (IsShown plain e out err) → (e.status ≡ 0 → P) → IfOk r (λ status. status ≡ 0 → P)
-shown_yes plain P e out err (Ok status) s holds = λ zero. holds (shown_zero plain e out err status s zero)
+pub shown_yes : {E : Type 0} (plain : Bool) (P : Type 0) (e : Explanation) (out err : Output) (r : Result Status E)
+    → IfOk r (IsShown plain e out err) → (e.status ≡ exit.Accepted → P) → IfOk r (λ status. status ≡ exit.Accepted → P)
+shown_yes plain P e out err (Ok status) s holds = λ yes. holds (yes_shown plain e out err status s yes)
 shown_yes plain P e out err (Err why) s holds = tt
 
-pub shown_spells : {E : Type 0} (plain : Bool) (k : Known) (denied : Denied) (words : List (List ℕ)) (e : Explanation) (out err : Output) (r : Result ℕ E)
-    → IfOk r (IsShown plain e out err) → (e.status ≡ 0 → IfSome e.script (Writes out) → CopiesCall k denied words out)
+pub shown_spells : {E : Type 0} (plain : Bool) (k : Known) (denied : Denied) (words : List (List ℕ)) (e : Explanation) (out err : Output) (r : Result Status E)
+    → IfOk r (IsShown plain e out err) → (e.status ≡ exit.Accepted → IfSome e.script (Writes out) → CopiesCall k denied words out)
     → IfOk r (λ status. plain ≡ true → SpellsCall k denied words out status)
 shown_spells plain k denied words e out err (Ok status) s copies = λ is. record {
-  spelled = λ zero. copies (shown_zero plain e out err status s zero) ((s.writes is).spelled zero);
+  spelled = λ yes. copies (yes_shown plain e out err status s yes) ((s.writes is).spelled yes);
   kept = (s.writes is).kept;
 }
 shown_spells plain k denied words e out err (Err why) s copies = tt
 
-pub shown_silent : {E : Type 0} (plain : Bool) (e : Explanation) (out err : Output) (r : Result ℕ E) → IfOk r (IsShown plain e out err)
-    → IfOk r (λ status. (plain ≡ false) ⊎ (status ≡ 0) → KeepsBytes err.before err.after)
+pub shown_silent : {E : Type 0} (plain : Bool) (e : Explanation) (out err : Output) (r : Result Status E) → IfOk r (IsShown plain e out err)
+    → IfOk r (λ status. (plain ≡ false) ⊎ (status ≡ exit.Accepted) → KeepsBytes err.before err.after)
 shown_silent plain e out err (Ok status) s = s.silent
 shown_silent plain e out err (Err why) s = tt
 
 -- ---- With one status or another
 
--- a status that isn't 0 is no yes
-pub two_never : {P : Type 0} (status : ℕ) → status ≡ 2 → status ≡ 0 → P
-two_never status two zero = let same = sym two ∙ zero in cc same
+-- what is refused is no yes
+pub never_yes : {P : Type 0} (status : Status) → status ≡ exit.Refused → status ≡ exit.Accepted → P
+never_yes status refused yes = let same : exit.Refused ≡ exit.Accepted = sym refused ∙ yes in cc same
 
-pub shown_few : {E : Type 0} (plain : Bool) (e : Explanation) (out err : Output) (r : Result ℕ E) → IfOk r (IsShown plain e out err) → e.status ≤ 2
-    → IfOk r (λ status. status ≤ 2)
-shown_few true e out err (Ok status) s few = at_most_two e.status status s.is_status few
-shown_few false e out err (Ok status) s few = let same = s.is_status in omega (arith, same, few)
+pub shown_few : {E : Type 0} (plain : Bool) (e : Explanation) (out err : Output) (r : Result Status E) → IfOk r (IsShown plain e out err) → IsOfAnswer e.status
+    → IfOk r IsOfAnswer
+shown_few true e out err (Ok status) s few = of_answer e.status status s.is_status few
+shown_few false e out err (Ok status) s few = subst IsOfAnswer (sym s.is_status) few
 shown_few plain e out err (Err why) s few = tt
 
 -- ---- Scripts
 
 -- what is spelled of the script at a path
-pub path_spelled : (k : Known) (request : Request) (path text : List ℕ) (given : Option (List ℕ)) (out : Output) (r : Result ℕ RunFault)
+pub path_spelled : (k : Known) (request : Request) (path text : List ℕ) (given : Option (List ℕ)) (out : Output) (r : Result Status RunFault)
     → IsRead 1048577 (known_bytes k path) text → IsGiven k (certificate_of request) given → IfOk r (IsSpelled text given request.denied out)
     → IfOk r (SpellsAt k request path out)
 path_spelled k request path text given out r is_text is_given spelled =
@@ -124,7 +127,7 @@ path_spelled k request path text given out r is_text is_given spelled =
     (λ status s. record { text = text; is_text = is_text; given = given; is_given = is_given; is_spelled = s }) spelled
 
 -- its status
-spelled_status : (k : Known) (request : Request) (path : List ℕ) (out : Output) (status : ℕ) → SpellsAt k request path out status
+spelled_status : (k : Known) (request : Request) (path : List ℕ) (out : Output) (status : Status) → SpellsAt k request path out status
     → IsPlainly (StatusAt k request path) status
 spelled_status k request path out status s = (
   s.is_spelled.explanation.status,
@@ -140,7 +143,7 @@ spelled_status k request path out status s = (
   s.is_spelled.is_status,
 )
 
-pub path_status : (k : Known) (request : Request) (path text : List ℕ) (given : Option (List ℕ)) (out : Output) (r : Result ℕ RunFault)
+pub path_status : (k : Known) (request : Request) (path text : List ℕ) (given : Option (List ℕ)) (out : Output) (r : Result Status RunFault)
     → IsRead 1048577 (known_bytes k path) text → IsGiven k (certificate_of request) given → IfOk r (IsSpelled text given request.denied out)
     → IfOk r (IsPlainly (StatusAt k request path))
 path_status k request path text given out r is_text is_given spelled =
@@ -148,14 +151,14 @@ path_status k request path text given out r is_text is_given spelled =
     (path_spelled k request path text given out r is_text is_given spelled)
 
 -- and of the only one
-pub one_greatest : (Has : List ℕ → ℕ → Type 0) (paths : List (List ℕ)) (path : List ℕ) (status : ℕ) → paths ≡ path ∷ [] → IsPlainly (Has path) status
-    → IsPlainly (IsGreatest Has paths) status
+pub one_greatest : (Has : List ℕ → Status → Type 0) (paths : List (List ℕ)) (path : List ℕ) (status : Status) → paths ≡ path ∷ [] → IsPlainly (Has path) status
+    → IsPlainly (IsWorstOf Has exit.Accepted paths) status
 one_greatest Has paths path status same has =
-    subst (λ paths. IsPlainly (IsGreatest Has paths) status) (sym same) (has.0, (has.0, 0, has.1, refl, omega arith), has.2)
+    subst (λ paths. IsPlainly (IsWorstOf Has exit.Accepted paths) status) (sym same) (has.0, (has.0, has.1, yes_gives_way has.0), has.2)
 
 -- ---- Calls in files
 
-pub found_status : (k : Known) (found : List ℕ → List ℕ → Option Holds) (denied : Denied) (paths : List (List ℕ)) (out : Output) (status : ℕ)
+pub found_status : (k : Known) (found : List ℕ → List ℕ → Option Holds) (denied : Denied) (paths : List (List ℕ)) (out : Output) (status : Status)
     → SpellsFound k found denied paths out status → IsPlainly (HasOneStatus k found denied paths) status
 found_status k found denied [] out status s = absurd s
 found_status k found denied (path ∷ []) out status s = (s.explanation.status, (s.explanation, s.is_said, refl), s.is_status)

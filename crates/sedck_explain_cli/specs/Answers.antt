@@ -5,6 +5,7 @@ use Rattle.std.specs.Str.{bytes_eq}
 use Rattle.std.specs.declared.alloc.Global.{Global}
 use Rattle.sedck_engines.specs.Opened.{Known}
 use Rattle.sedck_errors.specs.declared.denied.Denied.{Denied}
+use Rattle.sedck_explanation.specs.Status.{Status, Accepted}
 use Rattle.sedck_calls_in_files.specs.Scanned.{Holds, PathStatus, OneStatus, IsWorstOf}
 use Rattle.sedck_explain_cli.specs.CallStatus.{HasCallStatus}
 use Rattle.sedck_explain_cli.specs.Readings.{texts_of, read}
@@ -12,7 +13,7 @@ use Rattle.sedck_explain_cli.specs.Requests.{scripts_of, is_plain, is_plain_name
 use Rattle.sedck_explain_cli.specs.Spelled.{IsPlainly}
 use Rattle.sedck_explain_cli.specs.declared.request.Request.{Request}
 use Rattle.sedck_explain_cli.specs.declared.words.Words.{Words}
-use Rattle.sedck_explain_cli.specs.Statuses.{IsGreatest, StatusAt}
+use Rattle.sedck_explain_cli.specs.Statuses.{StatusAt}
 
 -- ---- The words
 
@@ -39,34 +40,34 @@ asks_for_help _ = false
 -- ---- The status
 
 -- the words of a call are given, and it has this status
-abbrev pub IsStatusOfCall : Known → Denied → Option (List (List ℕ)) → ℕ → Type 0
+abbrev pub IsStatusOfCall : Known → Denied → Option (List (List ℕ)) → Status → Type 0
 IsStatusOfCall k denied None status = ⊥
 IsStatusOfCall k denied (Some words) status = HasCallStatus k denied words status
 
 -- the status of what is asked for: of calls of sed in files, which may have these; of the call with these words; or of scripts
-abbrev pub HasJudgedStatus : Known → (ℕ → Type 0) → Request → Option (List (List ℕ)) → ℕ → Type 0
+abbrev pub HasJudgedStatus : Known → (Status → Type 0) → Request → Option (List (List ℕ)) → Status → Type 0
 HasJudgedStatus k OfFound request call status =
     MatchBool request.calls (OfFound status)
-    (MatchBool request.sed (IsStatusOfCall k request.denied call status) (IsGreatest (StatusAt k request) (scripts_of request) status))
+    (MatchBool request.sed (IsStatusOfCall k request.denied call status) (IsWorstOf (StatusAt k request) Accepted (scripts_of request) status))
 
 -- the status of one of the calls that are found in the file at the only path
-abbrev pub HasOneStatus : Known → (List ℕ → List ℕ → Option Holds) → Denied → List (List ℕ) → ℕ → Type 0
+abbrev pub HasOneStatus : Known → (List ℕ → List ℕ → Option Holds) → Denied → List (List ℕ) → Status → Type 0
 HasOneStatus k found denied (path ∷ []) status = OneStatus k found denied path status
 HasOneStatus k found denied _ status = ⊥
 
 -- the same in the format that is asked for; calls in files are found so
-abbrev pub HasStatusFor : Known → (List ℕ → List ℕ → Option Holds) → Request → Option (List (List ℕ)) → ℕ → Type 0
+abbrev pub HasStatusFor : Known → (List ℕ → List ℕ → Option Holds) → Request → Option (List (List ℕ)) → Status → Type 0
 HasStatusFor k found request call status =
     MatchBool (is_plain request.format)
     (IsPlainly (HasJudgedStatus k (HasOneStatus k found request.denied (scripts_of request)) request call) status)
-    (HasJudgedStatus k (IsWorstOf (PathStatus k found request.denied) 0 (scripts_of request)) request call status)
+    (HasJudgedStatus k (IsWorstOf (PathStatus k found request.denied) Accepted (scripts_of request)) request call status)
 
 -- the words ask for scripts in their plain spelling
 abbrev pub asks_for_plain : Words → Bool
 asks_for_plain words = is_plain_name (read (own_of words)).format
 
--- the words are a request, and this is its status; or they ask for the help or the version, and it is 0
-abbrev pub IsAnswered : Known → (List ℕ → List ℕ → Option Holds) → Words → ℕ → Type 0
+-- the words are a request, and this is its status; or they ask for the help or the version, which is a yes
+abbrev pub IsAnswered : Known → (List ℕ → List ℕ → Option Holds) → Words → Status → Type 0
 IsAnswered k found words status =
     ((request : Request) × IsRequest (own_of words) request × HasStatusFor k found request (call_of words) status)
-    ⊎ ((status ≡ 0) × (asks_for_help words.own.items ≡ true))
+    ⊎ ((status ≡ Accepted) × (asks_for_help words.own.items ≡ true))

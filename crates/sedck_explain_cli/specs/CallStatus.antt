@@ -7,17 +7,18 @@ use Rattle.sedck_explanation.specs.Called.{has_foreign, AreParts, IsCalled}
 use Rattle.sedck_engines.specs.Opened.{Known}
 use Rattle.sedck_errors.specs.declared.denied.Denied.{Denied}
 use Rattle.sedck_explanation.specs.declared.explanation.Explanation.{Explanation}
+use Rattle.sedck_explanation.specs.Status.{Status, Refused}
 
 -- the status of what is said of the call whose script is its parts, joined
-pub record HasJudgedStatus (k : Known) (denied : Denied) (words : List (List ℕ)) (call : Call) (status : ℕ) : Type 0 where
+pub record HasJudgedStatus (k : Known) (denied : Denied) (words : List (List ℕ)) (call : Call) (status : Status) : Type 0 where
   pub parts : List (List ℕ)
   pub are_parts : AreParts k words call.pieces.items parts
   pub explanation : Explanation
   pub is_called : IsCalled (joined_texts parts) denied call explanation
   pub is_status : status ≡ explanation.status
 
--- the status of the words after the name of sed: 2 where they are no call, or an option changes the language
-abbrev pub HasCallStatus : Known → Denied → List (List ℕ) → ℕ → Type 0
+-- the status of the words after the name of sed: that of what is refused where they are no call, or an option changes the language
+abbrev pub HasCallStatus : Known → Denied → List (List ℕ) → Status → Type 0
 HasCallStatus k denied words status =
-    ((call : Call) × IsCall words call × MatchBool (has_foreign call.given.items) (status ≡ 2) (HasJudgedStatus k denied words call status))
-    ⊎ (((call : Call) → IsCall words call → ⊥) × (status ≡ 2))
+    ((call : Call) × IsCall words call × MatchBool (has_foreign call.given.items) (status ≡ Refused) (HasJudgedStatus k denied words call status))
+    ⊎ (((call : Call) → IsCall words call → ⊥) × (status ≡ Refused))

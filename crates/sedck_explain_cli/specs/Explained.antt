@@ -8,12 +8,13 @@ use Rattle.sedck_engines.specs.declared.answer.RunFault.TheVariants as fault
 use Rattle.sedck_errors.specs.declared.denied.Denied.{Denied}
 use Rattle.sedck_explanation.specs.Explanations.{IsExplanation}
 use Rattle.sedck_explanation.specs.declared.explanation.Explanation.{Explanation}
+use Rattle.sedck_explanation.specs.Status.{Status}
 use Rattle.sedck_formats.specs.Plain.{Output}
 
 -- The report on the explanation of a script's text, and of a certificate's where there is one, with its exit status. What the
 -- reporter makes of each explanation is known for some.
 pub record IsReport (reported : Explanation → Option (List ℕ)) (text : List ℕ) (given : Option (List ℕ)) (denied : Denied)
-    (report : List ℕ) (status : ℕ) : Type 0 where
+    (report : List ℕ) (status : Status) : Type 0 where
   pub explanation : Explanation
   pub is_explanation : IsExplanation text given denied explanation
   pub is_report : IfSome (reported explanation) (λ known. report ≡ known)
@@ -21,7 +22,7 @@ pub record IsReport (reported : Explanation → Option (List ℕ)) (text : List 
 
 -- the report on what was read of a script was written, and has this status
 pub record IsExplained (reported : Explanation → Option (List ℕ)) (denied : Denied) (script : Option (List ℕ)) (out : Output)
-    (status : ℕ) : Type 0 where
+    (status : Status) : Type 0 where
   pub text : List ℕ
   pub is_text : IsRead 1048577 script text
   pub report : List ℕ
@@ -30,7 +31,7 @@ pub record IsExplained (reported : Explanation → Option (List ℕ)) (denied : 
 
 -- and on what was read of a script and of a certificate
 pub record IsExplainedWith (reported : Explanation → Option (List ℕ)) (denied : Denied) (script certificate : Option (List ℕ))
-    (out : Output) (status : ℕ) : Type 0 where
+    (out : Output) (status : Status) : Type 0 where
   pub text : List ℕ
   pub is_text : IsRead 1048577 script text
   pub bytes : List ℕ

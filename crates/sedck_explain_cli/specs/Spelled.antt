@@ -9,37 +9,38 @@ use Rattle.sedck_errors.specs.declared.denied.Denied.{Denied}
 use Rattle.sedck_explanation.specs.Called.{IsAcceptedCall, known_bytes}
 use Rattle.sedck_explanation.specs.Explanations.{IsExplanation}
 use Rattle.sedck_explanation.specs.declared.explanation.Explanation.{Explanation}
+use Rattle.sedck_explanation.specs.Status.{Status, Accepted}
 use Rattle.sedck_formats.specs.Plain.{Output, IsPlainStatus}
 use Rattle.sedck_explain_cli.specs.Requests.{certificate_of}
 use Rattle.sedck_explain_cli.specs.Statuses.{IsGiven}
 use Rattle.sedck_explain_cli.specs.declared.request.Request.{Request}
 
--- the status of what has this one, or 2 where it is accepted and has no plain spelling
-abbrev pub IsPlainly : (ℕ → Type 0) → ℕ → Type 0
-IsPlainly Has status = (judged : ℕ) × Has judged × IsPlainStatus judged status
+-- the status of what has this one, or that of what is refused where it is accepted and has no plain spelling
+abbrev pub IsPlainly : (Status → Type 0) → Status → Type 0
+IsPlainly Has status = (judged : Status) × Has judged × IsPlainStatus judged status
 
 -- in that format, or in another one
-abbrev pub IsIn : Bool → (ℕ → Type 0) → ℕ → Type 0
+abbrev pub IsIn : Bool → (Status → Type 0) → Status → Type 0
 IsIn plain Has status = MatchBool plain (IsPlainly Has status) (Has status)
 
 -- a text is written that spells what the script's text spells
 abbrev pub Copies : List ℕ → Output → Type 0
 Copies script out = (text : List ℕ) × SpellSame script text × Appends out.before out.after text
 
--- that is written with the status 0; else nothing is
-pub record WritesSame (script : List ℕ) (out : Output) (status : ℕ) : Type 0 where
-  pub spelled : status ≡ 0 → Copies script out
-  pub kept : status ≢ 0 → Keeps out.before out.after
+-- that is written where it is accepted; else nothing is
+pub record WritesSame (script : List ℕ) (out : Output) (status : Status) : Type 0 where
+  pub spelled : status ≡ Accepted → Copies script out
+  pub kept : status ≢ Accepted → Keeps out.before out.after
 
 -- the explanation of a script's text, and of a certificate's where there is one, has this status; and this is written
-pub record IsSpelled (text : List ℕ) (given : Option (List ℕ)) (denied : Denied) (out : Output) (status : ℕ) : Type 0 where
+pub record IsSpelled (text : List ℕ) (given : Option (List ℕ)) (denied : Denied) (out : Output) (status : Status) : Type 0 where
   pub explanation : Explanation
   pub is_explanation : IsExplanation text given denied explanation
   pub is_status : IsPlainStatus explanation.status status
   pub writes : WritesSame text out status
 
 -- so it is for what is read of the script at the path, and of the request's certificate, whose explanation the status is of
-pub record SpellsAt (k : Known) (request : Request) (path : List ℕ) (out : Output) (status : ℕ) : Type 0 where
+pub record SpellsAt (k : Known) (request : Request) (path : List ℕ) (out : Output) (status : Status) : Type 0 where
   pub text : List ℕ
   pub is_text : IsRead 1048577 (known_bytes k path) text
   pub given : Option (List ℕ)
@@ -47,7 +48,7 @@ pub record SpellsAt (k : Known) (request : Request) (path : List ℕ) (out : Out
   pub is_spelled : IsSpelled text given request.denied out status
 
 -- and of the only script at these paths
-abbrev pub SpellsScript : Known → Request → List (List ℕ) → Output → ℕ → Type 0
+abbrev pub SpellsScript : Known → Request → List (List ℕ) → Output → Status → Type 0
 SpellsScript k request (path ∷ []) out status = SpellsAt k request path out status
 SpellsScript k request _ out status = ⊥
 
@@ -55,7 +56,7 @@ SpellsScript k request _ out status = ⊥
 abbrev pub CopiesCall : Known → Denied → List (List ℕ) → Output → Type 0
 CopiesCall k denied words out = (yes : IsAcceptedCall k denied words) × Copies (joined_texts yes.parts) out
 
--- that is so with the status 0; else nothing is written
-pub record SpellsCall (k : Known) (denied : Denied) (words : List (List ℕ)) (out : Output) (status : ℕ) : Type 0 where
-  pub spelled : status ≡ 0 → CopiesCall k denied words out
-  pub kept : status ≢ 0 → Keeps out.before out.after
+-- that is so where it is accepted; else nothing is written
+pub record SpellsCall (k : Known) (denied : Denied) (words : List (List ℕ)) (out : Output) (status : Status) : Type 0 where
+  pub spelled : status ≡ Accepted → CopiesCall k denied words out
+  pub kept : status ≢ Accepted → Keeps out.before out.after

@@ -1,11 +1,12 @@
--- The exit status of several scripts, by what is known of their files, this project's own.
-use Rattle.std.specs.Prelude.{◌≡◌, ℕ, List, [], ◌∷◌, Option, Some, None, max}
+-- The exit status of a script, by what is known of its files, this project's own.
+use Rattle.std.specs.Prelude.{◌≡◌, ℕ, List, Option, Some, None}
 use Rattle.sedck_engines.specs.Inputs.{IsRead}
 use Rattle.sedck_engines.specs.Opened.{Known}
 use Rattle.sedck_errors.specs.declared.denied.Denied.{Denied}
 use Rattle.sedck_explanation.specs.Called.{known_bytes}
 use Rattle.sedck_explanation.specs.Explanations.{IsExplanation}
 use Rattle.sedck_explanation.specs.declared.explanation.Explanation.{Explanation}
+use Rattle.sedck_explanation.specs.Status.{Status}
 use Rattle.sedck_explain_cli.specs.Requests.{certificate_of}
 use Rattle.sedck_explain_cli.specs.declared.request.Request.{Request}
 
@@ -15,7 +16,7 @@ IsGiven k None given = given ≡ None
 IsGiven k (Some path) given = (bytes : List ℕ) × (given ≡ Some bytes) × IsRead 1572865 (k.bytes_at path) bytes
 
 -- the status of the explanation of what was read of a script that has these bytes, where they are known
-pub record HasStatus (k : Known) (denied : Denied) (certificate : Option (List ℕ)) (script : Option (List ℕ)) (status : ℕ) : Type 0 where
+pub record HasStatus (k : Known) (denied : Denied) (certificate : Option (List ℕ)) (script : Option (List ℕ)) (status : Status) : Type 0 where
   pub text : List ℕ
   pub is_text : IsRead 1048577 script text
   pub given : Option (List ℕ)
@@ -25,10 +26,5 @@ pub record HasStatus (k : Known) (denied : Denied) (certificate : Option (List �
   pub is_status : status ≡ explanation.status
 
 -- the status of the script at the path
-abbrev pub StatusAt : Known → Request → List ℕ → ℕ → Type 0
+abbrev pub StatusAt : Known → Request → List ℕ → Status → Type 0
 StatusAt k request path = HasStatus k request.denied (certificate_of request) (known_bytes k path)
-
--- the greatest of the statuses of the scripts at these paths, and 0 where there are none
-abbrev pub IsGreatest : (List ℕ → ℕ → Type 0) → List (List ℕ) → ℕ → Type 0
-IsGreatest Has [] status = status ≡ 0
-IsGreatest Has (path ∷ rest) status = (one : ℕ) × (others : ℕ) × Has path one × IsGreatest Has rest others × (status ≡ max one others)

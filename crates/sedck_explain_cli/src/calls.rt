@@ -1,8 +1,9 @@
 //! A call of sed, explained by its words.
 
-ghost use Rattle.std.specs.Prelude.{◌≡◌, ◌≢◌, ◌⊎◌, ◌≤◌, true, false, map, IfOk, OnOk};
+ghost use Rattle.std.specs.Prelude.{◌≡◌, ◌≢◌, ◌⊎◌, true, false, map, IfOk, OnOk};
 ghost use Rattle.std.specs.Io.KnownBytes.{Keeps};
 ghost use Rattle.sedck_explanation.specs.Called.{IsAcceptedCall};
+ghost use Rattle.sedck_explanation.specs.Status.{IsOfAnswer};
 ghost use Rattle.sedck_explain_cli.specs.CallStatus.{HasCallStatus};
 ghost use Rattle.sedck_explain_cli.specs.Private.Shown.{IsShown};
 ghost use Rattle.sedck_explain_cli.specs.Requests.{is_plain};
@@ -15,8 +16,8 @@ use sedck_calls::{CallFault, Origin, Piece, call_of, joined};
 use sedck_cert::streams::{Sink, write_all};
 use sedck_engines::Opener;
 use sedck_explanation::{
-    Explanation, Unexplained, explain_called, foreign_findings, has_foreign, not_judged, parts_of,
-    position_at, refusal_of,
+    Explanation, Status, Unexplained, explain_called, foreign_findings, has_foreign, not_judged,
+    parts_of, position_at, refusal_of,
 };
 use sedck_formats::{Names, PartName, plain_report};
 use std::alloc::{AllocError, AllocGlobal, Global};
@@ -24,18 +25,18 @@ use std::io::Input;
 
 /// Writes the report on the call of sed with these words after its name, and answers its exit status.
 ///
-/// The status is 0 only for a call whose script, its parts joined, is accepted, and whose options let sed read it as the model does.
+/// It is accepted only where its script, its parts joined, is accepted, and its options let sed read it as the model does.
 pub fn explain_words<R: Input + AllocGlobal, O: Opener, F, W: Sink, E: Sink>(
     session: &Session<R, O, F>,
     words: &[&[u8]],
     out: &mut W,
     err: &mut E,
-) -> Result<u8, Unexplained>
-    ensures few { IfOk result (λ status. status ≤ 2) }
+) -> Result<Status, Unexplained>
+    ensures few { IfOk result IsOfAnswer }
     ensures status { IfOk result (IsIn (is_plain session.now.request.now.format) (HasCallStatus (O.known session.now.files.now) session.now.request.now.denied (map (λ word. word.now) words.now))) }
     ensures spelled { IfOk result (λ status. is_plain session.now.request.now.format ≡ true → SpellsCall (O.known session.now.files.now) session.now.request.now.denied (map (λ word. word.now) words.now) (record { before = W.taken out.old; after = W.taken out.new }) status) }
-    ensures silent { IfOk result (λ status. (is_plain session.now.request.now.format ≡ false) ⊎ (status ≡ 0) → Keeps (E.taken err.old) (E.taken err.new)) }
-    ensures yes { IfOk result (λ status. status ≡ 0 → IsAcceptedCall (O.known session.now.files.now) session.now.request.now.denied (map (λ word. word.now) words.now)) }
+    ensures silent { IfOk result (λ status. (is_plain session.now.request.now.format ≡ false) ⊎ (status ≡ Status.Accepted) → Keeps (E.taken err.old) (E.taken err.new)) }
+    ensures yes { IfOk result (λ status. status ≡ Status.Accepted → IsAcceptedCall (O.known session.now.files.now) session.now.request.now.denied (map (λ word. word.now) words.now)) }
 {
     let alloc = session.alloc();
     let call = match call_of(alloc, words) {
@@ -62,7 +63,7 @@ fn refused(
     words: &[&[u8]],
     fault: CallFault,
 ) -> Result<Explanation<'static>, Unexplained>
-    ensures status { IfOk result (λ e. e.status ≡ 2) }
+    ensures status { IfOk result (λ e. e.status ≡ Status.Refused) }
     ensures refused { OnOk result (fault ≢ CallFault.OutOfMemory) }
 {
     if matches!(fault, CallFault::OutOfMemory) {
@@ -79,7 +80,7 @@ fn shown<R: AllocGlobal, O, F, W: Sink, E: Sink>(
     explanation: &Explanation,
     out: &mut W,
     err: &mut E,
-) -> Result<u8, Unexplained>
+) -> Result<Status, Unexplained>
     ensures { IfOk result (IsShown (is_plain session.now.request.now.format) explanation.now (record { before = W.taken out.old; after = W.taken out.new }) (record { before = E.taken err.old; after = E.taken err.new })) }
 {
     let names = Names::of_call("sed", parts);

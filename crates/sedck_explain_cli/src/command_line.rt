@@ -1,14 +1,16 @@
 //! The program `sedck-explain` for its arguments.
 
-ghost use Rattle.std.specs.Prelude.{◌≡◌, ◌≢◌, ◌⊎◌, ◌<◌, ◌≤◌, ◌++◌, true, false, codes, map, None, IfOk, OnOk};
+ghost use Rattle.std.specs.Prelude.{◌≡◌, ◌≢◌, ◌⊎◌, ◌++◌, true, false, codes, map, None, IfOk, OnOk};
 ghost use Rattle.std.specs.Io.KnownBytes.{Keeps, Appends};
 ghost use Rattle.sedck_explanation.specs.Called.{IsAcceptedCall};
+ghost use Rattle.sedck_explanation.specs.Status.{IsOfAnswer};
 ghost use Rattle.sedck_engines.specs.Opened.{unknown};
 ghost use Rattle.sedck_explain_cli.specs.CallStatus.{HasCallStatus};
 ghost use Rattle.sedck_calls_in_files.specs.Lines.{error_line};
+ghost use Rattle.sedck_calls_in_files.specs.Scanned.{IsWorstOf};
 ghost use Rattle.sedck_explain_cli.specs.Requests.{certificate_of, scripts_of, is_plain};
 ghost use Rattle.sedck_explain_cli.specs.Spelled.{IsIn, SpellsCall};
-ghost use Rattle.sedck_explain_cli.specs.Statuses.{HasStatus, StatusAt, IsGreatest};
+ghost use Rattle.sedck_explain_cli.specs.Statuses.{HasStatus, StatusAt};
 ghost use Rattle.sedck_explain_cli.specs.Answers.{call_of, asks_for_help, asks_for_plain, is_help as is_help_text, IsStatusOfCall, HasStatusFor, IsAnswered};
 
 use crate::calls::explain_words;
@@ -25,15 +27,13 @@ use clap::error::ErrorKind;
 use sedck_calls_in_files::{AsTheShell, Finder, end, out_of_memory, slices_of, unwritten};
 use sedck_cert::streams::{FromRead, Sink, Source, write_all};
 use sedck_engines::{FromFiles, Input as InputOf, Opener, RunFault};
-use sedck_explanation::{Denied, Unexplained};
+use sedck_explanation::{Denied, Status, Unexplained};
 use sedck_formats::{ScriptCounts, json_unreadable, sarif_unreadable};
 use std::alloc::{AllocError, Global};
 use std::fs::Files;
 use std::io::{Input, Write};
 
-/// The whole program for the arguments after its name, and its exit status: of the scripts' statuses the greatest, which are 0 for
-/// accepted, 1 for a rejection, a loop or what is denied, and 2 for a refused text; 3 for invalid arguments, 4 where a stream fails or memory
-/// runs out, 5 where something of a call in a file isn't known before a run.
+/// The whole program for the arguments after its name, and its exit status: of the scripts' statuses the one that tells most.
 ///
 /// A script that can't be read is reported, and the next one follows. After a failed write, or where memory runs out, none does.
 ///
@@ -44,11 +44,10 @@ pub fn program<R: Files + Input + AllocGlobal + Clone + Drop, W: Sink, E: Sink>(
     colour: bool,
     out: &mut W,
     err: &mut E,
-) -> u8
-    ensures within { result ≤ 5 }
-    ensures answered { result ≢ 3 → result ≢ 4 → IsAnswered unknown (λ _ _. None) words.now result }
-    ensures refused { result ≡ 3 → Keeps (W.taken out.old) (W.taken out.new) }
-    ensures silent { result ≢ 3 → result ≢ 4 → (asks_for_plain words.now ≡ false) ⊎ (result ≡ 0) → Keeps (E.taken err.old) (E.taken err.new) }
+) -> Status
+    ensures answered { result ≢ Status.Misused → result ≢ Status.Failed → IsAnswered unknown (λ _ _. None) words.now result }
+    ensures refused { result ≡ Status.Misused → Keeps (W.taken out.old) (W.taken out.new) }
+    ensures silent { result ≢ Status.Misused → result ≢ Status.Failed → (asks_for_plain words.now ≡ false) ⊎ (result ≡ Status.Accepted) → Keeps (E.taken err.old) (E.taken err.new) }
 {
     program_over(
         rt,
@@ -77,14 +76,13 @@ pub fn program_over<
     colour: bool,
     out: &mut W,
     err: &mut E,
-) -> u8
-    ensures within { result ≤ 5 }
+) -> Status
     // The status of what the words ask for, of the bytes of the files at the paths that they name.
-    ensures answered { result ≢ 3 → result ≢ 4 → IsAnswered (O.known files.now) (F.found finder.now) words.now result }
+    ensures answered { result ≢ Status.Misused → result ≢ Status.Failed → IsAnswered (O.known files.now) (F.found finder.now) words.now result }
     // Invalid arguments write nothing to the output.
-    ensures refused { result ≡ 3 → Keeps (W.taken out.old) (W.taken out.new) }
+    ensures refused { result ≡ Status.Misused → Keeps (W.taken out.old) (W.taken out.new) }
     // Only what has no plain spelling, or isn't accepted, is reported there, where a plain spelling is asked for.
-    ensures silent { result ≢ 3 → result ≢ 4 → (asks_for_plain words.now ≡ false) ⊎ (result ≡ 0) → Keeps (E.taken err.old) (E.taken err.new) }
+    ensures silent { result ≢ Status.Misused → result ≢ Status.Failed → (asks_for_plain words.now ≡ false) ⊎ (result ≡ Status.Accepted) → Keeps (E.taken err.old) (E.taken err.new) }
 {
     match request_of(rt.alloc(), &words.own) {
         Ok(request) => {
@@ -107,15 +105,14 @@ fn answer<R: Files + Input + AllocGlobal + Clone + Drop, O: Opener, F: Finder, W
     words: &Words,
     out: &mut W,
     err: &mut E,
-) -> u8
-    ensures within { result ≤ 5 }
-    ensures status { result ≢ 3 → result ≢ 4 → HasStatusFor (O.known session.now.files.now) (F.found session.now.finder.now) session.now.request.now (call_of words.now) result }
-    ensures refused { result ≡ 3 → Keeps (W.taken out.old) (W.taken out.new) }
-    ensures silent { result ≢ 3 → result ≢ 4 → (is_plain session.now.request.now.format ≡ false) ⊎ (result ≡ 0) → Keeps (E.taken err.old) (E.taken err.new) }
+) -> Status
+    ensures status { result ≢ Status.Misused → result ≢ Status.Failed → HasStatusFor (O.known session.now.files.now) (F.found session.now.finder.now) session.now.request.now (call_of words.now) result }
+    ensures refused { result ≡ Status.Misused → Keeps (W.taken out.old) (W.taken out.new) }
+    ensures silent { result ≢ Status.Misused → result ≢ Status.Failed → (is_plain session.now.request.now.format ≡ false) ⊎ (result ≡ Status.Accepted) → Keeps (E.taken err.old) (E.taken err.new) }
 {
     let request = session.request;
     if let Some(misplaced) = misplaced(request) {
-        return end(err, misplaced, 3);
+        return end(err, misplaced, Status::Misused);
     }
     if request.format.is_plain() {
         return answer_plainly(session, words, out, err);
@@ -128,10 +125,10 @@ fn answer<R: Files + Input + AllocGlobal + Clone + Drop, O: Opener, F: Finder, W
     }
     if request.scripts.len() > 1 {
         if request.certificate.is_some() {
-            return end(err, b"--cert is for one script\n", 3);
+            return end(err, b"--cert is for one script\n", Status::Misused);
         }
         if !request.format.takes_several() {
-            return end(err, b"this format is for one script\n", 3);
+            return end(err, b"this format is for one script\n", Status::Misused);
         }
     }
     explain_all(session, out, err)
@@ -155,12 +152,11 @@ fn answer_plainly<
     F: Finder,
     W: Sink,
     E: Sink,
->(session: &Session<R, O, F>, words: &Words, out: &mut W, err: &mut E) -> u8
+>(session: &Session<R, O, F>, words: &Words, out: &mut W, err: &mut E) -> Status
     requires { is_plain session.now.request.now.format ≡ true }
-    ensures within { result ≤ 5 }
-    ensures status { result ≢ 3 → result ≢ 4 → HasStatusFor (O.known session.now.files.now) (F.found session.now.finder.now) session.now.request.now (call_of words.now) result }
-    ensures refused { result ≡ 3 → Keeps (W.taken out.old) (W.taken out.new) }
-    ensures silent { result ≡ 0 → Keeps (E.taken err.old) (E.taken err.new) }
+    ensures status { result ≢ Status.Misused → result ≢ Status.Failed → HasStatusFor (O.known session.now.files.now) (F.found session.now.finder.now) session.now.request.now (call_of words.now) result }
+    ensures refused { result ≡ Status.Misused → Keeps (W.taken out.old) (W.taken out.new) }
+    ensures silent { result ≡ Status.Accepted → Keeps (E.taken err.old) (E.taken err.new) }
 {
     if session.request.calls {
         spell_found(session, out, err)
@@ -177,38 +173,37 @@ fn explain_given<R: Input + AllocGlobal, O: Opener, F, W: Sink, E: Sink>(
     words: &Words,
     out: &mut W,
     err: &mut E,
-) -> u8
-    ensures within { result ≤ 4 }
-    ensures status { result < 3 → IsIn (is_plain session.now.request.now.format) (IsStatusOfCall (O.known session.now.files.now) session.now.request.now.denied (call_of words.now)) result }
-    ensures refused { result ≡ 3 → Keeps (W.taken out.old) (W.taken out.new) }
-    ensures silent { result < 3 → (is_plain session.now.request.now.format ≡ false) ⊎ (result ≡ 0) → Keeps (E.taken err.old) (E.taken err.new) }
+) -> Status
+    ensures status { result ≢ Status.Misused → result ≢ Status.Failed → IsIn (is_plain session.now.request.now.format) (IsStatusOfCall (O.known session.now.files.now) session.now.request.now.denied (call_of words.now)) result }
+    ensures refused { result ≡ Status.Misused → Keeps (W.taken out.old) (W.taken out.new) }
+    ensures silent { result ≢ Status.Misused → result ≢ Status.Failed → (is_plain session.now.request.now.format ≡ false) ⊎ (result ≡ Status.Accepted) → Keeps (E.taken err.old) (E.taken err.new) }
 {
     if session.request.certificate.is_some() {
-        return end(err, b"--cert is for a script\n", 3);
+        return end(err, b"--cert is for a script\n", Status::Misused);
     }
     if !session.request.scripts.is_empty() {
-        return end(err, b"--sed is for no script\n", 3);
+        return end(err, b"--sed is for no script\n", Status::Misused);
     }
     let Some(call) = &words.call else {
-        return end(err, b"--sed is followed by -- and the words of a call\n", 3);
+        return end(err, b"--sed is followed by -- and the words of a call\n", Status::Misused);
     };
     explain_call(session, call, out, err)
 }
 
-/// Explains the call of sed with these words after its name, and answers the exit status: 4 where a file of its script can't be read,
-/// a write fails, or memory runs out.
+/// Explains the call of sed with these words after its name, and answers the exit status: `Failed` where a file of its script can't be
+/// read, a write fails, or memory runs out.
 pub fn explain_call<R: Input + AllocGlobal, O: Opener, F, W: Sink, E: Sink>(
     session: &Session<R, O, F>,
     call: &[Vec<u8>],
     out: &mut W,
     err: &mut E,
-) -> u8
-    ensures within { result ≤ 4 }
-    ensures known { result ≢ 3 }
-    ensures status { result < 3 → IsIn (is_plain session.now.request.now.format) (HasCallStatus (O.known session.now.files.now) session.now.request.now.denied (map (λ word. word.items) call.now)) result }
-    ensures spelled { result < 3 → is_plain session.now.request.now.format ≡ true → SpellsCall (O.known session.now.files.now) session.now.request.now.denied (map (λ word. word.items) call.now) (record { before = W.taken out.old; after = W.taken out.new }) result }
-    ensures yes { result ≡ 0 → IsAcceptedCall (O.known session.now.files.now) session.now.request.now.denied (map (λ word. word.items) call.now) }
-    ensures silent { result < 3 → (is_plain session.now.request.now.format ≡ false) ⊎ (result ≡ 0) → Keeps (E.taken err.old) (E.taken err.new) }
+) -> Status
+    ensures within { result ≢ Status.Unknown }
+    ensures known { result ≢ Status.Misused }
+    ensures status { result ≢ Status.Failed → IsIn (is_plain session.now.request.now.format) (HasCallStatus (O.known session.now.files.now) session.now.request.now.denied (map (λ word. word.items) call.now)) result }
+    ensures spelled { result ≢ Status.Failed → is_plain session.now.request.now.format ≡ true → SpellsCall (O.known session.now.files.now) session.now.request.now.denied (map (λ word. word.items) call.now) (record { before = W.taken out.old; after = W.taken out.new }) result }
+    ensures yes { result ≡ Status.Accepted → IsAcceptedCall (O.known session.now.files.now) session.now.request.now.denied (map (λ word. word.items) call.now) }
+    ensures silent { result ≢ Status.Failed → (is_plain session.now.request.now.format ≡ false) ⊎ (result ≡ Status.Accepted) → Keeps (E.taken err.old) (E.taken err.new) }
 {
     let Ok(words) = slices_of(session.alloc(), call) else {
         return out_of_memory(err);
@@ -219,32 +214,32 @@ pub fn explain_call<R: Input + AllocGlobal, O: Opener, F, W: Sink, E: Sink>(
     }
 }
 
-/// Explains each script of the request, in the order in which they are given, and answers the exit status: the greatest of theirs,
-/// or 4 where one can't be read, a write fails, or memory runs out. The report of several for people ends with how many there are of each
-/// answer.
+/// Explains each script of the request, in the order in which they are given, and answers the exit status: of theirs the one that tells
+/// most, or `Failed` where one can't be read, a write fails, or memory runs out. The report of several for people ends with how many there
+/// are of each answer.
 pub fn explain_all<R: Input + AllocGlobal, O: Opener, F, W: Sink, E: Sink>(
     session: &Session<R, O, F>,
     out: &mut W,
     err: &mut E,
-) -> u8
-    ensures within { result ≤ 4 }
-    ensures known { result ≢ 3 }
-    ensures greatest { result < 3 → IsGreatest (StatusAt (O.known session.now.files.now) session.now.request.now) (scripts_of session.now.request.now) result }
-    ensures silent { result < 3 → Keeps (E.taken err.old) (E.taken err.new) }
+) -> Status
+    ensures within { result ≢ Status.Unknown }
+    ensures known { result ≢ Status.Misused }
+    ensures greatest { result ≢ Status.Failed → IsWorstOf (StatusAt (O.known session.now.files.now) session.now.request.now) Status.Accepted (scripts_of session.now.request.now) result }
+    ensures silent { result ≢ Status.Failed → Keeps (E.taken err.old) (E.taken err.new) }
 {
-    let mut status = 0;
+    let mut status = Status::Accepted;
     let mut counts = ScriptCounts::NONE;
     for path in &session.request.scripts {
         match explain_path(session, path, out) {
             Ok(one) => {
-                status = one.max(status);
+                status = status.worse(one);
                 counts.add(one);
             }
             Err(fault) => {
-                status = 4;
-                counts.add(4);
+                status = Status::Failed;
+                counts.add(status);
                 if !is_followed(session, path, fault, out, err) {
-                    return 4;
+                    return status;
                 }
             }
         }
@@ -252,17 +247,17 @@ pub fn explain_all<R: Input + AllocGlobal, O: Opener, F, W: Sink, E: Sink>(
     summed(session, counts, status, out, err)
 }
 
-/// Writes how many scripts there are of each answer, where there are several and the report is for people. The status is this one, or 4
-/// where that can't be written.
+/// Writes how many scripts there are of each answer, where there are several and the report is for people. The status is this one, or
+/// `Failed` where that can't be written.
 fn summed<R: AllocGlobal, O, F, W: Sink, E: Sink>(
     session: &Session<R, O, F>,
     counts: ScriptCounts,
-    status: u8,
+    status: Status,
     out: &mut W,
     err: &mut E,
-) -> u8
-    ensures within { (result ≡ status) ⊎ (result ≡ 4) }
-    ensures silent { result ≢ 4 → Keeps (E.taken err.old) (E.taken err.new) }
+) -> Status
+    ensures within { (result ≡ status) ⊎ (result ≡ Status.Failed) }
+    ensures silent { result ≢ Status.Failed → Keeps (E.taken err.old) (E.taken err.new) }
 {
     let request = session.request;
     if request.scripts.len() < 2 || request.format != Format::Text {
@@ -286,8 +281,8 @@ fn explain_path<R: Input + AllocGlobal, O: Opener, F, W: Sink>(
     session: &Session<R, O, F>,
     path: &str,
     out: &mut W,
-) -> Result<u8, RunFault>
-    ensures few { IfOk result (λ status. status ≤ 2) }
+) -> Result<Status, RunFault>
+    ensures few { IfOk result IsOfAnswer }
     ensures status { IfOk result (StatusAt (O.known session.now.files.now) session.now.request.now path.now) }
 {
     if path == "-" {
@@ -306,8 +301,8 @@ fn explain_source<R: AllocGlobal, O: Opener, F, S: Source + Drop, W: Sink>(
     name: &str,
     mut script: S,
     out: &mut W,
-) -> Result<u8, RunFault>
-    ensures few { IfOk result (λ status. status ≤ 2) }
+) -> Result<Status, RunFault>
+    ensures few { IfOk result IsOfAnswer }
     ensures status { IfOk result (HasStatus (O.known session.now.files.now) session.now.request.now.denied (certificate_of session.now.request.now) (S.left script)) }
 {
     let style = session.style();
@@ -334,24 +329,23 @@ fn refuse_words<W: Sink, E: Sink>(
     error: Error,
     out: &mut W,
     err: &mut E,
-) -> u8
-    ensures within { result ≤ 4 }
-    ensures help { result < 3 → (result ≡ 0) × (asks_for_help words.now ≡ true) }
-    ensures refused { result ≡ 3 → Keeps (W.taken out.old) (W.taken out.new) }
-    ensures silent { result < 3 → Keeps (E.taken err.old) (E.taken err.new) }
+) -> Status
+    ensures help { result ≢ Status.Misused → result ≢ Status.Failed → (result ≡ Status.Accepted) × (asks_for_help words.now ≡ true) }
+    ensures refused { result ≡ Status.Misused → Keeps (W.taken out.old) (W.taken out.new) }
+    ensures silent { result ≢ Status.Misused → result ≢ Status.Failed → Keeps (E.taken err.old) (E.taken err.new) }
 {
     let Ok(text) = words_of(alloc, &error) else {
         return out_of_memory(err);
     };
     if error.use_stderr() {
-        return end(err, text.as_bytes(), 3);
+        return end(err, text.as_bytes(), Status::Misused);
     }
     // Beside others such a word may be the name of a script.
     if !is_for_help(words) {
-        return end(err, b"--help and --version stand alone\n", 3);
+        return end(err, b"--help and --version stand alone\n", Status::Misused);
     }
     match write_all(out, text.as_bytes()) {
-        Ok(()) => 0,
+        Ok(()) => Status::Accepted,
         Err(_) => unwritten(err),
     }
 }
@@ -381,12 +375,12 @@ fn words_of(alloc: Global, error: &Error) -> Result<String, AllocError> {
     format!(in alloc; "{error}")
 }
 
-/// The status once the report is flushed. A report that can't be flushed isn't written: then the status is 4, with a line that
+/// The status once the report is flushed. A report that can't be flushed isn't written: then the status is `Failed`, with a line that
 /// says so.
-pub fn flushed<W: Write + Drop, E: Sink>(status: u8, mut out: W, err: &mut E) -> u8
-    ensures within { (result ≡ status) ⊎ (result ≡ 4) }
+pub fn flushed<W: Write + Drop, E: Sink>(status: Status, mut out: W, err: &mut E) -> Status
+    ensures within { (result ≡ status) ⊎ (result ≡ Status.Failed) }
     ensures reported { result ≢ status → E.has_failed err.new ≡ false → Appends (E.taken err.old) (E.taken err.new) (error_line (codes "cannot write")) }
-    ensures silent { result ≢ 4 → Keeps (E.taken err.old) (E.taken err.new) }
+    ensures silent { result ≢ Status.Failed → Keeps (E.taken err.old) (E.taken err.new) }
 {
     match out.flush() {
         Ok(()) => status,

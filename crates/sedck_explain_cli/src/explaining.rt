@@ -1,15 +1,16 @@
 //! From sources to a report on a sink.
 
-ghost use Rattle.std.specs.Prelude.{◌≡◌, ◌≢◌, ◌≤◌, true, false, ℕ, List, Option, Some, None, IsTrue, IfOk, IfErr, IfSome, OnOk};
+ghost use Rattle.std.specs.Prelude.{◌≡◌, ◌≢◌, true, false, ℕ, List, Option, Some, None, IsTrue, IfOk, IfErr, IfSome, OnOk};
 ghost use Rattle.std.specs.Option.{option_map};
 ghost use Rattle.std.specs.Io.KnownBytes.{Keeps, Appends};
+ghost use Rattle.sedck_explanation.specs.Status.{IsOfAnswer};
 ghost use Rattle.sedck_explanation.specs.declared.explanation.Explanation.{Explanation};
 ghost use Rattle.sedck_engines.specs.declared.answer.RunFault.TheVariants as fault;
 ghost use Rattle.sedck_explain_cli.specs.Explained.{IsReport, IsExplained, IsExplainedWith, IsReason};
 
 use sedck_cert::streams::{Sink, Source, write_all};
 use sedck_engines::{RunFault, read_certificate, read_script};
-use sedck_explanation::{Denied, Explanation, explain};
+use sedck_explanation::{Denied, Explanation, Status, explain};
 use std::alloc::{AllocError, Global};
 
 /// What makes a report of an explanation.
@@ -37,15 +38,15 @@ pub struct Named<'a, F> {
     pub denied: Denied,
 }
 
-/// Reads a script, writes the report on it, and answers its exit status, which is 1 where the script is accepted and has what is
-/// denied.
+/// Reads a script, writes the report on it, and answers its exit status, which is `Rejected` where the script is accepted and has
+/// what is denied.
 pub fn explain_alone<F: Reporter, R: Source, W: Sink>(
     named: &Named<F>,
     script: &mut R,
     out: &mut W,
-) -> Result<u8, RunFault>
+) -> Result<Status, RunFault>
     ensures status { IfOk result (IsExplained (F.reported named.now.reporter.now named.now.name.now) named.now.denied (R.left script.old) (record { before = W.taken out.old; after = W.taken out.new })) }
-    ensures few { IfOk result (λ status. status ≤ 2) }
+    ensures few { IfOk result IsOfAnswer }
     ensures reason { IfErr result (IsReason (R.has_failed script.new) false (W.has_failed out.new)) }
     ensures kept { IfErr result (λ why. why ≢ fault.Write → Keeps (W.taken out.old) (W.taken out.new)) }
 {
@@ -60,9 +61,9 @@ pub fn explain_with<F: Reporter, R: Source, C: Source, W: Sink>(
     script: &mut R,
     cert: &mut C,
     out: &mut W,
-) -> Result<u8, RunFault>
+) -> Result<Status, RunFault>
     ensures status { IfOk result (IsExplainedWith (F.reported named.now.reporter.now named.now.name.now) named.now.denied (R.left script.old) (C.left cert.old) (record { before = W.taken out.old; after = W.taken out.new })) }
-    ensures few { IfOk result (λ status. status ≤ 2) }
+    ensures few { IfOk result IsOfAnswer }
     ensures reason { IfErr result (IsReason (R.has_failed script.new) (C.has_failed cert.new) (W.has_failed out.new)) }
     ensures kept { IfErr result (λ why. why ≢ fault.Write → Keeps (W.taken out.old) (W.taken out.new)) }
 {
@@ -77,8 +78,8 @@ fn report_of<F: Reporter>(
     named: &Named<F>,
     text: &[u8],
     certificate: Option<&[u8]>,
-) -> Result<(Vec<u8>, u8), AllocError>
-    ensures few { IfOk result (λ made. made.1 ≤ 2) }
+) -> Result<(Vec<u8>, Status), AllocError>
+    ensures few { IfOk result (λ made. IsOfAnswer made.1) }
     ensures report { IfOk result (λ made. IsReport (F.reported named.now.reporter.now named.now.name.now) text.now (option_map (λ bytes. bytes.now) certificate.entry) named.now.denied made.0.items made.1) }
 {
     let Named {
@@ -102,7 +103,7 @@ pub(crate) fn own_path(name: &str) -> Option<&[u8]> {
 }
 
 /// Writes the report, and answers the status.
-fn written<W: Sink>(out: &mut W, report: &[u8], status: u8) -> Result<u8, RunFault>
+fn written<W: Sink>(out: &mut W, report: &[u8], status: Status) -> Result<Status, RunFault>
     ensures status { IfOk result (λ answered. answered ≡ status) }
     ensures whole { OnOk result (Appends (W.taken out.old) (W.taken out.new) report.now) }
     ensures fault { IfErr result (λ why. (why ≡ fault.Write) × IsTrue (W.has_failed out.new)) }

@@ -2,7 +2,7 @@
 //!
 //! `explain_alone` and `explain_with` explain a script, alone or with a certificate, `explain_all` several scripts, `explain_words` and
 //! `explain_call` a call of sed, and `program` does what the arguments ask for. Their exit status is proved to be that of what is said of
-//! what was read: the greatest of several scripts', and the worst of all calls in files.
+//! what was read: of several scripts and of all calls in files the one that tells most.
 #![tactic(auto)]
 
 mod calls;
@@ -24,6 +24,6 @@ pub use format::{Format, NAMES, Style};
 pub use plain::{spell, spell_script};
 pub use request::{Request, request_of};
 pub use sedck_calls_in_files::out_of_memory;
-pub use sedck_explanation::{Denied, Level};
+pub use sedck_explanation::{Denied, Level, Status};
 pub use session::Session;
 pub use words::{Words, arguments};

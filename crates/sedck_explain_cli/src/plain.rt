@@ -1,14 +1,16 @@
 //! Scripts in their plain spelling: the format `sed`.
 
-ghost use Rattle.std.specs.Prelude.{◌≡◌, ◌≢◌, ◌<◌, ◌≤◌, [], ◌∷◌, IsTrue, IfOk, IfErr, IfSome, OnOk};
+ghost use Rattle.std.specs.Prelude.{◌≡◌, ◌≢◌, [], ◌∷◌, IsTrue, IfOk, IfErr, IfSome, OnOk};
 ghost use Rattle.std.specs.Option.{option_map};
 ghost use Rattle.std.specs.Io.KnownBytes.{Keeps, Appends};
 ghost use Rattle.sedck_engines.specs.Inputs.{IsRead};
 ghost use Rattle.sedck_explanation.specs.Called.{known_bytes};
+ghost use Rattle.sedck_explanation.specs.Status.{IsOfAnswer};
 ghost use Rattle.sedck_formats.specs.Plain.{IsPlainReport};
+ghost use Rattle.sedck_calls_in_files.specs.Scanned.{IsWorstOf};
 ghost use Rattle.sedck_explain_cli.specs.Requests.{certificate_of, scripts_of};
 ghost use Rattle.sedck_explain_cli.specs.Spelled.{IsPlainly, IsSpelled, SpellsAt, SpellsScript};
-ghost use Rattle.sedck_explain_cli.specs.Statuses.{IsGiven, IsGreatest, StatusAt};
+ghost use Rattle.sedck_explain_cli.specs.Statuses.{IsGiven, StatusAt};
 
 use crate::explaining::{Named, own_path};
 use crate::format::Style;
@@ -18,27 +20,27 @@ use crate::unexplained::report_fault;
 use sedck_calls_in_files::end;
 use sedck_cert::streams::{Failed, FromRead, Sink, write_all};
 use sedck_engines::{Input as InputOf, Opener, RunFault, read_certificate, read_script};
-use sedck_explanation::{Explanation, explain};
+use sedck_explanation::{Explanation, Status, explain};
 use sedck_formats::{Names, plain_report, shown_path};
 use std::alloc::{AllocError, AllocGlobal};
 use std::io::Input;
 
 /// Writes the script of the request in its plain spelling, if it is accepted, and else a report on it to standard error. Answers the exit
-/// status: that of the script, but 2 where it is accepted and has no plain spelling; 3 where there are several; 4 where it can't be read,
-/// the write fails or memory runs out.
+/// status: that of the script, but `Refused` where it is accepted and has no plain spelling; `Misused` where there are several; `Failed`
+/// where it can't be read, the write fails or memory runs out.
 pub fn spell_script<R: Input + AllocGlobal, O: Opener, F, W: Sink, E: Sink>(
     session: &Session<R, O, F>,
     out: &mut W,
     err: &mut E,
-) -> u8
-    ensures within { result ≤ 4 }
-    ensures status { result < 3 → IsPlainly (IsGreatest (StatusAt (O.known session.now.files.now) session.now.request.now) (scripts_of session.now.request.now)) result }
-    ensures spelled { result < 3 → SpellsScript (O.known session.now.files.now) session.now.request.now (scripts_of session.now.request.now) (record { before = W.taken out.old; after = W.taken out.new }) result }
-    ensures refused { result ≡ 3 → Keeps (W.taken out.old) (W.taken out.new) }
-    ensures silent { result ≡ 0 → Keeps (E.taken err.old) (E.taken err.new) }
+) -> Status
+    ensures within { result ≢ Status.Unknown }
+    ensures status { result ≢ Status.Misused → result ≢ Status.Failed → IsPlainly (IsWorstOf (StatusAt (O.known session.now.files.now) session.now.request.now) Status.Accepted (scripts_of session.now.request.now)) result }
+    ensures spelled { result ≢ Status.Misused → result ≢ Status.Failed → SpellsScript (O.known session.now.files.now) session.now.request.now (scripts_of session.now.request.now) (record { before = W.taken out.old; after = W.taken out.new }) result }
+    ensures refused { result ≡ Status.Misused → Keeps (W.taken out.old) (W.taken out.new) }
+    ensures silent { result ≡ Status.Accepted → Keeps (E.taken err.old) (E.taken err.new) }
 {
     let Some(path) = only_script(session.request) else {
-        return end(err, b"this format is for one script\n", 3);
+        return end(err, b"this format is for one script\n", Status::Misused);
     };
     match spell_path(session, path, out, err) {
         Ok(status) => status,
@@ -62,11 +64,11 @@ fn spell_path<R: Input + AllocGlobal, O: Opener, F, W: Sink, E: Sink>(
     path: &str,
     out: &mut W,
     err: &mut E,
-) -> Result<u8, RunFault>
-    ensures few { IfOk result (λ status. status ≤ 2) }
+) -> Result<Status, RunFault>
+    ensures few { IfOk result IsOfAnswer }
     ensures status { IfOk result (IsPlainly (StatusAt (O.known session.now.files.now) session.now.request.now path.now)) }
     ensures spelled { IfOk result (SpellsAt (O.known session.now.files.now) session.now.request.now path.now (record { before = W.taken out.old; after = W.taken out.new })) }
-    ensures silent { IfOk result (λ status. status ≡ 0 → Keeps (E.taken err.old) (E.taken err.new)) }
+    ensures silent { IfOk result (λ status. status ≡ Status.Accepted → Keeps (E.taken err.old) (E.taken err.new)) }
 {
     let text = text_at(session, path)?;
     let given = certificate_at(session)?;
@@ -122,17 +124,17 @@ fn as_bytes(given: &Option<Vec<u8>>) -> Option<&[u8]>
 }
 
 /// Writes a script in its plain spelling, if it is accepted, and else a report on it to standard error. Answers the exit status: that of
-/// the explanation, but 2 for an accepted script without a plain spelling.
+/// the explanation, but `Refused` for an accepted script without a plain spelling.
 pub fn spell<W: Sink, E: Sink>(
     named: &Named<Style>,
     text: &[u8],
     certificate: Option<&[u8]>,
     out: &mut W,
     err: &mut E,
-) -> Result<u8, RunFault>
-    ensures few { IfOk result (λ status. status ≤ 2) }
+) -> Result<Status, RunFault>
+    ensures few { IfOk result IsOfAnswer }
     ensures spelled { IfOk result (IsSpelled text.now (option_map (λ bytes. bytes.now) certificate.entry) named.now.denied (record { before = W.taken out.old; after = W.taken out.new })) }
-    ensures silent { IfOk result (λ status. status ≡ 0 → Keeps (E.taken err.old) (E.taken err.new)) }
+    ensures silent { IfOk result (λ status. status ≡ Status.Accepted → Keeps (E.taken err.old) (E.taken err.new)) }
 {
     let explanation = explain(
         named.alloc,
@@ -149,7 +151,7 @@ pub fn spell<W: Sink, E: Sink>(
 }
 
 /// What is written of the explanation, and the exit status.
-fn report_of(named: &Named<Style>, explanation: &Explanation) -> Result<(Vec<u8>, u8), AllocError>
+fn report_of(named: &Named<Style>, explanation: &Explanation) -> Result<(Vec<u8>, Status), AllocError>
     ensures { IfOk result (λ made. IsPlainReport explanation.now made.0.items made.1) }
 {
     let alloc = named.alloc;
@@ -159,23 +161,24 @@ fn report_of(named: &Named<Style>, explanation: &Explanation) -> Result<(Vec<u8>
     plain_report(alloc, names, explanation, report)
 }
 
-/// Writes the report, where the status is 0 to the output and else to standard error. Answers the status.
+/// Writes the report, where the status is that of a yes to the output and else to standard error. Answers the status.
 pub(crate) fn sent<W: Sink, E: Sink>(
     out: &mut W,
     err: &mut E,
     report: &[u8],
-    status: u8,
-) -> Result<u8, Failed>
+    status: Status,
+) -> Result<Status, Failed>
     ensures status { IfOk result (λ answered. answered ≡ status) }
-    ensures written { OnOk result (status ≡ 0 → Appends (W.taken out.old) (W.taken out.new) report.now) }
-    ensures kept { status ≢ 0 → Keeps (W.taken out.old) (W.taken out.new) }
-    ensures silent { status ≡ 0 → Keeps (E.taken err.old) (E.taken err.new) }
+    ensures written { OnOk result (status ≡ Status.Accepted → Appends (W.taken out.old) (W.taken out.new) report.now) }
+    ensures kept { status ≢ Status.Accepted → Keeps (W.taken out.old) (W.taken out.new) }
+    ensures silent { status ≡ Status.Accepted → Keeps (E.taken err.old) (E.taken err.new) }
     ensures failure { IfErr result (λ _. IsTrue (W.has_failed out.new)) }
 {
-    if status == 0 {
-        write_all(out, report)?;
-    } else {
-        let _ = write_all(err, report);
+    match status {
+        Status::Accepted => write_all(out, report)?,
+        _ => {
+            let _ = write_all(err, report);
+        }
     }
     Ok(status)
 }

@@ -1,6 +1,6 @@
 //! Calls of sed in files and folders.
 
-ghost use Rattle.std.specs.Prelude.{◌≡◌, ◌≢◌, ◌≤◌};
+ghost use Rattle.std.specs.Prelude.{◌≡◌, ◌≢◌};
 ghost use Rattle.std.specs.Io.KnownBytes.{Keeps};
 ghost use Rattle.sedck_calls_in_files.specs.Scanned.{PathStatus, IsWorstOf};
 ghost use Rattle.sedck_explain_cli.specs.Requests.{scripts_of};
@@ -12,6 +12,7 @@ use crate::session::Session;
 use sedck_calls_in_files::{Finder, Look, Scan, Walk, end, scan_files, spell_call};
 use sedck_cert::streams::Sink;
 use sedck_engines::Opener;
+use sedck_explanation::Status;
 use std::fs::Files;
 use std::io::Input;
 
@@ -22,18 +23,17 @@ pub(crate) fn explain_files<
     F: Finder,
     W: Sink,
     E: Sink,
->(session: &Session<R, O, F>, out: &mut W, err: &mut E) -> u8
-    ensures within { result ≤ 5 }
-    ensures status { result ≢ 3 → result ≢ 4 → IsWorstOf (PathStatus (O.known session.now.files.now) (F.found session.now.finder.now) session.now.request.now.denied) 0 (scripts_of session.now.request.now) result }
-    ensures refused { result ≡ 3 → Keeps (W.taken out.old) (W.taken out.new) }
-    ensures silent { result ≢ 3 → result ≢ 4 → Keeps (E.taken err.old) (E.taken err.new) }
+>(session: &Session<R, O, F>, out: &mut W, err: &mut E) -> Status
+    ensures status { result ≢ Status.Misused → result ≢ Status.Failed → IsWorstOf (PathStatus (O.known session.now.files.now) (F.found session.now.finder.now) session.now.request.now.denied) Status.Accepted (scripts_of session.now.request.now) result }
+    ensures refused { result ≡ Status.Misused → Keeps (W.taken out.old) (W.taken out.new) }
+    ensures silent { result ≢ Status.Misused → result ≢ Status.Failed → Keeps (E.taken err.old) (E.taken err.new) }
 {
     let request = session.request;
     if let Some(misplaced) = misplaced(request) {
-        return end(err, misplaced, 3);
+        return end(err, misplaced, Status::Misused);
     }
     let Some(look) = look_of(request.format, session.colour) else {
-        return end(err, b"this format is for one script\n", 3);
+        return end(err, b"this format is for one script\n", Status::Misused);
     };
     let asked = scan_of(request, look);
     scan_files(&walk_of(session, &asked), out, err)
@@ -92,21 +92,20 @@ pub(crate) fn spell_found<
     F: Finder,
     W: Sink,
     E: Sink,
->(session: &Session<R, O, F>, out: &mut W, err: &mut E) -> u8
-    ensures within { result ≤ 5 }
-    ensures spelled { result ≢ 3 → result ≢ 4 → SpellsFound (O.known session.now.files.now) (F.found session.now.finder.now) session.now.request.now.denied (scripts_of session.now.request.now) (record { before = W.taken out.old; after = W.taken out.new }) result }
-    ensures refused { result ≡ 3 → Keeps (W.taken out.old) (W.taken out.new) }
-    ensures silent { result ≡ 0 → Keeps (E.taken err.old) (E.taken err.new) }
+>(session: &Session<R, O, F>, out: &mut W, err: &mut E) -> Status
+    ensures spelled { result ≢ Status.Misused → result ≢ Status.Failed → SpellsFound (O.known session.now.files.now) (F.found session.now.finder.now) session.now.request.now.denied (scripts_of session.now.request.now) (record { before = W.taken out.old; after = W.taken out.new }) result }
+    ensures refused { result ≡ Status.Misused → Keeps (W.taken out.old) (W.taken out.new) }
+    ensures silent { result ≡ Status.Accepted → Keeps (E.taken err.old) (E.taken err.new) }
 {
     let request = session.request;
     if let Some(misplaced) = misplaced(request) {
-        return end(err, misplaced, 3);
+        return end(err, misplaced, Status::Misused);
     }
     let Some(at) = request.at else {
-        return end(err, b"--format sed is for one call: give --at LINE\n", 3);
+        return end(err, b"--format sed is for one call: give --at LINE\n", Status::Misused);
     };
     let [path] = request.scripts.as_slice() else {
-        return end(err, b"--at is for one file\n", 3);
+        return end(err, b"--at is for one file\n", Status::Misused);
     };
     let asked = scan_of(request, Look::Text { colour: false });
     spell_call(&walk_of(session, &asked), path, at, out, err)

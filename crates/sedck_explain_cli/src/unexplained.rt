@@ -7,7 +7,7 @@ use crate::session::Session;
 use sedck_calls_in_files::{Unread, ended, out_of_memory, unwritten};
 use sedck_cert::streams::{Sink, write_all};
 use sedck_engines::{Input, Opener, RunFault};
-use sedck_explanation::Unexplained;
+use sedck_explanation::{Status, Unexplained};
 use sedck_formats::{json_unreadable, sarif_unreadable};
 
 /// Reports why a call isn't explained, and answers the exit status.
@@ -17,15 +17,15 @@ pub(crate) fn report_unexplained<R: AllocGlobal, O: Opener, F, W: Sink, E: Sink>
     fault: Unexplained,
     out: &mut W,
     err: &mut E,
-) -> u8
-    ensures { result ≡ 4 }
+) -> Status
+    ensures { result ≡ Status.Failed }
 {
     let Unexplained::Unread(origin) = fault else {
         return ended(err, fault);
     };
     let unread = unread_part(session.files, origin.text(words));
     match report_unread(session, unread, "sed", out, err) {
-        Ok(()) => 4,
+        Ok(()) => Status::Failed,
         Err(fault) => ended(err, fault),
     }
 }
@@ -58,8 +58,8 @@ pub(crate) fn report_fault<R, O: Opener, F, E: Sink>(
     path: &str,
     fault: RunFault,
     err: &mut E,
-) -> u8
-    ensures { result ≡ 4 }
+) -> Status
+    ensures { result ≡ Status.Failed }
 {
     match fault {
         RunFault::Read(input) => unread_of(session, path, input).end(err),

@@ -1,5 +1,5 @@
 -- Errors among findings.
-use Rattle.std.proofs.Common.{◌≡◌, ◌∙◌, ◌==◌, ◌||◌, if◌then◌else◌, ℕ, Bool, true, false, not, List, [], ◌∷◌, Option, Some, refl}
+use Rattle.std.proofs.Common.{◌≡◌, ◌∙◌, ◌||◌, if◌then◌else◌, ℕ, Bool, true, false, not, List, [], ◌∷◌, Option, Some, refl}
 use Rattle.sedck_report.specs.Levels.{has_warning, is_error, has_error, BeginsWithError}
 use Rattle.sedck_report.specs.declared.finding.Finding.{Finding}
 use Rattle.sedck_report.specs.declared.places.Position.{Position}
@@ -8,10 +8,12 @@ use Rattle.sedck_advice.specs.Added.{AddsNoError}
 use Rattle.sedck_advice.proofs.Added.{or-false}
 use Rattle.sedck_explanation.specs.Denial.{is_denied, status_under}
 use Rattle.sedck_explanation.specs.Errors.{BeginsWithAnswer}
+use Rattle.sedck_explanation.specs.Status.{Status, is_accepted}
 use Rattle.sedck_explanation.specs.Private.Errors.{IsRefused, AreFindingsOf, IsFindingOf}
 use Rattle.sedck_explanation.specs.Private.Explaining.{AreDeniedFindings}
 use Rattle.sedck_explanation.specs.declared.answer.Answer.{Answer}
 use Rattle.sedck_explanation.specs.declared.answer.Answer.TheVariants.{ScriptRefused, CertificateRefused, Accepted, Rejected, Endless, NotJudged}
+use Rattle.sedck_explanation.specs.declared.status.Status.TheVariants as exit
 
 -- ---- From the finding of the answer to all findings
 
@@ -41,15 +43,15 @@ begins_is_error : (position : Option Position) (findings : List Finding) → Beg
 begins_is_error position [] begins = absurd begins
 begins_is_error position (f ∷ more) begins = rw begins.0 refl
 
-denied_is_error : (is_denied error_before error : Bool) (status : ℕ) → error ≡ (is_denied || error_before) → error_before ≡ false
-    → status ≡ (if is_denied then 1 else 0) → error ≡ not (status == 0)
+denied_is_error : (is_denied error_before error : Bool) (status : Status) → error ≡ (is_denied || error_before) → error_before ≡ false
+    → status ≡ (if is_denied then exit.Rejected else exit.Accepted) → error ≡ not (is_accepted status)
 denied_is_error true before error status is none is_status = rw (is_status, is) refl
 denied_is_error false before error status is none is_status = rw (is_status, is, none) refl
 
--- there is an error exactly where the status isn't 0, and the first is that of the answer
-pub errors_of : (text : List ℕ) (positions : List Position) (denied : Denied) (slow : Bool) (answer : Answer) (before all : List Finding) (status : ℕ)
+-- there is an error exactly where it isn't accepted, and the first is that of the answer
+pub errors_of : (text : List ℕ) (positions : List Position) (denied : Denied) (slow : Bool) (answer : Answer) (before all : List Finding) (status : Status)
     → AreFindingsOf text positions answer before → AreDeniedFindings denied slow before all answer → status ≡ status_under denied (has_warning all) slow answer
-    → (has_error all ≡ not (status == 0)) × BeginsWithAnswer text positions all answer
+    → (has_error all ≡ not (is_accepted status)) × BeginsWithAnswer text positions all answer
 errors_of text positions denied slow (Accepted cert bound) before all status found denials is =
     (denied_is_error (is_denied denied (has_warning all) slow (Accepted cert bound)) (has_error before) (has_error all) status denials found is, tt)
 errors_of text positions denied slow (ScriptRefused why) before all status found denials is =
@@ -64,9 +66,9 @@ errors_of text positions denied slow NotJudged before all status found denials i
     rw denials ((rw is (begins_is_error found.0 before found.2)), found)
 
 -- the same of a script that is refused, where nothing is denied
-pub errors_of_refusal : (text : List ℕ) (denied : Denied) (slow : Bool) (answer : Answer) (findings : List Finding) (status : ℕ) → IsRefused text answer
+pub errors_of_refusal : (text : List ℕ) (denied : Denied) (slow : Bool) (answer : Answer) (findings : List Finding) (status : Status) → IsRefused text answer
     → AreFindingsOf text [] answer findings → status ≡ status_under denied (has_warning findings) slow answer
-    → (has_error findings ≡ not (status == 0)) × BeginsWithAnswer text [] findings answer
+    → (has_error findings ≡ not (is_accepted status)) × BeginsWithAnswer text [] findings answer
 errors_of_refusal text denied slow (ScriptRefused why) findings status refused found is =
     errors_of text [] denied slow (ScriptRefused why) findings findings status found refl is
 errors_of_refusal text denied slow _ findings status refused found is = absurd refused

@@ -1,5 +1,5 @@
 -- What stays of the findings where some are ignored.
-use Rattle.std.proofs.Common.{◌≡◌, ◌∙◌, ◌==◌, ◌||◌, ◌&&◌, not, ℕ, Bool, true, false, List, [], ◌∷◌, ◌++◌, Option, map, refl, sym, ap, subst}
+use Rattle.std.proofs.Common.{◌≡◌, ◌∙◌, ◌||◌, ◌&&◌, not, ℕ, Bool, true, false, List, [], ◌∷◌, ◌++◌, Option, map, refl, sym, ap, subst}
 use Rattle.std.specs.Prelude.{cond}
 use Rattle.std.proofs.lemmas.List.Elements.{All-head}
 use Rattle.sedck_report.specs.Levels.{has_warning, is_error, has_error, BeginsWithError}
@@ -11,6 +11,7 @@ use Rattle.sedck_report.specs.declared.places.Position.{Position}
 use Rattle.sedck_errors.specs.declared.denied.Denied.{Denied}
 use Rattle.sedck_explanation.specs.Denial.{status_under}
 use Rattle.sedck_explanation.specs.Errors.{BeginsWithAnswer}
+use Rattle.sedck_explanation.specs.Status.{Status, is_accepted}
 use Rattle.sedck_explanation.specs.Private.Reporting.{errors_in, KeepsErrors, AreReported}
 use Rattle.sedck_explanation.specs.declared.answer.Answer.{Answer}
 use Rattle.sedck_explanation.specs.declared.answer.Answer.TheVariants.{ScriptRefused, CertificateRefused, Accepted, Rejected, Endless, NotJudged}
@@ -77,13 +78,13 @@ status_kept denied slow (Endless walk) was now same = refl
 status_kept denied slow NotJudged was now same = refl
 
 -- what holds of the errors that were found holds of those that are reported
-pub errors_reported : (text : List ℕ) (positions : List Position) (answer : Answer) (ignored : List Code) (found all : List Finding) (status : ℕ)
-    → AreReported text ignored found all → (has_error found ≡ not (status == 0)) × BeginsWithAnswer text positions found answer
-    → (has_error all ≡ not (status == 0)) × BeginsWithAnswer text positions all answer
+pub errors_reported : (text : List ℕ) (positions : List Position) (answer : Answer) (ignored : List Code) (found all : List Finding) (status : Status)
+    → AreReported text ignored found all → (has_error found ≡ not (is_accepted status)) × BeginsWithAnswer text positions found answer
+    → (has_error all ≡ not (is_accepted status)) × BeginsWithAnswer text positions all answer
 errors_reported text positions answer ignored found all status reported errors =
     (error_kept found all reported.errors ∙ errors.0, answer_kept text positions answer found all reported.errors reported.order errors.1)
 
-pub status_reported : (text : List ℕ) (denied : Denied) (slow : Bool) (answer : Answer) (ignored : List Code) (found all : List Finding) (status : ℕ)
+pub status_reported : (text : List ℕ) (denied : Denied) (slow : Bool) (answer : Answer) (ignored : List Code) (found all : List Finding) (status : Status)
     → AreReported text ignored found all → (denied.warnings ≡ true → ignored ≡ []) → status ≡ status_under denied (has_warning found) slow answer
     → status ≡ status_under denied (has_warning all) slow answer
 status_reported text denied slow answer ignored found all status reported none is =

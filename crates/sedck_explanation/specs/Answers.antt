@@ -12,6 +12,8 @@ use Rattle.sedck_cert.specs.Headline.{Only, SpellBoth, IsLimit, IsScriptFaultOf}
 use Rattle.sedck_search.specs.Found.{IsLoop}
 use Rattle.sedck_explanation.specs.declared.answer.Answer.{Answer}
 use Rattle.sedck_explanation.specs.declared.answer.Answer.TheVariants.{ScriptRefused, CertificateRefused, Accepted, Rejected, Endless, NotJudged}
+use Rattle.sedck_explanation.specs.Status.{Status}
+use Rattle.sedck_explanation.specs.declared.status.Status.TheVariants as exit
 
 -- the text spells one script alone, for which this holds
 abbrev pub SpellsOneWith : List ℕ → (Program → Type 0) → Type 0
@@ -31,12 +33,11 @@ IsAnswer text (Some bytes) (Endless walk) = ⊥
 IsAnswer text None (Endless walk) = SpellsOneWith text (λ p. IsLoop p walk)
 IsAnswer text given NotJudged = ⊥
 
--- the exit status: 0 for accepted, 1 for a rejection or a loop, 2 for a text that is refused and for
--- one that is not judged
-abbrev pub status_of : Answer → ℕ
-status_of (Accepted cert bound) = 0
-status_of (Rejected cert why) = 1
-status_of (Endless walk) = 1
-status_of (ScriptRefused why) = 2
-status_of (CertificateRefused why) = 2
-status_of NotJudged = 2
+-- the exit status
+abbrev pub status_of : Answer → Status
+status_of (Accepted cert bound) = exit.Accepted
+status_of (Rejected cert why) = exit.Rejected
+status_of (Endless walk) = exit.Rejected
+status_of (ScriptRefused why) = exit.Refused
+status_of (CertificateRefused why) = exit.Refused
+status_of NotJudged = exit.Refused

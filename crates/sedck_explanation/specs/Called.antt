@@ -1,5 +1,5 @@
 -- The script of a call of sed, and when a call is accepted, this project's own.
-use Rattle.std.specs.Prelude.{◌≡◌, ℕ, ◌==◌, ◌&&◌, Bool, true, false, MatchBool, List, [], ◌∷◌, Option, None, codes, if◌then◌else◌}
+use Rattle.std.specs.Prelude.{◌≡◌, ℕ, ◌&&◌, Bool, true, false, MatchBool, List, [], ◌∷◌, Option, None, codes, if◌then◌else◌}
 use Rattle.std.specs.Str.{bytes_eq}
 use Rattle.std.specs.List.{list_any}
 use Rattle.sedck_calls.specs.Calls.{IsCall}
@@ -18,6 +18,7 @@ use Rattle.sedck_report.specs.Files.{is_there}
 use Rattle.sedck_report.specs.Levels.{has_warning, has_error}
 use Rattle.sedck_errors.specs.declared.denied.Denied.{Denied}
 use Rattle.sedck_explanation.specs.Explanations.{IsExplanation, Keeps}
+use Rattle.sedck_explanation.specs.Status.{Status, Accepted, Rejected, is_accepted}
 use Rattle.sedck_explanation.specs.declared.explanation.Explanation.{Explanation}
 
 -- An option that makes sed read another language than that of the model: extended expressions. With `-s` and `-i` there are several
@@ -51,14 +52,14 @@ abbrev pub is_in_place : Call → Bool
 is_in_place call = is_there call.inputs.items && list_any is_overwriting call.given.items
 
 -- the script is accepted, but the call overwrites an operand, and writing is denied
-abbrev pub is_denied_call : Denied → Call → ℕ → Bool
-is_denied_call denied call status = status == 0 && (denied.writes && is_in_place call)
+abbrev pub is_denied_call : Denied → Call → Status → Bool
+is_denied_call denied call status = is_accepted status && (denied.writes && is_in_place call)
 
--- the same with the status 1 and an error
+-- the same, rejected and with an error
 pub record IsDenied (text : List ℕ) (judged e : Explanation) : Type 0 where
   pub is_text : e.text.now ≡ text
   pub answer : e.answer ≡ judged.answer
-  pub status : e.status ≡ 1
+  pub status : e.status ≡ Rejected
   pub errors : has_error e.findings.items ≡ true
   pub keeps : Keeps text e.answer e
 
@@ -85,7 +86,7 @@ AreParts k words [] parts = parts ≡ []
 AreParts k words (piece ∷ pieces) parts =
     (part : List ℕ) × (others : List (List ℕ)) × (parts ≡ part ∷ others) × IsPart k words piece part × AreParts k words pieces others
 
--- The call with these words is accepted: no option changes the language, and the script, its parts joined, is explained with the status 0.
+-- The call with these words is accepted: no option changes the language, and the script, its parts joined, is explained and accepted.
 pub record IsAcceptedCall (k : Known) (denied : Denied) (words : List (List ℕ)) : Type 0 where
   pub call : Call
   pub is_call : IsCall words call
@@ -94,4 +95,4 @@ pub record IsAcceptedCall (k : Known) (denied : Denied) (words : List (List ℕ)
   pub are_parts : AreParts k words call.pieces.items parts
   pub explanation : Explanation
   pub is_explanation : IsExplanation (joined_texts parts) None denied explanation
-  pub is_yes : explanation.status ≡ 0
+  pub is_yes : explanation.status ≡ Accepted

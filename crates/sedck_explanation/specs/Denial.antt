@@ -1,11 +1,12 @@
 -- What a caller may deny of an accepted script, this project's own: files that it reads or writes, warnings, steps without a
 -- limit, and expressions that are slow to match. A script that isn't accepted has its status with or without it.
-use Rattle.std.specs.Prelude.{ℕ, Bool, false, ◌&&◌, ◌||◌, is_none, if◌then◌else◌}
+use Rattle.std.specs.Prelude.{Bool, false, ◌&&◌, ◌||◌, is_none, if◌then◌else◌}
 use Rattle.sedck_report.specs.Files.{is_there}
 use Rattle.sedck_errors.specs.declared.denied.Denied.{Denied}
 use Rattle.sedck_explanation.specs.Answers.{status_of}
 use Rattle.sedck_explanation.specs.declared.answer.Answer.{Answer}
 use Rattle.sedck_explanation.specs.declared.answer.Answer.TheVariants.{Accepted}
+use Rattle.sedck_explanation.specs.Status.{Status, Rejected}
 
 -- nothing is denied, and nothing is known of the locale
 abbrev pub nothing : Denied
@@ -18,6 +19,6 @@ is_denied denied warned slow (Accepted cert bound) =
     || (denied.unbounded && is_none bound) || (denied.warnings && warned) || (denied.slow && slow)
 is_denied denied warned slow _ = false
 
--- the exit status: 1 for a script that is accepted and has what is denied, else that of the answer
-abbrev pub status_under : Denied → (warned slow : Bool) → Answer → ℕ
-status_under denied warned slow answer = if is_denied denied warned slow answer then 1 else status_of answer
+-- the exit status: rejected for a script that is accepted and has what is denied, else that of the answer
+abbrev pub status_under : Denied → (warned slow : Bool) → Answer → Status
+status_under denied warned slow answer = if is_denied denied warned slow answer then Rejected else status_of answer

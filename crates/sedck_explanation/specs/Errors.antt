@@ -1,10 +1,11 @@
 -- The errors of an explanation, this project's own: which answers have one, and where in the script it is.
-use Rattle.std.specs.Prelude.{◌≡◌, ◌==◌, ℕ, not, List, Option, Some, None}
+use Rattle.std.specs.Prelude.{◌≡◌, ℕ, not, List, Option, Some, None}
 use Rattle.sedck_report.specs.Levels.{has_error, BeginsWithError}
 use Rattle.sedck_report.specs.Positions.{position_in}
 use Rattle.sedck_report.specs.declared.finding.Finding.{Finding}
 use Rattle.sedck_report.specs.declared.places.Position.{Position}
 use Rattle.sedck_errors.specs.Errors.{first_position, rejection_position, IsFaultOffset}
+use Rattle.sedck_explanation.specs.Status.{is_accepted}
 use Rattle.sedck_explanation.specs.declared.answer.Answer.{Answer}
 use Rattle.sedck_explanation.specs.declared.answer.Answer.TheVariants.{ScriptRefused, CertificateRefused, Accepted, Rejected, Endless, NotJudged}
 use Rattle.sedck_explanation.specs.declared.explanation.Explanation.{Explanation}
@@ -25,7 +26,7 @@ BeginsWithAnswer text positions findings (Accepted cert bound) = Unit {0}
 BeginsWithAnswer text positions findings answer =
     (position : Option Position) × IsErrorPosition text positions answer position × BeginsWithError position findings
 
--- the errors of an explanation: there is one exactly where the status isn't 0, and the first is that of the answer
+-- the errors of an explanation: there is one exactly where it isn't accepted, and the first is that of the answer
 pub record HasErrors (text : List ℕ) (e : Explanation) : Type 0 where
-  pub exactly : has_error e.findings.items ≡ not (e.status == 0)
+  pub exactly : has_error e.findings.items ≡ not (is_accepted e.status)
   pub first : BeginsWithAnswer text e.positions.items e.findings.items e.answer

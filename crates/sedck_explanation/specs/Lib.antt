@@ -1,4 +1,5 @@
 -- What the public contracts cite, in reading order.
+pub mod Status
 pub mod Answers
 pub mod Denial
 pub mod Errors

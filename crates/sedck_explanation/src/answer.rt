@@ -1,6 +1,6 @@
 //! What the engines answer of a script, alone or with a certificate.
 
-ghost use Rattle.std.specs.Prelude.{◌≡◌, ◌≤◌, ◌&&◌, ◌||◌, ℕ, List, IfOk, IfSome, Some, None, length};
+ghost use Rattle.std.specs.Prelude.{◌≡◌, ◌&&◌, ◌||◌, ℕ, List, IfOk, IfSome, Some, None, length};
 ghost use Rattle.std.specs.Option.{option_map};
 ghost use Rattle.sedck_script.specs.Locations.{locations_of};
 ghost use Rattle.sedck_script.specs.Items.{Item, Items};
@@ -11,9 +11,11 @@ ghost use Rattle.sedck_cert.specs.declared.verifying.Fault.TheVariants as below;
 ghost use Rattle.sedck_report.specs.Files.{is_there};
 ghost use Rattle.sedck_explanation.specs.Answers.{IsAnswer, status_of};
 ghost use Rattle.sedck_explanation.specs.Denial.{nothing, status_under};
+ghost use Rattle.sedck_explanation.specs.Status.{IsOfAnswer};
 ghost use Rattle.sedck_explanation.specs.Private.Answering.{IsFoundAnswer, IsJudgedAnswer, IsAcceptedAnswer, refusal};
 ghost use Rattle.sedck_explanation.specs.Private.Errors.{IsRefused};
 
+use crate::status::Status;
 use sedck_cert::{Bound, Cert, CertFault, Rejection, Verdict, check, limit, read_any};
 use sedck_errors::{Denied, has_reads, has_writes};
 use sedck_script::{Located, Script, ScriptFault, locate};
@@ -46,32 +48,34 @@ pub enum Answer {
 }
 
 impl Answer {
-    /// The exit status: 0 for accepted, 1 for rejected or a loop, 2 for a refused text and for one that is not judged.
-    pub fn status(&self) -> u8
-        ensures { result ≡ status_of self.now }
+    /// The exit status.
+    pub fn status(&self) -> Status
+        ensures value { result ≡ status_of self.now }
+        ensures few { IsOfAnswer result }
     {
         match self {
-            Answer::Accepted { .. } => 0,
-            Answer::Rejected { .. } | Answer::Endless(_) => 1,
-            Answer::ScriptRefused(_) | Answer::CertificateRefused(_) | Answer::NotJudged => 2,
+            Answer::Accepted { .. } => Status::Accepted,
+            Answer::Rejected { .. } | Answer::Endless(_) => Status::Rejected,
+            Answer::ScriptRefused(_) | Answer::CertificateRefused(_) | Answer::NotJudged =>
+                Status::Refused,
         }
     }
 
-    /// The exit status where this is denied: 1 for a script that is accepted and has what is denied, else as `status`. One of the
-    /// findings is a warning where `has_warning` says so, and the script is slow where `is_slow` does.
-    pub fn status_under(&self, denied: Denied, has_warning: bool, is_slow: bool) -> u8
+    /// The exit status where this is denied: `Rejected` for a script that is accepted and has what is denied, else as `status`. One of
+    /// the findings is a warning where `has_warning` says so, and the script is slow where `is_slow` does.
+    pub fn status_under(&self, denied: Denied, has_warning: bool, is_slow: bool) -> Status
         ensures value { result ≡ status_under denied has_warning is_slow self.now }
-        ensures few { result ≤ 2 }
+        ensures few { IsOfAnswer result }
         // A no stays what it is, and without a denial a yes does too.
-        ensures never_a_yes { result ≡ 0 → status_of self.now ≡ 0 }
+        ensures never_a_yes { result ≡ Status.Accepted → status_of self.now ≡ Status.Accepted }
         ensures same { denied ≡ nothing → result ≡ status_of self.now }
     {
         match self {
             Answer::Accepted { cert, bound } => {
                 if has_denied(denied, cert, bound.is_none(), has_warning, is_slow) {
-                    1
+                    Status::Rejected
                 } else {
-                    0
+                    Status::Accepted
                 }
             }
             _ => self.status(),

@@ -1,14 +1,16 @@
 //! What is said of a call of sed: of one that can be judged, and of one that can't.
 
-ghost use Rattle.std.specs.Prelude.{◌≡◌, ◌≤◌, None, [], IfOk};
+ghost use Rattle.std.specs.Prelude.{◌≡◌, None, [], IfOk};
 ghost use Rattle.sedck_explanation.specs.Called.{IsCalled, IsDenied, is_denied_call as is_denied};
 ghost use Rattle.sedck_explanation.specs.Explanations.{IsExplanation, Keeps, KeepsNothing};
+ghost use Rattle.sedck_explanation.specs.Status.{IsOfAnswer};
 ghost use Rattle.sedck_explanation.specs.declared.answer.Answer.TheVariants.{NotJudged};
 
 use crate::answer::Answer;
 use crate::explaining::explain_call;
 use crate::explanation::Explanation;
 use crate::options::{call_warnings, denied_overwriting, is_in_place};
+use crate::status::Status;
 use sedck_calls::Call;
 use sedck_errors::Denied;
 use sedck_report::{Code, Finding, Level};
@@ -23,9 +25,9 @@ pub fn explain_called<'a>(
     call: &Call,
     denied: Denied,
 ) -> Result<Explanation<'a>, AllocError>
-    ensures few { IfOk result (λ e. e.status ≤ 2) }
+    ensures few { IfOk result (λ e. IsOfAnswer e.status) }
     ensures called { IfOk result (IsCalled text.now denied call.now) }
-    ensures yes { IfOk result (λ e. e.status ≡ 0 → IsExplanation text.now None denied e) }
+    ensures yes { IfOk result (λ e. e.status ≡ Status.Accepted → IsExplanation text.now None denied e) }
 {
     let warnings = call_warnings(alloc, words, call)?;
     let explanation = explain_call(alloc, text, warnings, denied)?;
@@ -36,10 +38,10 @@ pub fn explain_called<'a>(
 }
 
 /// Whether the script is accepted, but the call overwrites operands where writing is denied.
-fn is_denied_call(denied: Denied, call: &Call, status: u8) -> bool
+fn is_denied_call(denied: Denied, call: &Call, status: Status) -> bool
     ensures { result ≡ is_denied denied call.now status }
 {
-    status == 0 && denied.writes && is_in_place(call)
+    status.is_accepted() && denied.writes && is_in_place(call)
 }
 
 /// The explanation of an accepted script whose call overwrites operands where writing is denied.
@@ -52,7 +54,7 @@ fn denied_call<'a>(
     requires { Keeps explanation.text.now explanation.answer explanation }
     ensures { IfOk result (IsDenied explanation.entry.text.now explanation.entry) }
 {
-    explanation.status = 1;
+    explanation.status = Status::Rejected;
     let error = denied_overwriting(alloc, words, call)?;
     explanation.findings.insert(0, error)?;
     Ok(explanation)
@@ -62,16 +64,14 @@ fn denied_call<'a>(
 pub fn not_judged<'a>(alloc: Global, text: &'a [u8], findings: Vec<Finding>) -> Explanation<'a>
     ensures text { result.text.now ≡ text.now }
     ensures answer { result.answer ≡ NotJudged }
-    ensures status { result.status ≡ 2 }
+    ensures status { result.status ≡ Status.Refused }
     ensures keeps { KeepsNothing result }
     ensures findings { result.findings ≡ findings }
 {
-    let answer = Answer::NotJudged;
-    let status = answer.status();
     Explanation {
         text,
-        answer,
-        status,
+        answer: Answer::NotJudged,
+        status: Status::Refused,
         script: None,
         positions: Vec::new(alloc),
         findings,

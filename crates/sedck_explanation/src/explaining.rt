@@ -1,6 +1,6 @@
 //! All that is reported of a script.
 
-ghost use Rattle.std.specs.Prelude.{◌≡◌, ◌≤◌, true, false, None, [], IfOk, OnOk, map};
+ghost use Rattle.std.specs.Prelude.{◌≡◌, true, false, None, [], IfOk, OnOk, map};
 ghost use Rattle.std.specs.Option.{is_some, option_map};
 ghost use Rattle.sedck_script.specs.Names.{reads, writes};
 ghost use Rattle.sedck_report.specs.Files.{names_of};
@@ -10,12 +10,14 @@ ghost use Rattle.sedck_advice.specs.Added.{AddsNoError};
 ghost use Rattle.sedck_advice.specs.Concerns.{concerns};
 ghost use Rattle.sedck_advice.specs.declared.concerns.Concern.TheVariants.{Locale};
 ghost use Rattle.sedck_explanation.specs.Explanations.{IsExplanation, KeepsNothing, WarnedWith, is_due};
+ghost use Rattle.sedck_explanation.specs.Status.{IsOfAnswer};
 ghost use Rattle.sedck_explanation.specs.Private.Errors.{IsOfScript, IsRefused, CanBeReported, AreFindingsOf, IsFindingOf};
 ghost use Rattle.sedck_explanation.specs.Private.Explaining.{Explains, Reports, KeepsLocated, HasLists, AreDeniedFindings};
 
 use crate::answer::{Answer, Answered, answer_of};
 use crate::explanation::Explanation;
 use crate::reporting::{ignored_codes, reported};
+use crate::status::Status;
 use sedck_advice::{
     Concern, NamedFiles, ReadScript, Slow, add_warnings, concern_warnings, ignoring_words,
     named_files, slow_of,
@@ -38,7 +40,7 @@ pub fn explain<'a>(
     denied: Denied,
 ) -> Result<Explanation<'a>, AllocError>
     ensures explanation { IfOk result (IsExplanation text.now (option_map (λ bytes. bytes.now) certificate.entry) denied) }
-    ensures few { IfOk result (λ e. e.status ≤ 2) }
+    ensures few { IfOk result (λ e. IsOfAnswer e.status) }
 {
     explained_with(alloc, own, text, certificate, Vec::new(alloc), denied)
 }
@@ -53,7 +55,7 @@ pub fn explain_call<'a>(
 ) -> Result<Explanation<'a>, AllocError>
     requires { has_error warnings.items ≡ false }
     ensures explanation { IfOk result (IsExplanation text.now None denied) }
-    ensures few { IfOk result (λ e. e.status ≤ 2) }
+    ensures few { IfOk result (λ e. IsOfAnswer e.status) }
     ensures warned { IfOk result (WarnedWith denied warnings.items) }
 {
     explained_with(alloc, None, text, None, warnings, denied)
@@ -70,7 +72,7 @@ fn explained_with<'a>(
 ) -> Result<Explanation<'a>, AllocError>
     requires { has_error warnings.items ≡ false }
     ensures explanation { IfOk result (IsExplanation text.now (option_map (λ bytes. bytes.now) certificate.entry) denied) }
-    ensures few { IfOk result (λ e. e.status ≤ 2) }
+    ensures few { IfOk result (λ e. IsOfAnswer e.status) }
     ensures warned { IfOk result (WarnedWith denied warnings.items) }
 {
     let Answered { answer, located } = answer_of(alloc, text, certificate)?;
@@ -94,7 +96,7 @@ fn explained<'a>(
     requires warned { has_error warnings.items ≡ false }
     ensures explains { IfOk result (Explains text.now denied answer) }
     ensures keeps { IfOk result (KeepsLocated text.now located.entry.script located.entry.locations.items) }
-    ensures few { IfOk result (λ e. e.status ≤ 2) }
+    ensures few { IfOk result (λ e. IsOfAnswer e.status) }
     ensures warned { IfOk result (WarnedWith denied warnings.items) }
 {
     let lists = lists_of(alloc, own, text, &located)?;
@@ -158,13 +160,13 @@ fn reports(
     lists: &Lists,
     mut warnings: Vec<Finding>,
     denied: Denied,
-) -> Result<(u8, Vec<Finding>), AllocError>
+) -> Result<(Status, Vec<Finding>), AllocError>
     requires script { IsOfScript text.now located.now.script answer.now }
     requires warned { has_error warnings.items ≡ false }
     requires reads { names_of lists.now.reads.items ≡ reads located.now.script }
     requires writes { names_of lists.now.writes.items ≡ writes located.now.script }
     ensures reports { IfOk result (λ r. Reports text.now denied answer.now located.now.script lists.now.positions.items r.0 r.1.items) }
-    ensures few { IfOk result (λ r. r.0 ≤ 2) }
+    ensures few { IfOk result (λ r. IsOfAnswer r.0) }
     ensures warned { IfOk result (λ r. denied.warnings ≡ true → has_warning warnings.items ≡ true → has_warning r.1.items ≡ true) }
 {
     let locations = &located.locations;
@@ -221,7 +223,7 @@ fn refused<'a>(
     requires warned { has_error warnings.items ≡ false }
     ensures explains { IfOk result (Explains text.now denied answer) }
     ensures keeps { IfOk result KeepsNothing }
-    ensures few { IfOk result (λ e. e.status ≤ 2) }
+    ensures few { IfOk result (λ e. IsOfAnswer e.status) }
     ensures warned { IfOk result (WarnedWith denied warnings.items) }
 {
     let mut found = refusal_findings(alloc, text, &answer)?;

@@ -1,6 +1,7 @@
 //! All that is reported of a script, with the answer.
 
 use crate::answer::Answer;
+use crate::status::Status;
 use sedck_report::{Finding, NamedFile, Position};
 use sedck_script::Script;
 
@@ -9,8 +10,8 @@ use sedck_script::Script;
 pub struct Explanation<'a> {
     pub text: &'a [u8],
     pub answer: Answer,
-    /// The exit status: that of the answer, but 1 where the script is accepted and has what is denied.
-    pub status: u8,
+    /// That of the answer, but `Rejected` where the script is accepted and has what is denied.
+    pub status: Status,
     /// None where the script is refused.
     pub script: Option<Script<'a>>,
     /// Where the verb of each command is; empty where the script is refused.

@@ -12,6 +12,7 @@ mod explanation;
 mod options;
 mod parts;
 mod reporting;
+mod status;
 
 pub use answer::Answer;
 pub use called::{call_finding, explain_called, not_judged};
@@ -24,3 +25,4 @@ pub use sedck_report::{
     Code, Finding, Fix, Level, NamedFile, NewText, Position, Step, is_printable, position_at,
     position_from, shown_line, shown_name,
 };
+pub use status::Status;

@@ -4,6 +4,8 @@ use Rattle.std.specs.Io.KnownBytes.{Keeps, Appends}
 use Rattle.sedck_script.specs.Program.{Program}
 use Rattle.sedck_script.specs.Spelling.{Spells}
 use Rattle.sedck_explanation.specs.declared.explanation.Explanation.{Explanation}
+use Rattle.sedck_explanation.specs.declared.status.Status.{Status}
+use Rattle.sedck_explanation.specs.declared.status.Status.TheVariants.{Accepted}
 use Rattle.sedck_formats.specs.Plain.{Output, IsPlainReport, IsPlainOutput, Writes}
 
 -- the report, where it is the text of the script
@@ -12,15 +14,15 @@ with_report : (script : Option Program) (out : Output) (report : List ℕ) → I
 with_report None out report spells appends = tt
 with_report (Some p) out report spells appends = (report, spells, appends)
 
--- the report is written with the status 0 alone
-pub plain_output : (e : Explanation) (report : List ℕ) (out : Output) (status : ℕ) → IsPlainReport e report status
-    → (status ≡ 0 → Appends out.before out.after report) → (status ≢ 0 → Keeps out.before out.after) → IsPlainOutput e.script out status
+-- the report is written only where it is accepted
+pub plain_output : (e : Explanation) (report : List ℕ) (out : Output) (status : Status) → IsPlainReport e report status
+    → (status ≡ Accepted → Appends out.before out.after report) → (status ≢ Accepted → Keeps out.before out.after) → IsPlainOutput e.script out status
 plain_output e report out status is written kept = record {
-  spelled = λ zero. with_report e.script out report (is.spelled zero) (written zero);
+  spelled = λ yes. with_report e.script out report (is.spelled yes) (written yes);
   kept = kept;
 }
 
 -- a report with the same status
-pub same_report : (e : Explanation) (report : List ℕ) (status answered : ℕ) → IsPlainReport e report status → answered ≡ status
+pub same_report : (e : Explanation) (report : List ℕ) (status answered : Status) → IsPlainReport e report status → answered ≡ status
     → IsPlainReport e report answered
 same_report e report status answered is same = subst (IsPlainReport e report) (sym same) is

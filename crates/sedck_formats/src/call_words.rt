@@ -2,7 +2,7 @@
 
 use crate::words::{GREEN, RED, YELLOW, ink_where, push_inked};
 use crate::written::Written;
-use sedck_explanation::{Answer, Explanation, NamedFile, Position, shown_name};
+use sedck_explanation::{Answer, Explanation, NamedFile, Position, Status, shown_name};
 use std::alloc::{AllocError, Global};
 
 /// A call of sed in a file.
@@ -30,15 +30,15 @@ pub enum CallAnswer {
 }
 
 impl CallAnswer {
-    /// The answer of the explanation, by its status: 5 says that something isn't known before a run.
+    /// The answer of the explanation, by its status.
     pub fn of(explanation: &Explanation) -> CallAnswer {
         match (&explanation.answer, explanation.status) {
-            (Answer::Accepted { .. }, 0) => CallAnswer::Accepted,
-            (Answer::Accepted { .. }, 5) => CallAnswer::AcceptedIf,
+            (Answer::Accepted { .. }, Status::Accepted) => CallAnswer::Accepted,
+            (Answer::Accepted { .. }, Status::Unknown) => CallAnswer::AcceptedIf,
             (Answer::Accepted { .. }, _) => CallAnswer::Denied,
             (Answer::Endless(_) | Answer::Rejected { .. }, _) => CallAnswer::Loop,
             (Answer::ScriptRefused(_) | Answer::CertificateRefused(_), _) => CallAnswer::Refused,
-            (Answer::NotJudged, 5) => CallAnswer::Unknown,
+            (Answer::NotJudged, Status::Unknown) => CallAnswer::Unknown,
             (Answer::NotJudged, _) => CallAnswer::NotJudged,
         }
     }

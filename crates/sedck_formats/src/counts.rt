@@ -2,6 +2,7 @@
 
 use crate::call_words::CallAnswer;
 use crate::written::Written;
+use sedck_explanation::Status;
 use std::alloc::{AllocError, Global};
 
 /// How many calls were found, by their answers.
@@ -107,11 +108,11 @@ impl ScriptCounts {
     };
 
     /// Counts a script with this exit status.
-    pub fn add(&mut self, status: u8) {
+    pub fn add(&mut self, status: Status) {
         match status {
-            0 => self.accepted = self.accepted.saturating_add(1),
-            1 => self.rejected = self.rejected.saturating_add(1),
-            2 => self.refused = self.refused.saturating_add(1),
+            Status::Accepted => self.accepted = self.accepted.saturating_add(1),
+            Status::Rejected => self.rejected = self.rejected.saturating_add(1),
+            Status::Refused => self.refused = self.refused.saturating_add(1),
             _ => self.unreadable = self.unreadable.saturating_add(1),
         }
     }

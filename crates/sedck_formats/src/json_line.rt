@@ -12,7 +12,7 @@ use crate::json_text::Json;
 use crate::names::Names;
 use crate::words::{VERSION, answer_word};
 use sedck_cert::Bound;
-use sedck_explanation::{Answer, Explanation, Level, NamedFile, shown_name};
+use sedck_explanation::{Answer, Explanation, Level, NamedFile, Status, shown_name};
 use std::alloc::{AllocError, Global};
 
 /// The object on a line, in ASCII, with the findings of at least this level.
@@ -33,7 +33,7 @@ pub fn json_report(
     let mut out = Json::new(alloc);
     out.open()
         .text("file", names.whole())
-        .number("status", u64::from(explanation.status))
+        .status(explanation.status)
         .text("answer", answer_word(explanation));
     push_details(&mut out, names, explanation, least);
     out.finished()
@@ -47,7 +47,7 @@ pub fn json_unreadable(alloc: Global, name: &str, message: &str) -> Result<Vec<u
     let mut out = Json::new(alloc);
     out.open()
         .text("file", name)
-        .number("status", 4)
+        .status(Status::Failed)
         .text("answer", "unreadable")
         .null("bound");
     out.list("reads").close("]").list("writes").close("]");
@@ -79,7 +79,7 @@ pub fn json_call(
     out.open().text("file", call.file);
     push_place(&mut out, "call", names, Some(call.position));
     push_words(&mut out, &call.words);
-    out.number("status", u64::from(explanation.status))
+    out.status(explanation.status)
         .text("answer", CallAnswer::of(explanation).word());
     push_details(&mut out, names, explanation, least);
     out.finished()
@@ -99,7 +99,7 @@ pub fn json_place(
     let names = Names::of_file(file);
     let mut out = Json::new(alloc);
     out.open().text("file", file);
-    out.number("status", u64::from(explanation.status))
+    out.status(explanation.status)
         .text("answer", "not-understood");
     push_details(&mut out, names, explanation, least);
     out.finished()
@@ -121,15 +121,13 @@ fn push_words(out: &mut Json, words: &[String]) {
 /// - `scripts`: scripts in files of their own, which are below a folder.
 /// - `unreadable`: files and folders that can't be read.
 /// - `status`: the exit status.
-pub fn json_counts(alloc: Global, counts: Counts, status: u8) -> Result<Vec<u8>, AllocError>
+pub fn json_counts(alloc: Global, counts: Counts, status: Status) -> Result<Vec<u8>, AllocError>
     ensures ascii { IfOk result (λ line. IsAscii line.items) }
     ensures line { IfOk result (λ line. IsPrintableLine line.items) }
 {
     let mut out = Json::new(alloc);
     push_counts(&mut out, &counts);
-    out.number("status", u64::from(status))
-        .text("version", VERSION)
-        .close("}");
+    out.status(status).text("version", VERSION).close("}");
     out.finished()
 }
 

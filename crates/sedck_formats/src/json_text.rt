@@ -5,6 +5,7 @@ ghost use Rattle.std.specs.Str.{IsAscii};
 ghost use Rattle.sedck_report.specs.Ascii.{IsPrintableLine};
 
 use json::Writer;
+use sedck_explanation::Status;
 use sedck_report::ascii_line;
 use std::alloc::{AllocError, Global};
 use std::str;
@@ -86,6 +87,11 @@ impl Json {
     pub(crate) fn number(&mut self, key: &str, value: u64) -> &mut Json {
         let is_refused = self.out.key(key).is_err() || self.out.u64(value).is_err();
         self.note(is_refused)
+    }
+
+    /// Adds the exit status.
+    pub(crate) fn status(&mut self, status: Status) -> &mut Json {
+        self.number("status", u64::from(status.code()))
     }
 
     /// Adds a member that is true or false.

@@ -1,47 +1,53 @@
 //! The format `sed`: an accepted script in its plain spelling, and of any other a report for people.
 
-ghost use Rattle.std.specs.Prelude.{◌≡◌, ◌⊎◌, IfOk};
+ghost use Rattle.std.specs.Prelude.{◌≡◌, IfOk};
 ghost use Rattle.sedck_script.specs.Spelling.{Spells};
-ghost use Rattle.sedck_formats.specs.Plain.{IsPlainReport};
+ghost use Rattle.sedck_formats.specs.Plain.{IsPlainReport, IsPlainStatus};
 
 use crate::names::Names;
 use crate::text::text_findings;
-use sedck_explanation::{Code, Explanation, Finding, Level, not_judged};
+use sedck_explanation::{Code, Explanation, Finding, Level, Status, not_judged};
 use sedck_plain::{Fault, plain_of};
 use sedck_script::Script;
 use std::alloc::{AllocError, Global};
 
-/// What is written of a script, and the exit status: where that is 0 the script in its plain spelling, for the output; else a report for
-/// people, for standard error: this one, unless the script is accepted and has no plain spelling.
+/// What is written of a script, and the exit status: of an accepted one its plain spelling, for the output; else a report for people, for
+/// standard error: this one, unless the script is accepted and has no plain spelling.
 ///
-/// The status is the explanation's, but 2 for an accepted script without a plain spelling.
+/// The status is the explanation's, but `Refused` for an accepted script without a plain spelling.
 pub fn plain_report(
     alloc: Global,
     names: Names,
     explanation: &Explanation,
     report: Vec<u8>,
-) -> Result<(Vec<u8>, u8), AllocError>
+) -> Result<(Vec<u8>, Status), AllocError>
     ensures { IfOk result (λ made. IsPlainReport explanation.now made.0.items made.1) }
 {
-    match &explanation.script {
-        Some(script) if explanation.status == 0 => spelled(alloc, names, explanation, script),
-        _ => Ok((report, explanation.status)),
+    match explanation.status {
+        Status::Accepted => match &explanation.script {
+            Some(script) => spelled(alloc, names, explanation, script),
+            None => Ok((report, Status::Accepted)),
+        },
+        status => Ok((report, status)),
     }
 }
 
-/// The script of the explanation in its plain spelling, or that it has none, with the status 2.
+/// The script of the explanation in its plain spelling, or that it has none.
 fn spelled(
     alloc: Global,
     names: Names,
     explanation: &Explanation,
     script: &Script,
-) -> Result<(Vec<u8>, u8), AllocError>
-    ensures spelled { IfOk result (λ made. made.1 ≡ 0 → Spells made.0.items script.now) }
-    ensures status { IfOk result (λ made. (made.1 ≡ 0) ⊎ (made.1 ≡ 2)) }
+) -> Result<(Vec<u8>, Status), AllocError>
+    ensures spelled { IfOk result (λ made. made.1 ≡ Status.Accepted → Spells made.0.items script.now) }
+    ensures status { IfOk result (λ made. IsPlainStatus Status.Accepted made.1) }
 {
     match plain_of(alloc, explanation.text, script) {
-        Ok(text) => Ok((text, 0)),
-        Err(Fault::NoSpelling(place)) => { Ok((unspelled(alloc, names, explanation, place)?, 2)) }
+        Ok(text) => Ok((text, Status::Accepted)),
+        Err(Fault::NoSpelling(place)) => {
+            let report = unspelled(alloc, names, explanation, place)?;
+            Ok((report, Status::Refused))
+        }
         Err(_) => Err(AllocError),
     }
 }

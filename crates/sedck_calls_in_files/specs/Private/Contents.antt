@@ -1,6 +1,8 @@
 -- What was read of a file, and the status of it.
 use Rattle.std.specs.Prelude.{◌≡◌, ◌⊎◌, ℕ, Bool, false, IsTrue, List, Option, IfSome}
 use Rattle.sedck_errors.specs.declared.denied.Denied.{Denied}
+use Rattle.sedck_explanation.specs.declared.status.Status.{Status}
+use Rattle.sedck_explanation.specs.declared.status.Status.TheVariants.{Accepted, Failed}
 use Rattle.sedck_calls_in_files.specs.Scanned.{Holds, TextStatus}
 use Rattle.sedck_calls_in_files.specs.declared.reading.Contents.{Contents}
 use Rattle.sedck_calls_in_files.specs.declared.reading.Contents.TheVariants.{Text, Other, TooLong, Unreadable}
@@ -18,13 +20,13 @@ IsTextOf known (Text kind text) = IfSome known (λ bytes. text.items ≡ bytes)
 IsTextOf known _ = Unit {0}
 
 -- the status of a file that holds this
-abbrev pub ContentsStatus : (List ℕ → Option Holds) → Denied → Contents → ℕ → Type 0
+abbrev pub ContentsStatus : (List ℕ → Option Holds) → Denied → Contents → Status → Type 0
 ContentsStatus found denied (Text kind text) status = TextStatus (found text.items) denied text.items status
-ContentsStatus found denied Other status = status ≡ 0
-ContentsStatus found denied TooLong status = status ≡ 4
-ContentsStatus found denied Unreadable status = status ≡ 4
+ContentsStatus found denied Other status = status ≡ Accepted
+ContentsStatus found denied TooLong status = status ≡ Failed
+ContentsStatus found denied Unreadable status = status ≡ Failed
 
 -- the status of what is read from a source that has these bytes, where they are known; whether a read has failed
-abbrev pub SourceStatus : Option (List ℕ) → Bool → (List ℕ → Option Holds) → Denied → ℕ → Type 0
+abbrev pub SourceStatus : Option (List ℕ) → Bool → (List ℕ → Option Holds) → Denied → Status → Type 0
 SourceStatus left failed found denied status =
-    (status ≡ 4) ⊎ (IsTrue failed ⊎ IfSome left (λ bytes. TextStatus (found bytes) denied bytes status))
+    (status ≡ Failed) ⊎ (IsTrue failed ⊎ IfSome left (λ bytes. TextStatus (found bytes) denied bytes status))

@@ -1,5 +1,5 @@
 -- The steps to an explanation.
-use Rattle.std.specs.Prelude.{◌≡◌, ◌==◌, ◌||◌, ℕ, Bool, true, not, List, Some, map}
+use Rattle.std.specs.Prelude.{◌≡◌, ◌||◌, ℕ, Bool, true, not, List, Some, map}
 use Rattle.std.specs.List.{All}
 use Rattle.sedck_script.specs.Program.{Program}
 use Rattle.sedck_script.specs.Names.{reads, writes}
@@ -18,6 +18,7 @@ use Rattle.sedck_errors.specs.declared.denied.Denied.{Denied}
 use Rattle.sedck_explanation.specs.Denial.{is_denied, status_under}
 use Rattle.sedck_explanation.specs.Errors.{HasErrors, BeginsWithAnswer}
 use Rattle.sedck_explanation.specs.Explanations.{kept_has, is_due}
+use Rattle.sedck_explanation.specs.Status.{Status, is_accepted}
 use Rattle.sedck_explanation.specs.declared.answer.Answer.{Answer}
 use Rattle.sedck_explanation.specs.declared.answer.Answer.TheVariants.{Accepted}
 use Rattle.sedck_explanation.specs.declared.explanation.Explanation.{Explanation}
@@ -34,10 +35,10 @@ pub record Explains (text : List ℕ) (denied : Denied) (answer : Answer) (e : E
   pub ends : All (HasRange text) e.findings.items
 
 -- a status and the findings of an answer to a caller who denies this, for this script with its verbs at these positions
-pub record Reports (text : List ℕ) (denied : Denied) (answer : Answer) (script : Program) (positions : List Position) (status : ℕ) (findings : List Finding) : Type 0 where
+pub record Reports (text : List ℕ) (denied : Denied) (answer : Answer) (script : Program) (positions : List Position) (status : Status) (findings : List Finding) : Type 0 where
   pub is_status : status ≡ status_under denied (has_warning findings) (is_slow script) answer
   pub concerned : (concern : Concern) → denied.warnings ≡ true → is_due denied concern ≡ true → concerns concern script ≡ true → has_warning findings ≡ true
-  pub exactly : has_error findings ≡ not (status == 0)
+  pub exactly : has_error findings ≡ not (is_accepted status)
   pub first : BeginsWithAnswer text positions findings answer
   pub order : AreInOrder findings
   pub ends : All (HasRange text) findings

@@ -2,16 +2,16 @@ use Rattle.std.proofs.Common.{◌≡◌, ◌∙◌, ◌++◌, ap}
 use Rattle.sedck_calls_in_files.specs.Placed.{IsFindingIn}
 use Rattle.sedck_calls_in_files.proofs.Lists.{all_between}
 use Rattle.sedck_calls_in_files.proofs.judging.opened.Goals as goal
-use Rattle.sedck_calls_in_files.proofs.judging.opened.Goals.{then-explanation-eq0, else-explanation-eq0}
+use Rattle.sedck_calls_in_files.proofs.judging.opened.Goals.{then-is_accepted, else-is_accepted}
 
 pub returns-clause-places : goal.returns-clause-places
 returns-clause-places c =
     let back = c.in_ok-rest.rest.items in
-    let whole = c.if-explanation-eq0.explanation.findings.items in
+    let whole = c.if-is_accepted.explanation.findings.items in
     let is : whole ≡ c.append-2.new.self.items =
-    elim c.if-explanation-eq0.branch [
-      | then-explanation-eq0 w ↦ ap (λ e. e.findings.items) w.explanation-is
-      | else-explanation-eq0 w ↦ ap (λ e. e.findings.items) w.explanation-is
+    elim c.if-is_accepted.branch [
+      | then-is_accepted w ↦ ap (λ e. e.findings.items) w.explanation-is
+      | else-is_accepted w ↦ ap (λ e. e.findings.items) w.explanation-is
     ] in
     all_between (IsFindingIn c.args.file.now) c.args.explanation.findings.items c.args.warnings.items c.split_off.new.self.items back whole
     c.error_count-errors.result c.in_ok-rest.ensures.items c.in_ok-rest.ensures.tail

@@ -2,11 +2,12 @@ use Rattle.std.proofs.Common.{◌≡◌, ◌∙◌, ℕ, Ok, sym, ap, refl, subs
 use Rattle.sedck_calls.specs.Scripts.{joined_texts}
 use Rattle.sedck_explanation.specs.Explanations.{IsExplanation}
 use Rattle.sedck_explanation.specs.Called.{IsAcceptedCall, IsCalled, AreParts, has_foreign}
+use Rattle.sedck_explanation.specs.Status.{Accepted}
 use Rattle.sedck_formats.specs.Plain.{Output}
 use Rattle.sedck_explain_cli.specs.CallStatus.{HasCallStatus}
 use Rattle.sedck_explain_cli.specs.Requests.{is_plain}
 use Rattle.sedck_explain_cli.proofs.CallStatuses.{refused_call, foreign_call, judged_call}
-use Rattle.sedck_explain_cli.proofs.Spelled.{all_shown, shown_few, shown_yes, shown_spells, shown_silent, copied_yes, two_never}
+use Rattle.sedck_explain_cli.proofs.Spelled.{all_shown, shown_few, shown_yes, shown_spells, shown_silent, copied_yes, never_yes}
 use Rattle.sedck_explain_cli.proofs.calls.explain_words.Goals as goal
 
 pub returns-in-Err-clause-status : goal.returns-in-Err-clause-status
@@ -29,7 +30,7 @@ returns-in-Err-clause-yes g c =
     let out : Output = record { before = g.W.Sink.taken c.args.out.now; after = g.W.Sink.taken c.shown.new.out } in
     let err : Output = record { before = g.E.Sink.taken c.args.err.now; after = g.E.Sink.taken c.shown.new.err } in
     shown_yes (is_plain c.args.session.now.request.now.format) (IsAcceptedCall known denied words) e out err c.shown.result c.shown.ensures
-    (λ zero. two_never e.status c.in_ok-explanation-in-Err.ensures.status zero)
+    (λ yes. never_yes e.status c.in_ok-explanation-in-Err.ensures.status yes)
 
 pub returns-in-Err-clause-spelled : goal.returns-in-Err-clause-spelled
 returns-in-Err-clause-spelled g c =
@@ -39,7 +40,7 @@ returns-in-Err-clause-spelled g c =
     let out : Output = record { before = g.W.Sink.taken c.args.out.now; after = g.W.Sink.taken c.shown.new.out } in
     let err : Output = record { before = g.E.Sink.taken c.args.err.now; after = g.E.Sink.taken c.shown.new.err } in
     shown_spells (is_plain c.args.session.now.request.now.format) known c.args.session.now.request.now.denied words e out err c.shown.result c.shown.ensures
-    (λ zero writes. two_never e.status c.in_ok-explanation-in-Err.ensures.status zero)
+    (λ yes writes. never_yes e.status c.in_ok-explanation-in-Err.ensures.status yes)
 
 pub returns-then-has_foreign-clause-status : goal.returns-then-has_foreign-clause-status
 returns-then-has_foreign-clause-status g c =
@@ -62,7 +63,7 @@ returns-then-has_foreign-clause-yes g c =
     let out : Output = record { before = g.W.Sink.taken c.args.out.now; after = g.W.Sink.taken c.shown-then-has_foreign.new.out } in
     let err : Output = record { before = g.E.Sink.taken c.args.err.now; after = g.E.Sink.taken c.shown-then-has_foreign.new.err } in
     shown_yes (is_plain c.args.session.now.request.now.format) (IsAcceptedCall known denied words) e out err c.shown-then-has_foreign.result c.shown-then-has_foreign.ensures
-    (λ zero. two_never e.status c.not_judged-explanation.ensures.status zero)
+    (λ yes. never_yes e.status c.not_judged-explanation.ensures.status yes)
 
 pub returns-then-has_foreign-clause-spelled : goal.returns-then-has_foreign-clause-spelled
 returns-then-has_foreign-clause-spelled g c =
@@ -72,7 +73,7 @@ returns-then-has_foreign-clause-spelled g c =
     let out : Output = record { before = g.W.Sink.taken c.args.out.now; after = g.W.Sink.taken c.shown-then-has_foreign.new.out } in
     let err : Output = record { before = g.E.Sink.taken c.args.err.now; after = g.E.Sink.taken c.shown-then-has_foreign.new.err } in
     shown_spells (is_plain c.args.session.now.request.now.format) known c.args.session.now.request.now.denied words e out err c.shown-then-has_foreign.result c.shown-then-has_foreign.ensures
-    (λ zero writes. two_never e.status c.not_judged-explanation.ensures.status zero)
+    (λ yes writes. never_yes e.status c.not_judged-explanation.ensures.status yes)
 
 pub returns-clause-few : goal.returns-clause-few
 returns-clause-few g c =
@@ -115,18 +116,18 @@ returns-clause-yes g c =
     let e = c.in_ok-explanation.explanation in
     let out : Output = record { before = g.W.Sink.taken c.args.out.now; after = g.W.Sink.taken c.shown-2.new.out } in
     let err : Output = record { before = g.E.Sink.taken c.args.err.now; after = g.E.Sink.taken c.shown-2.new.err } in
-    let is : e.status ≡ 0 → IsExplanation (joined_texts parts) None denied e =
-    λ zero. subst (λ text. IsExplanation text None denied e) (c.deref-4.ensures.value ∙ c.in_ok-text.ensures ∙ ap (λ all. joined_texts (map (λ part. part.items) all)) c.deref-3.ensures.value) (c.in_ok-explanation.ensures.yes zero) in
+    let is : e.status ≡ Accepted → IsExplanation (joined_texts parts) None denied e =
+    λ yes. subst (λ text. IsExplanation text None denied e) (c.deref-4.ensures.value ∙ c.in_ok-text.ensures ∙ ap (λ all. joined_texts (map (λ part. part.items) all)) c.deref-3.ensures.value) (c.in_ok-explanation.ensures.yes yes) in
     shown_yes (is_plain c.args.session.now.request.now.format) (IsAcceptedCall known denied words) e out err c.shown-2.result c.shown-2.ensures
-    (λ zero. record {
+    (λ yes. record {
       call = c.in-Ok.call;
       is_call = c.in-Ok.ensures.call;
       is_judged = subst (λ given. has_foreign given ≡ false) c.deref.ensures.value (sym c.has_foreign.ensures ∙ c.if-has_foreign.false);
       parts = parts;
       are_parts = subst (λ pieces. AreParts known words pieces parts) c.deref-2.ensures.value c.in_ok-parts.ensures;
       explanation = e;
-      is_explanation = is zero;
-      is_yes = zero;
+      is_explanation = is yes;
+      is_yes = yes;
     })
 
 pub returns-clause-spelled : goal.returns-clause-spelled
@@ -140,10 +141,10 @@ returns-clause-spelled g c =
     let err : Output = record { before = g.E.Sink.taken c.args.err.now; after = g.E.Sink.taken c.shown-2.new.err } in
     let are_parts : AreParts known words c.in-Ok.call.pieces.items parts =
     subst (λ pieces. AreParts known words pieces parts) c.deref-2.ensures.value c.in_ok-parts.ensures in
-    let is : e.status ≡ 0 → IsExplanation (joined_texts parts) None denied e =
-    λ zero. subst (λ text. IsExplanation text None denied e) (c.deref-4.ensures.value ∙ c.in_ok-text.ensures ∙ ap (λ all. joined_texts (map (λ part. part.items) all)) c.deref-3.ensures.value) (c.in_ok-explanation.ensures.yes zero) in
+    let is : e.status ≡ Accepted → IsExplanation (joined_texts parts) None denied e =
+    λ yes. subst (λ text. IsExplanation text None denied e) (c.deref-4.ensures.value ∙ c.in_ok-text.ensures ∙ ap (λ all. joined_texts (map (λ part. part.items) all)) c.deref-3.ensures.value) (c.in_ok-explanation.ensures.yes yes) in
     shown_spells (is_plain c.args.session.now.request.now.format) known c.args.session.now.request.now.denied words e out err c.shown-2.result c.shown-2.ensures
-    (λ zero writes. (
+    (λ yes writes. (
       record {
         call = c.in-Ok.call;
         is_call = c.in-Ok.ensures.call;
@@ -151,8 +152,8 @@ returns-clause-spelled g c =
         parts = parts;
         are_parts = are_parts;
         explanation = e;
-        is_explanation = is zero;
-        is_yes = zero;
+        is_explanation = is yes;
+        is_yes = yes;
       },
-      copied_yes (joined_texts parts) None denied e out (is zero) zero writes,
+      copied_yes (joined_texts parts) None denied e out (is yes) yes writes,
     ))

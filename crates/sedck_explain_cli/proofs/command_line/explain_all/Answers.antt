@@ -1,32 +1,37 @@
-use Rattle.std.proofs.Common.{◌∙◌, ◌+◌, max, take, sym, subst, arith}
+use Rattle.std.proofs.Common.{◌≡◌, ◌≢◌, ◌∙◌, ◌+◌, map, take, sym, ap, subst}
 use Rattle.std.specs.Io.KnownBytes.{Keeps}
-use Rattle.sedck_explain_cli.specs.Requests.{scripts_of}
-use Rattle.sedck_explain_cli.specs.Statuses.{StatusAt, IsGreatest}
-use Rattle.sedck_explain_cli.proofs.Greatest.{greatest_item}
+use Rattle.sedck_explanation.specs.Status.{Accepted, Misused, Failed, Unknown, worse}
+use Rattle.sedck_calls_in_files.specs.Scanned.{IsWorstOf}
+use Rattle.sedck_explain_cli.specs.Statuses.{StatusAt}
+use Rattle.sedck_explain_cli.proofs.Greatest.{worst_item, worse_has, failed_stays}
 use Rattle.sedck_explain_cli.proofs.command_line.explain_all.Goals as goal
 use Rattle.sedck_explain_cli.proofs.command_line.explain_all.Goals.{in-Ok, in-Err+else-not-is_followed}
 
 pub loop-path-preserved : goal.loop-path-preserved
 loop-path-preserved g c =
     let before = c.loop-path.invariant in
-    let paths = scripts_of c.args.session.now.request.now in
+    let paths = c.args.session.now.request.now.scripts.items in
     let Has = StatusAt (g.O.Opener.known c.args.session.now.files.now) c.args.session.now.request.now in
     elim c.match-explain_path.branch [
       | in-Ok w ↦
-          let is = ◌∙◌ {c = max w.in-Ok.one c.loop-path.status} w.status-is w.max-status.ensures in
+          let one = w.in-Ok.one in
+          let is : c.match-explain_path.status ≡ worse c.loop-path.status one = w.status-is ∙ w.worse-status.ensures in
+          let not_failed : c.match-explain_path.status ≢ Failed → c.loop-path.status ≢ Failed =
+          λ whole failed. whole (is ∙ ap (λ s. worse s one) failed ∙ failed_stays one) in
           record {
-            within = omega (arith, is, w.in-Ok.ensures.few, before.within);
-            known = λ three. before.known (omega (arith, is, w.in-Ok.ensures.few, three));
-            greatest = λ small. subst (IsGreatest Has (take (c.loop-path.path-index + 1) paths)) {x = max w.in-Ok.one c.loop-path.status} (sym {b = max w.in-Ok.one c.loop-path.status} is)
-                (greatest_item Has (λ path. path.now) c.deref-path-items.result.now c.args.session.now.request.now.scripts.items c.loop-path.path-index
-                c.loop-path.status w.in-Ok.one _ c.deref-path-items.ensures.value c.loop-path-test.true
-                (before.greatest (omega (arith, is, small))) w.in-Ok.ensures.status);
-            silent = λ small. subst (λ err. Keeps (g.E.Sink.taken c.args.err.now) (g.E.Sink.taken err)) (sym w.err-is) (before.silent (omega (arith, is, small)));
+            within = subst (λ s. s ≢ Unknown) (sym is)
+                (worse_has (λ s. s ≢ Unknown) c.loop-path.status one before.within w.in-Ok.ensures.few.2);
+            known = subst (λ s. s ≢ Misused) (sym is)
+                (worse_has (λ s. s ≢ Misused) c.loop-path.status one before.known w.in-Ok.ensures.few.0);
+            greatest = λ whole. subst (IsWorstOf Has Accepted (map (λ path. path.now) (take (c.loop-path.path-index + 1) paths))) (sym is)
+                (worst_item Has (λ path. path.now) c.deref-path-items.result.now paths c.loop-path.path-index c.loop-path.status one _
+                c.deref-path-items.ensures.value c.loop-path-test.true (before.greatest (not_failed whole)) w.in-Ok.ensures.status);
+            silent = λ whole. subst (λ err. Keeps (g.E.Sink.taken c.args.err.now) (g.E.Sink.taken err)) (sym w.err-is) (before.silent (not_failed whole));
           }
       | in-Err+else-not-is_followed w ↦ record {
-        within = omega (arith, w.status-is);
-        known = λ three. omega (arith, w.status-is, three);
-        greatest = λ small. absurd {A = IsGreatest Has (take (c.loop-path.path-index + 1) paths) c.match-explain_path.status} (omega (arith, w.status-is, small));
-        silent = λ small. absurd {A = Keeps (g.E.Sink.taken c.args.err.now) (g.E.Sink.taken c.match-explain_path.err)} (omega (arith, w.status-is, small));
+        within = λ unknown. let clash : Failed ≡ Unknown = sym w.status-is ∙ unknown in cc clash;
+        known = λ misused. let clash : Failed ≡ Misused = sym w.status-is ∙ misused in cc clash;
+        greatest = λ whole. absurd (whole w.status-is);
+        silent = λ whole. absurd (whole w.status-is);
       }
     ]

@@ -8,9 +8,9 @@ use Rattle.sedck_explain_cli.proofs.Answered.{given_status}
 use Rattle.sedck_explain_cli.proofs.command_line.explain_given.Goals as goal
 
 pub returns-clause-status : goal.returns-clause-status
-returns-clause-status g c small =
+returns-clause-status g c valid whole =
     given_status (is_plain c.args.session.now.request.now.format) (g.O.Opener.known c.args.session.now.files.now) c.args.session.now.request.now.denied (call_of c.args.words.now)
     (map (λ word. word.items) c.in-Some.call.items) c.explain_call.result
     (ap (option_map (λ call. map (λ word. word.items) call.items)) c.in-Some.is)
     (subst (λ items. IsIn (is_plain c.args.session.now.request.now.format) (HasCallStatus (g.O.Opener.known c.args.session.now.files.now) c.args.session.now.request.now.denied (map (λ word. word.items) items)) c.explain_call.result)
-    c.deref.ensures.value (c.explain_call.ensures.status small))
+    c.deref.ensures.value (c.explain_call.ensures.status whole))

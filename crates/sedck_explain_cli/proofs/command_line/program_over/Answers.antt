@@ -1,4 +1,3 @@
-use Rattle.std.proofs.Common.{arith}
 use Rattle.sedck_explain_cli.proofs.Answered.{answered, helped}
 use Rattle.sedck_explain_cli.proofs.command_line.program_over.Goals as goal
 
@@ -10,4 +9,4 @@ returns-in-Ok-clause-answered g c valid whole =
 pub returns-in-Err-clause-answered : goal.returns-in-Err-clause-answered
 returns-in-Err-clause-answered g c valid whole =
     helped (g.O.Opener.known c.args.files.now) (g.F.Finder.found c.args.finder.now) c.args.words.now c.deref-in-Err.result.now c.refuse_words.result c.deref-in-Err.ensures.value
-    (c.refuse_words.ensures.help (omega (arith, valid, whole, c.refuse_words.ensures.within)))
+    (c.refuse_words.ensures.help valid whole)

@@ -1,6 +1,7 @@
-use Rattle.std.proofs.Common.{◌≡◌, ◌≢◌, ℕ, sym, subst}
+use Rattle.std.proofs.Common.{◌≡◌, ◌≢◌, sym, subst}
 use Rattle.std.specs.Option.{option_map}
 use Rattle.std.specs.Io.KnownBytes.{Keeps, Appends}
+use Rattle.sedck_explanation.specs.Status.{Status, Accepted}
 use Rattle.sedck_formats.specs.Plain.{Output, IsPlainReport}
 use Rattle.sedck_formats.proofs.PlainReports.{plain_output, same_report}
 use Rattle.sedck_explain_cli.proofs.Spelled.{writes_same}
@@ -14,8 +15,8 @@ returns-in-Ok-clause-spelled g c =
     let made = subst (λ text. IsPlainReport e text c.in_ok-report.status) (sym c.deref.ensures.value) c.in_ok-report.ensures in
     let report = same_report e c.deref.result.now c.in_ok-report.status c.in-Ok.status made c.in-Ok.ensures.status in
     let same = sym c.in-Ok.ensures.status in
-    let written = subst (λ (status : ℕ). status ≡ 0 → Appends out.before out.after c.deref.result.now) same c.in-Ok.ensures.written in
-    let kept = subst (λ (status : ℕ). status ≢ 0 → Keeps out.before out.after) same c.in-Ok.ensures.kept in
+    let written = subst (λ (status : Status). status ≡ Accepted → Appends out.before out.after c.deref.result.now) same c.in-Ok.ensures.written in
+    let kept = subst (λ (status : Status). status ≢ Accepted → Keeps out.before out.after) same c.in-Ok.ensures.kept in
     record {
       explanation = e;
       is_explanation = c.in_ok-explanation.ensures.explanation;

@@ -1,5 +1,7 @@
 use Rattle.std.proofs.Common.{◌+◌, map, take, sym, subst}
-use Rattle.sedck_calls_in_files.specs.Scanned.{PathStatus, IsWorstOf, worse}
+use Rattle.sedck_explanation.specs.Status.{worse}
+use Rattle.sedck_explanation.specs.declared.status.Status.TheVariants.{Accepted}
+use Rattle.sedck_calls_in_files.specs.Scanned.{PathStatus, IsWorstOf}
 use Rattle.sedck_calls_in_files.proofs.Worst.{next_path}
 use Rattle.sedck_calls_in_files.proofs.walk.Walk.visit_all.Goals as goal
 
@@ -8,5 +10,5 @@ loop-path-preserved g c =
     let Has = PathStatus (g.O.Opener.known c.args.self.now.files.now) (g.F.Finder.found c.args.self.now.finder.now) c.args.self.now.scan.now.denied in
     let paths = c.args.self.now.scan.now.paths.now in
     let i = c.loop-path.path-index in
-    subst (IsWorstOf Has 0 (map (λ path. path.now) (take (i + 1) paths))) {x = worse c.loop-path.status c.in_ok-one.one} (sym {b = worse c.loop-path.status c.in_ok-one.one} c.greater-status.ensures)
+    subst (IsWorstOf Has Accepted (map (λ path. path.now) (take (i + 1) paths))) {x = worse c.loop-path.status c.in_ok-one.one} (sym {b = worse c.loop-path.status c.in_ok-one.one} c.worse-status.ensures)
     (next_path Has (λ path. path.now) paths i _ c.loop-path.status c.in_ok-one.one c.loop-path-test.true c.loop-path.invariant c.in_ok-one.ensures)

@@ -1,9 +1,10 @@
 use Rattle.std.proofs.Common.{map, take}
+use Rattle.sedck_explanation.specs.declared.status.Status.TheVariants.{Accepted}
 use Rattle.sedck_calls_in_files.specs.Scanned.{PathStatus, IsWorstOf}
 use Rattle.sedck_calls_in_files.proofs.walk.Walk.visit_all.Given as goal
 
 -- the status of the paths so far
 abbrev pub invariant-loop-path : goal.invariant-loop-path
 invariant-loop-path g l =
-    IsWorstOf (PathStatus (g.O.Opener.known l.self.files.now) (g.F.Finder.found l.self.finder.now) l.self.scan.now.denied) 0
+    IsWorstOf (PathStatus (g.O.Opener.known l.self.files.now) (g.F.Finder.found l.self.finder.now) l.self.scan.now.denied) Accepted
     (map (λ path. path.now) (take l.path-index l.self.scan.now.paths.now)) l.status
