@@ -1,15 +1,15 @@
 -- What is said of a call stays where answer, script, files and status do.
 use Rattle.std.proofs.Common.{◌≡◌, ◌∙◌, inl, inr, ℕ, Bool, true, false, MatchBool, List}
-use Rattle.sedck_calls.specs.declared.call.Call.{Call}
+use Rattle.sedck_call.specs.declared.call.Call.{Call}
 use Rattle.sedck_explanation.specs.Called.{has_foreign}
 use Rattle.sedck_errors.specs.declared.denied.Denied.{Denied}
 use Rattle.sedck_explanation.specs.declared.explanation.Explanation.{Explanation}
 use Rattle.sedck_explanation.specs.declared.status.Status.{Status}
 use Rattle.sedck_explanation.specs.declared.status.Status.TheVariants as exit
-use Rattle.sedck_found.specs.declared.found.FoundScript.{FoundScript}
-use Rattle.sedck_found.specs.declared.found.OpenHole.{OpenHole}
-use Rattle.sedck_found.specs.declared.found.FoundScript.TheVariants.{Text, Foreign, Refused, Unknown}
-use Rattle.sedck_traced.specs.declared.origin.Traced.{Traced}
+use Rattle.sedck_find.specs.declared.found.FoundScript.{FoundScript}
+use Rattle.sedck_find.specs.declared.found.OpenHole.{OpenHole}
+use Rattle.sedck_find.specs.declared.found.FoundScript.TheVariants.{Text, Foreign, Refused, Unknown}
+use Rattle.sedck_origin.specs.declared.origin.Traced.{Traced}
 use Rattle.sedck_calls_in_files.specs.Judged.{is_in_file, Agrees, IsUnjudged, IsJudged, IsSaidOfCall, IsSaidOfText, IsSaidOf}
 
 pub agrees_on : (one two three : Explanation) → Agrees one two → Agrees two three → Agrees one three

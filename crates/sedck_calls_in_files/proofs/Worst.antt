@@ -6,7 +6,7 @@ use Rattle.sedck_explanation.specs.Status.{worse}
 use Rattle.sedck_explanation.specs.declared.status.Status.{Status}
 use Rattle.sedck_explanation.specs.declared.status.Status.TheVariants.{Accepted}
 use Rattle.sedck_explanation.specs.declared.explanation.Explanation.{Explanation}
-use Rattle.sedck_found.specs.declared.found.FoundCall.{FoundCall}
+use Rattle.sedck_find.specs.declared.found.FoundCall.{FoundCall}
 use Rattle.sedck_calls_in_files.specs.Judged.{IsSaidOf, denied_of}
 use Rattle.sedck_calls_in_files.specs.Scanned.{IsWorst, IsWorstOf}
 

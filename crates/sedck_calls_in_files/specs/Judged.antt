@@ -2,12 +2,12 @@
 use Rattle.std.specs.Prelude.{◌≡◌, ◌⊎◌, ◌&&◌, ◌||◌, ℕ, Bool, true, false, MatchBool, List, [], ◌∷◌, map, None, if◌then◌else◌}
 use Rattle.std.specs.List.{list_all, list_any}
 use Rattle.std.specs.Str.{bytes_eq}
-use Rattle.sedck_calls.specs.Calls.{IsCall}
-use Rattle.sedck_calls.specs.Origins.{end_of_word}
-use Rattle.sedck_calls.specs.Scripts.{joined_texts}
-use Rattle.sedck_calls.specs.declared.call.Call.{Call}
-use Rattle.sedck_calls.specs.declared.call.Piece.{Piece}
-use Rattle.sedck_calls.specs.declared.call.Piece.TheVariants as piece
+use Rattle.sedck_call.specs.Calls.{IsCall}
+use Rattle.sedck_call.specs.Origins.{end_of_word}
+use Rattle.sedck_call.specs.Scripts.{joined_texts}
+use Rattle.sedck_call.specs.declared.call.Call.{Call}
+use Rattle.sedck_call.specs.declared.call.Piece.{Piece}
+use Rattle.sedck_call.specs.declared.call.Piece.TheVariants as piece
 use Rattle.sedck_explanation.specs.Called.{has_foreign, IsCalled}
 use Rattle.sedck_report.specs.Files.{names_of}
 use Rattle.sedck_errors.specs.declared.denied.Denied.{Denied}
@@ -17,12 +17,12 @@ use Rattle.sedck_explanation.specs.declared.status.Status.{Status}
 use Rattle.sedck_explanation.specs.declared.answer.Answer.TheVariants.{NotJudged}
 use Rattle.sedck_explanation.specs.declared.explanation.Explanation.{Explanation}
 use Rattle.sedck_explanation.specs.declared.status.Status.TheVariants as exit
-use Rattle.sedck_found.specs.declared.found.FoundCall.{FoundCall}
-use Rattle.sedck_found.specs.declared.found.FoundScript.{FoundScript}
-use Rattle.sedck_found.specs.declared.found.OpenHole.{OpenHole}
-use Rattle.sedck_found.specs.declared.found.FoundScript.TheVariants.{Text, Foreign, Refused, Unknown}
-use Rattle.sedck_traced.specs.Traced.{is_traced, has_hole}
-use Rattle.sedck_traced.specs.declared.origin.Traced.{Traced}
+use Rattle.sedck_find.specs.declared.found.FoundCall.{FoundCall}
+use Rattle.sedck_find.specs.declared.found.FoundScript.{FoundScript}
+use Rattle.sedck_find.specs.declared.found.OpenHole.{OpenHole}
+use Rattle.sedck_find.specs.declared.found.FoundScript.TheVariants.{Text, Foreign, Refused, Unknown}
+use Rattle.sedck_origin.specs.Traced.{is_traced, has_hole}
+use Rattle.sedck_origin.specs.declared.origin.Traced.{Traced}
 
 -- ---- What was read, against the file
 

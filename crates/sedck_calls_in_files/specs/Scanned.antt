@@ -8,8 +8,8 @@ use Rattle.sedck_explanation.specs.declared.status.Status.{Status}
 use Rattle.sedck_explanation.specs.declared.status.Status.TheVariants.{Accepted, Failed, Unknown}
 use Rattle.sedck_explanation.specs.declared.explanation.Explanation.{Explanation}
 use Rattle.sedck_formats.specs.Plain.{Output, IsPlainStatus, IsPlainOutput}
-use Rattle.sedck_found.specs.declared.found.Found.{Found}
-use Rattle.sedck_found.specs.declared.found.FoundCall.{FoundCall}
+use Rattle.sedck_find.specs.declared.found.Found.{Found}
+use Rattle.sedck_find.specs.declared.found.FoundCall.{FoundCall}
 use Rattle.sedck_calls_in_files.specs.Judged.{IsSaidOf, denied_of}
 
 -- ---- The calls of a file

@@ -10,8 +10,8 @@ use crate::judging::{explain_found, explain_unread};
 use crate::request::FileScan;
 use sedck_cert::streams::Sink;
 use sedck_explanation::{Position, Status, Unexplained, position_at, position_from};
+use sedck_find::FoundCall;
 use sedck_formats::{CallAnswer, Counts};
-use sedck_found::FoundCall;
 
 /// Explains each call that is found in the file, writes the reports, counts the answers, and answers the status that tells most. Before
 /// them each place is reported that isn't understood, which isn't known before a run.

@@ -4,7 +4,7 @@ ghost use Rattle.std.specs.Prelude.{◌≡◌, List, ℕ, Option, None, IfOk, If
 ghost use Rattle.sedck_calls_in_files.specs.Scanned.{Holds, IsFound};
 
 use crate::request::File;
-use sedck_found::{Assumed, Found, calls_in};
+use sedck_find::{Assumed, Found, calls_in};
 use std::alloc::{AllocError, Global};
 
 /// What finds the calls of sed in a file.

@@ -7,8 +7,8 @@ ghost use Rattle.sedck_calls_in_files.specs.Placed.{IsFindingIn};
 
 use crate::places::Places;
 use sedck_explanation::{Code, Finding, Level, Position, call_finding, shown_name};
-use sedck_found::{Followed, KnownValue, OpenHole, Role, Unknown};
-use sedck_traced::{Hole, Origin, Traced, Way};
+use sedck_find::{Followed, KnownValue, OpenHole, Role, Unknown};
+use sedck_origin::{Hole, Origin, Traced, Way};
 use std::alloc::{AllocError, Global};
 
 /// The most bytes of a hole that are shown.

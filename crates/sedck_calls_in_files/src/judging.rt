@@ -10,13 +10,13 @@ use crate::holes::{open_warnings, unknown_warning, unread_warning, value_notes, 
 use crate::placed::{place_findings, placed};
 use crate::places::Places;
 use crate::tracing::{bytes_of, is_in_file, slices_of};
-use sedck_calls::{Call, CallFault, call_of};
+use sedck_call::{Call, CallFault, call_of};
 use sedck_explanation::{
     Denied, Explanation, Finding, Position, Status, explain_called, foreign_findings, has_foreign,
     not_judged, refusal_of,
 };
-use sedck_found::{Followed, FoundCall, FoundScript, OpenHole, Unknown};
-use sedck_traced::{Traced, has_hole};
+use sedck_find::{Followed, FoundCall, FoundScript, OpenHole, Unknown};
+use sedck_origin::{Traced, has_hole};
 use std::alloc::{AllocError, Global};
 
 /// Explains a call that was found in the file, which has it at this position. The explanation's positions are those of the file.

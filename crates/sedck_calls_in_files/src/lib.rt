@@ -2,7 +2,7 @@
 //!
 //! What is read of a call isn't trusted: `explain_found` compares it with the file, and its answer and the lines and columns of its
 //! findings are proved. So is which status the calls of a file have, and those of the files that are given. Which calls a file has is
-//! what a `Finder` says, and that of the program, in `sedck_found`, is tested; so is what is written.
+//! what a `Finder` says, and that of the program, in `sedck_find`, is tested; so is what is written.
 #![tactic(auto)]
 
 mod answers;

@@ -21,8 +21,8 @@ use crate::walk::{TOO_LONG, Walk};
 use sedck_cert::streams::{FromRead, Sink, write_all};
 use sedck_engines::Opener;
 use sedck_explanation::{Position, Status, position_at};
+use sedck_find::FoundCall;
 use sedck_formats::{Names, plain_report, shown_path};
-use sedck_found::FoundCall;
 use std::alloc::{AllocError, Global};
 use std::io::Input;
 

@@ -5,7 +5,7 @@ ghost use Rattle.sedck_report.specs.Positions.{position_in};
 ghost use Rattle.sedck_calls_in_files.specs.Placed.{IsIn};
 
 use sedck_explanation::{Position, position_at, position_from};
-use sedck_traced::Origin;
+use sedck_origin::Origin;
 use std::alloc::{AllocError, Global};
 
 /// Where the bytes of a script are in its file.

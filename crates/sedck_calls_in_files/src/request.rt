@@ -1,7 +1,7 @@
 //! What is asked of a scan.
 
 use sedck_explanation::{Denied, Level};
-use sedck_found::Assumed;
+use sedck_find::Assumed;
 use sedck_hosts::Kind;
 use std::alloc::Global;
 

@@ -4,8 +4,8 @@ ghost use Rattle.std.specs.Prelude.{◌≡◌, map, IfOk};
 ghost use Rattle.std.specs.List.{list_any};
 ghost use Rattle.sedck_calls_in_files.specs.Judged.{words_of, piece_text, script_in, is_file as is_file_piece, are_traced as are_traced_texts, is_in_file as is_call_in_file};
 
-use sedck_calls::{Call, Piece, joined};
-use sedck_traced::{Traced, has_hole, is_traced};
+use sedck_call::{Call, Piece, joined};
+use sedck_origin::{Traced, has_hole, is_traced};
 use std::alloc::{AllocError, Global};
 
 /// The words as slices.

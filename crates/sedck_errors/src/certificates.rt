@@ -20,14 +20,8 @@ pub fn certificate_refusal(alloc: Global, fault: CertFault) -> Result<Finding, A
     ensures code { IfOk result (λ finding. name_of finding.code ≡ certificate_fault_name fault) }
 {
     let (code, wanted) = match fault {
-        CertFault::BadHeader { .. } => (
-            Code::BadHeader,
-            "`sedck 2`, or `sedck 1` for version 1",
-        ),
-        CertFault::BadCount { .. } => (
-            Code::BadCount,
-            "`commands` and the number of commands",
-        ),
+        CertFault::BadHeader { .. } => (Code::BadHeader, "`sedck 2`, or `sedck 1` for version 1"),
+        CertFault::BadCount { .. } => (Code::BadCount, "`commands` and the number of commands"),
         CertFault::BadNode { .. } => (Code::BadNode, "the next node and its two ranks"),
         CertFault::BadNames { .. } => (
             Code::BadNames,

@@ -1,10 +1,10 @@
 -- From what is said of a call to its exit status.
 use Rattle.std.proofs.Common.{◌≡◌, ◌≢◌, ◌∙◌, ℕ, true, false, List, Result, Ok, Err, IfOk, OnOk, inl, inr, refl, sym, subst}
-use Rattle.sedck_calls.specs.Calls.{IsCall, IsFault, LacksScript}
-use Rattle.sedck_calls.specs.Scripts.{joined_texts}
-use Rattle.sedck_calls.specs.declared.call.Call.{Call}
-use Rattle.sedck_calls.specs.declared.call.CallFault.{CallFault}
-use Rattle.sedck_calls.specs.declared.call.CallFault.TheVariants as fault
+use Rattle.sedck_call.specs.Calls.{IsCall, IsFault, LacksScript}
+use Rattle.sedck_call.specs.Scripts.{joined_texts}
+use Rattle.sedck_call.specs.declared.call.Call.{Call}
+use Rattle.sedck_call.specs.declared.call.CallFault.{CallFault}
+use Rattle.sedck_call.specs.declared.call.CallFault.TheVariants as fault
 use Rattle.sedck_explanation.specs.Called.{has_foreign, AreParts, IsCalled}
 use Rattle.sedck_engines.specs.Opened.{Known}
 use Rattle.sedck_errors.specs.declared.denied.Denied.{Denied}

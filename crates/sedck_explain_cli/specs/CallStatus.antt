@@ -1,8 +1,8 @@
 -- The exit status of a call of sed, by what is known of its files, this project's own.
 use Rattle.std.specs.Prelude.{◌≡◌, ◌⊎◌, ℕ, List, MatchBool}
-use Rattle.sedck_calls.specs.Calls.{IsCall}
-use Rattle.sedck_calls.specs.Scripts.{joined_texts}
-use Rattle.sedck_calls.specs.declared.call.Call.{Call}
+use Rattle.sedck_call.specs.Calls.{IsCall}
+use Rattle.sedck_call.specs.Scripts.{joined_texts}
+use Rattle.sedck_call.specs.declared.call.Call.{Call}
 use Rattle.sedck_explanation.specs.Called.{has_foreign, AreParts, IsCalled}
 use Rattle.sedck_engines.specs.Opened.{Known}
 use Rattle.sedck_errors.specs.declared.denied.Denied.{Denied}

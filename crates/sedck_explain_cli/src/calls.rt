@@ -12,7 +12,7 @@ ghost use Rattle.sedck_explain_cli.specs.Spelled.{IsIn, SpellsCall};
 use crate::format::Style;
 use crate::plain::sent;
 use crate::session::Session;
-use sedck_calls::{CallFault, Origin, Piece, call_of, joined};
+use sedck_call::{CallFault, Origin, Piece, call_of, joined};
 use sedck_cert::streams::{Sink, write_all};
 use sedck_engines::Opener;
 use sedck_explanation::{

@@ -185,7 +185,11 @@ fn explain_given<R: Input + AllocGlobal, O: Opener, F, W: Sink, E: Sink>(
         return end(err, b"--sed is for no script\n", Status::Misused);
     }
     let Some(call) = &words.call else {
-        return end(err, b"--sed is followed by -- and the words of a call\n", Status::Misused);
+        return end(
+            err,
+            b"--sed is followed by -- and the words of a call\n",
+            Status::Misused,
+        );
     };
     explain_call(session, call, out, err)
 }

@@ -5,7 +5,7 @@ ghost use Rattle.std.specs.Prelude.{None};
 use crate::explaining::Reporter;
 use sedck_explanation::{Explanation, Level};
 use sedck_formats::{Names, gcc_report, json_report, sarif_report, shown_path, text_report};
-use sedck_pages::{dot_report, html_report};
+use sedck_page::{dot_report, html_report};
 use std::alloc::{AllocError, Global};
 
 /// How a report is printed.

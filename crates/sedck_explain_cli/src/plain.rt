@@ -151,7 +151,10 @@ pub fn spell<W: Sink, E: Sink>(
 }
 
 /// What is written of the explanation, and the exit status.
-fn report_of(named: &Named<Style>, explanation: &Explanation) -> Result<(Vec<u8>, Status), AllocError>
+fn report_of(
+    named: &Named<Style>,
+    explanation: &Explanation,
+) -> Result<(Vec<u8>, Status), AllocError>
     ensures { IfOk result (λ made. IsPlainReport explanation.now made.0.items made.1) }
 {
     let alloc = named.alloc;

@@ -9,8 +9,8 @@ use crate::reading::{Reading, names, read_words};
 use clap::{Arg, ArgAction, ArgMatches, Command, Error};
 use sedck_calls_in_files::At;
 use sedck_explanation::{Denied, Level};
+use sedck_find::Assumed;
 use sedck_formats::VERSION;
-use sedck_found::Assumed;
 use sedck_hosts::Kind;
 use std::alloc::{AllocError, Global};
 

@@ -102,7 +102,11 @@ pub(crate) fn spell_found<
         return end(err, misplaced, Status::Misused);
     }
     let Some(at) = request.at else {
-        return end(err, b"--format sed is for one call: give --at LINE\n", Status::Misused);
+        return end(
+            err,
+            b"--format sed is for one call: give --at LINE\n",
+            Status::Misused,
+        );
     };
     let [path] = request.scripts.as_slice() else {
         return end(err, b"--at is for one file\n", Status::Misused);

@@ -1,7 +1,7 @@
 -- Parts that are read one after another.
 use Rattle.std.proofs.Common.{◌≡◌, ◌<◌, ◌+◌, ℕ, List, [], ◌∷◌, ◌++◌, length, get_or, take, map, refl, sym, ap, subst}
 use Rattle.std.proofs.lemmas.List.{take_more}
-use Rattle.sedck_calls.specs.declared.call.Piece.{Piece}
+use Rattle.sedck_call.specs.declared.call.Piece.{Piece}
 use Rattle.sedck_engines.specs.Opened.{Known}
 use Rattle.sedck_explanation.specs.Called.{IsPart, AreParts}
 

@@ -1,6 +1,6 @@
 -- What is said of a call, by what is said of its script.
 use Rattle.std.proofs.Common.{◌≡◌, ℕ, true, false, MatchBool, List, None, Result, Ok, Err, IfOk, refl, sym, subst}
-use Rattle.sedck_calls.specs.declared.call.Call.{Call}
+use Rattle.sedck_call.specs.declared.call.Call.{Call}
 use Rattle.sedck_explanation.specs.Called.{is_in_place, is_denied_call, IsDenied, IsCalled}
 use Rattle.sedck_report.specs.Levels.{has_warning}
 use Rattle.sedck_errors.specs.declared.denied.Denied.{Denied}

@@ -2,16 +2,16 @@
 use Rattle.std.specs.Prelude.{◌≡◌, ℕ, ◌&&◌, Bool, true, false, MatchBool, List, [], ◌∷◌, Option, None, codes, if◌then◌else◌}
 use Rattle.std.specs.Str.{bytes_eq}
 use Rattle.std.specs.List.{list_any}
-use Rattle.sedck_calls.specs.Calls.{IsCall}
-use Rattle.sedck_calls.specs.Scripts.{joined_texts}
-use Rattle.sedck_calls.specs.Origins.{end_of_word}
-use Rattle.sedck_calls.specs.declared.option.CallOption.{CallOption}
-use Rattle.sedck_calls.specs.declared.option.CallOption.TheVariants as option
-use Rattle.sedck_calls.specs.declared.given.Given.{Given}
-use Rattle.sedck_calls.specs.declared.given.Given.TheVariants.{Alone, With, Operand}
-use Rattle.sedck_calls.specs.declared.call.Piece.{Piece}
-use Rattle.sedck_calls.specs.declared.call.Piece.TheVariants.{Text, File}
-use Rattle.sedck_calls.specs.declared.call.Call.{Call}
+use Rattle.sedck_call.specs.Calls.{IsCall}
+use Rattle.sedck_call.specs.Scripts.{joined_texts}
+use Rattle.sedck_call.specs.Origins.{end_of_word}
+use Rattle.sedck_call.specs.declared.option.CallOption.{CallOption}
+use Rattle.sedck_call.specs.declared.option.CallOption.TheVariants as option
+use Rattle.sedck_call.specs.declared.given.Given.{Given}
+use Rattle.sedck_call.specs.declared.given.Given.TheVariants.{Alone, With, Operand}
+use Rattle.sedck_call.specs.declared.call.Piece.{Piece}
+use Rattle.sedck_call.specs.declared.call.Piece.TheVariants.{Text, File}
+use Rattle.sedck_call.specs.declared.call.Call.{Call}
 use Rattle.sedck_engines.specs.Inputs.{IsRead}
 use Rattle.sedck_engines.specs.Opened.{Known}
 use Rattle.sedck_report.specs.Files.{is_there}

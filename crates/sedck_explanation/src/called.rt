@@ -11,7 +11,7 @@ use crate::explaining::explain_call;
 use crate::explanation::Explanation;
 use crate::options::{call_warnings, denied_overwriting, is_in_place};
 use crate::status::Status;
-use sedck_calls::Call;
+use sedck_call::Call;
 use sedck_errors::Denied;
 use sedck_report::{Code, Finding, Level};
 use std::alloc::{AllocError, Global};

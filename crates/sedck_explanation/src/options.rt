@@ -7,7 +7,7 @@ ghost use Rattle.sedck_explanation.specs.Called.{is_foreign as is_foreign_option
 ghost use Rattle.sedck_explanation.specs.Called.{is_overwriting as is_overwriting_option, is_in_place as is_in_place_call};
 
 use crate::called::call_finding;
-use sedck_calls::{Call, CallFault, CallOption, Given, Origin};
+use sedck_call::{Call, CallFault, CallOption, Given, Origin};
 use sedck_report::{Code, Finding, Level, shown_name};
 use std::alloc::{AllocError, Global};
 

@@ -4,7 +4,7 @@ ghost use Rattle.std.specs.Prelude.{◌≡◌, ◌++◌, ◌∷◌, [], map, IfO
 ghost use Rattle.sedck_explanation.specs.Called.{IsPart, AreParts, known_bytes};
 ghost use Rattle.sedck_engines.specs.Inputs.{IsRead};
 
-use sedck_calls::{Origin, Piece};
+use sedck_call::{Origin, Piece};
 use sedck_cert::streams::{Failed, FromRead, Source};
 use sedck_engines::{Opener, RunFault, read_script};
 use std::alloc::{AllocError, Global};

@@ -3,7 +3,7 @@
 //! `text_report` and `gcc_report` take names as they are printed, without control characters; the others take the names themselves, and
 //! escape them. What is taken from the script is shown in printable ASCII; `Letters` adds the characters of UTF-8, for pages. Of the names
 //! of positions a contract says which they are, and of a line of JSON that it is printable; the words themselves are tested. Pages for
-//! browsers, and graphs, are in `sedck_pages`.
+//! browsers, and graphs, are in `sedck_page`.
 #![tactic(auto)]
 
 mod call_words;

@@ -3,7 +3,7 @@
 use crate::host::Host;
 use crate::kind::{Kind, interpreter_kind, program_kind, split_last};
 use crate::parts::{Part, lines_of};
-use sedck_traced::{Result, Unit, has_byte, is_among};
+use sedck_origin::{Result, Unit, has_byte, is_among};
 use std::alloc::Global;
 
 /// A here-document of an instruction.

@@ -6,7 +6,7 @@ use crate::make::host_of_make;
 use crate::parts::Part;
 use crate::spec::host_of_spec;
 use crate::yaml::host_of_yaml;
-use sedck_traced::{Result, Unit, is_among, is_name_byte};
+use sedck_origin::{Result, Unit, is_among, is_name_byte};
 use std::alloc::Global;
 
 /// An assignment of make's, as `NAME = value`; its value is a text of shell if the name is used in a recipe.

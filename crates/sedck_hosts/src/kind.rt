@@ -1,7 +1,7 @@
 //! The kinds of files that have shell text.
 
 use crate::parts::Part;
-use sedck_traced::{is_among, named};
+use sedck_origin::{is_among, named};
 
 /// A kind of files that have shell text.
 #[derive(Clone, Copy, Debug, PartialEq, Eq)]

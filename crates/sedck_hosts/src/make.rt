@@ -3,7 +3,7 @@
 use crate::host::{Assignment, Host};
 use crate::make_text::{MadeText, Reading, after_conditionals, read_make_text, reference_end};
 use crate::parts::{Part, lines_of};
-use sedck_traced::{Result, Unit, is_among, named};
+use sedck_origin::{Result, Unit, is_among, named};
 use std::alloc::Global;
 
 /// The variable whose value begins the lines of recipes in place of a tab.

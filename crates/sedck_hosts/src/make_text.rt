@@ -1,7 +1,7 @@
 //! What make does to a part of a makefile before the shell sees it: references are replaced, `$$` is a dollar sign, and lines are joined.
 
 use crate::parts::{Part, QUOTES};
-use sedck_traced::{Result, Unit, has_byte, is_among, named};
+use sedck_origin::{Result, Unit, has_byte, is_among, named};
 use std::alloc::Global;
 
 /// What a part of a makefile is.

@@ -1,6 +1,6 @@
 //! Parts of a file, its lines, and where calls of sed seem to begin.
 
-use sedck_traced::{Result, Unit, has_byte, is_name_byte};
+use sedck_origin::{Result, Unit, has_byte, is_name_byte};
 use std::alloc::Global;
 
 /// A part of a file: from the first offset on to before the second one.

@@ -1,7 +1,7 @@
 //! Scalars of YAML: those on one line, and block scalars.
 
 use crate::parts::Part;
-use sedck_traced::{Result, Unit};
+use sedck_origin::{Result, Unit};
 use std::alloc::Global;
 
 /// The text of a quoted scalar, whose first quote begins the part; none if it doesn't end there.

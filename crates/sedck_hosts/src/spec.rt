@@ -3,7 +3,7 @@
 use crate::host::Host;
 use crate::make_text::reference_end;
 use crate::parts::{Part, QUOTES, lines_of};
-use sedck_traced::{Result, Unit, is_among, named};
+use sedck_origin::{Result, Unit, is_among, named};
 use std::alloc::Global;
 
 /// A macro that isn't closed.

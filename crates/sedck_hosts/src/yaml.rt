@@ -3,7 +3,7 @@
 use crate::host::Host;
 use crate::parts::{Part, lines_of};
 use crate::scalars::{Block, header, plain_scalar, push_line, quoted_units};
-use sedck_traced::{Result, is_among, is_name_byte};
+use sedck_origin::{Result, is_among, is_name_byte};
 use std::alloc::Global;
 use std::collections::BTreeMap;
 

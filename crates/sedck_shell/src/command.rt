@@ -1,6 +1,6 @@
 //! What shell text has: commands, and their words.
 
-use sedck_traced::{Unit, is_text};
+use sedck_origin::{Unit, is_text};
 use std::alloc::Global;
 
 /// A word of a command, without its quoting.

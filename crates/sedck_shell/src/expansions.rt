@@ -2,7 +2,7 @@
 
 use crate::frame::{Enclosure, Quote};
 use crate::reader::{Job, MISSES, Reader, begins_name};
-use sedck_traced::{Result, Text, Unit, Way};
+use sedck_origin::{Result, Text, Unit, Way};
 use std::alloc::Global;
 
 /// How many units are looked at in all for the ends of expressions, so that the time stays linear.

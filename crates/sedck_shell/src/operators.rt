@@ -4,7 +4,7 @@ use crate::command::ShellWord;
 use crate::frame::{Awaited, Delimiter, Enclosure};
 use crate::reader::{Dialect, Reader};
 use crate::words::begins_with;
-use sedck_traced::{Result, Unit, name_length};
+use sedck_origin::{Result, Unit, name_length};
 
 impl Reader<'_> {
     /// Reads an operator that begins with this byte.

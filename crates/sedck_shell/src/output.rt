@@ -3,7 +3,7 @@
 use crate::command::{ShellCommand, ShellText, ShellWord};
 use crate::frame::{Delimiter, Draft, Frame, Quote};
 use crate::reader::{Form, Job, MISSES, Output, Reader};
-use sedck_traced::{Result, Text, Unit};
+use sedck_origin::{Result, Text, Unit};
 use std::alloc::Global;
 
 /// How often reading goes on at a next line.

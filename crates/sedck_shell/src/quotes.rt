@@ -2,7 +2,7 @@
 
 use crate::frame::{Enclosure, Quote};
 use crate::reader::{Dialect, Reader};
-use sedck_traced::{Result, Text, Unit, Way, escape_byte};
+use sedck_origin::{Result, Text, Unit, Way, escape_byte};
 
 impl Reader<'_> {
     /// Begins a quoted part.

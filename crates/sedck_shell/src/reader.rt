@@ -3,7 +3,7 @@
 use crate::command::{Pattern, ShellWord};
 use crate::frame::{Draft, Enclosure, Frame, Mark, Quote};
 use crate::output::Pending;
-use sedck_traced::{Result, Text, Unit, Way, is_name_byte, name_length};
+use sedck_origin::{Result, Text, Unit, Way, is_name_byte, name_length};
 use std::alloc::Global;
 
 /// How a text is made into shell text before it runs.

@@ -3,7 +3,7 @@
 use crate::command::{ShellWord, Site};
 use crate::frame::{Awaited, Braces, Draft, Enclosure, Quote};
 use crate::reader::{Dialect, Reader};
-use sedck_traced::{Hole, Result, Unit, Way, is_one_of, is_text};
+use sedck_origin::{Hole, Result, Unit, Way, is_one_of, is_text};
 
 /// The most commands of a text that are kept, so that memory is bounded.
 const MOST: usize = 100_000;

@@ -4,7 +4,7 @@ use Rattle.sedck_errors.specs.declared.denied.Denied.{Denied}
 use Rattle.sedck_explanation.specs.declared.explanation.Explanation.{Explanation}
 use Rattle.sedck_explanation.specs.declared.status.Status.{Status}
 use Rattle.sedck_formats.specs.Plain.{Output, IsPlainStatus, IsPlainOutput}
-use Rattle.sedck_found.specs.declared.found.FoundCall.{FoundCall}
+use Rattle.sedck_find.specs.declared.found.FoundCall.{FoundCall}
 use Rattle.sedck_calls_in_files.specs.Judged.{IsSaidOf, denied_of}
 use Rattle.sedck_calls_in_files.specs.Scanned.{Holds, IsSaidOfOne}
 

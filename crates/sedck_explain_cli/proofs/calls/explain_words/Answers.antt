@@ -1,5 +1,5 @@
 use Rattle.std.proofs.Common.{◌≡◌, ◌∙◌, ℕ, Ok, sym, ap, refl, subst, map, true, false, None}
-use Rattle.sedck_calls.specs.Scripts.{joined_texts}
+use Rattle.sedck_call.specs.Scripts.{joined_texts}
 use Rattle.sedck_explanation.specs.Explanations.{IsExplanation}
 use Rattle.sedck_explanation.specs.Called.{IsAcceptedCall, IsCalled, AreParts, has_foreign}
 use Rattle.sedck_explanation.specs.Status.{Accepted}

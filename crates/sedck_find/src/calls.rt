@@ -1,0 +1,308 @@
+//! Finds the calls of sed in a file.
+
+use crate::found::{Assumed, Found, FoundCall, FoundScript, OpenHole, Role, Unknown};
+use crate::names::{Names, Scope};
+use crate::parts::{Part, Runner, parts_of};
+use crate::programs::Program;
+use crate::script::{Around, script_of};
+use crate::texts::{Held, Reading};
+use crate::units::bytes_of;
+use crate::values::{has_placeholder, line_starts, written_value};
+use crate::words::{CallWord, Filler};
+use sedck_hosts::{Assignment, Kind, host_of, reads_dollar_quotes};
+use sedck_origin::{Hole, Result, Text, Unit, Way};
+use sedck_shell::{Dialect, Form, ShellWord, Site};
+use std::alloc::Global;
+use std::collections::BTreeMap;
+
+/// How many bytes before values may be read in all.
+const REACH: usize = 2_000_000_000;
+
+/// How many bytes of values may be put in even for a short file.
+const SPARE: usize = 65_536;
+
+/// How a file of this kind, with this path and these bytes, is read.
+fn form_of(kind: Kind, path: &str, file: &[u8]) -> Form {
+    let dialect = if kind == Kind::Autoconf {
+        Dialect::Macros
+    } else if path.ends_with(".in") || path.ends_with(".am") {
+        Dialect::Template
+    } else {
+        Dialect::Plain
+    };
+    Form {
+        dialect,
+        has_dollar_quotes: kind == Kind::Shell && reads_dollar_quotes(path, file),
+    }
+}
+
+/// The calls of sed in a file of this kind, with this path.
+pub fn calls_in(
+    alloc: Global,
+    kind: Kind,
+    path: &str,
+    file: &[u8],
+    assumed: &[Assumed],
+) -> Result<Found> {
+    let names = Names {
+        alloc,
+        kind,
+        form: form_of(kind, path, file),
+        file,
+        assumed,
+        facts: BTreeMap::new(alloc),
+        open: BTreeMap::new(alloc),
+        is_open: false,
+        may_fix_locale: false,
+        functions: Vec::new(alloc),
+        lines: line_starts(alloc, file)?,
+    };
+    let mut reading = Reading {
+        names,
+        held: Vec::new(alloc),
+        inner: Vec::new(alloc),
+        left: file.len().saturating_mul(4),
+        unread: Vec::new(alloc),
+    };
+    match kind {
+        Kind::Shell => reading.read(Text::Whole(file), Scope::Own(0), false)?,
+        _ => read_host(&mut reading)?,
+    }
+    reading.read_inner()?;
+    if kind != Kind::Make {
+        reading.names.note_expansions()?;
+    }
+    let calls = calls_of(&reading)?;
+    let mut unread = reading.unread;
+    unread.sort()?;
+    unread.dedup();
+    Ok(Found { calls, unread })
+}
+
+/// The calls in the commands that were read, in the file's order, each once.
+fn calls_of(reading: &Reading<'_>) -> Result<Vec<FoundCall>> {
+    let names = &reading.names;
+    let mut calls = Vec::new(names.alloc);
+    let mut filler = Filler {
+        names,
+        left: names.file.len().saturating_mul(2).saturating_add(SPARE),
+        reach: REACH,
+        followed: Vec::new(names.alloc),
+    };
+    for held in &reading.held {
+        add_calls(&mut calls, &mut filler, held)?;
+    }
+    calls.sort_by_key(|call| call.start)?;
+    calls.dedup_by_key(|call| call.start);
+    Ok(calls)
+}
+
+/// Reads the shell text of a file that isn't a shell script, and the values of make's variables.
+fn read_host(reading: &mut Reading<'_>) -> Result<()> {
+    let (alloc, kind) = (reading.names.alloc, reading.names.kind);
+    let host = host_of(alloc, kind, reading.names.file)?;
+    reading.unread.extend_from_slice(&host.unread)?;
+    for (index, text) in host.texts.iter().enumerate() {
+        let number = if kind == Kind::Autoconf { 0 } else { index };
+        reading.read(Text::Units(text), Scope::Own(number), false)?;
+    }
+    if kind == Kind::Make {
+        reading.names.is_open = host.is_open;
+        for assignment in &host.assignments {
+            read_assignment(reading, assignment)?;
+        }
+    }
+    Ok(())
+}
+
+/// Notes an assignment of make's, and reads its value.
+fn read_assignment(reading: &mut Reading<'_>, assignment: &Assignment) -> Result<()> {
+    let names = &mut reading.names;
+    let is_template = names.form.dialect == Dialect::Template;
+    let value = if is_template && has_placeholder(&assignment.value) {
+        None
+    } else {
+        written_value(names.alloc, &assignment.value)?
+    };
+    let site = Site {
+        body: 0,
+        is_certain: assignment.is_certain,
+    };
+    let spot = Scope::Own(0).spot(site, 0);
+    names.note(assignment.name.clone()?, value, spot)?;
+    if names.begins_with_sed(&assignment.value)? {
+        names.note_sed(&assignment.name);
+    }
+    reading.read(Text::Units(&assignment.value), Scope::Other, true)
+}
+
+/// Adds the calls in a command.
+fn add_calls(calls: &mut Vec<FoundCall>, filler: &mut Filler<'_>, held: &Held) -> Result<()> {
+    let parts = parts_of(filler.names, &held.command.words, held.spot())?;
+    filler.followed.clear();
+    let here = match &held.command.here {
+        Some(units) if parts.len() == 1 => {
+            let traced = filler.filled(units, held.spot())?;
+            Some(CallWord::of(traced, quoted(0, 0)))
+        }
+        _ => None,
+    };
+    for part in &parts {
+        if let Program::Sed = part.program {
+            match found_call(filler, held, *part, here.as_ref())? {
+                Some(call) if !held.is_value || has_script(&call.script) => calls.push(call)?,
+                _ => {}
+            }
+        }
+    }
+    Ok(())
+}
+
+/// Whether there is a script.
+fn has_script(script: &FoundScript) -> bool {
+    match script {
+        FoundScript::Refused(_) => false,
+        FoundScript::Text { call, .. } | FoundScript::Foreign(call) => !call.pieces.is_empty(),
+        FoundScript::Unknown(_) => true,
+    }
+}
+
+/// What the file has between these offsets, of which a shell makes a part of one word.
+fn quoted(start: usize, end: usize) -> Hole {
+    let way = Way::Quoted;
+    Hole { start, end, way }
+}
+
+/// The call that a part of a command is; none where it is prose in a source of Autoconf.
+fn found_call(
+    filler: &mut Filler<'_>,
+    held: &Held,
+    part: Part,
+    here: Option<&CallWord>,
+) -> Result<Option<FoundCall>> {
+    let names = filler.names;
+    let dialect = names.form.dialect;
+    let Some([name, others @ ..]) = held.command.words.get(part.name..part.end) else {
+        return Ok(None);
+    };
+    if dialect == Dialect::Macros && is_prose(names.file, name, others) {
+        return Ok(None);
+    }
+    let mut named = Vec::new(names.alloc);
+    let words = words_of(filler, held, part, &mut named)?;
+    let end = name.start.saturating_add(name.units.len().max(1));
+    let around = Around {
+        file: names.file,
+        dialect,
+        name: quoted(name.start, end),
+        runner: part.runner,
+        here,
+        named: &named,
+    };
+    let script = if part.is_direct && is_redefined(names, name)? {
+        FoundScript::Unknown(Unknown::Function)
+    } else {
+        script_of(names.alloc, &words, around)?
+    };
+    let mut traced = Vec::new(names.alloc);
+    for word in words {
+        traced.push(word.traced)?;
+    }
+    Ok(Some(FoundCall {
+        start: name.start,
+        words: traced,
+        script,
+        followed: std::mem::replace(&mut filler.followed, Vec::new(names.alloc)),
+        c_locale: part.c_locale,
+    }))
+}
+
+/// The words of a call behind its name, with the options in the value of a variable that is the name. What isn't known of the name and of
+/// what runs it is noted.
+fn words_of(
+    filler: &mut Filler<'_>,
+    held: &Held,
+    part: Part,
+    named: &mut Vec<OpenHole>,
+) -> Result<Vec<CallWord>> {
+    let command = held.command.words.as_slice();
+    let mut words = Vec::new(filler.names.alloc);
+    let Some([name, others @ ..]) = command.get(part.name..part.end) else {
+        return Ok(words);
+    };
+    if let [Unit::Hole(hole)] = *name.units.as_slice() {
+        match filler.options(hole, held.spot())? {
+            Some(options) => words = options,
+            None => note_named(named, name, Role::Sed)?,
+        }
+    }
+    if let Some(runner) = part.unknown.and_then(|number| command.get(number)) {
+        note_named(named, runner, Role::Runner)?;
+    }
+    for word in others {
+        let mut word = filler.word(word, held.spot())?;
+        put_in(filler.names, &mut word, part.runner, command)?;
+        words.push(word)?;
+    }
+    Ok(words)
+}
+
+/// Notes a word of one hole, of which a shell may make several words.
+fn note_named(named: &mut Vec<OpenHole>, word: &ShellWord, role: Role) -> Result<()> {
+    if let [Unit::Hole(hole)] = *word.units.as_slice() {
+        if hole.way.is_split() {
+            named.push(OpenHole::outside(hole, role))?;
+        }
+    }
+    Ok(())
+}
+
+/// Puts holes into a word where what runs the sed puts in a name or a line.
+fn put_in(
+    names: &Names<'_>,
+    word: &mut CallWord,
+    runner: Runner,
+    words: &[ShellWord],
+) -> Result<()> {
+    match runner {
+        Runner::Plain | Runner::Adding => {}
+        Runner::Braces => word.open(b"{}"),
+        Runner::Find => {
+            word.is_path = word.is_path || word.traced.bytes.starts_with(b"{}");
+            word.open(b"{}");
+        }
+        Runner::Replacing(number, from) => {
+            let units = match words.get(number) {
+                Some(word) => word.units.get(from..).unwrap_or(&[]),
+                None => &[],
+            };
+            match bytes_of(names.alloc, units)? {
+                Some(text) => word.open(&text),
+                None => word.open(b"{}"),
+            }
+        }
+    }
+    Ok(())
+}
+
+/// Whether the file has a function or an alias with the name of the sed.
+fn is_redefined(names: &Names<'_>, name: &ShellWord) -> Result<bool> {
+    Ok(match bytes_of(names.alloc, &name.units)? {
+        Some(name) => names.is_function(&name),
+        None => false,
+    })
+}
+
+/// Whether the words are prose within brackets of M4: the name is right behind one, and the next word is letters alone.
+fn is_prose(file: &[u8], name: &ShellWord, others: &[ShellWord]) -> bool {
+    let before = name
+        .start
+        .checked_sub(1)
+        .and_then(|offset| file.get(offset));
+    let is_plain = others.first().is_none_or(|next| {
+        let mut units = next.units.iter();
+        let is_word = !next.is_quoted && next.units.len() > 1;
+        is_word && units.all(|unit| unit.byte().is_some_and(|byte| byte.is_ascii_alphabetic()))
+    });
+    before == Some(&b'[') && is_plain && name.is("sed")
+}

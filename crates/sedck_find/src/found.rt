@@ -1,0 +1,140 @@
+//! What is found in a file.
+
+use sedck_call::{Call, CallFault};
+use sedck_origin::{Hole, Traced};
+
+/// A variable with a value that was given with the call of this program.
+#[derive(Clone, Copy)]
+pub struct Assumed<'a> {
+    pub name: &'a [u8],
+    pub value: &'a [u8],
+}
+
+/// A call of sed.
+#[derive(Drop)]
+pub struct FoundCall {
+    /// The offset in the file of the command's name.
+    pub start: usize,
+    /// The words after the name.
+    pub words: Vec<Traced>,
+    pub script: FoundScript,
+    /// The variables that are replaced by their values.
+    pub followed: Vec<Followed>,
+    /// Whether the words before the name make it run in the locale C or POSIX.
+    pub c_locale: bool,
+}
+
+/// A variable that is replaced by its value.
+#[derive(Clone, Copy, Debug, PartialEq, Eq)]
+pub struct Followed {
+    /// The file has what is replaced from this offset on ..
+    pub start: usize,
+    /// .. to before this one.
+    pub end: usize,
+    pub value: KnownValue,
+}
+
+/// Where a value comes from.
+#[derive(Clone, Copy, Debug, PartialEq, Eq)]
+pub enum KnownValue {
+    /// The file sets it to what begins on the line of this number, from 1.
+    Line(usize),
+    /// The same of make's, for which another value may be given with the call of make.
+    Made(usize),
+    /// The file sets it to nothing.
+    Empty,
+    /// It was given with the call of this program.
+    Given,
+}
+
+/// The script of a call.
+#[derive(Drop)]
+pub enum FoundScript {
+    /// Its text, where each hole has letters in its place that fit its role, with all on which the words depend.
+    Text {
+        call: Call,
+        text: Traced,
+        holes: Vec<OpenHole>,
+    },
+    /// An option changes the language.
+    Foreign(Call),
+    /// No sed takes the words.
+    Refused(CallFault),
+    /// It isn't known before a run.
+    Unknown(Unknown),
+}
+
+/// Why a script isn't known before a run.
+#[derive(Clone, Copy, Debug, PartialEq, Eq)]
+pub enum Unknown {
+    /// A variable or a command gives the script as a whole, or options.
+    Words,
+    /// A variable or a command gives a command, a flag, a label or a name of the script.
+    Part,
+    /// The script is in a file, or is read from standard input.
+    File,
+    /// Macros of M4 change the script.
+    Macro,
+    /// The file has a function or an alias with the name of the sed.
+    Function,
+}
+
+/// What isn't known of a call, on which its words depend.
+#[derive(Clone, Copy, Debug, PartialEq, Eq)]
+pub struct OpenHole {
+    /// Where the file has it, and how it becomes a part of a word.
+    pub hole: Hole,
+    pub role: Role,
+    /// The delimiter of the expression or the replacement.
+    pub delimiter: u8,
+}
+
+impl OpenHole {
+    /// One outside of expressions and replacements.
+    pub(crate) fn outside(hole: Hole, role: Role) -> OpenHole {
+        OpenHole {
+            hole,
+            role,
+            delimiter: 0,
+        }
+    }
+}
+
+/// What a hole may change.
+#[derive(Clone, Copy, Debug, PartialEq, Eq)]
+pub enum Role {
+    /// An expression, outside of its lists.
+    Expression,
+    /// A bracket list.
+    List,
+    Replacement,
+    /// The text of `a`, `i` or `c`.
+    Text,
+    /// The beginning of such a text.
+    TextBegin,
+    /// A word of the call that isn't the script: there must be just one.
+    Word,
+    /// A word that must be an operand, and no option.
+    Operand,
+    /// A pattern, which no file's name may match.
+    Pattern,
+    /// A pattern in place of an operand.
+    Names,
+    /// The name of the sed, behind which options may be.
+    Sed,
+    /// What runs the sed, or nothing.
+    Runner,
+    /// The operands that `xargs` adds.
+    Added,
+    /// The options behind an operand, which are none where POSIXLY_CORRECT is set.
+    Options,
+}
+
+/// What is found in a file.
+#[derive(Drop)]
+pub struct Found {
+    /// In the file's order.
+    pub calls: Vec<FoundCall>,
+    /// The offsets of what wasn't understood, in the file's order. Reading went on at a next line.
+    pub unread: Vec<usize>,
+}

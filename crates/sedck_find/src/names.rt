@@ -1,0 +1,238 @@
+//! What is known of the values of variables.
+
+use crate::found::Assumed;
+use crate::values::Value;
+use sedck_hosts::Kind;
+use sedck_origin::{Hole, Result, Unit, hole_name, is_among};
+use sedck_shell::{Form, Site};
+use std::alloc::Global;
+use std::collections::BTreeMap;
+
+/// Where a command runs.
+#[derive(Clone, Copy, PartialEq, Eq)]
+pub(crate) enum Scope {
+    /// In the shell that reads the text of this number.
+    Own(usize),
+    /// There, in a text that this shell has expanded before.
+    Again(usize),
+    /// In another shell, which has the exported variables alone.
+    Other,
+}
+
+impl Scope {
+    /// The number of the text whose shell it is.
+    pub fn text(self) -> Option<usize> {
+        match self {
+            Scope::Own(text) | Scope::Again(text) => Some(text),
+            Scope::Other => None,
+        }
+    }
+
+    /// The spot with this offset, of a command that is there in its text.
+    pub fn spot(self, site: Site, at: usize) -> Spot {
+        let (scope, mut site) = (self, site);
+        site.is_certain = site.is_certain && matches!(self, Scope::Own(_));
+        Spot { scope, site, at }
+    }
+}
+
+/// Where a variable is set or used.
+#[derive(Clone, Copy, PartialEq, Eq)]
+pub(crate) struct Spot {
+    pub scope: Scope,
+    pub site: Site,
+    /// The offset in the file.
+    pub at: usize,
+}
+
+/// How the file sets a variable.
+#[derive(Drop)]
+pub(crate) struct Fact {
+    /// Its value; none if that isn't written, or it is set more than once.
+    pub value: Option<Vec<Unit>>,
+    /// Where it is set.
+    pub spot: Spot,
+    /// Whether a value that it is given somewhere begins with the name of a sed.
+    pub is_sed: bool,
+}
+
+/// What is known of the variables of a file.
+#[derive(Drop)]
+pub(crate) struct Names<'a> {
+    pub alloc: Global,
+    pub kind: Kind,
+    pub form: Form,
+    pub file: &'a [u8],
+    pub assumed: &'a [Assumed<'a>],
+    pub facts: BTreeMap<Vec<u8>, Fact>,
+    /// For each text the offset of the first command that may set variables which it doesn't name.
+    pub open: BTreeMap<usize, usize>,
+    /// Whether variables of any text may be set so.
+    pub is_open: bool,
+    /// Whether LC_ALL may be read-only in some shell.
+    pub may_fix_locale: bool,
+    /// The names of functions and of aliases.
+    pub functions: Vec<Vec<u8>>,
+    /// The offset of each line's first byte.
+    pub lines: Vec<usize>,
+}
+
+impl<'a> Names<'a> {
+    /// Notes that the variable is set there, to this value if it is known.
+    pub fn note(&mut self, name: Vec<u8>, value: Option<Vec<Unit>>, spot: Spot) -> Result<()> {
+        if let Some(fact) = self.facts.get_mut(name.as_slice()) {
+            fact.value = None;
+            return Ok(());
+        }
+        let fact = Fact {
+            value,
+            spot,
+            is_sed: false,
+        };
+        self.facts.insert(name, fact)?;
+        Ok(())
+    }
+
+    /// Notes that a value which the variable is given somewhere begins with the name of a sed.
+    pub fn note_sed(&mut self, name: &[u8]) {
+        if let Some(fact) = self.facts.get_mut(name) {
+            fact.is_sed = true;
+        }
+    }
+
+    /// Whether the variable may have the name of a sed, which the file gives it somewhere.
+    pub fn may_be_sed(&self, name: &[u8]) -> bool {
+        self.facts.get(name).is_some_and(|fact| fact.is_sed)
+    }
+
+    /// Notes that the variable is set to what isn't known.
+    pub fn note_unknown(&mut self, name: Vec<u8>) -> Result<()> {
+        self.note(name, None, Scope::Other.spot(Site::default(), 0))
+    }
+
+    /// Notes that a command there may set variables which it doesn't name.
+    pub fn note_open(&mut self, spot: Spot) -> Result<()> {
+        self.may_fix_locale = true;
+        let Some(text) = spot.scope.text() else {
+            return Ok(());
+        };
+        let first = self.open.get(&text).copied().unwrap_or(spot.at);
+        self.open.insert(text, first.min(spot.at))?;
+        Ok(())
+    }
+
+    /// What the file has in place of the hole.
+    pub fn written_hole(&self, hole: Hole) -> &'a [u8] {
+        self.file.get(hole.start..hole.end).unwrap_or(&[])
+    }
+
+    /// Whether a function or an alias has the name.
+    pub fn is_function(&self, name: &[u8]) -> bool {
+        self.functions.iter().any(|other| other.as_slice() == name)
+    }
+
+    /// The value that replaces the hole, which is there.
+    pub fn value_of(&self, hole: Hole, spot: Spot) -> Option<Value<'_>> {
+        let written = self.written_hole(hole);
+        let name = replaced_name(written, self.kind)?;
+        let is_made = self.kind == Kind::Make && !is_doubled(self.file, hole.start);
+        if spot.scope == Scope::Other && !is_made {
+            return None;
+        }
+        if let Some(one) = self.assumed.iter().find(|one| one.name == name) {
+            return Some(Value::Given(one.value));
+        }
+        if written.first() == Some(&b'@') {
+            return None;
+        }
+        let fact = self.facts.get(name)?;
+        let is_there = match self.kind {
+            Kind::Make => is_made && fact.spot.site.is_certain && !self.is_open,
+            _ => self.is_followed(fact, name, hole, spot),
+        };
+        match &fact.value {
+            Some(value) if is_there => Some(Value::Written(value)),
+            _ => None,
+        }
+    }
+
+    /// Whether the variable with this name has the value there that the file writes.
+    fn is_followed(&self, fact: &Fact, name: &[u8], hole: Hole, spot: Spot) -> bool {
+        let open = spot
+            .scope
+            .text()
+            .and_then(|text| self.open.get(&text).copied());
+        // Where the file sets IFS, a value may be split at any byte.
+        let may_split = hole.way.is_split() && self.facts.get(b"IFS".as_slice()).is_some();
+        let at = hole.start;
+        let is_kept = is_followed(fact, Spot { at, ..spot }, open);
+        is_kept && !self.is_open && !may_split && !is_set_by_shell(name)
+    }
+}
+
+/// Whether a variable that is used has the value which the file writes, whatever the environment, the arguments and the files are:
+///
+/// - The file sets it once, and to a text without expansions.
+/// - That is before the use, in the text that the same shell reads.
+/// - Each run of the text comes to the assignment: it is in no condition, loop, pipe, subshell or group, behind no `&&` or `||`, and
+///   doesn't run beside others. In a function the same holds of its runs, and the use is in that function.
+/// - Before the use no command may set variables that it doesn't name: `.`, `eval` and `trap` of what isn't known, `read`, `export` and
+///   the like with a name that isn't known, references to names, aliases, and a command whose name isn't known. Where the use itself is in
+///   a loop, a function or the like, none may in the whole text. `open` is the offset of the first one that may.
+fn is_followed(fact: &Fact, used: Spot, open: Option<usize>) -> bool {
+    let set = fact.spot;
+    let is_before = set.scope.text() == used.scope.text() && set.at < used.at;
+    let is_reached = set.site.is_certain && (set.site.body == 0 || set.site.body == used.site.body);
+    let is_once = used.site.is_certain && used.site.body == 0;
+    let is_kept = match open {
+        Some(offset) => is_once && used.at < offset,
+        None => true,
+    };
+    is_before && is_reached && is_kept
+}
+
+/// Whether the shell sets the variable by itself.
+fn is_set_by_shell(name: &[u8]) -> bool {
+    SET_BY_SHELL.iter().any(|names| is_among(name, names))
+}
+
+/// Variables that a shell sets by itself.
+static SET_BY_SHELL: &'static [&'static [&'static str]] = &[
+    &["_", "IFS", "PWD", "OLDPWD", "UID", "EUID", "PPID", "GROUPS"],
+    &["REPLY", "OPTARG", "OPTIND", "OPTERR", "LINENO", "MAPFILE"],
+    &["RANDOM", "SRANDOM", "SECONDS", "LINES", "COLUMNS"],
+    &["EPOCHSECONDS", "EPOCHREALTIME"],
+    &["COPROC", "DIRSTACK", "HISTCMD"],
+];
+
+/// The name of the variable whose value replaces all that is written: `$NAME`, `${NAME}`, `@NAME@`, and make's `$(NAME)`.
+pub(crate) fn replaced_name(written: &[u8], kind: Kind) -> Option<&[u8]> {
+    let name = hole_name(written)?;
+    if let Some(b'0'..=b'9') = name.first() {
+        return None;
+    }
+    let others = written.len().saturating_sub(name.len());
+    let is_name = match written {
+        [b'$', b'{', .., b'}'] => others == 3,
+        [b'$', b'(', .., b')'] => others == 3 && kind == Kind::Make,
+        [b'@', .., b'@'] => others == 2,
+        [b'$', ..] => others == 1,
+        _ => false,
+    };
+    if is_name { Some(name) } else { None }
+}
+
+/// Whether an odd number of dollar signs precedes the offset, so that the one there is the shell's and not make's.
+fn is_doubled(file: &[u8], offset: usize) -> bool {
+    let before = file
+        .get(offset.saturating_sub(DOLLARS)..offset)
+        .unwrap_or(&[]);
+    let mut is_odd = false;
+    for byte in before {
+        is_odd = *byte == b'$' && !is_odd;
+    }
+    is_odd
+}
+
+/// How many dollar signs are looked at.
+const DOLLARS: usize = 16;

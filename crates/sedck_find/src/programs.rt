@@ -1,0 +1,347 @@
+//! What the name of a command calls, and words that look like a call of sed in a command that isn't known to run one.
+
+use crate::names::{Names, Spot, replaced_name};
+use crate::units::{bytes_of, last_part};
+use crate::values::{BLANKS, Value};
+use sedck_origin::{
+    Hole, Result, Unit, begins_with, byte_at, hole_name, is_among, is_name_byte, named,
+};
+use sedck_shell::ShellWord;
+use std::alloc::Global;
+
+/// What a command calls.
+#[derive(Clone, Copy)]
+pub(crate) enum Program {
+    Sed,
+    /// A shell.
+    Shell,
+    /// `su`, whose option `-c` takes text for a shell.
+    User,
+    /// `eval` or `trap`, whose first operand is text for the same shell.
+    Again,
+    /// `.`, which reads a file's text in the same shell.
+    Sourcing,
+    Find,
+    /// A command that runs the one which its words name.
+    Wrapper(Wrapper),
+    Other,
+}
+
+/// A command that runs another one.
+#[derive(Clone, Copy)]
+pub(crate) struct Wrapper {
+    /// The letters of the options that take an argument.
+    letters: &'static [u8],
+    /// The letters of the options with which no command runs that is known.
+    stops: &'static [u8],
+    /// How many operands precede the command.
+    pub operands: usize,
+    /// Whether it is `xargs`, which adds operands.
+    pub is_adding: bool,
+    /// Whether it is `env`, before whose command variables may be set.
+    pub is_env: bool,
+    /// Whether it is what isn't known, which may run the command.
+    pub is_unknown: bool,
+}
+
+/// The names of commands that run another one, the letters of their options that take an argument, those of options with which no command
+/// runs that is known, and how many operands precede the command.
+type Named = (&'static [&'static str], &'static [u8], &'static [u8], usize);
+
+/// The commands that run another one.
+static WRAPPERS: &'static [Named] = &[
+    (&["env"], b"uC", b"S", 0),
+    (&["exec"], b"a", b"", 0),
+    (&["command"], b"", b"vV", 0),
+    (&["xargs"], b"adEILnPsJ", b"", 0),
+    (&["sudo"], b"ugpChrtTUDRac", b"el", 0),
+    (&["doas"], b"uCa", b"", 0),
+    (&["nice"], b"n", b"", 0),
+    (&["ionice"], b"cn", b"pPu", 0),
+    (&["nohup", "setsid", "builtin"], b"", b"", 0),
+    (&["busybox", "toybox"], b"", b"", 0),
+    (&["time"], b"fo", b"", 0),
+    (&["timeout", "gtimeout"], b"ks", b"", 1),
+    (&["stdbuf"], b"ioe", b"", 0),
+    (&["chroot", "taskset"], b"", b"", 1),
+    (&["fakeroot"], b"lisb", b"", 0),
+    (&["flock"], b"wEc", b"", 1),
+    (&["strace"], b"eoOpPsSuaIbX", b"", 0),
+    (&["ltrace"], b"eolpsuaxADFn", b"", 0),
+    (&["unshare"], b"SGR", b"", 0),
+    (&["chrt"], b"TPD", b"", 1),
+];
+
+/// A command that comes before the one which it runs.
+const PREFIX: Wrapper = Wrapper {
+    letters: b"",
+    stops: b"",
+    operands: 0,
+    is_adding: false,
+    is_env: false,
+    is_unknown: true,
+};
+
+/// Long options that take the next word.
+static LONG: &'static [&'static [&'static str]] = &[
+    &["--arg-file", "--delimiter", "--max-args", "--max-chars"],
+    &["--max-procs", "--process-slot-var"],
+    &["--user", "--group", "--unset", "--chdir"],
+    &["--signal", "--kill-after", "--adjustment"],
+    &["--input", "--output", "--error", "--class"],
+];
+
+/// Names of other programs, and what they are.
+static PROGRAMS: &'static [(Program, &'static [&'static str])] = &[
+    (Program::Shell, &["sh", "bash", "dash", "ksh", "zsh", "ash"]),
+    (Program::Shell, &["mksh", "ksh93"]),
+    (Program::Again, &["eval", "trap"]),
+    (Program::Sourcing, &[".", "source"]),
+    (Program::User, &["su", "runuser"]),
+    (Program::Find, &["find"]),
+];
+
+/// The names of seds.
+static SEDS: &'static [&'static str] = &["sed", "gsed", "ssed"];
+
+/// The names of variables that have the path of a sed.
+static SED_VARIABLES: &'static [&'static str] = &["SED", "GSED"];
+
+/// The names of variables that have the path of a shell.
+static SHELL_VARIABLES: &'static [&'static str] = &["SHELL", "CONFIG_SHELL", "BASH", "POSIX_SHELL"];
+
+/// Commands that write the path of a sed.
+static PATHS: &'static [&'static [&'static str]] = &[
+    &["which sed", "which gsed"],
+    &["command -v sed", "command -v gsed"],
+    &["type -p sed", "type -p gsed"],
+    &["type -P sed", "type -P gsed"],
+];
+
+/// Commands whose words are no commands.
+static PLAIN: &'static [&'static str] = &[
+    "echo", "printf", "test", "[", "[[", ":", "for", "case", "select", "set", "return", "which",
+    "type", "hash", "command", "grep", "egrep", "fgrep", "cat", "rm", "cp", "mv", "ln", "chmod",
+    "find", "awk", "perl", "python", "python3",
+];
+
+/// Commands that run a text, which isn't read.
+static RUNNING: &'static [&'static str] = &[
+    "env", "ssh", "watch", "parallel", "docker", "podman", "kubectl", "script", "nsenter",
+];
+
+/// The longest text of a hole, and the longest path, that is looked at, so that the time stays linear.
+const LONGEST: usize = 256;
+
+/// What a word of a wrapper is.
+#[derive(Clone, Copy)]
+pub(crate) enum Before {
+    /// An option, alone or with its argument.
+    Option,
+    /// An option whose argument is the next word.
+    Awaiting,
+    /// An option with which no command runs.
+    Stop,
+    /// The end of the options.
+    End,
+    /// The first word behind the options.
+    Word,
+}
+
+/// What the word with these bytes is, where options of the wrapper may stand.
+pub(crate) fn before_command(wrapper: Wrapper, word: &[u8]) -> Before {
+    match word {
+        [b'-', b'-'] => Before::End,
+        [b'-', b'-', ..] if LONG.iter().any(|names| is_among(word, names)) => Before::Awaiting,
+        [b'-', b'-', ..] => Before::Option,
+        [b'-', letters @ ..] => wrapper.letters_before(letters),
+        _ => Before::Word,
+    }
+}
+
+impl Wrapper {
+    /// What a word of option letters is.
+    fn letters_before(self, letters: &[u8]) -> Before {
+        for (index, letter) in letters.iter().enumerate() {
+            if self.stops.contains(letter) {
+                return Before::Stop;
+            }
+            if self.letters.contains(letter) {
+                let is_last = index.saturating_add(1) == letters.len();
+                return if is_last {
+                    Before::Awaiting
+                } else {
+                    Before::Option
+                };
+            }
+        }
+        Before::Option
+    }
+}
+
+/// What a command with this name calls.
+pub(crate) fn program_of(names: &Names<'_>, word: &ShellWord, spot: Spot) -> Result<Program> {
+    if let [Unit::Hole(hole)] = *word.units.as_slice() {
+        return called_by(names, hole, spot);
+    }
+    match bytes_of(names.alloc, last_part(&word.units))? {
+        Some(name) => Ok(named_program(&name)),
+        None => Ok(Program::Other),
+    }
+}
+
+/// What is called by a name that is written.
+fn named_program(name: &[u8]) -> Program {
+    if is_among(name, SEDS) {
+        return Program::Sed;
+    }
+    for (others, letters, stops, operands) in WRAPPERS {
+        if is_among(name, others) {
+            return Program::Wrapper(Wrapper {
+                letters,
+                stops,
+                operands: *operands,
+                is_adding: is_among(name, &["xargs"]),
+                is_env: is_among(name, &["env"]),
+                is_unknown: false,
+            });
+        }
+    }
+    named(PROGRAMS, name).unwrap_or(Program::Other)
+}
+
+/// Whether the last part of the path is the name of a sed.
+pub(crate) fn is_sed_path(path: &[u8]) -> bool {
+    let name = match path.iter().rposition(|byte| *byte == b'/') {
+        Some(slash) => path.get(slash.saturating_add(1)..).unwrap_or(&[]),
+        None => path,
+    };
+    is_among(name, SEDS)
+}
+
+/// Whether a variable of this name has the path of a sed.
+pub(crate) fn is_sed_variable(name: &[u8]) -> bool {
+    is_among(name, SED_VARIABLES)
+}
+
+/// What the hole calls, which is the whole word.
+fn called_by(names: &Names<'_>, hole: Hole, spot: Spot) -> Result<Program> {
+    if let Some(value) = names.value_of(hole, spot) {
+        let is_sed = is_sed_path(&first_word(names.alloc, value, hole.way.is_split())?);
+        return Ok(if is_sed { Program::Sed } else { Program::Other });
+    }
+    let written = names.written_hole(hole);
+    if written.len() > LONGEST {
+        return Ok(Program::Other);
+    }
+    Ok(called_by_name(written, names))
+}
+
+/// The first word of a value; all of it where it isn't split.
+fn first_word(alloc: Global, value: Value<'_>, is_split: bool) -> Result<Vec<u8>> {
+    let mut path = Vec::new(alloc);
+    for index in 0..value.len().min(LONGEST) {
+        match value.get(index) {
+            Some((byte, _)) if is_split && BLANKS.contains(&byte) => {
+                if !path.is_empty() {
+                    break;
+                }
+            }
+            Some((byte, _)) => path.push(byte)?,
+            None => break,
+        }
+    }
+    Ok(path)
+}
+
+/// What is called by what is written, if no value is known.
+fn called_by_name(written: &[u8], names: &Names<'_>) -> Program {
+    if is_path_command(written) || is_among(written, &["%{__sed}", "%__sed"]) {
+        return Program::Sed;
+    }
+    let Some(name) = hole_name(written) else {
+        return Program::Other;
+    };
+    let is_made = matches!(written, [b'$', b'(', inner @ .., b')'] if inner.len() == name.len());
+    let is_whole = is_made || replaced_name(written, names.kind).is_some();
+    let is_sed = is_sed_variable(name) && (is_whole || has_sed_default(written, name));
+    if is_sed || (is_whole && names.may_be_sed(name)) {
+        Program::Sed
+    } else if is_whole && is_among(name, SHELL_VARIABLES) {
+        Program::Shell
+    } else if is_whole && is_among(name, &["SUDO", "sudo"]) {
+        Program::Wrapper(PREFIX)
+    } else {
+        Program::Other
+    }
+}
+
+/// Whether it is `${NAME-sed}` or `${NAME:-sed}`, also with `=`, and with another path of a sed.
+fn has_sed_default(written: &[u8], name: &[u8]) -> bool {
+    let from = name.len().saturating_add(2);
+    match written.get(from..) {
+        Some([b'-' | b'=', path @ .., b'}'] | [b':', b'-' | b'=', path @ .., b'}']) => {
+            is_sed_path(path)
+        }
+        _ => false,
+    }
+}
+
+/// Whether it is a command that writes the path of a sed.
+fn is_path_command(written: &[u8]) -> bool {
+    match written {
+        [b'$', b'(', command @ .., b')'] | [b'`', command @ .., b'`'] => {
+            PATHS.iter().any(|paths| is_among(command, paths))
+        }
+        _ => false,
+    }
+}
+
+/// The offset of a word that is the name of a sed, and has behind it what looks like an option or a script; or of a text with such a
+/// call, where the command runs it.
+pub(crate) fn mention_in(alloc: Global, words: &[ShellWord]) -> Result<Option<usize>> {
+    let Some(first) = words.first() else {
+        return Ok(None);
+    };
+    let is_running = match bytes_of(alloc, last_part(&first.units))? {
+        Some(name) if is_among(&name, PLAIN) => return Ok(None),
+        Some(name) => is_among(&name, RUNNING),
+        None => false,
+    };
+    if is_running {
+        if let Some(word) = words.iter().find(|word| has_call(&word.units)) {
+            return Ok(Some(word.start));
+        }
+    }
+    for index in 1..words.len() {
+        let (Some(word), Some(next)) = (words.get(index), words.get(index.saturating_add(1))) else {
+            break;
+        };
+        if looks_called(next) && word.units.len() < 256 {
+            match bytes_of(alloc, &word.units)? {
+                Some(path) if is_sed_path(&path) => return Ok(Some(word.start)),
+                _ => {}
+            }
+        }
+    }
+    Ok(None)
+}
+
+/// Whether the units have `sed` as a word, with a blank behind it.
+fn has_call(units: &[Unit]) -> bool {
+    (0..units.len()).any(|index| {
+        let before = byte_at(units, index.saturating_sub(1));
+        let is_inside = before.is_some_and(|byte| is_name_byte(byte) || byte == b'.');
+        let rest = units.get(index..).unwrap_or(&[]);
+        begins_with(rest, "sed ") && (index == 0 || !is_inside)
+    })
+}
+
+/// Whether the word behind a name looks like an option or a script: it begins with a hyphen, is quoted or has a slash.
+fn looks_called(word: &ShellWord) -> bool {
+    let has_slash = word
+        .units
+        .iter()
+        .any(|unit| matches!(*unit, Unit::Byte(b'/', _)));
+    word.is_quoted || has_slash || byte_at(&word.units, 0) == Some(b'-')
+}

@@ -1,0 +1,170 @@
+//! The script of a call.
+
+use crate::conditions::Conditions;
+use crate::found::{FoundScript, OpenHole, Unknown};
+use crate::holes::roles_of;
+use crate::parts::Runner;
+use crate::words::{CallWord, LONGEST};
+use sedck_call::{Call, CallFault, CallOption, Given, Piece, call_of};
+use sedck_origin::{Hole, Origin, Result, Way, has_hole, is_among, is_name_byte};
+use sedck_shell::Dialect;
+use std::alloc::{AllocError, Global};
+
+/// What is known of a call beside its words.
+#[derive(Clone, Copy)]
+pub(crate) struct Around<'a> {
+    pub file: &'a [u8],
+    pub dialect: Dialect,
+    /// Where the name of the sed is.
+    pub name: Hole,
+    pub runner: Runner,
+    /// The text that is its standard input.
+    pub here: Option<&'a CallWord>,
+    /// What must hold of the name of the sed, and of what runs it.
+    pub named: &'a [OpenHole],
+}
+
+/// The script of a call with these words.
+pub(crate) fn script_of(
+    alloc: Global,
+    words: &[CallWord],
+    around: Around<'_>,
+) -> Result<FoundScript> {
+    let mut slices = Vec::new(alloc);
+    let mut length = 0usize;
+    for word in words {
+        slices.push(word.traced.bytes.as_slice())?;
+        length = length.saturating_add(word.traced.bytes.len());
+    }
+    if length > LONGEST {
+        return Ok(FoundScript::Unknown(Unknown::Words));
+    }
+    // What xargs adds may be the script.
+    let is_open = around.runner == Runner::Adding
+        || words.iter().any(|word| has_hole(&word.traced.origins));
+    let is_macro = around.dialect == Dialect::Macros;
+    match call_of(alloc, &slices) {
+        Ok(call) => script_in(alloc, call, words, around),
+        Err(CallFault::OutOfMemory) => Err(AllocError),
+        Err(_) if is_open => Ok(FoundScript::Unknown(Unknown::Words)),
+        // A bracket of M4 may end a command.
+        Err(_) if is_macro => Ok(FoundScript::Unknown(Unknown::Macro)),
+        Err(fault) => Ok(FoundScript::Refused(fault)),
+    }
+}
+
+/// The script of a call that a sed takes.
+fn script_in(
+    alloc: Global,
+    call: Call,
+    words: &[CallWord],
+    around: Around<'_>,
+) -> Result<FoundScript> {
+    let is_extended = |item: &Given| matches!(*item, Given::Alone(CallOption::Extended, _));
+    if call.given.iter().any(is_extended) {
+        return Ok(FoundScript::Foreign(call));
+    }
+    if let Some(unknown) = unknown_words(&call, words, around.here) {
+        return Ok(FoundScript::Unknown(unknown));
+    }
+    let Some((text, mut holes)) = roles_of(alloc, &call, words, around.here)? else {
+        return Ok(FoundScript::Unknown(Unknown::Part));
+    };
+    let conditions = Conditions::of(alloc, &call, words, around.name, around.runner)?;
+    if conditions.is_unknown {
+        return Ok(FoundScript::Unknown(Unknown::Words));
+    }
+    holes.extend_from_slice(&conditions.holes)?;
+    holes.extend_from_slice(around.named)?;
+    let is_macro = around.dialect == Dialect::Macros
+        && (has_macro_name(&text.bytes) || has_macro_hole(around.file, &text.origins));
+    if is_macro {
+        return Ok(FoundScript::Unknown(Unknown::Macro));
+    }
+    Ok(FoundScript::Text { call, text, holes })
+}
+
+/// Why the script isn't known, if its words say so.
+fn unknown_words(call: &Call, words: &[CallWord], here: Option<&CallWord>) -> Option<Unknown> {
+    let (Piece::Text(origin) | Piece::File(origin)) = call.pieces.first()?;
+    if has_open_word(&call.given, words, origin.word) {
+        return Some(Unknown::Words);
+    }
+    call.pieces
+        .iter()
+        .find_map(|piece| unknown_piece(*piece, words, here))
+}
+
+/// Whether a word before the script begins with a hole, so that it may be another option, and isn't what an option takes.
+fn has_open_word(given: &[Given], words: &[CallWord], first: usize) -> bool {
+    for word in words.iter().take(first) {
+        if word.hole_at(0).is_some_and(|hole| hole.way != Way::Quoted) {
+            return true;
+        }
+    }
+    given.iter().any(|item| match *item {
+        Given::Operand(number) if number < first => {
+            words.get(number).is_some_and(|word| word.is_hole(0))
+        }
+        _ => false,
+    })
+}
+
+/// Why the piece isn't known.
+fn unknown_piece(piece: Piece, words: &[CallWord], here: Option<&CallWord>) -> Option<Unknown> {
+    match piece {
+        Piece::File(origin) => {
+            let path = match words.get(origin.word) {
+                Some(word) => word.traced.bytes.get(origin.from..).unwrap_or(&[]),
+                None => &[],
+            };
+            let is_known = here.is_some() && is_among(path, &["-", "/dev/stdin"]);
+            if is_known { None } else { Some(Unknown::File) }
+        }
+        Piece::Text(origin) => {
+            let word = words.get(origin.word)?;
+            if word.is_hole_from(origin.from) {
+                Some(Unknown::Words)
+            } else if word.is_hole(origin.from) {
+                Some(Unknown::Part)
+            } else {
+                None
+            }
+        }
+    }
+}
+
+/// Whether a bracket is in the text, or a word begins like the name of a macro.
+fn has_macro_name(text: &[u8]) -> bool {
+    let mut is_inside = false;
+    for (index, byte) in text.iter().enumerate() {
+        let begins_name = !is_inside && is_macro_name(text.get(index..).unwrap_or(&[]));
+        if begins_name || matches!(*byte, b'[' | b']') {
+            return true;
+        }
+        is_inside = is_name_byte(*byte);
+    }
+    false
+}
+
+/// Whether the text begins like the name of a macro of Autoconf, Automake, Libtool or M4, or is a parameter of one.
+fn is_macro_name(text: &[u8]) -> bool {
+    match text {
+        [b'_', b'A', b'A'..=b'Z', b'_', ..] | [b'A', b'A'..=b'Z', b'_', ..] => true,
+        [b'm', b'4', b'_', ..] | [b'L', b'T', b'_', ..] | [b'P', b'K', b'G', b'_', ..] => true,
+        [b'd', b'n', b'l'] => true,
+        [b'd', b'n', b'l', next, ..] => !is_name_byte(*next),
+        _ => false,
+    }
+}
+
+/// Whether a hole is a quadrigraph of Autoconf, or a parameter of a macro.
+fn has_macro_hole(file: &[u8], origins: &[Origin]) -> bool {
+    origins.iter().any(|origin| match *origin {
+        Origin::Hole(hole) => matches!(
+            file.get(hole.start..hole.end),
+            Some([b'@', ..] | [b'$', b'0'..=b'9' | b'@' | b'*' | b'#'])
+        ),
+        _ => false,
+    })
+}

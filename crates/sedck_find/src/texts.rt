@@ -1,0 +1,253 @@
+//! The texts of a file, and those in them that are handed to a shell.
+
+use crate::assigning::may_fix_locale;
+use crate::names::{Names, Scope, Spot};
+use crate::parts::{Part, parts_of};
+use crate::programs::{Program, mention_in};
+use crate::units::{bytes_of, ends_with};
+use sedck_hosts::Kind;
+use sedck_origin::{Result, Text, Unit, byte_at, is_text};
+use sedck_shell::{ShellCommand, ShellWord, read_shell};
+use std::alloc::Global;
+
+/// How many levels of texts in texts are read.
+const LEVELS: usize = 6;
+
+/// A command with where it runs.
+#[derive(Drop)]
+pub(crate) struct Held {
+    pub command: ShellCommand,
+    pub scope: Scope,
+    /// Whether it is a value of make's.
+    pub is_value: bool,
+}
+
+impl Held {
+    /// Where it is.
+    pub fn spot(&self) -> Spot {
+        self.scope.spot(self.command.site, 0)
+    }
+}
+
+/// A text that is read next.
+#[derive(Drop)]
+pub(crate) struct Inner {
+    units: Vec<Unit>,
+    scope: Scope,
+}
+
+/// What was read of a file.
+#[derive(Drop)]
+pub(crate) struct Reading<'a> {
+    pub names: Names<'a>,
+    /// The commands that may call sed.
+    pub held: Vec<Held>,
+    pub inner: Vec<Inner>,
+    /// How many units texts in texts may have yet.
+    pub left: usize,
+    /// The offsets of what isn't understood.
+    pub unread: Vec<usize>,
+}
+
+impl Reading<'_> {
+    /// Reads a text.
+    pub fn read(&mut self, text: Text, scope: Scope, is_value: bool) -> Result<()> {
+        let read = read_shell(self.names.alloc, text, self.names.form)?;
+        if !is_value {
+            self.unread.extend_from_slice(&read.unread)?;
+        }
+        for name in &read.functions {
+            if let Some(name) = bytes_of(self.names.alloc, &name.units)? {
+                self.names.functions.push(name)?;
+            }
+        }
+        for command in read.commands {
+            self.note(&command, scope)?;
+            if may_call(&command.words) {
+                self.held.push(Held {
+                    command,
+                    scope,
+                    is_value,
+                })?;
+            }
+        }
+        Ok(())
+    }
+
+    /// Reads the texts in what was read, and those in them.
+    pub fn read_inner(&mut self) -> Result<()> {
+        for _ in 0..LEVELS {
+            let texts = std::mem::replace(&mut self.inner, Vec::new(self.names.alloc));
+            for text in &texts {
+                self.read(Text::Units(&text.units), text.scope, false)?;
+            }
+        }
+        for text in &self.inner {
+            if let Some(first) = text.units.first() {
+                self.unread.push(first.start())?;
+            }
+        }
+        Ok(())
+    }
+
+    /// Notes what a command sets, and the texts in it.
+    fn note(&mut self, command: &ShellCommand, scope: Scope) -> Result<()> {
+        let words = command.words.as_slice();
+        self.names.may_fix_locale |= may_fix_locale(words);
+        if self.names.kind != Kind::Make {
+            self.names.note_command(command, scope)?;
+        }
+        let parts = parts_of(&self.names, words, Scope::Other.spot(command.site, 0))?;
+        if parts.is_empty() {
+            if let Some(offset) = mention_in(self.names.alloc, words)? {
+                self.unread.push(offset)?;
+            }
+        }
+        for part in &parts {
+            self.note_part(*part, command, scope)?;
+        }
+        Ok(())
+    }
+
+    /// Notes the text that a part of a command has for a shell. A here-document that `.` reads isn't understood.
+    fn note_part(&mut self, part: Part, command: &ShellCommand, scope: Scope) -> Result<()> {
+        let Some([name, words @ ..]) = command.words.get(part.name..part.end) else {
+            return Ok(());
+        };
+        match (part.program, command.words.first()) {
+            (Program::Shell, _) => self.note_shell(words, command),
+            (Program::Again, _) => self.note_again(words, name.is("trap"), scope),
+            (Program::User, _) => match user_text(words) {
+                Some(text) => self.note_text(text, Scope::Other),
+                None => Ok(()),
+            },
+            (Program::Sourcing, Some(first)) if command.here.is_some() => {
+                Ok(self.unread.push(first.start)?)
+            }
+            _ => Ok(()),
+        }
+    }
+
+    /// Notes the text that a shell is called with.
+    fn note_shell(&mut self, words: &[ShellWord], command: &ShellCommand) -> Result<()> {
+        match (shell_text(words), &command.here) {
+            (Input::Word(units), _) => self.note_text(units, Scope::Other),
+            (Input::Standard, Some(units)) => self.note_text(units, Scope::Other),
+            _ => Ok(()),
+        }
+    }
+
+    /// Notes the text of `eval`, or of `trap`, which has other operands behind it.
+    fn note_again(&mut self, words: &[ShellWord], is_trap: bool, scope: Scope) -> Result<()> {
+        let scope = match scope.text() {
+            Some(text) => Scope::Again(text),
+            None => Scope::Other,
+        };
+        match words {
+            [] => Ok(()),
+            [_] if is_trap => Ok(()),
+            [first, ..] if is_trap => self.note_text(&first.units, scope),
+            _ => {
+                let text = joined(self.names.alloc, words)?;
+                self.note_text(&text, scope)
+            }
+        }
+    }
+
+    /// Notes a text, which is read next.
+    fn note_text(&mut self, text: &[Unit], scope: Scope) -> Result<()> {
+        if text.len() > self.left {
+            if let Some(first) = text.first() {
+                self.unread.push(first.start())?;
+            }
+            return Ok(());
+        }
+        self.left = self.left.saturating_sub(text.len());
+        let mut units = Vec::new(self.names.alloc);
+        units.extend_from_slice(text)?;
+        Ok(self.inner.push(Inner { units, scope })?)
+    }
+}
+
+/// Whether a command with these words may call sed: one of them has that name, or is a name that isn't known.
+fn may_call(words: &[ShellWord]) -> bool {
+    words.iter().any(|word| match *word.units.as_slice() {
+        [Unit::Hole(_)] => true,
+        _ => ends_with_sed(&word.units),
+    })
+}
+
+/// Whether the units end with `sed`.
+fn ends_with_sed(units: &[Unit]) -> bool {
+    let from = units.len().saturating_sub(3);
+    is_text(units.get(from..).unwrap_or(&[]), "sed")
+}
+
+/// The words with a space between, as `eval` joins them.
+fn joined(alloc: Global, words: &[ShellWord]) -> Result<Vec<Unit>> {
+    let mut text = Vec::new(alloc);
+    for word in words {
+        if let Some(end) = text.last().map(|last: &Unit| last.end()) {
+            text.push(Unit::Byte(b' ', end))?;
+        }
+        text.extend_from_slice(&word.units)?;
+    }
+    Ok(text)
+}
+
+/// Where a shell has its text from.
+#[derive(Clone, Copy)]
+enum Input<'a> {
+    Word(&'a [Unit]),
+    /// Its standard input.
+    Standard,
+    File,
+}
+
+/// Where a shell with these words after its name has its text from.
+fn shell_text(words: &[ShellWord]) -> Input<'_> {
+    let mut is_argument = false;
+    let mut is_command = false;
+    let mut is_standard = false;
+    for word in words {
+        if is_argument {
+            is_argument = false;
+        } else if matches!(byte_at(&word.units, 0), Some(b'-' | b'+')) {
+            is_command = is_command || has_letter(&word.units, b'c');
+            is_standard = is_standard || has_letter(&word.units, b's');
+            is_argument = takes_next(word);
+        } else if is_command {
+            return Input::Word(&word.units);
+        } else if is_standard {
+            return Input::Standard;
+        } else {
+            return Input::File;
+        }
+    }
+    Input::Standard
+}
+
+/// Whether the word is a hyphen and letters, of which one is this one.
+fn has_letter(units: &[Unit], letter: u8) -> bool {
+    byte_at(units, 0) == Some(b'-')
+        && byte_at(units, 1) != Some(b'-')
+        && units.iter().any(|unit| unit.byte() == Some(letter))
+}
+
+/// Whether the next word is an argument of the option.
+fn takes_next(word: &ShellWord) -> bool {
+    let is_long = byte_at(&word.units, 1) == Some(b'-');
+    let is_options = ends_with(&word.units, b'o') || ends_with(&word.units, b'O');
+    (is_options && !is_long) || word.is("--rcfile") || word.is("--init-file")
+}
+
+/// The text that `su` with these words after its name hands to a shell.
+fn user_text(words: &[ShellWord]) -> Option<&[Unit]> {
+    let option = words.iter().position(|word| {
+        let is_last = has_letter(&word.units, b'c') && ends_with(&word.units, b'c');
+        is_last || word.is("--command")
+    })?;
+    words
+        .get(option.saturating_add(1))
+        .map(|word| word.units.as_slice())
+}

@@ -1,0 +1,37 @@
+//! Units of words.
+
+use sedck_origin::{Result, Unit, byte_at, name_length};
+use std::alloc::Global;
+
+/// The bytes of the units, if none is a hole.
+pub(crate) fn bytes_of(alloc: Global, units: &[Unit]) -> Result<Option<Vec<u8>>> {
+    let mut bytes = Vec::new(alloc);
+    for unit in units {
+        match unit.byte() {
+            Some(byte) => bytes.push(byte)?,
+            None => return Ok(None),
+        }
+    }
+    Ok(Some(bytes))
+}
+
+/// The units behind the last `/`.
+pub(crate) fn last_part(units: &[Unit]) -> &[Unit] {
+    match units.iter().rposition(|unit| unit.byte() == Some(b'/')) {
+        Some(slash) => units.get(slash.saturating_add(1)..).unwrap_or(&[]),
+        None => units,
+    }
+}
+
+/// How many units at the beginning are a name of a variable.
+pub(crate) fn variable_length(units: &[Unit]) -> usize {
+    match byte_at(units, 0) {
+        Some(b'0'..=b'9') => 0,
+        _ => name_length(units),
+    }
+}
+
+/// Whether the last unit is this byte.
+pub(crate) fn ends_with(units: &[Unit], byte: u8) -> bool {
+    units.last().is_some_and(|unit| unit.byte() == Some(byte))
+}

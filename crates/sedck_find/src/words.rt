@@ -1,0 +1,269 @@
+//! The words of a call, each byte with its place in the file.
+
+use crate::found::Followed;
+use crate::names::{Names, Spot};
+use crate::programs::is_sed_variable;
+use crate::values::{BLANKS, SPECIAL, Value};
+use sedck_hosts::Kind;
+use sedck_origin::{Hole, Origin, Result, Traced, Unit, Way, hole_name};
+use sedck_shell::{Pattern, ShellWord};
+use std::alloc::Global;
+
+/// A word of a call.
+#[derive(Drop)]
+pub(crate) struct CallWord {
+    pub traced: Traced,
+    pub pattern: Pattern,
+    /// The offsets in the file of its first byte and behind its last one.
+    pub start: usize,
+    pub end: usize,
+    /// Whether it begins with a path that is no option: the name of a file that `find` gives, or of a process.
+    pub is_path: bool,
+}
+
+impl CallWord {
+    /// A word that the file has in place of the hole.
+    pub fn of(traced: Traced, hole: Hole) -> CallWord {
+        CallWord {
+            traced,
+            pattern: Pattern::None,
+            start: hole.start,
+            end: hole.end,
+            is_path: false,
+        }
+    }
+
+    /// Whether what isn't known is there.
+    pub fn is_hole(&self, index: usize) -> bool {
+        self.hole_at(index).is_some()
+    }
+
+    /// What isn't known there.
+    pub fn hole_at(&self, index: usize) -> Option<Hole> {
+        match self.traced.origins.get(index) {
+            Some(Origin::Hole(hole)) => Some(*hole),
+            _ => None,
+        }
+    }
+
+    /// Where the file has the word.
+    pub fn place(&self) -> Hole {
+        let (start, end, way) = (self.start, self.end, Way::Quoted);
+        Hole { start, end, way }
+    }
+
+    /// The first hole of which the shell may make several words, or that is there before the shell reads the text.
+    pub fn open_hole(&self) -> Option<Hole> {
+        self.traced.origins.iter().find_map(|origin| match *origin {
+            Origin::Hole(hole) if hole.way != Way::Quoted => Some(hole),
+            _ => None,
+        })
+    }
+
+    /// Puts a hole in place of each such text.
+    pub fn open(&mut self, text: &[u8]) {
+        let length = self.traced.bytes.len();
+        if text.is_empty() || length < text.len() {
+            return;
+        }
+        let mut resume = 0usize;
+        for index in 0..length {
+            let end = index.saturating_add(text.len());
+            if index < resume || self.traced.bytes.get(index..end) != Some(text) {
+                continue;
+            }
+            resume = end;
+            self.open_between(index, end);
+        }
+    }
+
+    /// Puts a hole in place of the bytes between these indices, if the file has them.
+    fn open_between(&mut self, from: usize, end: usize) {
+        let origins = &mut self.traced.origins;
+        let first = origins.get(from).copied();
+        let last = origins.get(end.saturating_sub(1)).copied();
+        let (Some(Origin::At(start)), Some(Origin::At(stop))) = (first, last) else {
+            return;
+        };
+        let hole = Hole {
+            start,
+            end: stop.saturating_add(1),
+            way: Way::Quoted,
+        };
+        for index in from..end {
+            if let Some(origin) = origins.get_mut(index) {
+                *origin = Origin::Hole(hole);
+            }
+            if let Some(byte) = self.traced.bytes.get_mut(index) {
+                *byte = b'x';
+            }
+        }
+    }
+
+    /// Whether nothing of it is known from there on.
+    pub fn is_hole_from(&self, from: usize) -> bool {
+        self.is_hole(from) && (from..self.traced.origins.len()).all(|index| self.is_hole(index))
+    }
+}
+
+/// No bytes.
+pub(crate) fn empty(alloc: Global) -> Traced {
+    Traced {
+        bytes: Vec::new(alloc),
+        origins: Vec::new(alloc),
+    }
+}
+
+/// Adds a byte.
+pub(crate) fn add(traced: &mut Traced, byte: u8, origin: Origin) -> Result<()> {
+    traced.bytes.push(byte)?;
+    traced.origins.push(origin)?;
+    Ok(())
+}
+
+/// What puts values in place of holes.
+#[derive(Drop)]
+pub(crate) struct Filler<'a> {
+    pub names: &'a Names<'a>,
+    /// How many bytes of values may be put in yet, so that the time stays linear.
+    pub left: usize,
+    /// How many bytes before values may be read yet, which is done for their lines and columns.
+    pub reach: usize,
+    /// The variables that were replaced since this was taken.
+    pub followed: Vec<Followed>,
+}
+
+impl Filler<'_> {
+    /// A word with the values that are known.
+    pub fn word(&mut self, word: &ShellWord, spot: Spot) -> Result<CallWord> {
+        // What isn't known of a long word doesn't matter.
+        let units = word.units.get(..LONGEST).unwrap_or(&word.units);
+        let spare = word.start.saturating_add(2);
+        Ok(CallWord {
+            traced: self.filled(units, spot)?,
+            pattern: word.pattern,
+            start: word.start,
+            end: word.units.last().map_or(spare, |last| last.end()),
+            is_path: self.is_process(&word.units),
+        })
+    }
+
+    /// Whether the units begin with the path of a process, as `<(..)` makes it.
+    fn is_process(&self, units: &[Unit]) -> bool {
+        match units.first() {
+            Some(Unit::Hole(hole)) => {
+                let written = self.names.written_hole(*hole);
+                written.starts_with(b"<(") || written.starts_with(b">(")
+            }
+            _ => false,
+        }
+    }
+
+    /// Units with the values that are known. A word of one unit alone vanishes if that is nothing and isn't quoted.
+    pub fn filled(&mut self, units: &[Unit], spot: Spot) -> Result<Traced> {
+        let mut traced = empty(self.names.alloc);
+        let is_alone = units.len() == 1;
+        for unit in units {
+            match *unit {
+                Unit::Byte(byte, offset) => add(&mut traced, byte, Origin::At(offset))?,
+                Unit::Escape(byte, offset) => add(&mut traced, byte, Origin::Escape(offset))?,
+                Unit::Hole(hole) => match self.names.value_of(hole, spot) {
+                    Some(value) if self.fits(value, hole.way, is_alone) => {
+                        self.follow(hole, value)?;
+                        add_value(&mut traced, value)?;
+                    }
+                    _ => add(&mut traced, b'x', Origin::Hole(hole))?,
+                },
+            }
+        }
+        Ok(traced)
+    }
+
+    /// Whether the value can be put in: a shell makes just one word of it.
+    fn fits(&mut self, value: Value<'_>, way: Way, is_alone: bool) -> bool {
+        let start = value.start();
+        let is_near = start <= self.reach;
+        self.reach = self.reach.saturating_sub(start);
+        let vanishes = way.is_split() && is_alone && value.len() == 0;
+        is_near && self.spend(value.len()) && !vanishes && value.is_kept(way)
+    }
+
+    /// Notes that the hole is replaced by the value.
+    fn follow(&mut self, hole: Hole, value: Value<'_>) -> Result<()> {
+        let value = value.source(&self.names.lines, self.names.kind == Kind::Make);
+        let Hole { start, end, .. } = hole;
+        Ok(self.followed.push(Followed { start, end, value })?)
+    }
+
+    /// Whether a value of so many bytes may be put in yet.
+    fn spend(&mut self, length: usize) -> bool {
+        let fits = length <= self.left;
+        self.left = self.left.saturating_sub(length);
+        fits
+    }
+
+    /// The words of the value behind its first one: options, if the value is the name of a sed with options. None where that isn't known.
+    pub fn options(&mut self, hole: Hole, spot: Spot) -> Result<Option<Vec<CallWord>>> {
+        let mut options = Vec::new(self.names.alloc);
+        if let Some(value) = self.names.value_of(hole, spot) {
+            self.follow(hole, value)?;
+            if !hole.way.is_split() {
+                return Ok(Some(options));
+            }
+            let fits = self.spend(value.len().saturating_mul(WORD));
+            if fits && value.is_kept(Way::MadeQuoted) && !value.has_any(SPECIAL) {
+                return Ok(Some(split_words(self.names.alloc, value, hole)?));
+            }
+        } else {
+            let may_be_sed = |name: &[u8]| self.names.may_be_sed(name) && !is_sed_variable(name);
+            if !hole_name(self.names.written_hole(hole)).is_some_and(may_be_sed) {
+                return Ok(None);
+            }
+        }
+        let mut traced = empty(self.names.alloc);
+        let way = Way::Several;
+        add(&mut traced, b'x', Origin::Hole(Hole { way, ..hole }))?;
+        options.push(CallWord::of(traced, hole))?;
+        Ok(Some(options))
+    }
+}
+
+/// The most bytes that the words of a call have.
+pub(crate) const LONGEST: usize = 1_048_576;
+
+/// Adds the bytes of a value.
+fn add_value(traced: &mut Traced, value: Value<'_>) -> Result<()> {
+    for index in 0..value.len() {
+        if let Some((byte, origin)) = value.get(index) {
+            add(traced, byte, origin)?;
+        }
+    }
+    Ok(())
+}
+
+/// The words of the value behind its first one.
+fn split_words(alloc: Global, value: Value<'_>, hole: Hole) -> Result<Vec<CallWord>> {
+    let mut words = Vec::new(alloc);
+    let mut traced = empty(alloc);
+    let mut is_name = true;
+    for index in 0..value.len().saturating_add(1) {
+        if let Some((byte, origin)) = value.get(index) {
+            if !BLANKS.contains(&byte) {
+                add(&mut traced, byte, origin)?;
+                continue;
+            }
+        }
+        if traced.bytes.is_empty() {
+            continue;
+        }
+        let traced = std::mem::replace(&mut traced, empty(alloc));
+        if !is_name {
+            words.push(CallWord::of(traced, hole))?;
+        }
+        is_name = false;
+    }
+    Ok(words)
+}
+
+/// How many bytes a byte of options counts for, each of which may be a word.
+const WORD: usize = 4;
