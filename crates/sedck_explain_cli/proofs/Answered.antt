@@ -3,13 +3,14 @@ use Rattle.std.proofs.Common.{◌≡◌, ℕ, Bool, true, false, List, Option, S
 use Rattle.std.specs.declared.alloc.Global.{Global}
 use Rattle.sedck_engines.specs.Opened.{Known}
 use Rattle.sedck_errors.specs.declared.denied.Denied.{Denied}
-use Rattle.sedck_explanation.specs.Status.{Status, Accepted}
+use Rattle.sedck_explanation.specs.declared.status.Status.{Status}
+use Rattle.sedck_explanation.specs.declared.status.Status.TheVariants.{Accepted}
 use Rattle.sedck_formats.specs.Plain.{Output}
-use Rattle.sedck_calls_in_files.specs.Scanned.{Holds, PathStatus, IsWorstOf}
+use Rattle.sedck_calls_in_files.specs.Scanned.{Holds, IsWorstOf}
 use Rattle.sedck_explain_cli.specs.CallStatus.{HasCallStatus}
 use Rattle.sedck_explain_cli.specs.Readings.{texts_of}
 use Rattle.sedck_explain_cli.specs.Requests.{scripts_of, is_plain, IsRequest}
-use Rattle.sedck_explain_cli.specs.Spelled.{IsPlainly, IsIn}
+use Rattle.sedck_explain_cli.specs.Spelled.{IsIn}
 use Rattle.sedck_explain_cli.specs.Private.Shown.{SpellsFound}
 use Rattle.sedck_explain_cli.proofs.Spelled.{found_status}
 use Rattle.sedck_explain_cli.specs.declared.request.Request.{Request}

@@ -12,7 +12,8 @@ use Rattle.sedck_explanation.specs.Denial.{status_under}
 use Rattle.sedck_explanation.specs.Explanations.{Keeps, KeepsScript, IsExplanation}
 use Rattle.sedck_explanation.specs.declared.answer.Answer.{Answer}
 use Rattle.sedck_explanation.specs.declared.answer.Answer.TheVariants.{Accepted, Rejected, Endless, ScriptRefused, CertificateRefused, NotJudged}
-use Rattle.sedck_explanation.specs.Status.{Status, IsOfAnswer}
+use Rattle.sedck_explanation.specs.Status.{IsOfAnswer}
+use Rattle.sedck_explanation.specs.declared.status.Status.{Status}
 use Rattle.sedck_explanation.specs.declared.explanation.Explanation.{Explanation}
 use Rattle.sedck_explanation.specs.declared.status.Status.TheVariants as exit
 use Rattle.sedck_formats.specs.Plain.{Output, IsPlainStatus, IsPlainOutput, Writes}
@@ -29,20 +30,20 @@ use Rattle.sedck_explain_cli.specs.Spelled.{IsPlainly, IsIn, Copies, WritesSame,
 
 -- what is written with that of a yes is accepted
 pub judged_yes : (judged status : Status) → IsPlainStatus judged status → status ≡ exit.Accepted → judged ≡ exit.Accepted
-judged_yes judged status (inl same) yes = sym same ∙ yes
-judged_yes judged status (inr both) yes = both.0
+judged_yes judged status (inl same) accepted = sym same ∙ accepted
+judged_yes judged status (inr both) accepted = both.0
 
 -- ---- The script
 
 -- an accepted script is kept
 kept_script : (text : List ℕ) (denied : Denied) (warned slow : Bool) (e : Explanation) (answer : Answer)
     → e.status ≡ status_under denied warned slow answer → Keeps text answer e → e.status ≡ exit.Accepted → KeepsScript text e
-kept_script text denied warned slow e (Accepted cert bound) is keeps yes = keeps
-kept_script text denied warned slow e (Rejected cert why) is keeps yes = keeps
-kept_script text denied warned slow e (Endless walk) is keeps yes = keeps
-kept_script text denied warned slow e (CertificateRefused why) is keeps yes = keeps
-kept_script text denied warned slow e (ScriptRefused why) is keeps yes = let clash : exit.Refused ≡ exit.Accepted = sym is ∙ yes in cc clash
-kept_script text denied warned slow e NotJudged is keeps yes = let clash : exit.Refused ≡ exit.Accepted = sym is ∙ yes in cc clash
+kept_script text denied warned slow e (Accepted cert bound) is keeps accepted = keeps
+kept_script text denied warned slow e (Rejected cert why) is keeps accepted = keeps
+kept_script text denied warned slow e (Endless walk) is keeps accepted = keeps
+kept_script text denied warned slow e (CertificateRefused why) is keeps accepted = keeps
+kept_script text denied warned slow e (ScriptRefused why) is keeps accepted = let clash : exit.Refused ≡ exit.Accepted = sym is ∙ accepted in cc clash
+kept_script text denied warned slow e NotJudged is keeps accepted = let clash : exit.Refused ≡ exit.Accepted = sym is ∙ accepted in cc clash
 
 -- what spells it is a copy of the text
 copied : (text : List ℕ) (e : Explanation) (out : Output) → KeepsScript text e → IfSome e.script (Writes out) → Copies text out
@@ -52,19 +53,19 @@ copied text e out kept writes =
 
 pub copied_yes : (text : List ℕ) (given : Option (List ℕ)) (denied : Denied) (e : Explanation) (out : Output) → IsExplanation text given denied e
     → e.status ≡ exit.Accepted → IfSome e.script (Writes out) → Copies text out
-copied_yes text given denied e out is yes writes =
-    copied text e out (kept_script text denied _ _ e e.answer is.is_status is.keeps yes) writes
+copied_yes text given denied e out is accepted writes =
+    copied text e out (kept_script text denied _ _ e e.answer is.is_status is.keeps accepted) writes
 
 -- ---- What is written
 
 pub writes_same : (text : List ℕ) (given : Option (List ℕ)) (denied : Denied) (e : Explanation) (out : Output) (status : Status)
     → IsExplanation text given denied e → IsPlainStatus e.status status → IsPlainOutput e.script out status → WritesSame text out status
 writes_same text given denied e out status is same writes = record {
-  spelled = λ yes. copied_yes text given denied e out is (judged_yes e.status status same yes) (writes.spelled yes);
+  spelled = λ accepted. copied_yes text given denied e out is (judged_yes e.status status same accepted) (writes.spelled accepted);
   kept = writes.kept;
 }
 
-of_answer : (judged status : Status) → IsPlainStatus judged status → IsOfAnswer judged → IsOfAnswer status
+pub of_answer : (judged status : Status) → IsPlainStatus judged status → IsOfAnswer judged → IsOfAnswer status
 of_answer judged status (inl same) few = subst IsOfAnswer (sym same) few
 of_answer judged status (inr both) few = subst IsOfAnswer (sym both.1) ((λ e. cc e), (λ e. cc e), (λ e. cc e))
 
@@ -77,8 +78,8 @@ shown_status true Has e out err status s has = (e.status, has, s.is_status)
 shown_status false Has e out err status s has = subst Has (sym s.is_status) has
 
 yes_shown : (plain : Bool) (e : Explanation) (out err : Output) (status : Status) → IsShown plain e out err status → status ≡ exit.Accepted → e.status ≡ exit.Accepted
-yes_shown true e out err status s yes = judged_yes e.status status s.is_status yes
-yes_shown false e out err status s yes = sym s.is_status ∙ yes
+yes_shown true e out err status s accepted = judged_yes e.status status s.is_status accepted
+yes_shown false e out err status s accepted = sym s.is_status ∙ accepted
 
 pub all_shown : {E : Type 0} (plain : Bool) (Has : Status → Type 0) (e : Explanation) (out err : Output) (r : Result Status E)
     → IfOk r (IsShown plain e out err) → Has e.status → IfOk r (IsIn plain Has)
@@ -87,14 +88,14 @@ all_shown plain Has e out err (Err why) s has = tt
 
 pub shown_yes : {E : Type 0} (plain : Bool) (P : Type 0) (e : Explanation) (out err : Output) (r : Result Status E)
     → IfOk r (IsShown plain e out err) → (e.status ≡ exit.Accepted → P) → IfOk r (λ status. status ≡ exit.Accepted → P)
-shown_yes plain P e out err (Ok status) s holds = λ yes. holds (yes_shown plain e out err status s yes)
+shown_yes plain P e out err (Ok status) s holds = λ accepted. holds (yes_shown plain e out err status s accepted)
 shown_yes plain P e out err (Err why) s holds = tt
 
 pub shown_spells : {E : Type 0} (plain : Bool) (k : Known) (denied : Denied) (words : List (List ℕ)) (e : Explanation) (out err : Output) (r : Result Status E)
     → IfOk r (IsShown plain e out err) → (e.status ≡ exit.Accepted → IfSome e.script (Writes out) → CopiesCall k denied words out)
     → IfOk r (λ status. plain ≡ true → SpellsCall k denied words out status)
 shown_spells plain k denied words e out err (Ok status) s copies = λ is. record {
-  spelled = λ yes. copies (yes_shown plain e out err status s yes) ((s.writes is).spelled yes);
+  spelled = λ accepted. copies (yes_shown plain e out err status s accepted) ((s.writes is).spelled accepted);
   kept = (s.writes is).kept;
 }
 shown_spells plain k denied words e out err (Err why) s copies = tt
@@ -108,7 +109,7 @@ shown_silent plain e out err (Err why) s = tt
 
 -- what is refused is no yes
 pub never_yes : {P : Type 0} (status : Status) → status ≡ exit.Refused → status ≡ exit.Accepted → P
-never_yes status refused yes = let same : exit.Refused ≡ exit.Accepted = sym refused ∙ yes in cc same
+never_yes status refused accepted = let same : exit.Refused ≡ exit.Accepted = sym refused ∙ accepted in cc same
 
 pub shown_few : {E : Type 0} (plain : Bool) (e : Explanation) (out err : Output) (r : Result Status E) → IfOk r (IsShown plain e out err) → IsOfAnswer e.status
     → IfOk r IsOfAnswer

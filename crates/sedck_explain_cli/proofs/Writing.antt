@@ -1,5 +1,5 @@
 -- From what was written to what was explained.
-use Rattle.std.proofs.Common.{◌≡◌, ◌∙◌, ℕ, Result, Ok, Err, IfOk, OnOk, sym, subst}
+use Rattle.std.proofs.Common.{◌≡◌, Result, Ok, Err, IfOk, OnOk, sym, subst}
 
 -- the same status, and the whole report
 pub on_written : {T E : Type 0} (P : T → Type 0) (r : Result T E) (status : T) (A : Type 0)

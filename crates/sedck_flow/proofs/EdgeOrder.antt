@@ -1,5 +1,5 @@
 -- The order of edges.
-use Rattle.std.proofs.Common.{◌≡◌, ◌⊎◌, ◌<◌, refl, sym, ap, ◌∙◌, subst, inl, inr, arith}
+use Rattle.std.proofs.Common.{◌≡◌, ◌⊎◌, ◌<◌, refl, sym, ◌∙◌, subst, inl, inr, arith}
 use Rattle.sedck_flow.specs.Nodes.{IsBefore}
 use Rattle.sedck_flow.specs.Flow.{kind_index, IsEarlier}
 use Rattle.sedck_flow.specs.declared.graph.Node.{Node}
@@ -7,14 +7,6 @@ use Rattle.sedck_flow.specs.declared.graph.Edge.{Edge}
 use Rattle.sedck_flow.specs.declared.graph.Kind.{Kind}
 use Rattle.sedck_flow.specs.declared.graph.Kind.TheVariants.{Consume, Shorten, Keep, Grow}
 use Rattle.sedck_flow.proofs.NodeLemmas.{before-index, index-before}
-
--- an edge by its parts
-pub edge_by : (e f : Edge) → e.from ≡ f.from → e.to ≡ f.to → e.kind ≡ f.kind → e ≡ f
-edge_by e f from to kind =
-    let first : e ≡ record e { from = f.from } = ap (λ n. record e { from = n }) from in
-    let second : record e { from = f.from } ≡ record f { kind = e.kind } = ap (λ n. record f { to = n; kind = e.kind }) to in
-    let third : record f { kind = e.kind } ≡ f = ap (λ k. record f { kind = k }) kind in
-    first ∙ second ∙ third
 
 pub kind_same : (k l : Kind) → kind_index k ≡ kind_index l → k ≡ l
 kind_same Consume Consume e = refl

@@ -5,7 +5,8 @@ use Rattle.sedck_engines.specs.Opened.{Known}
 use Rattle.sedck_errors.specs.declared.denied.Denied.{Denied}
 use Rattle.sedck_calls_in_files.specs.Scanned.{Holds, SpellsOne}
 use Rattle.sedck_explanation.specs.declared.explanation.Explanation.{Explanation}
-use Rattle.sedck_explanation.specs.Status.{Status, Accepted}
+use Rattle.sedck_explanation.specs.declared.status.Status.{Status}
+use Rattle.sedck_explanation.specs.declared.status.Status.TheVariants.{Accepted}
 use Rattle.sedck_formats.specs.Plain.{Output, IsPlainStatus, IsPlainOutput}
 
 -- in the format `sed` or in another one, by the output and the stream of errors

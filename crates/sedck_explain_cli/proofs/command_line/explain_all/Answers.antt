@@ -1,6 +1,7 @@
 use Rattle.std.proofs.Common.{◌≡◌, ◌≢◌, ◌∙◌, ◌+◌, map, take, sym, ap, subst}
 use Rattle.std.specs.Io.KnownBytes.{Keeps}
-use Rattle.sedck_explanation.specs.Status.{Accepted, Misused, Failed, Unknown, worse}
+use Rattle.sedck_explanation.specs.Status.{worse}
+use Rattle.sedck_explanation.specs.declared.status.Status.TheVariants.{Accepted, Misused, Failed, Unknown}
 use Rattle.sedck_calls_in_files.specs.Scanned.{IsWorstOf}
 use Rattle.sedck_explain_cli.specs.Statuses.{StatusAt}
 use Rattle.sedck_explain_cli.proofs.Greatest.{worst_item, worse_has, failed_stays}
@@ -15,7 +16,7 @@ loop-path-preserved g c =
     elim c.match-explain_path.branch [
       | in-Ok w ↦
           let one = w.in-Ok.one in
-          let is : c.match-explain_path.status ≡ worse c.loop-path.status one = w.status-is ∙ w.worse-status.ensures in
+          let is = ◌∙◌ {c = worse c.loop-path.status one} w.status-is w.worse-status.ensures in
           let not_failed : c.match-explain_path.status ≢ Failed → c.loop-path.status ≢ Failed =
           λ whole failed. whole (is ∙ ap (λ s. worse s one) failed ∙ failed_stays one) in
           record {
@@ -31,7 +32,7 @@ loop-path-preserved g c =
       | in-Err+else-not-is_followed w ↦ record {
         within = λ unknown. let clash : Failed ≡ Unknown = sym w.status-is ∙ unknown in cc clash;
         known = λ misused. let clash : Failed ≡ Misused = sym w.status-is ∙ misused in cc clash;
-        greatest = λ whole. absurd (whole w.status-is);
-        silent = λ whole. absurd (whole w.status-is);
+        greatest = λ whole. absurd {A = IsWorstOf Has Accepted (map (λ path. path.now) (take (c.loop-path.path-index + 1) paths)) c.match-explain_path.status} (whole w.status-is);
+        silent = λ whole. absurd {A = Keeps (g.E.Sink.taken c.args.err.now) (g.E.Sink.taken c.match-explain_path.err)} (whole w.status-is);
       }
     ]

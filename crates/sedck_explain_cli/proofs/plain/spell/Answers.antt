@@ -1,11 +1,18 @@
 use Rattle.std.proofs.Common.{◌≡◌, ◌≢◌, sym, subst}
 use Rattle.std.specs.Option.{option_map}
 use Rattle.std.specs.Io.KnownBytes.{Keeps, Appends}
-use Rattle.sedck_explanation.specs.Status.{Status, Accepted}
+use Rattle.sedck_explanation.specs.Status.{IsOfAnswer}
+use Rattle.sedck_explanation.specs.declared.status.Status.{Status}
+use Rattle.sedck_explanation.specs.declared.status.Status.TheVariants.{Accepted}
 use Rattle.sedck_formats.specs.Plain.{Output, IsPlainReport}
 use Rattle.sedck_formats.proofs.PlainReports.{plain_output, same_report}
-use Rattle.sedck_explain_cli.proofs.Spelled.{writes_same}
+use Rattle.sedck_explain_cli.proofs.Spelled.{of_answer, writes_same}
 use Rattle.sedck_explain_cli.proofs.plain.spell.Goals as goal
+
+pub returns-in-Ok-clause-few : goal.returns-in-Ok-clause-few
+returns-in-Ok-clause-few g c =
+    subst IsOfAnswer (sym c.in-Ok.ensures.status)
+    (of_answer c.in_ok-explanation.explanation.status c.in_ok-report.status c.in_ok-report.ensures.is_status c.in_ok-explanation.ensures.few)
 
 pub returns-in-Ok-clause-spelled : goal.returns-in-Ok-clause-spelled
 returns-in-Ok-clause-spelled g c =

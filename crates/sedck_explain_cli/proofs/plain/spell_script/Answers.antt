@@ -19,5 +19,8 @@ returns-in-Ok-clause-spelled g c = λ valid whole.
     subst (λ paths. SpellsScript k c.args.session.now.request.now paths out c.in-Ok.status) (sym c.in-Some.ensures) c.in-Ok.ensures.spelled
 
 -- what can't be explained has the status of a failure
+pub returns-in-Err-clause-status : goal.returns-in-Err-clause-status
+returns-in-Err-clause-status g c = λ valid whole. absurd (whole c.report_fault.ensures)
+
 pub returns-in-Err-clause-spelled : goal.returns-in-Err-clause-spelled
 returns-in-Err-clause-spelled g c = λ valid whole. absurd (whole c.report_fault.ensures)

@@ -5,9 +5,25 @@ use Rattle.std.proofs.lemmas.List.Edits.{length-insert}
 use Rattle.sedck_flow.specs.Private.EdgeList.{number, AddsEdge}
 use Rattle.sedck_flow.specs.declared.graph.Node.{Node}
 use Rattle.sedck_flow.specs.declared.graph.Kind.{Kind}
-use Rattle.sedck_flow.proofs.EdgeListLemmas.{adds}
+use Rattle.sedck_flow.proofs.EdgeListLemmas.{number_same, adds, adds_old}
 use Rattle.sedck_flow.proofs.edge_list.EdgeList.with.Goals.{then-loop-at-test+else-number_of-number, else-loop-at-test, else-at-count-via-then-at-count+else-number_of-number-2, else-at-count-via-else-at-count}
 use Rattle.sedck_flow.proofs.edge_list.EdgeList.with.Goals as goal
+
+-- it is there
+pub returns-then-number_of-number-2-clause-edges : goal.returns-then-number_of-number-2-clause-edges
+returns-then-number_of-number-2-clause-edges c =
+    let y : Node × Kind = (c.args.to, c.args.kind) in
+    let n : ℕ = c.self.inside.count in
+    let old = c.self.inside.targets in
+    let below : c.loop-at.at < n = omega arith in
+    let at = ap number (get_or_default old c.loop-at.at y _ (omega (arith, below, c.self.invariant.0, c.self.invariant.1))) in
+    let same = number_same (get_or old c.loop-at.at y) y (at ∙ sym c.number_of-then-at-count.ensures ∙ c.if-number_of-number-2.true ∙ c.number_of-number.ensures) in
+    subst (λ s. AddsEdge c.args.kind c.args.to s (take n old)) c.self.view_is
+    (adds_old y (take n old) (
+      c.loop-at.at,
+      omega (arith, below, length-take-le n old (omega (arith, c.self.invariant.0, c.self.invariant.1))),
+      get_or-take n old c.loop-at.at y below ∙ same,
+    ))
 
 -- it is put where it belongs
 pub returns-clause-edges : goal.returns-clause-edges
