@@ -4,8 +4,8 @@
 RT ?= rt
 PREFIX ?= /usr/local
 
-.PHONY: all build sedck demo try test docs examples rows explain-tests refusals refusals-program streams tools-tests calls-tests wrapper-tests bench planted seds states \
-	changes measures runs-program install dist clean
+.PHONY: all build sedck demo try test docs examples rows explain-tests refusals streams tools-tests calls-tests wrapper-tests bench planted seds states \
+	changes measures probe install dist clean
 
 # One target after the other, also under `make -j`: proofs want all processors and much memory, and tests have limits of time.
 .NOTPARALLEL:
@@ -41,7 +41,7 @@ test: build/refuse.so
 	@echo "Running the gate: every proof from nothing, wrong bodies, the tests and the programs (90 to 200 processor minutes) ..."
 	@python3 tools/gate.py "$(RT)"
 	@$(COPY)
-	@$(MAKE) --no-print-directory -o build -o refusals-program -o runs-program docs rows explain-tests refusals streams tools-tests calls-tests wrapper-tests
+	@$(MAKE) --no-print-directory -o build -o probe docs rows explain-tests refusals streams tools-tests calls-tests wrapper-tests
 	@python3 tools/planted.py "$(RT)" --behind || true
 	@cat build/gate-cost
 
@@ -49,24 +49,21 @@ docs examples: build
 	@echo "Checking the documents: the examples and their certificates, and each command that the pages show ..."
 	sh tests/documents.sh
 
-rows: build refusals-program
+rows: build probe
 	@echo "Running build/sedck on rows of scripts and certificates ..."
-	python3 tests/rows.py build/sedck crates/sedck_refusals/out/sedck_refusals
+	python3 tests/rows.py build/sedck crates/sedck_probe/out/sedck_probe
 
-explain-tests: build runs-program
+explain-tests: build probe
 	@echo "Testing the reports of sedck-explain ..."
 	python3 tests/explain.py build/sedck-explain build/sedck
 	python3 tests/hints.py build/sedck-explain build/sedck
 	python3 tests/fixes.py build/sedck-explain
-	python3 tests/parts.py crates/sedck_runs/out/sedck_runs
+	python3 tests/parts.py crates/sedck_probe/out/sedck_probe
 
-# `sedck_refusals` makes one call twice, also those that sedck doesn't show; the library refuses one request for memory of the program that it is loaded into.
-refusals: build refusals-program build/refuse.so
+# `sedck_probe --twice` makes one call twice, also those that sedck doesn't show; the library refuses one request for memory of the program that it is loaded into.
+refusals: build probe build/refuse.so
 	@echo "Refusing each request for memory in turn ..."
-	python3 tests/refusals.py crates/sedck_refusals/out/sedck_refusals build/sedck build/refuse.so build/sedck-explain
-
-refusals-program:
-	cd crates/sedck_refusals && $(RT) run -- files '#' > /dev/null
+	python3 tests/refusals.py crates/sedck_probe/out/sedck_probe build/sedck build/refuse.so build/sedck-explain
 
 build/refuse.so: tests/refuse.c
 	@mkdir -p build
@@ -107,19 +104,19 @@ planted:
 	python3 tools/planted.py "$(RT)" $(if $(ALL),--all,$(PLANTED))
 
 # More arguments in STATES, such as `--steps 1000000`, `--folder DIR` or `--sed NAME=COMMAND`.
-states: runs-program
+states: probe
 	@echo "Holding every step of every sed that is found against the model (100,000 steps take a few minutes) ..."
-	python3 tests/seds/seds_states.py crates/sedck_runs/out/sedck_runs $(STATES)
+	python3 tests/seds/seds_states.py crates/sedck_probe/out/sedck_probe $(STATES)
 
 measures:
 	python3 tools/measures.py
 
-changes: runs-program
+changes: probe
 	@echo "Holding real seds against changed models (a minute for each change) ..."
-	python3 tests/seds/seds_changes.py crates/sedck_runs/out/sedck_runs --rt "$(RT)"
+	python3 tests/seds/seds_changes.py crates/sedck_probe/out/sedck_probe --rt "$(RT)"
 
-runs-program:
-	cd crates/sedck_runs && $(RT) run -- --places ../../examples/end-mark.sed > /dev/null
+probe:
+	cd crates/sedck_probe && $(RT) run -- --places ../../examples/end-mark.sed > /dev/null
 
 install: build
 	@echo "Installing sedck, sedck-explain, sedck-sed, their manual pages and the pages on loops, faults and calls under $(PREFIX) ..."

@@ -1,5 +1,5 @@
 #!/usr/bin/env python3
-"""Compares the two readers of scripts: python3 tests/parts.py crates/sedck_runs/out/sedck_runs [--scripts N] [--seed SEED]
+"""Compares the two readers of scripts: python3 tests/parts.py crates/sedck_probe/out/sedck_probe [--scripts N] [--seed SEED]
 
 `Reading` of `sedck_advice` knows just enough of the language to say in which part of a script a byte is, also where the text is no script:
 hints, warnings and the holes of calls depend on it. `sedck_script` is proved. It is asked by what it makes of a script that it accepts once

@@ -1,8 +1,8 @@
 """Refuses each request for memory in turn: the first, the second, and so on, until a run meets no refusal.
 
-usage: refusals.py CALLS SEDCK SHIM SEDCK_EXPLAIN
+usage: refusals.py PROBE SEDCK SHIM SEDCK_EXPLAIN
 
-CALLS is crates/sedck_refusals as built, which makes one call twice and prints both answers; SEDCK is the program itself; SHIM is
+PROBE is crates/sedck_probe as built, which makes one call twice and prints both answers; SEDCK is the program itself; SHIM is
 refuse.c as built. The first answer of a call must be out of memory alone, by the name that the call has for it, or the expected
 one; the second, with ample memory, must be the expected one. SEDCK must end with status 4, its line for out of memory and no
 report, or as expected. SEDCK_EXPLAIN must end with status 4, its line for out of memory and the reports of the first scripts, whole, or
@@ -491,7 +491,7 @@ def main():
     jobs = []
     with concurrent.futures.ThreadPoolExecutor(os.cpu_count()) as pool:
         for words, expected, names in calls():
-            jobs.append((words[0], words[1], pool.submit(call_in_turn, made, shim, words, expected, names)))
+            jobs.append((words[0], words[1], pool.submit(call_in_turn, made, shim, ["--twice", *words], expected, names)))
         for words, files, expected in programs():
             job = pool.submit(program_in_turn, sedck, shim, words, files, expected)
             jobs.append((f"sedck {words[0]}", files.get("script", ""), job))

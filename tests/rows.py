@@ -1,5 +1,5 @@
 #!/usr/bin/env python3
-"""Runs sedck on rows of data: python3 tests/rows.py build/sedck crates/sedck_refusals/out/sedck_refusals [--jobs N]
+"""Runs sedck on rows of data: python3 tests/rows.py build/sedck crates/sedck_probe/out/sedck_probe [--jobs N]
 
 The rows are in tests/rows/*.json, a file for each subject, with texts that have names, and tables. A string among a table's rows is a
 remark on the rows after it. What a table has beside its rows holds for each row that doesn't say otherwise. A row has:
@@ -140,7 +140,7 @@ class Rows:
 
     def call(self, call, texts, answer, named):
         """The same of a call by the second program."""
-        status, printed, said = self.run([{"reader": "certificate"}.get(call, call), *texts], program=self.calls)
+        status, printed, said = self.run(["--twice", {"reader": "certificate"}.get(call, call), *texts], program=self.calls)
         parts = re.split(rb"^(?:first|again)\n", printed, flags=re.M)
         if answer == {}:
             due, holds = "no fault", len(parts) == 3 and parts[1] == parts[2] and not parts[1].startswith(b"fault ")

@@ -357,16 +357,16 @@ script.Program script.Names
 script.Spelling script.Items script.Resolution script.Parts script.BracketLists script.Cuts
 bre.Shape bre.Brackets bre.WellFormed text.Classes text.Runs text.Text text.Bytes
 cert.Ranked flow.Flow flow.Nodes script.References bre.Rests
-cert.Certificate cert.Text cert.Versions cert.VersionOne flow.Words flow.VersionOne flow.LiteralKinds
+cert.Certificate cert.Text cert.Versions cert.VersionOne
 cert.Everywhere flow.WideRun bre.WideMatch script.ByteSafe
 cert.Rejections
 cert.Bounds cert.StepLimit flow.Spaces
 text.Cursors model.Spots model.States
-search.Found search.Obstacle search.Rows search.NodeSet search.VersionOne
+search.Found search.Obstacle search.Rows search.NodeSet flow.VersionOne flow.LiteralKinds search.VersionOne
 script.Locations plain.Plain
 script.Faults bre.Faults cert.Faults
 script.FaultWords bre.FaultWords cert.FaultText cli.Lines
-engines.Reports engines.Engines cli.Statuses cli.Causes engines.Faults cert.Streams engines.Inputs engines.Opened
+flow.Words engines.Reports engines.Engines cli.Statuses cli.Causes engines.Faults cert.Streams engines.Inputs engines.Opened
 explanation.Answers explanation.Status explanation.Denial explanation.Explanations explanation.Errors errors.Errors formats.Plain explain_cli.Explained explain_cli.Spelled explain_cli.Statuses calls_in_files.Lines explain_cli.CallStatus explain_cli.Readings explain_cli.Requests explain_cli.Answers report.Positions report.Shown report.Codes report.Levels report.Files report.Reported advice.Slow advice.Concerns advice.Added report.Html report.Ascii
 explanation.Called calls_in_files.Judged calls_in_files.Placed calls_in_files.Scanned origin.Traced origin.Texts call.Words call.Options call.Calls call.Origins call.Scripts
 formats.Names

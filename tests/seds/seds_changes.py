@@ -106,7 +106,7 @@ def written(path, text):
 
 
 def collect(folder, program, seds):
-    """Runs the seds on the telling scripts, and writes what was seen as standard inputs of `sedck_runs`."""
+    """Runs the seds on the telling scripts, and writes what was seen as standard inputs of `sedck_probe`."""
     top = make_top([os.path.abspath(program)])
     become_nobody()
     try:
@@ -148,7 +148,7 @@ class Cases:
         words = shlex.split(rt) + ["try", "--cases", self.folder]
         for number in range(len(SCRIPTS)):
             words += ["--data", "%02d.sed=%s" % (number, os.path.join(self.scripts, "%02d.sed" % number))]
-        done = subprocess.run(words, cwd=os.path.join(crates, "sedck_runs"), stdin=subprocess.DEVNULL, stdout=subprocess.PIPE,
+        done = subprocess.run(words, cwd=os.path.join(crates, "sedck_probe"), stdin=subprocess.DEVNULL, stdout=subprocess.PIPE,
                               stderr=subprocess.PIPE, encoding="utf-8")
         parts = {int(part[4:6]): part for part in re.split(r"^== ", done.stdout, flags=re.M)[1:]}
         if sorted(parts) != list(range(len(SCRIPTS))) or not all(re.search(r"^\d+ runs, ", part, re.M) for part in parts.values()):

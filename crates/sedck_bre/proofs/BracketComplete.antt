@@ -4,9 +4,9 @@ use Rattle.std.specs.Prelude.{◌==◌, ◌&&◌, ◌||◌, ◌⊎◌, not, nat_
 use Rattle.std.proofs.lemmas.Bool.{false≢true, eqb-true, not-true}
 use Rattle.std.proofs.lemmas.Bool.Decides.{nat_tests}
 use Rattle.sedck_text.specs.Text.{begins}
-use Rattle.sedck_bre.specs.Brackets.{Class, upper, lower, alpha, digit, alnum, xdigit, space, blank, punct, graph, print, cntrl, class_name, Element, One, Range, Members, is_bare, WritesByte, begins_range, WritesElement}
+use Rattle.sedck_bre.specs.Brackets.{Class, upper, lower, alpha, digit, alnum, xdigit, space, blank, punct, graph, print, cntrl, Element, One, Range, Members, is_bare, WritesByte, begins_range, WritesElement}
 use Rattle.sedck_bre.specs.Private.Reading.{◌>>=◌}
-use Rattle.sedck_bre.specs.Private.BracketReading.{symbol_at, byte_at, ranges, no_range, class_from, classes, one, range_to, range_or_one, element_at}
+use Rattle.sedck_bre.specs.Private.BracketReading.{symbol_at, byte_at, ranges, no_range, class_from, classes, one, range_to, range_or_one, element_at, class_name}
 use Rattle.sedck_bre.proofs.BracketLemmas.{plain_before, plain_open, plain_back, range_behind, other_than}
 
 -- ---- One byte

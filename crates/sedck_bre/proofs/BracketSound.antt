@@ -5,9 +5,9 @@ use Rattle.std.specs.List.{starts_with}
 use Rattle.std.proofs.lemmas.Bool.{false≢true, eqb-true}
 use Prim.Native.String.{String}
 use Rattle.sedck_text.specs.Text.{begins}
-use Rattle.sedck_bre.specs.Brackets.{Class, class_name, Element, One, Range, Members, is_bare, WritesByte, begins_range, IsInPlace, WritesElement, WritesElements}
+use Rattle.sedck_bre.specs.Brackets.{Class, Element, One, Range, Members, is_bare, WritesByte, begins_range, IsInPlace, WritesElement, WritesElements}
 use Rattle.sedck_bre.specs.Private.Reading.{◌>>=◌}
-use Rattle.sedck_bre.specs.Private.BracketReading.{symbol_at, byte_at, ranges, no_range, class_from, classes, one, range_to, range_or_one, element_at, before_elements, others, elements_at}
+use Rattle.sedck_bre.specs.Private.BracketReading.{symbol_at, byte_at, ranges, no_range, class_from, classes, one, range_to, range_or_one, element_at, before_elements, others, elements_at, class_name}
 use Rattle.sedck_bre.proofs.ReadLemmas.{bind_holds, cond_holds, and_left, nat_le_of}
 use Rattle.sedck_bre.proofs.BracketLemmas.{one_front, plain_before, open_plain, back_plain, is_closing_front, range_before, than_other}
 

@@ -3,8 +3,8 @@ use Rattle.std.proofs.Common.{◌≡◌, ℕ, zero, suc, ◌+◌, ◌<◌, Bool,
 use Rattle.std.specs.Prelude.{nat_eq, codes}
 use Rattle.std.specs.List.{starts_with}
 use Rattle.sedck_bre.specs.Brackets as brackets
-use Rattle.sedck_bre.specs.Brackets.{class_name, Members}
-use Rattle.sedck_bre.specs.Private.BracketReading.{class_from}
+use Rattle.sedck_bre.specs.Brackets.{Members}
+use Rattle.sedck_bre.specs.Private.BracketReading.{class_from, class_name}
 use Rattle.sedck_bre.specs.Private.BracketCode.{class_of, closed_name, behind_name}
 use Rattle.sedck_bre.specs.declared.brackets.elements.Class.{Class}
 

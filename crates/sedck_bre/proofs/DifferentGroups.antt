@@ -6,10 +6,10 @@ use Rattle.std.proofs.lemmas.Bool.Decides.{nat_tests}
 use Rattle.sedck_bre.specs.Tree.{Tree, Trees, Byte, Any, Set, Start, End, Maybe, Group, Ref, Seq, Repeat, Nil, Then, groups_in, groups_in_all, is_in}
 use Rattle.sedck_bre.specs.Match.{Groups, no_groups}
 use Rattle.sedck_bre.specs.WideMatch.{WideMatch}
-use Rattle.sedck_bre.specs.WellFormed.{CountsFrom, IsWellFormed}
+use Rattle.sedck_bre.specs.WellFormed.{IsWellFormed}
 use Rattle.sedck_bre.specs.Rests.{is_item, is_top_group, texts_length, HasRest, IsLeastRest}
-use Rattle.sedck_bre.specs.Private.Bounds.{no_bounds, least, after_all, outside_picked}
-use Rattle.sedck_bre.proofs.LeastLemmas.{CountsFrom-right}
+use Rattle.sedck_bre.specs.Private.Bounds.{no_bounds, least, after_all, outside_picked, CountsFrom}
+use Rattle.sedck_bre.proofs.LeastLemmas.{CountsFrom-right, are_numbered}
 use Rattle.sedck_bre.proofs.LeastFloor.{floor_all, wide-floor}
 use Rattle.sedck_bre.proofs.LeastReached.{least-met}
 use Rattle.sedck_bre.proofs.NamedSums.{item_sum, items_sum, without, items_sum-below, items_sum-grows, later_item}
@@ -131,11 +131,11 @@ items_met ts f ks top =
     let e = shortest.1.0 in
     let m = shortest.1.1 in
     let wide = widens (Seq ts) no_groups w e m in
-    let long = (floor_all ts 1 no_bounds f.numbered (λ k l. refl) no_groups e w (λ k. omega arith) wide).1 in
-    let low = items_floor ts f.numbered ks top w e wide in
-    let cut = outside-split (listed ks) ts 1 no_bounds f.numbered in
+    let long = (floor_all ts 1 no_bounds (are_numbered (Seq ts) f) (λ k l. refl) no_groups e w (λ k. omega arith) wide).1 in
+    let low = items_floor ts (are_numbered (Seq ts) f) ks top w e wide in
+    let cut = outside-split (listed ks) ts 1 no_bounds (are_numbered (Seq ts) f) in
     let more = items_sum-grows (listed ks) (after_all no_bounds ts) (lengths e) ts long in
-    let same = texts_items e ts f.numbered ks top in
+    let same = texts_items e ts (are_numbered (Seq ts) f) ks top in
     (w, e, m, omega (arith, shortest.2, low, cut, more, same))
 
 no_items : (t : Tree) (ks : List ℕ) → ((k : ℕ) → is_top_group t k ≡ false) → AreDifferentTopGroups t ks → ks ≡ []
@@ -151,14 +151,14 @@ whole_rest t f none ks top =
     let shortest = least-met t f in (
       least no_bounds t,
       (
-        λ w e m. omega (arith, wide-floor t w e f.numbered m, zero e),
+        λ w e m. omega (arith, wide-floor t w e (are_numbered t f) m, zero e),
         (shortest.0, shortest.1.0, shortest.1.1, omega (arith, shortest.2, zero shortest.1.0)),
       ),
     )
 
 -- the least rest of a match, which no wide match is below
 pub wide_rest_of : (t : Tree) → IsWellFormed t → (ks : List ℕ) → AreDifferentTopGroups t ks → (n : ℕ) × HasWideFloor t ks n
-wide_rest_of (Seq ts) f ks top = (outside_picked (listed ks) no_bounds ts, (items_floor ts f.numbered ks top, items_met ts f ks top))
+wide_rest_of (Seq ts) f ks top = (outside_picked (listed ks) no_bounds ts, (items_floor ts (are_numbered (Seq ts) f) ks top, items_met ts f ks top))
 wide_rest_of (Byte b) f ks top = whole_rest (Byte b) f (λ k. refl) ks top
 wide_rest_of Any f ks top = whole_rest Any f (λ k. refl) ks top
 wide_rest_of (Set words) f ks top = whole_rest (Set words) f (λ k. refl) ks top

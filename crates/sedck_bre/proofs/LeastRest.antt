@@ -9,11 +9,11 @@ use Rattle.sedck_bre.specs.Tree.{Tree, Trees, Byte, Any, Set, Start, End, Maybe,
 use Rattle.sedck_bre.specs.Match.{Groups, no_groups, text_of, with_text}
 use Rattle.sedck_bre.specs.WideMatch.{WideMatch, WideMatchAll}
 use Rattle.sedck_bre.proofs.MatchIsWide.{widens}
-use Rattle.sedck_bre.specs.WellFormed.{CountsFrom, IsWellFormed}
+use Rattle.sedck_bre.specs.WellFormed.{IsWellFormed}
 use Rattle.sedck_bre.specs.Rests.{names, named, NamesTopGroups, texts_length, HasRest, IsLeastRest}
-use Rattle.sedck_bre.specs.Private.Bounds.{Bounds, no_bounds, least, after, least_all, after_all, own_beside, outside_picked, outside}
+use Rattle.sedck_bre.specs.Private.Bounds.{Bounds, no_bounds, least, after, least_all, after_all, own_beside, outside_picked, outside, CountsFrom}
 use Rattle.sedck_bre.specs.Lengths.{cap, IsLeastSize, HasLength}
-use Rattle.sedck_bre.proofs.LeastLemmas.{CountsFrom-left, CountsFrom-right, FreshFrom, after-fresh, after_all-below, with_bound-same}
+use Rattle.sedck_bre.proofs.LeastLemmas.{CountsFrom-left, CountsFrom-right, FreshFrom, after-fresh, after_all-below, with_bound-same, are_numbered}
 use Rattle.sedck_bre.proofs.LeastFloor.{Reaches, floor, floor_all, wide-floor}
 use Rattle.sedck_bre.proofs.LeastReached.{least-met}
 use Rattle.sedck_bre.proofs.UntouchedGroups.{all_leave}
@@ -126,18 +126,18 @@ rest-met bits ts f top =
     let e = shortest.1.0 in
     let m = shortest.1.1 in
     let wide = widens (Seq ts) no_groups w e m in
-    let long = (floor_all ts 1 no_bounds f.numbered (λ k l. refl) no_groups e w (λ k. omega arith) wide).1 in
-    let low = rest-floor bits ts f.numbered top w e wide in
-    let cut = outside-split (names bits) ts 1 no_bounds f.numbered in
+    let long = (floor_all ts 1 no_bounds (are_numbered (Seq ts) f) (λ k l. refl) no_groups e w (λ k. omega arith) wide).1 in
+    let low = rest-floor bits ts (are_numbered (Seq ts) f) top w e wide in
+    let cut = outside-split (names bits) ts 1 no_bounds (are_numbered (Seq ts) f) in
     let more = items_sum-grows (names bits) (after_all no_bounds ts) (lengths e) ts long in
-    let same = named-sum bits ts f.numbered top e in
+    let same = named-sum bits ts (are_numbered (Seq ts) f) top e in
     (w, e, m, omega (arith, shortest.2, low, cut, more, same))
 
 -- outside of no group, the rest is the length
 pub whole-floor : (bits : ℕ) (t : Tree) → IsWellFormed t → ((k : ℕ) → names bits k ≡ true → ⊥) → (w : List ℕ) (e : Groups)
     → WideMatch t no_groups w e → least no_bounds t + texts_length e (named bits) ≤ length w
 whole-floor bits t f none w e m =
-    let low = wide-floor t w e f.numbered m in
+    let low = wide-floor t w e (are_numbered t f) m in
     let zero = none-named bits none e in
     omega (arith, low, zero)
 
@@ -161,7 +161,7 @@ whole-rest : (bits : ℕ) (t : Tree) → IsWellFormed t → ((k : ℕ) → names
 whole-rest bits t f none = (least no_bounds t, (whole-floor bits t f none, whole-met bits t f none))
 
 wide_rests : (t : Tree) → IsWellFormed t → (bits : ℕ) → NamesTopGroups t bits → (n : ℕ) × HasWideFloor t (named bits) n
-wide_rests (Seq ts) f bits top = (outside bits no_bounds ts, (rest-floor bits ts f.numbered top, rest-met bits ts f top))
+wide_rests (Seq ts) f bits top = (outside bits no_bounds ts, (rest-floor bits ts (are_numbered (Seq ts) f) top, rest-met bits ts f top))
 wide_rests (Byte b) f bits top = whole-rest bits (Byte b) f (λ k s. false≢true (top k s).2)
 wide_rests Any f bits top = whole-rest bits Any f (λ k s. false≢true (top k s).2)
 wide_rests (Set words) f bits top = whole-rest bits (Set words) f (λ k s. false≢true (top k s).2)
@@ -193,7 +193,7 @@ least-outside t ts bits n is f top found =
   where
     of_items : IsWellFormed (Seq ts) → NamesTopGroups (Seq ts) bits → IsLeastSize (HasRest (Seq ts) (named bits)) n
     of_items formed tops = record {
-      floor = λ m (w, e, matches, rest). let low = rest-floor bits ts formed.numbered tops w e (widens (Seq ts) no_groups w e matches) in omega (arith, low, rest, found);
+      floor = λ m (w, e, matches, rest). let low = rest-floor bits ts (are_numbered (Seq ts) formed) tops w e (widens (Seq ts) no_groups w e matches) in omega (arith, low, rest, found);
       met = λ l.
           let same : outside bits no_bounds ts ≡ n = omega (arith, found, l) in
           subst (HasRest (Seq ts) (named bits)) same (rest-met bits ts formed tops);

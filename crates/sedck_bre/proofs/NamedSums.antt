@@ -5,7 +5,7 @@ use Rattle.std.proofs.lemmas.Bool.{false≢true}
 use Rattle.std.proofs.lemmas.Bool.Decides.{nat_tests}
 use Rattle.sedck_bre.specs.Tree.{Tree, Trees, Byte, Any, Set, Start, End, Maybe, Group, Ref, Seq, Repeat, Nil, Then, groups_in, groups_in_all}
 use Rattle.sedck_bre.specs.Match.{Groups, text_of}
-use Rattle.sedck_bre.specs.WellFormed.{CountsFrom}
+use Rattle.sedck_bre.specs.Private.Bounds.{CountsFrom}
 use Rattle.sedck_bre.specs.Rests.{is_item, texts_length}
 use Rattle.sedck_bre.proofs.LeastLemmas.{CountsFrom-left, CountsFrom-right}
 

@@ -5,7 +5,7 @@ use Rattle.std.proofs.lemmas.Bool.Decides.{nat_tests}
 use Rattle.sedck_bre.specs.Tree.{Tree, Trees, Byte, Any, Set, Start, End, Maybe, Group, Ref, Seq, Repeat, Nil, Then, groups_in, groups_in_all, is_in}
 use Rattle.sedck_bre.specs.Match.{Groups, with_text, unset, Times}
 use Rattle.sedck_bre.specs.WideMatch.{WideMatch, WideMatchAll}
-use Rattle.sedck_bre.specs.WellFormed.{CountsFrom}
+use Rattle.sedck_bre.specs.Private.Bounds.{CountsFrom}
 use Rattle.sedck_bre.proofs.LeastLemmas.{CountsFrom-left, CountsFrom-right, in_row}
 
 -- a match leaves the group's text as it was

@@ -5,10 +5,10 @@ use Rattle.std.proofs.Math.Seq.{take-append_seam}
 use Rattle.std.proofs.lemmas.Bool.{false≢true, eqb-true}
 use Rattle.sedck_text.specs.Text.{begins}
 use Rattle.sedck_bre.specs.Tree.{bytes_where}
-use Rattle.sedck_bre.specs.Brackets.{class_name, Element, One, Range, Members, WritesByte, WritesElement, WritesElements, opening, is_mistakable, is_listed, IsBracketList}
+use Rattle.sedck_bre.specs.Brackets.{Element, One, Range, Members, WritesByte, WritesElement, WritesElements, is_mistakable, is_listed, IsBracketList}
 use Rattle.sedck_bre.specs.Shape.{is_empty}
 use Rattle.sedck_bre.specs.Private.Reading.{◌>>=◌}
-use Rattle.sedck_bre.specs.Private.BracketReading.{element_at, before_elements, others, elements_at, some_of, inside_of, clear_of, set_of, elements_of, set_at, inside_at, bracket_at}
+use Rattle.sedck_bre.specs.Private.BracketReading.{element_at, before_elements, others, elements_at, some_of, inside_of, clear_of, set_of, elements_of, set_at, inside_at, bracket_at, class_name, opening}
 use Rattle.sedck_bre.proofs.ReadLemmas.{bind_holds, cond_holds}
 use Rattle.sedck_bre.proofs.BracketLemmas.{one_front, begins_before, is_closing_front}
 use Rattle.sedck_bre.proofs.BracketSound.{AreElementsBefore, elements_take, written_front}

@@ -11,11 +11,11 @@ use crate::outside::{has_group, least_outside_of};
 use std::marker::Model;
 
 /// A set of bytes: byte b is bit b mod 64 of word b / 64.
-#[derive(Debug, Clone, Copy, PartialEq, Eq)]
+#[derive(Clone, Copy, PartialEq, Eq)]
 pub struct ByteSet(pub [u64; 4]);
 
 /// A basic regular expression as a tree.
-#[derive(Debug, Drop)]
+#[derive(Drop)]
 pub enum Bre {
     Byte(u8),
     Any,
@@ -34,7 +34,7 @@ pub enum Bre {
 }
 
 /// A well formed expression.
-#[derive(Debug, Drop)]
+#[derive(Drop)]
 pub struct Expr {
     body: Bre,
     groups: u8,

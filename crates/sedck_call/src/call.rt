@@ -9,7 +9,7 @@ use crate::option::CallOption;
 use std::alloc::{AllocError, Global};
 
 /// A part of a script.
-#[derive(Clone, Copy, Debug, PartialEq, Eq)]
+#[derive(Clone, Copy)]
 pub enum Piece {
     /// This text.
     Text(Origin),
@@ -29,7 +29,7 @@ pub struct Call {
 }
 
 /// Why words are no call of sed.
-#[derive(Clone, Copy, Debug, PartialEq, Eq, Drop)]
+#[derive(Clone, Copy, Drop)]
 pub enum CallFault {
     /// No sed takes the word of this number, from 0, or it is an option that lacks its argument.
     BadWord(usize),

@@ -11,7 +11,7 @@ use crate::option::{CallOption, Taken};
 use std::alloc::{AllocError, Global};
 
 /// The end of a word, from one of its bytes on.
-#[derive(Clone, Copy, Debug, PartialEq, Eq)]
+#[derive(Clone, Copy)]
 pub struct Origin {
     /// The word's number, from 0.
     pub word: usize,
@@ -32,7 +32,7 @@ impl Origin {
 }
 
 /// What a word gives.
-#[derive(Clone, Copy, Debug, PartialEq, Eq)]
+#[derive(Clone, Copy)]
 pub enum Given {
     /// An option alone, in the word of this number.
     Alone(CallOption, usize),

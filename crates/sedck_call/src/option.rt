@@ -6,7 +6,7 @@ ghost use Rattle.sedck_call.specs.Options.{taken_by, short_option, long_option, 
 use crate::names::abbreviates;
 
 /// An option of a sed, however it is spelled.
-#[derive(Clone, Copy, Debug, PartialEq, Eq)]
+#[derive(Clone, Copy)]
 pub enum CallOption {
     /// `-n`: lines are printed by commands alone.
     Quiet,
@@ -47,7 +47,7 @@ pub enum CallOption {
 }
 
 /// What an option takes.
-#[derive(Clone, Copy, Debug, PartialEq, Eq)]
+#[derive(Clone, Copy, PartialEq, Eq)]
 pub enum Taken {
     Nothing,
     /// The rest of its word or, where it has none, the next word.

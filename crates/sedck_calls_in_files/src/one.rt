@@ -27,7 +27,7 @@ use std::alloc::{AllocError, Global};
 use std::io::Input;
 
 /// Where a call is, as reports have it: by the line and perhaps the column of its command's name, from 1.
-#[derive(Clone, Copy, Debug, PartialEq, Eq)]
+#[derive(Clone, Copy)]
 pub struct At {
     pub line: usize,
     pub column: Option<usize>,

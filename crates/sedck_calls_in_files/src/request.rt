@@ -6,7 +6,7 @@ use sedck_hosts::Kind;
 use std::alloc::Global;
 
 /// How the reports of a scan look.
-#[derive(Clone, Copy, Debug, PartialEq, Eq)]
+#[derive(Clone, Copy, PartialEq, Eq)]
 pub enum Look {
     /// For people, in colours of ANSI terminals or without.
     Text { colour: bool },

@@ -17,7 +17,7 @@ use Rattle.sedck_cert.specs.Ranked.{ranks_at, MeetsEdge, IsRanked}
 use Rattle.sedck_cert.specs.Private.Checking.{IsUnmetBy, IsFirstUnmetOf, MeetsAll, JudgesEdges}
 use Rattle.sedck_cert.specs.Rejections.{IsStarted, IsFirstUnmet, IsRejection}
 use Rattle.sedck_cert.specs.declared.checking.Rejection.{Rejection}
-use Rattle.sedck_cert.specs.declared.checking.Rejection.TheVariants.{WrongCount, StartUnranked, LeavesRanked, NotLowered, ReadsDiffer, WritesDiffer}
+use Rattle.sedck_cert.specs.declared.checking.Rejection.TheVariants.{LeavesRanked, NotLowered}
 
 -- the edges are these, in order, of which the first are met
 pub record IsUpTo (c : Certificate) (IsEdge : Edge → Type 0) (done coming : List Edge) : Type 0 where
@@ -118,10 +118,6 @@ first_unmet p c e is_edge unmet earlier = record { is_edge = is_edge; unmet = un
 
 -- after count and start, the first edge that isn't met is what is rejected
 pub edge_rejection : (p : Program) (c : Certificate) (why : Rejection) → IsStarted p c → IsFirstUnmetOf c (Flow p) why → IsRejection p c why
-edge_rejection p c WrongCount started h = absurd h.unmet
-edge_rejection p c StartUnranked started h = absurd h.unmet
-edge_rejection p c ReadsDiffer started h = absurd h.unmet
-edge_rejection p c WritesDiffer started h = absurd h.unmet
 edge_rejection p c (LeavesRanked e) started h =
     let is : e ≡ h.edge = h.unmet.0 in
     (started, subst (IsFirstUnmet p c) (sym is) (first_unmet p c h.edge h.is_edge h.unmet.1 h.earlier), ap (λ (f : Edge). ranks_at c f.to) is ∙ h.unmet.2)
@@ -131,3 +127,4 @@ edge_rejection p c (NotLowered e) started h =
       subst (IsFirstUnmet p c) (sym is) (first_unmet p c h.edge h.is_edge h.unmet.1 h.earlier),
       λ none. h.unmet.2 (sym (ap (λ (f : Edge). ranks_at c f.to) is) ∙ none),
     )
+edge_rejection p c why started h = absurd h.unmet

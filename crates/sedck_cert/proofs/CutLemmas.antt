@@ -4,14 +4,11 @@ use Rattle.std.specs.Fmt.{decimal}
 use Rattle.std.specs.Int.{IsInRange}
 use Rattle.std.proofs.lemmas.List.Elements.{All-contains, All-from_get_or}
 use Rattle.std.specs.Borrow.{Bor}
-use Rattle.std.specs.Prelude.{Bool, true, false, if◌then◌else◌}
-use Rattle.std.proofs.lemmas.Fmt.{decimal_digit}
-use Rattle.sedck_flow.specs.Words.{flag_text}
 use Rattle.std.proofs.lemmas.List.{append_cancel_left}
 use Rattle.sedck_script.proofs.SortedNames.{Contains-cons_more}
 use Rattle.sedck_cert.specs.Certificate.{AreWithin}
 use Rattle.sedck_cert.specs.Text.{ranks_text}
-use Rattle.sedck_cert.specs.Private.Cuts.{IsCut}
+use Rattle.sedck_cert.specs.Private.Cuts.{IsCut, IsBehind}
 use Rattle.sedck_cert.proofs.Decimals.{decimal-digit}
 
 -- two cuts of one text at one byte
@@ -64,38 +61,20 @@ words_on text a b mid rest is more = is ∙ ap (λ t. a ++ 32 ∷ t) more ∙ si
 words_apart : (text a b rest : List ℕ) → text ≡ (a ++ codes " " ++ b) ++ 32 ∷ rest → text ≡ a ++ 32 ∷ (b ++ 32 ∷ rest)
 words_apart text a b rest is = is ∙ simp append_assoc
 
--- what follows the word
-abbrev pub FindsBehind : List ℕ → List ℕ → Option (Bor (List ℕ)) → Type 0
-FindsBehind text word r = MatchOption r ((rest : List ℕ) → text ≡ word ++ 32 ∷ rest → ⊥) (λ rest. text ≡ word ++ 32 ∷ rest.now)
-
--- no first word, so not both
-pub first_missing : (text a b : List ℕ) → ((rest : List ℕ) → text ≡ a ++ 32 ∷ rest → ⊥) → (rest : List ℕ) → text ≡ (a ++ codes " " ++ b) ++ 32 ∷ rest → ⊥
-first_missing text a b none rest is = none (b ++ 32 ∷ rest) (words_apart text a b rest is)
-
 -- after the first word, the second
-pub behind_both : (text a b mid : List ℕ) (r : Option (Bor (List ℕ))) → text ≡ a ++ 32 ∷ mid → FindsBehind mid b r → FindsBehind text (a ++ codes " " ++ b) r
+pub behind_both : (text a b mid : List ℕ) (r : Option (Bor (List ℕ))) → text ≡ a ++ 32 ∷ mid → IsBehind mid b r → IsBehind text (a ++ codes " " ++ b) r
 behind_both text a b mid None is h = λ rest e.
     let same : 32 ∷ mid ≡ 32 ∷ (b ++ 32 ∷ rest) = append_cancel_left a (32 ∷ mid) (32 ∷ (b ++ 32 ∷ rest)) (sym is ∙ words_apart text a b rest e) in
     h rest cc
 behind_both text a b mid (Some rest) is h = words_on text a b mid rest.now is h
 
--- a flag is one digit
-pub flag_text-digit : (flag : Bool) → flag_text flag ≡ decimal (if flag then 1 else 0)
-flag_text-digit true = sym (decimal_digit 1 (omega arith))
-flag_text-digit false = sym (decimal_digit 0 (omega arith))
-
 -- the number in front of the first space
 pub front_of_number : (text front more rest : List ℕ) (n : ℕ) → n < 2 ^ 64 → IsCut 32 text front more → text ≡ decimal n ++ 32 ∷ rest → front ≡ decimal n
 front_of_number text front more rest n small cut is = (decimal-cut text front more rest n 32 small (omega arith) cut is).0
 
--- the ranks after the words
-pub ranks_behind : (text words rest : List ℕ) (r : Option (Option (ℕ × ℕ))) → text ≡ words ++ 32 ∷ rest
-    → MatchOption r ((ranks : Option (ℕ × ℕ)) → AreWithin ranks → rest ≡ ranks_text ranks → ⊥) (λ ranks. AreWithin ranks × (rest ≡ ranks_text ranks))
-    → MatchOption r ((ranks : Option (ℕ × ℕ)) → AreWithin ranks → text ≡ words ++ codes " " ++ ranks_text ranks → ⊥)
-    (λ ranks. AreWithin ranks × (text ≡ words ++ codes " " ++ ranks_text ranks))
-ranks_behind text words rest None is h = λ ranks within e.
-    let same : 32 ∷ rest ≡ 32 ∷ ranks_text ranks =
-    append_cancel_left words (32 ∷ rest) (32 ∷ ranks_text ranks) (sym is ∙ e ∙ append_assoc words (codes " ") (ranks_text ranks)) in
-    h ranks within cc
-ranks_behind text words rest (Some ranks) is h =
-    (h.0, is ∙ ap (λ t. words ++ 32 ∷ t) h.1 ∙ sym (append_assoc words (codes " ") (ranks_text ranks)))
+-- a value by the rest of the text is one by the whole text
+pub read_behind : {V : Type 0} (Good : V → Type 0) (told : V → List ℕ) (text front rest : List ℕ) (r : Option V) → text ≡ front ++ rest
+    → MatchOption r ((v : V) → Good v → rest ≡ told v → ⊥) (λ v. Good v × (rest ≡ told v))
+    → MatchOption r ((v : V) → Good v → text ≡ front ++ told v → ⊥) (λ v. Good v × (text ≡ front ++ told v))
+read_behind Good told text front rest None is h = λ v good same. h v good (append_cancel_left front rest (told v) (sym is ∙ same))
+read_behind Good told text front rest (Some v) is h = (h.0, is ∙ ap (λ t. front ++ t) h.1)

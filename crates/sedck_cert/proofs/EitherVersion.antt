@@ -1,17 +1,14 @@
 -- Texts of either version: one certificate at most, and none where the version that the text names has none.
-use Rattle.std.proofs.Common.{◌≡◌, ◌⊎◌, inl, inr, ℕ, List, get_or, Bool, true, false, Result, Ok, Err, IfOk, IfErr, arith, sym, ◌∙◌, ap, subst}
+use Rattle.std.proofs.Common.{◌≡◌, ◌⊎◌, inl, inr, ℕ, List, get_or, Bool, true, false, Result, Ok, Err, IfOk, IfErr, arith, sym, ◌∙◌, ap, refl}
 use Rattle.sedck_cert.specs.Certificate.{Certificate}
 use Rattle.sedck_cert.specs.Text.{header, IsTextOf}
 use Rattle.sedck_cert.specs.VersionOne.{upgraded}
 use Rattle.sedck_cert.specs.Versions.{SpellsCertificate, SaysVersionOne, IsFaultIn}
-use Rattle.sedck_cert.specs.Faults.{IsFaultOf}
 use Rattle.std.specs.Bool.{OnTrue, OnFalse}
 use Rattle.std.specs.Prelude.{IsTrue, ◌↔◌}
-use Rattle.std.proofs.Common.{refl}
 use Rattle.sedck_cert.specs.Private.Cuts.{IsCut}
 use Rattle.sedck_cert.specs.Private.Reading.{IsNext}
 use Rattle.sedck_cert.specs.declared.reading.lines.Lines.{Lines}
-use Rattle.sedck_cert.specs.declared.versions.Version.{Version}
 use Rattle.sedck_cert.specs.declared.versions.Version.TheVariants.{One, Two}
 use Rattle.sedck_cert.specs.declared.reading.CertFault.{CertFault}
 use Rattle.sedck_cert.specs.declared.reading.CertFault.TheVariants.{OutOfMemory}
@@ -19,6 +16,7 @@ use Rattle.sedck_cert.proofs.LineLemmas.{line-behind}
 use Rattle.sedck_cert.proofs.LinesAreText.{header-one_line}
 use Rattle.sedck_cert.proofs.Pieces.{header_first}
 use Rattle.sedck_cert.proofs.UniqueTexts.{lines_one, text_of_one}
+use Rattle.sedck_cert.proofs.WholeReading.{IsRefusedIn}
 
 -- ---- The version that a text names
 
@@ -35,20 +33,15 @@ two_silent text c h says =
     let rest = header_first Two c in
     headers_differ (lines_one (header One) (header Two) says.0 rest.0 (header-one_line One) (header-one_line Two) (sym says.1 ∙ h.is_text ∙ rest.1)).0
 
--- the first line, cut from the rest
-pub says_by_cut : (text rest : List ℕ) → IsCut 10 text (header One) rest → SaysVersionOne text
-says_by_cut text rest cut = (rest, cut.is_text ∙ sym (line-behind (header One) rest))
-
-pub cut_of_says : (text : List ℕ) (says : SaysVersionOne text) → IsCut 10 text (header One) says.0
-cut_of_says text says = record { none = header-one_line One; is_text = says.1 ∙ line-behind (header One) says.0 }
-
 -- what the test of the first line finds
 pub says_by_test : (text : List ℕ) (r : Bool) (old new : Lines) → old.rest.now ≡ text → OnTrue r (IsNext old (header One) new)
     → OnFalse r ((more : List ℕ) → IsCut 10 old.rest.now (header One) more → ⊥) → IsTrue r ↔ SaysVersionOne text
 says_by_test text true old new is same other =
-    (λ yes. says_by_cut text new.rest.now (subst (λ t. IsCut 10 t (header One) new.rest.now) is same.cut), λ says. refl)
-says_by_test text false old new is same other =
-    (λ yes. absurd (let h : false ≡ true = yes in cc), λ says. absurd (other says.0 (subst (λ t. IsCut 10 t (header One) says.0) (sym is) (cut_of_says text says))))
+    (λ yes. (new.rest.now, sym is ∙ same.cut.is_text ∙ sym (line-behind (header One) new.rest.now)), λ says. refl)
+says_by_test text false old new is same other = (
+  λ yes. absurd (let h : false ≡ true = yes in cc),
+  λ says. absurd (other says.0 (record { none = header-one_line One; is_text = is ∙ says.1 ∙ line-behind (header One) says.0 })),
+)
 
 -- ---- One certificate
 
@@ -59,10 +52,6 @@ spelled_one text c d (inr h) (inl k) = absurd (two_silent text d k (one_says tex
 spelled_one text c d (inr h) (inr k) = k.2 ∙ ap upgraded (text_of_one One text h.0 k.0 h.1 k.1) ∙ sym h.2
 
 -- ---- No certificate
-
--- what the readers of one version say of a text that they refuse
-abbrev pub IsRefusedIn : Version → List ℕ → CertFault → Type 0
-IsRefusedIn v text fault = (fault ≡ OutOfMemory) ⊎ (((other : Certificate) → ¬ IsTextOf v text other) × IsFaultOf v text fault)
 
 abbrev pub IsRefusedInAny : List ℕ → CertFault → Type 0
 IsRefusedInAny text fault = (fault ≡ OutOfMemory) ⊎ (((other : Certificate) → ¬ SpellsCertificate text other) × IsFaultIn text fault)

@@ -5,10 +5,8 @@ pub mod NameLimits
 pub mod WholeReading
 pub mod UniqueTexts
 pub mod LinesAreText
-pub mod NameLines
-pub mod NodeLines
+pub mod DueLines
 pub mod LineLemmas
-pub mod WordLemmas
 pub mod CutLemmas
 pub mod RanksBoundRuns
 pub mod SteadyRunsCounted
@@ -16,8 +14,6 @@ pub mod Promise
 pub mod NamesListed
 pub mod CheckingLemmas
 pub mod BoundingLemmas
-pub mod SameNames
-pub mod Streaming
 pub mod TextLength
 pub mod Upgraded
 pub mod UpgradeLaw

@@ -1,10 +1,9 @@
 -- How one line is read or refused, and lines after lines.
-use Rattle.std.proofs.Common.{◌≡◌, ℕ, ◌+◌, List, [], ◌∷◌, ◌++◌, Contains, ◌≤◌, decimal, Option, Some, None, MatchOption, IfErr, append_assoc, append-nil, refl, sym, ◌∙◌, ap, subst, arith}
-use Rattle.std.proofs.Common.{length-append}
+use Rattle.std.proofs.Common.{◌≡◌, ℕ, ◌+◌, List, [], ◌∷◌, ◌++◌, Contains, ◌≤◌, decimal, Option, Some, None, MatchOption, IfErr, append_assoc, append-nil, refl, sym, ◌∙◌, ap, subst, arith, length-append}
 use Rattle.std.specs.Option.{ok_or}
-use Rattle.sedck_cert.specs.Text.{line}
+use Rattle.sedck_cert.specs.Text.{line, joined_lines}
 use Rattle.sedck_cert.specs.declared.versions.Version.{Version}
-use Rattle.sedck_cert.specs.Faults.{Due, IsDue, AreDue, IsWrong, IsRefused, fault_at, joined_lines}
+use Rattle.sedck_cert.specs.Faults.{Due, IsDue, AreDue, IsWrong, IsRefused, fault_at}
 use Rattle.sedck_cert.specs.Private.Cuts.{IsCut}
 use Rattle.sedck_cert.specs.Private.Reading.{IsNext, Leads, Stops}
 use Rattle.sedck_cert.specs.declared.reading.lines.Lines.{Lines}
@@ -49,13 +48,10 @@ wrong_count v due rest word told none = wrong_cuts v due rest (λ text more next
     none h.0 h.1 more (subst (λ t. IsCut 10 rest t more) h.2 cut))
 
 -- what is refused where there is no answer
-pub refused_or : {X : Type 0} (P : CertFault → Type 0) (r : Option X) (fault : CertFault) → (r ≡ None → P fault) → IfErr (ok_or r fault) P
-refused_or P None fault h = h refl
-refused_or P (Some x) fault h = tt
-
-pub none_of : {X : Type 0} (P : Type 0) (Q : X → Type 0) (r : Option X) → MatchOption r P Q → r ≡ None → P
-none_of P Q None h is = h
-none_of P Q (Some x) h is = absurd (cc is)
+pub refused_or : {X N : Type 0} (P : CertFault → Type 0) (Q : X → Type 0) (r : Option X) (fault : CertFault) → MatchOption r N Q → (N → P fault)
+    → IfErr (ok_or r fault) P
+refused_or P Q None fault h f = f h
+refused_or P Q (Some x) fault h f = tt
 
 pub no_cut : (rest text more : List ℕ) → (Contains rest 10 → ⊥) → IsCut 10 rest text more → ⊥
 no_cut rest text more none cut = none (has_byte 10 rest text more cut.is_text)
@@ -82,8 +78,8 @@ stops_here v due old fault refused is = record {
 }
 
 -- lines after lines
-pub leads_on : (v : Version) (a b c : Due) (xs ys : List (List ℕ)) {x y z : Lines} → Leads v a x xs y b → Leads v b y ys z c → Leads v a x (xs ++ ys) z c
-leads_on v a b c xs ys {x} {y} {z} h k = record {
+pub leads_on : {v : Version} {a b c : Due} {xs ys : List (List ℕ)} {x y z : Lines} → Leads v a x xs y b → Leads v b y ys z c → Leads v a x (xs ++ ys) z c
+leads_on {v} {a} {b} {c} {xs} {ys} {x} {y} {z} h k = record {
   is_text = h.is_text ∙ ap (λ t. joined_lines xs ++ t) k.is_text ∙ sym (append_assoc (joined_lines xs) (joined_lines ys) z.rest.now)
       ∙ ap (λ t. t ++ z.rest.now) (sym (joined_lines-append xs ys));
   number = omega (arith, h.number, k.number, length-append xs ys);
@@ -91,8 +87,8 @@ leads_on v a b c xs ys {x} {y} {z} h k = record {
 }
 
 -- what stops after lines that are due
-pub leads_stops : (v : Version) (a b : Due) (xs : List (List ℕ)) (fault : CertFault) {x y : Lines} → Leads v a x xs y b → Stops v b y fault → Stops v a x fault
-leads_stops v a b xs fault {x} {y} h k = record {
+pub leads_stops : {v : Version} {a b : Due} {xs : List (List ℕ)} {fault : CertFault} {x y : Lines} → Leads v a x xs y b → Stops v b y fault → Stops v a x fault
+leads_stops {v} {a} {b} {xs} {fault} {x} {y} h k = record {
   before = xs ++ k.before;
   rest = k.rest;
   wrong = k.wrong;

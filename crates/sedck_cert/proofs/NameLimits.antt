@@ -10,7 +10,28 @@ use Rattle.std.proofs.lemmas.List.Sums.{sum_by-cons}
 use Rattle.sedck_script.specs.Names.{IsName, IsBefore, AreIncreasing, AreNames, names_size}
 use Rattle.sedck_cert.specs.View.{names_of}
 use Rattle.sedck_cert.specs.Private.Reading.{AreNext}
-use Rattle.sedck_cert.proofs.LinesAreText.{IsBeforeAll, behind_all, rising_parts, first_rises}
+use Rattle.sedck_cert.specs.Faults.{ComesAfter}
+use Rattle.sedck_script.proofs.SortedNames.{all_later}
+
+-- the one before, if there is one, is before all of these
+abbrev IsBeforeAll : List (List ℕ) → List (List ℕ) → Type 0
+IsBeforeAll [] names = Unit {0}
+IsBeforeAll (before ∷ more) names = AllByRecursion (IsBefore before) names
+
+behind_all : (before : List (List ℕ)) (name : List ℕ) (names : List (List ℕ)) → ComesAfter before name → AllByRecursion (IsBefore name) names
+    → IsBeforeAll before (name ∷ names)
+behind_all [] name names e h = tt
+behind_all (b ∷ more) name names e h = (e, all_later b name names e h)
+
+rising_parts : (name : List ℕ) (names : List (List ℕ)) → AreIncreasing (name ∷ names) → AllByRecursion (IsBefore name) names × AreIncreasing names
+rising_parts name names h = (
+  recursion_from_All (IsBefore name) names (λ k d within. h 0 (suc k) d (omega arith) (omega arith)),
+  λ i j d low high. h (suc i) (suc j) d (omega arith) (omega arith),
+)
+
+first_rises : (before : List (List ℕ)) (name : List ℕ) (names : List (List ℕ)) → IsBeforeAll before (name ∷ names) → ComesAfter before name
+first_rises [] name names h = tt
+first_rises (b ∷ more) name names h = h.0
 
 record AreRight (before names : List (List ℕ)) (size : ℕ) : Type 0 where
   pub each : AllByRecursion IsName names
@@ -18,7 +39,7 @@ record AreRight (before names : List (List ℕ)) (size : ℕ) : Type 0 where
   pub increasing : AreIncreasing names
   pub within : size + names_size names ≤ 1048576
 
-size-cons : (name : List ℕ) (names : List (List ℕ)) (size : ℕ) → size + length name + 1 + names_size names ≡ size + names_size (name ∷ names)
+pub size-cons : (name : List ℕ) (names : List (List ℕ)) (size : ℕ) → size + length name + 1 + names_size names ≡ size + names_size (name ∷ names)
 size-cons name names size = omega (arith, sum_by-cons (λ (n : List ℕ). length n + 1) name names)
 
 next_right : (names before : List (List ℕ)) (size : ℕ) → AreNext before names size → AreRight before names size
@@ -52,11 +73,13 @@ pub names_next : (names : List (List ℕ)) (size : ℕ) → AreNames names → s
 names_next names size h small = right_next names [] size
     (record { each = recursion_from_All IsName names h.each; behind = tt; increasing = h.increasing; within = small })
 
-pub next_names : (names : List (Vec ℕ Global)) (size : ℕ) → length names ≤ 4095 → AreNext [] (names_of names) size → AreNames (names_of names)
+pub next_names : (names : List (List ℕ)) (size : ℕ) → length names ≤ 4095 → AreNext [] names size → AreNames names × (size + names_size names ≤ 1048576)
 next_names names size few h =
-    let right = next_right (names_of names) [] size h in
-    let e = length-map names (λ (n : Vec ℕ Global). n.items) in
-    record { each = All-from_recursion IsName (names_of names) right.each; increasing = right.increasing; count = omega arith }
+    let right = next_right names [] size h in
+    (record { each = All-from_recursion IsName names right.each; increasing = right.increasing; count = few }, right.within)
+
+pub names-few : (names : List (Vec ℕ Global)) → length names ≤ 4095 → length (names_of names) ≤ 4095
+names-few names few = let e = length-map names (λ (n : Vec ℕ Global). n.items) in omega arith
 
 pub left_cons : {A : Type 0} (items : A → List ℕ) (names : List A) (i : ℕ) (name : A) → i < length names → name ≡ get_or names i name
     → map items (drop i names) ≡ items name ∷ map items (drop (i + 1) names)

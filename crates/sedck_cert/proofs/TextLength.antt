@@ -1,15 +1,13 @@
 -- How long the text of a certificate can be, line by line.
-use Rattle.std.proofs.Common.{◌≡◌, ℕ, suc, ◌+◌, ◌-◌, ◌*◌, ◌/◌, ◌%◌, ◌<◌, ◌≤◌, ◌==◌, Bool, true, false, List, [], ◌∷◌, ◌++◌, length, take, take_all, decimal, codes, Option, Some, None, refl, ◌∙◌, ap, inl, inr, arith, length-append}
+use Rattle.std.proofs.Common.{◌≡◌, ℕ, suc, ◌+◌, ◌-◌, ◌*◌, ◌/◌, ◌%◌, ◌<◌, ◌≤◌, List, [], ◌∷◌, ◌++◌, length, take, take_all, decimal, codes, Option, Some, None, refl, ◌∙◌, ap, inl, inr, arith, length-append}
 use Rattle.std.specs.List.{AllByRecursion}
-use Rattle.std.proofs.lemmas.Bool.{cases_lt}
 use Rattle.std.proofs.lemmas.Fmt.{length-decimal-le}
 use Rattle.std.proofs.lemmas.List.{length-take}
 use Rattle.std.proofs.lemmas.List.Elements.{recursion_from_All}
 use Rattle.std.proofs.lemmas.List.Sums.{sum_by-cons}
 use Rattle.sedck_script.specs.Names.{names_size}
-use Rattle.sedck_flow.specs.Words.{flag_text}
 use Rattle.sedck_cert.specs.Certificate.{Certificate, IsCertificate, nodes_in, AreWithin}
-use Rattle.sedck_cert.specs.Text.{line, header, ranks_text, words_in, node_text, node_lines, name_lines, files_text, text_in}
+use Rattle.sedck_cert.specs.Text.{line, header, ranks_text, words_in, node_text, node_texts, joined_lines, files_text, text_in}
 use Rattle.sedck_cert.specs.Versions.{SpellsCertificate}
 use Rattle.sedck_cert.specs.Laws.{text_limit}
 use Rattle.sedck_cert.specs.declared.versions.Version.{Version}
@@ -26,36 +24,27 @@ abbrev pub limit_before : Version → ℕ → ℕ
 limit_before One node = 16 * node + (node - 20) + (node - 200) + (node - 2000)
 limit_before Two node = 18 * node + (node - 40) + (node - 400) + (node - 4000)
 
+-- how many digits a place has
+digits_of : (place : ℕ) → place < 10000 → (length (decimal place) ≤ 4) × (place < 1000 → length (decimal place) ≤ 3)
+    × (place < 100 → length (decimal place) ≤ 2) × (place < 10 → length (decimal place) ≤ 1)
+digits_of place small = (
+  length-decimal-le 4 place (omega arith) (omega arith) (omega arith),
+  λ less. length-decimal-le 3 place (omega arith) (omega arith) (omega arith),
+  λ less. length-decimal-le 2 place (omega arith) (omega arith) (omega arith),
+  λ less. length-decimal-le 1 place (omega arith) (omega arith) (omega arith),
+)
+
 place_one : (node : ℕ) → node < 8192 → length (decimal (node / 2)) + 15 + limit_before One node ≤ limit_before One (suc node)
-place_one node small = elim (cases_lt node 20) [
-  | inl one ↦ let h = length-decimal-le 1 (node / 2) (omega arith) (omega arith) (omega arith) in omega (arith, h)
-  | inr two ↦ elim (cases_lt node 200) [
-    | inl one ↦ let h = length-decimal-le 2 (node / 2) (omega arith) (omega arith) (omega arith) in omega (arith, h)
-    | inr three ↦ elim (cases_lt node 2000) [
-      | inl one ↦ let h = length-decimal-le 3 (node / 2) (omega arith) (omega arith) (omega arith) in omega (arith, h)
-      | inr four ↦ let h = length-decimal-le 4 (node / 2) (omega arith) (omega arith) (omega arith) in omega (arith, h)
-    ]
-  ]
-]
+place_one node small = let digits = digits_of (node / 2) (omega arith) in grind (arith, digits)
 
 place_two : (node : ℕ) → node < 16384 → length (decimal (node / 4)) + 17 + limit_before Two node ≤ limit_before Two (suc node)
-place_two node small = elim (cases_lt node 40) [
-  | inl one ↦ let h = length-decimal-le 1 (node / 4) (omega arith) (omega arith) (omega arith) in omega (arith, h)
-  | inr two ↦ elim (cases_lt node 400) [
-    | inl one ↦ let h = length-decimal-le 2 (node / 4) (omega arith) (omega arith) (omega arith) in omega (arith, h)
-    | inr three ↦ elim (cases_lt node 4000) [
-      | inl one ↦ let h = length-decimal-le 3 (node / 4) (omega arith) (omega arith) (omega arith) in omega (arith, h)
-      | inr four ↦ let h = length-decimal-le 4 (node / 4) (omega arith) (omega arith) (omega arith) in omega (arith, h)
-    ]
-  ]
-]
+place_two node small = let digits = digits_of (node / 4) (omega arith) in grind (arith, digits)
 
 line_length : (text : List ℕ) → length (line text) ≡ length text + 1
 line_length text = length-append text (10 ∷ [])
 
-flag_length : (flag : Bool) → length (flag_text flag) ≡ 1
-flag_length true = refl
-flag_length false = refl
+bit_length : (n : ℕ) → length (decimal (n % 2)) ≤ 1
+bit_length n = length-decimal-le 1 (n % 2) (omega arith) (omega arith) (omega arith)
 
 rank_length : (rank : ℕ) → rank ≤ 65535 → length (decimal rank) ≤ 5
 rank_length rank small = length-decimal-le 5 rank (omega arith) (omega arith) (omega arith)
@@ -68,16 +57,11 @@ ranks_length (Some r) within =
 -- the words of a node, beside 13 bytes for its ranks, a space and a newline
 words_length : (v : Version) (node : ℕ) → node < nodes_in v 4095 → length (words_in v node) + 13 + limit_before v node ≤ limit_before v (suc node)
 words_length One node small =
-    let flag = flag_text (node % 2 == 1) in
-    let text : length (words_in One node) ≡ length (decimal (node / 2)) + 1 + length flag = length-append_two (decimal (node / 2)) (codes " ") flag in
-    omega (arith, text, flag_length (node % 2 == 1), place_one node small)
+    omega (arith, length-append_two (decimal (node / 2)) (codes " ") (decimal (node % 2)), bit_length node, place_one node small)
 words_length Two node small =
-    let flag = flag_text (node / 2 % 2 == 1) in
-    let last = flag_text (node % 2 == 1) in
-    let place : List ℕ = decimal (node / 4) ++ codes " " ++ flag in
-    let front : length place ≡ length (decimal (node / 4)) + 1 + length flag = length-append_two (decimal (node / 4)) (codes " ") flag in
-    let text : length (words_in Two node) ≡ length place + 1 + length last = length-append_two place (codes " ") last in
-    omega (arith, text, front, flag_length (node / 2 % 2 == 1), flag_length (node % 2 == 1), place_two node small)
+    let front = length-append_two (decimal (node / 4)) (codes " ") (decimal (node / 2 % 2)) in
+    let text = length-append_two (decimal (node / 4) ++ codes " " ++ decimal (node / 2 % 2)) (codes " ") (decimal (node % 2)) in
+    omega (arith, text, front, bit_length (node / 2), bit_length node, place_two node small)
 
 node_length : (v : Version) (node : ℕ) (ranks : Option (ℕ × ℕ)) → node < nodes_in v 4095 → AreWithin ranks
     → length (line (node_text v node ranks)) + limit_before v node ≤ limit_before v (suc node)
@@ -87,22 +71,18 @@ node_length v node ranks small within =
     omega (arith, line_length (node_text v node ranks), text, ranks_length ranks within, words_length v node small)
 
 nodes_length : (v : Version) (node : ℕ) (all : List (Option (ℕ × ℕ))) → node + length all ≤ nodes_in v 4095 → AllByRecursion AreWithin all
-    → length (node_lines v node all) + limit_before v node ≤ limit_before v (node + length all)
+    → length (joined_lines (node_texts v node all)) + limit_before v node ≤ limit_before v (node + length all)
 nodes_length v node [] small within = omega (arith, ap (limit_before v) (let e : node ≡ node + 0 = omega arith in e))
 nodes_length v node (ranks ∷ all) small within =
     let first = node_length v node ranks (omega arith) within.0 in
     let rest = nodes_length v (suc node) all (omega arith) within.1 in
     let same : suc node + length all ≡ node + length (ranks ∷ all) = omega arith in
     let end : limit_before v (suc node + length all) ≡ limit_before v (node + length (ranks ∷ all)) = ap (limit_before v) same in
-    let both = length-append (line (node_text v node ranks)) (node_lines v (suc node) all) in
+    let both = length-append (line (node_text v node ranks)) (joined_lines (node_texts v (suc node) all)) in
     omega (arith, first, rest, end, both)
 
--- the lines of all nodes of a certificate
-abbrev all_limit : Version → ℕ
-all_limit One = 153428
-all_limit Two = 339624
-
-limits : (v : Version) (n : ℕ) → n ≤ 4095 → limit_before v (nodes_in v n) ≤ all_limit v
+-- what the lines of all nodes leave for the others
+limits : (v : Version) (n : ℕ) → n ≤ 4095 → limit_before v (nodes_in v n) + 1048623 ≤ text_limit v
 limits One n few = omega arith
 limits Two n few = omega arith
 
@@ -110,7 +90,7 @@ nodes_most : (v : Version) (n : ℕ) → n ≤ 4095 → nodes_in v n ≤ nodes_i
 nodes_most One n few = omega arith
 nodes_most Two n few = omega arith
 
-all_length : (v : Version) (c : Certificate) → IsCertificate v c → length (node_lines v 0 c.ranks) ≤ all_limit v
+all_length : (v : Version) (c : Certificate) → IsCertificate v c → length (joined_lines (node_texts v 0 c.ranks)) + 1048623 ≤ text_limit v
 all_length v c within =
     let all = nodes_length v 0 c.ranks (omega (arith, within.nodes, nodes_most v c.commands within.commands))
     (recursion_from_All AreWithin c.ranks within.ranks) in
@@ -118,10 +98,10 @@ all_length v c within =
 
 -- ---- The lists of names
 
-names_length : (names : List (List ℕ)) → length (name_lines names) ≡ names_size names
+names_length : (names : List (List ℕ)) → length (joined_lines names) ≡ names_size names
 names_length [] = refl
 names_length (name ∷ names) =
-    omega (arith, length-append (line name) (name_lines names), line_length name, names_length names, sum_by-cons (λ (n : List ℕ). length n + 1) name names)
+    omega (arith, length-append (line name) (joined_lines names), line_length name, names_length names, sum_by-cons (λ (n : List ℕ). length n + 1) name names)
 
 -- a line of a word and a number of at most four digits
 count_length : (word : List ℕ) (n : ℕ) → n ≤ 4095 → length (line (word ++ decimal n)) ≤ length word + 5
@@ -133,17 +113,13 @@ header_length : (v : Version) → length (line (header v)) ≡ 8
 header_length One = line_length (codes "sedck 1")
 header_length Two = line_length (codes "sedck 2")
 
-limit_of : (v : Version) → all_limit v + 1048623 ≡ text_limit v
-limit_of One = refl
-limit_of Two = refl
-
 files_length : (v : Version) (c : Certificate) → IsCertificate v c → length (files_text c.reads c.writes) ≤ 1048597
 files_length v c within =
     let read = line (codes "read " ++ decimal (length c.reads)) in
     let write = line (codes "write " ++ decimal (length c.writes)) in
-    let parts : length (files_text c.reads c.writes) ≡ length read + length (name_lines c.reads) + length write + length (name_lines c.writes) =
-    length-append_two (read ++ name_lines c.reads) write (name_lines c.writes)
-    ∙ ap (λ n. n + length write + length (name_lines c.writes)) (length-append read (name_lines c.reads)) in
+    let parts : length (files_text c.reads c.writes) ≡ length read + length (joined_lines c.reads) + length write + length (joined_lines c.writes) =
+    length-append_two (read ++ joined_lines c.reads) write (joined_lines c.writes)
+    ∙ ap (λ n. n + length write + length (joined_lines c.writes)) (length-append read (joined_lines c.reads)) in
     omega (
       arith,
       parts,
@@ -161,7 +137,7 @@ unfolding text_in
 text_length v c within =
     let head = line (header v) in
     let count = line (codes "commands " ++ decimal c.commands) in
-    let nodes = node_lines v 0 c.ranks in
+    let nodes = joined_lines (node_texts v 0 c.ranks) in
     let files = files_text c.reads c.writes in
     let end = line (codes "end") in
     let parts : length (head ++ count ++ nodes ++ files ++ end) ≡ length head + length count + length nodes + length files + length end =
@@ -174,7 +150,6 @@ text_length v c within =
       line_length (codes "end"),
       count_length (codes "commands ") c.commands within.commands,
       all_length v c within,
-      limit_of v,
       files_length v c within,
     )
 

@@ -1,14 +1,15 @@
 -- A text is one certificate's at most, and none's where a line of it isn't what is due.
-use Rattle.std.proofs.Common.{◌≡◌, ℕ, zero, suc, ◌-◌, ◌<◌, ◌≤◌, ◌^◌, List, [], ◌∷◌, ◌++◌, length, decimal, codes, Option, Some, None, append_assoc, refl, sym, ◌∙◌, ap, subst, subst₂, arith}
+use Rattle.std.proofs.Common.{◌≡◌, ℕ, suc, ◌<◌, ◌≤◌, ◌^◌, List, [], ◌∷◌, ◌++◌, length, take, drop, decimal, codes, Option, Some, None, append_assoc, refl, sym, ◌∙◌, ap, subst, subst₂, arith}
 use Rattle.std.specs.List.{AllByRecursion}
+use Rattle.std.proofs.Math.Seq.{take-append_seam, drop-append_seam}
 use Rattle.std.proofs.lemmas.List.Elements.{recursion_from_All}
 use Rattle.std.proofs.lemmas.Fmt.{decimal_injective}
 use Rattle.std.proofs.lemmas.List.{append_cancel_left}
 use Rattle.sedck_cert.specs.Certificate.{Certificate, IsCertificate, nodes_in, AreWithin}
-use Rattle.sedck_cert.specs.Text.{line, IsOneLine, IsTextOf, words_in, node_text, ranks_text}
+use Rattle.sedck_cert.specs.Text.{line, IsOneLine, IsTextOf, words_in, node_text, node_texts, joined_lines, ranks_text}
 use Rattle.sedck_cert.specs.declared.versions.Version.{Version}
-use Rattle.sedck_cert.specs.Faults.{Due, Header, Count, Node, Names, Name, Last, Nothing, IsDue, AreDue, IsRefused, IsFaultOf, joined_lines, list_word, after_count}
-use Rattle.sedck_cert.specs.Private.Reading.{node_texts, list_texts, certificate_lines}
+use Rattle.sedck_cert.specs.Faults.{Due, Header, Count, Node, Names, Name, Last, Nothing, IsDue, AreDue, IsRefused, IsFaultOf, list_word, names_due, nodes_due}
+use Rattle.sedck_cert.specs.Private.Reading.{list_texts, certificate_lines}
 use Rattle.sedck_cert.specs.declared.reading.names.Files.{Files}
 use Rattle.sedck_cert.specs.declared.reading.names.Files.TheVariants.{Reads, Writes}
 use Rattle.sedck_cert.specs.declared.reading.CertFault.{CertFault}
@@ -26,23 +27,17 @@ count_one word m n few less e = decimal_injective m n (omega arith) (omega arith
 
 due_one : (v : Version) (due : Due) (text : List ℕ) (a b : Due) → IsDue v due text a → IsDue v due text b → a ≡ b
 due_one v Header text a b h k = h.1 ∙ sym k.1
-due_one v Count text a b h k = h.3 ∙ ap (λ n. Node 0 (nodes_in v n - 1)) (count_one (codes "commands ") h.0 k.0 h.1 k.1 (sym h.2 ∙ k.2)) ∙ sym k.3
+due_one v Count text a b h k = h.3 ∙ ap (λ n. nodes_due 0 (nodes_in v n)) (count_one (codes "commands ") h.0 k.0 h.1 k.1 (sym h.2 ∙ k.2)) ∙ sym k.3
 due_one v (Node node left) text a b h k = h.3 ∙ sym k.3
-due_one v (Names files size) text a b h k = h.3 ∙ ap (λ n. after_count files n size) (count_one (list_word files) h.0 k.0 h.1 k.1 (sym h.2 ∙ k.2)) ∙ sym k.3
-due_one v (Name files zero before size) text a b h k = absurd h
-due_one v (Name files (suc left) before size) text a b h k = h.3 ∙ sym k.3
+due_one v (Names files size) text a b h k = h.3 ∙ ap (λ n. names_due files n [] size) (count_one (list_word files) h.0 k.0 h.1 k.1 (sym h.2 ∙ k.2)) ∙ sym k.3
+due_one v (Name files left before size) text a b h k = h.3 ∙ sym k.3
 due_one v Last text a b h k = h.1 ∙ sym k.1
 due_one v Nothing text a b h k = absurd h
 
 -- a line that is due refutes what is wrong there
 not_refused : (v : Version) (due mid : Due) (text : List ℕ) (more : List ℕ) → IsOneLine text → IsDue v due text mid → IsRefused v due (line text ++ more) → ⊥
-not_refused v Header mid text more one h wrong = wrong text more mid refl one h
-not_refused v Count mid text more one h wrong = wrong text more mid refl one h
-not_refused v (Node node left) mid text more one h wrong = wrong text more mid refl one h
-not_refused v (Names files size) mid text more one h wrong = wrong text more mid refl one h
-not_refused v (Name files left before size) mid text more one h wrong = wrong text more mid refl one h
-not_refused v Last mid text more one h wrong = wrong text more mid refl one h
 not_refused v Nothing mid text more one h wrong = h
+not_refused v due mid text more one h wrong = wrong text more mid refl one h
 
 -- a text of lines that are due to the end stops nowhere
 pub none_refused : (v : Version) (before lines : List (List ℕ)) (rest : List ℕ) (due wrong : Due) → joined_lines before ++ rest ≡ joined_lines lines
@@ -79,13 +74,10 @@ joined_one v (x ∷ xs) (y ∷ ys) a b e h k =
     cc (both.0, joined_one v xs ys k.1 b both.1 (subst (λ d. AreDue v d xs b) same h.3) k.3)
 
 append_split : {A : Type 0} (xs ys as' bs : List A) → length xs ≡ length ys → xs ++ as' ≡ ys ++ bs → (xs ≡ ys) × (as' ≡ bs)
-append_split [] [] as' bs l e = (refl, e)
-append_split [] (y ∷ ys) as' bs l e = absurd (omega arith)
-append_split (x ∷ xs) [] as' bs l e = absurd (omega arith)
-append_split (x ∷ xs) (y ∷ ys) as' bs l e =
-    let both = append_split xs ys as' bs (omega arith) (cc e) in
-    let heads : x ≡ y = cc e in
-    (cc (both.0, heads), both.1)
+append_split xs ys as' bs l e = (
+  sym (take-append_seam xs as') ∙ ap (take (length xs)) e ∙ ap (λ n. take n (ys ++ bs)) l ∙ take-append_seam ys bs,
+  sym (drop-append_seam xs as') ∙ ap (drop (length xs)) e ∙ ap (λ n. drop n (ys ++ bs)) l ∙ drop-append_seam ys bs,
+)
 
 ranks_one : (x y : Option (ℕ × ℕ)) → AreWithin x → AreWithin y → ranks_text x ≡ ranks_text y → x ≡ y
 ranks_one None None h k e = refl

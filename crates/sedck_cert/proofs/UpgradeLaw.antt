@@ -23,21 +23,15 @@ slice_get-doubled : (all : List (Option (ℕ × ℕ))) (i b j : ℕ) → b < 2 �
 slice_get-doubled [] i b j h e = refl
 slice_get-doubled (r ∷ all) zero b zero h e = refl
 slice_get-doubled (r ∷ all) zero b (suc zero) h e = refl
-slice_get-doubled (r ∷ all) zero b (suc (suc j)) h e = absurd (omega arith)
-slice_get-doubled (r ∷ all) (suc i) b zero h e = absurd (omega arith)
-slice_get-doubled (r ∷ all) (suc i) b (suc zero) h e = absurd (omega arith)
 slice_get-doubled (r ∷ all) (suc i) b (suc (suc j)) h e = slice_get-doubled all i b j h (omega arith)
+slice_get-doubled (r ∷ all) i b j h e = absurd (omega arith)
 
 index_of : (at : ℕ) (flag last : Bool)
     → 4 * at + (if flag then 2 else 0) + (if last then 1 else 0) ≡ 2 * (2 * at + (if flag then 1 else 0)) + (if last then 1 else 0)
-index_of at true true = omega arith
-index_of at true false = omega arith
-index_of at false true = omega arith
-index_of at false false = omega arith
+index_of at flag last = grind arith
 
 below_two : (last : Bool) → (if last then 1 else 0) < 2
-below_two true = omega arith
-below_two false = omega arith
+below_two last = grind arith
 
 pub ranks_plain : (c : Certificate) (n : Node) → ranks_at (upgraded c) n ≡ ranks_at_one c (plain_node n)
 ranks_plain c n = ap option_flatten (slice_get-doubled c.ranks (node_index_one (plain_node n)) (if n.last then 1 else 0) (node_index n)

@@ -1,17 +1,12 @@
 -- What becomes of a certificate of version 1.
-use Rattle.std.proofs.Common.{◌≡◌, ℕ, ◌+◌, ◌*◌, List, [], ◌∷◌, ◌++◌, length, take, get_or, ◌<◌, Option, refl, ap, ◌∙◌, arith}
+use Rattle.std.proofs.Common.{◌≡◌, ℕ, ◌*◌, List, [], ◌∷◌, length, Option, refl, arith}
 use Rattle.std.specs.List.{AllByRecursion}
-use Rattle.std.proofs.lemmas.List.{take_more}
 use Rattle.std.proofs.lemmas.List.Elements.{recursion_from_All, All-from_recursion}
 use Rattle.sedck_cert.specs.Certificate.{Certificate, IsCertificate, AreWithin}
 use Rattle.sedck_cert.specs.VersionOne.{doubled, upgraded}
 use Rattle.sedck_cert.specs.declared.versions.Version.TheVariants.{One, Two}
 
 -- ---- Each entry twice
-
-pub doubled-push : (all : List (Option (ℕ × ℕ))) (ranks : Option (ℕ × ℕ)) → doubled (all ++ ranks ∷ []) ≡ doubled all ++ ranks ∷ ranks ∷ []
-doubled-push [] ranks = refl
-doubled-push (r ∷ all) ranks = ap (λ t. r ∷ r ∷ t) (doubled-push all ranks)
 
 length-doubled : (all : List (Option (ℕ × ℕ))) → length (doubled all) ≡ 2 * length all
 length-doubled [] = refl
@@ -20,11 +15,6 @@ length-doubled (r ∷ all) = omega (arith, length-doubled all)
 doubled_within : (all : List (Option (ℕ × ℕ))) → AllByRecursion AreWithin all → AllByRecursion AreWithin (doubled all)
 doubled_within [] within = tt
 doubled_within (r ∷ all) within = (within.0, (within.0, doubled_within all within.1))
-
--- one entry more
-pub doubled-more : (ranks : List (Option (ℕ × ℕ))) (i : ℕ) (d : Option (ℕ × ℕ)) → i < length ranks
-    → doubled (take (i + 1) ranks) ≡ doubled (take i ranks) ++ get_or ranks i d ∷ get_or ranks i d ∷ []
-doubled-more ranks i d within = ap doubled (take_more ranks i d within) ∙ doubled-push (take i ranks) (get_or ranks i d)
 
 -- an upgraded certificate is within the limits
 pub upgraded_is : (c : Certificate) → IsCertificate One c → IsCertificate Two (upgraded c)

@@ -1,12 +1,15 @@
 -- The parts of a certificate, read one after another.
-use Rattle.std.proofs.Common.{◌≡◌, ◌⊎◌, inl, inr, ℕ, suc, ◌+◌, ◌-◌, ◌≤◌, List, [], ◌∷◌, ◌++◌, length, decimal, codes, Option, Some, cond, All, count_by, IfSome, ◌==◌, append_assoc, append-nil, refl, sym, ◌∙◌, ap, arith}
+use Rattle.std.proofs.Common.{◌≡◌, ◌⊎◌, inl, inr, ℕ, suc, ◌+◌, ◌≤◌, List, [], ◌∷◌, ◌++◌, length, decimal, codes, Option, Some, cond, All, count_by, IfSome, ◌==◌, append_assoc, append-nil, refl, sym, ◌∙◌, ap, arith}
+use Rattle.std.specs.Prelude.{Result, IfErr}
+use Rattle.std.specs.Result.{IsErrAnd}
 use Rattle.std.proofs.lemmas.List.Sums.{sum_by-append}
+use Rattle.sedck_script.proofs.ResultLemmas.{if_err_from}
 use Rattle.sedck_script.specs.Names.{names_size}
-use Rattle.sedck_cert.specs.Certificate.{Certificate, IsCertificate, nodes_in, AreWithin}
-use Rattle.sedck_cert.specs.Text.{line, header, text_in, IsTextOf}
+use Rattle.sedck_cert.specs.Certificate.{Certificate, nodes_in, AreWithin}
+use Rattle.sedck_cert.specs.Text.{line, header, node_texts, joined_lines, IsTextOf}
 use Rattle.sedck_cert.specs.declared.versions.Version.{Version}
-use Rattle.sedck_cert.specs.Faults.{Due, Header, Count, Node, Names, Name, Last, Nothing, IsFaultOf, IsLineOf, line_of, fault_at, joined_lines, after_list}
-use Rattle.sedck_cert.specs.Private.Reading.{Leads, Stops, node_texts, list_texts, certificate_lines}
+use Rattle.sedck_cert.specs.Faults.{Due, Header, Count, Names, Last, Nothing, IsFaultOf, IsLineOf, line_of, fault_at, nodes_due}
+use Rattle.sedck_cert.specs.Private.Reading.{Leads, Stops, list_texts, certificate_lines}
 use Rattle.sedck_cert.specs.declared.reading.lines.Lines.{Lines}
 use Rattle.sedck_cert.specs.declared.reading.names.Files.TheVariants.{Reads, Writes}
 use Rattle.sedck_cert.specs.declared.reading.CertFault.{CertFault}
@@ -28,64 +31,43 @@ fault_of v text start fault rest number s = record {
   is_fault = s.is_fault ∙ ap (fault_at s.wrong) (omega (arith, number));
 }
 
-pub fault_later : (v : Version) (text : List ℕ) (start : Lines) (fault : CertFault) (due : Due) (before : List (List ℕ)) {at : Lines} → start.rest.now ≡ text
-    → start.number ≡ 1 → Leads v Header start before at due → (fault ≡ OutOfMemory) ⊎ Stops v due at fault → (fault ≡ OutOfMemory) ⊎ IsFaultOf v text fault
-fault_later v text start fault due before rest number leads h = elim h [
-  | inl memory ↦ inl memory
-  | inr stops ↦ inr (fault_of v text start fault rest number (leads_stops v Header due before fault leads stops))
-]
-
--- the same where the fault is one in every version
-pub fault_in_each : (v : Version) (text : List ℕ) (start : Lines) (fault : CertFault) (due : Due) (before : List (List ℕ)) {at : Lines} → start.rest.now ≡ text
-    → start.number ≡ 1 → Leads v Header start before at due → (fault ≡ OutOfMemory) ⊎ ((w : Version) → Stops w due at fault)
-    → (fault ≡ OutOfMemory) ⊎ IsFaultOf v text fault
-fault_in_each v text start fault due before rest number leads h =
-    fault_later v text start fault due before rest number leads (elim h [ inl memory ↦ inl memory | inr stops ↦ inr (stops v) ])
+-- a fault after lines that are due
+pub refused_later : {A : Type 0} {v : Version} {text : List ℕ} {start at : Lines} {due : Due} {before : List (List ℕ)} {fault : CertFault} (r : Result A CertFault)
+    → IsErrAnd r (λ y. y ≡ fault) → start.rest.now ≡ text → start.number ≡ 1 → Leads v Header start before at due → (fault ≡ OutOfMemory) ⊎ Stops v due at fault
+    → IfErr r (λ f. (f ≡ OutOfMemory) ⊎ IsFaultOf v text f)
+refused_later {A} {v} {text} {start} {at} {due} {before} {fault} r err rest number leads h =
+    if_err_from (λ f. (f ≡ OutOfMemory) ⊎ IsFaultOf v text f) r fault err (elim h [
+      | inl memory ↦ inl memory
+      | inr stops ↦ inr (fault_of v text start fault rest number (leads_stops leads stops))
+    ])
 
 -- ---- The certificate
 
 abbrev made : ℕ → List (Option (ℕ × ℕ)) → List (List ℕ) → List (List ℕ) → Certificate
 made n ranks reads writes = record { commands = n; ranks = ranks; reads = reads; writes = writes }
 
-pub whole_is : (v : Version) (n : ℕ) (ranks : List (Option (ℕ × ℕ))) (reads writes : List (List ℕ)) (size end : ℕ) {x3 x4 x5 : Lines} → n ≤ 4095
-    → length ranks ≡ nodes_in v n → All AreWithin ranks → length reads ≤ 4095 → length writes ≤ 4095 → size ≤ 1048576
-    → Leads v (Names Reads 0) x3 (list_texts Reads reads) x4 (after_list Reads size)
-    → Leads v (Names Writes size) x4 (list_texts Writes writes) x5 (after_list Writes end)
-    → IsCertificate v (made n ranks reads writes)
-whole_is v n ranks reads writes size end few count within less fewer small l4 l5 =
-    let first = list_law v Reads reads 0 (after_list Reads size) (omega arith) less l4.are_due in
-    let second = list_law v Writes writes size (after_list Writes end) small fewer l5.are_due in
-    let same : size ≡ 0 + names_size reads = cc (first.1) in
-    record {
-      commands = few;
-      nodes = count;
-      ranks = within;
-      reads = first.0;
-      writes = second.0;
-      size = omega (arith, same, second.2);
-    }
-
-pub whole_text : (v : Version) (text : List ℕ) (n : ℕ) (ranks : List (Option (ℕ × ℕ))) (reads writes : List (List ℕ)) (size end : ℕ) {x0 x1 x2 x3 x4 x5 x6 : Lines}
+pub whole_text : (v : Version) (text : List ℕ) (n : ℕ) (ranks : List (Option (ℕ × ℕ))) (reads writes : List (List ℕ)) (size : ℕ) {x0 x1 x2 x3 x4 x5 x6 : Lines}
+    → n ≤ 4095 → length ranks ≡ nodes_in v n → All AreWithin ranks → length reads ≤ 4095 → length writes ≤ 4095 → size ≤ 1048576
     → x0.rest.now ≡ text
     → Leads v Header x0 (header v ∷ []) x1 Count
-    → Leads v Count x1 ((codes "commands " ++ decimal n) ∷ []) x2 (Node 0 (nodes_in v n - 1))
-    → Leads v (Node 0 (nodes_in v n - 1)) x2 (node_texts v 0 ranks) x3 (Names Reads 0)
-    → Leads v (Names Reads 0) x3 (list_texts Reads reads) x4 (after_list Reads size)
-    → Leads v (Names Writes size) x4 (list_texts Writes writes) x5 (after_list Writes end)
+    → Leads v Count x1 ((codes "commands " ++ decimal n) ∷ []) x2 (nodes_due 0 (nodes_in v n))
+    → Leads v (nodes_due 0 (nodes_in v n)) x2 (node_texts v 0 ranks) x3 (Names Reads 0)
+    → Leads v (Names Reads 0) x3 (list_texts Reads reads) x4 (Names Writes size)
+    → Leads v (Names Writes size) x4 (list_texts Writes writes) x5 Last
     → Leads v Last x5 (codes "end" ∷ []) x6 Nothing
     → x6.rest.now ≡ []
-    → text ≡ text_in v (made n ranks reads writes)
-whole_text v text n ranks reads writes size end {x0} {x1} {x2} {x3} {x4} {x5} {x6} is l1 l2 l3 l4 l5 l6 last =
-    let files = leads_on v (Names Reads 0) (Names Writes size) Nothing (list_texts Reads reads) (list_texts Writes writes ++ codes "end" ∷ []) l4
-    (leads_on v (Names Writes size) Last Nothing (list_texts Writes writes) (codes "end" ∷ []) l5 l6) in
-    let nodes = leads_on v (Node 0 (nodes_in v n - 1)) (Names Reads 0) Nothing (node_texts v 0 ranks)
-    (list_texts Reads reads ++ (list_texts Writes writes ++ codes "end" ∷ [])) l3 files in
-    let counted = leads_on v Count (Node 0 (nodes_in v n - 1)) Nothing ((codes "commands " ++ decimal n) ∷ [])
-    (node_texts v 0 ranks ++ (list_texts Reads reads ++ (list_texts Writes writes ++ codes "end" ∷ []))) l2 nodes in
-    let all = leads_on v Header Count Nothing (header v ∷ [])
-    ((codes "commands " ++ decimal n) ∷ (node_texts v 0 ranks ++ (list_texts Reads reads ++ (list_texts Writes writes ++ codes "end" ∷ [])))) l1 counted in
+    → IsTextOf v text (made n ranks reads writes)
+whole_text v text n ranks reads writes size few count within less fewer small is l1 l2 l3 l4 l5 l6 last =
+    let first = list_law v Reads reads 0 (Names Writes size) (omega arith) less l4.are_due in
+    let second = list_law v Writes writes size Last small fewer l5.are_due in
+    let same : size ≡ 0 + names_size reads = cc (first.1) in
+    let all = leads_on l1 (leads_on l2 (leads_on l3 (leads_on l4 (leads_on l5 l6)))) in
     let lines = certificate_lines v (made n ranks reads writes) in
-    sym is ∙ all.is_text ∙ ap (λ t. joined_lines lines ++ t) last ∙ append-nil (joined_lines lines) ∙ certificate_lines-joined v (made n ranks reads writes)
+    record {
+      within = record { commands = few; nodes = count; ranks = within; reads = first.0; writes = second.0; size = omega (arith, same, second.2) };
+      is_text = sym is ∙ all.is_text ∙ ap (λ t. joined_lines lines ++ t) last ∙ append-nil (joined_lines lines)
+          ∙ certificate_lines-joined v (made n ranks reads writes);
+    }
 
 -- ---- The line of a fault
 
@@ -105,12 +87,7 @@ newlines_in (text ∷ before) rest =
 
 line_of-fault_at : (due : Due) (n : ℕ) → line_of (fault_at due n) ≡ Some n
 line_of-fault_at Header n = refl
-line_of-fault_at Count n = refl
-line_of-fault_at (Node node left) n = refl
-line_of-fault_at (Names files size) n = refl
-line_of-fault_at (Name files left before size) n = refl
-line_of-fault_at Last n = refl
-line_of-fault_at Nothing n = refl
+line_of-fault_at due n = refl
 
 pub fault_placed : (v : Version) (text : List ℕ) (fault : CertFault) → IsFaultOf v text fault → IfSome (line_of fault) (IsLineOf text)
 fault_placed v text fault f =
@@ -120,10 +97,15 @@ fault_placed v text fault f =
 
 -- ---- What the readers say of a text that they refuse
 
-pub refused_none : (v : Version) (text : List ℕ) (fault : CertFault) → (fault ≡ OutOfMemory) ⊎ IsFaultOf v text fault
-    → (fault ≡ OutOfMemory) ⊎ (((other : Certificate) → ¬ IsTextOf v text other) × IsFaultOf v text fault)
-refused_none v text fault h = elim h [ inl memory ↦ inl memory | inr is ↦ inr (fault_of_none v text fault is, is) ]
+abbrev pub IsRefusedIn : Version → List ℕ → CertFault → Type 0
+IsRefusedIn v text fault = (fault ≡ OutOfMemory) ⊎ (((other : Certificate) → ¬ IsTextOf v text other) × IsFaultOf v text fault)
 
-pub refused_placed : (v : Version) (text : List ℕ) (fault : CertFault) → (fault ≡ OutOfMemory) ⊎ IsFaultOf v text fault
-    → IfSome (line_of fault) (IsLineOf text)
-refused_placed v text fault h = elim h [ inl memory ↦ rw memory tt | inr is ↦ fault_placed v text fault is ]
+pub refused_as : {A : Type 0} (v : Version) (text : List ℕ) (r : Result A CertFault) (fault : CertFault) → IsErrAnd r (λ y. y ≡ fault)
+    → (fault ≡ OutOfMemory) ⊎ IsFaultOf v text fault → IfErr r (IsRefusedIn v text)
+refused_as v text r fault err h =
+    if_err_from (IsRefusedIn v text) r fault err (elim h [ inl memory ↦ inl memory | inr is ↦ inr (fault_of_none v text fault is, is) ])
+
+pub placed_as : {A : Type 0} (v : Version) (text : List ℕ) (r : Result A CertFault) (fault : CertFault) → IsErrAnd r (λ y. y ≡ fault)
+    → (fault ≡ OutOfMemory) ⊎ IsFaultOf v text fault → IfErr r (λ f. IfSome (line_of f) (IsLineOf text))
+placed_as v text r fault err h =
+    if_err_from (λ f. IfSome (line_of f) (IsLineOf text)) r fault err (elim h [ inl memory ↦ rw memory tt | inr is ↦ fault_placed v text fault is ])

@@ -1,8 +1,9 @@
 -- What is taken, piece after piece.
-use Rattle.std.proofs.Common.{◌≡◌, ℕ, ◌+◌, ◌<◌, ◌≤◌, ◌/◌, ◌%◌, ◌^◌, List, [], ◌∷◌, ◌++◌, decimal, Option, Some, None, Result, Ok, Err, OnOk, OnErr, append_assoc, sym, ◌∙◌, ap, subst}
+use Rattle.std.proofs.Common.{◌≡◌, ℕ, List, ◌++◌, Option, Result, Ok, Err, OnOk, OnErr, append_assoc, sym, ◌∙◌, ap, subst, length, take, drop, ◌-◌, take-append-drop}
 use Rattle.std.specs.Io.KnownBytes.{Appends}
-use Rattle.std.proofs.lemmas.Fmt.{decimal_digit, decimal_step}
+use Rattle.std.proofs.KnownBytes.{Appends-trans}
 use Rattle.sedck_cert.specs.Streams.{AppendsPrefix}
+use Rattle.std.proofs.lemmas.List.{take_rest}
 
 pub on_err : {A E : Type 0} (r : Result A E) (P : Type 0) → P → OnErr r P
 on_err (Ok x) P h = tt
@@ -17,10 +18,7 @@ on_ok_then (Ok x) P Q h f = f h
 on_ok_then (Err e) P Q h f = tt
 
 pub appends_join : (a b c : Option (List ℕ)) (xs ys : List ℕ) → Appends a b xs → Appends b c ys → Appends a c (xs ++ ys)
-appends_join None b c xs ys h k = tt
-appends_join (Some as') None c xs ys h k = absurd h
-appends_join (Some as') (Some bs) None xs ys h k = absurd k
-appends_join (Some as') (Some bs) (Some cs) xs ys h k = k ∙ ap (λ t. t ++ ys) h ∙ append_assoc as' xs ys
+appends_join a b c xs ys h k = Appends-trans a b c xs ys h k
 
 -- a prefix of a longer text
 pub begins_longer : (a b : Option (List ℕ)) (text rest : List ℕ) → AppendsPrefix a b text → AppendsPrefix a b (text ++ rest)
@@ -29,33 +27,6 @@ begins_longer a b text rest h = (h.0, (h.1.0 ++ rest, ap (λ t. t ++ rest) h.1.1
 -- a front after what was taken
 pub begins_later : (a b c : Option (List ℕ)) (front text : List ℕ) → Appends a b front → AppendsPrefix b c text → AppendsPrefix a c (front ++ text)
 begins_later a b c front text h k = (front ++ k.0, (k.1.0, ap (λ t. front ++ t) k.1.1 ∙ sym (append_assoc front k.0 k.1.0)), appends_join a b c front k.0 h k.2)
-
--- the decimal of a number with more digits than one
-pub decimal-more : (n : ℕ) → 10 ≤ n → n < 2 ^ 64 → decimal n ≡ decimal (n / 10) ++ (48 + n % 10) ∷ []
-decimal-more n more small = decimal_step n more small
-
--- a number of one digit, or of more
-pub written_digit : {E : Type 0} (r : Result (Unit {0}) E) (a b : Option (List ℕ)) (n : ℕ) → n < 10 → OnOk r (Appends a b ((48 + n) ∷ []))
-    → OnOk r (Appends a b (decimal n))
-written_digit r a b n small h = subst (λ t. OnOk r (Appends a b t)) (sym (decimal_digit n small)) h
-
-pub begun_digit : {E : Type 0} (r : Result (Unit {0}) E) (a b : Option (List ℕ)) (n : ℕ) → n < 10 → OnErr r (AppendsPrefix a b ((48 + n) ∷ []))
-    → OnErr r (AppendsPrefix a b (decimal n))
-begun_digit r a b n small h = subst (λ t. OnErr r (AppendsPrefix a b t)) (sym (decimal_digit n small)) h
-
-pub written_more : {E : Type 0} (r : Result (Unit {0}) E) (a b c : Option (List ℕ)) (n : ℕ) → 10 ≤ n → n < 2 ^ 64 → Appends a b (decimal (n / 10))
-    → OnOk r (Appends b c ((48 + n % 10) ∷ [])) → OnOk r (Appends a c (decimal n))
-written_more r a b c n more small h k = on_ok_then r (Appends b c ((48 + n % 10) ∷ [])) (Appends a c (decimal n)) k
-    (λ last. subst (Appends a c) (sym (decimal-more n more small)) (appends_join a b c (decimal (n / 10)) ((48 + n % 10) ∷ []) h last))
-
-pub begun_more : {E : Type 0} (r : Result (Unit {0}) E) (a b c : Option (List ℕ)) (n : ℕ) → 10 ≤ n → n < 2 ^ 64 → Appends a b (decimal (n / 10))
-    → OnErr r (AppendsPrefix b c ((48 + n % 10) ∷ [])) → OnErr r (AppendsPrefix a c (decimal n))
-begun_more r a b c n more small h k = on_err_then r (AppendsPrefix b c ((48 + n % 10) ∷ [])) (AppendsPrefix a c (decimal n)) k
-    (λ last. subst (AppendsPrefix a c) (sym (decimal-more n more small)) (begins_later a b c (decimal (n / 10)) ((48 + n % 10) ∷ []) h last))
-
-pub begins_digits : (a b : Option (List ℕ)) (n : ℕ) → 10 ≤ n → n < 2 ^ 64 → AppendsPrefix a b (decimal (n / 10)) → AppendsPrefix a b (decimal n)
-begins_digits a b n more small h = subst (AppendsPrefix a b) (sym (decimal-more n more small))
-    (begins_longer a b (decimal (n / 10)) ((48 + n % 10) ∷ []) h)
 
 -- the middle piece of a text
 pub begins_at : (a b c : Option (List ℕ)) (front piece rest text : List ℕ) → text ≡ front ++ (piece ++ rest) → Appends a b front
@@ -99,3 +70,21 @@ pub begun_fourth : {E : Type 0} (r : Result (Unit {0}) E) (a b c d e : Option (L
     → Appends a b p → Appends b c q → Appends c d s → OnErr r (AppendsPrefix d e u) → OnErr r (AppendsPrefix a e text)
 begun_fourth r a b c d e p q s u text is h k l m =
     begun_third r a c d e (p ++ q) s u text (is ∙ sym (append_assoc p q (s ++ u))) (appends_join a b c p q h k) l m
+
+-- ---- A text in several writes
+
+-- a prefix of the text is written, and this is the rest of it
+pub record IsPartWritten (before after : Option (List ℕ)) (text rest : List ℕ) : Type 0 where
+  pub front : List ℕ
+  pub is_text : text ≡ front ++ rest
+  pub taken : Appends before after front
+
+-- this many bytes of the rest are written too
+pub more_written : (before mid after : Option (List ℕ)) (text rest : List ℕ) (count : ℕ) → IsPartWritten before mid text rest
+    → Appends mid after (take count rest)
+    → IsPartWritten before after text (take (length rest - count) (drop count rest))
+more_written before mid after text rest count part more = rw (take_rest rest count) (record {
+  front = part.front ++ take count rest;
+  is_text = part.is_text ∙ ap (λ l. part.front ++ l) (sym (take-append-drop count rest)) ∙ sym (append_assoc part.front (take count rest) (drop count rest));
+  taken = Appends-trans before mid after part.front (take count rest) part.taken more;
+})

@@ -1,9 +1,9 @@
 -- Which fault a text that is no certificate's gets, by the rules of each version: that of the first line that isn't what is due there, after the lines before it.
-use Rattle.std.specs.Prelude.{◌≡◌, ℕ, zero, suc, ◌+◌, ◌-◌, ◌<◌, ◌≤◌, List, [], ◌∷◌, ◌++◌, length, Option, Some, None, ◌==◌, count_by, decimal, codes}
+use Rattle.std.specs.Prelude.{◌≡◌, ℕ, zero, suc, ◌+◌, ◌<◌, ◌≤◌, List, [], ◌∷◌, ◌++◌, length, Option, Some, None, ◌==◌, count_by, decimal, codes}
 use Rattle.sedck_text.specs.Bytes.{newline}
 use Rattle.sedck_script.specs.Names.{IsName, IsBefore}
 use Rattle.sedck_cert.specs.Certificate.{nodes_in, AreWithin}
-use Rattle.sedck_cert.specs.Text.{line, header, node_text, IsOneLine}
+use Rattle.sedck_cert.specs.Text.{line, header, node_text, joined_lines, IsOneLine}
 use Rattle.sedck_cert.specs.declared.versions.Version.{Version}
 use Rattle.sedck_cert.specs.declared.reading.names.Files.{Files}
 use Rattle.sedck_cert.specs.declared.reading.names.Files.TheVariants.{Reads, Writes}
@@ -18,7 +18,7 @@ pub data Due : Type 0 where
   Node : ℕ → ℕ → Due
   -- the count of a list, where the names so far have this many bytes with their newlines
   Names : Files → ℕ → Due
-  -- so many names of the list, of which the last one before them is given, and the bytes so far
+  -- a name of the list, how many follow it, the name before, if there is one, and the bytes so far
   Name : Files → ℕ → List (List ℕ) → ℕ → Due
   Last : Due
   Nothing : Due
@@ -33,17 +33,15 @@ abbrev pub after_list : Files → ℕ → Due
 after_list Reads size = Names Writes size
 after_list Writes size = Last
 
-abbrev pub after_count : Files → ℕ → ℕ → Due
-after_count files zero size = after_list files size
-after_count files (suc left) size = Name files (suc left) [] size
+-- where so many names are left, after the one before, if there is one
+abbrev pub names_due : Files → ℕ → List (List ℕ) → ℕ → Due
+names_due files zero before size = after_list files size
+names_due files (suc left) before size = Name files left before size
 
-abbrev pub after_name : Files → ℕ → List ℕ → ℕ → Due
-after_name files zero name size = after_list files size
-after_name files (suc left) name size = Name files (suc left) (name ∷ []) size
-
-abbrev pub after_node : ℕ → ℕ → Due
-after_node node zero = Names Reads 0
-after_node node (suc left) = Node (suc node) left
+-- where so many nodes are left, from this one on
+abbrev pub nodes_due : ℕ → ℕ → Due
+nodes_due node zero = Names Reads 0
+nodes_due node (suc left) = Node node left
 
 abbrev pub list_word : Files → List ℕ
 list_word Reads = codes "read "
@@ -52,13 +50,12 @@ list_word Writes = codes "write "
 -- the line, without its newline, is what is due, and what is due next
 abbrev pub IsDue : Version → Due → List ℕ → Due → Type 0
 IsDue v Header text next = (text ≡ header v) × (next ≡ Count)
-IsDue v Count text next = (n : ℕ) × (n ≤ 4095) × (text ≡ codes "commands " ++ decimal n) × (next ≡ Node 0 (nodes_in v n - 1))
+IsDue v Count text next = (n : ℕ) × (n ≤ 4095) × (text ≡ codes "commands " ++ decimal n) × (next ≡ nodes_due 0 (nodes_in v n))
 IsDue v (Node node left) text next =
-    (ranks : Option (ℕ × ℕ)) × AreWithin ranks × (text ≡ node_text v node ranks) × (next ≡ after_node node left)
-IsDue v (Names files size) text next = (n : ℕ) × (n ≤ 4095) × (text ≡ list_word files ++ decimal n) × (next ≡ after_count files n size)
-IsDue v (Name files zero before size) text next = ⊥
-IsDue v (Name files (suc left) before size) text next =
-    IsName text × ComesAfter before text × (size + length text + 1 ≤ 1048576) × (next ≡ after_name files left text (size + length text + 1))
+    (ranks : Option (ℕ × ℕ)) × AreWithin ranks × (text ≡ node_text v node ranks) × (next ≡ nodes_due (suc node) left)
+IsDue v (Names files size) text next = (n : ℕ) × (n ≤ 4095) × (text ≡ list_word files ++ decimal n) × (next ≡ names_due files n [] size)
+IsDue v (Name files left before size) text next =
+    IsName text × ComesAfter before text × (size + length text + 1 ≤ 1048576) × (next ≡ names_due files left (text ∷ []) (size + length text + 1))
 IsDue v Last text next = (text ≡ codes "end") × (next ≡ Nothing)
 IsDue v Nothing text next = ⊥
 
@@ -80,10 +77,6 @@ fault_at (Names files size) n = BadNames n
 fault_at (Name files left before size) n = BadNames n
 fault_at Last n = BadEnd n
 fault_at Nothing n = BadEnd n
-
-abbrev pub joined_lines : List (List ℕ) → List ℕ
-joined_lines [] = []
-joined_lines (text ∷ more) = line text ++ joined_lines more
 
 -- where nothing is due, the text ends
 abbrev pub IsRefused : Version → Due → List ℕ → Type 0

@@ -1,6 +1,5 @@
--- When a certificate of version 1 was accepted, and what becomes of it. Its nodes are places with the substitution flag. What upgrading keeps is
--- the law `upgrades_are_accepted`.
-use Rattle.std.specs.Prelude.{◌≡◌, ℕ, List, [], ◌∷◌, length, Option, Some, slice_get}
+-- When a certificate of version 1, whose nodes are places with the substitution flag, was accepted, and what becomes of it (law `upgrades_are_accepted`).
+use Rattle.std.specs.Prelude.{◌≡◌, ℕ, List, [], ◌∷◌, length, Option, Some, slice_get, flat_map}
 use Rattle.std.specs.Option.{option_flatten}
 use Rattle.sedck_script.specs.Program.{Program}
 use Rattle.sedck_flow.specs.Run.{NamesForReading, NamesForWriting}
@@ -35,8 +34,7 @@ pub record AcceptsOne (kinds : Kinds) (p : Program) (c : Certificate) : Type 0 w
 
 -- each entry twice: a node has become two, one where a line is left and then one where none is (the law `upgrades_keep_ranks`)
 abbrev pub doubled : List (Option (ℕ × ℕ)) → List (Option (ℕ × ℕ))
-doubled [] = []
-doubled (ranks ∷ more) = ranks ∷ ranks ∷ doubled more
+doubled all = flat_map (λ ranks. ranks ∷ ranks ∷ []) all
 
 -- the certificate over nodes that know the last line
 abbrev pub upgraded : Certificate → Certificate

@@ -17,7 +17,7 @@ use sedck_flow::{Edge, Kind, Node, edges_of};
 use sedck_script::Script;
 
 /// Why a certificate is rejected.
-#[derive(Clone, Copy, Debug)]
+#[derive(Clone, Copy)]
 pub enum Rejection {
     /// The number of commands is other than the script's.
     WrongCount,
@@ -34,7 +34,7 @@ pub enum Rejection {
 }
 
 /// Whether a certificate is accepted.
-#[derive(Clone, Copy, Debug)]
+#[derive(Clone, Copy)]
 pub enum Verdict {
     Accepted,
     Rejected(Rejection),

@@ -3,7 +3,7 @@
 
 /// A limit on the steps of any run: `per_byte` for each byte of the input's lines, newlines not counted,
 /// `per_line` for each line, plus `fixed`.
-#[derive(Clone, Copy, Debug, PartialEq, Eq)]
+#[derive(Clone, Copy, PartialEq, Eq)]
 pub struct Bound {
     pub per_byte: u64,
     pub per_line: u64,

@@ -7,7 +7,7 @@ ghost use Rattle.sedck_cert.specs.Text.{header as header_of};
 use sedck_flow::node_count;
 
 /// A version of a certificate's text. In version 1 a node is a place and the substitution flag.
-#[derive(Clone, Copy, Debug, PartialEq, Eq)]
+#[derive(Clone, Copy, PartialEq, Eq)]
 pub enum Version {
     One,
     Two,

@@ -3,12 +3,11 @@
 ghost use Rattle.std.specs.Prelude.{◌++◌, ◌≤◌, ◌∷◌, [], length, map, OnOk, OnErr, decimal, codes, ℕ, List};
 ghost use Rattle.std.specs.Io.KnownBytes.{Appends};
 ghost use Rattle.sedck_cert.specs.Streams.{ReportsFailure, IsPrefixOf, AppendsPrefix};
-ghost use Rattle.sedck_cert.specs.Text.{line, header, ranks_text, node_text, node_lines, name_lines, files_text, certificate_text};
+ghost use Rattle.sedck_cert.specs.Text.{line, header, ranks_text, node_text, node_texts, joined_lines, files_text, certificate_text};
 ghost use Rattle.sedck_cert.specs.declared.versions.Version.TheVariants.{Two};
 
 use crate::certificate::Cert;
 use crate::streams::{Failed, Sink, write_all, write_decimal};
-use sedck_flow::Node;
 use std::convert::AsSlice;
 
 /// Writes the certificate's text. It takes no memory.
@@ -58,22 +57,22 @@ fn write_ranks<W: Sink>(out: &mut W, ranks: Option<(u16, u16)>) -> Result<(), Fa
     write_field(out, second, b'\n')
 }
 
+/// Writes a node's line: its place, its flag, whether the last line has been read, and its ranks.
 fn write_node<W: Sink>(out: &mut W, index: u16, ranks: Option<(u16, u16)>) -> Result<(), Failed>
     ensures written { OnOk result (Appends (W.taken out.old) (W.taken out.new) (line (node_text Two index ranks))) }
     ensures begun { OnErr result (AppendsPrefix (W.taken out.old) (W.taken out.new) (line (node_text Two index ranks))) }
     ensures failure { ReportsFailure result (W.has_failed out.old) (W.has_failed out.new) }
 {
-    let node = Node::nth(usize::from(index));
-    write_field(out, node.at, b' ')?;
-    write_field(out, u16::from(node.flag), b' ')?;
-    write_field(out, u16::from(node.last), b' ')?;
+    write_field(out, index / 4, b' ')?;
+    write_field(out, index / 2 % 2, b' ')?;
+    write_field(out, index % 2, b' ')?;
     write_ranks(out, ranks)
 }
 
 fn write_nodes<W: Sink>(out: &mut W, ranks: &[Option<(u16, u16)>]) -> Result<(), Failed>
     requires { length ranks.now ≤ 16384 }
-    ensures written { OnOk result (Appends (W.taken out.old) (W.taken out.new) (node_lines Two 0 ranks.now)) }
-    ensures begun { OnErr result (AppendsPrefix (W.taken out.old) (W.taken out.new) (node_lines Two 0 ranks.now)) }
+    ensures written { OnOk result (Appends (W.taken out.old) (W.taken out.new) (joined_lines (node_texts Two 0 ranks.now))) }
+    ensures begun { OnErr result (AppendsPrefix (W.taken out.old) (W.taken out.new) (joined_lines (node_texts Two 0 ranks.now))) }
     ensures failure { ReportsFailure result (W.has_failed out.old) (W.has_failed out.new) }
 {
     for (node, pair) in ranks.iter().enumerate() {
@@ -112,9 +111,9 @@ pub fn write_files<W: Sink, N: AsSlice<u8>>(
 /// Writes the lines of a list.
 fn write_names<W: Sink, N: AsSlice<u8>>(out: &mut W, word: &[u8], names: &[N]) -> Result<(), Failed>
     ensures written { OnOk result (Appends (W.taken out.old) (W.taken out.new)
-        (line (word.now ++ decimal (length (map N.items names.now))) ++ name_lines (map N.items names.now))) }
+        (line (word.now ++ decimal (length (map N.items names.now))) ++ joined_lines (map N.items names.now))) }
     ensures begun { OnErr result (AppendsPrefix (W.taken out.old) (W.taken out.new)
-        (line (word.now ++ decimal (length (map N.items names.now))) ++ name_lines (map N.items names.now))) }
+        (line (word.now ++ decimal (length (map N.items names.now))) ++ joined_lines (map N.items names.now))) }
     ensures failure { ReportsFailure result (W.has_failed out.old) (W.has_failed out.new) }
 {
     write_all(out, word)?;
@@ -125,8 +124,8 @@ fn write_names<W: Sink, N: AsSlice<u8>>(out: &mut W, word: &[u8], names: &[N]) -
 
 /// Writes each name as a line.
 fn write_lines<W: Sink, N: AsSlice<u8>>(out: &mut W, names: &[N]) -> Result<(), Failed>
-    ensures written { OnOk result (Appends (W.taken out.old) (W.taken out.new) (name_lines (map N.items names.now))) }
-    ensures begun { OnErr result (AppendsPrefix (W.taken out.old) (W.taken out.new) (name_lines (map N.items names.now))) }
+    ensures written { OnOk result (Appends (W.taken out.old) (W.taken out.new) (joined_lines (map N.items names.now))) }
+    ensures begun { OnErr result (AppendsPrefix (W.taken out.old) (W.taken out.new) (joined_lines (map N.items names.now))) }
     ensures failure { ReportsFailure result (W.has_failed out.old) (W.has_failed out.new) }
 {
     for name in names {

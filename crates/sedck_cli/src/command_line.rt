@@ -22,7 +22,7 @@ use std::fs::Files;
 use std::io::Write;
 
 /// Why the program answers neither yes nor no.
-#[derive(Clone, Copy, Debug, Drop)]
+#[derive(Clone, Copy, Drop)]
 pub enum Refusal {
     /// The words are of no known form, or one begins with a hyphen.
     Usage,

@@ -11,7 +11,7 @@ use std::fmt;
 use thiserror::Error;
 
 /// What a report says in one word.
-#[derive(Clone, Copy, Debug, PartialEq, Eq)]
+#[derive(Clone, Copy, PartialEq, Eq)]
 pub enum Outcome {
     /// The certificate is accepted, or what was asked for is reported.
     Yes,

@@ -15,7 +15,7 @@ use sedck_search::{Found, search};
 use std::alloc::{AllocError, Global};
 
 /// What is reported of a script alone.
-#[derive(Clone, Copy, Debug, PartialEq, Eq)]
+#[derive(Clone, Copy, PartialEq, Eq)]
 pub enum ScriptReport {
     /// The files that it reads and writes.
     Files,

@@ -9,7 +9,7 @@ use sedck_page::{dot_report, html_report};
 use std::alloc::{AllocError, Global};
 
 /// How a report is printed.
-#[derive(Clone, Copy, Debug, PartialEq, Eq)]
+#[derive(Clone, Copy, PartialEq, Eq)]
 pub enum Format {
     /// For people: lines with carets, hints and a summary.
     Text,
@@ -78,7 +78,7 @@ impl Format {
 }
 
 /// How reports look.
-#[derive(Clone, Copy, Debug, PartialEq, Eq)]
+#[derive(Clone, Copy)]
 pub struct Style {
     pub format: Format,
     /// Colours of ANSI terminals, in the format for people.

@@ -11,7 +11,7 @@ use std::alloc::{AllocError, Global};
 use std::io::Input;
 
 /// Why a call isn't explained.
-#[derive(Clone, Copy, Debug, PartialEq, Eq, Drop)]
+#[derive(Clone, Copy, Drop)]
 pub enum Unexplained {
     /// The file whose path this is can't be read.
     Unread(Origin),

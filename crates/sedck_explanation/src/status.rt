@@ -4,7 +4,7 @@ ghost use Rattle.std.specs.Prelude.{◌≡◌};
 ghost use Rattle.sedck_explanation.specs.Status.{code_of, is_accepted, worse, rank};
 
 /// How the program ends.
-#[derive(Clone, Copy, Debug, PartialEq, Eq)]
+#[derive(Clone, Copy)]
 pub enum Status {
     Accepted,
     /// A certificate is rejected, a loop rules all out, or something is denied.

@@ -25,7 +25,7 @@ pub struct FoundCall {
 }
 
 /// A variable that is replaced by its value.
-#[derive(Clone, Copy, Debug, PartialEq, Eq)]
+#[derive(Clone, Copy)]
 pub struct Followed {
     /// The file has what is replaced from this offset on ..
     pub start: usize,
@@ -35,7 +35,7 @@ pub struct Followed {
 }
 
 /// Where a value comes from.
-#[derive(Clone, Copy, Debug, PartialEq, Eq)]
+#[derive(Clone, Copy)]
 pub enum KnownValue {
     /// The file sets it to what begins on the line of this number, from 1.
     Line(usize),
@@ -65,7 +65,7 @@ pub enum FoundScript {
 }
 
 /// Why a script isn't known before a run.
-#[derive(Clone, Copy, Debug, PartialEq, Eq)]
+#[derive(Clone, Copy)]
 pub enum Unknown {
     /// A variable or a command gives the script as a whole, or options.
     Words,
@@ -80,7 +80,7 @@ pub enum Unknown {
 }
 
 /// What isn't known of a call, on which its words depend.
-#[derive(Clone, Copy, Debug, PartialEq, Eq)]
+#[derive(Clone, Copy)]
 pub struct OpenHole {
     /// Where the file has it, and how it becomes a part of a word.
     pub hole: Hole,
@@ -101,7 +101,7 @@ impl OpenHole {
 }
 
 /// What a hole may change.
-#[derive(Clone, Copy, Debug, PartialEq, Eq)]
+#[derive(Clone, Copy)]
 pub enum Role {
     /// An expression, outside of its lists.
     Expression,

@@ -37,7 +37,7 @@ impl Scope {
 }
 
 /// Where a variable is set or used.
-#[derive(Clone, Copy, PartialEq, Eq)]
+#[derive(Clone, Copy)]
 pub(crate) struct Spot {
     pub scope: Scope,
     pub site: Site,

@@ -1,11 +1,11 @@
 -- Edges lead to commands or to the script's end.
-use Rattle.std.proofs.Common.{◌≡◌, ℕ, zero, suc, ◌<◌, ◌≤◌, Bool, true, false, List, [], ◌∷◌, length, refl, sym, ap, inl, inr, arith}
-use Rattle.std.specs.Prelude.{Option, Some, None, MatchOption, slice_get, if◌then◌else◌}
+use Rattle.std.proofs.Common.{◌≡◌, ℕ, zero, suc, ◌<◌, ◌≤◌, List, [], ◌∷◌, length, refl, sym, ap, inl, inr, arith}
+use Rattle.std.specs.Prelude.{Option, Some, None, MatchOption, slice_get}
 use Rattle.std.proofs.lemmas.List.Elements.{All-contains}
 use Rattle.std.proofs.lemmas.Option.{get_or_from_slice_get, slice_get_within}
 use Rattle.sedck_script.specs.Invariant.{IsTargetWithin, AreTargetsWithin}
-use Rattle.sedck_script.specs.Program.{Address, NoAddress, One, Two, Verb, Block, Branch, Change, Delete, DeleteFirstLine, Next, NextAppend, Quit, Substitute, Test, Command, Program}
-use Rattle.sedck_flow.specs.Nodes.{start, moved_to, next, with_flag}
+use Rattle.sedck_script.specs.Program.{Address, Two, Verb, Block, Change, Quit, Command, Program}
+use Rattle.sedck_flow.specs.Nodes.{start}
 use Rattle.sedck_flow.specs.Flow.{ReadsLine, VerbEdge, node_past, CommandEdge, Flow}
 use Rattle.sedck_flow.specs.declared.graph.Node.{Node}
 use Rattle.sedck_flow.specs.declared.graph.Edge.{Edge}
@@ -20,25 +20,9 @@ slice_get-none (y ∷ xs) (suc i) e = omega (arith, slice_get-none xs i e)
 
 module _ (p : Program) (n : ℕ) where
   verb_inside : (a : Address) (v : Verb) → IsTargetWithin n v → (from : Node) (kind : Kind) (to : Node) → from.at < n → VerbEdge p a v from kind to → to.at ≤ n
-  verb_inside a (Branch target) inside from kind to below (_, e) = omega (arith, ap (λ (x : Node). x.at) e)
-  verb_inside (Two first end) (Change text) inside from kind to below (inl (_, _, _, e)) = omega (arith, ap (λ (x : Node). x.at) e)
-  verb_inside (Two first end) (Change text) inside from kind to below (inr (_, e)) = omega (arith, ap (λ (x : Node). x.at) e)
-  verb_inside NoAddress (Change text) inside from kind to below (_, _, _, e) = omega (arith, ap (λ (x : Node). x.at) e)
-  verb_inside (One place) (Change text) inside from kind to below (_, _, _, e) = omega (arith, ap (λ (x : Node). x.at) e)
-  verb_inside a Delete inside from kind to below (_, _, _, e) = omega (arith, ap (λ (x : Node). x.at) e)
-  verb_inside a DeleteFirstLine inside from kind to below (inl (_, _, _, e)) = omega (arith, ap (λ (x : Node). x.at) e)
-  verb_inside a DeleteFirstLine inside from kind to below (inr (_, flag, _, e)) = omega (arith, ap (λ (x : Node). x.at) e)
-  verb_inside a Next inside from kind to below (flag, _, (_, _, _, e)) = omega (arith, ap (λ (x : Node). x.at) e)
-  verb_inside a NextAppend inside from kind to below (flag, _, (_, _, _, e)) = omega (arith, ap (λ (x : Node). x.at) e)
   verb_inside a Quit inside from kind to below h = absurd h
-  verb_inside a (Substitute s) inside from kind to below (inl (_, e)) = omega (arith, ap (λ (x : Node). x.at) e)
-  verb_inside a (Substitute s) inside from kind to below (inr (_, e)) = omega (arith, ap (λ (x : Node). x.at) e)
-  verb_inside a (Test target) inside from kind to below (_, e) = by_flag from.flag e
-    where
-      by_flag : (flag : Bool) → to ≡ (if flag then with_flag (moved_to from target) false else next from) → to.at ≤ n
-      by_flag true e' = omega (arith, ap (λ (x : Node). x.at) e')
-      by_flag false e' = omega (arith, ap (λ (x : Node). x.at) e')
-  verb_inside a _ inside from kind to below h = omega (arith, ap (λ (x : Node). x.at) h.1)
+  verb_inside (Two first end) (Change text) inside from kind to below h = grind arith
+  verb_inside a _ inside from kind to below h = grind arith
 
   past_inside : (v : Verb) → IsTargetWithin n v → (from to : Node) → from.at < n → to ≡ node_past v from → to.at ≤ n
   past_inside (Block behind) inside from to below e = omega (arith, ap (λ (x : Node). x.at) e)

@@ -14,12 +14,12 @@ use Rattle.sedck_flow.specs.Patterns.{StandsFor}
 use Rattle.sedck_flow.specs.Private.Least.{IsFormed, HasFormed}
 use Rattle.sedck_flow.specs.Nodes.{start}
 use Rattle.sedck_flow.specs.Flow.{MayApplyAt, MaySkipAt, ReadsLine, VerbEdge, node_past, CommandEdge, Flow, FlowFrom, ListsEdges}
-use Rattle.sedck_flow.specs.Private.EdgeList.{edge_to, AddsEdge, ListsTargets}
+use Rattle.sedck_flow.specs.Private.EdgeList.{edge_to, Adds, AddsEdge}
 use Rattle.sedck_flow.specs.declared.graph.Node.{Node}
 use Rattle.sedck_flow.specs.declared.graph.Edge.{Edge}
 use Rattle.sedck_flow.specs.declared.graph.Kind.{Kind}
 use Rattle.sedck_flow.specs.declared.graph.Kind.TheVariants.{Keep}
-use Rattle.sedck_flow.proofs.EdgeListLemmas.{lists_edges, lists_none, lists_more, lists_same}
+use Rattle.sedck_flow.proofs.EdgeListLemmas.{lists_edges, adds_then, adds_same}
 use Rattle.sedck_flow.proofs.EdgesInside.{target_at}
 use Rattle.sedck_flow.proofs.StepsFollowEdges.{IsKnown, known_at}
 
@@ -36,32 +36,20 @@ drop_next (y ∷ xs) (suc i) x e = drop_next xs i x e
 abbrev pub Applied : Program → Command → Node → Kind → Node → Type 0
 Applied p c n kind to = MayApplyAt c n × VerbEdge p c.address c.verb n kind to
 
-pub applied : (p : Program) (c : Command) (n : Node) (edges : List (Node × Kind)) → MayApplyAt c n → ListsTargets edges (VerbEdge p c.address c.verb n)
-    → ListsTargets edges (Applied p c n)
-applied p c n edges may lists = lists_same edges (VerbEdge p c.address c.verb n) (Applied p c n) (λ k t. (λ h. (may, h), λ h. h.1)) lists
-
-pub not_applied : (p : Program) (c : Command) (n : Node) → ¬ MayApplyAt c n → ListsTargets [] (Applied p c n)
-not_applied p c n may_not = lists_same [] (λ k t. ⊥) (Applied p c n) (λ k t. (λ h. absurd h, λ h. may_not h.0)) lists_none
-
-pub conditional : (p : Program) (c : Command) (n : Node) (edges all : List (Node × Kind)) → MaySkipAt c n
-    → ListsTargets edges (Applied p c n) → AddsEdge Keep (node_past c.verb n) edges all
-    → ListsTargets all (CommandEdge p c n)
-conditional p c n edges all may lists adds =
-    lists_same all _ (CommandEdge p c n)
-    (λ k t. (elim [ inl h ↦ inl (may, h.0, h.1) | inr h ↦ inr h ], elim [ inl h ↦ inl (h.1, h.2) | inr h ↦ inr h ]))
-    (lists_more edges all (Applied p c n) _ lists adds)
-
-pub unconditional : (p : Program) (c : Command) (n : Node) (edges : List (Node × Kind)) → ¬ MaySkipAt c n
-    → ListsTargets edges (Applied p c n) → ListsTargets edges (CommandEdge p c n)
-unconditional p c n edges may_not lists =
-    lists_same _ (Applied p c n) (CommandEdge p c n) (λ k t. (λ h. inr h, elim [ inl h ↦ absurd (may_not h.0) | inr h ↦ h ])) lists
+-- and one by which it may be passed
+pub adds_skip : (p : Program) (c : Command) (n : Node) (before between after : List (Node × Kind)) → MaySkipAt c n
+    → Adds (Applied p c n) before between → AddsEdge Keep (node_past c.verb n) between after → Adds (CommandEdge p c n) before after
+adds_skip p c n before between after may applied skipped =
+    adds_same _ (CommandEdge p c n) before after
+    (λ k t. (elim [ inl h ↦ inr h | inr h ↦ inl (may, h.0, h.1) ], elim [ inl h ↦ inr (h.1, h.2) | inr h ↦ inl h ]))
+    (adds_then (Applied p c n) _ before between after applied skipped)
 
 -- ---- A node
 
 abbrev EdgeAt : Program → Node → Option Command → Kind → Node → Type 0
 EdgeAt p n o kind to = MatchOption o ((n.at ≡ length p.commands) × ReadsLine n start kind to) (λ c. CommandEdge p c n kind to)
 
-at_node : (p : Program) (n : Node) (o : Option Command) (edges : List (Node × Kind)) → slice_get p.commands n.at ≡ o → ListsTargets edges (EdgeAt p n o)
+at_node : (p : Program) (n : Node) (o : Option Command) (edges : List (Node × Kind)) → slice_get p.commands n.at ≡ o → Adds (EdgeAt p n o) [] edges
     → ListsEdges (map (edge_to n) edges) (FlowFrom p n)
 at_node p n o edges is lists = let listed = lists_edges n edges (EdgeAt p n o) lists in record {
   in_order = listed.in_order;
@@ -75,13 +63,13 @@ at_node p n o edges is lists = let listed = lists_edges n edges (EdgeAt p n o) l
     back e (h, from) = subst (λ x. EdgeAt p n x e.kind e.to) is (subst (λ (m : Node). EdgeAt p m (slice_get p.commands m.at) e.kind e.to) from h)
 
 pub at_command : (p : Program) (n : Node) (c : Command) (edges : List (Node × Kind)) → slice_get p.commands n.at ≡ Some c
-    → ListsTargets edges (CommandEdge p c n) → ListsEdges (map (edge_to n) edges) (FlowFrom p n)
+    → Adds (CommandEdge p c n) [] edges → ListsEdges (map (edge_to n) edges) (FlowFrom p n)
 at_command p n c edges is lists = at_node p n (Some c) edges is lists
 
 pub at_end : (p : Program) (n : Node) (edges : List (Node × Kind)) → slice_get p.commands n.at ≡ None → n.at ≡ length p.commands
-    → ListsTargets edges (ReadsLine n start) → ListsEdges (map (edge_to n) edges) (FlowFrom p n)
+    → Adds (ReadsLine n start) [] edges → ListsEdges (map (edge_to n) edges) (FlowFrom p n)
 at_end p n edges is place lists = at_node p n None edges is
-    (lists_same edges (ReadsLine n start) (EdgeAt p n None) (λ k t. (λ h. (place, h), λ h. h.1)) lists)
+    (adds_same (ReadsLine n start) (EdgeAt p n None) [] edges (λ k t. (λ h. (place, h), λ h. h.1)) lists)
 
 -- ---- What a script's invariant says of one command
 

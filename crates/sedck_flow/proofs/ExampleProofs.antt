@@ -1,7 +1,8 @@
 -- The worked examples hold.
-use Rattle.std.proofs.Common.{◌≡◌, ℕ, ◌≤◌, Bool, true, false, List, [], ◌∷◌, length, Contains, refl, sym, ap, ◌∙◌, subst, inl, inr, arith, length-append}
+use Rattle.std.proofs.Common.{◌≡◌, ℕ, ◌≤◌, true, false, List, [], ◌∷◌, length, Contains, refl, sym, ap, ◌∙◌, subst, inl, inr, arith, length-append}
 use Rattle.std.specs.Prelude.{codes}
 use Rattle.std.specs.Fmt.{digits}
+use Rattle.std.proofs.lemmas.Bool.{false≢true, true≢false}
 use Rattle.sedck_bre.specs.Tree.{Tree, Any, Seq, Then, Nil}
 use Rattle.sedck_bre.specs.Match.{Groups, no_groups, text_of, with_text, Match, Language}
 use Rattle.sedck_script.proofs.SortedNames.{Contains-cons_cases}
@@ -24,12 +25,6 @@ empty_before behind = record { whole = []; groups = no_groups; behind = behind }
 edge_text : edge_words (edge 1 false true 2 true true Shorten) ≡ codes "1 0 1 2 1 1 shorten"
 unfolding digits
 edge_text = refl
-
-false-true : false ≡ true → ⊥
-false-true e = cc
-
-at_node : ℕ → Bool → Bool → Node
-at_node at flag last = record { at = at; flag = flag; last = last }
 
 -- a match of `x` has one byte
 length-one_x : (text : List ℕ) (groups : _) → Match one_x no_groups text groups → length text ≡ 1
@@ -154,50 +149,41 @@ group_not_shortens : ¬ Shortens (replace_once b_in_group group_in_dashes) (repl
 unfolding b_alone
 group_not_shortens h = let less = h.1 b_in_group (97 ∷ 98 ∷ 99 ∷ []) b_alone refl matches_abc in omega (arith, less)
 
-flags_differ : (a b : ℕ) (f g l m : Bool) → f ≡ true → g ≡ false → at_node a f l ≡ at_node b g m → ⊥
-unfolding at_node
-flags_differ a b f g l m t u e = false-true (sym u ∙ sym (ap (λ (n : Node). n.flag) e) ∙ t)
-
-lasts_differ : (a b : ℕ) (f g l m : Bool) → l ≡ true → m ≡ false → at_node a f l ≡ at_node b g m → ⊥
-unfolding at_node
-lasts_differ a b f g l m t u e = false-true (sym u ∙ sym (ap (λ (n : Node). n.last) e) ∙ t)
-
 unread_differ : {m n : Machine} → At m ≡ At n → length m.unread ≡ length n.unread
 unread_differ e = ap (λ (x : Machine). length x.unread) (at_inj e)
 
 pub examples_hold : ExamplesHold
-unfolding at_node
 examples_hold = record {
   edge_text = edge_text;
   shortens = inr (tt, inr (x_shortens, refl));
   not_keeps = elim [
-    | inl h ↦ false-true h.0.0
-    | inr (_, inl (_, e)) ↦ flags_differ 2 2 true false false false refl refl e
+    | inl h ↦ false≢true h.0.0
+    | inr (_, inl (_, e)) ↦ true≢false (ap (λ (n : Node). n.flag) e)
     | inr (_, inr (h, _)) ↦ x_not_kept h
   ];
   keeps = inr (tt, inr (inr (xs_not_shorten, xs_never_lengthen), refl));
-  not_shortens = elim [ inl h ↦ false-true h.0.0 | inr (_, inl (e, _)) ↦ cc | inr (_, inr (h, _)) ↦ xs_not_shorten h ];
-  stays_before_last = elim [ inl h ↦ false-true h.0.0 | inr (_, inl (e, _)) ↦ cc | inr (_, inr (_, e)) ↦ lasts_differ 2 2 true true true false refl refl e ];
+  not_shortens = elim [ inl h ↦ false≢true h.0.0 | inr (_, inl (e, _)) ↦ cc | inr (_, inr (h, _)) ↦ xs_not_shorten h ];
+  stays_before_last = elim [ inl h ↦ false≢true h.0.0 | inr (_, inl (e, _)) ↦ cc | inr (_, inr (_, e)) ↦ true≢false (ap (λ (n : Node). n.last) e) ];
   test_taken = inr (tt, (refl, refl));
   test_passed = inr (tt, (refl, refl));
-  test_resets = elim [ inl h ↦ false-true h.0.0 | inr (_, (_, e)) ↦ flags_differ 0 0 true false true true refl refl e ];
+  test_resets = elim [ inl h ↦ false≢true h.0.0 | inr (_, (_, e)) ↦ true≢false (ap (λ (n : Node). n.flag) e) ];
   drops_kept = inr (tt, inr (refl, true, inl refl, refl));
   drops_reset = inr (tt, inr (refl, false, inr refl, refl));
   drops_all = inr (tt, inl (refl, refl, true, refl));
-  drops_last = elim [ inl (_, e, _) ↦ cc | inr (_, inl (left, _, _, _)) ↦ false-true (sym left) | inr (_, inr (e, _, _, _)) ↦ cc ];
+  drops_last = elim [ inl (_, e, _) ↦ cc | inr (_, inl (left, _, _, _)) ↦ false≢true (sym left) | inr (_, inr (e, _, _, _)) ↦ cc ];
   skipped = inl ((refl, tt), refl, refl);
   not_skipped = elim [
-    | inl (_, _, e) ↦ flags_differ 1 1 true false false false refl refl (sym e)
+    | inl (_, _, e) ↦ true≢false (ap (λ (n : Node). n.flag) (sym e))
     | inr (_, inl (_, e, _, _)) ↦ cc
     | inr (_, inr (e, _, _, _)) ↦ cc
   ];
   begins_again = (refl, (refl, refl, true, refl));
-  ends = λ h. false-true (sym h.1.0);
+  ends = λ h. false≢true (sym h.1.0);
   appends = inr (refl, (false, inl refl, (refl, refl, false, refl)));
   appends_last = inr (refl, (false, inl refl, (refl, refl, true, refl)));
-  always_appends = elim [ inl ((_, last), _, _) ↦ false-true last | inr (_, (_, _, (_, e, _, _))) ↦ cc ];
+  always_appends = elim [ inl ((_, last), _, _) ↦ false≢true last | inr (_, (_, _, (_, e, _, _))) ↦ cc ];
   passed_on_last = inl ((refl, refl), refl, refl);
-  never_appends = elim [ inl (_, e, _) ↦ cc | inr (left, _) ↦ false-true (sym left) ];
+  never_appends = elim [ inl (_, e, _) ↦ cc | inr (left, _) ↦ false≢true (sym left) ];
   previous_keeps = inr (tt, inr (inr (previous_not_shorten, previous_never_lengthens), refl));
   previous_not_shortens = elim [ inl (_, e, _) ↦ cc | inr (_, inl (e, _)) ↦ cc | inr (_, inr (h, _)) ↦ previous_not_shorten h ];
   group_shortens = inr (tt, inr (group_shortens, refl));
@@ -215,7 +201,7 @@ examples_hold = record {
     front = [];
     matches = empty_before (codes "a") ∷ empty_before (codes "b") ∷ empty_before [] ∷ [];
     some_match = omega arith;
-    one_match = λ e. absurd (false-true (sym e));
+    one_match = λ e. absurd (false≢true (sym e));
     are_matches = (matches_empty, (matches_empty, (matches_empty, tt)));
     are_apart = (omega arith, (omega arith, tt));
     is_old = refl;

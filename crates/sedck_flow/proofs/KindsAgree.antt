@@ -3,37 +3,30 @@ use Rattle.std.proofs.Common.{◌≡◌, ◌⊎◌, ◌↔◌, IsTrue, List, [],
 use Rattle.std.proofs.lemmas.Bool.{false≢true}
 use Rattle.sedck_bre.specs.Match.{Groups}
 use Rattle.sedck_bre.specs.Rests.{texts_length}
-use Rattle.sedck_script.specs.Program.{Part, Text, Newline, Tab, Whole, Group, Substitution, Program}
+use Rattle.sedck_script.specs.Program.{Part, Whole, Group, Substitution, Program}
 use Rattle.sedck_script.specs.References.{HasNoWhole, named_groups, AreDistinct, AreTopGroups, KeepsGroups}
 use Rattle.sedck_flow.specs.Flow.{IsWholeAlone, Shortens, NeverLengthens, HasKind}
 use Rattle.sedck_flow.specs.LiteralKinds.{is_literal, LiteralShortens, LiteralNeverLengthens, HasLiteralKind}
+use Rattle.sedck_flow.proofs.VerbLemmas.{one_kind}
 use Rattle.sedck_flow.specs.declared.graph.Kind.{Kind}
 use Rattle.sedck_flow.specs.declared.graph.Kind.TheVariants.{Consume, Shorten, Keep, Grow}
 
 -- a literal replacement names no group and has no `&`
 literal_names : (parts : List Part) → IsTrue (is_literal parts) → named_groups parts ≡ []
 literal_names [] h = refl
-literal_names (Text bytes ∷ parts) h = literal_names parts h
-literal_names (Newline ∷ parts) h = literal_names parts h
-literal_names (Tab ∷ parts) h = literal_names parts h
 literal_names (Whole ∷ parts) h = absurd (false≢true h)
 literal_names (Group k ∷ parts) h = absurd (false≢true h)
+literal_names (_ ∷ parts) h = literal_names parts h
 
 literal_no_whole : (parts : List Part) → IsTrue (is_literal parts) → HasNoWhole parts
 literal_no_whole [] h = tt
-literal_no_whole (Text bytes ∷ parts) h = literal_no_whole parts h
-literal_no_whole (Newline ∷ parts) h = literal_no_whole parts h
-literal_no_whole (Tab ∷ parts) h = literal_no_whole parts h
 literal_no_whole (Whole ∷ parts) h = absurd (false≢true h)
 literal_no_whole (Group k ∷ parts) h = absurd (false≢true h)
+literal_no_whole (_ ∷ parts) h = literal_no_whole parts h
 
 literal_not_alone : (parts : List Part) → IsTrue (is_literal parts) → IsWholeAlone parts → ⊥
-literal_not_alone [] h alone = alone
 literal_not_alone (Whole ∷ parts) h alone = false≢true h
-literal_not_alone (Text bytes ∷ parts) h alone = alone
-literal_not_alone (Newline ∷ parts) h alone = alone
-literal_not_alone (Tab ∷ parts) h alone = alone
-literal_not_alone (Group k ∷ parts) h alone = alone
+literal_not_alone _ h alone = alone
 
 literal_keeps : (s : Substitution) → IsTrue (is_literal s.parts) → KeepsGroups s.pattern s.parts
 literal_keeps s h =
@@ -67,17 +60,9 @@ never_lengthens_literally p s literal h =
 pub kinds_agree : (p : Program) (s : Substitution) (literal kind : Kind) → HasLiteralKind p s literal → HasKind p s kind → (kind ≡ literal) ⊎ (literal ≡ Grow)
 kinds_agree p s Consume kind h k = absurd h
 kinds_agree p s Grow kind h k = inr refl
-kinds_agree p s Shorten Consume h k = absurd k
-kinds_agree p s Shorten Shorten h k = inl refl
-kinds_agree p s Shorten Keep h (inl alone) = absurd (literal_not_alone s.parts h.0 alone)
-kinds_agree p s Shorten Keep h (inr (not_shorter, _)) = absurd (not_shorter (shortens_still p s h))
-kinds_agree p s Shorten Grow h (_, longer) =
-    let short = shortens_still p s h in
-    absurd (longer (short.0, λ tree text groups is m. omega (arith, short.1 tree text groups is m)))
-kinds_agree p s Keep Consume h k = absurd k
-kinds_agree p s Keep Shorten h k = absurd (h.0 (shortens_literally p s h.1.0 k))
-kinds_agree p s Keep Keep h k = inl refl
-kinds_agree p s Keep Grow h (_, longer) = absurd (longer (never_lengthens_still p s h.1))
+kinds_agree p s Shorten kind h k = inl (one_kind p s kind Shorten k (shortens_still p s h))
+kinds_agree p s Keep kind h k =
+    inl (one_kind p s kind Keep k (inr (λ short. h.0 (shortens_literally p s h.1.0 short), never_lengthens_still p s h.1)))
 
 -- ---- A literal replacement
 

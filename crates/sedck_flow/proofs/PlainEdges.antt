@@ -1,7 +1,7 @@
 -- An edge between nodes that know the last line, without what they say of it.
 use Rattle.std.proofs.Common.{◌≡◌, Bool, true, false, length, ap, inl, inr}
 use Rattle.std.specs.Prelude.{Option, Some, None, MatchOption, slice_get, if◌then◌else◌}
-use Rattle.sedck_script.specs.Program.{Address, NoAddress, One, Two, Verb, Block, Branch, Change, Delete, DeleteFirstLine, Exchange, Get, GetAppend, Next, NextAppend, Quit, Substitute, Test, Command, Program}
+use Rattle.sedck_script.specs.Program.{Address, Two, Verb, Block, Change, Delete, DeleteFirstLine, Next, NextAppend, Quit, Substitute, Test, Command, Program}
 use Rattle.sedck_flow.specs.Nodes.{start, moved_to, next, with_flag}
 use Rattle.sedck_flow.specs.Flow.{HasKind, ReadsLine, VerbEdge, node_past, CommandEdge, Flow}
 use Rattle.sedck_flow.specs.VersionOne.{plain_node, plain_edge, start_one, moved_one, next_one, flagged_one, VerbEdgeOne, node_past_one, CommandEdgeOne, FlowOne}
@@ -20,17 +20,12 @@ tests target n to false e = ap plain_node e
 
 verb_plain : (p : Program) (a : Address) (v : Verb) (n : Node) (kind : Kind) (to : Node) → VerbEdge p a v n kind to
     → VerbEdgeOne (HasKind p) a v (plain_node n) kind (plain_node to)
-verb_plain p a (Branch target) n kind to (is, e) = (is, ap plain_node e)
 verb_plain p (Two first end) (Change text) n kind to (inl h) = inl (reads_line n kind to h)
 verb_plain p (Two first end) (Change text) n kind to (inr (is, e)) = inr (is, ap plain_node e)
-verb_plain p NoAddress (Change text) n kind to h = reads_line n kind to h
-verb_plain p (One place) (Change text) n kind to h = reads_line n kind to h
+verb_plain p _ (Change text) n kind to h = reads_line n kind to h
 verb_plain p a Delete n kind to h = reads_line n kind to h
 verb_plain p a DeleteFirstLine n kind to (inl h) = inl (reads_line n kind to h)
 verb_plain p a DeleteFirstLine n kind to (inr (is, flag, kept, e)) = inr (is, flag, kept, ap plain_node e)
-verb_plain p a Exchange n kind to (is, e) = (is, ap plain_node e)
-verb_plain p a Get n kind to (is, e) = (is, ap plain_node e)
-verb_plain p a GetAppend n kind to (is, e) = (is, ap plain_node e)
 verb_plain p a Next n kind to (flag, kept, (_, is, last, e)) = (is, flag, kept, ap plain_node e)
 verb_plain p a NextAppend n kind to (flag, kept, (_, is, last, e)) = (is, flag, kept, ap plain_node e)
 verb_plain p a Quit n kind to h = h

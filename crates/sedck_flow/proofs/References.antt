@@ -1,15 +1,14 @@
 -- Whether a replacement keeps groups is decided by cases; the length of what it makes.
-use Rattle.std.proofs.Common.{◌≡◌, ◌⊎◌, ℕ, ◌+◌, Bool, true, false, IsTrue, List, [], ◌∷◌, length, refl, ◌∙◌, inl, inr, arith, length-append}
-use Rattle.std.specs.Prelude.{◌≢◌, ◌==◌}
-use Rattle.std.proofs.lemmas.Bool.{false≢true}
-use Rattle.std.proofs.lemmas.Bool.Decides.{nat_tests}
+use Rattle.std.proofs.Common.{◌≡◌, ◌⊎◌, ℕ, ◌+◌, Bool, IsTrue, List, [], ◌∷◌, length, refl, ◌∙◌, inl, inr, arith, length-append}
+use Rattle.std.specs.Prelude.{◌≢◌}
+use Rattle.std.proofs.lemmas.Bool.{cases_eq}
 use Rattle.sedck_bre.specs.Tree.{Tree}
 use Rattle.sedck_bre.specs.Match.{text_of}
 use Rattle.sedck_bre.specs.Rests.{is_top_group, texts_length}
 use Rattle.sedck_bre.proofs.DifferentGroups.{AreDifferentTopGroups}
 use Rattle.sedck_script.proofs.ReferenceLemmas.{not_in}
 use Rattle.sedck_script.specs.References.{HasNoWhole, named_groups, IsNotIn, AreDistinct, AreTopGroups, KeepsGroups}
-use Rattle.sedck_script.specs.Program.{Pattern, Previous, Expression, Part, Text, Newline, Tab, Whole, Group, literal_length}
+use Rattle.sedck_script.specs.Program.{Pattern, Previous, Expression, Part, Text, Whole, Group, literal_length}
 use Rattle.sedck_flow.specs.Flow.{IsWholeAlone}
 use Rattle.sedck_flow.specs.Substitutes.{Occurrence, replacement}
 
@@ -24,75 +23,46 @@ pub length-replacement : (m : Occurrence) (parts : List Part) → HasNoWhole par
     → length (replacement parts m) ≡ literal_length parts + texts_length m.groups (named_groups parts)
 length-replacement m [] h = refl
 length-replacement m (Text bytes ∷ parts) h = length-append bytes (replacement parts m) ∙ omega (arith, length-replacement m parts h)
-length-replacement m (Newline ∷ parts) h = omega (arith, length-replacement m parts h)
-length-replacement m (Tab ∷ parts) h = omega (arith, length-replacement m parts h)
 length-replacement m (Whole ∷ parts) h = absurd h
 length-replacement m (Group k ∷ parts) h = length-append (text_of m.groups k) (replacement parts m) ∙ omega (arith, length-replacement m parts h)
+length-replacement m (_ ∷ parts) h = omega (arith, length-replacement m parts h)
 
 -- `&` alone puts the match back
 pub length-alone : (m : Occurrence) (parts : List Part) → IsWholeAlone parts → length (replacement parts m) ≡ length m.whole
-length-alone m [] h = absurd h
 length-alone m (Whole ∷ []) h = omega (arith, length-append m.whole [])
-length-alone m (Whole ∷ part ∷ parts) h = absurd h
-length-alone m (Text bytes ∷ parts) h = absurd h
-length-alone m (Newline ∷ parts) h = absurd h
-length-alone m (Tab ∷ parts) h = absurd h
-length-alone m (Group k ∷ parts) h = absurd h
+length-alone m _ h = absurd h
 
 pub alone_has_whole : (parts : List Part) → IsWholeAlone parts → HasNoWhole parts → ⊥
-alone_has_whole [] alone h = alone
 alone_has_whole (Whole ∷ parts) alone h = h
-alone_has_whole (Text bytes ∷ parts) alone h = alone
-alone_has_whole (Newline ∷ parts) alone h = alone
-alone_has_whole (Tab ∷ parts) alone h = alone
-alone_has_whole (Group k ∷ parts) alone h = alone
+alone_has_whole _ alone h = alone
 
 -- ---- What is decided of a replacement
 
 pub alone_or_not : (parts : List Part) → Decided (IsWholeAlone parts)
-alone_or_not [] = inr (λ h. h)
 alone_or_not (Whole ∷ []) = inl tt
-alone_or_not (Whole ∷ part ∷ parts) = inr (λ h. h)
-alone_or_not (Text bytes ∷ parts) = inr (λ h. h)
-alone_or_not (Newline ∷ parts) = inr (λ h. h)
-alone_or_not (Tab ∷ parts) = inr (λ h. h)
-alone_or_not (Group k ∷ parts) = inr (λ h. h)
+alone_or_not _ = inr (λ h. h)
 
 no_whole_or_not : (parts : List Part) → Decided (HasNoWhole parts)
 no_whole_or_not [] = inl tt
 no_whole_or_not (Whole ∷ parts) = inr (λ h. h)
-no_whole_or_not (Text bytes ∷ parts) = no_whole_or_not parts
-no_whole_or_not (Newline ∷ parts) = no_whole_or_not parts
-no_whole_or_not (Tab ∷ parts) = no_whole_or_not parts
-no_whole_or_not (Group k ∷ parts) = no_whole_or_not parts
+no_whole_or_not (_ ∷ parts) = no_whole_or_not parts
 
 same_or_not : (k j : ℕ) → Decided (k ≡ j)
-same_or_not k j = by_test (k == j) refl
-  where
-    by_test : (b : Bool) → (k == j) ≡ b → Decided (k ≡ j)
-    by_test true s = inl (grind (arith, nat_tests))
-    by_test false s = inr (grind (arith, nat_tests))
+same_or_not k j = cases_eq k j
 
 both_or_not : (A B : Type 0) → Decided A → Decided B → Decided (A × B)
-both_or_not A B (inl a) (inl b) = inl (a, b)
-both_or_not A B (inl a) (inr fails) = inr (λ h. fails h.1)
-both_or_not A B (inr fails) other = inr (λ h. fails h.0)
+both_or_not A B a b = grind arith
 
 not_in_or_in : (k : ℕ) (js : List ℕ) → Decided (IsNotIn k js)
 not_in_or_in k [] = inl tt
-not_in_or_in k (j ∷ js) = both_or_not (k ≢ j) (IsNotIn k js) (other (same_or_not k j)) (not_in_or_in k js)
-  where
-    other : Decided (k ≡ j) → Decided (k ≢ j)
-    other (inl same) = inr (λ differ. differ same)
-    other (inr differ) = inl differ
+not_in_or_in k (j ∷ js) = let other : Decided (k ≢ j) = grind (arith, same_or_not k j) in both_or_not (k ≢ j) (IsNotIn k js) other (not_in_or_in k js)
 
 distinct_or_not : (ks : List ℕ) → Decided (AreDistinct ks)
 distinct_or_not [] = inl tt
 distinct_or_not (k ∷ ks) = both_or_not (IsNotIn k ks) (AreDistinct ks) (not_in_or_in k ks) (distinct_or_not ks)
 
 is_true_or_not : (b : Bool) → Decided (IsTrue b)
-is_true_or_not true = inl refl
-is_true_or_not false = inr false≢true
+is_true_or_not b = grind arith
 
 top_or_not : (pattern : Pattern) (ks : List ℕ) → Decided (AreTopGroups pattern ks)
 top_or_not pattern [] = inl tt
@@ -101,14 +71,11 @@ top_or_not (Expression own) (k ∷ ks) =
     both_or_not (IsTrue (is_top_group own k)) (AreTopGroups (Expression own) ks) (is_true_or_not (is_top_group own k)) (top_or_not (Expression own) ks)
 
 pub keeps_groups_or_not : (pattern : Pattern) (parts : List Part) → Decided (KeepsGroups pattern parts)
-keeps_groups_or_not pattern parts = join (no_whole_or_not parts) (distinct_or_not (named_groups parts)) (top_or_not pattern (named_groups parts))
-  where
-    join : Decided (HasNoWhole parts) → Decided (AreDistinct (named_groups parts)) → Decided (AreTopGroups pattern (named_groups parts))
-        → Decided (KeepsGroups pattern parts)
-    join (inl no_whole) (inl distinct) (inl top) = inl (record { no_whole = no_whole; distinct = distinct; top = top })
-    join (inr fails) distinct top = inr (λ h. fails h.no_whole)
-    join (inl no_whole) (inr fails) top = inr (λ h. fails h.distinct)
-    join (inl no_whole) (inl distinct) (inr fails) = inr (λ h. fails h.top)
+keeps_groups_or_not pattern parts =
+    let no_whole = no_whole_or_not parts in
+    let distinct = distinct_or_not (named_groups parts) in
+    let top = top_or_not pattern (named_groups parts) in
+    grind arith
 
 -- ---- The groups
 

@@ -5,7 +5,7 @@ use Rattle.sedck_text.specs.Bytes.{newline}
 use Rattle.sedck_bre.specs.Tree.{Tree}
 use Rattle.sedck_bre.specs.Match.{no_groups}
 use Rattle.sedck_bre.proofs.MatchIsWide.{widens}
-use Rattle.sedck_script.specs.Program.{Line, Last, Context, Address, NoAddress, One, Two, Substitution, Verb, Append, Block, Branch, Change, Delete, DeleteFirstLine, Exchange, Get, GetAppend, Hold, HoldAppend, Insert, Label, LineNumber, List', Next, NextAppend, Print, PrintFirstLine, Quit, Read, Substitute, Test, Transliterate, Write, Command, Program}
+use Rattle.sedck_script.specs.Program.{Last, Address, One, Two, Substitution, Verb, Change, Delete, DeleteFirstLine, GetAppend, HoldAppend, Next, NextAppend, Substitute, Transliterate, Command, Program}
 use Rattle.sedck_flow.specs.Substitutes.{Occurrence, AreMatches, Substitutes}
 use Rattle.sedck_flow.specs.Run.{Machine, State, Start, At, Done, Event, next_cycle, TakesLine, behind_newline, DropsFirstLine, ChangesText, IsPartner, MayBecome, Transliterates, SubstituteStep, Does, MaySelect, MayNotSelect, StepAt, StepBehind, Step, Steps}
 use Rattle.sedck_flow.specs.WideRun.{begin_file, BeginsNextFile, NextWideCycle, WideTakesLine, behind_end, WideDropsFirstLine, WideChangesText, WideTransliterates, AreWideMatches, WideSubstitutes, WideSubstituteStep, WideDoes, WideMaySelect, WideStepAt, WideStepBehind, WideStep, WideSteps}
@@ -35,10 +35,9 @@ drops m None s e = on_cycle m.unread m.hold s e
 drops m (Some rest) s h = (h, refl)
 
 changes : (a : Address) (m : Machine) (s : State) → ChangesText a m s → WideChangesText a m [] (alone s)
-changes NoAddress m s e = on_cycle m.unread m.hold s e
-changes (One place) m s e = on_cycle m.unread m.hold s e
 changes (Two first end) m s (inl e) = inl (on_cycle m.unread m.hold s e)
 changes (Two first end) m s (inr e) = inr (pair s _ e)
+changes _ m s e = on_cycle m.unread m.hold s e
 
 becomes : (from to : List ℕ) (b c : ℕ) → MayBecome from to b c → IsPartner from to b c ⊎ (c ≡ b)
 becomes from to b c (inl partner) = inl partner
@@ -47,8 +46,7 @@ becomes from to b c (inr (_, same)) = inr same
 transliterates : (from to old new : List ℕ) → Transliterates from to old new → WideTransliterates from to old new
 transliterates from to [] [] h = h
 transliterates from to (b ∷ bs) (c ∷ cs) h = (becomes from to b c h.0, transliterates from to bs cs h.1)
-transliterates from to [] (c ∷ cs) h = absurd h
-transliterates from to (b ∷ bs) [] h = absurd h
+transliterates from to _ _ h = absurd h
 
 are_matches : (tree : Tree) (ms : List Occurrence) → AreMatches tree ms → AreWideMatches tree ms
 are_matches tree [] h = h
@@ -82,29 +80,11 @@ does p a Next m e s (quiet, h) = (quiet, takes (λ line. line) m m.unread s h)
 does p a NextAppend m e s (quiet, h) = (quiet, takes (λ line. m.pattern ++ newline ∷ line) m m.unread s h)
 does p a (Substitute sub) m e s h = (substitute_step p sub m e s h, refl)
 does p a (Transliterate from to) m e s (quiet, new, by, h) = (quiet, new, transliterates from to m.pattern new by, pair s _ h)
-does p a (Branch target) m e s h = (h, refl)
-does p a Exchange m e s h = (h, refl)
-does p a Get m e s h = (h, refl)
-does p a Hold m e s h = (h, refl)
-does p a Quit m e s h = (h, refl)
-does p a (Read name) m e s h = (h, refl)
-does p a (Test target) m e s h = (h, refl)
-does p a (Write name) m e s h = (h, refl)
-does p a (Append text) m e s h = (h, refl)
-does p a (Block behind) m e s h = (h, refl)
-does p a (Insert text) m e s h = (h, refl)
-does p a (Label name) m e s h = (h, refl)
-does p a LineNumber m e s h = (h, refl)
-does p a List' m e s h = (h, refl)
-does p a Print m e s h = (h, refl)
-does p a PrintFirstLine m e s h = (h, refl)
+does p a _ m e s h = (h, refl)
 
 selects : (p : Program) (a : Address) (m : Machine) → MaySelect p a m → WideMaySelect p a m
 selects p (One Last) m h = h
-selects p (One (Line number)) m h = tt
-selects p (One (Context pattern)) m h = tt
-selects p NoAddress m h = tt
-selects p (Two first end) m h = tt
+selects p _ m h = tt
 
 pub applies : (p : Program) (negated : Bool) (a : Address) (m : Machine) → MatchBool negated (MayNotSelect a m) (MaySelect p a m)
     → MatchBool negated (MayNotSelect a m) (WideMaySelect p a m)

@@ -1,10 +1,9 @@
 -- The flow graphs by which certificates of version 1 were judged, this project's own: a node is a place and the substitution flag, and doesn't know
 -- the last line. Only what is said of such certificates cites it. Which kind a successful substitution has is left open here, since that changed
 -- while such certificates were made: by literal parts alone at first (`HasLiteralKind`), and with references later (`HasKind`).
-use Rattle.std.specs.Prelude.{◌≡◌, ◌⊎◌, ℕ, suc, ◌+◌, ◌*◌, ◌/◌, ◌%◌, ◌==◌, Bool, true, false, if◌then◌else◌, IsTrue, List, ◌++◌, length, MatchOption, slice_get, decimal, codes}
+use Rattle.std.specs.Prelude.{◌≡◌, ◌⊎◌, ℕ, suc, ◌+◌, ◌*◌, Bool, true, false, if◌then◌else◌, IsTrue, length, MatchOption, slice_get}
 use Rattle.sedck_script.specs.Program.{Address, Two, Substitution, Verb, Block, Branch, Change, Delete, DeleteFirstLine, Exchange, Get, GetAppend, Next, NextAppend, Quit, Substitute, Test, Command, Program}
 use Rattle.sedck_flow.specs.Run.{is_conditional, KeptOrReset}
-use Rattle.sedck_flow.specs.Words.{flag_text}
 use Rattle.sedck_flow.specs.declared.graph.Node.{Node}
 use Rattle.sedck_flow.specs.declared.graph.Edge.{Edge}
 use Rattle.sedck_flow.specs.declared.graph.Kind.{Kind}
@@ -45,18 +44,6 @@ flagged_one n flag = record { at = n.at; flag = flag }
 -- how many nodes are before it, by place and then flag
 abbrev pub node_index_one : NodeOne → ℕ
 node_index_one n = 2 * n.at + (if n.flag then 1 else 0)
-
--- the node with this index
-abbrev pub nth_node_one : ℕ → NodeOne
-nth_node_one index = record { at = index / 2; flag = index % 2 == 1 }
-
--- how many nodes a script with this many commands has
-abbrev pub node_count_one : ℕ → ℕ
-node_count_one commands = 2 * (commands + 1)
-
--- `at flag`
-abbrev pub node_words_one : NodeOne → List ℕ
-node_words_one n = decimal n.at ++ codes " " ++ flag_text n.flag
 
 -- ---- Edges
 

@@ -55,8 +55,7 @@ WideChangesText _ m later s = NextWideCycle later m.unread m.hold s
 abbrev pub WideTransliterates : List ℕ → List ℕ → List ℕ → List ℕ → Type 0
 WideTransliterates from to [] [] = Unit {0}
 WideTransliterates from to (b ∷ bs) (c ∷ cs) = (IsPartner from to b c ⊎ (c ≡ b)) × WideTransliterates from to bs cs
-WideTransliterates from to [] (c ∷ cs) = ⊥
-WideTransliterates from to (b ∷ bs) [] = ⊥
+WideTransliterates from to _ _ = ⊥
 
 -- as in `Substitutes`, with wide matches
 abbrev pub AreWideMatches : Tree → List Occurrence → Type 0

@@ -1,9 +1,9 @@
 //! The edges that leave one node: at most five, in order, each once.
 
-ghost use Rattle.std.specs.Prelude.{◌≡◌, ◌+◌, ◌<◌, ◌≤◌, List, [], ◌∷◌, ◌++◌, length, insert, slice_get};
+ghost use Rattle.std.specs.Prelude.{◌≡◌, ◌+◌, ◌<◌, ◌≤◌, List, [], ◌∷◌, ◌++◌, length, insert, slice_get, MatchOption};
 ghost use Rattle.sedck_flow.specs.declared.graph.Node.{Node};
 ghost use Rattle.sedck_flow.specs.declared.graph.Kind.{Kind};
-ghost use Rattle.sedck_flow.specs.Private.EdgeList.{number};
+ghost use Rattle.sedck_flow.specs.Private.EdgeList.{number, Adds, IsTarget};
 
 use crate::graph::{Kind, Node};
 use std::marker::Model;
@@ -35,6 +35,24 @@ fn number_of(target: (Node, Kind)) -> u32
     4 * to.index() as u32 + kind as u32
 }
 
+/// Where the target belongs among those, unless it is there.
+fn place_of(targets: &[(Node, Kind)], target: (Node, Kind)) -> Option<usize>
+    ensures { MatchOption result (Adds (IsTarget target) targets.now targets.now)
+        (λ at. (at ≤ length targets.now) × Adds (IsTarget target) targets.now (insert targets.now at target)) }
+{
+    let number = number_of(target);
+    for at in 0..targets.len() {
+        let other = number_of(targets[at]);
+        if number == other {
+            return None;
+        }
+        if number < other {
+            return Some(at);
+        }
+    }
+    Some(targets.len())
+}
+
 /// Moves the last one to the index, and those from there on up.
 fn last_to(targets: &mut [(Node, Kind)], index: usize)
     requires { index < length targets.old }
@@ -56,42 +74,32 @@ impl EdgeList {
         }
     }
 
-    /// With one edge more where it belongs, unless it is there.
-    pub(crate) fn with(self, kind: Kind, to: Node) -> Self
-        requires room { length self < 5 }
-        ensures edges { AddsEdge kind to self result }
-        ensures few { length result ≤ length self + 1 }
+    /// Adds the edge where it belongs, unless it is there.
+    pub(crate) fn add(&mut self, kind: Kind, to: Node)
+        requires room { length self.old < 5 }
+        ensures edges { AddsEdge kind to self.old self.new }
+        ensures few { length self.new ≤ length self.old + 1 }
     {
-        let count = self.count;
-        let mut targets = self.targets;
-        let number = number_of((to, kind));
-        let mut at = 0;
-        while at < count && number_of(targets[at]) < number {
-            at += 1;
-        }
-        if at < count && number_of(targets[at]) == number {
-            return EdgeList { targets, count };
-        }
-        targets[count] = (to, kind);
-        last_to(&mut targets[..count + 1], at);
-        EdgeList {
-            targets,
-            count: count + 1,
-        }
+        let Some(at) = place_of(&self.targets[..self.count], (to, kind)) else {
+            return;
+        };
+        self.targets[self.count] = (to, kind);
+        self.count += 1;
+        last_to(&mut self.targets[..self.count], at);
     }
 
-    /// With the edges on which a line is read: to the node after the last line, and to the one before it. No line is
+    /// Adds the edges on which a line is read: to the node after the last line, and to the one before it. No line is
     /// read where none is left.
-    pub(crate) fn with_line(self, from: Node, to: Node) -> Self
-        requires room { length self < 4 }
-        ensures edges { AddsLine from to self result }
-        ensures few { length result ≤ length self + 2 }
+    pub(crate) fn add_line(&mut self, from: Node, to: Node)
+        requires room { length self.old < 4 }
+        ensures edges { AddsLine from to self.old self.new }
+        ensures few { length self.new ≤ length self.old + 2 }
     {
         if from.last {
-            return self;
+            return;
         }
-        self.with(Kind::Consume, to.with_last(false))
-            .with(Kind::Consume, to.with_last(true))
+        self.add(Kind::Consume, to.with_last(false));
+        self.add(Kind::Consume, to.with_last(true));
     }
 
     pub(crate) fn len(&self) -> usize

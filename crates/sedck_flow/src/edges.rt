@@ -1,15 +1,15 @@
 //! The edges that leave one node, one after another.
 
-ghost use Rattle.std.specs.Prelude.{◌≡◌, ◌↔◌, ◌<◌, ◌≤◌, length, IsTrue};
+ghost use Rattle.std.specs.Prelude.{◌≡◌, ◌↔◌, ◌+◌, ◌<◌, ◌≤◌, length, IsTrue};
 ghost use Rattle.sedck_script.specs.Invariant.{IsTargetWithin, IsReplacement};
-ghost use Rattle.sedck_script.specs.View.{address_of, command_of, verb_of};
-ghost use Rattle.sedck_flow.specs.Flow.{node_past as node_past_verb, MayApplyAt, MaySkipAt, VerbEdge, CommandEdge, ListsEdges, FlowFrom};
-ghost use Rattle.sedck_flow.specs.Private.EdgeList.{ListsTargets};
+ghost use Rattle.sedck_script.specs.View.{command_of, verb_of};
+ghost use Rattle.sedck_flow.specs.Flow.{node_past as node_past_verb, MayApplyAt, MaySkipAt, CommandEdge, ListsEdges, FlowFrom};
+ghost use Rattle.sedck_flow.specs.Private.EdgeList.{Adds};
 ghost use Rattle.sedck_flow.specs.Private.Least.{HasFormed};
 
 use crate::edge_list::EdgeList;
 use crate::graph::{Edge, Kind, Node};
-use crate::verbs::{reading_line, verb_edges};
+use crate::verbs::add_verb_edges;
 use sedck_script::{Address, Command, Place, Script, Verb};
 use std::marker::{Model, PhantomData};
 
@@ -64,10 +64,11 @@ pub fn edges_of<'s, 'a>(script: &'s Script<'a>, node: Node) -> Edges<'s, 'a>
     ensures edges { ListsEdges result (FlowFrom script.now node) }
     ensures few { length result ≤ 5 }
 {
-    let list = match script.commands().get(usize::from(node.at)) {
-        Some(command) => command_edges(script, command, node),
-        None => reading_line(node, Node::start(node.last)),
-    };
+    let mut list = EdgeList::new();
+    match script.commands().get(usize::from(node.at)) {
+        Some(command) => add_command_edges(&mut list, script, command, node),
+        None => list.add_line(node, Node::start(node.last)),
+    }
     Edges {
         from: node,
         list,
@@ -76,36 +77,22 @@ pub fn edges_of<'s, 'a>(script: &'s Script<'a>, node: Node) -> Edges<'s, 'a>
     }
 }
 
-/// The edges from a command's node: those of its verb, where it may be applied, and one by which it may be passed.
-fn command_edges(script: &Script, command: &Command, from: Node) -> EdgeList
+/// Adds the edges from a command's node: those of its verb, where it may be applied, and one by which it may be passed.
+fn add_command_edges(list: &mut EdgeList, script: &Script, command: &Command, from: Node)
+    requires room { length list.old < 1 }
     requires place { from.at < 4095 }
     requires target { IsTargetWithin 4095 (verb_of command.now.verb) }
     requires formed { HasFormed (verb_of command.now.verb) }
     requires replacement { IsReplacement (verb_of command.now.verb) }
-    ensures edges { ListsTargets result (CommandEdge script.now (command_of command.now) from) }
-    ensures few { length result ≤ 5 }
+    ensures edges { Adds (CommandEdge script.now (command_of command.now) from) list.old list.new }
+    ensures few { length list.new ≤ length list.old + 5 }
 {
-    let applied = applied_edges(script, command, from);
+    if may_apply(command, from) {
+        add_verb_edges(list, script, command, from);
+    }
     if may_skip(command, from) {
-        return applied.with(Kind::Keep, node_past(&command.verb, from));
+        list.add(Kind::Keep, node_past(&command.verb, from));
     }
-    applied
-}
-
-/// The edges of the command's verb, where it may be applied.
-fn applied_edges(script: &Script, command: &Command, from: Node) -> EdgeList
-    requires place { from.at < 4095 }
-    requires target { IsTargetWithin 4095 (verb_of command.now.verb) }
-    requires formed { HasFormed (verb_of command.now.verb) }
-    requires replacement { IsReplacement (verb_of command.now.verb) }
-    ensures edges { ListsTargets result (λ kind to. MayApplyAt (command_of command.now) from
-        × VerbEdge script.now (address_of command.now.address) (verb_of command.now.verb) from kind to) }
-    ensures few { length result ≤ 4 }
-{
-    if !may_apply(command, from) {
-        return EdgeList::new();
-    }
-    verb_edges(script, command, from)
 }
 
 /// Whether the command may be applied at the node: where `$` selects it, only on the last line, and with `!` only before it.

@@ -5,7 +5,7 @@ ghost use Rattle.sedck_flow.specs.Nodes.{node_count as count_of_nodes};
 
 /// The place of a command, or of the script's end, with the substitution flag, and with whether the last line has
 /// been read. Nodes are ordered by place, then flag, then last line: what is reset, or still to come, comes first.
-#[derive(Clone, Copy, Debug, PartialEq, Eq, PartialOrd, Ord)]
+#[derive(Clone, Copy, PartialEq, Eq, PartialOrd, Ord)]
 pub struct Node {
     pub at: u16,
     pub flag: bool,
@@ -97,7 +97,7 @@ pub fn node_count(commands: usize) -> usize
 }
 
 /// What a step along an edge does to the unread lines and to the pattern space.
-#[derive(Clone, Copy, Debug, PartialEq, Eq, PartialOrd, Ord)]
+#[derive(Clone, Copy, PartialEq, Eq, PartialOrd, Ord)]
 pub enum Kind {
     /// A line is read.
     Consume,
@@ -111,7 +111,7 @@ pub enum Kind {
 
 /// A step from one node to another. Edges are ordered by the node that is left, then the node that is reached, then
 /// the kind.
-#[derive(Clone, Copy, Debug, PartialEq, Eq, PartialOrd, Ord)]
+#[derive(Clone, Copy, PartialEq, Eq, PartialOrd, Ord)]
 pub struct Edge {
     pub from: Node,
     pub to: Node,

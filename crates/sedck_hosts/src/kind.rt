@@ -4,7 +4,7 @@ use crate::parts::Part;
 use sedck_origin::{is_among, named};
 
 /// A kind of files that have shell text.
-#[derive(Clone, Copy, Debug, PartialEq, Eq)]
+#[derive(Clone, Copy, PartialEq, Eq)]
 pub enum Kind {
     /// Shell scripts, and scripts of Debian's packages.
     Shell,

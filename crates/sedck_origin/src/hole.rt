@@ -1,7 +1,7 @@
 //! What isn't known before a run, and takes a place in a text.
 
 /// What isn't known before a run, and takes a place in a text.
-#[derive(Clone, Copy, Debug, PartialEq, Eq)]
+#[derive(Clone, Copy, PartialEq, Eq)]
 pub struct Hole {
     /// The file has what is replaced from this offset on ..
     pub start: usize,
@@ -11,7 +11,7 @@ pub struct Hole {
 }
 
 /// How what replaces a hole becomes a part of a word (XCU 2.6).
-#[derive(Clone, Copy, Debug, PartialEq, Eq)]
+#[derive(Clone, Copy, PartialEq, Eq)]
 pub enum Way {
     /// As it is: a shell expands it between double quotes.
     Quoted,

@@ -6,7 +6,7 @@ ghost use Rattle.sedck_origin.specs.Traced.{escape_of, is_at, is_escape_at, has_
 use crate::hole::Hole;
 
 /// Where a byte of a script comes from.
-#[derive(Clone, Copy, Debug, PartialEq, Eq)]
+#[derive(Clone, Copy)]
 pub enum Origin {
     /// The file has the byte at this offset.
     At(usize),

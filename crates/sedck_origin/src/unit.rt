@@ -10,7 +10,7 @@ use std::alloc::AllocError;
 pub type Result<T> = std::result::Result<T, AllocError>;
 
 /// A unit of a text that is taken from a file.
-#[derive(Clone, Copy, Debug, PartialEq, Eq)]
+#[derive(Clone, Copy)]
 pub enum Unit {
     /// This byte, which the file has at the offset.
     Byte(u8, usize),

@@ -8,7 +8,7 @@ use crate::places::Position;
 use sedck_flow::{Kind, Node};
 
 /// How much a finding weighs.
-#[derive(Clone, Copy, Debug, PartialEq, Eq)]
+#[derive(Clone, Copy, PartialEq, Eq)]
 pub enum Level {
     /// The script or the certificate is refused or rejected, or the script has a loop.
     Error,
@@ -54,7 +54,7 @@ impl Finding {
 }
 
 /// The text to write in place of a part of the script.
-#[derive(Clone, Copy, PartialEq, Eq)]
+#[derive(Clone, Copy)]
 pub struct Fix {
     pub start: Position,
     /// The first byte after the part.
@@ -63,7 +63,7 @@ pub struct Fix {
 }
 
 /// A text that is to be written.
-#[derive(Clone, Copy, PartialEq, Eq)]
+#[derive(Clone, Copy)]
 pub enum NewText {
     /// These characters, all of ASCII.
     Plain(&'static str),

@@ -67,8 +67,7 @@ closed_or_open (b.last h) (b.list g l y) none = omega (arith, h, g)
 closed_or_open (b.list h l x) b.here none = none _ l
 closed_or_open (b.list h l x) (b.byte f g y) none = f h
 closed_or_open (b.list h l x) (b.pair g y) none = omega (arith, h, g)
-closed_or_open (b.list h l x) (b.list {rest = rest} g m y) none =
-    closed_or_open x (subst (λ t. BracketsClose t rest) (list_behind_one m l) y) none
+closed_or_open (b.list h l x) (b.list {rest = rest} g m y) none = closed_or_open x (rw (list_behind_one m l) at y) none
 
 -- Up to the rest, the lists are closed: what is so from there on is so from the start.
 abbrev pub ClosedUpTo : List ℕ → List ℕ → Type 0
@@ -82,10 +81,7 @@ closed_pair {c = c} h e f is end x = h end (subst (λ t. BracketsClose t end) (s
 
 none_behind : {text end : List ℕ} → text ≡ [] → BracketsClose text end → end ≡ []
 none_behind e b.here = e
-none_behind e (b.byte n m x) = absurd (cc e)
-none_behind e (b.pair h x) = absurd (cc e)
-none_behind e (b.last h) = absurd (cc e)
-none_behind e (b.list h l x) = absurd (cc e)
+none_behind e _ = absurd (cc e)
 
 pub closed_last : {text rest behind : List ℕ} {c : ℕ} → ClosedUpTo text rest → rest ≡ c ∷ behind → length behind ≡ 0 → c ≡ 92 → ClosedUpTo text behind
 closed_last {text} {behind = behind} {c = c} h e short is end x =

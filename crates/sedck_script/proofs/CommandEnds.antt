@@ -1,5 +1,5 @@
 -- Ends of commands.
-use Rattle.std.proofs.Common.{◌≡◌, ◌∙◌, ℕ, not, false, List, ◌∷◌, refl, subst}
+use Rattle.std.proofs.Common.{◌≡◌, ◌∙◌, ℕ, false, List, ◌∷◌, refl, subst}
 use Rattle.std.proofs.lemmas.Bool.{both_ways, not-true}
 use Rattle.sedck_script.specs.Cuts.{is_blank, is_ending, IsEmptyOr, Longest}
 use Rattle.sedck_script.specs.Parts.{Ends}
@@ -17,5 +17,4 @@ no_end {b = b} l f other e = both_ways (is_ending b) other (subst (λ t. IsEmpty
 -- and that byte may not be after a command
 pub extra_stands : {text blanks more : List ℕ} {b : ℕ} (begins : Cursor) → Longest is_blank text blanks (unread begins) → unread begins ≡ b ∷ more
     → is_ending b ≡ false → StandsWhere is_extra begins.whole.now begins.at
-extra_stands {b = b} begins l f other =
-    (b, stands_here begins f, rw (not-true (is_blank b) (subst (λ t. IsEmptyOr (λ b. not (is_blank b)) t) f l.stops), other) refl)
+extra_stands {b = b} begins l f other = (b, stands_here begins f, rw (not-true (is_blank b) (rw f at l.stops), other) refl)

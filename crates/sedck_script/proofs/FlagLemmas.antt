@@ -4,7 +4,8 @@ use Rattle.std.proofs.Math.Bool.{or-false}
 use Rattle.std.proofs.lemmas.Bool.{false≢true, both_ways, or_from}
 use Rattle.sedck_script.specs.Cuts.{is_blank, is_digit, is_ending}
 use Rattle.sedck_script.specs.Program.{Pattern, Part, Substitution}
-use Rattle.sedck_script.specs.Parts.{Ends, EndsFlags, Number, Name, Flags}
+use Rattle.sedck_script.specs.Parts.{Number, Name, Flags}
+use Rattle.sedck_script.specs.Private.Reading.{EndsFlags}
 use Rattle.sedck_script.specs.Parts as p
 use Rattle.sedck_text.specs.Cursors.{unread}
 use Rattle.sedck_text.specs.declared.cursor.Cursor.{Cursor}
@@ -17,22 +18,9 @@ use Rattle.sedck_script.proofs.UniqueParts.{number_first, no_end, ends_no_number
 pub extra_number : (text : Cursor) {rest : List ℕ} {n : ℕ} → Number (unread text) n rest → StandsWhere is_extra text.whole.now text.at
 extra_number text a = let f = number_first a in (f.0, stands_here text f.2, extra_digit f.0 f.3)
 
--- no flag begins with this byte
-pub no_flag_by : {q : Pattern} {ps : List Part} {b : ℕ} {text r : List ℕ} {s : Substitution} → b ≢ 103 → b ≢ 112 → b ≢ 119 → is_digit b ≡ false
-    → is_blank b ≡ false → is_ending b ≡ false → Flags q ps (b ∷ text) s r → ⊥
-no_flag_by {b = b} f g h i j k (p.none e) = both_ways (is_blank b || is_ending b) (or_from (is_blank b) (is_ending b) j k) (ends_first e.0)
-no_flag_by f g h i j k (p.file e n) = h e
-no_flag_by f g h i j k (p.global e x y) = f e
-no_flag_by f g h i j k (p.print e x y) = g e
-no_flag_by f g h i j k (p.number a x y) = number_no_byte refl i a
-
-pub no_flag : {q : Pattern} {ps : List Part} {b : ℕ} {text behind r : List ℕ} {s : Substitution} → text ≡ b ∷ behind → b ≢ 103 → b ≢ 112 → b ≢ 119
-    → is_digit b ≡ false → is_blank b ≡ false → is_ending b ≡ false → Flags q ps text s r → ⊥
-no_flag {q} {ps} {r = r} {s = s} e f g h i j k x = no_flag_by f g h i j k (subst (λ t. Flags q ps t s r) e x)
-
 file_inside : {q : Pattern} {ps : List Part} {b : ℕ} {text r : List ℕ} {s : Substitution} → b ≡ 119 → ((name rest : List ℕ) → Name text name rest → ⊥)
     → Flags q ps (b ∷ text) s r → ⊥
-file_inside h n (p.none e) = no_end h refl e.0
+file_inside h n (p.none e m) = no_end h refl e
 file_inside h n (p.file e m) = n _ _ m
 file_inside h n (p.global e x y) = omega (arith, e)
 file_inside h n (p.print e x y) = omega (arith, e)
@@ -45,7 +33,7 @@ no_file {q} {ps} {r = r} {s = s} e h n x = file_inside h n (subst (λ t. Flags q
 
 number_inside : {q : Pattern} {ps : List Part} {b : ℕ} {text r : List ℕ} {s : Substitution} → is_digit b ≡ true
     → ((n : ℕ) (rest : List ℕ) → Number (b ∷ text) n rest → ⊥) → Flags q ps (b ∷ text) s r → ⊥
-number_inside {b = b} h n (p.none e) = digit_no_end b h (ends_first e.0)
+number_inside {b = b} h n (p.none e m) = digit_no_end b h (ends_first e)
 number_inside h n (p.file e m) = false≢true (ap is_digit (sym e) ∙ h)
 number_inside h n (p.global e x y) = false≢true (ap is_digit (sym e) ∙ h)
 number_inside h n (p.print e x y) = false≢true (ap is_digit (sym e) ∙ h)
@@ -58,7 +46,7 @@ no_number {q} {ps} {r = r} {s = s} e h n x = number_inside h (λ m rest a. n m r
 
 no_end_inside : {q : Pattern} {ps : List Part} {b : ℕ} {behind r : List ℕ} {s : Substitution} → b ≢ 103 → b ≢ 112 → b ≢ 119 → is_digit b ≡ false
     → ((rest : List ℕ) → EndsFlags (b ∷ behind) rest → ⊥) → Flags q ps (b ∷ behind) s r → ⊥
-no_end_inside f g h i n (p.none e) = n _ e
+no_end_inside f g h i n (p.none e m) = n _ (e, m)
 no_end_inside f g h i n (p.file e m) = h e
 no_end_inside f g h i n (p.global e x y) = f e
 no_end_inside f g h i n (p.print e x y) = g e
@@ -67,8 +55,12 @@ no_end_inside f g h i n (p.number a x y) = number_no_byte refl i a
 -- no end, and no flag
 pub no_flags_end : {q : Pattern} {ps : List Part} {b : ℕ} {text behind r : List ℕ} {s : Substitution} → text ≡ b ∷ behind → b ≢ 103 → b ≢ 112
     → b ≢ 119 → is_digit b ≡ false → ((rest : List ℕ) → EndsFlags text rest → ⊥) → Flags q ps text s r → ⊥
-no_flags_end {q} {ps} {r = r} {s = s} e f g h i n x =
-    no_end_inside f g h i (λ rest a. n rest (subst (λ t. EndsFlags t rest) (sym e) a)) (subst (λ t. Flags q ps t s r) e x)
+no_flags_end {q} {ps} {r = r} {s = s} e f g h i n x = no_end_inside f g h i (λ rest a. n rest (rw (← e) at a)) (rw e at x)
+
+-- no flag begins with this byte
+pub no_flag : {q : Pattern} {ps : List Part} {b : ℕ} {text behind r : List ℕ} {s : Substitution} → text ≡ b ∷ behind → b ≢ 103 → b ≢ 112 → b ≢ 119
+    → is_digit b ≡ false → is_blank b ≡ false → is_ending b ≡ false → Flags q ps text s r → ⊥
+no_flag e f g h i j k = no_flags_end e f g h i (λ rest a. both_ways _ (or_from _ _ j k) (ends_first (rw e at a.0)))
 
 -- what has been seen may not be among the others
 pub record Fits (global print : Bool) (nth : Option ℕ) (others : Substitution) : Type 0 where
@@ -91,44 +83,33 @@ pub record FlagsPassed (text : List ℕ) (global print : Bool) (nth : Option ℕ
   pub only : (q : Pattern) (ps : List Part) (s : Substitution) (r : List ℕ) → Flags q ps text s r
       → (others : Substitution) × Flags q ps rest others r × Fits global print nth others
 
--- the flags after a `g`, a `p` or a number
-record BehindGlobal (q : Pattern) (ps : List Part) (behind r : List ℕ) (s : Substitution) : Type 0 where
+-- the flags after one that sets a field
+record BehindFlag {B : Type 0} (q : Pattern) (ps : List Part) (behind r : List ℕ) (s : Substitution) (field : Substitution → B) (unset : B)
+    (with : Substitution → Substitution) : Type 0 where
   others : Substitution
   flags : Flags q ps behind others r
-  none : others.global ≡ false
-  is : s ≡ record others { global = true }
-
-record BehindPrint (q : Pattern) (ps : List Part) (behind r : List ℕ) (s : Substitution) : Type 0 where
-  others : Substitution
-  flags : Flags q ps behind others r
-  none : others.print ≡ false
-  is : s ≡ record others { print = true }
-
-record BehindNumber (q : Pattern) (ps : List Part) (n : ℕ) (behind r : List ℕ) (s : Substitution) : Type 0 where
-  others : Substitution
-  flags : Flags q ps behind others r
-  none : others.nth ≡ None
-  is : s ≡ record others { nth = Some n }
+  none : field others ≡ unset
+  is : s ≡ with others
 
 global_inside : {q : Pattern} {ps : List Part} {b : ℕ} {behind r : List ℕ} {s : Substitution} → b ≡ 103 → Flags q ps (b ∷ behind) s r
-    → BehindGlobal q ps behind r s
-global_inside h (p.none e) = absurd (no_end h refl e.0)
+    → BehindFlag q ps behind r s (λ o. o.global) false (λ o. record o { global = true })
+global_inside h (p.none e m) = absurd (no_end h refl e)
 global_inside h (p.file e m) = absurd (omega (arith, e))
 global_inside h (p.global {others = o} e x y) = record { others = o; flags = x; none = y; is = refl }
 global_inside h (p.print e x y) = absurd (omega (arith, e))
 global_inside h (p.number a x y) = absurd (number_no_byte h refl a)
 
 print_inside : {q : Pattern} {ps : List Part} {b : ℕ} {behind r : List ℕ} {s : Substitution} → b ≡ 112 → Flags q ps (b ∷ behind) s r
-    → BehindPrint q ps behind r s
-print_inside h (p.none e) = absurd (no_end h refl e.0)
+    → BehindFlag q ps behind r s (λ o. o.print) false (λ o. record o { print = true })
+print_inside h (p.none e m) = absurd (no_end h refl e)
 print_inside h (p.file e m) = absurd (omega (arith, e))
 print_inside h (p.global e x y) = absurd (omega (arith, e))
 print_inside h (p.print {others = o} e x y) = record { others = o; flags = x; none = y; is = refl }
 print_inside h (p.number a x y) = absurd (number_no_byte h refl a)
 
 nth_inside : {q : Pattern} {ps : List Part} {n : ℕ} {text behind r : List ℕ} {s : Substitution} → Number text n behind → Flags q ps text s r
-    → BehindNumber q ps n behind r s
-nth_inside a (p.none e) = absurd (ends_no_number e.0 a)
+    → BehindFlag q ps behind r s (λ o. o.nth) None (λ o. record o { nth = Some n })
+nth_inside a (p.none e m) = absurd (ends_no_number e a)
 nth_inside a (p.file e m) = absurd (number_no_byte e refl a)
 nth_inside a (p.global e x y) = absurd (number_no_byte e refl a)
 nth_inside a (p.print e x y) = absurd (number_no_byte e refl a)
@@ -238,7 +219,7 @@ pub flags_end : {text rest behind : List ℕ} {global print : Bool} {nth : Optio
     → EndsFlags rest behind → (q : Pattern) (ps : List Part)
     → Flags q ps text (record { pattern = q; parts = ps; global = global; print = print; nth = nth; file = None }) behind
 flags_end {text = text} {behind = behind} {global = global} {print = print} {nth = nth} h e q ps =
-    let x = h.sound q ps _ behind (p.none e) (record { globals = λ g. refl; prints = λ g. refl; numbers = λ n g. refl }) in
+    let x = h.sound q ps _ behind (p.none e.0 e.1) (record { globals = λ g. refl; prints = λ g. refl; numbers = λ n g. refl }) in
     rw (or-false global, or-false print, nth_none nth) at x
 
 pub flags_file : {text rest behind after : List ℕ} {global print : Bool} {nth : Option ℕ} (name : List ℕ)

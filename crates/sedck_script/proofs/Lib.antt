@@ -1,7 +1,6 @@
 pub mod CursorPlaces
 pub mod LineBytes
 pub mod FirstBytes
-pub mod FirstUnique
 pub mod UniqueCommands
 pub mod NumberLemmas
 pub mod CommandEnds

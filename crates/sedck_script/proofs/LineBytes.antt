@@ -1,12 +1,11 @@
 -- Where a byte of a line is in the whole text.
-use Rattle.std.proofs.Common.{◌≡◌, ℕ, Bool, true, false, cond, Option, ◌+◌, ◌-◌, ◌<◌, ◌≤◌, ◌⊎◌, inl, inr, Some, List, [], ◌∷◌, ◌++◌, length, get_or, refl, ap, sym, ◌∙◌, subst, length-append, arith}
+use Rattle.std.proofs.Common.{◌≡◌, ℕ, Bool, true, false, cond, Option, ◌+◌, ◌-◌, ◌<◌, ◌⊎◌, inl, inr, Some, List, [], ◌∷◌, ◌++◌, length, get_or, refl, ap, sym, ◌∙◌, subst, length-append, arith}
 use Rattle.std.proofs.Math.Seq.{get_or-append_seam}
-use Rattle.std.proofs.lemmas.Bool.{false≢true, eqb-true, and_parts, cases_order}
-use Rattle.std.specs.Prelude.{◌==◌, IsTrue, nat_le, MatchOption}
+use Rattle.std.proofs.lemmas.Bool.{false≢true, eqb-true}
+use Rattle.std.specs.Prelude.{◌==◌, IsTrue, MatchOption}
 use Rattle.sedck_text.specs.Text.{begins}
-use Rattle.sedck_bre.proofs.ReadLemmas.{nat_le_of}
 use Rattle.sedck_script.specs.Cuts.{is_continued}
-use Rattle.sedck_script.specs.Parts.{is_skipped}
+use Rattle.sedck_script.specs.Private.NameReading.{is_skipped}
 use Rattle.sedck_script.specs.Faults.{StandsAt, StandsWhere, is_extra, IsPlaced}
 use Rattle.sedck_script.specs.declared.fault.ScriptFault.{ScriptFault}
 use Rattle.sedck_script.specs.declared.fault.ScriptFault.TheVariants.{MissingName}
@@ -16,15 +15,8 @@ use Rattle.sedck_script.proofs.CursorPlaces.{line_byte}
 
 -- ---- Bytes that may not be in a name
 
-skipped_cases : (b : ℕ) → is_skipped b ≡ true → (b ≡ 11) ⊎ ((b ≡ 12) ⊎ (b ≡ 13))
-skipped_cases b h =
-    let both = and_parts (nat_le 11 b) (nat_le b 13) h in
-    let low : 11 ≤ b = nat_le_of 11 b both.0 in
-    let high : b ≤ 13 = nat_le_of b 13 both.1 in
-    elim (cases_order b 12) [ inl e ↦ inr (inl e) | inr (inl less) ↦ inl (omega (arith, less, low)) | inr (inr more) ↦ inr (inr (omega (arith, more, high))) ]
-
 pub skipped_extra : (b : ℕ) → is_skipped b ≡ true → IsTrue (is_extra b)
-skipped_extra b h = elim (skipped_cases b h) [ inl e ↦ rw e refl | inr (inl e) ↦ rw e refl | inr (inr e) ↦ rw e refl ]
+skipped_extra b h = grind (arith, h)
 
 pub skipped_stands : (begins : Cursor) (name rest : List ℕ) → unread begins ≡ name ++ rest → 0 < length name → is_skipped (get_or name 0 0) ≡ true
     → StandsWhere is_extra begins.whole.now begins.at

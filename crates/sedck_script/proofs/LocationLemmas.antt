@@ -16,7 +16,8 @@ use Rattle.sedck_script.proofs.OffsetLemmas.{tail_cut, tail_length, ends_tail, v
 use Rattle.sedck_script.proofs.CommandLemmas.{address_tail}
 use Rattle.sedck_script.proofs.UniqueParts.{ends_one}
 use Rattle.sedck_script.proofs.UniqueItems.{longest_along, ends_along, command_one, no_command_other, no_command_end, empty_is_not}
-use Rattle.sedck_script.proofs.ProgressLemmas.{begun, at_front, no_length}
+use Rattle.sedck_script.proofs.ProgressLemmas.{begun, at_front}
+use Rattle.std.proofs.lemmas.List.{nil_from_length}
 
 -- ---- Items from another place on
 
@@ -77,8 +78,7 @@ behind_command size k c only (w.comment m i n r x) = absurd (k.4 (heads (sym (lo
 behind_command size k c only (w.closing m i f x) = absurd (k.5 (heads (sym (longest_one m (at_front k.2 k.3)).1) ∙ i))
 behind_command {text} {rest} {address} {negated} {verb} size k c only (w.command {begins = begins} m d x) =
     let same : begins ≡ text = (longest_one m (at_front k.2 k.3)).1 ∙ sym k.2 in
-    first_along (command_one d (subst (λ t. CommandText t address negated verb rest) (sym same) c)).1
-    (_, x, ap (λ l. l ∷ locations_of size x) (sym (only_along size same only d)))
+    first_along (command_one d (rw (← same) at c)).1 (_, x, ap (λ l. l ∷ locations_of size x) (sym (only_along size same only d)))
 
 none_left : {text separators : List ℕ} {items : List Item} (size : ℕ) → Longest is_separator text separators [] → (spelled : Items text items)
     → locations_of size spelled ≡ []
@@ -155,5 +155,5 @@ module _ {text : List ℕ} (locations : List Location) where
       → length begins ≡ 0 → {items : List Item} (spelled : Items text items) → locations ≡ locations_of (length text) spelled
   located_done {rest} {separators} {begins} h l e spelled =
       let old = h _ spelled in
-      let none = none_left (length text) (subst (λ t. Longest is_separator rest separators t) (no_length begins e) l) old.1 in
+      let none = none_left (length text) (subst (λ t. Longest is_separator rest separators t) (nil_from_length begins e) l) old.1 in
       sym (old.2 ∙ ap (λ t. locations ++ t) none ∙ append-nil locations)

@@ -1,5 +1,5 @@
 -- Where a name goes in a list that rises.
-use Rattle.std.proofs.Common.{◌≡◌, ◌⊎◌, ℕ, zero, suc, ◌<◌, ◌≤◌, true, false, List, [], ◌∷◌, ◌++◌, length, map, get_or, refl, ap, sym, ◌∙◌, subst, subst₂, insert, drop, Option, Some, None, inl, inr, arith}
+use Rattle.std.proofs.Common.{◌≡◌, ℕ, zero, suc, ◌<◌, ◌≤◌, true, false, List, [], ◌∷◌, ◌++◌, length, map, get_or, refl, ap, sym, ◌∙◌, subst, subst₂, insert, drop, Option, Some, None, inl, inr, arith}
 use Rattle.std.specs.List.Sorted.{IsPartitionedBy}
 use Rattle.std.specs.Borrow.{Bor}
 use Rattle.std.specs.declared.cmp.Ordering.{Ordering}
@@ -7,47 +7,33 @@ use Rattle.std.specs.declared.cmp.Ordering.TheVariants.{Less, Equal, Greater}
 use Rattle.std.specs.Ordering.{nat_cmp, is_lt, is_eq, ordering_reverse}
 use Rattle.std.specs.Str.{bytes_eq}
 use Rattle.std.proofs.lemmas.Map.Text.{is_eq-slice_cmp}
-use Rattle.std.proofs.lemmas.List.{get_or_default}
+use Rattle.std.proofs.lemmas.List.{get_or-map, length-map}
+use Rattle.std.proofs.Math.Nat.{eq-or-lt_of_le}
+use Rattle.indexmap.proofs.SetLemmas.{map-insert}
 use Rattle.std.specs.Cmp.Lexicographic.{slice_cmp}
 use Rattle.std.proofs.lemmas.Bool.{false≢true}
 use Rattle.std.proofs.lemmas.Cmp.{nat_list_cmp_total}
 use Rattle.std.specs.Prelude.{option_to_list}
 use Rattle.std.proofs.Math.Seq.{drop-cons}
-use Rattle.sedck_script.specs.Names.{IsBefore, AreIncreasing, placed, with_name, sorted_names}
+use Rattle.sedck_script.specs.Names.{IsBefore, AreIncreasing, placed, with_name, sorted_names, accessed}
 use Rattle.sedck_script.specs.View.{verb_of, command_of}
-use Rattle.sedck_script.specs.Names.{accessed}
 use Rattle.sedck_script.specs.Private.NameReading.{all_accessed, with_any}
 use Rattle.sedck_script.specs.declared.script.Command.{Command}
 use Rattle.sedck_script.specs.declared.names.Access.{Access}
 
 is_less : (o : Ordering) → is_lt o ≡ true → o ≡ Less
 is_less Less h = refl
-is_less Equal h = absurd (false≢true h)
-is_less Greater h = absurd (false≢true h)
-
-get_map : (xs : List (Bor (List ℕ))) (k : ℕ) (d : Bor (List ℕ)) → k < length xs → get_or (map (λ n. n.now) xs) k d.now ≡ (get_or xs k d).now
-get_map [] k d lt = absurd (omega arith)
-get_map (x ∷ xs) zero d lt = refl
-get_map (x ∷ xs) (suc k) d lt = get_map xs k d (omega arith)
-
-map_length : (xs : List (Bor (List ℕ))) → length (map (λ n. n.now) xs) ≡ length xs
-map_length [] = refl
-map_length (x ∷ xs) = ap suc (map_length xs)
+is_less _ h = absurd (false≢true h)
 
 -- what is before the name is in front of what isn't
 pub rising_split : (xs : List (Bor (List ℕ))) (name : List ℕ) → AreIncreasing (map (λ n. n.now) xs) → IsPartitionedBy (λ n. is_lt (slice_cmp nat_cmp n.now name)) xs
-rising_split xs name rising i j d le lt h = elim (same_or_less i j le) [
+rising_split xs name rising i j d le lt h = elim (eq-or-lt_of_le le) [
   | inl same ↦ subst (λ k. is_lt (slice_cmp nat_cmp (get_or xs k d).now name) ≡ true) (sym same) h
   | inr less ↦ (
-      let first = subst₂ (λ a b. IsBefore a b) (get_map xs i d (omega arith)) (get_map xs j d lt) (rising i j d.now less (omega (arith, map_length xs))) in
+      let first = subst₂ (λ a b. IsBefore a b) (get_or-map (λ n. n.now) xs i d d.now (omega arith)) (get_or-map (λ n. n.now) xs j d d.now lt)
+      (rising i j d.now less (omega (arith, length-map xs (λ n. n.now)))) in
       ap is_lt (nat_list_cmp_total.trans (get_or xs i d).now (get_or xs j d).now name first (is_less _ h)))
 ]
-  where
-    same_or_less : (i j : ℕ) → i ≤ j → (i ≡ j) ⊎ (i < j)
-    same_or_less zero zero h = inl refl
-    same_or_less zero (suc j) h = inr (omega arith)
-    same_or_less (suc i) zero h = absurd (omega arith)
-    same_or_less (suc i) (suc j) h = elim (same_or_less i j (omega arith)) [ inl e ↦ inl (ap suc e) | inr e ↦ inr (omega arith) ]
 
 -- ---- Insertion
 
@@ -76,13 +62,9 @@ with_name_there (x ∷ xs) name (suc i) before lt here =
 
 -- ---- The same of a list of borrowed names
 
-get_mapped : (xs : List (Bor (List ℕ))) (k : ℕ) (d : List ℕ) (e : Bor (List ℕ)) → k < length xs → get_or (map (λ n. n.now) xs) k d ≡ (get_or xs k e).now
-get_mapped xs k d e lt = get_or_default (map (λ n. n.now) xs) k d e.now (omega (arith, map_length xs, lt)) ∙ get_map xs k e lt
-
 is_equal : (o : Ordering) → is_eq o ≡ true → o ≡ Equal
-is_equal Less h = absurd (false≢true h)
 is_equal Equal h = refl
-is_equal Greater h = absurd (false≢true h)
+is_equal _ h = absurd (false≢true h)
 
 is_greater : (o : Ordering) → is_lt o ≡ false → is_eq o ≡ false → o ≡ Greater
 is_greater Less h k = absurd (false≢true (sym h))
@@ -99,15 +81,9 @@ pub name_there : (xs : List (Bor (List ℕ))) (name other : Bor (List ℕ)) (i :
 name_there xs name other i before lt at same =
     let equal : slice_cmp nat_cmp other.now name.now ≡ Equal = is_equal _ (is_eq-slice_cmp other.now name.now ∙ same) in
     sym (with_name_there (map (λ n. n.now) xs) name.now i
-    (λ k d lt'. ap (λ n. is_lt (slice_cmp nat_cmp n name.now)) (get_mapped xs k d name (omega arith)) ∙ before k name lt')
-    (omega (arith, map_length xs))
-    (λ d. ap (λ n. slice_cmp nat_cmp n name.now) (get_mapped xs i d other lt ∙ ap (λ b. b.now) (sym at)) ∙ equal))
-
-map_insert : (xs : List (Bor (List ℕ))) (i : ℕ) (y : Bor (List ℕ)) → map (λ n. n.now) (insert xs i y) ≡ insert (map (λ n. n.now) xs) i y.now
-map_insert [] zero y = refl
-map_insert [] (suc i) y = refl
-map_insert (x ∷ xs) zero y = refl
-map_insert (x ∷ xs) (suc i) y = ap (λ t. x.now ∷ t) (map_insert xs i y)
+    (λ k d lt'. ap (λ n. is_lt (slice_cmp nat_cmp n name.now)) (get_or-map (λ n. n.now) xs k name d (omega arith)) ∙ before k name lt')
+    (omega (arith, length-map xs (λ n. n.now)))
+    (λ d. ap (λ n. slice_cmp nat_cmp n name.now) (get_or-map (λ n. n.now) xs i other d lt ∙ ap (λ b. b.now) (sym at)) ∙ equal))
 
 abbrev pub IsBehind : List (Bor (List ℕ)) → Bor (List ℕ) → ℕ → Type 0
 IsBehind xs name i = i < length xs → (is_lt (slice_cmp nat_cmp (get_or xs i name).now name.now) ≡ false) × (bytes_eq (get_or xs i name).now name.now ≡ false)
@@ -116,10 +92,10 @@ IsBehind xs name i = i < length xs → (is_lt (slice_cmp nat_cmp (get_or xs i na
 pub name_new : (xs : List (Bor (List ℕ))) (name : Bor (List ℕ)) (i : ℕ) → AreBefore xs name i → i ≤ length xs
     → IsBehind xs name i → map (λ n. n.now) (insert xs i name) ≡ with_name name.now (map (λ n. n.now) xs)
 name_new xs name i before le behind =
-    map_insert xs i name ∙ sym (with_name_at (map (λ n. n.now) xs) name.now i (omega (arith, map_length xs))
-    (λ k d lt. ap (λ n. is_lt (slice_cmp nat_cmp n name.now)) (get_mapped xs k d name (omega arith)) ∙ before k name lt)
-    (λ d lt. let both = behind (omega (arith, map_length xs)) in
-    ap (λ n. slice_cmp nat_cmp n name.now) (get_mapped xs i d name (omega (arith, map_length xs)))
+    map-insert (λ n. n.now) xs i name ∙ sym (with_name_at (map (λ n. n.now) xs) name.now i (omega (arith, length-map xs (λ n. n.now)))
+    (λ k d lt. ap (λ n. is_lt (slice_cmp nat_cmp n name.now)) (get_or-map (λ n. n.now) xs k name d (omega arith)) ∙ before k name lt)
+    (λ d lt. let both = behind (omega (arith, length-map xs (λ n. n.now))) in
+    ap (λ n. slice_cmp nat_cmp n name.now) (get_or-map (λ n. n.now) xs i name d (omega (arith, length-map xs (λ n. n.now))))
     ∙ is_greater _ both.0 (is_eq-slice_cmp (get_or xs i name).now name.now ∙ both.1)))
 
 -- ---- The names of commands

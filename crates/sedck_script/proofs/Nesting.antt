@@ -1,17 +1,15 @@
 -- Items that resolve to commands close each block; and their labels are at their commands.
-use Rattle.std.proofs.Common.{◌≡◌, ℕ, Bool, false, zero, suc, List, [], ◌∷◌, ◌++◌, length, Option, Some, None, refl, ap, sym, ◌∙◌, arith}
-use Rattle.sedck_script.specs.Program.{Address, NoAddress, Label, Verb, Branch, Command}
+use Rattle.std.proofs.Common.{◌≡◌, ℕ, Bool, true, false, cond, zero, suc, List, [], ◌∷◌, ◌++◌, length, Option, Some, None, refl, ap, sym, ◌∙◌, arith}
+use Rattle.sedck_script.specs.Program.{Address, NoAddress, Label, Verb, Branch, Test, Delete, Command}
 use Rattle.sedck_script.specs.Items.{Known, Item, Written, Closing}
-use Rattle.sedck_script.specs.Resolution.{Defines, AreLabelsDistinct, Resolves, done, known, branch, test, opening, closing}
+use Rattle.sedck_script.specs.Resolution.{Defines, AreLabelsDistinct, Resolves, done, known, jump, opening, closing}
 use Rattle.sedck_script.specs.Private.Reading.{IsLabelOf, AreLabelsOnce}
 use Rattle.sedck_script.specs.Private.ItemReading.{commands_among, Turn, Opens, Closes, Stays, Jumps, turn_of, Turned, Nests}
-use Rattle.sedck_script.proofs.UniqueCommands.{verbs_same}
 
 pub resolves_nests : {A cs : List Command} {blocks : List ℕ} {place : ℕ} {items : List Item} → Resolves A blocks place items cs → Nests items (length blocks)
 resolves_nests done = refl
 resolves_nests (known r) = resolves_nests r
-resolves_nests (branch may h r) = (may, resolves_nests r)
-resolves_nests (test may h r) = (may, resolves_nests r)
+resolves_nests (jump t may h r) = (may, resolves_nests r)
 resolves_nests (opening h r) = (h, resolves_nests r)
 resolves_nests (closing h r) = resolves_nests r
 
@@ -19,8 +17,7 @@ pub resolves_length : {A cs : List Command} {blocks : List ℕ} {place : ℕ} {i
     → length cs ≡ length (commands_among items)
 resolves_length done = refl
 resolves_length (known r) = ap suc (resolves_length r)
-resolves_length (branch may h r) = ap suc (resolves_length r)
-resolves_length (test may h r) = ap suc (resolves_length r)
+resolves_length (jump t may h r) = ap suc (resolves_length r)
 resolves_length (opening h r) = ap suc (resolves_length r)
 resolves_length (closing h r) = resolves_length r
 
@@ -69,22 +66,28 @@ label_command : {x : Item} {name : List ℕ} → Some x ≡ Some (Written NoAddr
     → plain_command x ≡ record { address = NoAddress; negated = false; verb = Label name }
 label_command e = ap plain_command (some_item e)
 
-no_branch_verb : {t : ℕ} {name : List ℕ} → Branch t ≡ Label name → ⊥
-no_branch_verb e = cc e
-
 -- a label's item becomes the command that defines it
 pub label_defined : {A cs : List Command} {blocks : List ℕ} {place : ℕ} {items : List Item} → Resolves A blocks place items cs
     → (name : List ℕ) (i : ℕ) → IsLabelOf (commands_among items) name i → Defines cs name i
 label_defined done name i h = absurd (cc h)
 label_defined (known r) name zero h = ap Some (label_command h)
-label_defined (branch may x r) name zero h = absurd (no_branch_verb (ap (λ c. c.verb) (label_command h)))
-label_defined (test may x r) name zero h = absurd (no_branch_verb (ap (λ c. c.verb) (label_command h)))
-label_defined (opening x r) name zero h = absurd (no_branch_verb (ap (λ c. c.verb) (label_command h)))
+label_defined (jump t may x r) name zero h = absurd (cc h)
+label_defined (opening x r) name zero h = absurd (cc h)
 label_defined (known r) name (suc i) h = label_defined r name i h
-label_defined (branch may x r) name (suc i) h = label_defined r name i h
-label_defined (test may x r) name (suc i) h = label_defined r name i h
+label_defined (jump t may x r) name (suc i) h = label_defined r name i h
 label_defined (opening x r) name (suc i) h = label_defined r name i h
 label_defined (closing x r) name i h = label_defined r name i h
+
+abbrev verb_or_delete : Option Command → Verb
+verb_or_delete (Some c) = c.verb
+verb_or_delete None = Delete
+
+verbs_same : {c d : Command} → Some c ≡ Some d → c.verb ≡ d.verb
+verbs_same h = ap verb_or_delete h
+
+no_jump_label : (tests : Bool) (target : ℕ) {name : List ℕ} → cond tests (Test target) (Branch target) ≡ Label name → ⊥
+no_jump_label true target e = cc e
+no_jump_label false target e = cc e
 
 abbrev written_some : Option Command → Option Item
 written_some (Some c) = Some (Written c.address c.negated (Known c.verb))
@@ -100,12 +103,10 @@ pub label_written : {A cs : List Command} {blocks : List ℕ} {place : ℕ} {ite
     → (name : List ℕ) (i : ℕ) → Defines cs name i → IsLabelOf (commands_among items) name i
 label_written done name i h = absurd (cc h)
 label_written (known r) name zero h = same_written h
-label_written (branch may x r) name zero h = absurd (cc (verbs_same h))
-label_written (test may x r) name zero h = absurd (cc (verbs_same h))
+label_written (jump {tests = tests} t may x r) name zero h = absurd (no_jump_label tests t (verbs_same h))
 label_written (opening x r) name zero h = absurd (cc (verbs_same h))
 label_written (known r) name (suc i) h = label_written r name i h
-label_written (branch may x r) name (suc i) h = label_written r name i h
-label_written (test may x r) name (suc i) h = label_written r name i h
+label_written (jump t may x r) name (suc i) h = label_written r name i h
 label_written (opening x r) name (suc i) h = label_written r name i h
 label_written (closing x r) name i h = label_written r name i h
 

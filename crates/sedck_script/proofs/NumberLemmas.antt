@@ -1,10 +1,10 @@
 -- Values of digits, up to a limit.
-use Rattle.std.proofs.Common.{◌≡◌, ℕ, zero, suc, ◌+◌, ◌-◌, ◌*◌, ◌^◌, ◌<◌, min, true, List, [], ◌∷◌, take, length, get_or, ap, sym, ◌∙◌, subst, arith}
+use Rattle.std.proofs.Common.{◌≡◌, ℕ, ◌+◌, ◌-◌, ◌*◌, ◌^◌, ◌<◌, min, true, List, take, length, get_or, ap, sym, ◌∙◌, subst, arith}
 use Rattle.std.specs.Char.{digit_value}
 use Rattle.std.specs.Str.Parse.{digits_value}
 use Rattle.std.specs.List.{list_all}
 use Rattle.std.proofs.lemmas.Int.Digits.{digits_value_more}
-use Rattle.std.proofs.lemmas.Bool.{and_parts}
+use Rattle.std.proofs.lemmas.List.Sums.{AllPass-from_list_all}
 use Rattle.sedck_script.specs.Cuts.{is_digit, Longest}
 use Rattle.sedck_script.specs.Parts.{Number}
 use Rattle.sedck_text.proofs.Runs.{longest_one}
@@ -13,9 +13,7 @@ value_of_digit : (b : ℕ) → is_digit b ≡ true → digit_value b ≡ b - 48
 value_of_digit b h = grind (arith, h)
 
 pub digit_at : (digits : List ℕ) (i : ℕ) → i < length digits → list_all is_digit digits ≡ true → is_digit (get_or digits i 0) ≡ true
-digit_at (b ∷ digits) zero lt all = (and_parts (is_digit b) (list_all is_digit digits) all).0
-digit_at (b ∷ digits) (suc i) lt all = digit_at digits i (omega arith) (and_parts (is_digit b) (list_all is_digit digits) all).1
-digit_at [] i lt all = absurd (omega arith)
+digit_at digits i lt all = AllPass-from_list_all is_digit digits all i 0 lt
 
 limit_step : (a v d : ℕ) → v ≡ min a 4294967296 → min (v * 10 + d) 4294967296 ≡ min (a * 10 + d) 4294967296
 limit_step a v d e = omega arith

@@ -1,7 +1,6 @@
 -- What each part leaves is an end of its text.
-use Rattle.std.proofs.Common.{◌≡◌, ℕ, Bool, List, [], ◌∷◌, ◌++◌, length, take, drop, ◌-◌, ◌<◌, ◌≤◌, refl, ap, sym, ◌∙◌, subst, length-append, arith, Some, append_assoc}
+use Rattle.std.proofs.Common.{◌≡◌, ℕ, Bool, List, [], ◌∷◌, ◌++◌, length, take, drop, ◌-◌, ◌<◌, ◌≤◌, refl, ap, sym, ◌∙◌, subst, length-append, arith, append_assoc}
 use Rattle.sedck_script.specs.Cuts.{Longest}
-use Rattle.std.specs.Prelude.{slice_get}
 use Rattle.sedck_script.specs.Program.{Pattern, Part, Substitution}
 use Rattle.sedck_script.specs.Parts.{Ends, Number, Name, Lines, GivenText, LabelText, DelimitedExpression, DelimitedList, Replacement, Flags}
 use Rattle.sedck_script.specs.Parts as p
@@ -18,10 +17,6 @@ tail_tail {a} {b} {c} h k = (h.0 ++ k.0, h.1 ∙ ap (λ t. h.0 ++ t) k.1 ∙ sym
 
 pub tail_behind : {whole text behind : List ℕ} {b : ℕ} → EndsIn whole text → text ≡ b ∷ behind → EndsIn whole behind
 tail_behind {whole} {text} {behind} {b} h e = (h.0 ++ (b ∷ []), h.1 ∙ ap (λ t. h.0 ++ t) e ∙ sym (append_assoc h.0 (b ∷ []) behind))
-
-pub stands_behind : (front tail : List ℕ) (b : ℕ) → slice_get (front ++ b ∷ tail) (length front) ≡ Some b
-stands_behind [] tail b = refl
-stands_behind (x ∷ front) tail b = stands_behind front tail b
 
 pub tail_cons : {text rest : List ℕ} (b : ℕ) → EndsIn text rest → EndsIn (b ∷ text) rest
 tail_cons b h = (b ∷ h.0, ap (λ t. b ∷ t) h.1)
@@ -54,7 +49,7 @@ lines_tail {bytes = bytes} x = (bytes, lines_cut x)
 
 pub given_tail : {text bytes rest : List ℕ} → GivenText text bytes rest → EndsIn text rest
 given_tail (p.below {a = a} {b = b} h g x) = tail_cons a (tail_cons b (lines_tail x))
-given_tail (p.behind {a = a} h g x) = tail_cons a (lines_tail x)
+given_tail (p.behind {a = a} h l m n x) = tail_cons a (lines_tail x)
 given_tail (p.at_once h g x) = lines_tail x
 
 pub expression_tail : {d : ℕ} {text e rest : List ℕ} → DelimitedExpression d text e rest → EndsIn text rest
@@ -78,7 +73,7 @@ replacement_tail (p.part {a = a} {b = b} f g h x) = tail_cons a (tail_cons b (re
 replacement_tail (p.run l x) = tail_tail (tail_cut l) (replacement_tail x)
 
 pub flags_tail : {q : Pattern} {ps : List Part} {text rest : List ℕ} {s : Substitution} → Flags q ps text s rest → EndsIn text rest
-flags_tail (p.none e) = ends_tail e.0
+flags_tail (p.none e m) = ends_tail e
 flags_tail (p.file {b = b} h n) = tail_cons b (name_tail n)
 flags_tail (p.global {b = b} h x g) = tail_cons b (flags_tail x)
 flags_tail (p.print {b = b} h x g) = tail_cons b (flags_tail x)
@@ -88,10 +83,8 @@ flags_tail (p.number a x g) = tail_tail (number_tail a) (flags_tail x)
 pub verb_takes : {text rest : List ℕ} {v : WrittenVerb} → VerbText text v rest → (b : ℕ) × (behind : List ℕ) × (text ≡ b ∷ behind) × EndsIn behind rest
 verb_takes (w.simple x e) = (_, _, refl, ends_tail e)
 verb_takes (w.label h l n e) = (_, _, refl, tail_tail (label_text_tail l) (ends_tail e))
-verb_takes (w.branch h l n e brace) = (_, _, refl, tail_tail (label_text_tail l) (ends_tail e.0))
-verb_takes (w.branch_to_end h n e brace) = (_, _, refl, ends_tail e.0)
-verb_takes (w.test h l n e brace) = (_, _, refl, tail_tail (label_text_tail l) (ends_tail e.0))
-verb_takes (w.test_to_end h n e brace) = (_, _, refl, ends_tail e.0)
+verb_takes (w.jump h l n e brace) = (_, _, refl, tail_tail (label_text_tail l) (ends_tail e.0))
+verb_takes (w.jump_to_end h n e brace) = (_, _, refl, ends_tail e.0)
 verb_takes (w.opening h) = (_, _, refl, ([], refl))
 verb_takes (w.append h l g) = (_, _, refl, tail_tail (tail_cut l) (given_tail g))
 verb_takes (w.change h l g) = (_, _, refl, tail_tail (tail_cut l) (given_tail g))

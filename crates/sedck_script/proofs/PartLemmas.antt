@@ -1,7 +1,8 @@
 -- Names and texts.
 use Rattle.std.proofs.Common.{◌≡◌, ◌≢◌, ℕ, Bool, true, false, ◌<◌, ◌≤◌, get_or, arith, not, List, [], ◌∷◌, length, refl, ap, sym, ◌∙◌, subst, inl, inr, ◌⊎◌}
 use Rattle.sedck_script.specs.Cuts.{is_newline, is_blank, is_continued, IsEmptyOr, Longest}
-use Rattle.sedck_script.specs.Parts.{is_skipped, Name, Lines, GivenText, BeginsPlainly}
+use Rattle.sedck_script.specs.Parts.{Name, Lines, GivenText}
+use Rattle.sedck_script.specs.Private.NameReading.{is_skipped}
 use Rattle.sedck_script.specs.Parts as p
 use Rattle.sedck_text.proofs.Runs.{longest_one}
 use Rattle.sedck_script.proofs.FirstBytes.{heads}
@@ -47,8 +48,7 @@ pub passed_last : {text rest behind : List ℕ} {a : ℕ} → LinesPassed text r
 passed_last {behind = behind} {a = a} h e f g =
     let none = nil_from_length behind f in
     record {
-      sound = λ bytes r x. h.sound (a ∷ []) r
-          (subst (λ t. Lines t (a ∷ []) r) (sym (e ∙ ap (λ t. a ∷ t) none)) (last_lines g (subst (λ t. Lines t bytes r) none x)));
+      sound = λ bytes r x. h.sound (a ∷ []) r (subst (λ t. Lines t (a ∷ []) r) (sym (e ∙ ap (λ t. a ∷ t) none)) (last_lines g (rw none at x)));
     }
 
 pub passed_end : {text rest : List ℕ} → LinesPassed text rest → length rest ≡ 0 → (bytes : List ℕ) × Lines text bytes rest
@@ -67,7 +67,7 @@ given_below {bytes = bytes} {rest = rest} {a = a} e f g h x = subst (λ t. Given
 pub given_behind : {text behind blanks begins more bytes rest : List ℕ} {a b : ℕ} → text ≡ a ∷ behind → a ≡ 92 → Longest is_blank behind blanks begins
     → begins ≡ b ∷ more → b ≢ 10 → b ≢ 92 → Lines behind bytes rest → GivenText text bytes rest
 given_behind {behind = behind} {blanks = blanks} {more = more} {bytes = bytes} {rest = rest} {b = b} e g l f h k x =
-    subst (λ t. GivenText t bytes rest) (sym e) (p.behind g (blanks, b, more, subst (λ t. Longest is_blank behind blanks t) f l, h, k) x)
+    subst (λ t. GivenText t bytes rest) (sym e) (p.behind g (subst (λ t. Longest is_blank behind blanks t) f l) h k x)
 
 same_first : {text blanks begins more m t : List ℕ} {b c : ℕ} → Longest is_blank text blanks begins → begins ≡ b ∷ more
     → Longest is_blank text m (c ∷ t) → b ≡ c
@@ -76,14 +76,14 @@ same_first l h m = heads (sym h ∙ (longest_one l m).1)
 no_given_by : {behind blanks begins more bytes rest : List ℕ} {a b : ℕ} → a ≡ 92 → ((c : ℕ) (t : List ℕ) → behind ≡ c ∷ t → c ≡ 10 → ⊥)
     → Longest is_blank behind blanks begins → begins ≡ b ∷ more → (b ≡ 10) ⊎ (b ≡ 92) → GivenText (a ∷ behind) bytes rest → ⊥
 no_given_by g n l h k (p.below i j y) = n _ _ refl j
-no_given_by g n l h (inl k) (p.behind i j y) = j.4 (sym (same_first l h j.3) ∙ k)
-no_given_by g n l h (inr k) (p.behind i j y) = j.5 (sym (same_first l h j.3) ∙ k)
+no_given_by g n l h (inl k) (p.behind i m line slash y) = line (sym (same_first l h m) ∙ k)
+no_given_by g n l h (inr k) (p.behind i m line slash y) = slash (sym (same_first l h m) ∙ k)
 no_given_by g n l h k (p.at_once i j y) = j g
 
 no_given_blank_by : {behind blanks bytes rest : List ℕ} {a : ℕ} → a ≡ 92 → ((c : ℕ) (t : List ℕ) → behind ≡ c ∷ t → c ≡ 10 → ⊥)
     → Longest is_blank behind blanks [] → GivenText (a ∷ behind) bytes rest → ⊥
 no_given_blank_by g n l (p.below i j y) = n _ _ refl j
-no_given_blank_by g n l (p.behind i j y) = let none = (longest_one l j.3).1 in absurd (cc none)
+no_given_blank_by g n l (p.behind i m line slash y) = let none = (longest_one l m).1 in absurd (cc none)
 no_given_blank_by g n l (p.at_once i j y) = j g
 
 -- after the backslash is nothing
@@ -96,8 +96,7 @@ no_given_end {bytes = bytes} {rest = rest} {a = a} e g none x =
 pub no_given_blank : {text behind blanks begins below bytes rest : List ℕ} {a c : ℕ} → text ≡ a ∷ behind → a ≡ 92 → behind ≡ c ∷ below → c ≢ 10
     → Longest is_blank behind blanks begins → begins ≡ [] → GivenText text bytes rest → ⊥
 no_given_blank {behind = behind} {blanks = blanks} {bytes = bytes} {rest = rest} e g f n l none x =
-    no_given_blank_by g (λ d t i j. n (heads (sym f ∙ i) ∙ j)) (subst (λ t. Longest is_blank behind blanks t) none l)
-    (subst (λ t. GivenText t bytes rest) e x)
+    no_given_blank_by g (λ d t i j. n (heads (sym f ∙ i) ∙ j)) (rw none at l) (rw e at x)
 
 -- after the backslash is neither a newline nor a byte that begins a text
 pub no_given : {text behind blanks begins more below bytes rest : List ℕ} {a b c : ℕ} → text ≡ a ∷ behind → a ≡ 92 → behind ≡ c ∷ below → c ≢ 10

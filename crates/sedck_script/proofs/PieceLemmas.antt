@@ -1,6 +1,6 @@
 -- How far a delimited part has been read.
 use Rattle.std.proofs.Common.{◌≡◌, ◌≢◌, ℕ, ◌-◌, ◌<◌, ◌≤◌, take, length-append, eqb, cond, Some, None, inl, inr, ◌⊎◌, List, [], ◌∷◌, ◌++◌, length, refl, ap, sym, ◌∙◌, subst, append_assoc, append-nil, arith}
-use Rattle.sedck_script.specs.Parts.{DelimitedExpression, ExpressionText, DelimitedList}
+use Rattle.sedck_script.specs.Parts.{DelimitedExpression, ExpressionText, DelimitedList, IsPattern, previous, expression}
 use Rattle.sedck_script.specs.Parts as p
 use Rattle.sedck_script.specs.declared.delimited.Piece.{Piece}
 use Rattle.sedck_script.specs.declared.delimited.Piece.TheVariants as piece
@@ -8,7 +8,6 @@ use Rattle.std.proofs.lemmas.Bool.{eqb-true, cond_both}
 use Rattle.sedck_bre.specs.Tree.{Tree}
 use Rattle.sedck_bre.specs.Shape.{Shape}
 use Rattle.sedck_script.specs.Program.{Pattern, Previous, Expression}
-use Rattle.sedck_script.specs.Parts.{IsPattern, previous, expression}
 use Rattle.sedck_script.specs.Private.PieceReading.{IsPiece, IsReadUpTo, IsWrittenUpTo, list_escape, PatternText}
 use Rattle.sedck_text.specs.Cursors.{unread}
 use Rattle.sedck_text.specs.declared.cursor.Cursor.{Cursor}
@@ -37,13 +36,9 @@ list_piece n (p.backslashes {b = b} {text = rest} f g x) = record { kind = piece
 list_piece n (p.line {b = b} {text = rest} f g h x) = record { kind = piece.Pair b; rest = rest; is = (ap (λ a. a ∷ b ∷ rest) f, g) }
 
 -- one more piece
-pub record ExpressionStep (d : ℕ) (text front behind : List ℕ) : Type 0 where
-  pub sound : (e r : List ℕ) → DelimitedExpression d behind e r → DelimitedExpression d text (front ++ e) r
-  pub only : (e r : List ℕ) → DelimitedExpression d text e r → (f : List ℕ) × DelimitedExpression d behind f r
-
-pub expression_more : {d : ℕ} {text bytes rest front behind : List ℕ} (all : List ℕ) → all ≡ bytes ++ front
-    → IsReadUpTo d text bytes rest → ExpressionStep d rest front behind → IsReadUpTo d text all behind
-expression_more {bytes = bytes} {front = front} all g h s = record {
+pub piece_more : {Delimited : List ℕ → List ℕ → List ℕ → Type 0} {text bytes rest front behind : List ℕ} (all : List ℕ) → all ≡ bytes ++ front
+    → IsReadUpTo Delimited text bytes rest → IsReadUpTo Delimited rest front behind → IsReadUpTo Delimited text all behind
+piece_more {bytes = bytes} {front = front} all g h s = record {
   sound = λ e r x. rw (g, append_assoc) (h.sound (front ++ e) r (s.sound e r x));
   only = λ e r x. let one = h.only e r x in s.only one.0 r one.1;
 }
@@ -60,25 +55,25 @@ only_two n m (p.byte f g h x) = absurd (g m)
 only_two n m (p.escaped f g h x) = (_, x)
 only_two n m (p.pair f g h x) = (_, x)
 
-pub expression_byte : {d b : ℕ} {text behind : List ℕ} → IsPiece d text (piece.Byte b) behind → ExpressionStep d text (b ∷ []) behind
+pub expression_byte : {d b : ℕ} {text behind : List ℕ} → IsPiece d text (piece.Byte b) behind → IsReadUpTo (DelimitedExpression d) text (b ∷ []) behind
 expression_byte {d} {b} h = record {
   sound = λ e r x. subst (λ t. DelimitedExpression d t (b ∷ e) r) (sym h.0) (p.byte h.1 h.2 h.3 x);
   only = λ e r x. only_byte h.1 h.2 (subst (λ t. DelimitedExpression d t e r) h.0 x);
 }
 
-pub expression_escaped : {d : ℕ} {text behind : List ℕ} → d ≢ 92 → IsPiece d text piece.Escaped behind → ExpressionStep d text (d ∷ []) behind
+pub expression_escaped : {d : ℕ} {text behind : List ℕ} → d ≢ 92 → IsPiece d text piece.Escaped behind → IsReadUpTo (DelimitedExpression d) text (d ∷ []) behind
 expression_escaped {d} n h = record {
   sound = λ e r x. subst (λ t. DelimitedExpression d t (d ∷ e) r) (sym h.0) (p.escaped refl refl h.1 x);
   only = λ e r x. only_two n refl (subst (λ t. DelimitedExpression d t e r) h.0 x);
 }
 
-pub expression_pair : {d b : ℕ} {text behind : List ℕ} → d ≢ 92 → b ≢ 10 → IsPiece d text (piece.Pair b) behind → ExpressionStep d text (92 ∷ b ∷ []) behind
+pub expression_pair : {d b : ℕ} {text behind : List ℕ} → d ≢ 92 → b ≢ 10 → IsPiece d text (piece.Pair b) behind → IsReadUpTo (DelimitedExpression d) text (92 ∷ b ∷ []) behind
 expression_pair {d} {b} n m h = record {
   sound = λ e r x. subst (λ t. DelimitedExpression d t (92 ∷ b ∷ e) r) (sym h.0) (p.pair refl h.1 m x);
   only = λ e r x. only_two n refl (subst (λ t. DelimitedExpression d t e r) h.0 x);
 }
 
-pub expression_end : {d : ℕ} {text bytes rest behind : List ℕ} → IsReadUpTo d text bytes rest → IsPiece d rest piece.End behind
+pub expression_end : {d : ℕ} {text bytes rest behind : List ℕ} → IsReadUpTo (DelimitedExpression d) text bytes rest → IsPiece d rest piece.End behind
     → DelimitedExpression d text bytes behind
 expression_end {d} {behind = behind} h e = rw append-nil at (h.sound [] behind (subst (λ t. DelimitedExpression d t [] behind) (sym e) (p.ends refl)))
 
@@ -88,18 +83,18 @@ written_none text = record { same = refl; written = []; cut = refl; passed = rec
 
 -- one more piece that is no escaped delimiter
 pub written_more : {d : ℕ} {text rest behind : Cursor} (front : List ℕ) → behind.whole ≡ rest.whole → unread rest ≡ front ++ unread behind
-    → ExpressionStep d (unread rest) front (unread behind) → IsWrittenUpTo d text rest → IsWrittenUpTo d text behind
+    → IsReadUpTo (DelimitedExpression d) (unread rest) front (unread behind) → IsWrittenUpTo d text rest → IsWrittenUpTo d text behind
 written_more {behind = behind} front same e s h = record {
   same = same ∙ h.same;
   written = h.written ++ front;
   cut = h.cut ∙ ap (λ t. h.written ++ t) e ∙ sym (append_assoc h.written front (unread behind));
-  passed = expression_more (h.written ++ front) refl h.passed s;
+  passed = piece_more (h.written ++ front) refl h.passed s;
 }
 
 -- what is written between the cursors
 pub written_between : {d : ℕ} {from to : ℕ} {text rest : Cursor} → IsWrittenUpTo d text rest → to ≡ rest.at → from ≡ text.at
     → (from ≤ to) × (to - from ≤ length (unread text)) × ((written : List ℕ) × (unread text ≡ written ++ unread rest)
-    × (take (to - from) (unread text) ≡ written) × IsReadUpTo d (unread text) written (unread rest))
+    × (take (to - from) (unread text) ≡ written) × IsReadUpTo (DelimitedExpression d) (unread text) written (unread rest))
 written_between {from = from} {to = to} {text = text} {rest = rest} h e f =
     let long : length h.written ≡ to - from = omega (
       arith,
@@ -127,7 +122,7 @@ written_between {from = from} {to = to} {text = text} {rest = rest} h e f =
     )
 
 -- where no piece follows
-pub expression_stuck : {d : ℕ} {text bytes rest : List ℕ} → IsReadUpTo d text bytes rest
+pub expression_stuck : {d : ℕ} {text bytes rest : List ℕ} → IsReadUpTo (DelimitedExpression d) text bytes rest
     → ((x : Piece) (r : List ℕ) → IsPiece d rest x r → ⊥) → (e r : List ℕ) → DelimitedExpression d text e r → ⊥
 expression_stuck h n e r x = let one = h.only e r x in let some = expression_piece one.1 in n some.kind some.rest some.is
 
@@ -138,26 +133,9 @@ no_escaped_line n m k l (p.escaped f g h x) = k g
 no_escaped_line n m k l (p.pair f g h x) = h l
 
 -- where an escaped newline follows
-pub expression_broken : {d b : ℕ} {text bytes rest behind : List ℕ} → d ≢ 92 → IsReadUpTo d text bytes rest
+pub expression_broken : {d b : ℕ} {text bytes rest behind : List ℕ} → d ≢ 92 → IsReadUpTo (DelimitedExpression d) text bytes rest
     → IsPiece d rest (piece.Pair b) behind → b ≡ 10 → (e r : List ℕ) → DelimitedExpression d text e r → ⊥
 expression_broken {d} n h k l e r x = let one = h.only e r x in no_escaped_line n refl k.1 l (subst (λ t. DelimitedExpression d t one.0 r) k.0 one.1)
-
--- These bytes of a list have been read, and rest is left.
-pub record ListPassed (d : ℕ) (text bytes rest : List ℕ) : Type 0 where
-  pub sound : (e r : List ℕ) → DelimitedList d rest e r → DelimitedList d text (bytes ++ e) r
-  pub only : (e r : List ℕ) → DelimitedList d text e r → (f : List ℕ) × DelimitedList d rest f r
-
--- one more byte
-pub record ListStep (d : ℕ) (text : List ℕ) (byte : ℕ) (behind : List ℕ) : Type 0 where
-  pub sound : (e r : List ℕ) → DelimitedList d behind e r → DelimitedList d text (byte ∷ e) r
-  pub only : (e r : List ℕ) → DelimitedList d text e r → (f : List ℕ) × DelimitedList d behind f r
-
-pub list_more : {d byte : ℕ} {text bytes rest behind : List ℕ} (all : List ℕ) → all ≡ bytes ++ byte ∷ [] → ListPassed d text bytes rest
-    → ListStep d rest byte behind → ListPassed d text all behind
-list_more {byte = byte} {bytes = bytes} all g h s = record {
-  sound = λ e r x. rw (g, append_assoc) (h.sound (byte ∷ e) r (s.sound e r x));
-  only = λ e r x. let one = h.only e r x in s.only one.0 r one.1;
-}
 
 only_list_byte : {d b : ℕ} {behind e r : List ℕ} → b ≢ d → b ≢ 92 → DelimitedList d (b ∷ behind) e r → (f : List ℕ) × DelimitedList d behind f r
 only_list_byte n m (p.ends h) = absurd (n h)
@@ -173,13 +151,13 @@ only_list_two n m (p.escaped f g h x) = (_, x)
 only_list_two n m (p.backslashes f g x) = (_, x)
 only_list_two n m (p.line f g h x) = (_, x)
 
-pub list_byte : {d b : ℕ} {text behind : List ℕ} → IsPiece d text (piece.Byte b) behind → ListStep d text b behind
+pub list_byte : {d b : ℕ} {text behind : List ℕ} → IsPiece d text (piece.Byte b) behind → IsReadUpTo (DelimitedList d) text (b ∷ []) behind
 list_byte {d} {b} h = record {
   sound = λ e r x. subst (λ t. DelimitedList d t (b ∷ e) r) (sym h.0) (p.byte h.1 h.2 h.3 x);
   only = λ e r x. only_list_byte h.1 h.2 (subst (λ t. DelimitedList d t e r) h.0 x);
 }
 
-pub list_escaped : {d : ℕ} {text behind : List ℕ} → d ≢ 92 → IsPiece d text piece.Escaped behind → ListStep d text d behind
+pub list_escaped : {d : ℕ} {text behind : List ℕ} → d ≢ 92 → IsPiece d text piece.Escaped behind → IsReadUpTo (DelimitedList d) text (d ∷ []) behind
 list_escaped {d} n h = record {
   sound = λ e r x. subst (λ t. DelimitedList d t (d ∷ e) r) (sym h.0) (p.escaped refl refl h.1 x);
   only = λ e r x. only_list_two n refl (subst (λ t. DelimitedList d t e r) h.0 x);
@@ -195,7 +173,7 @@ escape_cases b m h =
     (λ g e. absurd (cc e)))
     h
 
-pub list_pair : {d b m : ℕ} {text behind : List ℕ} → d ≢ 92 → list_escape b ≡ Some m → IsPiece d text (piece.Pair b) behind → ListStep d text m behind
+pub list_pair : {d b m : ℕ} {text behind : List ℕ} → d ≢ 92 → list_escape b ≡ Some m → IsPiece d text (piece.Pair b) behind → IsReadUpTo (DelimitedList d) text (m ∷ []) behind
 list_pair {d} {b} {m} n k h = record {
   sound = λ e r x. subst (λ t. DelimitedList d t (m ∷ e) r) (sym h.0) (elim (escape_cases b m k) [
     | inl f ↦ rw f.1 (p.backslashes refl f.0 x)
@@ -204,12 +182,12 @@ list_pair {d} {b} {m} n k h = record {
   only = λ e r x. only_list_two n refl (subst (λ t. DelimitedList d t e r) h.0 x);
 }
 
-pub list_end : {d : ℕ} {text bytes rest behind : List ℕ} → ListPassed d text bytes rest → IsPiece d rest piece.End behind
+pub list_end : {d : ℕ} {text bytes rest behind : List ℕ} → IsReadUpTo (DelimitedList d) text bytes rest → IsPiece d rest piece.End behind
     → DelimitedList d text bytes behind
 list_end {d} {behind = behind} h e = rw append-nil at (h.sound [] behind (subst (λ t. DelimitedList d t [] behind) (sym e) (p.ends refl)))
 
 -- where no piece follows
-pub list_stuck : {d : ℕ} {text bytes rest : List ℕ} → d ≢ 92 → ListPassed d text bytes rest
+pub list_stuck : {d : ℕ} {text bytes rest : List ℕ} → d ≢ 92 → IsReadUpTo (DelimitedList d) text bytes rest
     → ((x : Piece) (r : List ℕ) → IsPiece d rest x r → ⊥) → (e r : List ℕ) → DelimitedList d text e r → ⊥
 list_stuck k h n e r x = let one = h.only e r x in let some = list_piece k one.1 in n some.kind some.rest some.is
 
@@ -221,7 +199,7 @@ no_list_pair n m k l (p.backslashes f g x) = let h = rw g at l in cc
 no_list_pair n m k l (p.line f g h x) = let e = h in let i = rw e at l in cc
 
 -- where an escape follows that means nothing
-pub list_broken : {d b : ℕ} {text bytes rest behind : List ℕ} → d ≢ 92 → ListPassed d text bytes rest
+pub list_broken : {d b : ℕ} {text bytes rest behind : List ℕ} → d ≢ 92 → IsReadUpTo (DelimitedList d) text bytes rest
     → IsPiece d rest (piece.Pair b) behind → list_escape b ≡ None → (e r : List ℕ) → DelimitedList d text e r → ⊥
 list_broken {d} n h k l e r x = let one = h.only e r x in no_list_pair n refl k.1 l (subst (λ t. DelimitedList d t one.0 r) k.0 one.1)
 

@@ -13,7 +13,7 @@ use Rattle.sedck_script.specs.declared.fault.ScriptFault.{ScriptFault}
 use Rattle.sedck_script.specs.declared.fault.ScriptFault.TheVariants as fault
 use Rattle.sedck_script.specs.Cuts.{is_blank, is_digit, is_ending, is_delimiter, IsEmptyOr, Longest}
 use Rattle.sedck_script.specs.Program.{Place, Address, Pattern, Previous, Expression, Verb, place_patterns, verb_patterns}
-use Rattle.sedck_script.specs.Parts.{Number, DelimitedExpression, ExpressionText, IsPattern, PlaceText, AddressText}
+use Rattle.sedck_script.specs.Parts.{Number, DelimitedExpression, IsPattern, PlaceText, AddressText}
 use Rattle.sedck_script.specs.Parts as p
 use Rattle.sedck_script.specs.Items.{WrittenVerb, Simple, VerbText}
 use Rattle.sedck_script.specs.Items as w
@@ -23,7 +23,7 @@ use Rattle.sedck_script.specs.Private.AddressReading.{is_mark, IsBehindComma, Is
 use Rattle.sedck_script.specs.Private.Progress.{written_patterns}
 use Rattle.sedck_script.proofs.OffsetLemmas.{tail_length, expression_tail, take_front}
 use Rattle.sedck_script.proofs.UniqueParts.{digit_no_end}
-use Rattle.sedck_script.proofs.SpelledIsSound.{flags_pattern}
+use Rattle.sedck_script.proofs.SpelledIsSound.{flags_leave}
 use Rattle.sedck_script.proofs.VerbBytes.{byte_of}
 use Rattle.sedck_script.proofs.UniqueItems.{place_first}
 use Rattle.sedck_script.proofs.FirstBytes.{heads}
@@ -86,9 +86,7 @@ no_second_place text second same c n =
 
 empty_end : {d : ℕ} {text e rest : List ℕ} → e ≡ [] → DelimitedExpression d text e rest → text ≡ d ∷ rest
 empty_end n (p.ends {rest = rest} h) = ap (λ b. b ∷ rest) h
-empty_end n (p.byte f g h x) = absurd (cc n)
-empty_end n (p.escaped f g h x) = absurd (cc n)
-empty_end n (p.pair f g h x) = absurd (cc n)
+empty_end n _ = absurd (cc n)
 
 no_expression : {e : List ℕ} {q : Pattern} → q ≡ Previous → IsPattern e q → e ≡ []
 no_expression n p.previous = refl
@@ -157,19 +155,7 @@ empty_address from behind h k (p.custom {delimiter = d} {text = text} e a x y) s
 
 simple_plain : {b : ℕ} {v : Verb} → Simple b v → has_previous (verb_patterns v) ≡ true → ⊥
 simple_plain w.line_number h = false≢true h
-simple_plain w.delete h = false≢true h
-simple_plain w.delete_first_line h = false≢true h
-simple_plain w.get h = false≢true h
-simple_plain w.get_append h = false≢true h
-simple_plain w.hold h = false≢true h
-simple_plain w.hold_append h = false≢true h
-simple_plain w.list h = false≢true h
-simple_plain w.next h = false≢true h
-simple_plain w.next_append h = false≢true h
-simple_plain w.print h = false≢true h
-simple_plain w.print_first_line h = false≢true h
-simple_plain w.quit h = false≢true h
-simple_plain w.exchange h = false≢true h
+simple_plain _ h = false≢true h
 
 -- an empty expression of a verb ends two bytes after the verb
 pub empty_verb_place : {text rest : List ℕ} {v : WrittenVerb} (begins : Cursor) → unread begins ≡ text → VerbText text v rest
@@ -179,26 +165,15 @@ empty_verb_place begins h (w.substitute {delimiter = d} {text = text} {behind = 
     let opened : drop (begins.at + 1) whole ≡ d ∷ text = sym (drop-drop 1 begins.at whole) ∙ ap (drop 1) h in
     let inside : drop (begins.at + 2) whole ≡ text = sym (drop-drop 2 begins.at whole) ∙ ap (drop 2) h in
     let before : begins.at + 2 - 1 ≡ begins.at + 1 = omega arith in
-    let ended = empty_end (no_expression (sym (flags_pattern f) ∙ is_previous some) q) x.cut in (
+    let ended = empty_end (no_expression (sym (flags_leave f).0 ∙ is_previous some) q) x.cut in (
       d,
       a,
       omega arith,
       rw before (first_there (begins.at + 1) whole text d opened),
       first_there (begins.at + 2) whole rest d (inside ∙ ended),
     )
-empty_verb_place begins h (w.label f l n e) some = absurd (false≢true some)
-empty_verb_place begins h (w.branch f l n e brace) some = absurd (false≢true some)
-empty_verb_place begins h (w.branch_to_end f n e brace) some = absurd (false≢true some)
-empty_verb_place begins h (w.test f l n e brace) some = absurd (false≢true some)
-empty_verb_place begins h (w.test_to_end f n e brace) some = absurd (false≢true some)
-empty_verb_place begins h (w.opening f) some = absurd (false≢true some)
-empty_verb_place begins h (w.append f l g) some = absurd (false≢true some)
-empty_verb_place begins h (w.change f l g) some = absurd (false≢true some)
-empty_verb_place begins h (w.insert f l g) some = absurd (false≢true some)
-empty_verb_place begins h (w.read f n) some = absurd (false≢true some)
-empty_verb_place begins h (w.write f n) some = absurd (false≢true some)
-empty_verb_place begins h (w.transliterate f d x y l e) some = absurd (false≢true some)
 empty_verb_place begins h (w.simple x e) some = absurd (simple_plain x some)
+empty_verb_place begins h _ some = absurd (false≢true some)
 
 -- ---- Flags
 
@@ -227,28 +202,7 @@ unread_address text e other none = (none, λ verb rest x. absurd (false≢true (
 pub part_placed : (opening : ℕ) (text : List ℕ) (f : ScriptFault) → IsPartPlaced opening text f
     → (f ≡ fault.Unterminated opening → IsPlaced text (fault.Unterminated opening)) → IsPlaced text f
 part_placed opening text (fault.Unterminated place) h k = subst (λ p. IsPlaced text (fault.Unterminated p)) (sym h) (k (ap fault.Unterminated h))
-part_placed opening text (fault.TooLong place) h k = h
-part_placed opening text (fault.NulByte place) h k = h
-part_placed opening text (fault.UnknownCommand place) h k = h
-part_placed opening text (fault.BadAddress place) h k = h
-part_placed opening text (fault.TooManyAddresses place) h k = h
-part_placed opening text (fault.BadReplacement place) h k = h
-part_placed opening text (fault.BadFlag place) h k = h
-part_placed opening text (fault.BadTransliteration place) h k = h
-part_placed opening text (fault.MissingText place) h k = h
-part_placed opening text (fault.MissingName place) h k = h
-part_placed opening text (fault.BadLabel place) h k = h
-part_placed opening text (fault.DuplicateLabel place) h k = h
-part_placed opening text (fault.UnknownLabel place) h k = h
-part_placed opening text (fault.UnopenedBlock place) h k = h
-part_placed opening text (fault.UnclosedBlock place) h k = h
-part_placed opening text (fault.TooDeep place) h k = h
-part_placed opening text (fault.TooManyCommands place) h k = h
-part_placed opening text (fault.ExtraText place) h k = h
-part_placed opening text (fault.NoPreviousExpression place) h k = h
-part_placed opening text (fault.EscapedDelimiter place) h k = h
-part_placed opening text (fault.BadExpression place cause) h k = h
-part_placed opening text fault.OutOfMemory h k = h
+part_placed opening text _ h k = h
 
 -- the same of a part that is read in the text of a callee
 pub part_placed_same : (opening : ℕ) {whole other : Bor (List ℕ)} (f : ScriptFault) → other ≡ whole → IsPartPlaced opening other.now f

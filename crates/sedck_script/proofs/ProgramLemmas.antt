@@ -2,13 +2,14 @@
 use Rattle.std.proofs.Common.{◌≡◌, ◌≢◌, ℕ, zero, suc, ◌<◌, ◌≤◌, true, false, List, [], ◌∷◌, ◌++◌, length, map, get_or, Option, Some, None, Contains, refl, ap, sym, ◌∙◌, subst, inl, inr, arith}
 use Rattle.std.specs.Prelude.{Any, slice_get}
 use Rattle.std.proofs.lemmas.Bool.{false≢true}
+use Rattle.std.proofs.lemmas.List.{get_or-map, length-map}
 use Rattle.std.specs.Borrow.{Bor}
 use Rattle.std.specs.HashMap.{HashMap}
 use Rattle.sedck_text.specs.Text.{one_of}
 use Rattle.sedck_bre.specs.Tree.{Tree}
 use Rattle.sedck_script.specs.Program.{Pattern, Previous, Expression, NoAddress, Label, Command, Program, address_patterns, verb_patterns, patterns, expressions}
 use Rattle.sedck_script.specs.Items.{Known, Item, Written, Closing, Items}
-use Rattle.sedck_script.specs.Resolution.{Defines, AreLabelsDistinct, LeadsTo, Resolves, done, known, branch, test, opening, closing}
+use Rattle.sedck_script.specs.Resolution.{Defines, AreLabelsDistinct, LeadsTo, Resolves, done, known, jump, opening, closing}
 use Rattle.sedck_script.specs.Spelling.{Spells, AreCommands}
 use Rattle.sedck_script.specs.Faults.{IsLabelBehind, IsUndefinedLabel}
 use Rattle.sedck_script.specs.Private.Reading.{label_place, HasLabels}
@@ -54,27 +55,16 @@ module _ {S : Type 0} (labels : HashMap (Bor (List ℕ)) ℕ S) where
       → (name : List ℕ) × (at : ℕ) × (label_place labels name ≡ None) × Defines all name at
   lost_at k d done lt l = absurd (omega arith)
   lost_at zero d (known r) lt l = absurd l
-  lost_at {all = all} zero d (branch {target = t} {label = n} may h r) lt l = lost_by all n t h l
-  lost_at {all = all} zero d (test {target = t} {label = n} may h r) lt l = lost_by all n t h l
+  lost_at {all = all} zero d (jump {label = n} t may h r) lt l = lost_by all n t h l
   lost_at zero d (opening h r) lt l = absurd l
   lost_at zero d (closing h r) lt l = absurd l
   lost_at (suc k) d (known r) lt l = lost_at k d r (omega arith) l
-  lost_at (suc k) d (branch may h r) lt l = lost_at k d r (omega arith) l
-  lost_at (suc k) d (test may h r) lt l = lost_at k d r (omega arith) l
+  lost_at (suc k) d (jump t may h r) lt l = lost_at k d r (omega arith) l
   lost_at (suc k) d (opening h r) lt l = lost_at k d r (omega arith) l
   lost_at (suc k) d (closing h r) lt l = lost_at k d r (omega arith) l
 
   none_some : {i : ℕ} {o : Option ℕ} → o ≡ None → o ≡ Some i → ⊥
   none_some e f = absurd (cc (e, f))
-
-  get_item : (items : List WrittenItem) (k : ℕ) (d : WrittenItem) → k < length items → get_or (map item_of items) k (item_of d) ≡ item_of (get_or items k d)
-  get_item [] k d lt = absurd (omega arith)
-  get_item (x ∷ items) zero d lt = refl
-  get_item (x ∷ items) (suc k) d lt = get_item items k d (omega arith)
-
-  items_length : (items : List WrittenItem) → length (map item_of items) ≡ length items
-  items_length [] = refl
-  items_length (x ∷ items) = ap suc (items_length items)
 
   -- where a label is lost, no program is spelled
   pub no_target : {text : List ℕ} (items : List WrittenItem) → Items text (map item_of items) → HasLabels labels (commands_among (map item_of items))
@@ -82,10 +72,9 @@ module _ {S : Type 0} (labels : HashMap (Bor (List ℕ)) ℕ S) where
       → (other : Program) → Spells text other → ⊥
   no_target items x h any other s =
       let same : s.items ≡ map item_of items = items_one s.spelled x in
-      let r : Resolves other.commands [] 0 (map item_of items) other.commands =
-      subst (λ t. Resolves other.commands [] 0 t other.commands) same s.commands.resolved in
-      let lost = lost_at any.0 (item_of any.1) r (omega (arith, any.2, items_length items))
-      (subst (λ i. IsLostLabel labels (item_label i)) (sym (get_item items any.0 any.1 any.2)) (rw any.3 any.4)) in
+      let r : Resolves other.commands [] 0 (map item_of items) other.commands = rw same at s.commands.resolved in
+      let lost = lost_at any.0 (item_of any.1) r (omega (arith, any.2, length-map items item_of))
+      (subst (λ i. IsLostLabel labels (item_label i)) (sym (get_or-map item_of items any.0 any.1 (item_of any.1) any.2)) (rw any.3 any.4)) in
       none_some lost.2 (h.found lost.0 lost.1 (label_written r lost.0 lost.1 lost.3))
 
   -- a label that the map of the items lacks is defined by none of them
@@ -111,8 +100,8 @@ resolved_patterns : {all cs : List Command} {blocks : List ℕ} {place : ℕ} {i
     → patterns cs ≡ item_patterns items
 resolved_patterns done = refl
 resolved_patterns (known {address = a} {verb = v} r) = ap (λ t. (address_patterns a ++ verb_patterns v) ++ t) (resolved_patterns r)
-resolved_patterns (branch {address = a} may h r) = ap (λ t. (address_patterns a ++ []) ++ t) (resolved_patterns r)
-resolved_patterns (test {address = a} may h r) = ap (λ t. (address_patterns a ++ []) ++ t) (resolved_patterns r)
+resolved_patterns (jump {address = a} {tests = true} t may h r) = ap (λ t. (address_patterns a ++ []) ++ t) (resolved_patterns r)
+resolved_patterns (jump {address = a} {tests = false} t may h r) = ap (λ t. (address_patterns a ++ []) ++ t) (resolved_patterns r)
 resolved_patterns (opening {address = a} h r) = ap (λ t. (address_patterns a ++ []) ++ t) (resolved_patterns r)
 resolved_patterns (closing h r) = resolved_patterns r
 
@@ -141,11 +130,9 @@ pub no_expression : {text : List ℕ} {items : List Item} {cs : List Command} �
     → (other : Program) → Spells text other → ⊥
 no_expression {items = items} {cs = cs} x r h none other s =
     let same : s.items ≡ items = items_one s.spelled x in
-    let commands : cs ≡ other.commands = commands_one r
-    (subst (λ t. Resolves other.commands [] 0 t other.commands) same s.commands.resolved) s.commands.labels in
+    let commands : cs ≡ other.commands = commands_one r (rw same at s.commands.resolved) s.commands.labels in
     let previous : Contains (patterns cs) Previous = previous_contained (patterns cs) (ap has_previous (resolved_patterns r) ∙ h) in
-    s.commands.expression (subst (λ c. Contains (patterns c) Previous) commands previous)
-    (subst (λ c. expressions c ≡ []) commands (none_empty (expressions cs) none))
+    s.commands.expression (rw commands at previous) (rw commands at (none_empty (expressions cs) none))
 
 -- the items are these commands, where each empty expression has another one
 pub are_commands : {S : Type 0} (labels : HashMap (Bor (List ℕ)) ℕ S) {items : List Item} {cs : List Command}

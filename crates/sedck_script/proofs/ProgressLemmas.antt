@@ -5,9 +5,10 @@ use Rattle.sedck_script.specs.Cuts.{is_newline, is_separator, Longest}
 use Rattle.std.specs.Borrow.{Bor}
 use Rattle.std.specs.HashMap.{HashMap}
 use Rattle.std.proofs.lemmas.Option.{slice_get_within}
+use Rattle.std.proofs.lemmas.List.{nil_from_length}
 use Rattle.sedck_script.specs.Program.{Address, NoAddress, Label}
 use Rattle.sedck_script.specs.Parts.{Ends}
-use Rattle.sedck_script.specs.Items.{WrittenVerb, Known, BranchTo, TestTo, Opening, VerbText, Takes, CommandText, Item, Written, Closing, Items}
+use Rattle.sedck_script.specs.Items.{WrittenVerb, Known, JumpTo, Opening, VerbText, Takes, CommandText, Item, Written, Closing, Items}
 use Rattle.sedck_script.specs.Items as w
 use Rattle.sedck_script.specs.Private.Reading.{EndsIn, IsLabelOf, AreLabelsOnce, HasLabels}
 use Rattle.sedck_script.specs.Private.CommentReading.{CommentText}
@@ -21,7 +22,7 @@ use Rattle.sedck_text.specs.Cursors.{unread}
 use Rattle.sedck_text.specs.declared.cursor.Cursor.{Cursor}
 use Rattle.sedck_text.proofs.Cursors.{read_unread, unread_length}
 use Rattle.sedck_script.proofs.FirstBytes.{tails, heads}
-use Rattle.sedck_script.proofs.OffsetLemmas.{tail_cut, tail_tail, tail_length, verb_text_shorter, stands_behind}
+use Rattle.sedck_script.proofs.OffsetLemmas.{tail_cut, tail_tail, tail_length, verb_text_shorter}
 use Rattle.sedck_script.proofs.LabelPlaces.{get_front, get_seam}
 use Rattle.sedck_script.proofs.UniqueParts.{ends_one}
 use Rattle.sedck_script.proofs.CommandLemmas.{address_tail}
@@ -198,15 +199,14 @@ pub front_command : {depth deep : ℕ} {text begins rest : List ℕ} {items : Li
     → IsFront text items depth begins → BeginsCommand begins → CommandText begins a n v rest
     → Deeper (verb_turn v) depth deep → IsFront text (items ++ Written a n v ∷ []) deep rest
 front_command {depth} {deep} {begins = begins} {items = items} {a = a} {n = n} {v = v} f k c d = record {
-  sound = λ more x. rw append_assoc (f.sound (Written a n v ∷ more)
-      (w.command (subst (λ t. Longest is_separator begins [] t) (sym k.2) (at_front k.2 k.3)) c x));
+  sound = λ more x. rw append_assoc (f.sound (Written a n v ∷ more) (w.command (rw (← k.2) at (at_front k.2 k.3)) c x));
   only = λ all x.
       let one = f.only all x in
       let step = command_step k c one.2 in
       (step.0, one.1 ∙ ap (λ t. items ++ t) step.1 ∙ sym (append_assoc items (Written a n v ∷ []) step.0), step.2);
   nests = λ more x. rw append_assoc (f.nests (Written a n v ∷ more) (deeper (verb_turn v) depth deep (Nests more) d x));
   nested = λ more x. less_deep (verb_turn v) depth deep (Nests more) d
-      (f.nested (Written a n v ∷ more) (subst (λ t. Nests t 0) (append_assoc items (Written a n v ∷ []) more) x));
+      (f.nested (Written a n v ∷ more) (rw (append_assoc items (Written a n v ∷ []) more) at x));
 }
 
 too_deep : (v : WrittenVerb) (depth : ℕ) (P : ℕ → Type 0) → v ≡ Opening → 64 ≤ depth → Turned (verb_turn v) P depth → ⊥
@@ -214,8 +214,7 @@ too_deep v depth P e h t = let x = subst (λ u. Turned (verb_turn u) P depth) e 
 
 too_braced : (v : WrittenVerb) (depth : ℕ) (P : ℕ → Type 0) → is_braced v ≡ true → 2 ≤ depth → Turned (verb_turn v) P depth → ⊥
 too_braced (Known v) depth P e h t = absurd (cc e)
-too_braced (BranchTo label braced) depth P e h t = omega (arith, t.0 e, h)
-too_braced (TestTo label braced) depth P e h t = omega (arith, t.0 e, h)
+too_braced (JumpTo tests label braced) depth P e h t = omega (arith, t.0 e, h)
 too_braced Opening depth P e h t = absurd (cc e)
 
 -- a command that may not be there
@@ -232,10 +231,8 @@ front_refused {items = items} {depth = depth} {count = count} labels f k h e non
     elim (none first.0 first.1 first.2 first.3 first.6) [
       | inl known ↦ twice (commands_among items) (commands_among first.4) (commands_among all) known.0 known.1 (h.at known.0 known.1 known.3)
           (among ∙ ap (λ y. commands_among items ++ y ∷ commands_among first.4) (label_item first.2 known.2 first.6.taken)) once
-      | inr (inl deep) ↦ too_deep first.2 depth (Nests first.4) deep.0 deep.1
-          (subst (λ t. Nests t depth) first.5 (f.nested one.0 (subst (λ t. Nests t 0) one.1 nests)))
-      | inr (inr (inl braced)) ↦ too_braced first.2 depth (Nests first.4) braced.0 braced.1
-          (subst (λ t. Nests t depth) first.5 (f.nested one.0 (subst (λ t. Nests t 0) one.1 nests)))
+      | inr (inl deep) ↦ too_deep first.2 depth (Nests first.4) deep.0 deep.1 (rw first.5 at (f.nested one.0 (rw one.1 at nests)))
+      | inr (inr (inl braced)) ↦ too_braced first.2 depth (Nests first.4) braced.0 braced.1 (rw first.5 at (f.nested one.0 (rw one.1 at nests)))
       | inr (inr (inr many)) ↦ omega (
         arith,
         e,
@@ -248,24 +245,12 @@ front_refused {items = items} {depth = depth} {count = count} labels f k h e non
 
 opening_last : {text rest : List ℕ} {v : WrittenVerb} → v ≡ Opening → VerbText text v rest → text ≡ 123 ∷ rest
 opening_last e (w.opening h) = rw h refl
-opening_last e (w.simple x f) = absurd (cc e)
-opening_last e (w.label h l n f) = absurd (cc e)
-opening_last e (w.branch h l n f brace) = absurd (cc e)
-opening_last e (w.branch_to_end h n f brace) = absurd (cc e)
-opening_last e (w.test h l n f brace) = absurd (cc e)
-opening_last e (w.test_to_end h n f brace) = absurd (cc e)
-opening_last e (w.append h l g) = absurd (cc e)
-opening_last e (w.change h l g) = absurd (cc e)
-opening_last e (w.insert h l g) = absurd (cc e)
-opening_last e (w.read h n) = absurd (cc e)
-opening_last e (w.write h n) = absurd (cc e)
-opening_last e (w.substitute h d x y z g f) = absurd (cc e)
-opening_last e (w.transliterate h d x y l f) = absurd (cc e)
+opening_last e _ = absurd (cc e)
 
 stands_at : (whole front rest : List ℕ) (place : ℕ) → whole ≡ front ++ 123 ∷ rest → place ≡ length whole - length rest - 1 → slice_get whole place ≡ Some 123
 stands_at whole front rest place e p =
     let at : place ≡ length front = omega (arith, p, ap length e, length-append front (123 ∷ rest)) in
-    rw (at, e) (stands_behind front rest 123)
+    rw (at, e) (get_seam front rest 123)
 
 -- the `{` of a block is right before what follows it
 pub brace_stands : {a : Address} {n : Bool} {v : WrittenVerb} (begins rest : Cursor) → rest.whole ≡ begins.whole
@@ -290,15 +275,11 @@ pub progress_at : {text old new : List ℕ} {progress : Progress} → IsProgress
     → AreFirstLocations text new (locations_in progress.items.items) → IsProgress text new progress
 progress_at p f l = record { front = f; labels = p.labels; count = p.count; located = l; few = p.few; label_places = p.label_places; opened = p.opened; empty = p.empty }
 
-pub no_length : {X : Type 0} (xs : List X) → length xs ≡ 0 → xs ≡ []
-no_length [] e = refl
-no_length (x ∷ xs) e = absurd (omega arith)
-
 -- where nothing but separators is left, the items are read
 pub front_done : {text rest separators begins : List ℕ} {items : List Item} {depth : ℕ} → IsFront text items depth rest
     → Longest is_separator rest separators begins → length begins ≡ 0 → Items text items
 front_done {text} {rest} {separators} {begins} {items} f l e =
-    subst (λ t. Items text t) (append-nil items) (f.sound [] (w.nothing (subst (λ t. Longest is_separator rest separators t) (no_length begins e) l)))
+    subst (λ t. Items text t) (append-nil items) (f.sound [] (w.nothing (subst (λ t. Longest is_separator rest separators t) (nil_from_length begins e) l)))
 
 items_end : {text separators : List ℕ} {all : List Item} → Longest is_separator text separators [] → Items text all → all ≡ []
 items_end l (w.nothing m) = refl
@@ -311,7 +292,7 @@ pub front_unclosed : {text rest separators begins : List ℕ} {items : List Item
     → Longest is_separator rest separators begins → length begins ≡ 0 → 0 < depth → HasNoItems text
 front_unclosed {rest = rest} {separators = separators} {begins = begins} {depth = depth} f l e some all x few once nests =
     let one = f.only all x in
-    let none : one.0 ≡ [] = items_end (subst (λ t. Longest is_separator rest separators t) (no_length begins e) l) one.2 in
+    let none : one.0 ≡ [] = items_end (subst (λ t. Longest is_separator rest separators t) (nil_from_length begins e) l) one.2 in
     let closed : depth ≡ 0 = subst (λ t. Nests t depth) none (f.nested one.0 (subst (λ t. Nests t 0) one.1 nests)) in
     omega arith
 

@@ -6,7 +6,8 @@ use Rattle.std.specs.Int.RustNames.{bit_or}
 use Rattle.std.specs.List.{All, AllByRecursion}
 use Rattle.std.proofs.lemmas.List.{get_or-map, drop_more, length-map}
 use Rattle.std.proofs.lemmas.List.Elements.{All-get_or}
-use Rattle.std.proofs.lemmas.Bool.{false≢true, and_parts, not-true}
+use Rattle.std.proofs.Math.Bool.{or-true, or-false, or_assoc}
+use Rattle.std.proofs.lemmas.Bool.{false≢true, or_parts, and_parts, not-true}
 use Rattle.std.proofs.lemmas.Bool.Decides.{nat_tests}
 use Rattle.std.proofs.lemmas.Nat.Bits.{bit_at_or, bit_at-pow_same, bit_at-pow_other, bit_at-zero}
 use Rattle.sedck_text.specs.Text.{is_in}
@@ -16,28 +17,12 @@ use Rattle.sedck_bre.specs.Lengths.{IsLeastSize}
 use Rattle.sedck_bre.specs.Rests.{names, named, is_top_group, NamesTopGroups, texts_length, HasRest}
 use Rattle.sedck_bre.proofs.NamedSums.{sum_of, without, texts_sum, sum_of-none, sum_of-split}
 use Rattle.sedck_bre.proofs.LeastRest.{lengths}
-use Rattle.sedck_script.specs.Program.{Pattern, Previous, Expression, Part, Text, Newline, Tab, Whole, Group}
+use Rattle.sedck_script.specs.Program.{Pattern, Previous, Expression, Part, Whole, Group}
 use Rattle.sedck_script.specs.declared.script.Part.{Part as Coded}
 use Rattle.sedck_script.specs.View.{part_of}
 use Rattle.sedck_script.specs.Invariant.{IsPart}
 use Rattle.sedck_script.specs.Private.Keeping.{may_keep, kept_with, kept_from}
 use Rattle.sedck_script.specs.References.{HasNoWhole, named_groups, IsNotIn, AreDistinct, AreTopGroups, KeepsGroups}
-
-or_true : (b : Bool) → true ≡ (b || true)
-or_true true = refl
-or_true false = refl
-
-or_false : (b : Bool) → b ≡ (b || false)
-or_false true = refl
-or_false false = refl
-
-or_either : (a b c : Bool) → ((a || b) || c) ≡ (a || (b || c))
-or_either true b c = refl
-or_either false b c = refl
-
-or_none : (a b : Bool) → (a || b) ≡ false → (a ≡ false) × (b ≡ false)
-or_none true b e = absurd (false≢true (sym e))
-or_none false b e = (refl, e)
 
 -- ---- One group more
 
@@ -70,10 +55,10 @@ more_named bits k j = go (k == j) refl
     go true s =
         let same : k ≡ j = grind (arith, nat_tests) in
         let here : names (bit_or bits (2 ^ k)) j ≡ true = subst (λ i. names (bit_or bits (2 ^ k)) i ≡ true) same (more_same bits k) in
-        rw (s, here) (or_true (names bits j))
+        rw (s, here) (sym (or-true (names bits j)))
     go false s =
         let other : j ≢ k = λ e. grind (arith, nat_tests, e) in
-        rw (s, more_other bits k j other) (or_false (names bits j))
+        rw (s, more_other bits k j other) (sym (or-false (names bits j)))
 
 -- ---- One part more
 
@@ -108,7 +93,7 @@ pub record Keeps (pattern : Pattern) (bits : ℕ) (parts : List Part) (after : �
 apart_more : (bits k : ℕ) (ks : List ℕ) → AreApart (bit_or bits (2 ^ k)) ks → IsNotIn k ks × AreApart bits ks
 apart_more bits k [] h = (tt, tt)
 apart_more bits k (j ∷ ks) h =
-    let both = or_none (names bits j) (k == j) (sym (more_named bits k j) ∙ h.0) in
+    let both = or_parts (names bits j) (k == j) (sym (more_named bits k j) ∙ h.0) in
     let more = apart_more bits k ks h.1 in
     ((λ e. absurd (grind (arith, nat_tests, both.1, e)), more.0), (both.0, more.1))
 
@@ -142,11 +127,8 @@ kept_keeps pattern bits [] after h e =
       top = tt;
       apart = tt;
       within = tt;
-      is = λ j. ap (λ b. names b j) (sym same) ∙ or_false (names bits j);
+      is = λ j. ap (λ b. names b j) (sym same) ∙ sym (or-false (names bits j));
     }
-kept_keeps pattern bits (Text bytes ∷ parts) after h e = same_groups refl (λ w. w) (kept_keeps pattern bits parts after h.1 e)
-kept_keeps pattern bits (Newline ∷ parts) after h e = same_groups refl (λ w. w) (kept_keeps pattern bits parts after h.1 e)
-kept_keeps pattern bits (Tab ∷ parts) after h e = same_groups refl (λ w. w) (kept_keeps pattern bits parts after h.1 e)
 kept_keeps pattern bits (Whole ∷ parts) after h e = absurd (no_some e)
 kept_keeps Previous bits (Group k ∷ parts) after h e = absurd (no_some e)
 kept_keeps (Expression own) bits (Group k ∷ parts) after h e =
@@ -171,16 +153,14 @@ kept_keeps (Expression own) bits (Group k ∷ parts) after h e =
           apart = (clear, split.1);
           within = (h.0, more.within);
           is = λ j. more.is j ∙ ap (λ b. b || is_in j (named_groups parts)) (more_named bits k j)
-              ∙ or_either (names bits j) (k == j) (is_in j (named_groups parts));
+              ∙ or_assoc (names bits j) (k == j) (is_in j (named_groups parts));
         }
+kept_keeps pattern bits (_ ∷ parts) after h e = same_groups refl (λ w. w) (kept_keeps pattern bits parts after h.1 e)
 
 -- where the parts aren't kept, the replacement doesn't keep groups
 kept_none : (pattern : Pattern) (bits : ℕ) (parts : List Part) → kept_from pattern (Some bits) parts ≡ None
     → HasNoWhole parts → AreDistinct (named_groups parts) → AreTopGroups pattern (named_groups parts) → AreApart bits (named_groups parts) → ⊥
 kept_none pattern bits [] e whole distinct top apart = no_some (sym e)
-kept_none pattern bits (Text bytes ∷ parts) e whole distinct top apart = kept_none pattern bits parts e whole distinct top apart
-kept_none pattern bits (Newline ∷ parts) e whole distinct top apart = kept_none pattern bits parts e whole distinct top apart
-kept_none pattern bits (Tab ∷ parts) e whole distinct top apart = kept_none pattern bits parts e whole distinct top apart
 kept_none pattern bits (Whole ∷ parts) e whole distinct top apart = whole
 kept_none Previous bits (Group k ∷ parts) e whole distinct top apart = top
 kept_none (Expression own) bits (Group k ∷ parts) e whole distinct top apart =
@@ -188,6 +168,7 @@ kept_none (Expression own) bits (Group k ∷ parts) e whole distinct top apart =
     let step : kept_with (Expression own) bits (Group k) ≡ Some (bit_or bits (2 ^ k)) = rw free refl in
     kept_none (Expression own) (bit_or bits (2 ^ k)) parts (sym (ap (λ o. kept_from (Expression own) o parts) step) ∙ e) whole distinct.1 top.1
     (apart_less bits k (named_groups parts) distinct.0 apart.1)
+kept_none pattern bits (_ ∷ parts) e whole distinct top apart = kept_none pattern bits parts e whole distinct top apart
 
 -- ---- From no group on
 

@@ -1,11 +1,11 @@
 -- How far a replacement has been read.
-use Rattle.std.proofs.Common.{◌≡◌, ◌≢◌, ℕ, ◌≤◌, true, eqb, leb, List, [], ◌∷◌, ◌++◌, length, take, drop, zero, suc, refl, ap, sym, ◌∙◌, subst, append_assoc, append-nil, length-append, arith, inl, inr}
+use Rattle.std.proofs.Common.{◌≡◌, ◌≢◌, ℕ, ◌≤◌, true, List, [], ◌∷◌, ◌++◌, length, take, drop, zero, suc, refl, ap, sym, ◌∙◌, subst, append_assoc, append-nil, length-append, arith, inl, inr}
 use Rattle.std.specs.Prelude.{Contains}
 use Rattle.std.specs.List.{list_all}
 use Rattle.std.proofs.lemmas.List.Elements.{Contains-append_cases, Contains-append_right}
-use Rattle.std.proofs.lemmas.Bool.{and_parts, both_ways, not_from_false, or_from, or_parts, not-true, eq-eqb, ne_eqb, leb-true}
+use Rattle.std.proofs.lemmas.Bool.{and_parts, both_ways, not_from_false, or_from, not-true, ne_eqb}
 use Rattle.sedck_script.specs.Cuts.{is_digit, Longest}
-use Rattle.sedck_script.specs.Program.{Part, Text, Newline, Tab, Whole, Group}
+use Rattle.sedck_script.specs.Program.{Part, Text, Whole, Group}
 use Rattle.sedck_script.specs.Parts.{EscapedPart, Replacement, is_plain}
 use Rattle.sedck_script.specs.Parts as p
 use Rattle.sedck_script.specs.declared.delimited.Piece.{Piece}
@@ -18,7 +18,7 @@ use Rattle.sedck_script.proofs.UniqueParts.{plain_first, no_plain, escaped_one}
 use Rattle.sedck_script.proofs.PieceLemmas.{SomePiece}
 
 no_line : (d b : ℕ) → is_plain d b ≡ true → b ≢ 10
-no_line d b h e = both_ways _ (or_parts (eqb b 10) _ (or_parts (eqb b 92) _ (or_parts (eqb b d) _ (not-true _ h)).1).1).0 (eq-eqb b 10 e)
+no_line d b h e = grind (arith, h, e)
 
 -- a replacement begins with some piece
 pub replacement_piece : {d : ℕ} {text r : List ℕ} {ps : List Part} → d ≢ 92 → Replacement d text ps r → SomePiece d text
@@ -60,8 +60,7 @@ only_run l n (p.ends h) = absurd ((no_plain _ _ (plain_first _ l)).0 h)
 only_run l n (p.whole f g x) = absurd ((no_plain _ _ (plain_first _ l)).2 g)
 only_run l n (p.escaped f g h x) = absurd ((no_plain _ _ (plain_first _ l)).1 f)
 only_run l n (p.part f g h x) = absurd ((no_plain _ _ (plain_first _ l)).1 f)
-only_run {d} {r = r} l n (p.run {parts = parts} m x) = let one =
-    longest_one m l in (parts, ap (λ t. Text t ∷ parts) one.0, subst (λ t. Replacement d t parts r) one.1 x)
+only_run {d} {r = r} l n (p.run {parts = parts} m x) = let one = longest_one m l in (parts, ap (λ t. Text t ∷ parts) one.0, rw one.1 at x)
 
 run_of : (d b : ℕ) (text behind run after : List ℕ) → text ≡ b ∷ behind → is_plain d b ≡ true → Longest (is_plain d) text run after
     → (bytes : List ℕ) × (run ≡ b ∷ bytes)
@@ -125,10 +124,7 @@ replacement_stuck k n x = let some = replacement_piece k x in n some.kind some.r
 
 within_first : (g : ℕ) (first : Part) (parts : List Part) → HasGroupsUpTo g (first ∷ parts) → IsGroupWithin g first
 within_first g (Group k) parts h = h k (0, omega arith, refl)
-within_first g (Text bytes) parts h = tt
-within_first g Newline parts h = tt
-within_first g Tab parts h = tt
-within_first g Whole parts h = tt
+within_first g _ parts h = tt
 
 no_pair : {d b g : ℕ} {behind r : List ℕ} {all : List Part} → d ≢ 92 → b ≢ d → ((q : Part) → EscapedPart b q → IsGroupWithin g q → ⊥)
     → Replacement d (92 ∷ b ∷ behind) all r → HasGroupsUpTo g all → ⊥
@@ -182,4 +178,4 @@ parts_stuck {parts = parts} h n all r x w =
     n one.0 r one.2 (λ k i. w k (rw one.1 (Contains-append_right parts one.0 (Group k) i)))
 
 pub digit_group : (b : ℕ) → is_digit b ≡ true → b ≢ 48 → (49 ≤ b) × (b ≤ 57)
-digit_group b h n = let parts = and_parts (leb 48 b) (leb b 57) h in (omega (arith, leb-true 48 b parts.0, n), leb-true b 57 parts.1)
+digit_group b h n = (grind (arith, h, n), grind (arith, h))

@@ -7,11 +7,12 @@ use Rattle.std.specs.Prelude.{All}
 use Rattle.std.specs.Borrow.{Bor}
 use Rattle.std.specs.HashMap.{HashMap}
 use Rattle.sedck_script.specs.Program.{Address, Command}
-use Rattle.sedck_script.specs.Items.{WrittenVerb, Known, BranchTo, TestTo, Opening, Item, Written, Closing}
-use Rattle.sedck_script.specs.Resolution.{Defines, MayBeBraced, LeadsTo, Resolves, done, known, branch, test, opening, closing}
+use Rattle.sedck_script.specs.Items.{WrittenVerb, Known, JumpTo, Opening, Item, Written, Closing}
+use Rattle.sedck_script.specs.Resolution.{Defines, MayBeBraced, LeadsTo, Resolves, done, known, jump, opening, closing}
 use Rattle.sedck_script.specs.Private.Reading.{label_place, HasLabels}
 use Rattle.sedck_script.specs.Private.ItemReading.{commands_among, verb_turn, Turned, Nests, IsKnownLabel, label_of, item_label, item_of, target_of, resolved_verb, TakesTarget}
 use Rattle.sedck_script.specs.declared.items.WrittenItem.{WrittenItem}
+use Rattle.sedck_script.proofs.StateLemmas.{among_append, among_closing}
 use Rattle.sedck_script.proofs.Nesting.{resolves_nests, resolves_length, nests_one, nests_behind, label_defined, plain_commands, plain_length, plain_label}
 
 -- what is known of the commands of the whole script
@@ -56,28 +57,20 @@ step : {S : Type 0} (labels : HashMap (Bor (List ℕ)) ℕ S) (end place target 
     (suffix : List Item) (a : Address) (n : Bool) (v : WrittenVerb)
     → Knows labels end all → IsKnownLabel labels (label_of v) → TakesTarget (verb_turn v) old new target → Turned (verb_turn v) (Nests suffix) depth
     → Resolves all (reverse old) (suc place) suffix made → Resolves all (reverse new) place (Written a n v ∷ suffix) (made_of labels end target a n v ∷ made)
-step labels end place target depth all made old new suffix a n (Known v) k l t d r =
-    known (subst (λ b. Resolves all (reverse b) (suc place) suffix made) (sym t) r)
-step labels end place target depth all made old new suffix a n (BranchTo label braced) k l t d r =
-    branch (as_deep braced old new suffix depth t d r) (leads labels end all label k l) (subst (λ b. Resolves all (reverse b) (suc place) suffix made) (sym t) r)
-step labels end place target depth all made old new suffix a n (TestTo label braced) k l t d r =
-    test (as_deep braced old new suffix depth t d r) (leads labels end all label k l) (subst (λ b. Resolves all (reverse b) (suc place) suffix made) (sym t) r)
+step labels end place target depth all made old new suffix a n (Known v) k l t d r = known (rw (← t) at r)
+step labels end place target depth all made old new suffix a n (JumpTo tests label braced) k l t d r =
+    jump _ (as_deep braced old new suffix depth t d r) (leads labels end all label k l) (rw (← t) at r)
 step labels end place target depth all made old new suffix a n Opening k l t d r =
     let deep : length (reverse old) ≡ suc depth = nests_one suffix (length (reverse old)) (suc depth) (resolves_nests r) d.1 in
     let cut : old ≡ new ++ target ∷ [] = t (not_empty old (omega (arith, deep))) in
     let front : reverse old ≡ target ∷ reverse new = ap reverse cut ∙ reverse_push new target in
-    opening (omega (arith, ap length front, deep, d.0)) (subst (λ b. Resolves all b (suc place) suffix made) front r)
+    opening (omega (arith, ap length front, deep, d.0)) (rw front at r)
 
 among_push : (left : List Item) (a : Address) (n : Bool) (v : WrittenVerb)
     → length (commands_among (left ++ Written a n v ∷ [])) ≡ suc (length (commands_among left))
-among_push [] a n v = refl
-among_push (Written b m w ∷ left) a n v = ap suc (among_push left a n v)
-among_push (Closing ∷ left) a n v = among_push left a n v
-
-among_closing : (left : List Item) → length (commands_among (left ++ Closing ∷ [])) ≡ length (commands_among left)
-among_closing [] = refl
-among_closing (Written b m w ∷ left) = ap suc (among_closing left)
-among_closing (Closing ∷ left) = among_closing left
+among_push left a n v =
+    let all = ap length (among_append left (Written a n v ∷ [])) in
+    omega (arith, all, length-append (commands_among left) (Written a n v ∷ []))
 
 -- one more command
 pub back_command : {S : Type 0} {labels : HashMap (Bor (List ℕ)) ℕ S} {end : ℕ} {whole : List Item} {made : List Command} (old : List ℕ)
@@ -104,9 +97,8 @@ back_closing {whole = whole} {made = made} {blocks = blocks} left target e b =
     record {
       suffix = Closing ∷ b.suffix;
       split = b.split ∙ append_assoc left (Closing ∷ []) b.suffix;
-      count = omega (arith, b.count, among_closing left);
-      resolves = λ all k. closing (omega (arith, e, b.count, among_closing left))
-          (subst (λ p. Resolves all blocks p b.suffix made) (among_closing left) (b.resolves all k));
+      count = omega (arith, b.count, ap length (among_closing left));
+      resolves = λ all k. closing (omega (arith, e, b.count, ap length (among_closing left))) (rw (ap length (among_closing left)) at (b.resolves all k));
     }
 
 knows_plain : {S : Type 0} {labels : HashMap (Bor (List ℕ)) ℕ S} {end : ℕ} (whole : List Item) → HasLabels labels (commands_among whole)
@@ -139,13 +131,11 @@ abbrev pub AreKnown : {S : Type 0} → HashMap (Bor (List ℕ)) ℕ S → List W
 AreKnown labels items = All (λ item. IsKnownLabel labels (item_label (item_of item))) items
 
 pub known_front : {S : Type 0} (labels : HashMap (Bor (List ℕ)) ℕ S) (xs ys : List WrittenItem) → AreKnown labels (xs ++ ys) → AreKnown labels xs
-known_front labels xs ys h = λ k d lt. subst (λ item. IsKnownLabel labels (item_label (item_of item))) (get_or-append xs ys d k lt)
-    (h k d (omega (arith, length-append xs ys)))
+known_front labels xs ys h = λ k d lt. rw (get_or-append xs ys d k lt) at (h k d (omega (arith, length-append xs ys)))
 
 pub known_last : {S : Type 0} (labels : HashMap (Bor (List ℕ)) ℕ S) (xs : List WrittenItem) (x : WrittenItem) → AreKnown labels (xs ++ x ∷ [])
     → IsKnownLabel labels (item_label (item_of x))
-known_last labels xs x h = subst (λ item. IsKnownLabel labels (item_label (item_of item))) (get_or-append_seam xs x [] x)
-    (h (length xs) x (omega (arith, length-append xs (x ∷ []))))
+known_last labels xs x h = rw (get_or-append_seam xs x [] x) at (h (length xs) x (omega (arith, length-append xs (x ∷ []))))
 
 pub none_left : {X Y : Type 0} (f : X → Y) (xs : List X) → length xs ≡ 0 → map f xs ≡ []
 none_left f xs e = ap (map f) (nil_from_length xs e)

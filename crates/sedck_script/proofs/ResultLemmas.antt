@@ -18,9 +18,6 @@ if_err_both (Err e) f h k = f e h k
 pub if_some_at : {A : Type 0} (P : A → Type 0) {o : Option A} {x : A} → o ≡ Some x → IfSome o P → P x
 if_some_at P e h = subst (λ o. IfSome o P) e h
 
-pub if_none_at : {A : Type 0} (P : Type 0) {o : Option A} → o ≡ None → IfNone o P → P
-if_none_at P e h = subst (λ o. IfNone o P) e h
-
 pub if_err_from : {A E : Type 0} (P : E → Type 0) (r : Result A E) (e : E) → IsErrAnd r (λ y. y ≡ e) → P e → IfErr r P
 if_err_from P (Ok x) e h p = tt
 if_err_from P (Err y) e h p = subst P (sym h) p

@@ -91,8 +91,7 @@ expressions-push cs c =
 
 -- the same expressions, and the same number
 pub least_of_same : (xs ys : List Tree) (o p : Option ℕ) → xs ≡ ys → o ≡ p → IsLeastOf ys p → IsLeastOf xs o
-least_of_same xs ys o p trees number least =
-    subst (λ q. IsLeastOf xs q) (sym number) (subst (λ zs. IsLeastOf zs p) (sym trees) least)
+least_of_same xs ys o p trees number least = rw (← number) at (subst (λ zs. IsLeastOf zs p) (sym trees) least)
 
 pub one_has_least : (tree : Tree) (n : ℕ) → IsLeastSize (HasLength tree) n → IsLeastOf (tree ∷ []) (Some n)
 one_has_least tree n least = (refl, one_is_least tree n least)

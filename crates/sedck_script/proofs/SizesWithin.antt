@@ -1,28 +1,27 @@
 -- The names and the replacements of a script's verbs lie in its text.
-use Rattle.std.proofs.Common.{◌≡◌, ℕ, ◌+◌, ◌≤◌, true, not, List, [], ◌∷◌, ◌++◌, length, Option, Some, None, Contains, refl, ap, sym, subst, length-append, inl, inr, arith}
+use Rattle.std.proofs.Common.{◌≡◌, ℕ, ◌+◌, ◌≤◌, true, not, List, [], ◌∷◌, length, Option, Some, None, Contains, refl, ap, sym, subst, length-append, arith}
 use Rattle.std.specs.Prelude.{option_to_list}
 use Rattle.std.specs.List.{AllByRecursion, list_all}
-use Rattle.std.proofs.lemmas.Bool.{and_parts, not-true, both_ways, eq-eqb}
-use Rattle.std.proofs.lemmas.List.Elements.{All-from_recursion}
+use Rattle.std.proofs.lemmas.Bool.{false≢true}
+use Rattle.std.proofs.lemmas.List.Elements.{All-from_recursion, All-contains, Contains-append_left, Contains-append_right}
+use Rattle.std.proofs.lemmas.List.Sums.{AllPass-from_list_all}
 use Rattle.sedck_script.specs.Cuts.{is_newline}
 use Rattle.sedck_script.specs.Program.{Pattern, Part, Substitution, Verb, part_length, literal_length}
 use Rattle.sedck_script.specs.Parts.{Name, EscapedPart, Replacement, Flags}
 use Rattle.sedck_script.specs.Parts as p
-use Rattle.sedck_script.specs.Items.{WrittenVerb, Known, BranchTo, TestTo, Opening, Simple, VerbText}
+use Rattle.sedck_script.specs.Items.{WrittenVerb, Known, Simple, VerbText}
 use Rattle.sedck_script.specs.Items as w
 use Rattle.sedck_script.specs.Names.{IsName, names_size, read_names, write_names}
 use Rattle.sedck_script.specs.Invariant.{IsPart, IsReplacement}
 use Rattle.sedck_script.specs.Private.Reading.{EndsIn}
-use Rattle.sedck_script.proofs.SortedNames.{Contains-cons_cases, Contains-cons_more}
+use Rattle.sedck_script.proofs.SpelledIsSound.{flags_leave}
 use Rattle.sedck_script.proofs.OffsetLemmas.{tail_cut, tail_tail, tail_behind, tail_length, ends_tail, expression_tail, replacement_tail, number_tail, verb_text_tail}
 
 -- ---- Replacements
 
 escaped_size : {b : ℕ} {part : Part} → EscapedPart b part → part_length part ≤ 1
 escaped_size (p.line e) = omega arith
-escaped_size (p.tabulator e) = omega arith
-escaped_size (p.group h k) = omega arith
-escaped_size (p.other h k) = omega arith
+escaped_size _ = omega arith
 
 pub replacement_size : {d : ℕ} {text rest : List ℕ} {parts : List Part} → Replacement d text parts rest → literal_length parts + length rest ≤ length text
 replacement_size (p.ends h) = omega arith
@@ -32,10 +31,8 @@ replacement_size (p.part h e s x) = omega (arith, replacement_size x, escaped_si
 replacement_size (p.run {b = b} {bytes = bytes} {behind = behind} l x) = omega (arith, replacement_size x, ap length l.cut, length-append (b ∷ bytes) behind)
 
 escaped_part : {b : ℕ} {part : Part} → EscapedPart b part → IsPart part
-escaped_part (p.line e) = tt
-escaped_part (p.tabulator e) = tt
 escaped_part (p.group h k) = (omega arith, omega arith)
-escaped_part (p.other h k) = tt
+escaped_part _ = tt
 
 pub replacement_parts : {d : ℕ} {text rest : List ℕ} {parts : List Part} → Replacement d text parts rest → AllByRecursion IsPart parts
 replacement_parts (p.ends h) = tt
@@ -44,47 +41,20 @@ replacement_parts (p.escaped h e k x) = (tt, replacement_parts x)
 replacement_parts (p.part h e s x) = (escaped_part s, replacement_parts x)
 replacement_parts (p.run l x) = (tt, replacement_parts x)
 
-flags_parts : {pattern : Pattern} {parts : List Part} {text rest : List ℕ} {s : Substitution} → Flags pattern parts text s rest → s.parts ≡ parts
-flags_parts (p.none e) = refl
-flags_parts (p.file e n) = refl
-flags_parts (p.global e f g) = flags_parts f
-flags_parts (p.print e f g) = flags_parts f
-flags_parts (p.number n f g) = flags_parts f
-
 -- ---- Names
 
-contains_behind : (front text : List ℕ) (x : ℕ) → Contains text x → Contains (front ++ text) x
-contains_behind [] text x h = h
-contains_behind (b ∷ front) text x h = Contains-cons_more b (front ++ text) x (contains_behind front text x h)
-
-contains_front : (front text : List ℕ) (x : ℕ) → Contains front x → Contains (front ++ text) x
-contains_front [] text x h = absurd (omega (arith, h.1))
-contains_front (b ∷ front) text x h =
-    elim (Contains-cons_cases b front x h) [
-      | inl here ↦ (0, omega arith, here)
-      | inr more ↦ Contains-cons_more b (front ++ text) x
-          (contains_front front text x more)
-    ]
-
 contains_tail : {whole text : List ℕ} → EndsIn whole text → (x : ℕ) → Contains text x → Contains whole x
-contains_tail {whole} {text} h x k = subst (λ t. Contains t x) (sym h.1) (contains_behind h.0 text x k)
+contains_tail {whole} {text} h x k = subst (λ t. Contains t x) (sym h.1) (Contains-append_right h.0 text x k)
 
 no_newline : (name : List ℕ) → list_all (λ b. not (is_newline b)) name ≡ true → Contains name 10 → ⊥
-no_newline [] h k = omega (arith, k.1)
-no_newline (b ∷ name) h k =
-    let both = and_parts (not (is_newline b)) (list_all (λ c. not (is_newline c)) name) h in
-    elim (Contains-cons_cases b name 10 k) [
-      | inl here ↦ both_ways (is_newline b) (not-true (is_newline b) both.0)
-          (eq-eqb b 10 here)
-      | inr more ↦ no_newline name both.1 more
-    ]
+no_newline name h k = false≢true (All-contains (λ b. not (is_newline b) ≡ true) name 10 (AllPass-from_list_all (λ b. not (is_newline b)) name h) k)
 
 -- a name that is read is a name, where the script has no byte 0
 pub name_is : {whole text name rest : List ℕ} → (Contains whole 0 → ⊥) → EndsIn whole text → Name text name rest → IsName name
 name_is {name = name} {rest = rest} zeros h n = record {
   some = n.some;
   one_line = no_newline name n.run.passes;
-  no_zero = λ k. zeros (contains_tail (tail_tail h (tail_cut n.skipped)) 0 (subst (λ t. Contains t 0) (sym n.run.cut) (contains_front name rest 0 k)));
+  no_zero = λ k. zeros (contains_tail (tail_tail h (tail_cut n.skipped)) 0 (subst (λ t. Contains t 0) (sym n.run.cut) (Contains-append_left name rest 0 k)));
 }
 
 pub name_size : {text name rest : List ℕ} → Name text name rest → length name + length rest ≤ length text
@@ -94,7 +64,7 @@ name_size {name = name} {rest = rest} n = omega (arith, ap length n.skipped.cut,
 pub flags_file : {pattern : Pattern} {parts : List Part} {whole text rest : List ℕ} {s : Substitution} → (Contains whole 0 → ⊥) → EndsIn whole text
     → Flags pattern parts text s rest
     → AllByRecursion IsName (option_to_list s.file) × (names_size (option_to_list s.file) + length rest ≤ length text)
-flags_file zeros h (p.none e) = (tt, omega (arith, tail_length (ends_tail e.0)))
+flags_file zeros h (p.none e m) = (tt, omega (arith, tail_length (ends_tail e)))
 flags_file zeros h (p.file {b = b} e n) = ((name_is zeros (tail_behind h refl) n, tt), omega (arith, name_size n))
 flags_file zeros h (p.global e f g) = let more = flags_file zeros (tail_behind h refl) f in (more.0, omega (arith, more.1))
 flags_file zeros h (p.print e f g) = let more = flags_file zeros (tail_behind h refl) f in (more.0, omega (arith, more.1))
@@ -129,19 +99,7 @@ plain e f r l =
 
 simple_cheap : {b : ℕ} {text rest : List ℕ} {v : Verb} → Simple b v → length rest ≤ length text → IsCheap v text rest
 simple_cheap w.line_number l = plain refl refl tt l
-simple_cheap w.delete l = plain refl refl tt l
-simple_cheap w.delete_first_line l = plain refl refl tt l
-simple_cheap w.get l = plain refl refl tt l
-simple_cheap w.get_append l = plain refl refl tt l
-simple_cheap w.hold l = plain refl refl tt l
-simple_cheap w.hold_append l = plain refl refl tt l
-simple_cheap w.list l = plain refl refl tt l
-simple_cheap w.next l = plain refl refl tt l
-simple_cheap w.next_append l = plain refl refl tt l
-simple_cheap w.print l = plain refl refl tt l
-simple_cheap w.print_first_line l = plain refl refl tt l
-simple_cheap w.quit l = plain refl refl tt l
-simple_cheap w.exchange l = plain refl refl tt l
+simple_cheap _ l = plain refl refl tt l
 
 one_file : (o : Option (List ℕ)) → length (option_to_list o) ≤ 1
 one_file None = omega arith
@@ -155,10 +113,8 @@ module _ {whole : List ℕ} (few : length whole ≤ 1048576) (zeros : Contains w
   pub verb_cheap : {text rest : List ℕ} {v : WrittenVerb} → EndsIn whole text → VerbText text v rest → IsCheapWritten v text rest
   verb_cheap h (w.simple x e) = simple_cheap x (tail_length (verb_text_tail (w.simple x e)))
   verb_cheap h (w.label b l n e) = plain refl refl tt (tail_length (verb_text_tail (w.label b l n e)))
-  verb_cheap h (w.branch b l n e brace) = tail_length (verb_text_tail (w.branch b l n e brace))
-  verb_cheap h (w.branch_to_end b n e brace) = tail_length (verb_text_tail (w.branch_to_end b n e brace))
-  verb_cheap h (w.test b l n e brace) = tail_length (verb_text_tail (w.test b l n e brace))
-  verb_cheap h (w.test_to_end b n e brace) = tail_length (verb_text_tail (w.test_to_end b n e brace))
+  verb_cheap h (w.jump b l n e brace) = tail_length (verb_text_tail (w.jump b l n e brace))
+  verb_cheap h (w.jump_to_end b n e brace) = tail_length (verb_text_tail (w.jump_to_end b n e brace))
   verb_cheap h (w.opening b) = omega arith
   verb_cheap h (w.append b l g) = plain refl refl tt (tail_length (verb_text_tail (w.append b l g)))
   verb_cheap h (w.change b l g) = plain refl refl tt (tail_length (verb_text_tail (w.change b l g)))
@@ -181,8 +137,8 @@ module _ {whole : List ℕ} (few : length whole ≤ 1048576) (zeros : Contains w
           one_read = omega arith;
           one_write = one_file s.file;
           replacement = (
-            rw (flags_parts f) (omega (arith, replacement_size z, tail_length behind, few)),
-            rw (flags_parts f) (All-from_recursion IsPart _ (replacement_parts z)),
+            rw (flags_leave f).1 (omega (arith, replacement_size z, tail_length behind, few)),
+            rw (flags_leave f).1 (All-from_recursion IsPart _ (replacement_parts z)),
           );
         };
         cost = omega (arith, file.1, tail_length (expression_tail x.cut), tail_length (replacement_tail z));

@@ -1,5 +1,5 @@
 -- A script that is spelled keeps the invariant of scripts.
-use Rattle.std.proofs.Common.{◌≡◌, ℕ, suc, ◌+◌, ◌≤◌, Bool, List, [], ◌∷◌, ◌++◌, length, Contains, refl, length-append, arith}
+use Rattle.std.proofs.Common.{◌≡◌, ℕ, suc, ◌+◌, ◌≤◌, Bool, true, false, List, [], ◌∷◌, ◌++◌, length, Contains, refl, length-append, arith}
 use Rattle.std.specs.Prelude.{flat_map}
 use Rattle.std.specs.List.{AllByRecursion}
 use Rattle.std.specs.declared.cmp.Ordering.{Ordering}
@@ -9,9 +9,9 @@ use Rattle.std.specs.Cmp.Lexicographic.{slice_cmp}
 use Rattle.std.proofs.lemmas.List.Elements.{All-from_recursion}
 use Rattle.std.proofs.lemmas.List.Sums.{sum_by-cons, sum_by-append}
 use Rattle.sedck_script.specs.Program.{Address, Verb, Command, Program}
-use Rattle.sedck_script.specs.Items.{WrittenVerb, Known, BranchTo, TestTo, Opening, Item, Written, Closing, Items}
+use Rattle.sedck_script.specs.Items.{WrittenVerb, Known, Item, Written, Items}
 use Rattle.sedck_script.specs.Items as w
-use Rattle.sedck_script.specs.Resolution.{Resolves, done, known, branch, test, opening, closing}
+use Rattle.sedck_script.specs.Resolution.{Resolves, done, known, jump, opening, closing}
 use Rattle.sedck_script.specs.Spelling.{Spells}
 use Rattle.sedck_script.specs.Names.{IsName, AreNames, names_size, read_names, write_names, placed, with_name, sorted_names}
 use Rattle.sedck_script.specs.Invariant.{IsReplacement, IsScript}
@@ -19,17 +19,14 @@ use Rattle.sedck_script.specs.Private.Reading.{EndsIn}
 use Rattle.sedck_script.proofs.OffsetLemmas.{tail_cut, tail_tail, tail_behind, tail_length, ends_tail, verb_text_tail}
 use Rattle.sedck_script.proofs.CommandLemmas.{address_tail}
 use Rattle.sedck_script.proofs.SpelledIsSound.{spelled_targets, spelled_formed, spelled_transliterations}
-use Rattle.sedck_script.proofs.SortedNames.{sorted_names-rise, with_all}
+use Rattle.sedck_script.proofs.SortedNames.{all_weaker, all_append, sorted_names-rise, with_all}
 use Rattle.sedck_script.proofs.SizesWithin.{verb_cost, IsBounded, IsCheapWritten, verb_cheap}
 
 -- ---- Items
 
 abbrev item_cost : Item → ℕ
 item_cost (Written a n (Known v)) = verb_cost v
-item_cost (Written a n (BranchTo l braced)) = 0
-item_cost (Written a n (TestTo l braced)) = 0
-item_cost (Written a n Opening) = 0
-item_cost Closing = 0
+item_cost _ = 0
 
 abbrev items_cost : List Item → ℕ
 items_cost [] = 0
@@ -37,17 +34,12 @@ items_cost (x ∷ items) = item_cost x + items_cost items
 
 abbrev IsBoundedItem : Item → Type 0
 IsBoundedItem (Written a n (Known v)) = IsBounded v
-IsBoundedItem (Written a n (BranchTo l braced)) = Unit {0}
-IsBoundedItem (Written a n (TestTo l braced)) = Unit {0}
-IsBoundedItem (Written a n Opening) = Unit {0}
-IsBoundedItem Closing = Unit {0}
+IsBoundedItem _ = Unit {0}
 
 written_cheap : (text rest : List ℕ) (a : Address) (n : Bool) (v : WrittenVerb) → IsCheapWritten v text rest
     → IsBoundedItem (Written a n v) × (item_cost (Written a n v) + length rest ≤ length text)
 written_cheap text rest a n (Known v) h = (h.bounded, h.cost)
-written_cheap text rest a n (BranchTo l braced) h = (tt, omega arith)
-written_cheap text rest a n (TestTo l braced) h = (tt, omega arith)
-written_cheap text rest a n Opening h = (tt, omega arith)
+written_cheap text rest a n _ h = (tt, omega arith)
 
 module _ {whole : List ℕ} (few : length whole ≤ 1048576) (zeros : Contains whole 0 → ⊥) where
   items_cheap : {text : List ℕ} {items : List Item} → EndsIn whole text → Items text items
@@ -78,8 +70,8 @@ commands_cheap : {A cs : List Command} {blocks : List ℕ} {place : ℕ} {items 
     → AllByRecursion (λ c. IsBounded c.verb) cs × (commands_cost cs ≤ items_cost items)
 commands_cheap done h = (tt, omega arith)
 commands_cheap (known r) h = let more = commands_cheap r h.1 in ((h.0, more.0), omega (arith, more.1))
-commands_cheap (branch may k r) h = let more = commands_cheap r h.1 in ((no_names refl refl tt, more.0), omega (arith, more.1))
-commands_cheap (test may k r) h = let more = commands_cheap r h.1 in ((no_names refl refl tt, more.0), omega (arith, more.1))
+commands_cheap (jump {tests = true} t may k r) h = let more = commands_cheap r h.1 in ((no_names refl refl tt, more.0), omega (arith, more.1))
+commands_cheap (jump {tests = false} t may k r) h = let more = commands_cheap r h.1 in ((no_names refl refl tt, more.0), omega (arith, more.1))
 commands_cheap (opening k r) h = let more = commands_cheap r h.1 in ((no_names refl refl tt, more.0), omega (arith, more.1))
 commands_cheap (closing k r) h = let more = commands_cheap r h.1 in (more.0, omega (arith, more.1))
 
@@ -105,8 +97,7 @@ sorted_size (name ∷ names) = omega (arith, with_size name (sorted_names names)
 placed_length : (o : Ordering) (name first : List ℕ) (names others : List (List ℕ)) → length others ≤ suc (length names)
     → length (placed o name first names others) ≤ suc (suc (length names))
 placed_length Less name first names others h = omega arith
-placed_length Equal name first names others h = omega arith
-placed_length Greater name first names others h = omega arith
+placed_length _ name first names others h = omega arith
 
 with_length : (name : List ℕ) (names : List (List ℕ)) → length (with_name name names) ≤ suc (length names)
 with_length name [] = omega arith
@@ -123,10 +114,6 @@ sorted_all (name ∷ names) h = with_all IsName name (sorted_names names) h.0 (s
 size_append : (xs ys : List (List ℕ)) → names_size (xs ++ ys) ≡ names_size xs + names_size ys
 size_append xs ys = sum_by-append (λ n. length n + 1) xs ys
 
-all_append : (xs ys : List (List ℕ)) → AllByRecursion IsName xs → AllByRecursion IsName ys → AllByRecursion IsName (xs ++ ys)
-all_append [] ys h k = k
-all_append (x ∷ xs) ys h k = (h.0, all_append xs ys h.1 k)
-
 abbrev all_reads : List Command → List (List ℕ)
 all_reads cs = flat_map (λ c. read_names c.verb) cs
 
@@ -137,17 +124,15 @@ costs : (cs : List Command) → names_size (all_reads cs) + names_size (all_writ
 costs [] = refl
 costs (c ∷ cs) = omega (arith, size_append (read_names c.verb) (all_reads cs), size_append (write_names c.verb) (all_writes cs), costs cs)
 
-reads_bounded : (cs : List Command) → AllByRecursion (λ c. IsBounded c.verb) cs → AllByRecursion IsName (all_reads cs) × (length (all_reads cs) ≤ length cs)
-reads_bounded [] h = (tt, omega arith)
-reads_bounded (c ∷ cs) h = let more = reads_bounded cs h.1 in
-    (all_append (read_names c.verb) (all_reads cs) h.0.reads more.0, omega (arith, h.0.one_read, more.1, length-append (read_names c.verb) (all_reads cs)))
-
-writes_bounded : (cs : List Command) → AllByRecursion (λ c. IsBounded c.verb) cs → AllByRecursion IsName (all_writes cs) × (length (all_writes cs) ≤ length cs)
-writes_bounded [] h = (tt, omega arith)
-writes_bounded (c ∷ cs) h = let more = writes_bounded cs h.1 in (
-  all_append (write_names c.verb) (all_writes cs) h.0.writes more.0,
-  omega (arith, h.0.one_write, more.1, length-append (write_names c.verb) (all_writes cs)),
-)
+-- the names that a verb has, of which there is one at most
+bounded : (names : Verb → List (List ℕ)) → ((v : Verb) → IsBounded v → AllByRecursion IsName (names v) × (length (names v) ≤ 1))
+    → (cs : List Command) → AllByRecursion (λ c. IsBounded c.verb) cs
+    → AllByRecursion IsName (flat_map (λ c. names c.verb) cs) × (length (flat_map (λ c. names c.verb) cs) ≤ length cs)
+bounded names one [] h = (tt, omega arith)
+bounded names one (c ∷ cs) h =
+    let here = one c.verb h.0 in
+    let more = bounded names one cs h.1 in
+    (all_append IsName (names c.verb) _ here.0 more.0, omega (arith, here.1, more.1, length-append (names c.verb) (flat_map (λ d. names d.verb) cs)))
 
 are_names : (names : List (List ℕ)) → AllByRecursion IsName names → length names ≤ 4095 → AreNames (sorted_names names)
 are_names names h l = record {
@@ -156,23 +141,19 @@ are_names names h l = record {
   count = omega (arith, sorted_length names, l);
 }
 
-all_replacements : (cs : List Command) → AllByRecursion (λ c. IsBounded c.verb) cs → AllByRecursion (λ c. IsReplacement c.verb) cs
-all_replacements [] h = tt
-all_replacements (c ∷ cs) h = (h.0.replacement, all_replacements cs h.1)
-
 -- ---- Scripts
 
 pub spelled_script : {text : List ℕ} {p : Program} → Spells text p → IsScript p
 spelled_script {text} {p} s =
     let items = items_cheap s.allowed.fits s.allowed.no_zero ([], refl) s.spelled in
     let commands = commands_cheap s.commands.resolved items.0 in
-    let read = reads_bounded p.commands commands.0 in
-    let written = writes_bounded p.commands commands.0 in
+    let read = bounded read_names (λ v b. (b.reads, b.one_read)) p.commands commands.0 in
+    let written = bounded write_names (λ v b. (b.writes, b.one_write)) p.commands commands.0 in
     record {
       count = s.commands.count;
       targets = spelled_targets s;
       formed = spelled_formed s;
-      replacements = All-from_recursion _ p.commands (all_replacements p.commands commands.0);
+      replacements = All-from_recursion _ p.commands (all_weaker _ (λ c. IsReplacement c.verb) (λ c h. h.replacement) p.commands commands.0);
       transliterations = spelled_transliterations s;
       expression = s.commands.expression;
       read = are_names (all_reads p.commands) read.0 (omega (arith, read.1, s.commands.count));

@@ -4,7 +4,7 @@ use Rattle.std.specs.Prelude.{All}
 use Rattle.std.proofs.Math.ListN.{get_or-append}
 use Rattle.sedck_text.specs.Bytes.{ascii}
 use Rattle.sedck_script.specs.Program.{Address, Verb}
-use Rattle.sedck_script.specs.Items.{WrittenVerb, Known, BranchTo, TestTo, Opening, Takes, Item, Written, Closing}
+use Rattle.sedck_script.specs.Items.{WrittenVerb, Known, JumpTo, Opening, Takes, Item, Written, Closing}
 use Rattle.sedck_script.specs.Faults.{StandsAt}
 use Rattle.sedck_script.specs.Private.ItemReading.{Turn, Opens, Closes, Stays, Jumps, verb_turn, commands_among, locations_in}
 use Rattle.sedck_script.specs.Private.Progress.{patterns_of, item_patterns, NotesLabel, NotesBlock}
@@ -65,9 +65,7 @@ pub labels_noted : {S : Type 0} (old new : HashMap (Bor (List ℕ)) ℕ S) (xs :
 labels_noted old new xs text a n (code.Known v) h w t f k = labels_other old new xs h _ (λ q e. w q (known_same e)) k
 labels_noted old new xs text a n (code.Label name) h w t f k =
     rw (t.0, t.1) (labels_label old new xs h name.now (no_place (label_place old name.now) (λ i e. f (name.now, i, refl, e))) k)
-labels_noted old new xs text a n (code.BranchTo jump) h w t f k = labels_other old new xs h _ (λ q e. absurd (cc e)) k
-labels_noted old new xs text a n (code.TestTo jump) h w t f k = labels_other old new xs h _ (λ q e. absurd (cc e)) k
-labels_noted old new xs text a n code.Opening h w t f k = labels_other old new xs h _ (λ q e. absurd (cc e)) k
+labels_noted old new xs text a n _ h w t f k = labels_other old new xs h _ (λ q e. absurd (cc e)) k
 
 -- ---- Blocks
 
@@ -88,7 +86,6 @@ pub blocks_noted : (v : WrittenVerb) (text old new : List ℕ) (place : ℕ) →
     → (v ≡ Opening → StandsAt text place (ascii "{")) → MayBeBraced (is_braced v) (length old) → AreOpen text old
     → Deeper (verb_turn v) (length old) (length new) × AreOpen text new
 blocks_noted (Known v) text old new place k few at may o = (ap length k, subst (AreOpen text) (sym k) o)
-blocks_noted (BranchTo l braced) text old new place k few at may o = ((ap length k, may), subst (AreOpen text) (sym k) o)
-blocks_noted (TestTo l braced) text old new place k few at may o = ((ap length k, may), subst (AreOpen text) (sym k) o)
+blocks_noted (JumpTo tests l braced) text old new place k few at may o = ((ap length k, may), subst (AreOpen text) (sym k) o)
 blocks_noted Opening text old new place k few at may o =
     ((omega (arith, ap length k, length-append old (place ∷ [])), few refl), subst (AreOpen text) (sym k) (open_push text old place o (at refl)))

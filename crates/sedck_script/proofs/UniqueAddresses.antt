@@ -1,23 +1,16 @@
 -- The addresses of a command are the only ones.
-use Rattle.std.proofs.Common.{◌≡◌, ℕ, true, List, [], ◌∷◌, Option, Some, None, refl, ap, sym, ◌∙◌, subst}
+use Rattle.std.proofs.Common.{◌≡◌, ℕ, true, List, [], ◌∷◌, refl, ap, sym, ◌∙◌, subst}
 use Rattle.std.proofs.lemmas.Bool.{both_ways, not-true}
-use Rattle.std.specs.Borrow.{Bor}
 use Rattle.sedck_script.specs.Cuts.{is_blank, Longest}
 use Rattle.sedck_script.specs.Program.{Place, Address, NoAddress, One, Two}
 use Rattle.sedck_script.specs.Parts.{PlaceText, AddressText}
 use Rattle.sedck_script.specs.Parts as p
 use Rattle.sedck_script.specs.Items.{WrittenVerb, VerbText}
-use Rattle.sedck_script.specs.Private.AddressReading.{begins_address, is_mark, BeginsPlace, BeginsNoPlace, IsOnlyAddress, IsNoCommand, IsBehindComma, HasNoComma, IsSecond}
+use Rattle.sedck_script.specs.Private.AddressReading.{begins_address, is_mark, BeginsPlace, BeginsNoPlace, IsOnlyAddress, IsNoCommand, IsBehindComma, HasNoComma}
 use Rattle.sedck_text.proofs.Runs.{longest_one}
 use Rattle.sedck_script.proofs.UniqueItems.{place_first, place_other, place_no_mark, no_verb_here, no_place_here, no_comma_here, longest_along, place_along, place_one, pair_of}
 use Rattle.sedck_script.specs.Private.Reading.{EndsIn}
 use Rattle.sedck_script.proofs.OffsetLemmas.{tail_cons, number_tail, expression_tail}
-use Rattle.sedck_script.proofs.ResultLemmas.{if_some_at, if_none_at}
-use Rattle.std.specs.Prelude.{IfSome, IfNone}
-use Rattle.sedck_text.specs.Cursors.{unread}
-use Rattle.sedck_text.specs.declared.cursor.Cursor.{Cursor}
-use Rattle.sedck_script.specs.View.{place_of}
-use Rattle.sedck_script.specs.declared.script.Place.{Place as CodePlace}
 use Rattle.sedck_script.proofs.FirstBytes.{heads, tails}
 
 begins_no : {b : ℕ} {more text : List ℕ} → text ≡ b ∷ more → begins_address b ≡ true → BeginsNoPlace text → ⊥
@@ -26,41 +19,28 @@ begins_no {b} e h n = both_ways (begins_address b) (not-true (begins_address b) 
 pub no_place : {text r : List ℕ} {q : Place} → BeginsNoPlace text → PlaceText text q r → ⊥
 no_place n x = let f = place_first x in begins_no f.2 f.3 n
 
-none_by : {text s : List ℕ} {b : Address} → BeginsNoPlace text → AddressText text b s → (b ≡ NoAddress) × (s ≡ text)
-none_by n p.none = (refl, refl)
-none_by n (p.one x) = absurd (no_place n x)
-none_by n (p.two x c h d y) = absurd (no_place n x)
-
 -- where no address begins, there is none
 pub only_none : {text : List ℕ} → BeginsNoPlace text → IsOnlyAddress text NoAddress text
-only_none n other behind marks begins left verb a l v = none_by n a
-
-one_by : {text r s marks begins left : List ℕ} {q : Place} {b : Address} {v : WrittenVerb} → PlaceText text q r → HasNoComma r
-    → AddressText text b s → Longest is_mark s marks begins → VerbText begins v left → (b ≡ One q) × (s ≡ r)
-one_by x n p.none m v = absurd (no_place_here x m v)
-one_by x n (p.one y) m v = let one = place_one y x in (ap One one.0, one.1)
-one_by x n (p.two {more = more} {b = b} y c h d z) m v = absurd (n _ more b (longest_along (place_one y x).1 c) h)
+only_none n _ _ marks begins left verb p.none m v = (refl, refl)
+only_none n _ _ marks begins left verb (p.one x) m v = absurd (no_place n x)
+only_none n _ _ marks begins left verb (p.two x c h d y) m v = absurd (no_place n x)
 
 -- one address, after which no comma is
 pub only_one : {text r : List ℕ} {q : Place} → PlaceText text q r → HasNoComma r → IsOnlyAddress text (One q) r
-only_one x n other behind marks begins left verb a m v = one_by x n a m v
-
-two_by : {text r s blanks more front second rest marks begins left : List ℕ} {c : ℕ} {q u : Place} {b : Address} {v : WrittenVerb}
-    → PlaceText text q r → Longest is_blank r blanks (c ∷ more) → c ≡ 44
-    → Longest is_blank more front second → PlaceText second u rest
-    → AddressText text b s → Longest is_mark s marks begins → VerbText begins v left → (b ≡ Two q u) × (s ≡ rest)
-two_by x l h d z p.none m v = absurd (no_place_here x m v)
-two_by x l h d z (p.one y) m v = absurd (no_comma_here (longest_along (place_one x y).1 l) h m v)
-two_by x l h d z (p.two y i j k o) m v =
-    let first = place_one y x in
-    let blanks = longest_one (longest_along first.1 i) l in
-    let second = longest_one (longest_along (tails blanks.1) k) d in
-    pair_of first.0 (place_one (place_along second.1 o) z)
+only_one x n _ _ marks begins left verb p.none m v = absurd (no_place_here x m v)
+only_one x n _ _ marks begins left verb (p.one y) m v = let one = place_one y x in (ap One one.0, one.1)
+only_one x n _ _ marks begins left verb (p.two {more = more} {b = b} y c h d z) m v = absurd (n _ more b (longest_along (place_one y x).1 c) h)
 
 -- two addresses
 pub only_two : {text r second rest : List ℕ} {q u : Place} → PlaceText text q r → IsBehindComma r second → PlaceText second u rest
     → IsOnlyAddress text (Two q u) rest
-only_two x l z other behind marks begins left verb a m v = two_by x l.before l.is_comma l.behind z a m v
+only_two x l z _ _ marks begins left verb p.none m v = absurd (no_place_here x m v)
+only_two x l z _ _ marks begins left verb (p.one y) m v = absurd (no_comma_here (longest_along (place_one x y).1 l.before) l.is_comma m v)
+only_two x l z _ _ marks begins left verb (p.two y i j k o) m v =
+    let first = place_one y x in
+    let blanks = longest_one (longest_along first.1 i) l.before in
+    let second = longest_one (longest_along (tails blanks.1) k) l.behind in
+    pair_of first.0 (place_one (place_along second.1 o) z)
 
 pub two_read : {text r second rest : List ℕ} {q u : Place} → PlaceText text q r → IsBehindComma r second → PlaceText second u rest
     → AddressText text (Two q u) rest
@@ -78,22 +58,20 @@ refused_by f n (p.two x c h d y) m v = n _ _ x
 pub no_first : {text : List ℕ} → BeginsPlace text → ((q : Place) (r : List ℕ) → PlaceText text q r → ⊥) → IsNoCommand text
 no_first f n given negated verb rest c = refused_by f n c.addresses c.run c.verbs
 
-second_by : {text r s blanks more front second marks begins left : List ℕ} {c : ℕ} {q : Place} {b : Address} {v : WrittenVerb} → PlaceText text q r
-    → Longest is_blank r blanks (c ∷ more) → c ≡ 44
-    → Longest is_blank more front second → ((u : Place) (t : List ℕ) → PlaceText second u t → ⊥)
-    → AddressText text b s → Longest is_mark s marks begins → VerbText begins v left → ⊥
-second_by x l h d n p.none m v = no_place_here x m v
-second_by x l h d n (p.one y) m v = no_comma_here (longest_along (place_one x y).1 l) h m v
-second_by x l h d n (p.two y i j k o) m v =
+second_by : {text r s second marks begins left : List ℕ} {q : Place} {b : Address} {v : WrittenVerb} → PlaceText text q r → IsBehindComma r second
+    → ((u : Place) (t : List ℕ) → PlaceText second u t → ⊥) → AddressText text b s → Longest is_mark s marks begins → VerbText begins v left → ⊥
+second_by x l n p.none m v = no_place_here x m v
+second_by x l n (p.one y) m v = no_comma_here (longest_along (place_one x y).1 l.before) l.is_comma m v
+second_by x l n (p.two y i j k o) m v =
     let first = place_one y x in
-    let blanks = longest_one (longest_along first.1 i) l in
-    let second = longest_one (longest_along (tails blanks.1) k) d in
+    let blanks = longest_one (longest_along first.1 i) l.before in
+    let second = longest_one (longest_along (tails blanks.1) k) l.behind in
     n _ _ (place_along second.1 o)
 
 -- where after a comma no address is
 pub no_second : {text r second : List ℕ} {q : Place} → PlaceText text q r → IsBehindComma r second
     → ((u : Place) (t : List ℕ) → PlaceText second u t → ⊥) → IsNoCommand text
-no_second x l n given negated verb rest c = second_by x l.before l.is_comma l.behind n c.addresses c.run c.verbs
+no_second x l n given negated verb rest c = second_by x l n c.addresses c.run c.verbs
 
 -- ---- Tails
 
@@ -107,23 +85,3 @@ place_tail (p.custom {b = b} {delimiter = d} e i x y) = tail_cons b (tail_cons d
 
 pub no_comma : {text blanks after behind : List ℕ} {c : ℕ} → Longest is_blank text blanks after → after ≡ c ∷ behind → (c ≡ 44 → ⊥) → HasNoComma text
 no_comma l e n blanks more b k h = n (heads (sym e ∙ (longest_one l k).1) ∙ h)
-
--- ---- What is found
-
-pub same_found : {whole : Bor (List ℕ)} {o : Option (CodePlace × Cursor)} {x : CodePlace × Cursor} → o ≡ Some x
-    → IfSome o (λ y. y.1.whole ≡ whole) → x.1.whole ≡ whole
-same_found {whole = whole} e h = if_some_at (λ y. y.1.whole ≡ whole) e h
-
-pub place_found : {text : List ℕ} {o : Option (CodePlace × Cursor)} {x : CodePlace × Cursor} → o ≡ Some x
-    → IfSome o (λ y. PlaceText text (place_of y.0) (unread y.1)) → PlaceText text (place_of x.0) (unread x.1)
-place_found {text = text} e h = if_some_at (λ y. PlaceText text (place_of y.0) (unread y.1)) e h
-
-pub second_found : {text : List ℕ} {o : Option (CodePlace × Cursor)} {x : CodePlace × Cursor} → o ≡ Some x
-    → IfSome o (λ y. IsSecond text (place_of y.0) (unread y.1)) → IsSecond text (place_of x.0) (unread x.1)
-second_found {text = text} e h = if_some_at (λ y. IsSecond text (place_of y.0) (unread y.1)) e h
-
-pub no_comma_found : (text : List ℕ) {o : Option (CodePlace × Cursor)} → o ≡ None → IfNone o (HasNoComma text) → HasNoComma text
-no_comma_found text e h = if_none_at (HasNoComma text) e h
-
-pub none_found : (text : List ℕ) {o : Option (CodePlace × Cursor)} → o ≡ None → IfNone o (BeginsNoPlace text) → BeginsNoPlace text
-none_found text e h = if_none_at (BeginsNoPlace text) e h

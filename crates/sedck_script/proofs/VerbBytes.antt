@@ -1,9 +1,9 @@
 -- What the first byte of a verb says of it.
-use Rattle.std.proofs.Common.{◌≡◌, ◌≢◌, ℕ, Bool, true, false, not, ◌&&◌, eqb, List, ◌∷◌, refl, sym, ◌∙◌, subst, arith}
+use Rattle.std.proofs.Common.{◌≡◌, ◌≢◌, ℕ, Bool, true, false, not, ◌&&◌, eqb, cond, List, Option, ◌∷◌, refl, sym, ◌∙◌, subst, arith}
 use Rattle.std.proofs.lemmas.Bool.{false≢true, eq-eqb}
 use Rattle.sedck_text.specs.Text.{is_in, one_of}
 use Rattle.sedck_script.specs.Program.{Address, NoAddress, One, Two, Verb}
-use Rattle.sedck_script.specs.Items.{WrittenVerb, Known, Opening, Simple, VerbText, Takes}
+use Rattle.sedck_script.specs.Items.{WrittenVerb, Known, JumpTo, Opening, Simple, VerbText, Takes}
 use Rattle.sedck_script.specs.Items as w
 use Rattle.sedck_script.specs.Faults.{verb_bytes}
 use Rattle.sedck_script.specs.Private.Progress.{is_none, is_two, takes}
@@ -47,19 +47,6 @@ none_is (One x) n h = absurd (false≢true h)
 none_is (Two x y) n h = absurd (false≢true h)
 
 pub simple_byte : {b : ℕ} {v : Verb} → Simple b v → IsVerbByte b (Known v)
-simple_byte w.line_number = any_addresses 61 refl (λ a n. refl) (λ a n. tt) refl no_opening
-simple_byte w.delete = any_addresses 100 refl (λ a n. refl) (λ a n. tt) refl no_opening
-simple_byte w.delete_first_line = any_addresses 68 refl (λ a n. refl) (λ a n. tt) refl no_opening
-simple_byte w.get = any_addresses 103 refl (λ a n. refl) (λ a n. tt) refl no_opening
-simple_byte w.get_append = any_addresses 71 refl (λ a n. refl) (λ a n. tt) refl no_opening
-simple_byte w.hold = any_addresses 104 refl (λ a n. refl) (λ a n. tt) refl no_opening
-simple_byte w.hold_append = any_addresses 72 refl (λ a n. refl) (λ a n. tt) refl no_opening
-simple_byte w.list = any_addresses 108 refl (λ a n. refl) (λ a n. tt) refl no_opening
-simple_byte w.next = any_addresses 110 refl (λ a n. refl) (λ a n. tt) refl no_opening
-simple_byte w.next_append = any_addresses 78 refl (λ a n. refl) (λ a n. tt) refl no_opening
-simple_byte w.print = any_addresses 112 refl (λ a n. refl) (λ a n. tt) refl no_opening
-simple_byte w.print_first_line = any_addresses 80 refl (λ a n. refl) (λ a n. tt) refl no_opening
-simple_byte w.exchange = any_addresses 120 refl (λ a n. refl) (λ a n. tt) refl no_opening
 simple_byte w.quit = record {
   known = refl;
   takes_so = λ a n h. not_two a h;
@@ -67,9 +54,14 @@ simple_byte w.quit = record {
   opens = λ e. absurd (omega arith);
   opening = λ e. absurd (no_opening e);
 }
+simple_byte _ = any_addresses _ refl (λ a n. refl) (λ a n. tt) refl no_opening
 
 along : {b c : ℕ} {v : WrittenVerb} → b ≡ c → IsVerbByte c v → IsVerbByte b v
 along {v = v} e h = subst (λ x. IsVerbByte x v) (sym e) h
+
+jump_is : (tests : Bool) {label : Option (List ℕ)} {braced : Bool} → IsVerbByte (cond tests 116 98) (JumpTo tests label braced)
+jump_is true = any_addresses 116 refl (λ a n. refl) (λ a n. tt) refl (λ e. cc e)
+jump_is false = any_addresses 98 refl (λ a n. refl) (λ a n. tt) refl (λ e. cc e)
 
 pub byte_of : {b : ℕ} {t text rest : List ℕ} {v : WrittenVerb} → t ≡ b ∷ text → VerbText t v rest → IsVerbByte b v
 byte_of e (w.simple x f) = along (sym (heads e)) (simple_byte x)
@@ -83,10 +75,8 @@ byte_of e (w.label h l n f) = along (sym (heads e) ∙ h)
     })
 byte_of e (w.opening h) = along (sym (heads e) ∙ h)
     (record { known = refl; takes_so = λ a n h. tt; taken_so = λ a n h. refl; opens = λ e. refl; opening = λ e. refl })
-byte_of e (w.branch h l n f brace) = along (sym (heads e) ∙ h) (any_addresses 98 refl (λ a n. refl) (λ a n. tt) refl (λ e. cc e))
-byte_of e (w.branch_to_end h n f brace) = along (sym (heads e) ∙ h) (any_addresses 98 refl (λ a n. refl) (λ a n. tt) refl (λ e. cc e))
-byte_of e (w.test h l n f brace) = along (sym (heads e) ∙ h) (any_addresses 116 refl (λ a n. refl) (λ a n. tt) refl (λ e. cc e))
-byte_of e (w.test_to_end h n f brace) = along (sym (heads e) ∙ h) (any_addresses 116 refl (λ a n. refl) (λ a n. tt) refl (λ e. cc e))
+byte_of e (w.jump {tests = t} h l n f brace) = along (sym (heads e) ∙ h) (jump_is t)
+byte_of e (w.jump_to_end {tests = t} h n f brace) = along (sym (heads e) ∙ h) (jump_is t)
 byte_of e (w.append h l g) = along (sym (heads e) ∙ h) (any_addresses 97 refl (λ a n. refl) (λ a n. tt) refl (λ e. cc e))
 byte_of e (w.change h l g) = along (sym (heads e) ∙ h) (any_addresses 99 refl (λ a n. refl) (λ a n. tt) refl (λ e. cc e))
 byte_of e (w.insert h l g) = along (sym (heads e) ∙ h) (any_addresses 105 refl (λ a n. refl) (λ a n. tt) refl (λ e. cc e))

@@ -1,10 +1,10 @@
 -- What follows a verb's byte.
-use Rattle.std.proofs.Common.{◌≡◌, ◌≢◌, ℕ, ◌≤◌, List, ◌∷◌, length, refl, ap, sym, ◌∙◌, subst}
+use Rattle.std.proofs.Common.{◌≡◌, ◌≢◌, ℕ, List, ◌∷◌, length, refl, ap, sym, ◌∙◌, subst}
 use Rattle.std.specs.Prelude.{IsTrue}
 use Rattle.sedck_script.specs.Cuts.{is_delimiter}
 use Rattle.sedck_script.specs.Program.{Pattern, Part, Substitution, Substitute, Transliterate}
 use Rattle.sedck_script.specs.Parts.{Ends, DelimitedList, FirstList, Replacement, HasGroups, greatest_group, Flags}
-use Rattle.sedck_script.specs.Items.{WrittenVerb, Known, BranchTo, TestTo, Simple, VerbText, IsNoBrace}
+use Rattle.sedck_script.specs.Items.{WrittenVerb, Known, VerbText}
 use Rattle.sedck_script.specs.Items as w
 use Rattle.sedck_script.specs.Private.PieceReading.{PatternText}
 use Rattle.sedck_script.specs.Private.VerbReading.{AreLists}
@@ -54,8 +54,7 @@ pub substitute_no_parts : {d : ℕ} {text opened behind : List ℕ} (g : ℕ) (q
 substitute_no_parts {d} g q e only h n verb rest x =
     let i = substitute_inside e x in
     let one = only i.pattern i.behind i.patterns in
-    n i.parts i.flags (subst (λ t. Replacement d t i.parts i.flags) one.1 i.replacement)
-    (λ k c. subst (λ m. k ≤ m) (ap greatest_group one.0 ∙ sym h) (i.groups k c))
+    n i.parts i.flags (rw one.1 at i.replacement) (λ k c. rw (ap greatest_group one.0 ∙ sym h) at (i.groups k c))
 
 pub substitute_no_flags : {d : ℕ} {text opened behind after : List ℕ} {parts : List Part} (q : Pattern) → d ≢ 92 → text ≡ d ∷ opened
     → ((p : Pattern) (r : List ℕ) → PatternText d opened p r → (p ≡ q) × (r ≡ behind)) → Replacement d behind parts after
@@ -86,8 +85,7 @@ transliterate_inside {rest = rest} {verb = verb} e x = transliterate_at (subst (
 
 pub transliterate_read : {d : ℕ} {text opened after from to rest : List ℕ} → text ≡ d ∷ opened → IsTrue (is_delimiter d)
     → AreLists d opened from to after → Ends after rest → VerbText (121 ∷ text) (Known (Transliterate from to)) rest
-transliterate_read {from = from} {to = to} {rest = rest} e h l f =
-    subst (λ t. VerbText (121 ∷ t) (Known (Transliterate from to)) rest) (sym e) (w.transliterate refl h l.first l.second l.equal f)
+transliterate_read {from = from} {to = to} {rest = rest} e h l f = rw (← e) at (w.transliterate refl h l.first l.second l.equal f)
 
 pub transliterate_no_delimiter : {text : List ℕ} → ((d : ℕ) (rest : List ℕ) → text ≡ d ∷ rest → IsTrue (is_delimiter d) → ⊥)
     → (verb : WrittenVerb) (rest : List ℕ) → VerbText (121 ∷ text) verb rest → ⊥

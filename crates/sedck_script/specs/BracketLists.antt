@@ -1,5 +1,4 @@
--- Bracket lists in a text that is no expression, as some seds take them into account where they look for the end of a part.
--- This project's own.
+-- Bracket lists in a text that is no expression, as some seds heed them where they look for the end of a part. This project's own.
 use Rattle.std.specs.Prelude.{◌≡◌, ◌≢◌, ℕ, ◌==◌, not, List, [], ◌∷◌}
 use Rattle.sedck_text.specs.Bytes.{backslash, ascii}
 use Rattle.sedck_script.specs.Cuts.{Longest}

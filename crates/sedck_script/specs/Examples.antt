@@ -3,7 +3,7 @@ use Rattle.std.specs.Prelude.{◌≡◌, ℕ, true, false, List, [], ◌∷◌, 
 use Rattle.sedck_text.specs.Bytes.{newline, carriage_return, backslash, ascii}
 use Rattle.sedck_script.specs.Program.{Verb, NoAddress, One, Last, Part, Text, Whole, Newline, Label, Branch, Block, NextAppend, Print, Command}
 use Rattle.sedck_script.specs.Parts.{DelimitedExpression, ExpressionText, DelimitedList, FirstList, Replacement, EscapedPart, GivenText}
-use Rattle.sedck_script.specs.Items.{WrittenVerb, Known, BranchTo, Opening, Item, Written, Closing, VerbText, HasNoInnerReturn, Items}
+use Rattle.sedck_script.specs.Items.{WrittenVerb, Known, JumpTo, Opening, Item, Written, Closing, VerbText, HasNoInnerReturn, Items}
 use Rattle.sedck_script.specs.Resolution.{Resolves}
 use Rattle.sedck_script.specs.Locations.{locations_of}
 use Rattle.sedck_script.specs.declared.location.Location.{Location}
@@ -17,7 +17,7 @@ plain_command verb = record { address = NoAddress; negated = false; verb = verb 
 
 -- `:a;N;b a`
 abbrev pub join_items : List Item
-join_items = plain_item (Known (Label (codes "a"))) ∷ plain_item (Known NextAppend) ∷ plain_item (BranchTo (Some (codes "a")) false) ∷ []
+join_items = plain_item (Known (Label (codes "a"))) ∷ plain_item (Known NextAppend) ∷ plain_item (JumpTo false (Some (codes "a")) false) ∷ []
 
 abbrev pub join_commands : List Command
 join_commands = plain_command (Label (codes "a")) ∷ plain_command NextAppend ∷ plain_command (Branch 0) ∷ []

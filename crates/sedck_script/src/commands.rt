@@ -93,7 +93,7 @@ fn check_brace(verb: &Written, depth: usize) -> Result<(), ScriptFault>
     ensures refused { OnErr result ((is_braced (written_verb verb.now) ≡ true) × (2 ≤ depth)) }
     ensures placed { IfErr result (λ fault. (text : List ℕ) → IsWrittenAt text verb.now → IsPlaced text fault) }
 {
-    if let Written::BranchTo(jump) | Written::TestTo(jump) = verb {
+    if let Written::JumpTo(jump) = verb {
         if let (Some(place), 2..) = (jump.brace, depth) {
             return Err(ScriptFault::BadLabel { place });
         }

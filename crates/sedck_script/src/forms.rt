@@ -18,13 +18,6 @@ pub enum TextVerb {
     Insert,
 }
 
-/// A verb that a label follows, or nothing.
-#[derive(Clone, Copy)]
-pub enum JumpVerb {
-    Branch,
-    Test,
-}
-
 /// What a verb takes.
 #[derive(Drop)]
 pub enum Form<'a> {
@@ -36,8 +29,8 @@ pub enum Form<'a> {
     File(Access),
     /// The label that it defines.
     Label,
-    /// The label that it leads to.
-    Jump(JumpVerb),
+    /// The label that it leads to. A test jumps only after a substitution.
+    Jump { tests: bool },
     /// Commands up to a `}`.
     Block,
     /// An expression, a replacement and flags.
@@ -83,8 +76,8 @@ pub fn form_of<'a>(byte: u8) -> Option<Form<'a>>
         b'r' => Form::File(Access::Read),
         b'w' => Form::File(Access::Write),
         b':' => Form::Label,
-        b'b' => Form::Jump(JumpVerb::Branch),
-        b't' => Form::Jump(JumpVerb::Test),
+        b'b' => Form::Jump { tests: false },
+        b't' => Form::Jump { tests: true },
         b'{' => Form::Block,
         b's' => Form::Substitution,
         b'y' => Form::Transliteration,

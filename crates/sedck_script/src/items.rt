@@ -39,8 +39,7 @@ pub struct Reader<'r, 'a> {
 pub enum Written<'a> {
     Known(Verb<'a>),
     Label(&'a [u8]),
-    BranchTo(Jump<'a>),
-    TestTo(Jump<'a>),
+    JumpTo(Jump<'a>),
     Opening,
 }
 

@@ -19,8 +19,9 @@ use indexmap::IndexMap;
 use sedck_text::{Class, Cursor};
 
 /// Where a branch or a test leads.
-#[derive(Clone, Copy, Debug)]
+#[derive(Clone, Copy)]
 pub struct Jump<'a> {
+    pub tests: bool,
     pub label: Option<&'a [u8]>,
     /// The offset of the label's first byte, or of what is there where it is missing.
     pub offset: usize,
@@ -155,11 +156,12 @@ fn brace_behind<'a>(behind: Cursor<'a>) -> Option<usize>
     None
 }
 
-/// The label of a branch or none, and the rest of the text from the command's end on.
-pub fn read_jump<'a>(text: Cursor<'a>) -> Result<(Jump<'a>, Cursor<'a>), ScriptFault>
+/// The label of a branch or a test, or none, and the rest of the text from the command's end on.
+pub fn read_jump<'a>(tests: bool, text: Cursor<'a>) -> Result<(Jump<'a>, Cursor<'a>), ScriptFault>
     requires { IsBehindVerb (one_of "bt") text }
     ensures read { IfOk result (λ x. BranchText (unread text.entry) (option_copied x.0.label) (is_some x.0.brace) (unread x.1)) }
     ensures same { IfOk result (λ x. x.1.whole ≡ text.entry.whole) }
+    ensures tests { IfOk result (λ x. x.0.tests ≡ tests) }
     ensures label { IfOk result (λ x. IsJumpAt text.entry.whole.now x.0) }
     ensures refused { IfErr result (λ fault. (label : Option (List ℕ)) (braced : Bool) (rest : List ℕ) → BranchText (unread text.entry) label braced rest → ⊥) }
     ensures placed { IfErr result (λ fault. IsPlaced text.entry.whole.now fault) }
@@ -174,6 +176,7 @@ pub fn read_jump<'a>(text: Cursor<'a>) -> Result<(Jump<'a>, Cursor<'a>), ScriptF
         (Some(name), end_of_jump(behind)?)
     };
     let jump = Jump {
+        tests,
         label,
         offset,
         brace,

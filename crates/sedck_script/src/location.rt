@@ -8,7 +8,7 @@ use crate::items::WrittenItem;
 use std::alloc::Global;
 
 /// Where a command is in its script's text, in bytes from 0.
-#[derive(Clone, Copy, Debug, PartialEq, Eq)]
+#[derive(Clone, Copy, PartialEq, Eq)]
 pub struct Location {
     /// Its first byte: that of its addresses, or else of a `!` or its verb.
     pub start: usize,

@@ -2,7 +2,7 @@
 
 ghost use Rattle.std.specs.Prelude.{◌≡◌, ◌⊎◌, ℕ, List, IfSome, IfNone, not, ◌<◌, ◌≤◌, OnOk, false, length, map, slice_index_or, true, IfErr, IfOk, option_to_list};
 ghost use Rattle.sedck_script.specs.Cuts.{is_newline, is_continued, Longest};
-ghost use Rattle.sedck_script.specs.Parts.{Name, is_skipped};
+ghost use Rattle.sedck_script.specs.Parts.{Name};
 ghost use Rattle.sedck_script.specs.Faults.{IsPlaced};
 ghost use Rattle.sedck_text.specs.Cursors.{unread};
 ghost use Rattle.std.specs.Borrow.{Bor};
@@ -11,7 +11,7 @@ ghost use Rattle.std.specs.Ordering.{is_lt, nat_cmp};
 ghost use Rattle.std.specs.Option.{option_copied};
 ghost use Rattle.sedck_script.specs.Names.{AreIncreasing, accessed, with_name, sorted_names as sorted};
 ghost use Rattle.sedck_script.specs.View.{verb_of, command_of};
-ghost use Rattle.sedck_script.specs.Private.NameReading.{all_accessed, with_any};
+ghost use Rattle.sedck_script.specs.Private.NameReading.{is_skipped, all_accessed, with_any};
 
 use crate::fault::ScriptFault;
 use crate::script::{Command, Verb};
@@ -136,7 +136,7 @@ fn insert_any<'a>(names: &mut Vec<&'a [u8]>, name: Option<&'a [u8]>) -> Result<(
 }
 
 /// What a command does with a file.
-#[derive(Clone, Copy, Debug, PartialEq, Eq)]
+#[derive(Clone, Copy, PartialEq, Eq)]
 pub enum Access {
     Read,
     Write,

@@ -44,8 +44,8 @@ fn command_of<'a>(
     let verb = match verb {
         Written::Known(verb) => verb,
         Written::Label(name) => Verb::Label(name),
-        Written::BranchTo(jump) => Verb::Branch(target_of(labels, end, jump.label)),
-        Written::TestTo(jump) => Verb::Test(target_of(labels, end, jump.label)),
+        Written::JumpTo(jump) if jump.tests => Verb::Test(target_of(labels, end, jump.label)),
+        Written::JumpTo(jump) => Verb::Branch(target_of(labels, end, jump.label)),
         Written::Opening => Verb::Block(block),
     };
     Command {
@@ -75,8 +75,7 @@ fn label_of<'a>(item: &WrittenItem<'a>) -> Option<(&'a [u8], usize)>
         return None;
     };
     match &command.verb {
-        Written::BranchTo(Jump { label, offset, .. }) => label.map(|name| (name, *offset)),
-        Written::TestTo(Jump { label, offset, .. }) => label.map(|name| (name, *offset)),
+        Written::JumpTo(Jump { label, offset, .. }) => label.map(|name| (name, *offset)),
         Written::Known(_) | Written::Label(_) | Written::Opening => None,
     }
 }

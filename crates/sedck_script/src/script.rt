@@ -39,7 +39,7 @@ pub enum Address {
 }
 
 /// A part of a replacement.
-#[derive(Clone, Copy, Debug)]
+#[derive(Clone, Copy)]
 pub enum Part<'a> {
     /// These bytes.
     Text(&'a [u8]),

@@ -2,7 +2,8 @@
 
 ghost use Rattle.std.specs.Prelude.{◌≡◌, ℕ, List, IfSome, IfNone, IfOk, IfErr};
 ghost use Rattle.sedck_text.specs.Cursors.{unread};
-ghost use Rattle.sedck_script.specs.Parts.{Lines, GivenText, Ends, EndsFlags};
+ghost use Rattle.sedck_script.specs.Parts.{Lines, GivenText, Ends};
+ghost use Rattle.sedck_script.specs.Private.Reading.{EndsFlags};
 ghost use Rattle.sedck_script.specs.Faults.{IsPlaced};
 ghost use Rattle.sedck_script.specs.Private.CommentReading.{CommentText};
 ghost use Rattle.sedck_text.specs.Text.{begins};

@@ -11,7 +11,7 @@ ghost use Rattle.sedck_script.specs.Private.VerbReading.{written_verb, IsWritten
 ghost use Rattle.sedck_script.specs.Private.Forms.{IsForm, text_byte, file_byte, jump_byte};
 
 use crate::fault::ScriptFault;
-use crate::forms::{Form, JumpVerb, TextVerb};
+use crate::forms::{Form, TextVerb};
 use crate::items::Written;
 use crate::labels::{place_of, read_definition, read_jump};
 use crate::names::{Access, name_fault, read_name};
@@ -108,23 +108,17 @@ fn read_label<'a>(
 }
 
 /// The label after a branch or a test, or none, and the rest of the script from its end on.
-fn read_branch<'a>(
-    verb: JumpVerb,
-    text: Cursor<'a>,
-) -> Result<(Written<'a>, Cursor<'a>), ScriptFault>
-    requires { Follows text (jump_byte verb) }
-    ensures read { IfOk result (λ x. VerbText (jump_byte verb ∷ unread text.entry) (written_verb x.0) (unread x.1)) }
+fn read_branch<'a>(tests: bool, text: Cursor<'a>) -> Result<(Written<'a>, Cursor<'a>), ScriptFault>
+    requires { Follows text (jump_byte tests) }
+    ensures read { IfOk result (λ x. VerbText (jump_byte tests ∷ unread text.entry) (written_verb x.0) (unread x.1)) }
     ensures same { IfOk result (λ x. x.1.whole ≡ text.entry.whole) }
     ensures no_label { IfOk result (λ x. (name : List ℕ) → written_verb x.0 ≢ Known (clean.Label name)) }
     ensures label { IfOk result (λ x. IsWrittenAt text.entry.whole.now x.0) }
-    ensures refused { IfErr result (λ fault. (written : WrittenVerb) (rest : List ℕ) → VerbText (jump_byte verb ∷ unread text.entry) written rest → ⊥) }
+    ensures refused { IfErr result (λ fault. (written : WrittenVerb) (rest : List ℕ) → VerbText (jump_byte tests ∷ unread text.entry) written rest → ⊥) }
     ensures placed { IfErr result (λ fault. IsPlaced text.entry.whole.now fault) }
 {
-    let (jump, rest) = read_jump(text)?;
-    match verb {
-        JumpVerb::Branch => Ok((Written::BranchTo(jump), rest)),
-        JumpVerb::Test => Ok((Written::TestTo(jump), rest)),
-    }
+    let (jump, rest) = read_jump(tests, text)?;
+    Ok((Written::JumpTo(jump), rest))
 }
 
 /// What a verb of this form takes, from right after its byte on, and the rest of the text from its end on.
@@ -150,7 +144,7 @@ pub fn read_verb<'a>(
         Form::Text(verb) => read_text_verb(verb, text),
         Form::File(access) => read_file_verb(access, text),
         Form::Label => read_label(labels, text),
-        Form::Jump(verb) => read_branch(verb, text),
+        Form::Jump { tests } => read_branch(tests, text),
         Form::Block => Ok((Written::Opening, text)),
         Form::Substitution => read_substitution(alloc, text),
         Form::Transliteration => read_transliteration(alloc, text),

@@ -97,7 +97,7 @@ module _ (p : Program) (script : IsScript p) where
         let below : n.at ≤ length p.commands = omega (arith, slice_get_within counts (node_index n) count is, counted.long) in
         elim (counted.each n below) [
           | inl (reachable, has) ↦ (reachable, subst (IsReachCount p filter n) (same_Some _ _ (sym has.at ∙ is)) has.is_count)
-          | inr (_, none) ↦ absurd (omega (arith, positive, same_Some _ _ (sym none ∙ is)))
+          | inr (_, none) ↦ grind arith
         ]
 
   module _ (form : Form) (counts : List ℕ) (counted : AreCounted p (back_filter form) counts) where

@@ -68,8 +68,8 @@ module _ (p : Program) (filter : EdgeFilter) where
   counted_is counts partly n inside count is positive other =
       elim (partly.each n inside) [
         | inl (reached, inl counted) ↦ subst (IsReachCount p filter n) (same_Some _ _ (sym counted.at ∙ is)) counted.is_count
-        | inl (reached, inr marked) ↦ absurd (other (same_Some _ _ (sym is ∙ marked)))
-        | inr none ↦ absurd (omega (arith, positive, same_Some _ _ (sym none.1 ∙ is)))
+        | inl (reached, inr marked) ↦ grind arith
+        | inr none ↦ grind arith
       ]
 
   pub counted_at : (counts : List ℕ) → ArePartlyCounted p filter counts → (n : Node) → n.at ≤ length p.commands → (count : ℕ)
@@ -101,8 +101,7 @@ module _ (p : Program) (filter : EdgeFilter) where
   }
     where
       reachable : (IsReachable p n × (HasCount p filter counts n ⊎ IsUncounted counts n)) ⊎ HasNoCount p counts n → IsReachable p n
-      reachable (inl (is, _)) = is
-      reachable (inr none) = absurd (omega (arith, same_Some _ _ (sym none.1 ∙ marked)))
+      reachable h = grind arith
 
       as_before : (m : Node) → slice_get (set counts (node_index n) count) (node_index m) ≡ slice_get counts (node_index m)
           → (IsReachable p m × (HasCount p filter counts m ⊎ IsUncounted counts m)) ⊎ HasNoCount p counts m

@@ -1,10 +1,12 @@
 -- Ways are as long as shortest paths.
-use Rattle.std.proofs.Common.{◌≡◌, ◌≢◌, ◌⊎◌, ℕ, zero, suc, ◌+◌, ◌<◌, ◌≤◌, List, [], ◌∷◌, ◌++◌, length, get_or, Contains, refl, sym, ap, ◌∙◌, subst, subst₂, inl, inr, arith}
-use Rattle.std.specs.Prelude.{Some, slice_get, set, eqb, if◌then◌else◌, Bool, true, false}
+use Rattle.std.proofs.Common.{◌≡◌, ◌≢◌, ℕ, zero, suc, ◌+◌, ◌<◌, ◌≤◌, List, [], ◌∷◌, ◌++◌, length, get_or, Contains, refl, sym, ap, ◌∙◌, subst, subst₂, inl, inr, arith}
+use Rattle.std.specs.Prelude.{Some, slice_get, set, eqb, if◌then◌else◌, true}
 use Rattle.std.proofs.lemmas.List.{length-set}
-use Rattle.std.proofs.lemmas.Bool.{cases_eq, ne_eqb}
-use Rattle.std.proofs.lemmas.Bool.Decides.{eqb_tells}
-use Rattle.std.proofs.lemmas.List.Elements.{Contains-append_right}
+use Rattle.std.specs.List.{remove}
+use Rattle.std.proofs.lemmas.List.Edits.{length-remove}
+use Rattle.std.proofs.lemmas.List.Sorted.{IsPermutation-remove, Contains-permutation}
+use Rattle.std.proofs.lemmas.Bool.{cases_eq}
+use Rattle.std.proofs.lemmas.Bool.Decides.{nat_tests}
 use Rattle.std.proofs.lemmas.Option.{slice_get-get_or, slice_get_within, get_or_from_slice_get, same_Some}
 use Rattle.sedck_script.specs.Invariant.{IsScript}
 use Rattle.sedck_script.specs.Program.{Program}
@@ -15,7 +17,7 @@ use Rattle.sedck_flow.specs.declared.graph.Edge.{Edge}
 use Rattle.sedck_flow.specs.declared.graph.Kind.{Kind}
 use Rattle.sedck_flow.proofs.EdgesInside.{inside}
 use Rattle.sedck_flow.proofs.NodeLemmas.{node_same, index_below}
-use Rattle.sedck_search.proofs.Scans.{set_same, set_other}
+use Rattle.sedck_search.proofs.Scans.{set_same, set_other, entries_push as push_entry}
 use Rattle.sedck_search.specs.Obstacle.{IsPath}
 use Rattle.sedck_search.specs.Private.Reaching.{AreFollowed, FollowedEdge, IsIn}
 use Rattle.sedck_search.specs.Private.Distances.{HasDistance, HasNeighborWithin, ArePathLengths, AreDistances}
@@ -28,35 +30,17 @@ record IsWithout (x : ℕ) (xs ys : List ℕ) : Type 0 where
   long : length xs ≡ suc (length ys)
   others : (v : ℕ) → v ≢ x → Contains xs v → Contains ys v
 
-contains_more : (y : ℕ) (ys : List ℕ) (v : ℕ) → Contains ys v → Contains (y ∷ ys) v
-contains_more y ys v h = Contains-append_right (y ∷ []) ys v h
-
-without_head : (x y : ℕ) (xs : List ℕ) → Contains (y ∷ xs) x → (Contains xs x → (ys : List ℕ) × IsWithout x xs ys) → (x ≡ y) ⊎ (x ≢ y)
-    → (ys : List ℕ) × IsWithout x (y ∷ xs) ys
-without_head x y xs h rest (inl same) = (
-  xs,
+without : (x : ℕ) (xs : List ℕ) → Contains xs x → (ys : List ℕ) × IsWithout x xs ys
+without x xs (k, below, is) = let moved = IsPermutation-remove xs k x below (sym is) in (
+  remove xs k,
   record {
-    long = refl;
-    others = λ v other c. elim (Contains-cons_cases y xs v c) [ inl is ↦ absurd (other (sym is ∙ sym same)) | inr behind ↦ behind ];
+    long = omega (arith, length-remove xs k below);
+    others = λ v other h. elim (Contains-cons_cases x (remove xs k) v (Contains-permutation xs (x ∷ remove xs k) v moved h)) [
+      | inl same ↦ absurd (other (sym same))
+      | inr behind ↦ behind
+    ];
   },
 )
-without_head x y xs h rest (inr other) = elim (Contains-cons_cases y xs x h) [
-  | inl is ↦ absurd (other (sym is))
-  | inr behind ↦ let less = rest behind in (
-    y ∷ less.0,
-    record {
-      long = ap suc less.1.long;
-      others = λ v differs c. elim (Contains-cons_cases y xs v c) [
-        | inl is ↦ (0, omega arith, is)
-        | inr more ↦ contains_more y less.0 v (less.1.others v differs more)
-      ];
-    },
-  )
-]
-
-without : (x : ℕ) (xs : List ℕ) → Contains xs x → (ys : List ℕ) × IsWithout x xs ys
-without x [] (k, below, is) = absurd (omega (arith, below))
-without x (y ∷ xs) h = without_head x y xs h (without x xs) (cases_eq x y)
 
 pub longer_than_all : (k : ℕ) (xs : List ℕ) → ((v : ℕ) → v ≤ k → Contains xs v) → k < length xs
 longer_than_all zero xs all = let one = all 0 (omega arith) in omega (arith, one.1)
@@ -74,43 +58,25 @@ distance_at p distances long n inside =
     (get_or distances (node_index n) 0, slice_get-get_or distances (node_index n) 0 below)
 
 pub eqb_same : (n : ℕ) → eqb n n ≡ true
-eqb_same n = elim (eqb_tells n n) [ inl (is, _) ↦ is | inr (_, other) ↦ absurd (other refl) ]
+eqb_same n = grind (arith, nat_tests)
 
 -- the distances before any is shortened: none but that of the node itself
 abbrev pub first_distance : ℕ → ℕ → ℕ
 first_distance to i = if eqb i to then 0 else 65535
 
-first_distance-zero : (to i : ℕ) → first_distance to i ≡ 0 → i ≡ to
-first_distance-zero to i e =
-    elim (cases_eq i to) [ inl same ↦ same | inr other ↦ absurd (omega (arith, sym e ∙ ap (λ b. if b then 0 else 65535) (ne_eqb i to other))) ]
-
 pub some_distances : (p : Program) (filter : EdgeFilter) (to : Node) (distances : List ℕ) → length distances ≡ node_count (length p.commands) → to.at ≤ length p.commands
     → ((i : ℕ) → i < length distances → slice_get distances i ≡ Some (first_distance (node_index to) i)) → ArePathLengths p filter to distances
 some_distances p filter to distances long to_inside entries = record {
   long = long;
-  small = λ n distance has. bounded (node_index to) (node_index n) distance (value n distance has);
+  small = λ n distance has. let is = value n distance has in grind (arith, nat_tests);
   here = entries (node_index to) (omega (arith, long, index_below to (length p.commands) to_inside))
       ∙ ap Some (ap (λ b. if b then 0 else 65535) (eqb_same (node_index to)));
-  only = λ n has. node_same n to (first_distance-zero (node_index to) (node_index n) (value n 0 has));
-  on = λ n distance has small. absurd (middle (node_index to) (node_index n) distance (value n (suc distance) has) small);
+  only = λ n has. let is = value n 0 has in node_same n to (grind (arith, nat_tests));
+  on = λ n distance has small. let is = value n (suc distance) has in absurd (grind (arith, nat_tests));
 }
   where
     value : (n : Node) (distance : ℕ) → HasDistance distances n distance → first_distance (node_index to) (node_index n) ≡ distance
     value n distance has = same_Some _ _ (sym (entries (node_index n) (slice_get_within distances (node_index n) distance has)) ∙ has)
-
-    bounded : (to i distance : ℕ) → first_distance to i ≡ distance → distance ≤ 65535
-    bounded to i distance e = by_test (eqb i to) refl
-      where
-        by_test : (b : Bool) → eqb i to ≡ b → distance ≤ 65535
-        by_test true is = omega (arith, sym e ∙ ap (λ b. if b then 0 else 65535) is)
-        by_test false is = omega (arith, sym e ∙ ap (λ b. if b then 0 else 65535) is)
-
-    middle : (to i distance : ℕ) → first_distance to i ≡ suc distance → suc distance < 65535 → ⊥
-    middle to i distance e small = by_test (eqb i to) refl
-      where
-        by_test : (b : Bool) → eqb i to ≡ b → ⊥
-        by_test true is = omega (arith, sym e ∙ ap (λ b. if b then 0 else 65535) is)
-        by_test false is = omega (arith, sym e ∙ ap (λ b. if b then 0 else 65535) is, small)
 
 -- one distance gets shorter
 module _ (p : Program) (filter : EdgeFilter) (to : Node) (distances : List ℕ) (h : ArePathLengths p filter to distances) (n : Node) (distance old : ℕ)
@@ -118,58 +84,35 @@ module _ (p : Program) (filter : EdgeFilter) (to : Node) (distances : List ℕ) 
   below : node_index n < length distances
   below = slice_get_within distances (node_index n) old was
 
+  is_set : HasDistance (set distances (node_index n) (suc distance)) n (suc distance)
+  is_set = set_same distances (node_index n) (suc distance) below
+
+  others : (m : Node) → node_index m ≢ node_index n → slice_get (set distances (node_index n) (suc distance)) (node_index m) ≡ slice_get distances (node_index m)
+  others m other = set_other distances (node_index n) (node_index m) (suc distance) other
+
+  neighbor_at : (m : Node) (limit : ℕ) (g : HasNeighborWithin p filter distances m limit) (new : ℕ)
+      → HasDistance (set distances (node_index n) (suc distance)) g.edge.to new → new ≤ limit
+      → HasNeighborWithin p filter (set distances (node_index n) (suc distance)) m limit
+  neighbor_at m limit g new has near =
+      record { edge = g.edge; followed = g.followed; leaves = g.leaves; distance = new; has_distance = has; nearer = near }
+
   goes_on_set : (m : Node) (limit : ℕ) → HasNeighborWithin p filter distances m limit → HasNeighborWithin p filter (set distances (node_index n) (suc distance)) m limit
   goes_on_set m limit g = elim (cases_eq (node_index g.edge.to) (node_index n)) [
     | inl same ↦
         let is : g.distance ≡ old = same_Some _ _ (sym g.has_distance ∙ ap (slice_get distances) same ∙ was) in
-        record {
-          edge = g.edge;
-          followed = g.followed;
-          leaves = g.leaves;
-          distance = suc distance;
-          has_distance = ap (slice_get (set distances (node_index n) (suc distance))) same ∙ set_same distances (node_index n) (suc distance) below;
-          nearer = omega (arith, is, shorter, g.nearer);
-        }
-    | inr other ↦ record {
-      edge = g.edge;
-      followed = g.followed;
-      leaves = g.leaves;
-      distance = g.distance;
-      has_distance = set_other distances (node_index n) (node_index g.edge.to) (suc distance) other ∙ g.has_distance;
-      nearer = g.nearer;
-    }
+        neighbor_at m limit g (suc distance) (ap (slice_get (set distances (node_index n) (suc distance))) same ∙ is_set) (omega (arith, is, shorter, g.nearer))
+    | inr other ↦ neighbor_at m limit g g.distance (others g.edge.to other ∙ g.has_distance) g.nearer
   ]
 
   pub distances_set : ArePathLengths p filter to (set distances (node_index n) (suc distance))
   distances_set = record {
     long = length-set distances (node_index n) (suc distance) ∙ h.long;
-    small = λ m v has. elim (cases_eq (node_index m) (node_index n)) [
-      | inl same ↦ omega (
-        arith,
-        same_Some _ _ (sym (set_same distances (node_index n) (suc distance) below) ∙ ap (slice_get (set distances (node_index n) (suc distance))) (sym same)
-            ∙ has),
-        shorter,
-        h.small n old was,
-      )
-      | inr other ↦ h.small m v (sym (set_other distances (node_index n) (node_index m) (suc distance) other) ∙ has)
-    ];
-    here = elim (cases_eq (node_index to) (node_index n)) [
-      | inl same ↦ absurd (omega (arith, shorter, same_Some _ _ (sym was ∙ ap (slice_get distances) (sym same) ∙ h.here)))
-      | inr other ↦ set_other distances (node_index n) (node_index to) (suc distance) other ∙ h.here
-    ];
-    only = λ m has. elim (cases_eq (node_index m) (node_index n)) [
-      | inl same ↦ absurd
-          (omega (
-            arith,
-            same_Some _ _ (sym (set_same distances (node_index n) (suc distance) below)
-                ∙ ap (slice_get (set distances (node_index n) (suc distance))) (sym same) ∙ has),
-          ))
-      | inr other ↦ h.only m (sym (set_other distances (node_index n) (node_index m) (suc distance) other) ∙ has)
-    ];
+    small = λ m v has. grind (arith, is_set, others m, h.small m v, h.small n old was);
+    here = grind (arith, others to, h.here);
+    only = λ m has. grind (arith, is_set, others m, h.only m);
     on = λ m v has small. elim (cases_eq (node_index m) (node_index n)) [
       | inl same ↦
-          let is : suc distance ≡ suc v = same_Some _ _ (sym (set_same distances (node_index n) (suc distance) below)
-          ∙ ap (slice_get (set distances (node_index n) (suc distance))) (sym same) ∙ has) in
+          let is : suc distance ≡ suc v = grind (arith, is_set) in
           subst₂ (λ k l. HasNeighborWithin p filter (set distances (node_index n) (suc distance)) k l) (sym (node_same m n same)) (let e : distance ≡ v = omega (arith, is) in e)
           (goes_on_set n distance goes)
       | inr other ↦ goes_on_set m v (h.on m v (sym (set_other distances (node_index n) (node_index m) (suc distance) other) ∙ has) small)
@@ -224,10 +167,4 @@ module _ (p : Program) (script : IsScript p) (filter : EdgeFilter) (to : Node) (
 -- one more entry
 pub entries_push : (f : ℕ → ℕ) (xs : List ℕ) (i v : ℕ) → length xs ≡ i → ((j : ℕ) → j < i → slice_get xs j ≡ Some (f j)) → v ≡ f i → (j : ℕ)
     → j < i + 1 → slice_get (xs ++ v ∷ []) j ≡ Some (f j)
-entries_push f [] i v long h is zero below = ap Some (is ∙ ap f (sym long))
-entries_push f [] i v long h is (suc j) below = absurd (omega (arith, long, below))
-entries_push f (x ∷ xs) zero v long h is j below = absurd (omega (arith, long))
-entries_push f (x ∷ xs) (suc i) v long h is zero below = h 0 (omega arith)
-entries_push f (x ∷ xs) (suc i) v long h is (suc j) below =
-    entries_push (λ k. f (suc k)) xs i v (let e : length xs ≡ i = omega (arith, long) in e) (λ k less. h (suc k) (omega (arith, less))) is j
-    (omega (arith, below))
+entries_push f xs i v long h is j below = push_entry xs v f (λ k less. h k (omega (arith, less, long))) (is ∙ ap f (sym long)) j (omega (arith, below, long))

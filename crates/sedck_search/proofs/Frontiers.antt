@@ -1,6 +1,6 @@
 -- How sets of reached nodes grow.
-use Rattle.std.proofs.Common.{◌≡◌, ◌⊎◌, ℕ, ◌+◌, ◌-◌, ◌*◌, ◌<◌, ◌≤◌, Bool, true, false, List, refl, sym, ap, ◌∙◌, subst, inl, inr, arith}
-use Rattle.std.proofs.lemmas.Bool.{cases_eq, cases_lt}
+use Rattle.std.proofs.Common.{◌≡◌, ◌⊎◌, ℕ, ◌+◌, ◌-◌, ◌*◌, ◌<◌, ◌≤◌, true, false, List, refl, sym, ap, subst, inl, inr, arith}
+use Rattle.std.proofs.lemmas.Bool.{cases_eq}
 use Rattle.sedck_script.specs.Program.{Program}
 use Rattle.sedck_flow.specs.Nodes.{node_index}
 use Rattle.sedck_flow.specs.declared.graph.Node.{Node}
@@ -18,37 +18,21 @@ use Rattle.sedck_search.proofs.Paths.{reaches_self, reaches-trans}
 
 -- the nodes that were in a row stay in it
 pub changed_keeps : (a b : List ℕ) (n : Node) → HasChanged a b (node_index n) true → (m : Node) → IsIn a m → IsIn b m
-changed_keeps a b n h m x =
-    elim (cases_eq (node_index m) (node_index n)) [
-      | inl same ↦ subst (λ i. has b i ≡ true) (sym same) h.at
-      | inr other ↦ h.others (node_index m) other ∙ x
-    ]
+changed_keeps a b n h m x = grind (arith, h.others (node_index m))
 
 -- and no other node than this one is new
 pub changed_new : (a b : List ℕ) (n : Node) → HasChanged a b (node_index n) true → (m : Node) → IsIn b m → IsIn a m ⊎ (m ≡ n)
-changed_new a b n h m x =
-    elim (cases_eq (node_index m) (node_index n)) [
-      | inl same ↦ inr (node_same m n same)
-      | inr other ↦ inl (sym (h.others (node_index m) other) ∙ x)
-    ]
+changed_new a b n h m x = grind (arith, h.others (node_index m), node_same m n)
 
 -- what is in a row without the node was in the set
 pub removed_was : (a b : List ℕ) (m : Node) → HasChanged a b (node_index m) false → (k : Node) → IsIn b k → IsIn a k
-removed_was a b m removed k w =
-    elim (cases_eq (node_index k) (node_index m)) [
-      | inl same ↦ absurd (not_both w (ap (has b) same ∙ removed.at))
-      | inr other ↦ sym (removed.others (node_index k) other) ∙ w
-    ]
+removed_was a b m removed k w = grind (arith, removed.others (node_index k))
 
 module _ (n : Node) (members frontier members' frontier' : List ℕ) (sets : AreSearchSets members frontier) (is_set' : IsNodeSet members') (is_frontier' : IsNodeSet frontier')
     (absent : has members (node_index n) ≡ false) (r : HasChanged members members' (node_index n) true) (w : HasChanged frontier frontier' (node_index n) true) where
   -- a node that is not reached is not in the frontier
   idle : has frontier (node_index n) ≡ false
-  idle = by_bit (has frontier (node_index n)) refl
-    where
-      by_bit : (b : Bool) → has frontier (node_index n) ≡ b → has frontier (node_index n) ≡ false
-      by_bit true e = absurd (not_both (sets.among n e) absent)
-      by_bit false e = e
+  idle = grind (arith, sets.among n)
 
   -- a node that wasn't there is added
   pub added_new : (first first' : ℕ) → first' ≤ first → first' ≤ node_index n → AddsNode n members frontier members' frontier' first first'
@@ -80,27 +64,13 @@ module _ (n : Node) (members frontier members' frontier' : List ℕ) (sets : Are
 
 -- the node was there
 pub added_none : (n : Node) (members frontier : List ℕ) (first : ℕ) → AddsNode n members frontier members frontier first first
-added_none n members frontier first = record {
-  kept = λ m x. x;
-  waits_on = λ m x. x;
-  new = λ m x. inl x;
-  waits = λ m x. inl x;
-  earlier = omega arith;
-  room = omega arith;
-}
+added_none n members frontier first = grind arith
 
 -- ---- Targets of a node
 
 module _ (p : Program) (filter : EdgeFilter) (from : Node) where
   pub targets_none : (members frontier : List ℕ) (first : ℕ) → AddsTargets p filter from members frontier members frontier first first
-  targets_none members frontier first = record {
-    kept = λ n x. x;
-    waits_on = λ n x. x;
-    new = λ n x. inl x;
-    waits = λ n x. inl x;
-    earlier = omega arith;
-    room = omega arith;
-  }
+  targets_none members frontier first = grind arith
 
   -- what is added after one another
   pub targets_then : (a w a' w' a'' w'' : List ℕ) (f f' f'' : ℕ) → AddsTargets p filter from a w a' w' f f'
@@ -116,10 +86,7 @@ module _ (p : Program) (filter : EdgeFilter) (from : Node) where
       ]
       | inr y ↦ inr y
     ];
-    waits = λ n x. elim (k.waits n x) [
-      | inl before ↦ elim (h.waits n before) [ inl y ↦ inl y | inr (r, least) ↦ inr (r, omega (arith, least, k.earlier)) ]
-      | inr y ↦ inr y
-    ];
+    waits = λ n x. grind (arith, k.waits n x, h.waits n, k.earlier);
     earlier = omega (arith, h.earlier, k.earlier);
     room = omega (arith, h.room, k.room);
   }
@@ -130,17 +97,10 @@ module _ (p : Program) (filter : EdgeFilter) (from : Node) where
   targets_node to r a w a' w' f f' sets h = record {
     kept = h.kept;
     waits_on = h.waits_on;
-    new = λ n x. elim (h.new n x) [
-      | inl y ↦ inl y
-      | inr y ↦ elim (h.waits n y) [
-        | inl old ↦ inl (sets.among n old)
-        | inr (same, _, _) ↦ inr (subst (λ k. Reaches p filter from k) (sym same) r, inl y)
-      ]
-    ];
-    waits = λ n x. elim (h.waits n x) [
-      | inl old ↦ inl old
-      | inr (same, _, least) ↦ inr (subst (λ k. Reaches p filter from k) (sym same) r, least)
-    ];
+    new = λ n x. let reached : n ≡ to → Reaches p filter from n = λ same. subst (λ k. Reaches p filter from k) (sym same) r in
+        grind (arith, reached, h.new n x, h.waits n, sets.among n);
+    waits = λ n x. let reached : n ≡ to → Reaches p filter from n = λ same. subst (λ k. Reaches p filter from k) (sym same) r in
+        grind (arith, reached, h.waits n x);
     earlier = h.earlier;
     room = h.room;
   }
@@ -212,27 +172,17 @@ module _ (p : Program) (filter : EdgeFilter) (n : Node) (before : List ℕ) wher
 
     -- no node of the frontier is before the one visited
     front_next : (k : Node) → IsIn frontier'' k → first'' ≤ node_index k
-    front_next k w = elim (h.waits k w) [
-      | inl old ↦ elim (cases_lt (node_index k) (node_index m)) [
-        | inl less ↦ absurd (not_both (waited k old) (none_before (node_index k) (s.front k (waited k old)) less))
-        | inr more ↦ omega (arith, more, h.earlier)
-      ]
-      | inr (_, least) ↦ least
-    ]
+    front_next k w = grind (arith, h.waits k w, waited k, none_before (node_index k), s.front k, h.earlier)
 
     closed_next : (e : Edge) → FollowedEdge p filter e → IsIn members'' e.from → has frontier'' (node_index e.from) ≡ false → IsIn members'' e.to
     closed_next e followed x idle =
         elim (h.new e.from x) [
-          | inr (_, inl w) ↦ absurd (not_both w idle)
           | inr (_, inr leads) ↦ leads e followed refl
-          | inl old ↦ by_bit old (has frontier (node_index e.from)) refl
-        ]
-      where
-        by_bit : IsIn members e.from → (b : Bool) → has frontier (node_index e.from) ≡ b → IsIn members'' e.to
-        by_bit old false w = h.kept e.to (s.closed e followed old w)
-        by_bit old true w = elim (cases_eq (node_index e.from) (node_index m)) [
-          | inl same ↦ added e followed (node_same e.from m same)
-          | inr other ↦ absurd (not_both (h.waits_on e.from (removed.others (node_index e.from) other ∙ w)) idle)
+          | inr (_, inl w) ↦ absurd (not_both w idle)
+          | inl old ↦ elim (cases_eq (node_index e.from) (node_index m)) [
+            | inl same ↦ added e followed (node_same e.from m same)
+            | inr other ↦ h.kept e.to (s.closed e followed old (grind (arith, h.waits_on e.from, removed.others (node_index e.from) other)))
+          ]
         ]
 
     pub search_goes_on : IsSearch p filter n before members'' frontier'' first''
@@ -261,20 +211,10 @@ module _ (p : Program) (filter : EdgeFilter) (n : Node) (before : List ℕ) wher
   pub search_ends : (members frontier : List ℕ) (first : ℕ) → IsSearch p filter n before members frontier first
       → ((i : ℕ) → first ≤ i → has frontier i ≡ false) → IsClosed p filter members × AddsReached p filter n before members
   search_ends members frontier first s none = (
-    (λ e followed x. s.closed e followed x (idle e.from (has frontier (node_index e.from)) refl)),
+    (λ e followed x. s.closed e followed x (grind (arith, none (node_index e.from), s.front e.from))),
     record { kept = s.kept; node = s.node; reached = s.reached },
   )
-    where
-      idle : (k : Node) (b : Bool) → has frontier (node_index k) ≡ b → has frontier (node_index k) ≡ false
-      idle k false e = e
-      idle k true e = none (node_index k) (s.front k e)
 
   pub frontier_empty : (members frontier : List ℕ) (first : ℕ) → IsSearch p filter n before members frontier first
       → ((i : ℕ) → first ≤ i → has frontier i ≡ false) → IsEmpty frontier
-  frontier_empty members frontier first s none i = go (has frontier i) refl
-    where
-      go : (b : Bool) → has frontier i ≡ b → has frontier i ≡ false
-      go false e = e
-      go true e =
-          let k = node_at i in
-          none i (omega (arith, k.1, s.front k.0 (subst (λ j. has frontier j ≡ true) (sym k.1) e)))
+  frontier_empty members frontier first s none i = let k = node_at i in grind (arith, k.1, none i, s.front k.0)

@@ -1,8 +1,6 @@
 -- Links of nodes in the depth-first search, and what members of a component count.
-use Rattle.std.proofs.Common.{◌≡◌, ℕ, ◌<◌, ◌≤◌, List, length, sym, ap, ◌∙◌, subst, inl, inr, arith}
+use Rattle.std.proofs.Common.{◌≡◌, ℕ, ◌<◌, ◌≤◌, List, length, sym, ap, ◌∙◌, subst, arith}
 use Rattle.std.specs.Prelude.{Some, slice_get, set}
-use Rattle.std.proofs.lemmas.Bool.{cases_eq}
-use Rattle.std.proofs.lemmas.Option.{same_Some}
 use Rattle.sedck_script.specs.Program.{Program}
 use Rattle.sedck_flow.specs.Nodes.{node_index, node_count}
 use Rattle.sedck_flow.specs.declared.graph.Node.{Node}
@@ -21,13 +19,8 @@ module _ (p : Program) (filter : EdgeFilter) where
   -- one node is linked anew
   links_set : (links : List ℕ) → AreLinks p filter links → (n : Node) (to : ℕ) → node_index n < length links
       → ((m : Node) → node_index m ≡ to → Reaches p filter n m) → AreLinks p filter (set links (node_index n) to)
-  links_set links old n to below reached k m is = elim (cases_eq (node_index k) (node_index n)) [
-    | inl same ↦
-        let value : to ≡ node_index m = same_Some _ _ (sym (set_same links (node_index n) to below)
-        ∙ ap (slice_get (set links (node_index n) to)) (sym same) ∙ is) in
-        subst (λ j. Reaches p filter j m) (sym (node_same k n same)) (reached m (sym value))
-    | inr other ↦ old k m (sym (set_other links (node_index n) (node_index k) to other) ∙ is)
-  ]
+  links_set links old n to below reached k m is =
+      grind (arith, set_same links (node_index n) to below, set_other links (node_index n) (node_index k) to, node_same k n, reached m, old k m)
 
   pub linked_order : (before after : Order) → IsOrderOf p filter before → (n : Node) (to index : ℕ) → node_index n ≡ index
       → index < node_count (length p.commands) → IsOrder after → length after.parents.items ≡ length before.parents.items

@@ -1,5 +1,5 @@
 -- The first node of a set from a node on, in the word of its lowest bit.
-use Rattle.std.proofs.Common.{◌≡◌, ◌≢◌, ℕ, zero, suc, ◌+◌, ◌-◌, ◌*◌, ◌/◌, ◌%◌, ◌^◌, ◌<◌, ◌≤◌, min, true, false, List, inl, inr, refl, sym, ap, ◌∙◌, subst, arith}
+use Rattle.std.proofs.Common.{◌≡◌, ◌≢◌, ℕ, ◌+◌, ◌-◌, ◌*◌, ◌/◌, ◌%◌, ◌^◌, ◌<◌, ◌≤◌, min, true, false, List, inl, inr, refl, sym, ap, ◌∙◌, subst, arith}
 use Rattle.std.specs.Prelude.{slice_index, bit_and}
 use Rattle.std.specs.Int.{bit_at, w64, trailing_zeros}
 use Rattle.std.proofs.lemmas.Bool.{cases_lt}
@@ -33,8 +33,7 @@ none_in_word words from j word first none i above below =
     none_in words from j word first 64 (omega arith) (λ k _. ap (λ m. bit_at m k) none ∙ bit_at-zero k) i above (omega (arith, below))
 
 positive : (m : ℕ) → m ≢ 0 → 0 < m
-positive zero h = absurd (h refl)
-positive (suc m) h = omega arith
+positive m h = omega arith
 
 -- the place of the word's lowest bit
 next_at : (words : List ℕ) (from j word : ℕ) → IsFirstWord words from j word → j < 256 → (low : ℕ) → low < 64 → bit_at word low ≡ 1
@@ -47,10 +46,7 @@ next_at words from j word first inside low within some none = (
 )
   where
     above : from ≤ 64 * j + low
-    above = elim (cases_lt (64 * j + low) from) [
-      | inl less ↦ absurd (omega (arith, first.before low within less, some))
-      | inr more ↦ more
-    ]
+    above = grind (arith, first.before low within)
 
 next_in_word : (words : List ℕ) (from j word : ℕ) → IsFirstWord words from j word → j < 256 → word < 2 ^ 64 → word ≢ 0
     → IsNext words from (64 * j + trailing_zeros w64 word)

@@ -3,7 +3,8 @@ use Rattle.std.proofs.Common.{◌≡◌, ◌≢◌, ◌⊎◌, ℕ, zero, suc, �
 use lib.Count.{ones}
 use Rattle.std.specs.Prelude.{slice_index, bit_and, bit_or, ◌==◌}
 use Rattle.std.specs.Int.{bit_at, w64}
-use Rattle.std.proofs.lemmas.Bool.{cases_eq, cases_lt, false≢true}
+use Rattle.std.proofs.lemmas.Bool.{cases_eq}
+use Rattle.std.proofs.lemmas.Bool.Decides.{nat_tests}
 use Rattle.std.proofs.lemmas.Nat.Bits.{bit_at-lt, bit_at-zero, bit_at_set_same, bit_at_set_other, bit_at_clear_same, bit_at_clear_other, bit_at_or}
 use Rattle.std.proofs.lemmas.Nat.{or_lt, and_le_l}
 use Rattle.std.proofs.lemmas.List.{get_or_past}
@@ -15,9 +16,7 @@ abbrev pub bit_of : Bool → ℕ
 bit_of b = cond b 1 0
 
 bit_test : (bit : ℕ) → bit < 2 → bit ≡ bit_of (bit == 1)
-bit_test zero l = refl
-bit_test (suc zero) l = refl
-bit_test (suc (suc bit)) l = absurd (omega arith)
+bit_test bit l = grind (arith, nat_tests)
 
 -- bit k of word j is node 64 * j + k
 pub node_bit : (words : List ℕ) (j k : ℕ) → k < 64 → bit_at (slice_index words j) k ≡ bit_of (has words (64 * j + k))
@@ -25,8 +24,7 @@ unfolding has
 node_bit words j k l =
     let at : (64 * j + k) / 64 ≡ j = omega arith in
     let low : (64 * j + k) % 64 ≡ k = omega arith in
-    bit_test (bit_at (slice_index words j) k) (bit_at-lt (slice_index words j) k)
-    ∙ sym (ap (λ m. bit_of (bit_at (slice_index words m) ((64 * j + k) % 64) == 1)) at ∙ ap (λ m. bit_of (bit_at (slice_index words j) m == 1)) low)
+    rw (at, low) (bit_test (bit_at (slice_index words j) k) (bit_at-lt (slice_index words j) k))
 
 -- a node by its word and bit
 pub at_node : (words : List ℕ) (i : ℕ) → bit_at (slice_index words (i / 64)) (i % 64) ≡ bit_of (has words i)
@@ -35,14 +33,13 @@ at_node words i = bit_test (bit_at (slice_index words (i / 64)) (i % 64)) (bit_a
 
 pub has_by_bit : (words : List ℕ) (i : ℕ) (now : Bool) → bit_at (slice_index words (i / 64)) (i % 64) ≡ bit_of now → has words i ≡ now
 unfolding has
-has_by_bit words i true e = ap (λ m. m == 1) e
-has_by_bit words i false e = ap (λ m. m == 1) e
+has_by_bit words i now e = grind (arith, nat_tests)
 
 pub has_at : (words : List ℕ) (j k : ℕ) (now : Bool) → k < 64 → bit_at (slice_index words j) k ≡ bit_of now → has words (64 * j + k) ≡ now
 has_at words j k now l e =
     let at : (64 * j + k) / 64 ≡ j = omega arith in
     let low : (64 * j + k) % 64 ≡ k = omega arith in
-    has_by_bit words (64 * j + k) now (ap (λ m. bit_at (slice_index words m) ((64 * j + k) % 64)) at ∙ ap (λ m. bit_at (slice_index words j) m) low ∙ e)
+    has_by_bit words (64 * j + k) now (rw (at, low) e)
 
 -- no node lies after the words
 pub none_behind : (words : List ℕ) (i : ℕ) → length words ≤ i / 64 → has words i ≡ false
@@ -152,25 +149,19 @@ both_set left right both is_left is_right words = record {
 
 pub both_union : (left right both : List ℕ) → IsNodeSet left → IsNodeSet right → AreWordsOfBoth left right both → IsUnion left right both
 both_union left right both is_left is_right words = record {
-  has_left = λ i x. by_bit i (within left is_left i x) (has left i) (has right i) (has both i) refl refl refl (inl x);
-  has_right = λ i x. by_bit i (within right is_right i x) (has left i) (has right i) (has both i) refl refl refl (inr x);
-  no_other = λ i x. from_bit i (within both (both_set left right both is_left is_right words) i x) (has left i) (has right i) refl refl x;
+  has_left = λ i x. by_bits (has left i) (has right i) (has both i) (both_bit left right both is_left words i (within left is_left i x)) (inl x);
+  has_right = λ i x. by_bits (has left i) (has right i) (has both i) (both_bit left right both is_left words i (within right is_right i x)) (inr x);
+  no_other = λ i x. from_bit (has left i) (has right i) (has both i)
+      (both_bit left right both is_left words i (within both (both_set left right both is_left is_right words) i x)) x;
 }
   where
     within : (a : List ℕ) → IsNodeSet a → (i : ℕ) → has a i ≡ true → i / 64 < 256
-    within a members i x = elim (cases_lt (i / 64) 256) [
-      | inl less ↦ less
-      | inr more ↦ absurd (false≢true (sym (none_behind a i (omega (arith, more, members.long))) ∙ x))
-    ]
+    within a members i x = grind (arith, none_behind a i, members.long)
 
-    by_bit : (i : ℕ) → i / 64 < 256 → (l r b : Bool) → has left i ≡ l → has right i ≡ r → has both i ≡ b → (l ≡ true) ⊎ (r ≡ true) → b ≡ true
-    by_bit i inside l r true x y z h = refl
-    by_bit i inside true r false x y z h = absurd (omega (arith, both_bit left right both is_left words i inside, ap bit_of x, ap bit_of z))
-    by_bit i inside false true false x y z h = absurd (omega (arith, both_bit left right both is_left words i inside, ap bit_of y, ap bit_of z))
-    by_bit i inside false false false x y z h = elim h [ inl e ↦ absurd (false≢true e) | inr e ↦ absurd (false≢true e) ]
+    by_bits : (l r b : Bool) → bit_of b ≡ max (bit_of l) (bit_of r) → (l ≡ true) ⊎ (r ≡ true) → b ≡ true
+    by_bits l r b e h = grind arith
 
-    from_bit : (i : ℕ) → i / 64 < 256 → (l r : Bool) → has left i ≡ l → has right i ≡ r → has both i ≡ true → (has left i ≡ true) ⊎ (has right i ≡ true)
-    from_bit i inside true r x y z = inl x
-    from_bit i inside false true x y z = inr y
-    from_bit i inside false false x y z =
-        absurd (omega (arith, both_bit left right both is_left words i inside, ap bit_of x, ap bit_of y, ap bit_of z))
+    from_bit : (l r b : Bool) → bit_of b ≡ max (bit_of l) (bit_of r) → b ≡ true → (l ≡ true) ⊎ (r ≡ true)
+    from_bit true r b e h = inl refl
+    from_bit false true b e h = inr refl
+    from_bit false false b e h = grind arith

@@ -1,8 +1,8 @@
 -- Rows as sets: what their counts say of their nodes.
-use Rattle.std.proofs.Common.{◌≡◌, ◌≢◌, ℕ, suc, ◌+◌, ◌*◌, ◌/◌, ◌%◌, ◌<◌, ◌≤◌, Bool, true, false, List, replicate, inl, inr, refl, sym, ap, ◌∙◌, arith}
+use Rattle.std.proofs.Common.{◌≡◌, ◌≢◌, ℕ, suc, ◌+◌, ◌*◌, ◌/◌, ◌%◌, ◌<◌, ◌≤◌, Bool, true, false, List, replicate, sym, ap, ◌∙◌, arith}
 use Rattle.std.specs.Prelude.{slice_index, count_ones}
 use Rattle.std.specs.Int.{bit_at}
-use Rattle.std.proofs.lemmas.Bool.{cases_lt, false≢true, true≢false}
+use Rattle.std.proofs.lemmas.Bool.{false≢true, true≢false}
 use Rattle.std.proofs.lemmas.Nat.{ones-le}
 use Rattle.sedck_search.specs.Rows.{bit_count}
 use Rattle.sedck_search.specs.Private.NodeSet.{has, IsNodeSet, HasChanged}
@@ -29,8 +29,7 @@ abbrev IsWithin : List ℕ → List ℕ → Type 0
 IsWithin a b = (i : ℕ) → has a i ≡ true → has b i ≡ true
 
 bit_within : (x y : Bool) → (x ≡ true → y ≡ true) → bit_of x ≤ bit_of y
-bit_within true y h = omega (arith, ap bit_of (h refl))
-bit_within false y h = omega arith
+bit_within x y h = grind arith
 
 bits_within : (a b : List ℕ) → IsWithin a b → (j k : ℕ) → k < 64 → bit_at (slice_index a j) k ≤ bit_at (slice_index b j) k
 bits_within a b h j k l =
@@ -48,10 +47,7 @@ fewer_or_same a b x y h =
 
 -- a node of a set lies below 16,384
 pub node_inside : (a : List ℕ) → IsNodeSet a → (i : ℕ) → has a i ≡ true → i / 64 < 256
-node_inside a members i h = elim (cases_lt (i / 64) 256) [
-  | inl less ↦ less
-  | inr more ↦ absurd (false≢true (sym (none_behind a i (omega (arith, more, members.long))) ∙ h))
-]
+node_inside a members i h = grind (arith, none_behind a i, members.long)
 
 ones_less : (a b : List ℕ) → IsNodeSet a → IsNodeSet b → IsWithin a b → (i : ℕ) → i / 64 < 256 → has a i ≡ false → has b i ≡ true
     → ones_at a (i / 64) < ones_at b (i / 64)
@@ -71,11 +67,7 @@ strictly_fewer a b x y h i none some =
 
 pub same_nodes : (a b : List ℕ) → IsNodeSet a → IsNodeSet b → ((i : ℕ) → has a i ≡ true → has b i ≡ true) → bit_count a ≡ bit_count b → (i : ℕ)
     → has b i ≡ true → has a i ≡ true
-same_nodes a b x y h same i some = go (has a i) refl
-  where
-    go : (found : Bool) → has a i ≡ found → has a i ≡ true
-    go true e = e
-    go false e = absurd (omega (arith, same, strictly_fewer a b x y h i e some))
+same_nodes a b x y h same i some = grind (arith, strictly_fewer a b x y h i)
 
 -- ---- The count of one set
 

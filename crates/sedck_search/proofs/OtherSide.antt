@@ -1,7 +1,7 @@
 -- Where no command asks for the last line, edges on which no line is read lead alike before it and on it.
 use Rattle.std.proofs.Common.{◌≡◌, ◌≢◌, ℕ, Bool, true, false, List, [], ◌∷◌, length, refl, ap, inl, inr}
 use Rattle.std.specs.Prelude.{Option, Some, None, MatchOption, MatchBool, slice_get, if◌then◌else◌}
-use Rattle.sedck_script.specs.Program.{Last, Address, NoAddress, One, Two, Verb, Block, Branch, Change, Delete, DeleteFirstLine, Exchange, Get, GetAppend, Next, NextAppend, Quit, Substitute, Test, Command, Program}
+use Rattle.sedck_script.specs.Program.{Last, Address, One, Two, Verb, Block, Change, Delete, DeleteFirstLine, Next, NextAppend, Quit, Substitute, Test, Command, Program}
 use Rattle.sedck_flow.specs.Nodes.{start, moved_to, next, with_flag}
 use Rattle.sedck_flow.specs.Flow.{MaySelectAt, MayNotSelectAt, ReadsLine, VerbEdge, node_past, CommandEdge, Flow}
 use Rattle.sedck_flow.specs.declared.graph.Node.{Node}
@@ -43,17 +43,12 @@ tests_turned target n to false e = ap turned e
 
 verb_turned : (p : Program) (a : Address) (v : Verb) (n : Node) (kind : Kind) (to : Node) → kind ≢ Consume → VerbEdge p a v n kind to
     → VerbEdge p a v (turned n) kind (turned to)
-verb_turned p a (Branch target) n kind to unread (is, e) = (is, ap turned e)
 verb_turned p (Two first end) (Change text) n kind to unread (inl h) = absurd (unread h.1)
 verb_turned p (Two first end) (Change text) n kind to unread (inr (is, e)) = inr (is, ap turned e)
-verb_turned p NoAddress (Change text) n kind to unread h = absurd (unread h.1)
-verb_turned p (One place) (Change text) n kind to unread h = absurd (unread h.1)
+verb_turned p _ (Change text) n kind to unread h = absurd (unread h.1)
 verb_turned p a Delete n kind to unread h = absurd (unread h.1)
 verb_turned p a DeleteFirstLine n kind to unread (inl h) = absurd (unread h.1)
 verb_turned p a DeleteFirstLine n kind to unread (inr (is, flag, kept, e)) = inr (is, flag, kept, ap turned e)
-verb_turned p a Exchange n kind to unread (is, e) = (is, ap turned e)
-verb_turned p a Get n kind to unread (is, e) = (is, ap turned e)
-verb_turned p a GetAppend n kind to unread (is, e) = (is, ap turned e)
 verb_turned p a Next n kind to unread (flag, kept, h) = absurd (unread h.1)
 verb_turned p a NextAppend n kind to unread (flag, kept, h) = absurd (unread h.1)
 verb_turned p a Quit n kind to unread h = h
@@ -88,13 +83,7 @@ module _ (p : Program) (never : AsksNotForLast p) where
   followed_unread : (filter : EdgeFilter) → filter ≢ Every → (kind : Kind) → IsFollowed filter kind → kind ≢ Consume
   followed_unread Every other kind h = absurd (other refl)
   followed_unread Unread other kind h = h
-  followed_unread Kept other kind h = λ reads. differ (h' kind h reads)
-    where
-      h' : (k : Kind) → k ≡ Keep → k ≡ Consume → Keep ≡ Consume
-      h' k is reads = cc
-
-      differ : Keep ≡ Consume → ⊥
-      differ is = cc
+  followed_unread Kept other kind h = λ reads. let keeps : kind ≡ Keep = h in cc
 
   module _ (filter : EdgeFilter) (other : filter ≢ Every) where
     path_turned : (from : Node) (path : List (Kind × Node)) (to : Node) → IsPath p from path to → AreFollowed filter path

@@ -38,10 +38,9 @@ ranks_from-length (f ∷ firsts) (s ∷ seconds) e = ap suc (ranks_from-length f
 pub ranks_from-push : (firsts seconds : List ℕ) (first second : ℕ) → length firsts ≡ length seconds
     → ranks_from (firsts ++ first ∷ []) (seconds ++ second ∷ []) ≡ ranks_from firsts seconds ++ ranks_of_counts first second ∷ []
 ranks_from-push [] [] first second e = refl
-ranks_from-push [] (s ∷ seconds) first second e = absurd (omega (arith, e))
-ranks_from-push (f ∷ firsts) [] first second e = absurd (omega (arith, e))
 ranks_from-push (f ∷ firsts) (s ∷ seconds) first second e =
     ap (λ l. ranks_of_counts f s ∷ l) (ranks_from-push firsts seconds first second (let e' : length firsts ≡ length seconds = omega (arith, e) in e'))
+ranks_from-push _ _ first second e = absurd (omega (arith, e))
 
 -- the ranks at a place are of the counts there
 ranks_from-get : (firsts seconds : List ℕ) (i first second : ℕ) → slice_get firsts i ≡ Some first → slice_get seconds i ≡ Some second
@@ -80,13 +79,10 @@ module _ (p : Program) (script : IsScript p) (firsts seconds : List ℕ) (are_fi
         first_lower grows = elim (cases_lt f'.count f.count) [
           | inl less ↦ less
           | inr more ↦
-              let same : f'.count ≡ f.count = omega (arith, more, first_falls (λ reads. differ Grow Consume (sym grows ∙ reads))) in
+              let same : f'.count ≡ f.count = omega (arith, more, first_falls (λ reads. cc)) in
               absurd (growing e
               (record { is_edge = flow; is_kind = grows; count = f.count; positive = f.positive; before = f.at; after = f'.at ∙ ap Some same }))
         ]
-          where
-            differ : (k l : Kind) → Grow ≡ Consume → ⊥
-            differ k l is = cc
 
         second_lower : e.kind ≡ Keep → s'.count < s.count
         second_lower keeps = elim (cases_lt s'.count s.count) [
@@ -105,11 +101,8 @@ module _ (p : Program) (script : IsScript p) (firsts seconds : List ℕ) (are_fi
         lowers Shorten is = first_falls (λ reads. cc)
         lowers Keep is = elim (cases_lt f'.count f.count) [
           | inl less ↦ inl less
-          | inr more ↦ inr (omega (arith, more, first_falls (λ reads. apart (sym is ∙ reads))), second_lower is)
+          | inr more ↦ inr (omega (arith, more, first_falls (λ reads. cc)), second_lower is)
         ]
-          where
-            apart : Keep ≡ Consume → ⊥
-            apart same = cc
         lowers Grow is = first_lower is
 
       meets_from : (e : Edge) → Flow p e → (IsReachable p e.from × HasCount p Unread firsts e.from) ⊎ HasNoCount p firsts e.from → (before : ℕ × ℕ)

@@ -1,7 +1,6 @@
 -- The edges of a node, scan over one after another.
 use Rattle.std.proofs.Common.{◌≡◌, ℕ, zero, suc, ◌<◌, ◌≤◌, length, List, [], ◌∷◌, ◌++◌, Contains, ◌≢◌, refl, sym, ap, ◌∙◌, subst, inl, inr, append-nil, append_assoc, arith}
 use Rattle.std.specs.Prelude.{Some, slice_get, get_or, set}
-use Rattle.std.proofs.lemmas.Bool.{cases_lt}
 use Rattle.std.proofs.lemmas.List.{length-set, get_or-set_same, get_or-set_other}
 use Rattle.std.proofs.lemmas.Option.{slice_get-get_or, slice_get_past, get_or_from_slice_get}
 use Rattle.std.proofs.lemmas.List.Elements.{Contains-push_cases, Contains-append_right}
@@ -81,8 +80,7 @@ pub set_same : (xs : List ℕ) (i v : ℕ) → i < length xs → slice_get (set 
 set_same xs i v below = slice_get-get_or (set xs i v) i 0 (subst (λ k. i < k) (sym (length-set xs i v)) below) ∙ ap Some (get_or-set_same xs i v 0 below)
 
 pub set_other : (xs : List ℕ) (i j v : ℕ) → j ≢ i → slice_get (set xs i v) j ≡ slice_get xs j
-set_other xs i j v other = elim (cases_lt j (length xs)) [
-  | inl below ↦ slice_get-get_or (set xs i v) j 0 (subst (λ k. j < k) (sym (length-set xs i v)) below) ∙ ap Some (get_or-set_other xs i j v 0 other)
-      ∙ sym (slice_get-get_or xs j 0 below)
-  | inr past ↦ slice_get_past (set xs i v) j (subst (λ k. k ≤ j) (sym (length-set xs i v)) past) ∙ sym (slice_get_past xs j past)
-]
+set_other xs i j v other =
+    let kept = get_or-set_other xs i j v 0 other in
+    let long = length-set xs i v in
+    grind (arith, slice_get-get_or xs j 0, slice_get-get_or (set xs i v) j 0, slice_get_past xs j, slice_get_past (set xs i v) j)

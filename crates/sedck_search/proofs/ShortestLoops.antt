@@ -23,13 +23,11 @@ use Rattle.sedck_search.proofs.DistanceLemmas.{distance_least}
 -- one edge more at the end
 walk_edges-push : (nodes : List Node) (kinds : List Kind) (node : Node) (kind : Kind) → length nodes ≡ suc (length kinds)
     → walk_edges (nodes ++ node ∷ []) (kinds ++ kind ∷ []) ≡ walk_edges nodes kinds ++ (kind, node) ∷ []
-walk_edges-push [] kinds node kind e = absurd (omega (arith, e))
 walk_edges-push (first ∷ []) [] node kind e = refl
-walk_edges-push (first ∷ []) (k ∷ kinds) node kind e = absurd (omega (arith, e))
-walk_edges-push (first ∷ next ∷ nodes) [] node kind e = absurd (omega (arith, e))
 walk_edges-push (first ∷ next ∷ nodes) (k ∷ kinds) node kind e =
     ap (λ edges. (k, next) ∷ edges) (walk_edges-push (next ∷ nodes) kinds node kind
     (let e' : length (next ∷ nodes) ≡ suc (length kinds) = omega (arith, e) in e'))
+walk_edges-push _ _ node kind e = absurd (omega (arith, e))
 
 pub walk-push : (nodes : List Node) (kinds : List Kind) (n : Node) (walk : List (Kind × Node)) (node : Node) (kind : Kind) → IsWalk nodes kinds n walk
     → IsWalk (nodes ++ node ∷ []) (kinds ++ kind ∷ []) n (walk ++ (kind, node) ∷ [])

@@ -26,44 +26,35 @@ pub total_fewer : (n : ℕ) (f g : ℕ → ℕ) → ((i : ℕ) → i < n → f i
 unfolding total
 total_fewer zero f g h = omega arith
 total_fewer (suc n) f g h =
-    let first : f 0 ≤ g 0 = h 0 (omega arith) in
-    let others : total (λ i. f (suc i)) n ≤ total (λ i. g (suc i)) n = total_fewer n (λ i. f (suc i)) (λ i. g (suc i)) (λ i l. h (suc i) (omega arith)) in
-    omega (arith, first, others)
+    omega (arith, h 0 (omega arith), total_fewer n (λ i. f (suc i)) (λ i. g (suc i)) (λ i l. h (suc i) (omega arith)))
 
 -- where one summand is larger and no other is smaller
 pub total_less : (n : ℕ) (f g : ℕ → ℕ) → ((i : ℕ) → i < n → f i ≤ g i) → (m : ℕ) → m < n → f m < g m → total f n < total g n
 unfolding total
 total_less zero f g h m l less = absurd (omega arith)
 total_less (suc n) f g h zero l less =
-    let others : total (λ i. f (suc i)) n ≤ total (λ i. g (suc i)) n = total_fewer n (λ i. f (suc i)) (λ i. g (suc i)) (λ i l. h (suc i) (omega arith)) in
-    omega (arith, less, others)
+    omega (arith, less, total_fewer n (λ i. f (suc i)) (λ i. g (suc i)) (λ i l. h (suc i) (omega arith)))
 total_less (suc n) f g h (suc m) l less =
-    let first : f 0 ≤ g 0 = h 0 (omega arith) in
-    let others : total (λ i. f (suc i)) n < total (λ i. g (suc i)) n =
-    total_less n (λ i. f (suc i)) (λ i. g (suc i)) (λ i l. h (suc i) (omega arith)) m (omega arith) less in
-    omega (arith, first, others)
+    omega (arith, h 0 (omega arith), total_less n (λ i. f (suc i)) (λ i. g (suc i)) (λ i l. h (suc i) (omega arith)) m (omega arith) less)
 
 -- where one summand is larger by one and all others are the same
 pub total_one_more : (n : ℕ) (f g : ℕ → ℕ) (m : ℕ) → m < n → ((i : ℕ) → i < n → i ≢ m → f i ≡ g i) → g m ≡ suc (f m) → total g n ≡ suc (total f n)
 unfolding total
 total_one_more zero f g m l h more = absurd (omega arith)
 total_one_more (suc n) f g zero l h more =
-    let others : total (λ i. f (suc i)) n ≡ total (λ i. g (suc i)) n =
-    total_same n (λ i. f (suc i)) (λ i. g (suc i)) (λ i l. h (suc i) (omega arith) (λ e. absurd (omega (arith, e)))) in
-    omega (arith, more, others)
+    omega (arith, more, total_same n (λ i. f (suc i)) (λ i. g (suc i)) (λ i l. h (suc i) (omega arith) (λ e. absurd (omega (arith, e)))))
 total_one_more (suc n) f g (suc m) l h more =
-    let first : f 0 ≡ g 0 = h 0 (omega arith) (λ e. absurd (omega (arith, e))) in
-    let others : total (λ i. g (suc i)) n ≡ suc (total (λ i. f (suc i)) n) =
-    total_one_more n (λ i. f (suc i)) (λ i. g (suc i)) m (omega arith) (λ i l other. h (suc i) (omega arith) (λ e. other (omega (arith, e)))) more in
-    omega (arith, first, others)
+    omega (
+      arith,
+      h 0 (omega arith) (λ e. absurd (omega (arith, e))),
+      total_one_more n (λ i. f (suc i)) (λ i. g (suc i)) m (omega arith) (λ i l other. h (suc i) (omega arith) (λ e. other (omega (arith, e)))) more,
+    )
 
 pub total_within : (n : ℕ) (f : ℕ → ℕ) (most : ℕ) → ((i : ℕ) → i < n → f i ≤ most) → total f n ≤ most * n
 unfolding total
 total_within zero f most h = omega arith
 total_within (suc n) f most h =
-    let first : f 0 ≤ most = h 0 (omega arith) in
-    let others : total (λ i. f (suc i)) n ≤ most * n = total_within n (λ i. f (suc i)) most (λ i l. h (suc i) (omega arith)) in
-    omega (arith, first, others)
+    omega (arith, h 0 (omega arith), total_within n (λ i. f (suc i)) most (λ i l. h (suc i) (omega arith)))
 
 -- ---- Counts as sums
 

@@ -1,11 +1,11 @@
 -- A set of nodes, each turned to the other side of the last line, has as many nodes.
-use Rattle.std.proofs.Common.{◌≡◌, ◌≢◌, ◌⊎◌, ℕ, zero, suc, ◌+◌, ◌*◌, ◌/◌, ◌<◌, ◌≤◌, Bool, true, false, List, replicate, set, refl, sym, ap, ◌∙◌, subst, inl, inr, arith}
-use Rattle.std.specs.Prelude.{not, ◌%◌, ◌==◌, if◌then◌else◌}
-use Rattle.std.proofs.lemmas.Bool.{cases_eq, cases_lt}
+use Rattle.std.proofs.Common.{◌≡◌, ◌≢◌, ℕ, zero, suc, ◌+◌, ◌*◌, ◌/◌, ◌<◌, ◌≤◌, Bool, true, false, List, replicate, set, refl, sym, ap, ◌∙◌, subst, arith}
+use Rattle.std.specs.Prelude.{◌%◌}
+use Rattle.std.proofs.lemmas.Bool.Decides.{nat_tests}
 use Rattle.sedck_script.specs.Program.{Program}
 use Rattle.sedck_flow.specs.Nodes.{node_index, nth_node}
 use Rattle.sedck_flow.specs.declared.graph.Node.{Node}
-use Rattle.sedck_flow.proofs.NodeLemmas.{node_same, index-nth, parts-nth}
+use Rattle.sedck_flow.proofs.NodeLemmas.{node_same, index-nth}
 use Rattle.sedck_search.specs.Rows.{bit_count}
 use Rattle.sedck_search.specs.Private.NodeSet.{has, IsNodeSet, HasChanged}
 use Rattle.sedck_search.specs.Private.OtherSide.{turned, AsksNotForLast}
@@ -29,9 +29,6 @@ record IsRowOf (test : ℕ → Bool) (n : ℕ) (members : List ℕ) : Type 0 whe
   passes : (i : ℕ) → i < n → test i ≡ true → has members i ≡ true
   counts : bit_count members ≡ counted test n
 
-less_or_same : (i n : ℕ) → i < suc n → (i < n) ⊎ (i ≡ n)
-less_or_same i n below = elim (cases_lt i n) [ inl less ↦ inl less | inr more ↦ inr (omega (arith, below, more)) ]
-
 none_of : (test : ℕ → Bool) → IsRowOf test zero (replicate 256 0)
 unfolding counted
 none_of test = record {
@@ -47,10 +44,7 @@ unfolding counted
 without test n members h fails = record {
   is_set = h.is_set;
   below = λ i x. (omega (arith, (h.below i x).0), (h.below i x).1);
-  passes = λ i less passes. elim (less_or_same i n less) [
-    | inl below ↦ h.passes i below passes
-    | inr same ↦ absurd (not_both passes (ap test same ∙ fails))
-  ];
+  passes = λ i less passes. grind (arith, h.passes i);
   counts = omega (arith, h.counts, ap bit_of fails);
 }
 
@@ -65,23 +59,16 @@ module _ (test : ℕ → Bool) (n : ℕ) (members : List ℕ) (h : IsRowOf test 
   changed : HasChanged members more n true
   changed = inserted members n inside h.is_set
 
-  absent : (b : Bool) → has members n ≡ b → has members n ≡ false
-  absent false e = e
-  absent true e = absurd (omega (arith, (h.below n e).0))
+  absent : has members n ≡ false
+  absent = grind (arith, h.below n)
 
   with_number : IsRowOf test (suc n) more
   unfolding counted
   with_number = record {
     is_set = is_more;
-    below = λ i x. elim (cases_eq i n) [
-      | inl same ↦ (omega (arith, same), ap test same ∙ passed)
-      | inr other ↦ let old = h.below i (sym (changed.others i other) ∙ x) in (omega (arith, old.0), old.1)
-    ];
-    passes = λ i less passes. elim (less_or_same i n less) [
-      | inl below ↦ changed.others i (λ same. omega (arith, below, same)) ∙ h.passes i below passes
-      | inr same ↦ ap (has more) same ∙ changed.at
-    ];
-    counts = omega (arith, h.counts, ap bit_of passed, inserted_count members more h.is_set is_more n changed (absent (has members n) refl));
+    below = λ i x. grind (arith, changed.others i, h.below i);
+    passes = λ i less passes. grind (arith, changed.at, changed.others i, h.passes i);
+    counts = omega (arith, h.counts, ap bit_of passed, inserted_count members more h.is_set is_more n changed absent);
   }
 
 row_of : (test : ℕ → Bool) (n : ℕ) → n ≤ 16384 → (members : List ℕ) × IsRowOf test n members
@@ -105,27 +92,16 @@ row_counts a is_set =
 turned_index : ℕ → ℕ
 turned_index i = node_index (turned (nth_node i))
 
-last_bit : (i : ℕ) → (if i % 2 == 1 then 1 else 0) ≡ i % 2
-last_bit i = (parts-nth (nth_node i) i (index-nth i)).2
-
-other_bit : (b : Bool) → (if not b then 1 else 0) + (if b then 1 else 0) ≡ 1
-other_bit true = refl
-other_bit false = refl
-
 turned_is : (i : ℕ) → turned_index i + 2 * (i % 2) ≡ i + 1
 unfolding turned_index
-turned_is i = omega (arith, index-nth i, last_bit i, other_bit (i % 2 == 1))
+turned_is i = grind (arith, nat_tests)
 
 turned_at : (n : Node) → turned_index (node_index n) ≡ node_index (turned n)
 unfolding turned_index
 turned_at n = ap (λ m. node_index (turned m)) (node_same (nth_node (node_index n)) n (index-nth (node_index n)))
 
-not_not : (b : Bool) → not (not b) ≡ b
-not_not true = refl
-not_not false = refl
-
 turned_twice : (n : Node) → turned (turned n) ≡ n
-turned_twice n = ap (λ last. record n { last = last }) (not_not n.last)
+turned_twice n = grind arith
 
 -- two at a time, as many pass
 double : ℕ → ℕ

@@ -7,7 +7,7 @@ use sedck_flow::Kind;
 use sedck_script::Script;
 
 /// Which edges are followed from node to node.
-#[derive(Clone, Copy, Debug, PartialEq, Eq)]
+#[derive(Clone, Copy, PartialEq, Eq)]
 pub(crate) enum EdgeFilter {
     /// Those of every kind.
     Every,

@@ -15,7 +15,7 @@ pub struct ShellWord {
 }
 
 /// Whether a word is a pattern, in whose place the names of files come that match it (XCU 2.6.6).
-#[derive(Clone, Copy, Debug, PartialEq, Eq)]
+#[derive(Clone, Copy, PartialEq, Eq)]
 pub enum Pattern {
     /// It isn't.
     None,
@@ -37,7 +37,7 @@ pub struct ShellCommand {
 }
 
 /// Where in its text a command is.
-#[derive(Clone, Copy, Debug, Default, PartialEq, Eq)]
+#[derive(Clone, Copy, Default)]
 pub struct Site {
     /// The number of the function whose body has it; 0 where it is in none. The text's functions have numbers from 1 on.
     pub body: usize,

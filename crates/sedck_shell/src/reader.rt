@@ -7,7 +7,7 @@ use sedck_origin::{Result, Text, Unit, Way, is_name_byte, name_length};
 use std::alloc::Global;
 
 /// How a text is made into shell text before it runs.
-#[derive(Clone, Copy, Debug, PartialEq, Eq)]
+#[derive(Clone, Copy, PartialEq, Eq)]
 pub enum Dialect {
     /// Not at all.
     Plain,
@@ -18,7 +18,7 @@ pub enum Dialect {
 }
 
 /// How a text is read.
-#[derive(Clone, Copy, Debug, PartialEq, Eq)]
+#[derive(Clone, Copy, PartialEq, Eq)]
 pub struct Form {
     pub dialect: Dialect,
     /// Whether the shell reads `$'..'`, as bash does and dash doesn't.

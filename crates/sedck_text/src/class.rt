@@ -7,7 +7,7 @@ ghost use Rattle.sedck_text.specs.Classes.{is_of};
 use memchr::memchr;
 
 /// Bytes that belong together in a script (POSIX.1-2024 XCU sed).
-#[derive(Clone, Copy, Debug, PartialEq, Eq)]
+#[derive(Clone, Copy)]
 pub enum Class {
     /// A space or a tab.
     Blank,

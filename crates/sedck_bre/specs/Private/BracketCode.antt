@@ -2,7 +2,8 @@
 use Rattle.std.specs.Prelude.{◌≡◌, ℕ, ◌-◌, ◌<◌, ◌≤◌, not, Bool, List, ◌++◌, codes, length, drop, nat_eq, if◌then◌else◌, Option, Some, None, Result, Ok, Err}
 use Rattle.std.specs.List.{list_any, starts_with}
 use Rattle.sedck_bre.specs.Brackets as brackets
-use Rattle.sedck_bre.specs.Brackets.{class_name, in_element}
+use Rattle.sedck_bre.specs.Brackets.{class_row, in_element}
+use Rattle.sedck_bre.specs.Private.BracketReading.{class_name}
 use Rattle.sedck_bre.specs.Faults.{HasOneAt}
 use Rattle.sedck_bre.specs.Private.Sets.{HasJust}
 use Rattle.sedck_bre.specs.declared.brackets.elements.Class.{Class}
@@ -25,6 +26,9 @@ class_of Punct = brackets.punct
 class_of Graph = brackets.graph
 class_of Print = brackets.print
 class_of Cntrl = brackets.cntrl
+
+abbrev pub in_class : brackets.Class → ℕ → Bool
+in_class class = (class_row class).1
 
 abbrev pub element_of : Element → brackets.Element
 element_of (One c) = brackets.One c

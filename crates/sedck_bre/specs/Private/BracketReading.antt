@@ -3,7 +3,7 @@ use Rattle.std.specs.Prelude.{ℕ, zero, suc, ◌+◌, ◌-◌, ◌==◌, nat_eq
 use Rattle.std.specs.List.{starts_with}
 use Rattle.sedck_text.specs.Text.{begins}
 use Rattle.sedck_bre.specs.Tree.{bytes_where}
-use Rattle.sedck_bre.specs.Brackets.{Class, upper, lower, alpha, digit, alnum, xdigit, space, blank, punct, graph, print, cntrl, class_name, Element, One, Range, Members, is_mistakable, is_listed}
+use Rattle.sedck_bre.specs.Brackets.{Class, upper, lower, alpha, digit, alnum, xdigit, space, blank, punct, graph, print, cntrl, class_row, Element, One, Range, Members, is_mistakable, is_listed}
 use Rattle.sedck_bre.specs.Private.Reading.{◌>>=◌}
 
 -- one byte that isn't the mark, the mark and a `]`
@@ -35,6 +35,9 @@ ranges _ = false
 
 abbrev pub no_range : Element × List ℕ → Option (Element × List ℕ)
 no_range (e, text) = if ranges text then None else Some (e, text)
+
+abbrev pub class_name : Class → List ℕ
+class_name class = (class_row class).0
 
 abbrev pub class_from : List Class → List ℕ → Option (Element × List ℕ)
 class_from [] text = None
@@ -110,6 +113,10 @@ clear_of text (es, rest) = if is_mistakable (inside_of text rest) then None else
 -- all elements from here on, which begin a list
 abbrev pub elements_of : List ℕ → Option (List Element × List ℕ)
 elements_of text = elements_at (length text + 1) true text
+
+-- a `^` after the bracket makes the complement
+abbrev pub opening : Bool → List ℕ
+opening complement = if complement then codes "[^" else codes "["
 
 -- the set of the elements, or its complement, up to the closing bracket, and what follows it
 abbrev pub set_at : Bool → List ℕ → Option (List ℕ × List ℕ)

@@ -2,10 +2,10 @@
 
 ghost use Rattle.std.specs.Prelude.{◌≡◌, ℕ, ◌==◌, ◌≤◌, length, drop, true, IsTrue, IfOk, IfErr, Err};
 ghost use Rattle.sedck_text.specs.Text.{begins};
-ghost use Rattle.sedck_bre.specs.Brackets.{in_class, in_element, punct};
+ghost use Rattle.sedck_bre.specs.Brackets.{in_element, punct};
 ghost use Rattle.sedck_bre.specs.Private.Sets.{HasJust};
 ghost use Rattle.sedck_bre.specs.Private.BracketReading.{ranges, no_range, range_end_at, byte_or_range_at, whole_class_at, equivalents_at, last_dash_at, element_at};
-ghost use Rattle.sedck_bre.specs.Private.BracketCode.{class_of, element_of, closed_name, Reads, IsTaken, HasNoEscape, IsFlawIn};
+ghost use Rattle.sedck_bre.specs.Private.BracketCode.{class_of, element_of, in_class, closed_name, Reads, IsTaken, HasNoEscape, IsFlawIn};
 
 use super::sets::{range, union};
 use super::symbols::{Flaw, missing_end, read_byte, read_class, read_symbol};

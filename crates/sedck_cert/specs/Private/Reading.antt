@@ -1,13 +1,13 @@
 -- Words for the reader alone.
-use Rattle.std.specs.Prelude.{◌≡◌, ℕ, zero, suc, ◌+◌, ◌≤◌, List, [], ◌∷◌, ◌++◌, length, Option, None, Some, decimal, codes}
+use Rattle.std.specs.Prelude.{◌≡◌, ℕ, ◌+◌, ◌≤◌, List, [], ◌∷◌, ◌++◌, length, Option, None, Some, decimal, codes}
 use Rattle.std.specs.Borrow.{Bor}
 use Rattle.sedck_text.specs.Bytes.{newline}
 use Rattle.sedck_script.specs.Names.{IsName}
 use Rattle.sedck_cert.specs.Private.Cuts.{IsCut}
 use Rattle.sedck_cert.specs.Certificate.{Certificate}
-use Rattle.sedck_cert.specs.Text.{header, node_text}
+use Rattle.sedck_cert.specs.Text.{header, node_texts, joined_lines}
 use Rattle.sedck_cert.specs.declared.versions.Version.{Version}
-use Rattle.sedck_cert.specs.Faults.{Due, Names, Node, Name, AreDue, IsRefused, ComesAfter, after_list, list_word, fault_at, joined_lines}
+use Rattle.sedck_cert.specs.Faults.{Due, AreDue, IsRefused, ComesAfter, list_word, fault_at}
 use Rattle.sedck_cert.specs.declared.reading.names.Files.{Files}
 use Rattle.sedck_cert.specs.declared.reading.names.Files.TheVariants.{Reads, Writes}
 use Rattle.sedck_cert.specs.declared.reading.lines.Lines.{Lines}
@@ -34,24 +34,9 @@ pub record Stops (v : Version) (due : Due) (old : Lines) (fault : CertFault) : T
   pub is_refused : IsRefused v wrong rest
   pub is_fault : fault ≡ fault_at wrong (old.number + length before)
 
--- the lines of the nodes from this one on
-abbrev pub node_texts : Version → ℕ → List (Option (ℕ × ℕ)) → List (List ℕ)
-node_texts v node [] = []
-node_texts v node (ranks ∷ more) = node_text v node ranks ∷ node_texts v (suc node) more
-
--- due where this many nodes are left
-abbrev pub nodes_due : ℕ → ℕ → Due
-nodes_due node zero = Names Reads 0
-nodes_due node (suc left) = Node node left
-
 -- the lines of a list
 abbrev pub list_texts : Files → List (List ℕ) → List (List ℕ)
 list_texts files names = (list_word files ++ decimal (length names)) ∷ names
-
--- due where this many names are left
-abbrev pub names_due : Files → ℕ → List (List ℕ) → ℕ → Due
-names_due files zero before size = after_list files size
-names_due files (suc left) before size = Name files (suc left) before size
 
 -- the name before, if there is one
 abbrev pub one_before : Option (Bor (List ℕ)) → List (List ℕ)

@@ -1,13 +1,13 @@
 //! The lines in front of the nodes, and the last one.
 
-ghost use Rattle.std.specs.Prelude.{◌-◌, ◌≡◌, ◌++◌, ◌≤◌, ◌+◌, ◌*◌, ℕ, List, [], ◌∷◌, MatchOption, IfOk, IfErr, OnOk, decimal, codes};
+ghost use Rattle.std.specs.Prelude.{◌≡◌, ◌++◌, ◌≤◌, ◌+◌, ◌*◌, ℕ, List, [], ◌∷◌, MatchOption, IfOk, IfErr, OnOk, decimal, codes};
 ghost use Rattle.std.specs.Bool.{OnTrue, OnFalse};
 ghost use Rattle.sedck_text.specs.Bytes.{newline};
 ghost use Rattle.sedck_cert.specs.Certificate.{nodes_in};
 ghost use Rattle.sedck_cert.specs.Text.{header as header_of};
 ghost use Rattle.sedck_cert.specs.declared.versions.Version.{Version};
 ghost use Rattle.sedck_cert.specs.Private.Cuts.{IsCut};
-ghost use Rattle.sedck_cert.specs.Faults.{Header, Count, Node, Last, Nothing};
+ghost use Rattle.sedck_cert.specs.Faults.{Header, Count, Last, Nothing, nodes_due};
 ghost use Rattle.sedck_cert.specs.Private.Reading.{IsNext, Leads, Stops};
 
 use super::CertFault;
@@ -30,7 +30,7 @@ pub fn header(lines: &mut Lines, version: Version) -> Result<(), CertFault>
 
 /// The number of commands.
 pub fn command_count(lines: &mut Lines, version: Version) -> Result<u16, CertFault>
-    ensures read { IfOk result (λ n. (n ≤ 4095) × Leads version Count lines.old ((codes "commands " ++ decimal n) ∷ []) lines.new (Node 0 (nodes_in version n - 1))) }
+    ensures read { IfOk result (λ n. (n ≤ 4095) × Leads version Count lines.old ((codes "commands " ++ decimal n) ∷ []) lines.new (nodes_due 0 (nodes_in version n))) }
     ensures refused { IfErr result (Stops version Count lines.old) }
 {
     let line = lines.number;

@@ -1,10 +1,10 @@
 //! The lists of names.
 
-ghost use Rattle.std.specs.Prelude.{◌≡◌, ◌⊎◌, ◌+◌, ◌≤◌, ◌++◌, decimal, ℕ, suc, List, [], ◌∷◌, length, Option, IfOk, IfErr};
+ghost use Rattle.std.specs.Prelude.{◌≡◌, ◌⊎◌, ◌+◌, ◌≤◌, ◌++◌, decimal, ℕ, List, [], ◌∷◌, length, Option, IfOk, IfErr};
 ghost use Rattle.sedck_cert.specs.View.{names_of};
 ghost use Rattle.sedck_cert.specs.declared.versions.Version.{Version};
-ghost use Rattle.sedck_cert.specs.Faults.{Names, Name, list_word, after_list, after_name};
-ghost use Rattle.sedck_cert.specs.Private.Reading.{Leads, Stops, list_texts, names_due, one_before};
+ghost use Rattle.sedck_cert.specs.Faults.{Names, Name, list_word, after_list, names_due};
+ghost use Rattle.sedck_cert.specs.Private.Reading.{Leads, Stops, list_texts, one_before};
 
 use super::CertFault;
 use super::frame::next_count;
@@ -43,7 +43,7 @@ pub fn names(
     ensures read { IfOk result (λ r. (v : Version) → Leads v (Names files size) lines.old (list_texts files (names_of r.0.items)) lines.new (after_list files r.1)) }
     ensures within { IfOk result (λ r. r.1 ≤ NAMES_LIMIT) }
     ensures count { IfOk result (λ r. length r.0.items ≤ 4095) }
-    ensures refused { IfErr result (λ fault. (fault ≡ CertFault.OutOfMemory) ⊎ ((v : Version) → Stops v (Names files size) lines.old fault)) }
+    ensures refused { IfErr result (λ fault. (v : Version) → (fault ≡ CertFault.OutOfMemory) ⊎ Stops v (Names files size) lines.old fault) }
 {
     let count = usize::from(list_count(lines, files)?);
     let mut names = Vec::with_capacity(alloc, count)?;
@@ -75,8 +75,8 @@ fn name_line<'a>(
 ) -> Result<&'a [u8], CertFault>
     requires { size ≤ NAMES_LIMIT }
     ensures within { IfOk result (λ name. size + length name.now + 1 ≤ NAMES_LIMIT) }
-    ensures read { IfOk result (λ name. (v : Version) (files : Files) (left : ℕ) → Leads v (Name files (suc left) (one_before before.entry) size) lines.old (name.now ∷ []) lines.new (after_name files left name.now (size + length name.now + 1))) }
-    ensures refused { IfErr result (λ fault. (v : Version) (files : Files) (left : ℕ) → Stops v (Name files (suc left) (one_before before.entry) size) lines.old fault) }
+    ensures read { IfOk result (λ name. (v : Version) (files : Files) (left : ℕ) → Leads v (Name files left (one_before before.entry) size) lines.old (name.now ∷ []) lines.new (names_due files left (name.now ∷ []) (size + length name.now + 1))) }
+    ensures refused { IfErr result (λ fault. (v : Version) (files : Files) (left : ℕ) → Stops v (Name files left (one_before before.entry) size) lines.old fault) }
 {
     let fault = CertFault::BadNames { line: lines.number };
     let Some(name) = lines.next() else {

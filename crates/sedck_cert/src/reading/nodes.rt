@@ -1,14 +1,13 @@
 //! The lines of the nodes.
 
-ghost use Rattle.std.specs.Prelude.{◌-◌, ◌≡◌, ◌⊎◌, ◌/◌, ◌%◌, ◌+◌, ◌≤◌, ◌*◌, ◌<◌, ◌++◌, ℕ, List, [], ◌∷◌, length, All, MatchOption, IfOk, IfErr, Option, decimal};
+ghost use Rattle.std.specs.Prelude.{◌≡◌, ◌⊎◌, ◌+◌, ◌≤◌, ◌++◌, ℕ, suc, List, [], ◌∷◌, length, All, MatchOption, IfOk, IfErr, Option, decimal, codes};
 ghost use Rattle.sedck_text.specs.Bytes.{newline};
-ghost use Rattle.sedck_flow.specs.Words.{flag_text, node_words};
-ghost use Rattle.sedck_flow.specs.VersionOne.{nth_node_one, node_words_one};
 ghost use Rattle.sedck_cert.specs.Certificate.{AreWithin, nodes_in};
-ghost use Rattle.sedck_cert.specs.Text.{ranks_text, words_in, node_text};
-ghost use Rattle.sedck_cert.specs.Private.Cuts.{IsCut};
-ghost use Rattle.sedck_cert.specs.Faults.{Node, Names, after_node};
-ghost use Rattle.sedck_cert.specs.Private.Reading.{IsNext, Leads, Stops, node_texts, nodes_due};
+ghost use Rattle.sedck_cert.specs.Text.{ranks_text, words_in, node_text, node_texts};
+ghost use Rattle.sedck_cert.specs.Private.Cuts.{IsCut, IsBehind};
+ghost use Rattle.sedck_cert.specs.Faults.{Node, Names, nodes_due};
+ghost use Rattle.sedck_cert.specs.Private.Reading.{IsNext, Leads, Stops};
+ghost use Rattle.sedck_cert.specs.declared.reading.names.Files.TheVariants.{Reads};
 
 use super::CertFault;
 use super::lines::{Lines, cut};
@@ -24,10 +23,10 @@ pub fn nodes(
     commands: u16,
 ) -> Result<Vec<Option<(u16, u16)>>, CertFault>
     requires { commands ≤ 4095 }
-    ensures read { IfOk result (λ ranks. Leads version (Node 0 (nodes_in version commands - 1)) lines.old (node_texts version 0 ranks.items) lines.new (nodes_due (nodes_in version commands) 0)) }
+    ensures read { IfOk result (λ ranks. Leads version (nodes_due 0 (nodes_in version commands)) lines.old (node_texts version 0 ranks.items) lines.new (Names Reads 0)) }
     ensures within { IfOk result (λ ranks. All AreWithin ranks.items) }
     ensures count { IfOk result (λ ranks. length ranks.items ≡ nodes_in version commands) }
-    ensures refused { IfErr result (λ fault. (fault ≡ CertFault.OutOfMemory) ⊎ Stops version (Node 0 (nodes_in version commands - 1)) lines.old fault) }
+    ensures refused { IfErr result (λ fault. (fault ≡ CertFault.OutOfMemory) ⊎ Stops version (nodes_due 0 (nodes_in version commands)) lines.old fault) }
 {
     let count = version.node_count(commands);
     let mut ranks = Vec::with_capacity(alloc, count as usize)?;
@@ -44,7 +43,7 @@ fn node_line(
     node: u16,
 ) -> Result<Option<(u16, u16)>, CertFault>
     ensures within { IfOk result AreWithin }
-    ensures read { IfOk result (λ ranks. (left : ℕ) → Leads version (Node node left) lines.old (node_text version node ranks ∷ []) lines.new (after_node node left)) }
+    ensures read { IfOk result (λ ranks. (left : ℕ) → Leads version (Node node left) lines.old (node_text version node ranks ∷ []) lines.new (nodes_due (suc node) left)) }
     ensures refused { IfErr result (λ fault. (left : ℕ) → Stops version (Node node left) lines.old fault) }
 {
     let line = lines.number;
@@ -66,39 +65,24 @@ fn node_ranks(text: &[u8], version: Version, index: u16) -> Option<Option<(u16, 
 
 /// What follows the words of the node with this index, a space between them.
 fn behind_words(text: &[u8], version: Version, index: u16) -> Option<&[u8]>
-    ensures { MatchOption result ((rest : List ℕ) → text.now ≡ words_in version index ++ 32 ∷ rest → ⊥) (λ rest. text.now ≡ words_in version index ++ 32 ∷ rest.now) }
+    ensures { IsBehind text.now (words_in version index) result }
 {
     match version {
-        Version::One => behind_node_one(text, index),
-        Version::Two => behind_node(text, sedck_flow::Node::nth(usize::from(index))),
+        Version::One => behind_two(text, index / 2, index % 2),
+        Version::Two => behind_number(behind_two(text, index / 4, index / 2 % 2)?, index % 2),
     }
 }
 
-/// What follows the node, a space between them.
-fn behind_node(text: &[u8], node: sedck_flow::Node) -> Option<&[u8]>
-    ensures { MatchOption result ((rest : List ℕ) → text.now ≡ node_words node ++ 32 ∷ rest → ⊥) (λ rest. text.now ≡ node_words node ++ 32 ∷ rest.now) }
+/// What follows both numbers, a space after each.
+fn behind_two(text: &[u8], first: u16, second: u16) -> Option<&[u8]>
+    ensures { IsBehind text.now (decimal first ++ codes " " ++ decimal second) result }
 {
-    let flag = behind_number(text, node.at)?;
-    behind_flag(behind_flag(flag, node.flag)?, node.last)
-}
-
-/// What follows the node of version 1 with this index, a space between them.
-fn behind_node_one(text: &[u8], index: u16) -> Option<&[u8]>
-    ensures { MatchOption result ((rest : List ℕ) → text.now ≡ node_words_one (nth_node_one index) ++ 32 ∷ rest → ⊥) (λ rest. text.now ≡ node_words_one (nth_node_one index) ++ 32 ∷ rest.now) }
-{
-    behind_flag(behind_number(text, index / 2)?, index % 2 == 1)
-}
-
-/// What follows the flag, or what the node says of the last line, a space between them.
-fn behind_flag(text: &[u8], flag: bool) -> Option<&[u8]>
-    ensures { MatchOption result ((rest : List ℕ) → text.now ≡ flag_text flag ++ 32 ∷ rest → ⊥) (λ rest. text.now ≡ flag_text flag ++ 32 ∷ rest.now) }
-{
-    behind_number(text, u16::from(flag))
+    behind_number(behind_number(text, first)?, second)
 }
 
 /// What follows the number, a space between them.
 fn behind_number(text: &[u8], wanted: u16) -> Option<&[u8]>
-    ensures { MatchOption result ((rest : List ℕ) → text.now ≡ decimal wanted ++ 32 ∷ rest → ⊥) (λ rest. text.now ≡ decimal wanted ++ 32 ∷ rest.now) }
+    ensures { IsBehind text.now (decimal wanted) result }
 {
     let (front, rest) = cut(text, b' ')?;
     if number(front, wanted)? == wanted {

@@ -25,15 +25,14 @@ pub record Adds (IsNew : Kind → Node → Type 0) (before after : List (Node ×
   pub in_order : AreRising before → AreRising after
   pub same : (kind : Kind) (to : Node) → Contains after (to, kind) ↔ (IsNew kind to ⊎ Contains before (to, kind))
 
+-- the edge to the target
+abbrev pub IsTarget : Node × Kind → Kind → Node → Type 0
+IsTarget target kind to = (kind ≡ target.1) × (to ≡ target.0)
+
 -- the edge of this kind to this node
 abbrev pub AddsEdge : Kind → Node → List (Node × Kind) → List (Node × Kind) → Type 0
-AddsEdge kind to = Adds (λ k n. (k ≡ kind) × (n ≡ to))
+AddsEdge kind to = Adds (IsTarget (to, kind))
 
 -- the edges on which a line is read from the one node to the other
 abbrev pub AddsLine : Node → Node → List (Node × Kind) → List (Node × Kind) → Type 0
 AddsLine from to = Adds (ReadsLine from (with_last to))
-
--- the list has just the edges of such a kind to such a node, each once, in order
-pub record ListsTargets (targets : List (Node × Kind)) (IsTarget : Kind → Node → Type 0) : Type 0 where
-  pub in_order : AreRising targets
-  pub same : (kind : Kind) (to : Node) → Contains targets (to, kind) ↔ IsTarget kind to

@@ -1,7 +1,8 @@
 -- What the readers of flags say of what they read.
 use Rattle.std.specs.Prelude.{◌≡◌, ℕ, List, ◌∷◌, Option}
 use Rattle.sedck_script.specs.Program.{Pattern, Part, Substitution}
-use Rattle.sedck_script.specs.Parts.{EndsFlags, Number, Name}
+use Rattle.sedck_script.specs.Parts.{Number, Name}
+use Rattle.sedck_script.specs.Private.Reading.{EndsFlags}
 use Rattle.sedck_script.specs.declared.flags.Seen.{Seen}
 use Rattle.sedck_script.specs.declared.flags.Flag.{Flag}
 use Rattle.sedck_script.specs.declared.flags.Flag.TheVariants as flag

@@ -1,5 +1,5 @@
 -- What the byte of a verb says of the rest of its command.
-use Rattle.std.specs.Prelude.{◌≡◌, ℕ, ◌∷◌}
+use Rattle.std.specs.Prelude.{◌≡◌, ℕ, Bool, if◌then◌else◌, ◌∷◌}
 use Rattle.sedck_text.specs.Bytes.{ascii}
 use Rattle.sedck_text.specs.Cursors.{unread, Follows}
 use Rattle.sedck_text.specs.declared.cursor.Cursor.{Cursor}
@@ -9,8 +9,6 @@ use Rattle.sedck_script.specs.declared.forms.Form.{Form}
 use Rattle.sedck_script.specs.declared.forms.Form.TheVariants as form
 use Rattle.sedck_script.specs.declared.forms.TextVerb.{TextVerb}
 use Rattle.sedck_script.specs.declared.forms.TextVerb.TheVariants.{Append, Change, Insert}
-use Rattle.sedck_script.specs.declared.forms.JumpVerb.{JumpVerb}
-use Rattle.sedck_script.specs.declared.forms.JumpVerb.TheVariants.{Branch, Test}
 use Rattle.sedck_script.specs.declared.names.Access.{Access}
 use Rattle.sedck_script.specs.declared.names.Access.TheVariants.{Read, Write}
 
@@ -23,9 +21,8 @@ abbrev pub file_byte : Access → ℕ
 file_byte Read = ascii "r"
 file_byte Write = ascii "w"
 
-abbrev pub jump_byte : JumpVerb → ℕ
-jump_byte Branch = ascii "b"
-jump_byte Test = ascii "t"
+abbrev pub jump_byte : (tests : Bool) → ℕ
+jump_byte tests = if tests then ascii "t" else ascii "b"
 
 -- the verb of the byte takes this
 abbrev pub IsForm : ℕ → Form → Type 0
@@ -33,7 +30,7 @@ IsForm b (form.Nothing verb) = Simple b (verb_of verb)
 IsForm b (form.Text verb) = b ≡ text_byte verb
 IsForm b (form.File access) = b ≡ file_byte access
 IsForm b form.Label = b ≡ ascii ":"
-IsForm b (form.Jump verb) = b ≡ jump_byte verb
+IsForm b (form.Jump tests) = b ≡ jump_byte tests
 IsForm b form.Block = b ≡ ascii "{"
 IsForm b form.Substitution = b ≡ ascii "s"
 IsForm b form.Transliteration = b ≡ ascii "y"

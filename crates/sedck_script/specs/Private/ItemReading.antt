@@ -1,9 +1,9 @@
 -- What the readers of items, and the resolver of their labels, say of them.
-use Rattle.std.specs.Prelude.{◌≡◌, ℕ, suc, zero, ◌<◌, Bool, List, [], ◌∷◌, ◌++◌, Option, Some, None, unwrap_or}
+use Rattle.std.specs.Prelude.{◌≡◌, ℕ, suc, zero, ◌<◌, Bool, if◌then◌else◌, List, [], ◌∷◌, ◌++◌, Option, Some, None, unwrap_or}
 use Rattle.std.specs.Borrow.{Bor}
 use Rattle.std.specs.HashMap.{HashMap}
 use Rattle.sedck_script.specs.Program.{Verb, Branch, Test, Block, Command}
-use Rattle.sedck_script.specs.Items.{WrittenVerb, Known, BranchTo, TestTo, Opening, Item, Written, Closing}
+use Rattle.sedck_script.specs.Items.{WrittenVerb, Known, JumpTo, Opening, Item, Written, Closing}
 use Rattle.sedck_script.specs.Resolution.{MayBeBraced}
 use Rattle.sedck_script.specs.View.{address_of}
 use Rattle.sedck_script.specs.Private.Reading.{label_place}
@@ -40,8 +40,7 @@ pub data Turn : Type 0 where
 
 abbrev pub verb_turn : WrittenVerb → Turn
 verb_turn (Known v) = Stays
-verb_turn (BranchTo label braced) = Jumps braced
-verb_turn (TestTo label braced) = Jumps braced
+verb_turn (JumpTo tests label braced) = Jumps braced
 verb_turn Opening = Opens
 
 abbrev pub turn_of : Item → Turn
@@ -81,8 +80,7 @@ IsLostLabel labels (Some name) = label_place labels name ≡ None
 
 -- the label to which a verb leads, if it leads to one
 abbrev pub label_of : WrittenVerb → Option (List ℕ)
-label_of (BranchTo label braced) = label
-label_of (TestTo label braced) = label
+label_of (JumpTo tests label braced) = label
 label_of (Known v) = None
 label_of Opening = None
 
@@ -98,8 +96,7 @@ target_of labels end (Some name) = unwrap_or (label_place labels name) end
 -- the verb with its target, where a block leads to this place
 abbrev pub resolved_verb : {S : Type 0} → HashMap (Bor (List ℕ)) ℕ S → ℕ → ℕ → WrittenVerb → Verb
 resolved_verb labels end block (Known v) = v
-resolved_verb labels end block (BranchTo label braced) = Branch (target_of labels end label)
-resolved_verb labels end block (TestTo label braced) = Test (target_of labels end label)
+resolved_verb labels end block (JumpTo tests label braced) = if tests then Test (target_of labels end label) else Branch (target_of labels end label)
 resolved_verb labels end block Opening = Block block
 
 -- the command with its target

@@ -22,18 +22,17 @@ IsPiece delimiter text (piece.Pair b) rest = (text ≡ backslash ∷ b ∷ rest)
 abbrev pub PatternText : ℕ → List ℕ → Pattern → List ℕ → Type 0
 PatternText delimiter text pattern rest = (expression : List ℕ) × ExpressionText delimiter text expression rest × IsPattern expression pattern
 
--- These bytes of an expression have been read, and rest is left.
-pub record IsReadUpTo (delimiter : ℕ) (text bytes rest : List ℕ) : Type 0 where
-  pub sound : (more after : List ℕ) → DelimitedExpression delimiter rest more after → DelimitedExpression delimiter text (bytes ++ more) after
-  pub only : (expression after : List ℕ) → DelimitedExpression delimiter text expression after
-      → (more : List ℕ) × DelimitedExpression delimiter rest more after
+-- These bytes of a delimited part, an expression or a list, have been read, and rest is left.
+pub record IsReadUpTo (Delimited : List ℕ → List ℕ → List ℕ → Type 0) (text bytes rest : List ℕ) : Type 0 where
+  pub sound : (more after : List ℕ) → Delimited rest more after → Delimited text (bytes ++ more) after
+  pub only : (all after : List ℕ) → Delimited text all after → (more : List ℕ) × Delimited rest more after
 
 -- The bytes of an expression between the cursors have been read, without an escaped delimiter.
 pub record IsWrittenUpTo (delimiter : ℕ) (text rest : Cursor) : Type 0 where
   pub same : rest.whole ≡ text.whole
   pub written : List ℕ
   pub cut : unread text ≡ written ++ unread rest
-  pub passed : IsReadUpTo delimiter (unread text) written (unread rest)
+  pub passed : IsReadUpTo (DelimitedExpression delimiter) (unread text) written (unread rest)
 
 -- These bytes of an expression have been read of the text, and rest is left: its first escaped delimiter is at the place in the
 -- whole, or there is none, and the text has the very bytes.

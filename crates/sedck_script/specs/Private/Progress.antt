@@ -6,7 +6,7 @@ use Rattle.std.specs.HashMap.{HashMap}
 use Rattle.sedck_text.specs.Bytes.{ascii}
 use Rattle.sedck_text.specs.Text.{one_of}
 use Rattle.sedck_script.specs.Program.{Pattern, Address, NoAddress, One, Two, address_patterns, verb_patterns}
-use Rattle.sedck_script.specs.Items.{WrittenVerb, Known, BranchTo, TestTo, Opening, VerbText, Takes, Item, Written, Closing, Items}
+use Rattle.sedck_script.specs.Items.{WrittenVerb, Known, JumpTo, Opening, VerbText, Takes, Item, Written, Closing, Items}
 use Rattle.sedck_script.specs.Faults.{StandsAt}
 pub use Rattle.sedck_script.specs.Faults.{BeginsCommand}
 use Rattle.sedck_script.specs.Private.Reading.{HasLabels, AreLabelsOnce, label_place}
@@ -41,8 +41,7 @@ takes b given negated =
 -- the patterns of a verb
 abbrev pub written_patterns : WrittenVerb → List Pattern
 written_patterns (Known verb) = verb_patterns verb
-written_patterns (BranchTo label braced) = []
-written_patterns (TestTo label braced) = []
+written_patterns (JumpTo tests label braced) = []
 written_patterns Opening = []
 
 abbrev pub patterns_of : Item → List Pattern
@@ -91,8 +90,7 @@ HasNoItems text = (items : List Item) → Items text items → length (commands_
 abbrev pub NotesLabel : {S : Type 0} → HashMap (Bor (List ℕ)) ℕ S → HashMap (Bor (List ℕ)) ℕ S → ℕ → WrittenCode → Type 0
 NotesLabel old new place (code.Label name) = (q : List ℕ) → label_place new q ≡ (if bytes_eq name.now q then Some place else label_place old q)
 NotesLabel old new place (code.Known verb) = (q : List ℕ) → label_place new q ≡ label_place old q
-NotesLabel old new place (code.BranchTo jump) = (q : List ℕ) → label_place new q ≡ label_place old q
-NotesLabel old new place (code.TestTo jump) = (q : List ℕ) → label_place new q ≡ label_place old q
+NotesLabel old new place (code.JumpTo jump) = (q : List ℕ) → label_place new q ≡ label_place old q
 NotesLabel old new place code.Opening = (q : List ℕ) → label_place new q ≡ label_place old q
 
 -- the place is added where a block is opened

@@ -5,7 +5,7 @@ use Rattle.std.specs.HashMap.{HashMap}
 use Rattle.sedck_script.specs.Program.{Label}
 use Rattle.sedck_script.specs.Faults.{IsPlaced}
 use Rattle.sedck_script.specs.Parts.{DelimitedList, FirstList}
-use Rattle.sedck_script.specs.Items.{WrittenVerb, Known, BranchTo, TestTo, Opening}
+use Rattle.sedck_script.specs.Items.{WrittenVerb, Known, JumpTo, Opening}
 use Rattle.sedck_script.specs.View.{verb_of}
 use Rattle.sedck_script.specs.Private.Reading.{label_place, IsLabelPlace}
 use Rattle.sedck_script.specs.declared.fault.ScriptFault.TheVariants.{BadLabel}
@@ -17,8 +17,7 @@ use Rattle.sedck_script.specs.declared.items.Written.TheVariants as code
 abbrev pub written_verb : Written → WrittenVerb
 written_verb (code.Known verb) = Known (verb_of verb)
 written_verb (code.Label name) = Known (Label name.now)
-written_verb (code.BranchTo jump) = BranchTo (option_copied jump.label) (is_some jump.brace)
-written_verb (code.TestTo jump) = TestTo (option_copied jump.label) (is_some jump.brace)
+written_verb (code.JumpTo jump) = JumpTo jump.tests (option_copied jump.label) (is_some jump.brace)
 written_verb code.Opening = Opening
 
 -- the label begins at its offset, and a `}` right after it is where no label may go on
@@ -29,15 +28,13 @@ IsJumpAt text jump = IsLabelPlace text jump.offset (option_copied jump.label) ×
 abbrev pub IsWrittenAt : List ℕ → Written → Type 0
 IsWrittenAt text (code.Known verb) = (name : List ℕ) → verb_of verb ≡ Label name → ⊥
 IsWrittenAt text (code.Label name) = Unit {0}
-IsWrittenAt text (code.BranchTo jump) = IsJumpAt text jump
-IsWrittenAt text (code.TestTo jump) = IsJumpAt text jump
+IsWrittenAt text (code.JumpTo jump) = IsJumpAt text jump
 IsWrittenAt text code.Opening = Unit {0}
 
 -- a `}` is right after the label of a branch or a test
 abbrev pub is_braced : WrittenVerb → Bool
 is_braced (Known verb) = false
-is_braced (BranchTo label braced) = braced
-is_braced (TestTo label braced) = braced
+is_braced (JumpTo tests label braced) = braced
 is_braced Opening = false
 
 -- two lists after the delimiter of a `y`, equally long

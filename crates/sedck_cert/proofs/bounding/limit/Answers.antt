@@ -1,13 +1,8 @@
 use Rattle.std.proofs.Common.{sym, ◌∙◌}
 use Rattle.sedck_cert.specs.Ranked.{IsSteady}
-use Rattle.sedck_cert.proofs.BoundingLemmas.{bounds_runs, bounds_wide_runs, grows_somewhere, grows_nowhere}
+use Rattle.sedck_cert.proofs.BoundingLemmas.{bounds_runs, bounds_wide_runs, grows_nowhere}
 use Rattle.sedck_cert.proofs.bounding.limit.Goals as goal
 use Rattle.sedck_cert.proofs.bounding.limit.Goals.{After-bound_of}
-
--- an edge on which the pattern space may grow leaves a node with ranks
-pub returns-then-is_some-clause-limit : goal.returns-then-is_some-clause-limit
-returns-then-is_some-clause-limit c =
-    grows_somewhere c.args.script.now c.args.cert.now c.first_growth.result c.first_growth.ensures.growth (sym c.is_some.ensures ∙ c.if-is_some.true)
 
 steady : (c : After-bound_of) → IsSteady c.args.script.now c.args.cert.now
 steady c =

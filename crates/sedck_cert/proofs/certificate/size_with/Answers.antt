@@ -3,7 +3,7 @@ use Rattle.std.proofs.lemmas.List.{drop_all}
 use Rattle.std.specs.Bool.{IsTrue}
 use Rattle.sedck_cert.specs.View.{names_of}
 use Rattle.sedck_cert.specs.Private.Reading.{AreNext, one_before}
-use Rattle.sedck_cert.proofs.NameLimits.{names_next, next_names, left_cons}
+use Rattle.sedck_cert.proofs.NameLimits.{names_next, next_names, names-few, left_cons}
 use Rattle.sedck_cert.proofs.certificate.size_with.Goals as goal
 
 pub returns-then-not-is_next_name : goal.returns-then-not-is_next_name
@@ -21,7 +21,7 @@ returns c =
     let none = drop_all c.loop-name.name-index c.args.names.now c.loop-name-test.false in
     let end : AreNext (one_before c.loop-name.before) (names_of (drop c.loop-name.name-index c.args.names.now)) c.loop-name.size =
     rw none c.loop-name.invariant.2 in (
-      next_names c.args.names.now c.args.size c.if-names-gt4095.false (c.loop-name.invariant.0.1 end),
+      (next_names (names_of c.args.names.now) c.args.size (names-few _ c.if-names-gt4095.false) (c.loop-name.invariant.0.1 end)).0,
       omega (arith, rw none at c.loop-name.invariant.1),
       c.loop-name.invariant.2,
     )

@@ -6,21 +6,14 @@ use Rattle.std.proofs.lemmas.List.{get_or-map, length-map, ext_get_or}
 use Rattle.sedck_cert.specs.View.{names_of}
 use Rattle.sedck_cert.proofs.checking.are_names.Goals as goal
 
-name_at : (names : List (Bor (List ℕ))) (k : ℕ) (d : Bor (List ℕ)) → k < length names → get_or (map (λ name. name.now) names) k [] ≡ (get_or names k d).now
-name_at names k d below = get_or-map (λ (name : Bor (List ℕ)). name.now) names k d [] below
-
-listed_at : (listed : List (Vec ℕ Global)) (k : ℕ) (d : Vec ℕ Global) → k < length listed → get_or (names_of listed) k [] ≡ (get_or listed k d).items
-listed_at listed k d below = get_or-map (λ (name : Vec ℕ Global). name.items) listed k d [] below
-
-no_name : Bor (List ℕ)
-no_name = record { ref_ptr = (0, 0); now = [] }
-
 -- the listed name and the script's name at this place
 both_at : (names : List (Bor (List ℕ))) (listed : List (Vec ℕ Global)) (k : ℕ) (v : Vec ℕ Global) (d : Bor (List ℕ)) (w : List ℕ) → k < length names
     → k < length listed → v ≡ get_or listed k v → w ≡ v.items
     → (get_or (names_of listed) k [] ≡ w) × (get_or (map (λ name. name.now) names) k [] ≡ (get_or names k d).now)
-both_at names listed k v d w below within is value =
-    (listed_at listed k v within ∙ ap (λ (x : Vec ℕ Global). x.items) (sym is) ∙ sym value, name_at names k d below)
+both_at names listed k v d w below within is value = (
+  get_or-map (λ (name : Vec ℕ Global). name.items) listed k v [] within ∙ ap (λ (x : Vec ℕ Global). x.items) (sym is) ∙ sym value,
+  get_or-map (λ (name : Bor (List ℕ)). name.now) names k d [] below,
+)
 
 pub returns-then-not-is_name : goal.returns-then-not-is_name
 returns-then-not-is_name c =

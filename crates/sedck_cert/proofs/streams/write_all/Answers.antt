@@ -1,5 +1,5 @@
 use Rattle.std.proofs.Common.{◌∙◌}
-use Rattle.sedck_cert.proofs.Streaming.{more_written}
+use Rattle.sedck_cert.proofs.Written.{more_written}
 use Rattle.sedck_cert.proofs.streams.write_all.Goals as goal
 
 pub loop-rest-preserved : goal.loop-rest-preserved

@@ -1,5 +1,5 @@
 use Rattle.std.proofs.Common.{◌≡◌, length}
-use Rattle.sedck_cert.proofs.Streaming.{IsPartWritten}
+use Rattle.sedck_cert.proofs.Written.{IsPartWritten}
 use Rattle.sedck_cert.proofs.streams.write_all.Given as goal
 
 abbrev pub invariant-loop-rest : goal.invariant-loop-rest

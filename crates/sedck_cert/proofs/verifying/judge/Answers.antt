@@ -1,4 +1,4 @@
-use Rattle.sedck_cert.proofs.Promise.{is_judged, promised, promised_everywhere, answered, no_script, no_certificate, script_reported}
+use Rattle.sedck_cert.proofs.Promise.{is_judged, promised, promised_everywhere, answered, no_script, no_certificate}
 use Rattle.sedck_cert.specs.Headline.{IsJudged}
 use Rattle.sedck_cert.proofs.verifying.judge.Goals as goal
 use Rattle.sedck_cert.proofs.verifying.judge.Goals.{After-with_verdict}
@@ -33,7 +33,3 @@ returns-in-Err-clause-answer c = no_script c.args.script.now c.args.certificate.
 pub returns-in-Err-read_any-clause-answer : goal.returns-in-Err-read_any-clause-answer
 returns-in-Err-read_any-clause-answer c =
     no_certificate c.args.script.now c.args.certificate.now _ c.in-Err-read_any.fault c.in-Ok.ensures.spelled c.in-Err-read_any.ensures.refused
-
-pub returns-in-Err-clause-reported : goal.returns-in-Err-clause-reported
-returns-in-Err-clause-reported c =
-    let script = c.in-Err.ensures in script_reported c.args.script.now c.in-Err.fault script.placed script.too_long script.zero

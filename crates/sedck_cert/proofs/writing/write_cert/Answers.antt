@@ -1,14 +1,11 @@
 use Rattle.std.proofs.Common.{refl}
 use Rattle.sedck_cert.proofs.Written.{on_err, begins_first, begins_at, begins_third, written_fourth, begun_fourth}
-use Rattle.sedck_cert.proofs.Pieces.{pieces_at, few_ranks}
+use Rattle.sedck_cert.proofs.Pieces.{pieces_at}
 use Rattle.sedck_cert.proofs.writing.write_cert.Goals as goal
 
 pub returns-in_err-write_head-clause-begun : goal.returns-in_err-write_head-clause-begun
 returns-in_err-write_head-clause-begun g c = on_err c.from_residual.result _
     (begins_first _ _ _ _ _ (pieces_at c.args.cert.now _ _ _ _ c.commands.ensures refl refl refl) c.in_err-write_head.ensures.begun)
-
-pub write_nodes-requires : goal.write_nodes-requires
-write_nodes-requires g c = few_ranks c.args.cert.now _ c.ranks.ensures.certificate c.ranks.ensures.ranks
 
 pub returns-in_err-write_nodes-clause-begun : goal.returns-in_err-write_nodes-clause-begun
 returns-in_err-write_nodes-clause-begun g c = on_err c.from_residual-in_err-write_nodes.result _

@@ -2,7 +2,7 @@ use Rattle.std.proofs.Common.{inr}
 use Rattle.sedck_text.specs.Cursors.{unread}
 use Rattle.sedck_script.proofs.ResultLemmas.{if_err_from}
 use Rattle.sedck_script.proofs.PlaceLemmas.{no_second_place}
-use Rattle.sedck_script.proofs.UniqueAddresses.{no_place, none_found, place_found}
+use Rattle.sedck_script.proofs.UniqueAddresses.{no_place}
 use Rattle.sedck_script.proofs.addresses.split_second.Goals as goal
 
 pub returns-in_err-found-clause-refused : goal.returns-in_err-found-clause-refused
@@ -14,12 +14,12 @@ pub returns-in_default-2-clause-refused : goal.returns-in_default-2-clause-refus
 returns-in_default-2-clause-refused c = λ memory. (
   unread c.in-Some.second,
   c.in-Some.ensures.some,
-  λ u t x. no_place (none_found (unread c.in-Some.second) c.in_default-2.is c.in_ok-found.ensures.none) x,
+  λ u t x. no_place (rw c.in_default-2.is at c.in_ok-found.ensures.none) x,
 )
 
 pub returns-clause-read : goal.returns-clause-read
-returns-clause-read c = (unread c.in-Some.second, c.in-Some.ensures.some, place_found c.in-Some-2.is c.in_ok-found.ensures.read)
+returns-clause-read c = (unread c.in-Some.second, c.in-Some.ensures.some, rw c.in-Some-2.is at c.in_ok-found.ensures.read)
 
 pub returns-in_default-2-clause-placed : goal.returns-in_default-2-clause-placed
 returns-in_default-2-clause-placed c = rw c.offset.ensures (inr (no_second_place c.args.text c.in-Some.second c.in-Some.ensures.same c.in-Some.ensures.some
-    (none_found (unread c.in-Some.second) c.in_default-2.is c.in_ok-found.ensures.none)))
+    (rw c.in_default-2.is at c.in_ok-found.ensures.none)))

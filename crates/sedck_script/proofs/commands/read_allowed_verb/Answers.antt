@@ -32,10 +32,8 @@ returns-in_err-check_brace-clause-refused c =
     ))))
 
 pub returns-in_err-check_brace-clause-placed : goal.returns-in_err-check_brace-clause-placed
-returns-in_err-check_brace-clause-placed c =
-    if_err_from _ c.from_residual-in_err-check_brace.result _ c.from_residual-in_err-check_brace.ensures.1
-    (c.in_err-check_brace.ensures.placed c.args.reader.cursor.whole.now
-    (subst (λ w. IsWrittenAt w.now c.in_ok-verb.verb) c.in_ok-form.ensures.begins.whole c.in_ok-verb.ensures.label))
+returns-in_err-check_brace-clause-placed c = if_err_from _ c.from_residual-in_err-check_brace.result _ c.from_residual-in_err-check_brace.ensures.1
+    (c.in_err-check_brace.ensures.placed c.args.reader.cursor.whole.now (rw c.in_ok-form.ensures.begins.whole at c.in_ok-verb.ensures.label))
 
 pub returns-clause-read : goal.returns-clause-read
 returns-clause-read c = let at = c.in_ok-form.ensures.begins in read at.cut (c.in_ok-verb.ensures.read at.byte at.is)

@@ -1,6 +1,5 @@
-use Rattle.std.proofs.Common.{◌+◌, refl, sym, ◌∙◌, subst}
+use Rattle.std.proofs.Common.{refl, sym, ◌∙◌}
 use Rattle.sedck_script.specs.Program.{address_patterns}
-use Rattle.sedck_script.specs.Faults.{IsEmptyExpression}
 use Rattle.sedck_script.specs.View.{address_of}
 use Rattle.sedck_script.specs.Private.VerbReading.{written_verb}
 use Rattle.sedck_script.specs.Private.Progress.{written_patterns}
@@ -42,5 +41,4 @@ returns-clause-empty c =
     let same = c.split.ensures.ahead.whole ∙ c.in_ok-address.ensures.same in
     rw c.or-empty.ensures (empty_append whole (address_patterns (address_of c.in_ok-address.address))
     (written_patterns (written_verb c.in_ok-verb.verb)) c.in_ok-address.empty c.empty_verb.result c.in_ok-address.ensures.empty
-    (c.empty_verb.ensures whole (λ some. rw c.offset.ensures (subst (λ w. IsEmptyExpression w.now (begins.at + 2)) same
-    (empty_verb_place begins refl c.in_ok-verb.ensures.read some)))))
+    (c.empty_verb.ensures whole (λ some. rw c.offset.ensures (rw same at (empty_verb_place begins refl c.in_ok-verb.ensures.read some)))))

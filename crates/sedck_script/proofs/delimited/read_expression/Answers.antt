@@ -1,7 +1,6 @@
-use Rattle.std.proofs.Common.{◌≡◌, ◌-◌, take, [], ◌∷◌, ◌++◌, ◌∙◌, ap, sym, subst}
+use Rattle.std.proofs.Common.{◌≡◌, ◌-◌, take, [], ◌∷◌, ◌++◌, ◌∙◌, ap, sym}
 use Rattle.sedck_text.specs.Cursors.{unread}
-use Rattle.sedck_script.specs.Parts.{DelimitedExpression}
-use Rattle.sedck_script.specs.Private.PieceReading.{IsPiece, IsPartPlaced, as_written}
+use Rattle.sedck_script.specs.Private.PieceReading.{IsPartPlaced, as_written}
 use Rattle.sedck_script.proofs.ResultLemmas.{if_err_each, if_err_same}
 use Rattle.sedck_script.proofs.UniqueVerbs.{no_backslash}
 use Rattle.sedck_script.proofs.PieceLemmas.{expression_byte, expression_pair, expression_end, expression_stuck, expression_broken, written_none, written_more, written_between}
@@ -17,19 +16,19 @@ returns-in_err-piece-clause-placed c = if_err_same (IsPartPlaced c.args.opening)
 
 pub returns-then-b-eq10-clause-refused : goal.returns-then-b-eq10-clause-refused
 returns-then-b-eq10-clause-refused c = λ memory. expression_broken (no_backslash c.requires.delimiter) c.pieces.invariant.passed
-    (subst (λ x. IsPiece c.args.delimiter (unread c.pieces.rest) x (unread c.in_ok-piece.behind)) c.in-Pair.is c.in_ok-piece.ensures.read) c.if-b-eq10.true
+    (rw c.in-Pair.is at c.in_ok-piece.ensures.read) c.if-b-eq10.true
 
 pub pieces-init : goal.pieces-init
 pieces-init c = written_none c.args.text
 
 pub pieces-preserved-in-Byte : goal.pieces-preserved-in-Byte
 pieces-preserved-in-Byte c =
-    let piece = subst (λ x. IsPiece c.args.delimiter (unread c.pieces.rest) x (unread c.in_ok-piece.behind)) c.in-Byte.is c.in_ok-piece.ensures.read in
+    let piece = rw c.in-Byte.is at c.in_ok-piece.ensures.read in
     written_more (c.in-Byte.field-0 ∷ []) c.in_ok-piece.ensures.same piece.0 (expression_byte piece) c.pieces.invariant
 
 pub pieces-preserved : goal.pieces-preserved
 pieces-preserved c =
-    let piece = subst (λ x. IsPiece c.args.delimiter (unread c.pieces.rest) x (unread c.in_ok-piece.behind)) c.in-Pair.is c.in_ok-piece.ensures.read in
+    let piece = rw c.in-Pair.is at c.in_ok-piece.ensures.read in
     written_more (92 ∷ c.in-Pair.b ∷ []) c.in_ok-piece.ensures.same piece.0 (expression_pair (no_backslash c.requires.delimiter) c.if-b-eq10.false piece)
     c.pieces.invariant
 
@@ -38,8 +37,7 @@ returns-in-End-clause-read c =
     let between = written_between c.pieces.invariant c.offset.ensures c.offset-in-End.ensures in
     let written : take (c.offset.result - c.offset-in-End.result) c.unread.result.now ≡ between.2.0 =
     ap (take (c.offset.result - c.offset-in-End.result)) c.unread.ensures ∙ between.2.2 in
-    subst (λ t. DelimitedExpression c.args.delimiter (unread c.args.text) t (unread c.in_ok-piece.behind)) (sym written) (expression_end between.2.3
-    (subst (λ x. IsPiece c.args.delimiter (unread c.pieces.rest) x (unread c.in_ok-piece.behind)) c.in-End.is c.in_ok-piece.ensures.read))
+    rw (← written) at (expression_end between.2.3 (rw c.in-End.is at c.in_ok-piece.ensures.read))
 
 pub returns-in-End-clause-escape : goal.returns-in-End-clause-escape
 returns-in-End-clause-escape c =
@@ -47,5 +45,5 @@ returns-in-End-clause-escape c =
     let written : take (c.offset.result - c.offset-in-End.result) c.unread.result.now ≡ between.2.0 =
     ap (take (c.offset.result - c.offset-in-End.result)) c.unread.ensures ∙ between.2.2 in
     let end : unread c.pieces.rest ≡ c.args.delimiter ∷ unread c.in_ok-piece.behind =
-    subst (λ x. IsPiece c.args.delimiter (unread c.pieces.rest) x (unread c.in_ok-piece.behind)) c.in-End.is c.in_ok-piece.ensures.read in
+    rw c.in-End.is at c.in_ok-piece.ensures.read in
     as_written (between.2.1 ∙ ap (λ t. between.2.0 ++ t) end ∙ ap (λ t. t ++ c.args.delimiter ∷ unread c.in_ok-piece.behind) (sym written))

@@ -1,11 +1,12 @@
 use Rattle.std.proofs.Common.{◌≡◌, length}
 use Rattle.sedck_text.specs.Cursors.{unread}
+use Rattle.sedck_script.specs.Parts.{DelimitedExpression}
 use Rattle.sedck_script.specs.Private.PieceReading.{IsReadUpTo, IsFirstEscape}
 use Rattle.sedck_script.proofs.delimited.read_replaced.Given as goal
 
 abbrev pub invariant-loop-bytes : goal.invariant-loop-bytes
 invariant-loop-bytes l =
-    (l.rest.whole ≡ l.text.whole) × IsReadUpTo l.delimiter (unread l.text) l.bytes.items (unread l.rest)
+    (l.rest.whole ≡ l.text.whole) × IsReadUpTo (DelimitedExpression l.delimiter) (unread l.text) l.bytes.items (unread l.rest)
     × IsFirstEscape l.delimiter l.text.whole.now (unread l.text) l.bytes.items (unread l.rest) l.escape
 
 abbrev pub decreases-loop-bytes : goal.decreases-loop-bytes

@@ -1,7 +1,5 @@
-use Rattle.std.proofs.Common.{◌≡◌, ◌⊎◌, refl, ◌∙◌, sym, subst}
+use Rattle.std.proofs.Common.{refl, ◌∙◌, sym}
 use Rattle.sedck_script.proofs.ResultLemmas.{if_err_always}
-use Rattle.sedck_script.specs.Faults.{IsPlaced}
-use Rattle.sedck_script.specs.declared.fault.ScriptFault.TheVariants.{MissingName}
 use Rattle.sedck_script.proofs.CursorPlaces.{stands_here}
 use Rattle.sedck_script.proofs.PlaceLemmas.{extra_digit, unread_verb}
 use Rattle.sedck_script.proofs.VerbCases.{no_name}
@@ -14,8 +12,7 @@ returns-in_default-read_name-clause-refused c = λ q ps s r x. no_file c.in-Some
 
 pub returns-in_default-read_name-clause-placed : goal.returns-in_default-read_name-clause-placed
 returns-in_default-read_name-clause-placed c =
-    let placed = subst (λ w. (c.name_fault.result ≡ MissingName c.offset-place.result) ⊎ IsPlaced w.now c.name_fault.result)
-    c.in-Some.ensures.ahead.0.whole c.name_fault.ensures in
+    let placed = rw c.in-Some.ensures.ahead.0.whole at c.name_fault.ensures in
     name_placed c.args.text.whole.now c.offset-place.result placed (rw c.offset-place.ensures (
       (c.in-Some.first, stands_here c.args.text c.in-Some.ensures.cut, rw c.if-first-eq119.true refl),
       unread_verb c.args.text.whole.now c.args.text.at c.in-Some.ensures.cut (rw c.if-first-eq119.true refl)

@@ -5,9 +5,7 @@ use Rattle.std.proofs.lemmas.List.Elements.{All-push}
 use Rattle.sedck_text.specs.Bytes.{ascii}
 use Rattle.sedck_script.specs.Faults.{StandsAt}
 use Rattle.sedck_script.specs.Private.ItemReading.{item_of, IsItemAt}
-use Rattle.sedck_script.specs.Private.Progress.{IsFront}
 use Rattle.sedck_script.proofs.ResultLemmas.{if_err_from}
-use Rattle.sedck_text.specs.Cursors.{unread}
 use Rattle.sedck_script.proofs.CursorPlaces.{stands_here}
 use Rattle.sedck_script.proofs.ProgressLemmas.{front_unopened, front_unended, front_closing}
 use Rattle.sedck_script.proofs.StateLemmas.{among_closing, patterns_closing, locations_closing, opened_front}
@@ -30,10 +28,7 @@ returns-clause-progress c =
     let deep : length c.args.progress.now.open_blocks.items ≡ suc (length c.pop.new.self.items) =
     omega (arith, ap length c.in-Some.ensures.items, length-append {A = ℕ}) in
     record {
-      front = rw items
-          (front_closing
-          (subst (λ d. IsFront c.args.begins.whole.now
-          (map item_of c.args.progress.now.items.items) d (unread c.args.begins)) deep c.requires.progress.front) c.requires.begins refl c.in_ok-rest.ensures.read);
+      front = rw items (front_closing (rw deep at c.requires.progress.front) c.requires.begins refl c.in_ok-rest.ensures.read);
       labels = rw (items, among_closing) c.requires.progress.labels;
       count = rw (items, among_closing) c.requires.progress.count;
       located = rw (c.in_ok-push.ensures.items, locations_closing)

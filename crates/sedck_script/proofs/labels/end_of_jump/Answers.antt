@@ -1,4 +1,4 @@
-use Rattle.std.proofs.Common.{◌≡◌, ◌∙◌, false, ap, sym, subst}
+use Rattle.std.proofs.Common.{◌∙◌, ap, sym}
 use Rattle.std.proofs.lemmas.Bool.{both_ways}
 use Rattle.sedck_script.specs.Items.{begins_braced_comment}
 use Rattle.sedck_script.proofs.ResultLemmas.{if_err_always}
@@ -10,8 +10,7 @@ pub returns-in_err-rest-clause-refused : goal.returns-in_err-rest-clause-refused
 returns-in_err-rest-clause-refused c = if_err_always c.from_residual.result (λ rest x. c.in_err-rest.ensures.refused rest x.0)
 
 pub returns-then-begins_braced_comment-clause-refused : goal.returns-then-begins_braced_comment-clause-refused
-returns-then-begins_braced_comment-clause-refused c = λ rest x.
-    both_ways _ (subst (λ t. begins_braced_comment t ≡ false) (sym (ends_one c.in_ok-rest.ensures.read x.0)) x.1)
+returns-then-begins_braced_comment-clause-refused c = λ rest x. both_ways _ (rw (← (ends_one c.in_ok-rest.ensures.read x.0)) at x.1)
     (ap begins_braced_comment (sym c.unread.ensures) ∙ sym c.begins_braced_comment.ensures ∙ c.if-begins_braced_comment.true)
 
 pub returns-then-begins_braced_comment-clause-placed : goal.returns-then-begins_braced_comment-clause-placed

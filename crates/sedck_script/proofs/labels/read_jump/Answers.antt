@@ -1,10 +1,7 @@
-use Rattle.std.proofs.Common.{subst, arith}
+use Rattle.std.proofs.Common.{arith}
 use Rattle.sedck_text.specs.Text.{one_of}
 use Rattle.sedck_script.proofs.ResultLemmas.{if_err_always}
 use Rattle.sedck_script.proofs.LabelLemmas.{no_branch_end, no_branch_label}
-use Rattle.std.specs.Prelude.{IfSome}
-use Rattle.sedck_script.specs.Faults.{IsPlaced}
-use Rattle.sedck_script.specs.declared.fault.ScriptFault.TheVariants.{BadLabel}
 use Rattle.sedck_script.proofs.labels.read_jump.Goals as goal
 use Rattle.sedck_script.proofs.labels.read_jump.Goals.{then-is_empty+in_ok-check_no_label, else-is_empty+in_ok-check_behind_label+in_ok-end_of_jump}
 
@@ -24,10 +21,9 @@ returns-in_err-end_of_jump-clause-refused c = if_err_always c.from_residual-in_e
 pub returns-clause-label : goal.returns-clause-label
 returns-clause-label c = (
   elim c.if-is_empty.branch [
-    | then-is_empty+in_ok-check_no_label w ↦ rw w.t-21-is tt
-    | else-is_empty+in_ok-check_behind_label+in_ok-end_of_jump w ↦ rw w.t-21-is
+    | then-is_empty+in_ok-check_no_label w ↦ rw w.t-22-is tt
+    | else-is_empty+in_ok-check_behind_label+in_ok-end_of_jump w ↦ rw w.t-22-is
         (c.split_label-offset.ensures.label (one_of "bt") c.requires (grind (arith, c.is_empty.ensures, w.if-is_empty.false)))
   ],
-  subst (λ w. IfSome c.brace_behind-brace.result (λ offset. IsPlaced w.now (BadLabel offset))) c.split_label-offset.ensures.same
-      c.brace_behind-brace.ensures.placed,
+  rw c.split_label-offset.ensures.same at c.brace_behind-brace.ensures.placed,
 )

@@ -1,6 +1,4 @@
-use Rattle.std.proofs.Common.{◌≡◌, ◌∙◌, ◌+◌, ◌-◌, ◌/◌, true, sym, subst, arith}
-use Rattle.std.specs.Ordering.{nat_cmp, is_lt}
-use Rattle.std.specs.Cmp.Lexicographic.{slice_cmp}
+use Rattle.std.proofs.Common.{◌∙◌, ◌+◌, ◌-◌, ◌/◌, sym, arith}
 use Rattle.std.proofs.lemmas.List.{get_or_default}
 use Rattle.sedck_script.proofs.NameLemmas.{rising_split}
 use Rattle.sedck_script.proofs.names.place_among.Goals as goal
@@ -11,8 +9,6 @@ loop-low-preserved-then-is_before c = record {
   within = c.loop-low.invariant.within;
   before = λ k d lt. rising_split c.args.names.now c.args.name.now c.requires k (c.loop-low.low + (c.loop-low.high - c.loop-low.low) / 2) d
       (omega arith) (omega arith)
-      (subst (λ n. is_lt (slice_cmp nat_cmp n.now c.args.name.now) ≡ true)
-      (get_or_default c.args.names.now (c.loop-low.low + (c.loop-low.high - c.loop-low.low) / 2) _ d (omega arith))
-      (sym c.is_before.ensures ∙ c.if-is_before.true));
+      (rw (get_or_default c.args.names.now (c.loop-low.low + (c.loop-low.high - c.loop-low.low) / 2) _ d (omega arith)) at (sym c.is_before.ensures ∙ c.if-is_before.true));
   behind = c.loop-low.invariant.behind;
 }

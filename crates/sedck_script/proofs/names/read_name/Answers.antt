@@ -1,6 +1,6 @@
 use Rattle.std.proofs.Common.{◌∙◌, sym, arith, inl, inr}
 use Rattle.std.proofs.lemmas.Bool.{false≢true}
-use Rattle.sedck_script.specs.Parts.{is_skipped}
+use Rattle.sedck_script.specs.Private.NameReading.{is_skipped}
 use Rattle.sedck_script.proofs.PartLemmas.{name_some, name_plain, name_over, first_passes}
 use Rattle.sedck_script.proofs.names.read_name.Goals as goal
 

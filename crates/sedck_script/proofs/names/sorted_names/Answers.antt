@@ -2,9 +2,8 @@ use Rattle.std.proofs.Common.{◌≡◌, ◌∙◌, ◌-◌, suc, map, drop, ap,
 use Rattle.std.proofs.Math.Seq.{drop-length}
 use Rattle.std.specs.Option.{option_copied}
 use Rattle.sedck_script.specs.View.{verb_of, command_of}
-use Rattle.sedck_script.specs.Names.{AreIncreasing, sorted_names}
+use Rattle.sedck_script.specs.Names.{AreIncreasing, sorted_names, accessed}
 use Rattle.sedck_script.specs.declared.script.Command.{Command}
-use Rattle.sedck_script.specs.Names.{accessed}
 use Rattle.sedck_script.specs.Private.NameReading.{all_accessed, with_any}
 use Rattle.sedck_script.proofs.SortedNames.{sorted_names-rise}
 use Rattle.sedck_script.proofs.NameLemmas.{names_from}

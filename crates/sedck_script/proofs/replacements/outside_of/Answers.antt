@@ -27,8 +27,7 @@ returns-in-Previous c =
 kept_of : {tree : Tree} {bits : ℕ} {pattern : Pattern} {parts : List Part} → pattern ≡ Expression tree → All IsPart parts
     → Some bits ≡ kept_from pattern (Some 0) parts
     → Keeps (Expression tree) 0 parts bits
-kept_of {bits = bits} {parts = parts} is h read =
-    kept_keeps _ 0 parts bits (recursion_from_All IsPart parts h) (subst (λ p. kept_from p (Some 0) parts ≡ Some bits) is (sym read))
+kept_of {bits = bits} {parts = parts} is h read = kept_keeps _ 0 parts bits (recursion_from_All IsPart parts h) (rw is at (sym read))
 
 pub least_outside-requires : goal.least_outside-requires
 least_outside-requires c = names_top (kept_of (ap pattern_of c.in-Expr.is) c.requires c.in_ok-groups.ensures)

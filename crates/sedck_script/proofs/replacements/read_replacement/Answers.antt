@@ -1,10 +1,7 @@
-use Rattle.std.proofs.Common.{◌∙◌, ap, map, subst}
-use Rattle.std.specs.Prelude.{option_map}
+use Rattle.std.proofs.Common.{◌∙◌, ap, map}
 use Rattle.std.proofs.lemmas.List.{map_push}
-use Rattle.sedck_text.specs.Cursors.{unread}
 use Rattle.sedck_script.specs.Private.PieceReading.{IsPartPlaced}
 use Rattle.sedck_script.specs.View.{part_of}
-use Rattle.sedck_script.specs.Private.ReplacementReading.{IsNextPart}
 use Rattle.sedck_script.proofs.ResultLemmas.{if_err_each, if_err_same}
 use Rattle.sedck_script.proofs.ReplacementLemmas.{parts_more, parts_end, parts_stuck}
 use Rattle.sedck_script.proofs.replacements.read_replacement.Goals as goal
@@ -14,16 +11,13 @@ returns-in_err-part-clause-refused c = if_err_each _ c.from_residual.result (λ 
 
 pub returns-in_default-clause-read : goal.returns-in_default-clause-read
 returns-in_default-clause-read c =
-    parts_end c.loop-parts.invariant.1
-    (subst (λ x. IsNextPart c.args.delimiter c.args.greatest (unread c.loop-parts.rest)
-    (option_map part_of x) (unread c.in_ok-part.behind)) c.in_default.is c.in_ok-part.ensures.read)
+    parts_end c.loop-parts.invariant.1 (rw c.in_default.is at c.in_ok-part.ensures.read)
 
 pub loop-parts-preserved : goal.loop-parts-preserved
 loop-parts-preserved c = (
   c.in_ok-part.ensures.same ∙ c.loop-parts.invariant.0,
   parts_more _ (ap (map part_of) c.in_ok-push.ensures.items ∙ map_push part_of c.loop-parts.parts.items _) c.loop-parts.invariant.1
-      (subst (λ x. IsNextPart c.args.delimiter c.args.greatest (unread c.loop-parts.rest)
-      (option_map part_of x) (unread c.in_ok-part.behind)) c.in-Some.is c.in_ok-part.ensures.read),
+      (rw c.in-Some.is at c.in_ok-part.ensures.read),
 )
 
 pub returns-in_err-part-clause-placed : goal.returns-in_err-part-clause-placed

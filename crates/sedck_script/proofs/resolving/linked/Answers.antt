@@ -1,12 +1,11 @@
-use Rattle.std.proofs.Common.{inl, inr, sym, subst}
-use Rattle.std.specs.Prelude.{All, Any}
-use Rattle.sedck_script.specs.Private.ItemReading.{item_of, item_label, IsLostLabel, IsKnownLabel, IsItemAt}
+use Rattle.std.proofs.Common.{inl, inr, subst}
+use Rattle.std.specs.Prelude.{Any}
+use Rattle.sedck_script.specs.Private.ItemReading.{item_of, item_label, IsLostLabel}
 use Rattle.sedck_script.proofs.ResultLemmas.{if_err_from, if_err_more}
 use Rattle.sedck_script.proofs.resolving.linked.Goals as goal
 
 pub resolve-requires-clause-known : goal.resolve-requires-clause-known
-resolve-requires-clause-known c =
-    subst (λ items. All (λ item. IsKnownLabel c.args.labels.now (item_label (item_of item))) items) c.deref.ensures.value c.in_ok-check_targets.ensures.known
+resolve-requires-clause-known c = rw c.deref.ensures.value at c.in_ok-check_targets.ensures.known
 
 pub returns-in_err-check_targets-clause-lost : goal.returns-in_err-check_targets-clause-lost
 returns-in_err-check_targets-clause-lost c =
@@ -15,9 +14,8 @@ returns-in_err-check_targets-clause-lost c =
     (λ items. Any (λ item. IsLostLabel c.args.labels.now (item_label (item_of item))) items) c.deref.ensures.value c.in_err-check_targets.ensures.lost)
 
 pub returns-in_err-check_targets-clause-placed : goal.returns-in_err-check_targets-clause-placed
-returns-in_err-check_targets-clause-placed c =
-    if_err_from _ c.from_residual.result _ c.from_residual.ensures.1
-    (λ text places. inr (c.in_err-check_targets.ensures.placed text (subst (λ items. All (IsItemAt text) items) (sym c.deref.ensures.value) places)))
+returns-in_err-check_targets-clause-placed c = if_err_from _ c.from_residual.result _ c.from_residual.ensures.1
+    (λ text places. inr (c.in_err-check_targets.ensures.placed text (rw (← c.deref.ensures.value) at places)))
 
 pub returns-clause-lost : goal.returns-clause-lost
 returns-clause-lost c = if_err_more c.resolve.result (λ fault is memory. absurd (memory is)) c.resolve.ensures.memory

@@ -1,6 +1,5 @@
 use Rattle.std.proofs.Common.{◌-◌, ◌<◌, ◌≤◌, ◌^◌, [], map, refl, ◌∙◌, sym, subst, arith}
 use Rattle.sedck_script.specs.Program.{literal_length}
-use Rattle.std.specs.List.{All}
 use Rattle.std.proofs.lemmas.List.Elements.{All-from_recursion}
 use Rattle.sedck_text.specs.Cursors.{unread}
 use Rattle.sedck_text.proofs.Cursors.{unread_length}
@@ -44,8 +43,7 @@ returns-in_err-parts-clause-refused c =
 
 pub outside_of-outside-requires : goal.outside_of-outside-requires
 outside_of-outside-requires c =
-    subst (λ parts. All IsPart (map part_of parts)) (sym c.deref.ensures.value)
-    (All-from_recursion IsPart (map part_of c.in_ok-parts.parts.items) (replacement_parts c.in_ok-parts.ensures.read))
+    rw (← c.deref.ensures.value) at (All-from_recursion IsPart (map part_of c.in_ok-parts.parts.items) (replacement_parts c.in_ok-parts.ensures.read))
 
 pub returns-in_err-seen-clause-placed : goal.returns-in_err-seen-clause-placed
 returns-in_err-seen-clause-placed c = if_err_same IsPlaced c.from_residual-in_err-seen.result _ c.from_residual-in_err-seen.ensures.1

@@ -1,4 +1,4 @@
-use Rattle.std.proofs.Common.{◌≡◌, ◌<◌, ◌≤◌, ◌+◌, ℕ, List, Bool, true, false, length, refl, sym, ap, ◌∙◌, subst, inl, inr, arith}
+use Rattle.std.proofs.Common.{◌≡◌, ◌<◌, ◌≤◌, ◌+◌, ℕ, List, Bool, true, false, length, sym, ap, ◌∙◌, subst, inl, inr, arith}
 use Rattle.std.proofs.lemmas.Bool.{cases_lt, true≢false}
 use Rattle.sedck_flow.specs.Nodes.{node_index}
 use Rattle.sedck_search.specs.Private.Distances.{IsSettled, total}
@@ -11,8 +11,7 @@ relax_at-requires-clause-some c = c.loop-step.invariant.some
 -- the distances have not become longer so far
 at_most : (shorter : Bool) (distances before : List ℕ) → (shorter ≡ true → total distances < total before) → (shorter ≡ false → distances ≡ before)
     → total distances ≤ total before
-at_most true distances before less same = omega (arith, less refl)
-at_most false distances before less same = omega (arith, ap total (same refl))
+at_most shorter distances before less same = grind arith
 
 pub loop-step-preserved : goal.loop-step-preserved
 loop-step-preserved c =

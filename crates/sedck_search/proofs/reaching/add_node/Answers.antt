@@ -1,5 +1,5 @@
 use Rattle.std.specs.Prelude.{not}
-use Rattle.std.proofs.Common.{◌≡◌, Bool, true, false, refl, sym, ap, ◌∙◌, subst, arith}
+use Rattle.std.proofs.Common.{◌≡◌, Bool, true, false, sym, ap, ◌∙◌, subst, arith}
 use Rattle.sedck_flow.specs.Nodes.{node_index}
 use Rattle.sedck_search.specs.Private.NodeSet.{has, HasChanged}
 use Rattle.sedck_search.specs.Private.Frontier.{AddsNode}
@@ -7,8 +7,7 @@ use Rattle.sedck_search.proofs.Frontiers.{added_none, added_new, sets_new}
 use Rattle.sedck_search.proofs.reaching.add_node.Goals as goal
 
 by_test : (b : Bool) → not b ≡ true → b ≡ false
-by_test false e = refl
-by_test true e = cc
+by_test b e = grind arith
 
 absent : (c : goal.After-min) → has c.args.reached.now c.index-index.result ≡ false
 absent c = by_test (has c.args.reached.now c.index-index.result) (sym c.insert.ensures.new ∙ c.if-not-insert.false)

@@ -1,6 +1,7 @@
 use Rattle.std.proofs.Common.{sym, subst}
 use Rattle.std.specs.Prelude.{◌||◌, ◌==◌}
-use Rattle.sedck_bre.specs.Brackets.{is_from, in_class}
+use Rattle.sedck_bre.specs.Brackets.{is_from}
+use Rattle.sedck_bre.specs.Private.BracketCode.{in_class}
 use Rattle.sedck_bre.specs.Private.Sets.{HasJust}
 use Rattle.sedck_bre.specs.Private.BracketCode.{class_of}
 use Rattle.sedck_bre.proofs.brackets.elements.class_members.Goals as goal

@@ -1,5 +1,6 @@
 use Rattle.std.proofs.Common.{◌≡◌, ℕ, ◌≤◌, min, length, arith, subst}
 use Rattle.std.proofs.lemmas.List.{get_or-replicate}
+use Rattle.sedck_bre.proofs.LeastLemmas.{are_numbered}
 use Rattle.sedck_bre.specs.Lengths.{cap, IsLeastSize, HasLength}
 use Rattle.sedck_bre.specs.View.{tree}
 use Rattle.sedck_bre.specs.Private.Bounds.{no_bounds, least}
@@ -11,7 +12,7 @@ use Rattle.sedck_bre.proofs.tree.Expr.new.Goals as goal
 
 is_least : (t : Tree) (n : ℕ) → IsWellFormed t → n ≡ min (least no_bounds t) cap → IsLeastSize (HasLength t) n
 is_least t n f e = record {
-  floor = λ m h. let low : least no_bounds t ≤ length h.0 = least-floor t h.0 f.numbered h.1 in omega (arith, low, h.2);
+  floor = λ m h. let low : least no_bounds t ≤ length h.0 = least-floor t h.0 (are_numbered t f) h.1 in omega (arith, low, h.2);
   met = λ l. let s : least no_bounds t ≡ n = omega arith in subst (HasLength t) s (least-met t f);
   capped = omega arith;
 }

@@ -1,4 +1,4 @@
-use Rattle.std.proofs.Common.{refl, codes, [], ◌∷◌, arith, ◌<◌, length}
+use Rattle.std.proofs.Common.{refl, codes, arith, ◌<◌, length}
 use Rattle.sedck_cert.specs.Faults.{Last, Nothing}
 use Rattle.sedck_cert.proofs.LineLemmas.{wrong_word, stops_here, leads_one, leads_stops}
 use Rattle.sedck_cert.proofs.reading.frame.ending.Goals as goal
@@ -10,5 +10,5 @@ returns-then-not-next_is-clause-refused c v = stops_here v Last _ _ (wrong_word 
 pub returns-then-not-is_empty-clause-refused : goal.returns-then-not-is_empty-clause-refused
 returns-then-not-is_empty-clause-refused c v =
     let some : 0 < length c.next_is.new.lines.rest.now = grind (arith, c.if-not-is_empty.ensures) in
-    leads_stops v Last Nothing (codes "end" ∷ []) _ (leads_one v Last Nothing (codes "end") c.if-not-next_is.ensures.same (refl, refl))
+    leads_stops (leads_one v Last Nothing (codes "end") c.if-not-next_is.ensures.same (refl, refl))
     (stops_here v Nothing _ _ some refl)

@@ -2,12 +2,11 @@ use Rattle.std.proofs.Common.{ℕ, refl}
 use Rattle.sedck_cert.specs.Faults.{Names, list_word}
 use Rattle.sedck_cert.specs.Private.Reading.{Stops}
 use Rattle.sedck_cert.specs.declared.versions.Version.{Version}
-use Rattle.sedck_cert.proofs.LineLemmas.{wrong_count, stops_here, refused_or, none_of}
+use Rattle.sedck_cert.proofs.LineLemmas.{wrong_count, stops_here, refused_or}
 use Rattle.sedck_cert.proofs.reading.names.list_count.Goals as goal
 
 pub returns-clause-refused : goal.returns-clause-refused
 returns-clause-refused c = rw c.ok_or.ensures.value
-    (refused_or (λ fault. (v : Version) (size : ℕ) → Stops v (Names c.args.files size) c.args.lines.now fault) c.next_count.result _ (λ none v size.
-    let why = none_of _ _ _ c.next_count.ensures none in
+    (refused_or (λ fault. (v : Version) (size : ℕ) → Stops v (Names c.args.files size) c.args.lines.now fault) _ c.next_count.result _ c.next_count.ensures (λ why v size.
     stops_here v (Names c.args.files size) _ _ (wrong_count v (Names c.args.files size) _ (list_word c.args.files)
     (λ text next due. (due.0, due.1, due.2)) (rw c.word.ensures at why)) refl))

@@ -1,15 +1,16 @@
-use Rattle.std.proofs.Common.{◌-◌, ◌≤◌, ◌++◌, ◌∷◌, length, decimal}
+use Rattle.std.proofs.Common.{◌≡◌, ℕ, ◌+◌, ◌-◌, ◌≤◌, ◌++◌, ◌∷◌, length, decimal}
 use Rattle.sedck_cert.specs.View.{names_of}
-use Rattle.sedck_cert.specs.Faults.{Names, list_word}
+use Rattle.sedck_cert.specs.Faults.{Names, list_word, names_due}
 use Rattle.sedck_cert.specs.declared.versions.Version.{Version}
-use Rattle.sedck_cert.specs.Private.Reading.{Leads, names_due, one_before}
+use Rattle.sedck_cert.specs.Private.Reading.{Leads, one_before}
 use Rattle.sedck_cert.proofs.reading.names.names.Given as goal
 
 -- the names so far
 abbrev pub invariant-loop-before : goal.invariant-loop-before
 invariant-loop-before l =
-    ((v : Version) → Leads v (Names l.fn.files l.fn.size) l.fn.lines ((list_word l.fn.files ++ decimal l.count) ∷ names_of l.names.items) l.lines
-    (names_due l.fn.files (l.count - length l.names.items) (one_before l.before) l.size))
+    ((v : Version) (left : ℕ) → length l.names.items + left ≡ l.count
+    → Leads v (Names l.fn.files l.fn.size) l.fn.lines ((list_word l.fn.files ++ decimal l.count) ∷ names_of l.names.items) l.lines
+    (names_due l.fn.files left (one_before l.before) l.size))
     × (length l.names.items ≤ l.count)
     × (l.size ≤ 1048576)
 

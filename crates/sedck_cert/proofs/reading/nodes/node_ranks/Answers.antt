@@ -1,6 +1,10 @@
-use Rattle.sedck_cert.specs.Text.{words_in}
-use Rattle.sedck_cert.proofs.CutLemmas.{ranks_behind}
+use Rattle.std.proofs.Common.{◌++◌, codes, append_assoc, sym, ◌∙◌}
+use Rattle.sedck_cert.specs.Certificate.{AreWithin}
+use Rattle.sedck_cert.specs.Text.{words_in, ranks_text}
+use Rattle.sedck_cert.proofs.CutLemmas.{read_behind}
 use Rattle.sedck_cert.proofs.reading.nodes.node_ranks.Goals as goal
 
 pub returns : goal.returns
-returns c = ranks_behind _ (words_in c.args.version c.args.index) _ c.ranks.result c.in_ok-behind_words.ensures c.ranks.ensures
+returns c =
+    let words = words_in c.args.version c.args.index in
+    read_behind AreWithin ranks_text _ (words ++ codes " ") _ c.ranks.result (c.in_ok-behind_words.ensures ∙ sym (append_assoc words (codes " ") _)) c.ranks.ensures

@@ -1,13 +1,14 @@
-use Rattle.std.proofs.Common.{◌≡◌, ◌-◌, length, All}
+use Rattle.std.proofs.Common.{◌≡◌, ℕ, ◌+◌, length, All}
 use Rattle.sedck_cert.specs.Certificate.{AreWithin, nodes_in}
-use Rattle.sedck_cert.specs.Faults.{Node}
-use Rattle.sedck_cert.specs.Private.Reading.{Leads, node_texts, nodes_due}
+use Rattle.sedck_cert.specs.Faults.{nodes_due}
+use Rattle.sedck_cert.specs.Text.{node_texts}
+use Rattle.sedck_cert.specs.Private.Reading.{Leads}
 use Rattle.sedck_cert.proofs.reading.nodes.nodes.Given as goal
 
 -- the nodes so far
 abbrev pub invariant-loop-node : goal.invariant-loop-node
 invariant-loop-node l =
-    Leads l.version (Node 0 (nodes_in l.version l.commands - 1)) l.initial.lines (node_texts l.version 0 l.ranks.items) l.lines
-    (nodes_due l.node (nodes_in l.version l.commands - l.node))
+    ((left : ℕ) → l.node + left ≡ nodes_in l.version l.commands
+    → Leads l.version (nodes_due 0 (nodes_in l.version l.commands)) l.initial.lines (node_texts l.version 0 l.ranks.items) l.lines (nodes_due l.node left))
     × All AreWithin l.ranks.items
     × (length l.ranks.items ≡ l.node)
