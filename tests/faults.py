@@ -20,7 +20,7 @@ FAULT = r"(?:^## |^\| |, |^\| `rejected )(\d+) `?([a-z][\w-]+)(?=[`,:\n ])"
 # A refused expression is a finding by its own fault, and lack of memory is none.
 NO_FINDINGS = {"bad-expression", "out-of-memory"}
 CODES = "crates/sedck_report/src/code.rt"
-FAULTS = ["crates/sedck_script/src/fault.rt", "crates/sedck_bre/src/fault.rt", "crates/sedck_cert/src/reading.rt"]
+FAULTS = ["crates/sedck_commands/src/fault.rt", "crates/sedck_expressions/src/fault.rt", "crates/sedck_cert/src/reading.rt"]
 ROWS = "crates/sedck_formats/src/codes.rt"
 
 

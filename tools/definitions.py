@@ -15,6 +15,10 @@ TOP = Path(__file__).resolve().parent.parent
 # The libraries, lowest first; what is in a crate's tests alone needn't be believed.
 NAMES = re.findall(r"^(\w+)(?: [^:]*)?:", (TOP / "crates.txt").read_text(), re.M)
 CRATES = [name for name in NAMES if (TOP / "crates" / name / "src" / "lib.rt").exists() and not name.endswith("_tests")]
+# Modules that a crate passes on from one below, each with its own name.
+PASSED = {f"Rattle.{name}.specs.{module.rpartition('.')[2]}": module for name in CRATES
+          for path in [TOP / "crates" / name / "specs/Lib.antt"] if path.exists()
+          for module in re.findall(r"^pub use (Rattle\.\w+\.specs\.\w+)$", path.read_text(), re.M)}
 TOKEN = re.compile(r"[^\s(){}\[\];,λ→×∷\"]+")
 STRING = re.compile(r'"(?:[^"\\]|\\.)*"')
 
@@ -34,6 +38,8 @@ def uses(text, scope):
     """Reads the lines that import words: the local name of each, with its module and its name there."""
     for match in re.finditer(r"^\s*(?:pub |ghost )*use (Rattle\.[\w.]+?)(?:\.\{(.*?)\}| as (\w+))?;?\s*$", text, re.M | re.S):
         module, words, alias = match.groups()
+        while module in PASSED:
+            module = PASSED[module]
         if words is None:
             scope["modules"][alias or module.rpartition(".")[2]] = module
         else:
@@ -352,27 +358,28 @@ class Book:
 ORDER = """
 cert.Headline
 flow.Run flow.Substitutes flow.Patterns
-bre.Match bre.Tree
-script.Program script.Names
-script.Spelling script.Items script.Resolution script.Parts script.BracketLists script.Cuts
-bre.Shape bre.Brackets bre.WellFormed text.Classes text.Runs text.Text text.Bytes
-cert.Ranked flow.Flow flow.Nodes script.References bre.Rests
+bre.Match expressions.Tree
+commands.Program script.Names
+script.Spelling commands.Items script.Resolution commands.Parts commands.BracketLists commands.Cuts
+expressions.Shape expressions.Brackets expressions.WellFormed text.Classes text.Runs text.Text text.Bytes
+cert.Ranked flow.Flow flow.Nodes commands.References bre.Rests
 cert.Certificate cert.Text cert.Versions cert.VersionOne
 cert.Everywhere flow.WideRun bre.WideMatch script.ByteSafe
 cert.Rejections
 cert.Bounds cert.StepLimit flow.Spaces
 text.Cursors model.Spots model.States
 search.Found search.Obstacle search.Rows search.NodeSet flow.VersionOne flow.LiteralKinds search.VersionOne
-script.Locations plain.Plain
-script.Faults bre.Faults cert.Faults
-script.FaultWords bre.FaultWords cert.FaultText cli.Lines
+commands.Locations plain.Plain
+commands.ReadItems commands.Labels commands.Blocks
+commands.Faults expressions.Faults cert.Faults
+commands.FaultWords expressions.FaultWords cert.FaultText cli.Lines
 flow.Words engines.Reports engines.Engines cli.Statuses cli.Causes engines.Faults cert.Streams engines.Inputs engines.Opened
 explanation.Answers explanation.Status explanation.Denial explanation.Explanations explanation.Errors errors.Errors formats.Plain explain_cli.Explained explain_cli.Spelled explain_cli.Statuses calls_in_files.Lines explain_cli.CallStatus explain_cli.Readings explain_cli.Requests explain_cli.Answers report.Positions report.Shown report.Codes report.Levels report.Files report.Reported advice.Slow advice.Concerns advice.Added report.Html report.Ascii
 explanation.Called calls_in_files.Judged calls_in_files.Placed calls_in_files.Scanned origin.Traced origin.Texts call.Words call.Options call.Calls call.Origins call.Scripts
 formats.Names
 bre.Lengths script.Shortest script.Invariant
-bre.View script.View script.ReplacementView cert.View
-bre.Laws bre.Examples script.Laws script.First script.Examples flow.Laws flow.Examples cert.Laws search.Laws
+expressions.View commands.View commands.ReplacementView commands.ItemView script.View cert.View
+bre.Laws bre.Examples commands.Laws script.Laws script.First script.Examples flow.Laws flow.Examples cert.Laws search.Laws
 """.split()
 
 # What is promised, in parts, and these in groups with the contracts that they rest on. tools/definitions.txt has the texts.
@@ -389,8 +396,8 @@ PARTS = [
     ], [
         ("The bound", [("sedck_cert", "bound", None), ("sedck_cert", "steady_runs_are_counted", None)]),
         ("The search", [("sedck_search", "search", None), ("sedck_search", "count_bits", None)]),
-        ("Readers and faults", [("sedck_bre", "parse", None), ("sedck_script", "parse", None), ("sedck_cert", "read_cert", None), ("sedck_cert", "read_any", None),
-         ("sedck_bre", "ReFault*", None), ("sedck_script", "ScriptFault*", None), ("sedck_cert", "CertFault*", None)]),
+        ("Readers and faults", [("sedck_expressions", "read_tree", None), ("sedck_bre", "parse", None), ("sedck_commands", "read_items", None), ("sedck_script", "parse", None), ("sedck_cert", "read_cert", None), ("sedck_cert", "read_any", None),
+         ("sedck_expressions", "ReFault*", None), ("sedck_commands", "ScriptFault*", None), ("sedck_cert", "CertFault*", None)]),
         ("Where commands are", [("sedck_script", "locate", ("count", "locations", "order"))]),
         ("The plain spelling", [("sedck_plain", "*", None)]),
         ("Reports and statuses", [("sedck_engines", "*", None), ("sedck_cli", "*", None), ("sedck_cert", "write_cert", None)]),

@@ -8,7 +8,7 @@ use Rattle.std.proofs.lemmas.List.Sums.{sum_by_push}
 use Rattle.sedck_bre.specs.Tree.{trees}
 use Rattle.sedck_bre.specs.Lengths.{cap}
 use Rattle.sedck_bre.specs.View.{tree}
-use Rattle.sedck_bre.specs.declared.tree.Bre.{Bre}
+use Rattle.sedck_expressions.specs.declared.tree.Bre.{Bre}
 use Rattle.sedck_bre.proofs.CappedSums.{capped_sum}
 use Rattle.sedck_report.specs.Levels.{is_warning, has_warning}
 use Rattle.sedck_report.specs.declared.finding.Finding.{Finding}

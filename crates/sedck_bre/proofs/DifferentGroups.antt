@@ -1,20 +1,22 @@
 -- Outside of different groups that are items of the expression, however many there are, a match has a least rest.
-use Rattle.std.proofs.Common.{◌≡◌, ℕ, ◌+◌, ◌≤◌, Bool, true, false, IsTrue, List, [], ◌∷◌, length, refl, sym, ap, ◌∙◌, arith}
-use Rattle.std.specs.Prelude.{◌==◌, ◌||◌, if◌then◌else◌}
+use Rattle.std.proofs.Common.{◌≡◌, min, ℕ, zero, suc, ◌+◌, ◌≤◌, Bool, true, false, IsTrue, List, [], ◌∷◌, filter, length, refl, sym, ◌∙◌, arith}
+use Rattle.std.specs.List.{range_with_len}
+use Rattle.std.specs.Int.{bit_at}
 use Rattle.std.proofs.lemmas.Bool.{false≢true}
 use Rattle.std.proofs.lemmas.Bool.Decides.{nat_tests}
-use Rattle.sedck_bre.specs.Tree.{Tree, Trees, Byte, Any, Set, Start, End, Maybe, Group, Ref, Seq, Repeat, Nil, Then, groups_in, groups_in_all, is_in}
+use Rattle.std.proofs.lemmas.Nat.Bits.{bit_at-zero}
+use Rattle.sedck_expressions.specs.Tree.{Tree, Trees, Seq, groups_in_all, is_in}
 use Rattle.sedck_bre.specs.Match.{Groups, no_groups}
 use Rattle.sedck_bre.specs.WideMatch.{WideMatch}
-use Rattle.sedck_bre.specs.WellFormed.{IsWellFormed}
-use Rattle.sedck_bre.specs.Rests.{is_item, is_top_group, texts_length, HasRest, IsLeastRest}
-use Rattle.sedck_bre.specs.Private.Bounds.{no_bounds, least, after_all, outside_picked, CountsFrom}
-use Rattle.sedck_bre.proofs.LeastLemmas.{CountsFrom-right, are_numbered}
-use Rattle.sedck_bre.proofs.LeastFloor.{floor_all, wide-floor}
-use Rattle.sedck_bre.proofs.LeastReached.{least-met}
-use Rattle.sedck_bre.proofs.NamedSums.{item_sum, items_sum, without, items_sum-below, items_sum-grows, later_item}
-use Rattle.sedck_bre.proofs.LeastRest.{HasWideFloor, lengths, outside-floor, outside-split, least-rest}
-use Rattle.sedck_bre.proofs.MatchIsWide.{widens}
+use Rattle.sedck_expressions.specs.WellFormed.{IsWellFormed}
+use Rattle.sedck_bre.specs.Lengths.{cap, IsLeastSize, HasLength}
+use Rattle.sedck_bre.specs.Rests.{is_top_group, names, named, NamesTopGroups, texts_length, HasRest, IsLeastRest}
+use Rattle.sedck_bre.specs.Private.Bounds.{no_bounds, outside}
+use Rattle.sedck_expressions.specs.Private.Numbering.{CountsFrom}
+use Rattle.sedck_expressions.proofs.BracketSets.{below_from, in_from}
+use Rattle.sedck_expressions.proofs.NumberedGroups.{are_numbered}
+use Rattle.sedck_bre.proofs.NamedSums.{items_sum, without, items_sum-none, items_sum-same, items_sum-split, texts_sum, sum_of-none}
+use Rattle.sedck_bre.proofs.LeastRest.{HasWideFloor, lengths, items_rest, whole_rest, least-rest, least-size}
 
 -- each is an item of the whole expression, and none is there twice
 abbrev pub AreDifferentTopGroups : Tree → List ℕ → Type 0
@@ -25,149 +27,99 @@ AreDifferentTopGroups t (k ∷ ks) = IsTrue (is_top_group t k) × (is_in k ks �
 abbrev listed : List ℕ → ℕ → Bool
 listed ks k = is_in k ks
 
--- ---- Sums over the items that are in a list
-
-item_sum-same : (p q : ℕ → Bool) (f : ℕ → ℕ) (t : Tree) → ((k : ℕ) → p k ≡ q k) → item_sum p f t ≡ item_sum q f t
-item_sum-same p q f (Group k body) h = ap (λ b. if b then f k else 0) (h k)
-item_sum-same p q f (Byte b) h = refl
-item_sum-same p q f Any h = refl
-item_sum-same p q f (Set words) h = refl
-item_sum-same p q f Start h = refl
-item_sum-same p q f End h = refl
-item_sum-same p q f (Maybe b) h = refl
-item_sum-same p q f (Ref k) h = refl
-item_sum-same p q f (Seq ts) h = refl
-item_sum-same p q f (Repeat body l most) h = refl
-
-items_sum-same : (p q : ℕ → Bool) (f : ℕ → ℕ) (ts : Trees) → ((k : ℕ) → p k ≡ q k) → items_sum p f ts ≡ items_sum q f ts
-items_sum-same p q f Nil h = refl
-items_sum-same p q f (Then t ts) h = omega (arith, item_sum-same p q f t h, items_sum-same p q f ts h)
-
-item_sum-none : (f : ℕ → ℕ) (t : Tree) → item_sum (listed []) f t ≡ 0
-item_sum-none f (Group k body) = refl
-item_sum-none f (Byte b) = refl
-item_sum-none f Any = refl
-item_sum-none f (Set words) = refl
-item_sum-none f Start = refl
-item_sum-none f End = refl
-item_sum-none f (Maybe b) = refl
-item_sum-none f (Ref k) = refl
-item_sum-none f (Seq ts) = refl
-item_sum-none f (Repeat body l most) = refl
-
-items_sum-none : (f : ℕ → ℕ) (ts : Trees) → items_sum (listed []) f ts ≡ 0
-items_sum-none f Nil = refl
-items_sum-none f (Then t ts) = omega (arith, item_sum-none f t, items_sum-none f ts)
-
-beside_nothing : (a b c : ℕ) → a ≡ c + b → 0 + a ≡ c + (0 + b)
-beside_nothing a b c h = omega (arith, h)
-
--- a group that is picked and an item is in the sum once
-items_sum-split : (picked : ℕ → Bool) (f : ℕ → ℕ) (j : ℕ) (ts : Trees) (n : ℕ) → CountsFrom n (groups_in_all ts) → picked j ≡ true
-    → is_item j ts ≡ true → items_sum picked f ts ≡ f j + items_sum (without j picked) f ts
-items_sum-split picked f j Nil n h p item = absurd (false≢true item)
-items_sum-split picked f j (Then (Group i body) ts) n h p item = go (i == j) refl (items_sum-split picked f j ts (n + length (i ∷ groups_in body)) more p)
-  where
-    more : CountsFrom (n + length (i ∷ groups_in body)) (groups_in_all ts)
-    more = CountsFrom-right n (i ∷ groups_in body) (groups_in_all ts) h
-
-    go : (b : Bool) → (i == j) ≡ b → (is_item j ts ≡ true → items_sum picked f ts ≡ f j + items_sum (without j picked) f ts)
-        → items_sum picked f (Then (Group i body) ts) ≡ f j + items_sum (without j picked) f (Then (Group i body) ts)
-    go true s behind =
-        let first : i ≡ n = h.0 in
-        let same : i ≡ j = grind (arith, nat_tests) in
-        let here : picked i ≡ true = ap picked same ∙ p in
-        let value : f i ≡ f j = ap f same in
-        let others = items_sum-below picked f ts (n + length (i ∷ groups_in body)) j more (omega arith) in
-        rw (s, here) (omega (arith, others, value))
-    go false s behind = let others = behind (later_item (i == j) (is_item j ts) s item) in rw s (omega (arith, others))
-items_sum-split picked f j (Then (Byte b) ts) n h p item = beside_nothing _ _ _ (items_sum-split picked f j ts n h p item)
-items_sum-split picked f j (Then Any ts) n h p item = beside_nothing _ _ _ (items_sum-split picked f j ts n h p item)
-items_sum-split picked f j (Then (Set words) ts) n h p item = beside_nothing _ _ _ (items_sum-split picked f j ts n h p item)
-items_sum-split picked f j (Then Start ts) n h p item = beside_nothing _ _ _ (items_sum-split picked f j ts n h p item)
-items_sum-split picked f j (Then End ts) n h p item = beside_nothing _ _ _ (items_sum-split picked f j ts n h p item)
-items_sum-split picked f j (Then (Maybe b) ts) n h p item = beside_nothing _ _ _ (items_sum-split picked f j ts n h p item)
-items_sum-split picked f j (Then (Ref k) ts) n h p item = beside_nothing _ _ _ (items_sum-split picked f j ts n h p item)
-items_sum-split picked f j (Then (Seq us) ts) n h p item =
-    beside_nothing _ _ _ (items_sum-split picked f j ts (n + length (groups_in (Seq us))) (CountsFrom-right n (groups_in (Seq us)) (groups_in_all ts) h) p item)
-items_sum-split picked f j (Then (Repeat body l most) ts) n h p item =
-    beside_nothing _ _ _ (items_sum-split picked f j ts (n + length (groups_in body)) (CountsFrom-right n (groups_in body) (groups_in_all ts) h) p item)
-
 -- without its first number a list has the others
 without_first : (j : ℕ) (js : List ℕ) → is_in j js ≡ false → (k : ℕ) → without j (listed (j ∷ js)) k ≡ listed js k
-without_first j js absent k = go (k == j) refl
-  where
-    go : (b : Bool) → (k == j) ≡ b → (if b then false else listed (j ∷ js) k) ≡ listed js k
-    go true s = let same : j ≡ k = grind (arith, nat_tests) in sym absent ∙ ap (listed js) same
-    go false s = let other : (j == k) ≡ false = grind (arith, nat_tests) in ap (λ b. b || listed js k) other
-
-first_listed : (j : ℕ) (js : List ℕ) → listed (j ∷ js) j ≡ true
-first_listed j js = let here : (j == j) ≡ true = grind (arith, nat_tests) in ap (λ b. b || listed js j) here
+without_first j js absent k = grind (arith, nat_tests)
 
 -- the texts of the groups are those of the items that are in the list
 texts_items : (e : Groups) (ts : Trees) → CountsFrom 1 (groups_in_all ts) → (ks : List ℕ) → AreDifferentTopGroups (Seq ts) ks
     → texts_length e ks ≡ items_sum (listed ks) (lengths e) ts
-texts_items e ts h [] top = sym (items_sum-none (lengths e) ts)
+texts_items e ts h [] top = sym (items_sum-none (listed []) (lengths e) ts (λ k. refl))
 texts_items e ts h (k ∷ ks) top =
-    let split = items_sum-split (listed (k ∷ ks)) (lengths e) k ts 1 h (first_listed k ks) top.0 in
-    let others = items_sum-same (without k (listed (k ∷ ks))) (listed ks) (lengths e) ts (without_first k ks top.1) in
-    omega (arith, split, others, texts_items e ts h ks top.2)
-
--- ---- The least rest
-
-items_floor : (ts : Trees) → CountsFrom 1 (groups_in_all ts) → (ks : List ℕ) → AreDifferentTopGroups (Seq ts) ks → (w : List ℕ) (e : Groups)
-    → WideMatch (Seq ts) no_groups w e → outside_picked (listed ks) no_bounds ts + texts_length e ks ≤ length w
-items_floor ts h ks top w e m =
-    let low = outside-floor (listed ks) ts 1 no_bounds h (λ k l. refl) no_groups e w (λ k. omega arith) m in
-    let same = texts_items e ts h ks top in
-    omega (arith, low, same)
-
--- a shortest match has it
-items_met : (ts : Trees) → IsWellFormed (Seq ts) → (ks : List ℕ) → AreDifferentTopGroups (Seq ts) ks
-    → HasRest (Seq ts) ks (outside_picked (listed ks) no_bounds ts)
-items_met ts f ks top =
-    let shortest = least-met (Seq ts) f in
-    let w = shortest.0 in
-    let e = shortest.1.0 in
-    let m = shortest.1.1 in
-    let wide = widens (Seq ts) no_groups w e m in
-    let long = (floor_all ts 1 no_bounds (are_numbered (Seq ts) f) (λ k l. refl) no_groups e w (λ k. omega arith) wide).1 in
-    let low = items_floor ts (are_numbered (Seq ts) f) ks top w e wide in
-    let cut = outside-split (listed ks) ts 1 no_bounds (are_numbered (Seq ts) f) in
-    let more = items_sum-grows (listed ks) (after_all no_bounds ts) (lengths e) ts long in
-    let same = texts_items e ts (are_numbered (Seq ts) f) ks top in
-    (w, e, m, omega (arith, shortest.2, low, cut, more, same))
-
-no_items : (t : Tree) (ks : List ℕ) → ((k : ℕ) → is_top_group t k ≡ false) → AreDifferentTopGroups t ks → ks ≡ []
-no_items t [] none top = refl
-no_items t (k ∷ ks) none top = absurd (false≢true (sym (none k) ∙ top.0))
+    let here : listed (k ∷ ks) k ≡ true = grind (arith, nat_tests) in
+    let split = items_sum-split (listed (k ∷ ks)) (lengths e) k ts 1 h here top.0 in
+    let same = items_sum-same (without k (listed (k ∷ ks))) (listed ks) (lengths e) ts (without_first k ks top.1) in
+    omega (arith, split, same, texts_items e ts h ks top.2)
 
 -- an expression that is no list of items has no group as an item
-whole_rest : (t : Tree) → IsWellFormed t → ((k : ℕ) → is_top_group t k ≡ false) → (ks : List ℕ) → AreDifferentTopGroups t ks
-    → (n : ℕ) × HasWideFloor t ks n
-whole_rest t f none ks top =
-    let empty : ks ≡ [] = no_items t ks none top in
-    let zero : (e : Groups) → texts_length e ks ≡ 0 = λ e. ap (texts_length e) empty in
-    let shortest = least-met t f in (
-      least no_bounds t,
-      (
-        λ w e m. omega (arith, wide-floor t w e (are_numbered t f) m, zero e),
-        (shortest.0, shortest.1.0, shortest.1.1, omega (arith, shortest.2, zero shortest.1.0)),
-      ),
-    )
+no_items : (t : Tree) (ks : List ℕ) → ((k : ℕ) → is_top_group t k ≡ false) → AreDifferentTopGroups t ks → (e : Groups) → texts_length e ks ≡ 0
+no_items t [] none top e = refl
+no_items t (k ∷ ks) none top e = absurd (false≢true (sym (none k) ∙ top.0))
 
 -- the least rest of a match, which no wide match is below
 pub wide_rest_of : (t : Tree) → IsWellFormed t → (ks : List ℕ) → AreDifferentTopGroups t ks → (n : ℕ) × HasWideFloor t ks n
-wide_rest_of (Seq ts) f ks top = (outside_picked (listed ks) no_bounds ts, (items_floor ts (are_numbered (Seq ts) f) ks top, items_met ts f ks top))
-wide_rest_of (Byte b) f ks top = whole_rest (Byte b) f (λ k. refl) ks top
-wide_rest_of Any f ks top = whole_rest Any f (λ k. refl) ks top
-wide_rest_of (Set words) f ks top = whole_rest (Set words) f (λ k. refl) ks top
-wide_rest_of Start f ks top = whole_rest Start f (λ k. refl) ks top
-wide_rest_of End f ks top = whole_rest End f (λ k. refl) ks top
-wide_rest_of (Maybe b) f ks top = whole_rest (Maybe b) f (λ k. refl) ks top
-wide_rest_of (Group j body) f ks top = whole_rest (Group j body) f (λ k. refl) ks top
-wide_rest_of (Ref j) f ks top = whole_rest (Ref j) f (λ k. refl) ks top
-wide_rest_of (Repeat body l most) f ks top = whole_rest (Repeat body l most) f (λ k. refl) ks top
+wide_rest_of (Seq ts) f ks top = (_, items_rest (listed ks) ts ks f (λ e. texts_items e ts (are_numbered (Seq ts) f) ks top))
+wide_rest_of t f ks top = (_, whole_rest t ks f (no_items t ks (λ k. refl) top))
 
 pub least_rest_of : (t : Tree) → IsWellFormed t → (ks : List ℕ) → AreDifferentTopGroups t ks → (n : ℕ) × IsLeastRest t ks n
 least_rest_of t f ks top = let least = wide_rest_of t f ks top in (least.0, least-rest t ks least.0 least.1)
+
+-- ---- The groups that bits name
+
+some_different : (p : ℕ → Bool) (t : Tree) → ((k : ℕ) → p k ≡ true → is_top_group t k ≡ true) → (a n : ℕ) → AreDifferentTopGroups t (filter p (range_with_len a n))
+some_different p t top a zero = tt
+some_different p t top a (suc n) = grind (arith, top a, below_from p a (a + 1) n, some_different p t top (a + 1) n)
+
+absent : (p : ℕ → Bool) (k : ℕ) (ks : List ℕ) → p k ≡ false → is_in k (filter p ks) ≡ false
+absent p k [] h = refl
+absent p k (j ∷ ks) h = grind (arith, nat_tests, absent p k ks h)
+
+module _ (t : Tree) (bits : ℕ) (top : NamesTopGroups t bits) where
+  different : AreDifferentTopGroups t (named bits)
+  unfolding named
+  different = some_different (names bits) t (λ k s. (top k s).2) 1 9
+
+  named_is : (k : ℕ) → listed (named bits) k ≡ names bits k
+  unfolding named
+  named_is k = go (names bits k) refl
+    where
+      go : (b : Bool) → names bits k ≡ b → listed (named bits) k ≡ names bits k
+      go true e = in_from (names bits) k 1 9 (top k e).0 (omega (arith, (top k e).1))
+      go false e = absent (names bits) k (range_with_len 1 9) e ∙ sym e
+
+-- each well formed expression has a least rest
+pub least_rests : (t : Tree) → IsWellFormed t → (bits : ℕ) → NamesTopGroups t bits → (n : ℕ) × IsLeastRest t (named bits) n
+least_rests t f bits top = least_rest_of t f (named bits) (different t bits top)
+
+-- and no wide match is below it
+pub no_shorter : (t : Tree) → IsWellFormed t → (bits : ℕ) → NamesTopGroups t bits → (n : ℕ) → IsLeastRest t (named bits) n
+    → (w : List ℕ) (e : Groups) → WideMatch t no_groups w e → n + texts_length e (named bits) ≤ length w
+no_shorter t f bits top n least w e m =
+    let (found, (low, (u, d, matches, rest))) = wide_rest_of t f (named bits) (different t bits top) in
+    let (other, is_rest, le) = least.floor u d matches in
+    omega (arith, low w e m, rest, is_rest, le)
+
+items_size : (ts : Trees) (bits n : ℕ) → IsWellFormed (Seq ts) → NamesTopGroups (Seq ts) bits → n ≡ min (outside bits no_bounds ts) cap
+    → IsLeastSize (HasRest (Seq ts) (named bits)) n
+items_size ts bits n f top = least-size (Seq ts) (named bits) (outside bits no_bounds ts) n (items_rest (names bits) ts (named bits) f (λ e.
+    texts_items e ts (are_numbered (Seq ts) f) (named bits) (different (Seq ts) bits top)
+    ∙ items_sum-same (listed (named bits)) (names bits) (lengths e) ts (named_is (Seq ts) bits top)))
+
+-- the least number that the code finds
+pub least-outside : (t : Tree) (ts : Trees) (bits n : ℕ) → t ≡ Seq ts → IsWellFormed t → NamesTopGroups t bits → n ≡ min (outside bits no_bounds ts) cap
+    → IsLeastSize (HasRest t (named bits)) n
+least-outside t ts bits n is f top found = rw is (items_size ts bits n (rw is at f) (rw is at top) found)
+
+-- where no group is named, the least rest is the least length
+module _ (t : Tree) (bits n : ℕ) (none : (k : ℕ) → names bits k ≡ true → ⊥) where
+  no_texts : (e : Groups) → texts_length e (named bits) ≡ 0
+  unfolding named
+  no_texts e = texts_sum e (names bits) (range_with_len 1 9) ∙ sum_of-none (names bits) (lengths e) (range_with_len 1 9) none
+
+  pub least-alone : IsLeastSize (HasLength t) n → IsLeastSize (HasRest t (named bits)) n
+  least-alone h = record {
+    floor = λ m (w, e, matches, rest). h.floor m (w, (e, matches), omega (arith, rest, no_texts e));
+    met = λ l. let (w, (e, matches), is) = h.met l in (w, e, matches, omega (arith, is, no_texts e));
+    capped = h.capped;
+  }
+
+  pub least-whole : IsLeastSize (HasRest t (named bits)) n → IsLeastSize (HasLength t) n
+  least-whole h = record {
+    floor = λ m (w, (e, matches), is). h.floor m (w, e, matches, omega (arith, is, no_texts e));
+    met = λ l. let (w, e, matches, rest) = h.met l in (w, (e, matches), omega (arith, rest, no_texts e));
+    capped = h.capped;
+  }
+
+-- no bit of 0 is set
+pub none-by-zero : (bits : ℕ) → bits ≡ 0 → (k : ℕ) → names bits k ≡ true → ⊥
+none-by-zero bits none k is = let clear : bit_at 0 k ≡ 0 = bit_at-zero k in false≢true (rw (none, clear) at is)

@@ -1,6 +1,6 @@
 -- Each match is a wide match.
 use Rattle.std.proofs.Common.{◌≡◌, ◌≢◌, ℕ, zero, suc, ◌≤◌, List, [], ◌∷◌, length, refl, arith}
-use Rattle.sedck_bre.specs.Tree.{Tree, Trees, Byte, Any, Set, Start, End, Maybe, Group, Ref, Seq, Repeat, Nil, Then}
+use Rattle.sedck_expressions.specs.Tree.{Tree, Trees, Any, Set, Group, Seq, Repeat, Nil, Then}
 use Rattle.sedck_bre.specs.Match.{Groups, Times, Match, MatchAll}
 use Rattle.sedck_bre.specs.WideMatch.{WideMatch, WideMatchAll}
 
@@ -21,16 +21,12 @@ times_widen M Wide once (suc n) e w f (u, v, d, cut, first, others) = (u, v, d, 
 
 mutual
   pub widens : (t : Tree) → Widens (Match t) (WideMatch t)
-  widens (Byte b) e w f m = m
   widens Any e w f (b, _, is, same) = (one_byte b w is, same)
   widens (Set words) e w f (b, _, is, same) = (one_byte b w is, same)
-  widens Start e w f m = m
-  widens End e w f m = m
-  widens (Maybe b) e w f m = m
   widens (Group k body) e w f (d, g, before, inside, is) = (d, g, before, widens body d w g inside, is)
-  widens (Ref k) e w f m = m
   widens (Seq ts) e w f m = all_widen ts e w f m
   widens (Repeat body least most) e w f (n, within, times) = (n, within, times_widen (Match body) (WideMatch body) (widens body) n e w f times)
+  widens t e w f m = m
 
   pub all_widen : (ts : Trees) → Widens (MatchAll ts) (WideMatchAll ts)
   all_widen Nil e w f m = m

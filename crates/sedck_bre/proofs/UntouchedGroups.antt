@@ -1,12 +1,10 @@
--- A match leaves the texts of the groups that open before the tree as they were.
-use Rattle.std.proofs.Common.{◌≡◌, ℕ, zero, suc, ◌+◌, ◌<◌, Bool, true, false, List, length, inl, inr, refl, ap, ◌∙◌, arith}
-use Rattle.std.specs.Prelude.{◌==◌}
+-- A match leaves the texts of the groups that aren't in the tree as they were.
+use Rattle.std.proofs.Common.{◌≡◌, ℕ, zero, suc, false, List, ◌∷◌, ◌⊎◌, inl, inr, ap, ◌∙◌, arith}
 use Rattle.std.proofs.lemmas.Bool.Decides.{nat_tests}
-use Rattle.sedck_bre.specs.Tree.{Tree, Trees, Byte, Any, Set, Start, End, Maybe, Group, Ref, Seq, Repeat, Nil, Then, groups_in, groups_in_all, is_in}
+use Rattle.sedck_expressions.specs.Tree.{Tree, Trees, Group, Seq, Repeat, Nil, Then, groups_in, groups_in_all, is_in}
 use Rattle.sedck_bre.specs.Match.{Groups, with_text, unset, Times}
 use Rattle.sedck_bre.specs.WideMatch.{WideMatch, WideMatchAll}
-use Rattle.sedck_bre.specs.Private.Bounds.{CountsFrom}
-use Rattle.sedck_bre.proofs.LeastLemmas.{CountsFrom-left, CountsFrom-right, in_row}
+use Rattle.sedck_expressions.proofs.NumberedGroups.{is_in-neither}
 
 -- a match leaves the group's text as it was
 abbrev pub Leaves : ℕ → (Groups → List ℕ → Groups → Type 0) → Type 0
@@ -15,42 +13,25 @@ Leaves k M = (e : Groups) (w : List ℕ) (f : Groups) → M e w f → f k ≡ e 
 same_at : (k : ℕ) (e f : Groups) → f ≡ e → f k ≡ e k
 same_at k e f is = ap (λ (g : Groups). g k) is
 
-with_text-other : (e : Groups) (k : ℕ) (w : List ℕ) (j : ℕ) → (j ≡ k → ⊥) → with_text e k w j ≡ e j
-with_text-other e k w j ne = let t : (j == k) ≡ false = grind (arith, nat_tests) in rw t refl
-
-unset-below : (t : Tree) (n : ℕ) (e : Groups) (k : ℕ) → CountsFrom n (groups_in t) → k < n → unset t e k ≡ e k
-unset-below t n e k h l = go (is_in k (groups_in t)) refl
-  where
-    go : (b : Bool) → is_in k (groups_in t) ≡ b → unset t e k ≡ e k
-    go true s = let at_least = (in_row n k (groups_in t) h s).0 in absurd (omega (arith, at_least))
-    go false s = rw s refl
-
 times_leave : (k : ℕ) (M : Groups → List ℕ → Groups → Type 0) → Leaves k M → (count : ℕ) → Leaves k (Times M count)
 times_leave k M once zero e w f (_, is) = same_at k e f is
 times_leave k M once (suc count) e w f (u, v, d, _, first, others) = times_leave k M once count d v f others ∙ once e u d first
 
-mutual
-  pub match_leaves : (t : Tree) (n k : ℕ) → CountsFrom n (groups_in t) → k < n → Leaves k (WideMatch t)
-  match_leaves (Byte b) n k h l e w f (_, is) = same_at k e f is
-  match_leaves Any n k h l e w f (_, is) = same_at k e f is
-  match_leaves (Set words) n k h l e w f (_, is) = same_at k e f is
-  match_leaves Start n k h l e w f (_, is) = same_at k e f is
-  match_leaves End n k h l e w f (_, is) = same_at k e f is
-  match_leaves (Maybe b) n k h l e w f (_, is) = same_at k e f is
-  match_leaves (Group j body) n k h l e w f (d, g, before, inside, is) =
-      let first : j ≡ n = h.0 in
-      let other : k ≡ j → ⊥ = λ q. omega arith in
-      let entered : d k ≡ e k = elim before [
-        | inl same ↦ same_at k e d same
-        | inr cleared ↦ same_at k (unset body e) d cleared ∙ unset-below body (n + 1) e k h.1 (omega arith)
-      ] in
-      same_at k (with_text g j w) f is ∙ with_text-other g j w k other ∙ match_leaves body (n + 1) k h.1 (omega arith) d w g inside ∙ entered
-  match_leaves (Ref j) n k h l e w f (_, is) = same_at k e f is
-  match_leaves (Seq ts) n k h l e w f m = all_leave ts n k h l e w f m
-  match_leaves (Repeat body least most) n k h l e w f (count, _, times) = times_leave k (WideMatch body) (match_leaves body n k h l) count e w f times
+-- neither the group that is closed nor one inside it
+group_leaves : (j k : ℕ) (body : Tree) (d e g : Groups) (w : List ℕ) → is_in k (j ∷ groups_in body) ≡ false → (d ≡ e) ⊎ (d ≡ unset body e)
+    → (is_in k (groups_in body) ≡ false → g k ≡ d k) → with_text g j w k ≡ e k
+group_leaves j k body d e g w absent (inl s) inside = rw (← s) (grind (arith, nat_tests))
+group_leaves j k body d e g w absent (inr s) inside = let entered = same_at k (unset body e) d s in grind (arith, nat_tests)
 
-  pub all_leave : (ts : Trees) (n k : ℕ) → CountsFrom n (groups_in_all ts) → k < n → Leaves k (WideMatchAll ts)
-  all_leave Nil n k h l e w f (_, is) = same_at k e f is
-  all_leave (Then t ts) n k h l e w f (u, v, d, _, first, others) =
-      all_leave ts (n + length (groups_in t)) k (CountsFrom-right n (groups_in t) (groups_in_all ts) h) (omega arith) d v f others
-      ∙ match_leaves t n k (CountsFrom-left n (groups_in t) (groups_in_all ts) h) l e u d first
+mutual
+  match_leaves : (t : Tree) (k : ℕ) → is_in k (groups_in t) ≡ false → Leaves k (WideMatch t)
+  match_leaves (Group j body) k absent e w f (d, g, before, inside, is) =
+      same_at k (with_text g j w) f is ∙ group_leaves j k body d e g w absent before (λ other. match_leaves body k other d w g inside)
+  match_leaves (Seq ts) k absent e w f m = all_leave ts k absent e w f m
+  match_leaves (Repeat body least most) k absent e w f (count, _, times) = times_leave k (WideMatch body) (match_leaves body k absent) count e w f times
+  match_leaves t k absent e w f m = same_at k e f m.1
+
+  pub all_leave : (ts : Trees) (k : ℕ) → is_in k (groups_in_all ts) ≡ false → Leaves k (WideMatchAll ts)
+  all_leave Nil k absent e w f (_, is) = same_at k e f is
+  all_leave (Then t ts) k absent e w f (u, v, d, _, first, others) = let other = is_in-neither k (groups_in t) (groups_in_all ts) absent in
+      all_leave ts k other.1 d v f others ∙ match_leaves t k other.0 e u d first

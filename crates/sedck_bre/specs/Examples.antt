@@ -1,10 +1,10 @@
 -- Worked examples of expressions: which texts spell which trees, which spell none, and what some of them match.
 use Rattle.std.specs.Prelude.{ℕ, ◌≤◌, List, [], ◌∷◌, length, map, All, Some, None, codes}
 use Rattle.sedck_text.specs.Bytes.{ascii}
-use Rattle.sedck_bre.specs.Tree.{Tree, Byte, Any, Set, Start, End, Maybe, Group, Ref, Seq, Repeat, trees}
+use Rattle.sedck_expressions.specs.Tree.{Tree, Byte, Any, Set, Start, End, Maybe, Group, Ref, Seq, Repeat, trees}
 use Rattle.sedck_bre.specs.Match.{no_groups, Match, Language}
 use Rattle.sedck_bre.specs.WideMatch.{WideMatch}
-use Rattle.sedck_bre.specs.Shape.{Shape}
+use Rattle.sedck_expressions.specs.Shape.{Shape}
 
 abbrev pub sequence_of : List Tree → Tree
 sequence_of items = Seq (trees items)

@@ -1,11 +1,3 @@
 -- What functions inside the crate promise each other: no contract of an exported function reaches it.
 pub mod Bounds
-pub mod BracketCode
-pub mod BracketReading
-pub mod FullReading
-pub mod Gives
-pub mod IntervalReading
-pub mod Reading
-pub mod Sequence
-pub mod Sets
 pub mod TreeCode

@@ -1,7 +1,7 @@
 -- What of a match lies outside of some of its groups, this project's own.
 use Rattle.std.specs.Prelude.{◌≡◌, ℕ, ◌+◌, ◌≤◌, Bool, false, IsTrue, List, [], ◌∷◌, filter, length, ◌==◌, ◌||◌}
 use Rattle.std.specs.Int.{bit_at}
-use Rattle.sedck_bre.specs.Tree.{Tree, Trees, Group, Seq, Nil, Then}
+use Rattle.sedck_expressions.specs.Tree.{Tree, Trees, Group, Seq, Nil, Then}
 use Rattle.sedck_bre.specs.Match.{Groups, Match, no_groups, text_of}
 
 -- whether the tree is the group

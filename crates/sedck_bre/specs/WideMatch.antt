@@ -1,7 +1,7 @@
 -- What an expression may match whatever the locale (XBD 7.3.1, 9.2): a character has one byte or more, and which characters a list has is the
 -- locale's business.
 use Rattle.std.specs.Prelude.{◌≡◌, ◌≢◌, ◌⊎◌, ℕ, List, [], ◌++◌}
-use Rattle.sedck_bre.specs.Tree.{Tree, Trees, Any, Set, Group, Seq, Repeat, Nil, Then}
+use Rattle.sedck_expressions.specs.Tree.{Tree, Trees, Any, Set, Group, Seq, Repeat, Nil, Then}
 use Rattle.sedck_bre.specs.Match.{Groups, with_text, unset, IsWithin, Times, Match}
 
 abbrev mutual

@@ -1,14 +1,14 @@
 //! The groups that are items of an expression, and the least length outside of some of them.
 ghost use Rattle.std.specs.Prelude.{◌≡◌, map, min};
 ghost use Rattle.std.specs.List.{list_any};
-ghost use Rattle.sedck_bre.specs.Tree.{trees};
+ghost use Rattle.sedck_expressions.specs.Tree.{trees};
 ghost use Rattle.sedck_bre.specs.Lengths.{cap};
 ghost use Rattle.sedck_bre.specs.Rests.{is_group};
-ghost use Rattle.sedck_bre.specs.View.{tree};
+ghost use Rattle.sedck_expressions.specs.View.{tree};
 ghost use Rattle.sedck_bre.specs.Private.Bounds.{no_bounds, is_named, outside};
 
 use crate::least::{CAP, least_of};
-use crate::tree::Bre;
+use sedck_expressions::Bre;
 
 fn is_group(item: &Bre, k: u8) -> bool
     ensures { result ≡ is_group k (tree item.now) }

@@ -3,7 +3,7 @@ use Rattle.std.proofs.Common.{◌≡◌, ◌⊎◌, inl, inr, ℕ, suc, ◌+◌,
 use Rattle.std.specs.Prelude.{Result, IfErr}
 use Rattle.std.specs.Result.{IsErrAnd}
 use Rattle.std.proofs.lemmas.List.Sums.{sum_by-append}
-use Rattle.sedck_script.proofs.ResultLemmas.{if_err_from}
+use Rattle.sedck_commands.proofs.ResultLemmas.{if_err_from}
 use Rattle.sedck_script.specs.Names.{names_size}
 use Rattle.sedck_cert.specs.Certificate.{Certificate, nodes_in, AreWithin}
 use Rattle.sedck_cert.specs.Text.{line, header, node_texts, joined_lines, IsTextOf}

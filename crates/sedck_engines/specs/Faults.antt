@@ -1,6 +1,6 @@
 -- The fault of an engine where a fault below it ends its work, as `RunFault::from` answers it.
-use Rattle.sedck_script.specs.declared.fault.ScriptFault.{ScriptFault}
-use Rattle.sedck_script.specs.declared.fault.ScriptFault.TheVariants as script
+use Rattle.sedck_commands.specs.declared.fault.ScriptFault.{ScriptFault}
+use Rattle.sedck_commands.specs.declared.fault.ScriptFault.TheVariants as script
 use Rattle.sedck_cert.specs.declared.reading.CertFault.{CertFault}
 use Rattle.sedck_cert.specs.declared.reading.CertFault.TheVariants as cert
 use Rattle.sedck_cert.specs.declared.verifying.Fault.{Fault}

@@ -3,13 +3,13 @@
 use Rattle.std.specs.Prelude.{◌≡◌, ◌≢◌, ℕ, zero, suc, ◌+◌, List, [], ◌∷◌, Option, Some, None, slice_get}
 use Rattle.sedck_flow.specs.declared.graph.Node.{Node}
 use Rattle.sedck_bre.specs.FaultWords as expressions
-use Rattle.sedck_bre.specs.declared.fault.ReFault.{ReFault}
+use Rattle.sedck_expressions.specs.declared.fault.ReFault.{ReFault}
 use Rattle.sedck_script.specs.Parts.{DelimitedExpression}
-use Rattle.sedck_script.specs.Parts.DelimitedExpression.{ends, byte, escaped, pair}
+use Rattle.sedck_commands.specs.Parts.DelimitedExpression.{ends, byte, escaped, pair}
 use Rattle.sedck_script.specs.FaultWords.{fault_place}
 use Rattle.sedck_script.specs.Faults.{IsPlaced, IsRefusedExpression}
-use Rattle.sedck_script.specs.declared.fault.ScriptFault.{ScriptFault}
-use Rattle.sedck_script.specs.declared.fault.ScriptFault.TheVariants.{BadExpression, OutOfMemory}
+use Rattle.sedck_commands.specs.declared.fault.ScriptFault.{ScriptFault}
+use Rattle.sedck_commands.specs.declared.fault.ScriptFault.TheVariants.{BadExpression, OutOfMemory}
 use Rattle.sedck_cert.specs.declared.checking.Rejection.{Rejection}
 use Rattle.sedck_cert.specs.declared.checking.Rejection.TheVariants.{LeavesRanked, NotLowered}
 use Rattle.sedck_report.specs.declared.places.Position.{Position}

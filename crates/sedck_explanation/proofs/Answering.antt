@@ -2,9 +2,9 @@
 use Rattle.std.proofs.Common.{◌≡◌, ◌≢◌, ◌⊎◌, ℕ, List, Option, Some, None, Result, Ok, Err, IfOk, IfSome, refl, inl, inr}
 use Rattle.sedck_script.specs.Program.{Program}
 use Rattle.sedck_script.specs.Spelling.{Spells}
-use Rattle.sedck_script.specs.declared.fault.ScriptFault.{ScriptFault}
-use Rattle.sedck_script.specs.declared.fault.ScriptFault.TheVariants as script
-use Rattle.sedck_script.proofs.ResultLemmas.{if_some_at}
+use Rattle.sedck_commands.specs.declared.fault.ScriptFault.{ScriptFault}
+use Rattle.sedck_commands.specs.declared.fault.ScriptFault.TheVariants as script
+use Rattle.sedck_commands.proofs.ResultLemmas.{if_some_at}
 use Rattle.sedck_cert.specs.Certificate.{Certificate}
 use Rattle.sedck_cert.specs.Versions.{SpellsCertificate, IsFaultIn}
 use Rattle.sedck_cert.specs.Headline.{Only, IsScriptFaultOf}

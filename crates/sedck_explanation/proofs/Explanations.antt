@@ -4,7 +4,7 @@ use Rattle.sedck_script.specs.Program.{Program}
 use Rattle.sedck_script.specs.Names.{reads, writes}
 use Rattle.sedck_script.specs.Items.{Item, Items}
 use Rattle.sedck_script.specs.Locations.{locations_of}
-use Rattle.sedck_script.specs.declared.location.Location.{Location}
+use Rattle.sedck_commands.specs.declared.location.Location.{Location}
 use Rattle.sedck_flow.specs.Run.{NamesForReading, NamesForWriting}
 use Rattle.sedck_cert.specs.Certificate.{Certificate}
 use Rattle.sedck_cert.specs.Ranked.{Accepts}

@@ -3,7 +3,7 @@
 use Rattle.std.specs.Prelude.{◌≡◌, ◌≢◌, ℕ, List, Option, Some, None}
 use Rattle.sedck_script.specs.Program.{Program}
 use Rattle.sedck_script.specs.Spelling.{Spells}
-use Rattle.sedck_script.specs.declared.fault.ScriptFault.TheVariants.{OutOfMemory}
+use Rattle.sedck_commands.specs.declared.fault.ScriptFault.TheVariants.{OutOfMemory}
 use Rattle.sedck_cert.specs.Certificate.{Certificate}
 use Rattle.sedck_cert.specs.Versions.{SpellsCertificate, IsFaultIn}
 use Rattle.sedck_cert.specs.Ranked.{Accepts}

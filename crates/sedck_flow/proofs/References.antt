@@ -6,7 +6,7 @@ use Rattle.sedck_bre.specs.Tree.{Tree}
 use Rattle.sedck_bre.specs.Match.{text_of}
 use Rattle.sedck_bre.specs.Rests.{is_top_group, texts_length}
 use Rattle.sedck_bre.proofs.DifferentGroups.{AreDifferentTopGroups}
-use Rattle.sedck_script.proofs.ReferenceLemmas.{not_in}
+use Rattle.sedck_commands.proofs.ReferenceLemmas.{not_in}
 use Rattle.sedck_script.specs.References.{HasNoWhole, named_groups, IsNotIn, AreDistinct, AreTopGroups, KeepsGroups}
 use Rattle.sedck_script.specs.Program.{Pattern, Previous, Expression, Part, Text, Whole, Group, literal_length}
 use Rattle.sedck_flow.specs.Flow.{IsWholeAlone}

@@ -3,9 +3,9 @@ use Rattle.std.proofs.Common.{◌≡◌, ◌⊎◌, ◌↔◌, ℕ, ◌<◌, Boo
 use Rattle.std.proofs.lemmas.Bool.{cases_order}
 use Rattle.sedck_script.specs.Program.{Address, DeleteFirstLine, Next, Substitution, Substitute, Program}
 use Rattle.sedck_script.specs.View.{verb_of}
-use Rattle.sedck_script.specs.declared.script.Substitution.{Substitution as CodedSubstitution}
-use Rattle.sedck_script.specs.declared.script.Verb.{Verb as Coded}
-use Rattle.sedck_script.specs.declared.script.Verb.TheVariants as coded
+use Rattle.sedck_commands.specs.declared.types.Substitution.{Substitution as CodedSubstitution}
+use Rattle.sedck_commands.specs.declared.types.Verb.{Verb as Coded}
+use Rattle.sedck_commands.specs.declared.types.Verb.TheVariants as coded
 use Rattle.std.specs.Borrow.{Bor}
 use Rattle.sedck_flow.specs.Run.{KeptOrReset}
 use Rattle.sedck_flow.specs.Nodes.{start, next, with_flag, with_last}

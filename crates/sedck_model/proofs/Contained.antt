@@ -5,7 +5,7 @@ use Rattle.std.proofs.lemmas.List.Elements.{Contains-get_or}
 use Rattle.std.specs.Borrow.{Bor}
 use Rattle.sedck_script.proofs.SortedNames.{Contains-cons_cases, Contains-cons_more}
 use Rattle.sedck_bre.specs.View.{tree}
-use Rattle.sedck_bre.specs.declared.tree.Bre.{Bre}
+use Rattle.sedck_expressions.specs.declared.tree.Bre.{Bre}
 use Rattle.sedck_model.specs.Private.Candidates.{trees_in}
 
 pub contains_mapped : {X Y : Type 0} → (f : X → Y) (xs : List X) (y : Y) → Contains (map f xs) y → (x : X) × Contains xs x × (f x ≡ y)

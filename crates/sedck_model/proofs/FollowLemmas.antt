@@ -5,7 +5,7 @@ use Rattle.std.proofs.lemmas.Result.{IfOk-weaker}
 use Rattle.sedck_bre.specs.Tree.{Tree, Trees, Group, Seq, Repeat, Then}
 use Rattle.sedck_bre.specs.Match.{unset}
 use Rattle.sedck_bre.specs.View.{tree}
-use Rattle.sedck_bre.specs.declared.tree.Bre.{Bre}
+use Rattle.sedck_expressions.specs.declared.tree.Bre.{Bre}
 use Rattle.sedck_model.specs.declared.spending.Undecided.{Undecided}
 use Rattle.sedck_model.specs.declared.spots.Spot.{Spot}
 use Rattle.sedck_model.specs.Spots.{Reached, reached, groups_of, Leads}

@@ -8,7 +8,7 @@ use Rattle.sedck_bre.specs.Tree.{Tree}
 use Rattle.sedck_bre.specs.Match.{Groups, no_groups, Match}
 use Rattle.sedck_script.specs.Program.{Part, Text, Newline, Tab, Whole, Group, Substitution, Program}
 use Rattle.sedck_script.specs.View.{part_of}
-use Rattle.sedck_script.specs.declared.script.Part as code
+use Rattle.sedck_commands.specs.declared.types.Part as code
 use Rattle.sedck_flow.specs.Patterns.{StandsFor}
 use Rattle.sedck_flow.specs.Substitutes.{Occurrence, part_text, replacement, matched, replaced, AreMatches, AreApart, Substitutes}
 use Rattle.sedck_model.specs.Spots.{Reached, Leads, groups_of, reached, beginning, AreEnds}

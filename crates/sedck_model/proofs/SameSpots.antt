@@ -4,7 +4,7 @@ use Rattle.std.specs.Prelude.{◌&&◌}
 use Rattle.std.specs.Option.{option_eq}
 use Rattle.std.proofs.lemmas.Bool.{eqb-true, eq-eqb, false≢true}
 use lib.Pointwise.{pointwise}
-use Rattle.sedck_bre.proofs.ReadLemmas.{and_left}
+use Rattle.sedck_expressions.proofs.ReadLemmas.{and_left}
 use Rattle.sedck_model.specs.declared.spots.Span.{Span}
 use Rattle.sedck_model.specs.declared.spots.Spot.{Spot}
 

@@ -6,7 +6,7 @@ use Rattle.std.proofs.lemmas.List.{map_more, take_all}
 use Rattle.std.proofs.lemmas.List.Elements.{All-push, All-contains}
 use Rattle.sedck_bre.specs.Tree.{Tree}
 use Rattle.sedck_bre.specs.View.{tree}
-use Rattle.sedck_bre.specs.declared.tree.Bre.{Bre}
+use Rattle.sedck_expressions.specs.declared.tree.Bre.{Bre}
 use Rattle.sedck_script.specs.Program.{Program, Pattern}
 use Rattle.sedck_flow.specs.Patterns.{StandsFor, HasMatch}
 use Rattle.sedck_model.specs.Spots.{HasPartIn}

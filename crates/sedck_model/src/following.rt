@@ -3,7 +3,7 @@
 ghost use Rattle.std.specs.Prelude.{◌≡◌, ◌≤◌, IfOk, Option};
 ghost use Rattle.sedck_bre.specs.Tree.{Group, Repeat};
 ghost use Rattle.sedck_bre.specs.View.{tree};
-ghost use Rattle.sedck_bre.specs.Private.Sequence.{sequence};
+ghost use Rattle.sedck_expressions.specs.Private.Sequence.{sequence};
 ghost use Rattle.sedck_model.specs.Spots.{Leads};
 ghost use Rattle.sedck_model.specs.Private.Lists.{AreLed, AreWithin};
 ghost use Rattle.sedck_model.specs.Private.Relations.{Steps, UpTo, Many};

@@ -5,7 +5,7 @@ use Rattle.std.proofs.lemmas.Bool.{false≢true}
 use Rattle.sedck_script.specs.Program.{Program}
 use Rattle.sedck_script.specs.Spelling.{Spells}
 use Rattle.sedck_script.specs.Faults.{IsOfText, IsPlaced}
-use Rattle.sedck_script.specs.declared.fault.ScriptFault.{ScriptFault}
+use Rattle.sedck_commands.specs.declared.fault.ScriptFault.{ScriptFault}
 use Rattle.sedck_plain.specs.declared.plain.Fault.{Fault}
 use Rattle.sedck_plain.specs.declared.plain.Fault.TheVariants as fault
 use Rattle.sedck_plain.specs.Plain.{SpellSame, IsOutOfMemory, IsRefused, IsNoRefusal, ReportsFault}

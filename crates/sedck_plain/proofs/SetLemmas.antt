@@ -7,8 +7,8 @@ use Rattle.std.proofs.lemmas.Grind.{same_number_lists}
 use Rattle.std.proofs.lemmas.Nat.Bits.{bit_at-lt, same_from_bits_below}
 use Rattle.sedck_bre.specs.Tree.{is_in}
 use Rattle.sedck_bre.specs.View.{has_bit, bytes_in}
-use Rattle.sedck_bre.specs.Private.Sets.{AreWords}
-use Rattle.sedck_bre.proofs.BracketSets.{in_where}
+use Rattle.sedck_expressions.specs.Private.Sets.{AreWords}
+use Rattle.sedck_expressions.proofs.BracketSets.{in_where}
 use Rattle.sedck_plain.specs.Private.SameTrees.{same_numbers}
 use Rattle.sedck_plain.proofs.SameTreeLemmas.{numbers-same, numbers-itself}
 

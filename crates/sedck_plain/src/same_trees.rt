@@ -3,7 +3,7 @@ ghost use Rattle.std.specs.Prelude.{◌≡◌, ◌==◌, ◌&&◌, map};
 ghost use Rattle.std.specs.Option.{option_map};
 ghost use Rattle.sedck_bre.specs.Tree.{trees};
 ghost use Rattle.sedck_bre.specs.View.{tree, bytes_in};
-ghost use Rattle.sedck_bre.specs.Private.Sets.{AreWords};
+ghost use Rattle.sedck_expressions.specs.Private.Sets.{AreWords};
 ghost use Rattle.sedck_plain.specs.Private.SameTrees.{same_numbers, is_byte, is_any, is_set, is_start, is_end, is_maybe, is_ref, group_body, items_of, repeated_body, same_number, same_tree, same_trees};
 
 use sedck_bre::{Bre, ByteSet};

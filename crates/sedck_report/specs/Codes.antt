@@ -2,8 +2,8 @@
 use Rattle.std.specs.Prelude.{ℕ, List, codes}
 use Rattle.sedck_bre.specs.FaultWords as expressions
 use Rattle.sedck_script.specs.FaultWords.{fault_name}
-use Rattle.sedck_script.specs.declared.fault.ScriptFault.{ScriptFault}
-use Rattle.sedck_script.specs.declared.fault.ScriptFault.TheVariants.{BadExpression}
+use Rattle.sedck_commands.specs.declared.fault.ScriptFault.{ScriptFault}
+use Rattle.sedck_commands.specs.declared.fault.ScriptFault.TheVariants.{BadExpression}
 use Rattle.sedck_report.specs.declared.code.Code.{Code}
 use Rattle.sedck_report.specs.declared.code.Code.TheVariants as code
 

@@ -16,10 +16,11 @@ use Rattle.std.proofs.lemmas.Cmp.{nat_list_cmp_total}
 use Rattle.std.specs.Prelude.{option_to_list}
 use Rattle.std.proofs.Math.Seq.{drop-cons}
 use Rattle.sedck_script.specs.Names.{IsBefore, AreIncreasing, placed, with_name, sorted_names, accessed}
-use Rattle.sedck_script.specs.View.{verb_of, command_of}
+use Rattle.sedck_commands.specs.View.{verb_of}
+use Rattle.sedck_script.specs.View.{command_of}
 use Rattle.sedck_script.specs.Private.NameReading.{all_accessed, with_any}
 use Rattle.sedck_script.specs.declared.script.Command.{Command}
-use Rattle.sedck_script.specs.declared.names.Access.{Access}
+use Rattle.sedck_commands.specs.declared.names.Access.{Access}
 
 is_less : (o : Ordering) → is_lt o ≡ true → o ≡ Less
 is_less Less h = refl

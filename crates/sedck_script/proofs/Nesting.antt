@@ -1,10 +1,10 @@
 -- Items that resolve to commands close each block; and their labels are at their commands.
-use Rattle.std.proofs.Common.{◌≡◌, ℕ, Bool, true, false, cond, zero, suc, List, [], ◌∷◌, ◌++◌, length, Option, Some, None, refl, ap, sym, ◌∙◌, arith}
-use Rattle.sedck_script.specs.Program.{Address, NoAddress, Label, Verb, Branch, Test, Delete, Command}
-use Rattle.sedck_script.specs.Items.{Known, Item, Written, Closing}
+use Rattle.std.proofs.Common.{◌≡◌, ◌↔◌, ℕ, Bool, true, false, cond, zero, suc, List, [], ◌∷◌, ◌++◌, length, Some, refl, ap, sym, ◌∙◌, arith}
+use Rattle.sedck_commands.specs.Program.{NoAddress, Label, Branch, Test, Command}
+use Rattle.sedck_commands.specs.Items.{Known, Item, Written, Closing}
 use Rattle.sedck_script.specs.Resolution.{Defines, AreLabelsDistinct, Resolves, done, known, jump, opening, closing}
-use Rattle.sedck_script.specs.Private.Reading.{IsLabelOf, AreLabelsOnce}
-use Rattle.sedck_script.specs.Private.ItemReading.{commands_among, Turn, Opens, Closes, Stays, Jumps, turn_of, Turned, Nests}
+use Rattle.sedck_commands.specs.Labels.{IsLabelOf, AreLabelsOnce, commands_among}
+use Rattle.sedck_commands.specs.Blocks.{Turn, Opens, Closes, Stays, Jumps, turn_of, Turned, Nests}
 
 pub resolves_nests : {A cs : List Command} {blocks : List ℕ} {place : ℕ} {items : List Item} → Resolves A blocks place items cs → Nests items (length blocks)
 resolves_nests done = refl
@@ -23,10 +23,7 @@ resolves_length (closing h r) = resolves_length r
 
 -- ---- Depths
 
-abbrev turned_one_goal : Turn → (ℕ → Type 0) → Type 0
-turned_one_goal t P = (d e : ℕ) → Turned t P d → Turned t P e → d ≡ e
-
-turned_one : (t : Turn) (P : ℕ → Type 0) → ((d e : ℕ) → P d → P e → d ≡ e) → turned_one_goal t P
+turned_one : (t : Turn) (P : ℕ → Type 0) → ((d e : ℕ) → P d → P e → d ≡ e) → (d e : ℕ) → Turned t P d → Turned t P e → d ≡ e
 turned_one Opens P one d e h k = omega (arith, one (suc d) (suc e) h.1 k.1)
 turned_one Closes P one zero e h k = absurd h
 turned_one Closes P one (suc d) zero h k = absurd k
@@ -53,9 +50,6 @@ nests_behind (x ∷ front) items d h = let one = turned_some (turn_of x) (Nests 
 
 -- ---- Labels
 
-some_item : {x y : Item} → Some x ≡ Some y → x ≡ y
-some_item e = cc e
-
 -- the command of an item whose verb has no target
 abbrev plain_command : Item → Command
 plain_command (Written a n (Known v)) = record { address = a; negated = n; verb = v }
@@ -64,51 +58,37 @@ plain_command Closing = record { address = NoAddress; negated = false; verb = Br
 
 label_command : {x : Item} {name : List ℕ} → Some x ≡ Some (Written NoAddress false (Known (Label name)))
     → plain_command x ≡ record { address = NoAddress; negated = false; verb = Label name }
-label_command e = ap plain_command (some_item e)
-
--- a label's item becomes the command that defines it
-pub label_defined : {A cs : List Command} {blocks : List ℕ} {place : ℕ} {items : List Item} → Resolves A blocks place items cs
-    → (name : List ℕ) (i : ℕ) → IsLabelOf (commands_among items) name i → Defines cs name i
-label_defined done name i h = absurd (cc h)
-label_defined (known r) name zero h = ap Some (label_command h)
-label_defined (jump t may x r) name zero h = absurd (cc h)
-label_defined (opening x r) name zero h = absurd (cc h)
-label_defined (known r) name (suc i) h = label_defined r name i h
-label_defined (jump t may x r) name (suc i) h = label_defined r name i h
-label_defined (opening x r) name (suc i) h = label_defined r name i h
-label_defined (closing x r) name i h = label_defined r name i h
-
-abbrev verb_or_delete : Option Command → Verb
-verb_or_delete (Some c) = c.verb
-verb_or_delete None = Delete
+label_command {x} {name} e = let same : x ≡ Written NoAddress false (Known (Label name)) = cc e in ap plain_command same
 
 verbs_same : {c d : Command} → Some c ≡ Some d → c.verb ≡ d.verb
-verbs_same h = ap verb_or_delete h
+verbs_same {c} {d} h = let same : c ≡ d = cc h in ap (λ x. x.verb) same
 
 no_jump_label : (tests : Bool) (target : ℕ) {name : List ℕ} → cond tests (Test target) (Branch target) ≡ Label name → ⊥
 no_jump_label true target e = cc e
 no_jump_label false target e = cc e
 
-abbrev written_some : Option Command → Option Item
-written_some (Some c) = Some (Written c.address c.negated (Known c.verb))
-written_some None = None
+written_same : {c d : Command} → Some c ≡ Some d → Some (Written c.address c.negated (Known c.verb)) ≡ Some (Written d.address d.negated (Known d.verb))
+written_same {c} {d} h = let same : c ≡ d = cc h in ap (λ x. Some (Written x.address x.negated (Known x.verb))) same
 
-same_written : {a b : Address} {n m : Bool} {v w : Verb}
-    → ◌≡◌ {A = Option Command} (Some (record { address = a; negated = n; verb = v })) (Some (record { address = b; negated = m; verb = w }))
-    → ◌≡◌ {A = Option Item} (Some (Written a n (Known v))) (Some (Written b m (Known w)))
-same_written e = ap written_some e
+-- a label's item becomes the command that defines it, and no other does
+label_same : {A cs : List Command} {blocks : List ℕ} {place : ℕ} {items : List Item} → Resolves A blocks place items cs → (name : List ℕ) (i : ℕ)
+    → IsLabelOf (commands_among items) name i ↔ Defines cs name i
+label_same done name i = (λ h. absurd (cc h), λ h. absurd (cc h))
+label_same (known r) name zero = (λ h. ap Some (label_command h), λ h. written_same h)
+label_same (jump {tests = tests} t may x r) name zero = (λ h. absurd (cc h), λ h. absurd (no_jump_label tests t (verbs_same h)))
+label_same (opening x r) name zero = (λ h. absurd (cc h), λ h. absurd (cc (verbs_same h)))
+label_same (known r) name (suc i) = label_same r name i
+label_same (jump t may x r) name (suc i) = label_same r name i
+label_same (opening x r) name (suc i) = label_same r name i
+label_same (closing x r) name i = label_same r name i
 
--- a command that defines a label comes of the label's item
+pub label_defined : {A cs : List Command} {blocks : List ℕ} {place : ℕ} {items : List Item} → Resolves A blocks place items cs
+    → (name : List ℕ) (i : ℕ) → IsLabelOf (commands_among items) name i → Defines cs name i
+label_defined r name i h = (label_same r name i).0 h
+
 pub label_written : {A cs : List Command} {blocks : List ℕ} {place : ℕ} {items : List Item} → Resolves A blocks place items cs
     → (name : List ℕ) (i : ℕ) → Defines cs name i → IsLabelOf (commands_among items) name i
-label_written done name i h = absurd (cc h)
-label_written (known r) name zero h = same_written h
-label_written (jump {tests = tests} t may x r) name zero h = absurd (no_jump_label tests t (verbs_same h))
-label_written (opening x r) name zero h = absurd (cc (verbs_same h))
-label_written (known r) name (suc i) h = label_written r name i h
-label_written (jump t may x r) name (suc i) h = label_written r name i h
-label_written (opening x r) name (suc i) h = label_written r name i h
-label_written (closing x r) name i h = label_written r name i h
+label_written r name i h = (label_same r name i).1 h
 
 -- the labels of commands are distinct where those of their items are once, and the other way round
 pub labels_once : {A cs : List Command} {blocks : List ℕ} {place : ℕ} {items : List Item} → Resolves A blocks place items cs → AreLabelsDistinct cs

@@ -7,20 +7,20 @@ use Rattle.std.specs.Borrow.{Bor}
 use Rattle.std.specs.HashMap.{HashMap}
 use Rattle.sedck_text.specs.Text.{one_of}
 use Rattle.sedck_bre.specs.Tree.{Tree}
-use Rattle.sedck_script.specs.Program.{Pattern, Previous, Expression, NoAddress, Label, Command, Program, address_patterns, verb_patterns, patterns, expressions}
-use Rattle.sedck_script.specs.Items.{Known, Item, Written, Closing, Items}
+use Rattle.sedck_commands.specs.Program.{Pattern, Previous, Expression, NoAddress, Label, Command, Program, address_patterns, verb_patterns, patterns, expressions}
+use Rattle.sedck_commands.specs.Items.{Known, Item, Written, Closing, Items}
 use Rattle.sedck_script.specs.Resolution.{Defines, AreLabelsDistinct, LeadsTo, Resolves, done, known, jump, opening, closing}
 use Rattle.sedck_script.specs.Spelling.{Spells, AreCommands}
-use Rattle.sedck_script.specs.Faults.{IsLabelBehind, IsUndefinedLabel}
-use Rattle.sedck_script.specs.Private.Reading.{label_place, HasLabels}
-use Rattle.sedck_script.specs.Private.ItemReading.{item_of, commands_among, item_label, IsLostLabel}
-use Rattle.sedck_script.specs.Private.AddressReading.{has_previous}
-use Rattle.sedck_script.specs.Private.Progress.{HasNoItems, item_patterns}
+use Rattle.sedck_commands.specs.Faults.{IsLabelBehind, IsUndefinedLabel}
+use Rattle.sedck_commands.specs.Labels.{label_place, HasLabels, commands_among}
+use Rattle.sedck_commands.specs.ItemView.{item_of}
+use Rattle.sedck_script.specs.Private.Resolving.{item_label, IsLostLabel}
+use Rattle.sedck_commands.specs.ReadItems.{has_previous, HasNoItems, item_patterns}
 use Rattle.sedck_script.specs.Private.ExpressionReading.{has_some}
-use Rattle.sedck_script.specs.declared.items.WrittenItem.{WrittenItem}
+use Rattle.sedck_commands.specs.declared.items.WrittenItem.{WrittenItem}
 use Rattle.sedck_script.proofs.Nesting.{resolves_nests, resolves_length, label_written, labels_once}
 use Rattle.sedck_script.proofs.SortedNames.{Contains-cons_cases, Contains-cons_more}
-use Rattle.sedck_script.proofs.UniqueItems.{items_one}
+use Rattle.sedck_commands.proofs.UniqueItems.{items_one}
 use Rattle.sedck_script.proofs.UniqueCommands.{commands_one}
 
 -- a text without items spells no program
@@ -54,10 +54,8 @@ module _ {S : Type 0} (labels : HashMap (Bor (List ℕ)) ℕ S) where
       → k < length items → IsLostLabel labels (item_label (get_or items k d))
       → (name : List ℕ) × (at : ℕ) × (label_place labels name ≡ None) × Defines all name at
   lost_at k d done lt l = absurd (omega arith)
-  lost_at zero d (known r) lt l = absurd l
   lost_at {all = all} zero d (jump {label = n} t may h r) lt l = lost_by all n t h l
-  lost_at zero d (opening h r) lt l = absurd l
-  lost_at zero d (closing h r) lt l = absurd l
+  lost_at zero d _ lt l = absurd l
   lost_at (suc k) d (known r) lt l = lost_at k d r (omega arith) l
   lost_at (suc k) d (jump t may h r) lt l = lost_at k d r (omega arith) l
   lost_at (suc k) d (opening h r) lt l = lost_at k d r (omega arith) l
@@ -89,10 +87,8 @@ module _ {S : Type 0} (labels : HashMap (Bor (List ℕ)) ℕ S) where
   )
 
   pub distinct : {items : List Item} {cs : List Command} → HasLabels labels (commands_among items) → Resolves cs [] 0 items cs → AreLabelsDistinct cs
-  distinct h r name i j d e = some_place (sym (h.found name i (label_written r name i d)) ∙ h.found name j (label_written r name j e))
-    where
-      some_place : {m n : ℕ} → Some m ≡ Some n → m ≡ n
-      some_place f = cc f
+  distinct h r name i j d e =
+      let same : Some i ≡ Some j = sym (h.found name i (label_written r name i d)) ∙ h.found name j (label_written r name j e) in cc same
 
 -- ---- Expressions
 

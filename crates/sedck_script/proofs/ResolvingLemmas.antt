@@ -6,13 +6,15 @@ use Rattle.std.proofs.Math.Seq.{get_or-append_seam}
 use Rattle.std.specs.Prelude.{All}
 use Rattle.std.specs.Borrow.{Bor}
 use Rattle.std.specs.HashMap.{HashMap}
-use Rattle.sedck_script.specs.Program.{Address, Command}
-use Rattle.sedck_script.specs.Items.{WrittenVerb, Known, JumpTo, Opening, Item, Written, Closing}
-use Rattle.sedck_script.specs.Resolution.{Defines, MayBeBraced, LeadsTo, Resolves, done, known, jump, opening, closing}
-use Rattle.sedck_script.specs.Private.Reading.{label_place, HasLabels}
-use Rattle.sedck_script.specs.Private.ItemReading.{commands_among, verb_turn, Turned, Nests, IsKnownLabel, label_of, item_label, item_of, target_of, resolved_verb, TakesTarget}
-use Rattle.sedck_script.specs.declared.items.WrittenItem.{WrittenItem}
-use Rattle.sedck_script.proofs.StateLemmas.{among_append, among_closing}
+use Rattle.sedck_commands.specs.Program.{Address, Command}
+use Rattle.sedck_commands.specs.Items.{WrittenVerb, Known, JumpTo, Opening, Item, Written, Closing, MayBeBraced}
+use Rattle.sedck_script.specs.Resolution.{Defines, LeadsTo, Resolves, done, known, jump, opening, closing}
+use Rattle.sedck_commands.specs.Labels.{label_place, HasLabels, commands_among}
+use Rattle.sedck_commands.specs.Blocks.{verb_turn, Turned, Nests}
+use Rattle.sedck_script.specs.Private.Resolving.{IsKnownLabel, label_of, item_label, target_of, resolved_verb, TakesTarget}
+use Rattle.sedck_commands.specs.ItemView.{item_of}
+use Rattle.sedck_commands.specs.declared.items.WrittenItem.{WrittenItem}
+use Rattle.sedck_commands.proofs.StateLemmas.{among_append, among_closing}
 use Rattle.sedck_script.proofs.Nesting.{resolves_nests, resolves_length, nests_one, nests_behind, label_defined, plain_commands, plain_length, plain_label}
 
 -- what is known of the commands of the whole script

@@ -1,5 +1,5 @@
 -- The least length of a text of some expressions, and of more of them.
-use Rattle.std.proofs.Common.{◌≡◌, ◌⊎◌, ℕ, zero, suc, ◌+◌, ◌<◌, ◌≤◌, min, List, [], ◌∷◌, ◌++◌, map, length, get_or, take, Contains, refl, sym, ap, ◌∙◌, subst, inl, inr, arith, append-nil, flat_map, true, Option, Some, None}
+use Rattle.std.proofs.Common.{◌≡◌, ℕ, zero, suc, ◌+◌, ◌<◌, min, List, [], ◌∷◌, ◌++◌, map, length, get_or, take, refl, sym, ap, ◌∙◌, subst, inl, inr, arith, append-nil, flat_map, true, Option, Some, None}
 use Rattle.std.specs.Option.{is_some, unwrap_or}
 use Rattle.std.proofs.lemmas.Bool.{cases_lt, false≢true}
 use Rattle.std.proofs.lemmas.List.{map_more}
@@ -7,14 +7,15 @@ use Rattle.std.proofs.lemmas.List.Concat.{flat_map-append}
 use Rattle.std.proofs.lemmas.List.Elements.{Contains-append_left, Contains-append_right, Contains-append_cases}
 use Rattle.sedck_bre.specs.Tree.{Tree}
 use Rattle.sedck_bre.specs.Lengths.{IsLeastSize, HasLength, cap}
-use Rattle.sedck_script.specs.Program.{Pattern, Command, address_patterns, verb_patterns, patterns, pattern_expressions, expressions}
-use Rattle.sedck_script.specs.View.{verb_of, command_of}
+use Rattle.sedck_commands.specs.Program.{Pattern, Command, address_patterns, verb_patterns, patterns, pattern_expressions, expressions}
+use Rattle.sedck_commands.specs.View.{verb_of}
+use Rattle.sedck_script.specs.View.{command_of}
 use Rattle.sedck_script.specs.Shortest.{SomeHasLength}
 use Rattle.sedck_script.specs.Private.ExpressionReading.{has_some, lesser, IsLeastOf}
 use Rattle.sedck_script.specs.declared.script.Command.{Command as Coded}
-use Rattle.sedck_script.specs.declared.script.Verb.{Verb}
-use Rattle.sedck_script.specs.declared.script.Substitution.{Substitution}
-use Rattle.sedck_script.specs.declared.script.Verb.TheVariants.{Substitute}
+use Rattle.sedck_commands.specs.declared.types.Verb.{Verb}
+use Rattle.sedck_commands.specs.declared.types.Substitution.{Substitution}
+use Rattle.sedck_commands.specs.declared.types.Verb.TheVariants.{Substitute}
 
 -- the expressions of some patterns
 abbrev pub trees_of : List Pattern → List Tree
@@ -37,34 +38,29 @@ one_is_least tree n least = record {
 }
   where
     only : (m : ℕ) → SomeHasLength (tree ∷ []) m → HasLength tree m
-    only m (other, (k, below, is), has) =
-        elim k as (λ i. i < 1 → get_or (tree ∷ []) i other ≡ other → HasLength tree m) [
-          | zero ↦ λ b same. subst (λ (t : Tree). HasLength t m) (sym same) has
-          | suc i ↦ λ b same. absurd (omega (arith, b))
-        ] below is
+    only m (other, (zero, below, is), has) = subst (λ (t : Tree). HasLength t m) (sym is) has
+    only m (other, (suc k, below, is), has) = absurd (omega (arith, below))
 
 -- the least of two lists of expressions
 both_are_least : (xs ys : List Tree) (m n : ℕ) → IsLeastSize (SomeHasLength xs) m → IsLeastSize (SomeHasLength ys) n
     → IsLeastSize (SomeHasLength (xs ++ ys)) (min m n)
 both_are_least xs ys m n one two = record {
-  floor = λ k (tree, inside, has). at_least k tree has (Contains-append_cases xs ys tree inside);
-  met = λ below. some below (cases_lt m n);
-  capped = omega (arith, one.capped);
-}
-  where
-    at_least : (k : ℕ) (tree : Tree) → HasLength tree k → Contains xs tree ⊎ Contains ys tree → min m n ≤ k
-    at_least k tree has (inl inside) = omega (arith, one.floor k (tree, inside, has))
-    at_least k tree has (inr inside) = omega (arith, two.floor k (tree, inside, has))
-
-    some : min m n < cap → (m < n) ⊎ (n ≤ m) → SomeHasLength (xs ++ ys) (min m n)
-    some below (inl less) =
+  floor = λ k (tree, inside, has). elim (Contains-append_cases xs ys tree inside) [
+    | inl i ↦ omega (arith, one.floor k (tree, i, has))
+    | inr i ↦ omega (arith, two.floor k (tree, i, has))
+  ];
+  met = λ below. elim (cases_lt m n) [
+    | inl less ↦ (
         let is : m ≡ min m n = omega arith in
         let h = one.met (omega arith) in
-        (h.0, Contains-append_left xs ys h.0 h.1, subst (λ k. HasLength h.0 k) is h.2)
-    some below (inr more) =
+        (h.0, Contains-append_left xs ys h.0 h.1, subst (λ k. HasLength h.0 k) is h.2))
+    | inr more ↦ (
         let is : n ≡ min m n = omega arith in
         let h = two.met (omega arith) in
-        (h.0, Contains-append_right xs ys h.0 h.1, subst (λ k. HasLength h.0 k) is h.2)
+        (h.0, Contains-append_right xs ys h.0 h.1, subst (λ k. HasLength h.0 k) is h.2))
+  ];
+  capped = omega (arith, one.capped);
+}
 
 -- the expressions of some patterns, and of more
 pub trees_of-append : (ps qs : List Pattern) → trees_of (ps ++ qs) ≡ trees_of ps ++ trees_of qs

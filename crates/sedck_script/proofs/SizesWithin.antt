@@ -1,45 +1,21 @@
 -- The names and the replacements of a script's verbs lie in its text.
-use Rattle.std.proofs.Common.{◌≡◌, ℕ, ◌+◌, ◌≤◌, true, not, List, [], ◌∷◌, length, Option, Some, None, Contains, refl, ap, sym, subst, length-append, arith}
+use Rattle.std.proofs.Common.{◌≡◌, ℕ, ◌+◌, ◌≤◌, true, not, List, [], length, Option, Some, None, Contains, refl, ap, sym, subst, length-append, arith}
 use Rattle.std.specs.Prelude.{option_to_list}
 use Rattle.std.specs.List.{AllByRecursion, list_all}
 use Rattle.std.proofs.lemmas.Bool.{false≢true}
 use Rattle.std.proofs.lemmas.List.Elements.{All-from_recursion, All-contains, Contains-append_left, Contains-append_right}
 use Rattle.std.proofs.lemmas.List.Sums.{AllPass-from_list_all}
-use Rattle.sedck_script.specs.Cuts.{is_newline}
-use Rattle.sedck_script.specs.Program.{Pattern, Part, Substitution, Verb, part_length, literal_length}
-use Rattle.sedck_script.specs.Parts.{Name, EscapedPart, Replacement, Flags}
-use Rattle.sedck_script.specs.Parts as p
-use Rattle.sedck_script.specs.Items.{WrittenVerb, Known, Simple, VerbText}
-use Rattle.sedck_script.specs.Items as w
+use Rattle.sedck_commands.specs.Cuts.{is_newline}
+use Rattle.sedck_commands.specs.Program.{Pattern, Part, Substitution, Verb}
+use Rattle.sedck_commands.specs.Parts.{Name, Flags, IsPart}
+use Rattle.sedck_commands.specs.Parts as p
+use Rattle.sedck_commands.specs.Items.{WrittenVerb, Known, Simple, VerbText}
+use Rattle.sedck_commands.specs.Items as w
 use Rattle.sedck_script.specs.Names.{IsName, names_size, read_names, write_names}
-use Rattle.sedck_script.specs.Invariant.{IsPart, IsReplacement}
-use Rattle.sedck_script.specs.Private.Reading.{EndsIn}
-use Rattle.sedck_script.proofs.SpelledIsSound.{flags_leave}
-use Rattle.sedck_script.proofs.OffsetLemmas.{tail_cut, tail_tail, tail_behind, tail_length, ends_tail, expression_tail, replacement_tail, number_tail, verb_text_tail}
-
--- ---- Replacements
-
-escaped_size : {b : ℕ} {part : Part} → EscapedPart b part → part_length part ≤ 1
-escaped_size (p.line e) = omega arith
-escaped_size _ = omega arith
-
-pub replacement_size : {d : ℕ} {text rest : List ℕ} {parts : List Part} → Replacement d text parts rest → literal_length parts + length rest ≤ length text
-replacement_size (p.ends h) = omega arith
-replacement_size (p.whole h e x) = omega (arith, replacement_size x)
-replacement_size (p.escaped h e k x) = omega (arith, replacement_size x)
-replacement_size (p.part h e s x) = omega (arith, replacement_size x, escaped_size s)
-replacement_size (p.run {b = b} {bytes = bytes} {behind = behind} l x) = omega (arith, replacement_size x, ap length l.cut, length-append (b ∷ bytes) behind)
-
-escaped_part : {b : ℕ} {part : Part} → EscapedPart b part → IsPart part
-escaped_part (p.group h k) = (omega arith, omega arith)
-escaped_part _ = tt
-
-pub replacement_parts : {d : ℕ} {text rest : List ℕ} {parts : List Part} → Replacement d text parts rest → AllByRecursion IsPart parts
-replacement_parts (p.ends h) = tt
-replacement_parts (p.whole h e x) = (tt, replacement_parts x)
-replacement_parts (p.escaped h e k x) = (tt, replacement_parts x)
-replacement_parts (p.part h e s x) = (escaped_part s, replacement_parts x)
-replacement_parts (p.run l x) = (tt, replacement_parts x)
+use Rattle.sedck_script.specs.Invariant.{IsReplacement}
+use Rattle.sedck_commands.specs.Private.Reading.{EndsIn}
+use Rattle.sedck_commands.proofs.ReplacementParts.{replacement_size, replacement_parts, flags_leave}
+use Rattle.sedck_commands.proofs.OffsetLemmas.{tail_cut, tail_tail, tail_behind, tail_length, ends_tail, expression_tail, replacement_tail, number_tail, verb_text_tail}
 
 -- ---- Names
 
@@ -112,13 +88,9 @@ IsCheapWritten _ text rest = length rest ≤ length text
 module _ {whole : List ℕ} (few : length whole ≤ 1048576) (zeros : Contains whole 0 → ⊥) where
   pub verb_cheap : {text rest : List ℕ} {v : WrittenVerb} → EndsIn whole text → VerbText text v rest → IsCheapWritten v text rest
   verb_cheap h (w.simple x e) = simple_cheap x (tail_length (verb_text_tail (w.simple x e)))
-  verb_cheap h (w.label b l n e) = plain refl refl tt (tail_length (verb_text_tail (w.label b l n e)))
   verb_cheap h (w.jump b l n e brace) = tail_length (verb_text_tail (w.jump b l n e brace))
   verb_cheap h (w.jump_to_end b n e brace) = tail_length (verb_text_tail (w.jump_to_end b n e brace))
   verb_cheap h (w.opening b) = omega arith
-  verb_cheap h (w.append b l g) = plain refl refl tt (tail_length (verb_text_tail (w.append b l g)))
-  verb_cheap h (w.change b l g) = plain refl refl tt (tail_length (verb_text_tail (w.change b l g)))
-  verb_cheap h (w.insert b l g) = plain refl refl tt (tail_length (verb_text_tail (w.insert b l g)))
   verb_cheap h (w.read b n) = record {
     bounded = record { reads = (name_is zeros (tail_behind h refl) n, tt); writes = tt; one_read = omega arith; one_write = omega arith; replacement = tt };
     cost = omega (arith, name_size n);
@@ -143,4 +115,4 @@ module _ {whole : List ℕ} (few : length whole ≤ 1048576) (zeros : Contains w
         };
         cost = omega (arith, file.1, tail_length (expression_tail x.cut), tail_length (replacement_tail z));
       }
-  verb_cheap h (w.transliterate b d x y l e) = plain refl refl tt (tail_length (verb_text_tail (w.transliterate b d x y l e)))
+  verb_cheap h x = plain refl refl tt (tail_length (verb_text_tail x))

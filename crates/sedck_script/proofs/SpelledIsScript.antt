@@ -1,6 +1,6 @@
 -- A script that is spelled keeps the invariant of scripts.
-use Rattle.std.proofs.Common.{◌≡◌, ℕ, suc, ◌+◌, ◌≤◌, Bool, true, false, List, [], ◌∷◌, ◌++◌, length, Contains, refl, length-append, arith}
-use Rattle.std.specs.Prelude.{flat_map}
+use Rattle.std.proofs.Common.{◌≡◌, ℕ, ◌+◌, ◌≤◌, Bool, true, false, List, [], ◌∷◌, ◌++◌, length, Contains, refl, length-append, arith}
+use Rattle.std.specs.Prelude.{flat_map, sum_by}
 use Rattle.std.specs.List.{AllByRecursion}
 use Rattle.std.specs.declared.cmp.Ordering.{Ordering}
 use Rattle.std.specs.declared.cmp.Ordering.TheVariants.{Less, Equal, Greater}
@@ -8,16 +8,16 @@ use Rattle.std.specs.Ordering.{nat_cmp}
 use Rattle.std.specs.Cmp.Lexicographic.{slice_cmp}
 use Rattle.std.proofs.lemmas.List.Elements.{All-from_recursion}
 use Rattle.std.proofs.lemmas.List.Sums.{sum_by-cons, sum_by-append}
-use Rattle.sedck_script.specs.Program.{Address, Verb, Command, Program}
-use Rattle.sedck_script.specs.Items.{WrittenVerb, Known, Item, Written, Items}
-use Rattle.sedck_script.specs.Items as w
+use Rattle.sedck_commands.specs.Program.{Address, Verb, Command, Program}
+use Rattle.sedck_commands.specs.Items.{WrittenVerb, Known, Item, Written, Items}
+use Rattle.sedck_commands.specs.Items as w
 use Rattle.sedck_script.specs.Resolution.{Resolves, done, known, jump, opening, closing}
 use Rattle.sedck_script.specs.Spelling.{Spells}
 use Rattle.sedck_script.specs.Names.{IsName, AreNames, names_size, read_names, write_names, placed, with_name, sorted_names}
 use Rattle.sedck_script.specs.Invariant.{IsReplacement, IsScript}
-use Rattle.sedck_script.specs.Private.Reading.{EndsIn}
-use Rattle.sedck_script.proofs.OffsetLemmas.{tail_cut, tail_tail, tail_behind, tail_length, ends_tail, verb_text_tail}
-use Rattle.sedck_script.proofs.CommandLemmas.{address_tail}
+use Rattle.sedck_commands.specs.Private.Reading.{EndsIn}
+use Rattle.sedck_commands.proofs.OffsetLemmas.{tail_cut, tail_tail, tail_behind, tail_length, ends_tail, verb_text_tail}
+use Rattle.sedck_commands.proofs.CommandLemmas.{address_tail}
 use Rattle.sedck_script.proofs.SpelledIsSound.{spelled_targets, spelled_formed, spelled_transliterations}
 use Rattle.sedck_script.proofs.SortedNames.{all_weaker, all_append, sorted_names-rise, with_all}
 use Rattle.sedck_script.proofs.SizesWithin.{verb_cost, IsBounded, IsCheapWritten, verb_cheap}
@@ -77,35 +77,25 @@ commands_cheap (closing k r) h = let more = commands_cheap r h.1 in (more.0, ome
 
 -- ---- Names
 
-size_cons : (name : List ℕ) (names : List (List ℕ)) → names_size (name ∷ names) ≡ length name + 1 + names_size names
-size_cons name names = sum_by-cons (λ n. length n + 1) name names
+-- what is added up over the names doesn't grow by sorting
+module _ (f : List ℕ → ℕ) where
+  placed_sum : (o : Ordering) (name first : List ℕ) (names others : List (List ℕ)) → sum_by f others ≤ f name + sum_by f names
+      → sum_by f (placed o name first names others) ≤ f name + sum_by f (first ∷ names)
+  placed_sum Less name first names others h = omega (arith, sum_by-cons f name (first ∷ names))
+  placed_sum Equal name first names others h = omega arith
+  placed_sum Greater name first names others h = omega (arith, sum_by-cons f first others, sum_by-cons f first names)
 
-placed_size : (o : Ordering) (name first : List ℕ) (names others : List (List ℕ)) → names_size others ≤ length name + 1 + names_size names
-    → names_size (placed o name first names others) ≤ length name + 1 + names_size (first ∷ names)
-placed_size Less name first names others h = omega (arith, size_cons name (first ∷ names))
-placed_size Equal name first names others h = omega arith
-placed_size Greater name first names others h = omega (arith, size_cons first others, size_cons first names)
+  with_sum : (name : List ℕ) (names : List (List ℕ)) → sum_by f (with_name name names) ≤ f name + sum_by f names
+  with_sum name [] = omega (arith, sum_by-cons f name [])
+  with_sum name (first ∷ names) = placed_sum (slice_cmp nat_cmp name first) name first names (with_name name names) (with_sum name names)
 
-with_size : (name : List ℕ) (names : List (List ℕ)) → names_size (with_name name names) ≤ length name + 1 + names_size names
-with_size name [] = omega (arith, size_cons name [])
-with_size name (first ∷ names) = placed_size (slice_cmp nat_cmp name first) name first names (with_name name names) (with_size name names)
+  sorted_sum : (names : List (List ℕ)) → sum_by f (sorted_names names) ≤ sum_by f names
+  sorted_sum [] = omega arith
+  sorted_sum (name ∷ names) = omega (arith, with_sum name (sorted_names names), sorted_sum names, sum_by-cons f name names)
 
-sorted_size : (names : List (List ℕ)) → names_size (sorted_names names) ≤ names_size names
-sorted_size [] = omega arith
-sorted_size (name ∷ names) = omega (arith, with_size name (sorted_names names), sorted_size names, size_cons name names)
-
-placed_length : (o : Ordering) (name first : List ℕ) (names others : List (List ℕ)) → length others ≤ suc (length names)
-    → length (placed o name first names others) ≤ suc (suc (length names))
-placed_length Less name first names others h = omega arith
-placed_length _ name first names others h = omega arith
-
-with_length : (name : List ℕ) (names : List (List ℕ)) → length (with_name name names) ≤ suc (length names)
-with_length name [] = omega arith
-with_length name (first ∷ names) = placed_length (slice_cmp nat_cmp name first) name first names (with_name name names) (with_length name names)
-
-sorted_length : (names : List (List ℕ)) → length (sorted_names names) ≤ length names
-sorted_length [] = omega arith
-sorted_length (name ∷ names) = omega (arith, with_length name (sorted_names names), sorted_length names)
+count_sum : (names : List (List ℕ)) → sum_by (λ n. 1) names ≡ length names
+count_sum [] = refl
+count_sum (name ∷ names) = omega (arith, sum_by-cons (λ n. 1) name names, count_sum names)
 
 sorted_all : (names : List (List ℕ)) → AllByRecursion IsName names → AllByRecursion IsName (sorted_names names)
 sorted_all [] h = tt
@@ -138,7 +128,7 @@ are_names : (names : List (List ℕ)) → AllByRecursion IsName names → length
 are_names names h l = record {
   each = All-from_recursion IsName _ (sorted_all names h);
   increasing = sorted_names-rise names;
-  count = omega (arith, sorted_length names, l);
+  count = omega (arith, sorted_sum (λ n. 1) names, count_sum names, count_sum (sorted_names names), l);
 }
 
 -- ---- Scripts
@@ -149,6 +139,8 @@ spelled_script {text} {p} s =
     let commands = commands_cheap s.commands.resolved items.0 in
     let read = bounded read_names (λ v b. (b.reads, b.one_read)) p.commands commands.0 in
     let written = bounded write_names (λ v b. (b.writes, b.one_write)) p.commands commands.0 in
+    let read_size = sorted_sum (λ n. length n + 1) (all_reads p.commands) in
+    let written_size = sorted_sum (λ n. length n + 1) (all_writes p.commands) in
     record {
       count = s.commands.count;
       targets = spelled_targets s;
@@ -158,5 +150,5 @@ spelled_script {text} {p} s =
       expression = s.commands.expression;
       read = are_names (all_reads p.commands) read.0 (omega (arith, read.1, s.commands.count));
       written = are_names (all_writes p.commands) written.0 (omega (arith, written.1, s.commands.count));
-      names = omega (arith, sorted_size (all_reads p.commands), sorted_size (all_writes p.commands), costs p.commands, commands.1, items.1, s.allowed.fits);
+      names = omega (arith, read_size, written_size, costs p.commands, commands.1, items.1, s.allowed.fits);
     }

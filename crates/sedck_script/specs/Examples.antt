@@ -1,12 +1,12 @@
 -- Worked examples of scripts: what some texts spell, part by part.
 use Rattle.std.specs.Prelude.{◌≡◌, ℕ, true, false, List, [], ◌∷◌, Some, codes}
 use Rattle.sedck_text.specs.Bytes.{newline, carriage_return, backslash, ascii}
-use Rattle.sedck_script.specs.Program.{Verb, NoAddress, One, Last, Part, Text, Whole, Newline, Label, Branch, Block, NextAppend, Print, Command}
-use Rattle.sedck_script.specs.Parts.{DelimitedExpression, ExpressionText, DelimitedList, FirstList, Replacement, EscapedPart, GivenText}
-use Rattle.sedck_script.specs.Items.{WrittenVerb, Known, JumpTo, Opening, Item, Written, Closing, VerbText, HasNoInnerReturn, Items}
+use Rattle.sedck_commands.specs.Program.{Verb, NoAddress, One, Last, Part, Text, Whole, Newline, Label, Branch, Block, NextAppend, Print, Command}
+use Rattle.sedck_commands.specs.Parts.{DelimitedExpression, ExpressionText, DelimitedList, FirstList, Replacement, EscapedPart, GivenText}
+use Rattle.sedck_commands.specs.Items.{WrittenVerb, Known, JumpTo, Opening, Item, Written, Closing, VerbText, HasNoInnerReturn, Items}
 use Rattle.sedck_script.specs.Resolution.{Resolves}
-use Rattle.sedck_script.specs.Locations.{locations_of}
-use Rattle.sedck_script.specs.declared.location.Location.{Location}
+use Rattle.sedck_commands.specs.Locations.{locations_of}
+use Rattle.sedck_commands.specs.declared.location.Location.{Location}
 
 -- a command without addresses, as it is written and as it is resolved
 abbrev pub plain_item : WrittenVerb → Item

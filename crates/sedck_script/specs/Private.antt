@@ -1,17 +1,5 @@
 -- What functions inside the crate promise each other: no contract of an exported function reaches it.
-pub mod AddressReading
-pub mod CommentReading
 pub mod ExpressionReading
 pub mod Fields
-pub mod FlagReading
-pub mod Forms
-pub mod ItemReading
-pub mod Keeping
-pub mod LabelReading
-pub mod Locating
 pub mod NameReading
-pub mod PieceReading
-pub mod Progress
-pub mod Reading
-pub mod ReplacementReading
-pub mod VerbReading
+pub mod Resolving

@@ -2,13 +2,15 @@
 
 ghost use Rattle.std.specs.Prelude.{◌≡◌, ◌↔◌, map, flat_map, IsTrue};
 ghost use Rattle.sedck_bre.specs.Lengths.{IsLeastSize};
-ghost use Rattle.sedck_script.specs.Program.{place_patterns, address_patterns, verb_patterns, pattern_expressions, expressions};
+ghost use Rattle.sedck_commands.specs.Program.{place_patterns, address_patterns, verb_patterns, pattern_expressions, expressions};
 ghost use Rattle.sedck_script.specs.Shortest.{SomeHasLength};
 ghost use Rattle.sedck_script.specs.Spelling.{IsQuiet};
-ghost use Rattle.sedck_script.specs.View.{pattern_of, place_of, address_of, verb_of, command_of};
+ghost use Rattle.sedck_commands.specs.View.{pattern_of, place_of, address_of, verb_of};
+ghost use Rattle.sedck_script.specs.View.{command_of};
 ghost use Rattle.sedck_script.specs.Private.ExpressionReading.{has_some, lesser as lesser_of, IsLeastOf};
 
-use crate::script::{Address, Command, Pattern, Place, Verb};
+use crate::script::Command;
+use sedck_commands::{Address, Pattern, Place, Verb};
 use sedck_text::Class;
 
 /// Where a least length is capped, and what stands for it where there is no expression.

@@ -14,32 +14,19 @@
 //! - `ScriptFault`: why a text is no script; its number, its name and its place.
 //! - `laws`: what is proved of the grammar alone.
 //!
-//! Expressions are read by `sedck_bre`. Nothing is run, and no file is opened.
+//! Commands are read by `sedck_commands`, and expressions by `sedck_bre`. Nothing is run, and no file is opened.
 #![tactic(auto)]
 
-mod addresses;
-mod bytes;
-mod commands;
-mod delimited;
 mod expressions;
-mod fault;
-mod flags;
-mod forms;
-mod items;
-mod labels;
 pub mod laws;
-mod location;
 mod names;
 mod parsing;
-mod replacements;
 mod resolving;
 mod script;
-mod substitutions;
-mod texts;
-mod verbs;
 
-pub use fault::ScriptFault;
-pub use location::Location;
-pub use names::{Access, name_of};
+pub use names::name_of;
 pub use parsing::{Located, locate, parse};
-pub use script::{Address, Command, Part, Pattern, Place, Script, Substitution, Verb};
+pub use script::{Command, Script};
+pub use sedck_commands::{
+    Access, Address, Location, Part, Pattern, Place, ScriptFault, Substitution, Verb,
+};

@@ -1,84 +1,18 @@
-//! Names of files, and sorted lists of them.
+//! Sorted lists of the names of files that commands give.
 
-ghost use Rattle.std.specs.Prelude.{◌≡◌, ◌⊎◌, ℕ, List, IfSome, IfNone, not, ◌<◌, ◌≤◌, OnOk, false, length, map, slice_index_or, true, IfErr, IfOk, option_to_list};
-ghost use Rattle.sedck_script.specs.Cuts.{is_newline, is_continued, Longest};
-ghost use Rattle.sedck_script.specs.Parts.{Name};
-ghost use Rattle.sedck_script.specs.Faults.{IsPlaced};
-ghost use Rattle.sedck_text.specs.Cursors.{unread};
+ghost use Rattle.std.specs.Prelude.{◌≡◌, ℕ, List, ◌<◌, ◌≤◌, OnOk, false, length, map, slice_index_or, true, IfErr, IfOk, option_to_list};
 ghost use Rattle.std.specs.Borrow.{Bor};
 ghost use Rattle.std.specs.Cmp.Lexicographic.{slice_cmp};
 ghost use Rattle.std.specs.Ordering.{is_lt, nat_cmp};
 ghost use Rattle.std.specs.Option.{option_copied};
 ghost use Rattle.sedck_script.specs.Names.{AreIncreasing, accessed, with_name, sorted_names as sorted};
-ghost use Rattle.sedck_script.specs.View.{verb_of, command_of};
-ghost use Rattle.sedck_script.specs.Private.NameReading.{is_skipped, all_accessed, with_any};
+ghost use Rattle.sedck_commands.specs.View.{verb_of};
+ghost use Rattle.sedck_script.specs.View.{command_of};
+ghost use Rattle.sedck_script.specs.Private.NameReading.{all_accessed, with_any};
 
-use crate::fault::ScriptFault;
-use crate::script::{Command, Verb};
-use sedck_text::{Class, Cursor};
+use crate::script::Command;
+use sedck_commands::{Access, ScriptFault, Verb};
 use std::alloc::Global;
-
-/// Whether the line ends in an odd number of backslashes.
-pub fn is_continued(line: &[u8]) -> bool
-    ensures { result ≡ is_continued line.now }
-{
-    let mut rest = line;
-    'bytes: while let [first, second, behind @ ..] = rest {
-        rest = if *first == b'\\' { behind } else { &rest[1..] };
-    }
-    match rest {
-        [last, ..] => *last == b'\\',
-        [] => false,
-    }
-}
-
-/// Whether some seds skip the byte before a name.
-fn is_skipped(byte: u8) -> bool
-    ensures { result ≡ is_skipped byte }
-{
-    matches!(byte, 11..=13)
-}
-
-/// The file name after the blanks at the start, and the text from the end of its line on.
-pub fn read_name<'a>(text: Cursor<'a>) -> Option<(&'a [u8], Cursor<'a>)>
-    ensures read { IfSome result (λ x. Name (unread text.entry) x.0.now (unread x.1)) }
-    ensures same { IfSome result (λ x. x.1.whole ≡ text.entry.whole) }
-    ensures none { IfNone result ((name : List ℕ) (rest : List ℕ) → Name (unread text.entry) name rest → ⊥) }
-{
-    let (name, rest) = text.skip(Class::Blank).split(Class::Except(b'\n'));
-    let [first, ..] = name else {
-        return None;
-    };
-    if is_skipped(*first) {
-        return None;
-    }
-    if !rest.unread().is_empty() && is_continued(name) {
-        return None;
-    }
-    Some((name, rest))
-}
-
-/// Why no name can be read after the verb or the flag at the place: there is none, or it is one that some seds read differently.
-pub fn name_fault<'a>(place: usize, text: Cursor<'a>) -> ScriptFault
-    ensures { (result ≡ ScriptFault.MissingName place) ⊎ IsPlaced text.entry.whole.now result }
-{
-    let begins = text.skip(Class::Blank);
-    let (name, _) = begins.split(Class::Except(b'\n'));
-    if name.is_empty() {
-        return ScriptFault::MissingName { place };
-    }
-    let start = begins.offset();
-    let last = name.len() - 1;
-    if is_skipped(name[0]) {
-        return ScriptFault::ExtraText { place: start };
-    }
-    if name[last] == b'\\' {
-        return ScriptFault::ExtraText {
-            place: start + last,
-        };
-    }
-    ScriptFault::MissingName { place }
-}
 
 /// Whether a name is before another, in the order of bytes.
 fn is_before(a: &[u8], b: &[u8]) -> bool
@@ -133,13 +67,6 @@ fn insert_any<'a>(names: &mut Vec<&'a [u8]>, name: Option<&'a [u8]>) -> Result<(
         Some(name) => insert_name(names, name),
         None => Ok(()),
     }
-}
-
-/// What a command does with a file.
-#[derive(Clone, Copy, PartialEq, Eq)]
-pub enum Access {
-    Read,
-    Write,
 }
 
 /// The file that a command reads, or writes by its verb or its flag.

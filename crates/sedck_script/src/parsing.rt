@@ -1,25 +1,22 @@
 //! From a text to the script that it spells.
 
 ghost use Rattle.std.specs.Prelude.{◌≡◌, ℕ, ◌<◌, ◌≤◌, true, false, Some, List, Err, length, map, IfOk, IfErr, OnOk, OnErr};
-ghost use Rattle.sedck_script.specs.Program.{Program, expressions};
+ghost use Rattle.sedck_commands.specs.Program.{Program, expressions};
 ghost use Rattle.sedck_script.specs.Private.ExpressionReading.{has_some};
 ghost use Rattle.sedck_script.specs.Spelling.{IsScriptText, AreCommands, Spells};
-ghost use Rattle.sedck_script.specs.Items.{Item, Items};
-ghost use Rattle.sedck_script.specs.Locations.{locations_of, AreInOrder};
-ghost use Rattle.sedck_script.specs.Private.ItemReading.{item_of, Nests};
-ghost use Rattle.sedck_script.specs.Private.Progress.{IsProgress};
+ghost use Rattle.sedck_commands.specs.Items.{Item, Items};
+ghost use Rattle.sedck_commands.specs.Locations.{locations_of, AreInOrder};
+ghost use Rattle.sedck_commands.specs.ItemView.{item_of};
+ghost use Rattle.sedck_commands.specs.ReadItems.{IsRead};
 ghost use Rattle.sedck_script.specs.View.{command_of};
-ghost use Rattle.sedck_script.specs.Faults.{IsPlaced, IsFirstZero, IsOfText};
+ghost use Rattle.sedck_commands.specs.Faults.{IsPlaced, IsFirstZero, IsOfText};
 
-use crate::bytes::TEXT_LIMIT;
 use crate::expressions::{has_expression, is_quiet};
-use crate::fault::ScriptFault;
-use crate::items::{Progress, read_items};
-use crate::location::{Location, locations};
-use crate::names::{Access, sorted_names};
+use crate::names::sorted_names;
 use crate::resolving::linked;
 use crate::script::{Command, Script};
 use memchr::memchr;
+use sedck_commands::{Access, Location, Progress, ScriptFault, TEXT_LIMIT, locations, read_items};
 use std::alloc::Global;
 
 /// Whether the text may be a script's: it isn't too long, and holds no byte 0.
@@ -37,6 +34,19 @@ fn check_text(text: &[u8]) -> Result<(), ScriptFault>
         return Err(ScriptFault::NulByte { place });
     }
     Ok(())
+}
+
+/// The items of the text, where it may be a script's.
+fn checked_items<'a>(alloc: Global, text: &'a [u8]) -> Result<Progress<'a>, ScriptFault>
+    ensures allowed { IfOk result (λ progress. IsScriptText text.now) }
+    ensures read { IfOk result (λ progress. IsRead text.now progress) }
+    ensures refused { IfErr result (λ fault. IsOfText fault → (other : Program) → Spells text.now other → ⊥) }
+    ensures placed { IfErr result (λ fault. IsPlaced text.now fault) }
+    ensures too_long { TEXT_LIMIT < length text.now → result ≡ Err (ScriptFault.TooLong TEXT_LIMIT) }
+    ensures zero { (place : ℕ) → length text.now ≤ TEXT_LIMIT → IsFirstZero text.now place → result ≡ Err (ScriptFault.NulByte place) }
+{
+    check_text(text)?;
+    read_items(alloc, text)
 }
 
 /// Whether the empty expression at the place, if there is one, has another that it stands for.
@@ -60,9 +70,7 @@ fn commands<'a>(
     text: &[u8],
     progress: Progress<'a>,
 ) -> Result<Vec<Command<'a>>, ScriptFault>
-    requires items { Items text.now (map item_of progress.items.items) }
-    requires nests { Nests (map item_of progress.items.items) 0 }
-    requires progress { (rest : List ℕ) × IsProgress text.now rest progress }
+    requires { IsRead text.now progress }
     ensures read { IfOk result (λ commands. AreCommands (map item_of progress.entry.items.items) (map command_of commands.items)) }
     ensures refused { IfErr result (λ fault. IsOfText fault → (other : Program) → Spells text.now other → ⊥) }
     ensures placed { IfErr result (λ fault. IsPlaced text.now fault) }
@@ -86,9 +94,7 @@ fn script<'a>(
     progress: Progress<'a>,
 ) -> Result<Script<'a>, ScriptFault>
     requires allowed { IsScriptText text.now }
-    requires items { Items text.now (map item_of progress.items.items) }
-    requires nests { Nests (map item_of progress.items.items) 0 }
-    requires progress { (rest : List ℕ) × IsProgress text.now rest progress }
+    requires read { IsRead text.now progress }
     ensures spelled { IfOk result (λ script. Spells text.now script) }
     ensures only { IfOk result (λ script. (other : Program) → Spells text.now other → other ≡ script) }
     ensures refused { IfErr result (λ fault. IsOfText fault → (other : Program) → Spells text.now other → ⊥) }
@@ -112,8 +118,7 @@ pub fn parse<'a>(alloc: Global, text: &'a [u8]) -> Result<Script<'a>, ScriptFaul
     ensures too_long { TEXT_LIMIT < length text.now → result ≡ Err (ScriptFault.TooLong TEXT_LIMIT) }
     ensures zero { (place : ℕ) → length text.now ≤ TEXT_LIMIT → IsFirstZero text.now place → result ≡ Err (ScriptFault.NulByte place) }
 {
-    check_text(text)?;
-    let progress = read_items(alloc, text)?;
+    let progress = checked_items(alloc, text)?;
     script(alloc, text, progress)
 }
 
@@ -139,8 +144,7 @@ pub fn locate<'a>(alloc: Global, text: &'a [u8]) -> Result<Located<'a>, ScriptFa
     ensures too_long { TEXT_LIMIT < length text.now → result ≡ Err (ScriptFault.TooLong TEXT_LIMIT) }
     ensures zero { (place : ℕ) → length text.now ≤ TEXT_LIMIT → IsFirstZero text.now place → result ≡ Err (ScriptFault.NulByte place) }
 {
-    check_text(text)?;
-    let progress = read_items(alloc, text)?;
+    let progress = checked_items(alloc, text)?;
     let locations = locations(alloc, &progress.items)?;
     let script = script(alloc, text, progress)?;
     Ok(Located { script, locations })

@@ -3,17 +3,17 @@
 ghost use Rattle.std.specs.Prelude.{◌≡◌, ◌⊎◌, ℕ, List, [], IfNone, IfSome, Some, None, length, map, All, Any, IfOk, IfErr, OnOk, OnErr, option_copied};
 ghost use Rattle.sedck_script.specs.View as view;
 ghost use Rattle.sedck_text.specs.Text.{one_of};
-ghost use Rattle.sedck_script.specs.Faults.{IsLabelBehind, IsOfText};
+ghost use Rattle.sedck_commands.specs.Faults.{IsLabelBehind, IsOfText};
 ghost use Rattle.sedck_script.specs.Resolution.{Resolves};
-ghost use Rattle.sedck_script.specs.Private.Reading.{HasLabels, IsUnknownLabel};
-ghost use Rattle.sedck_script.specs.Private.VerbReading.{written_verb, IsWrittenAt};
-ghost use Rattle.sedck_script.specs.Private.ItemReading.{item_of, commands_among, Nests, verb_turn, TakesTarget, IsItemAt, IsKnownLabel, IsLostLabel, label_of, item_label, target_of, resolved_command};
+ghost use Rattle.sedck_commands.specs.Labels.{HasLabels, commands_among};
+ghost use Rattle.sedck_script.specs.Private.Resolving.{IsUnknownLabel, TakesTarget, IsKnownLabel, IsLostLabel, label_of, item_label, target_of, resolved_command};
+ghost use Rattle.sedck_commands.specs.ItemView.{written_verb, item_of};
+ghost use Rattle.sedck_commands.specs.ReadItems.{IsWrittenAt, IsItemAt};
+ghost use Rattle.sedck_commands.specs.Blocks.{Nests, verb_turn};
 
-use crate::fault::ScriptFault;
-use crate::items::{Written, WrittenCommand, WrittenItem};
-use crate::labels::{Jump, place_of};
-use crate::script::{Command, Verb};
+use crate::script::Command;
 use indexmap::IndexMap;
+use sedck_commands::{Jump, ScriptFault, Verb, Written, WrittenCommand, WrittenItem, place_of};
 use std::alloc::Global;
 
 /// The place that a label leads to: the end where there is none.

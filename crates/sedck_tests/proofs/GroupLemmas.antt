@@ -4,7 +4,7 @@ use Rattle.std.specs.Int.RustNames.{bit_or}
 use Rattle.std.proofs.lemmas.Bool.Decides.{nat_tests}
 use Rattle.sedck_bre.specs.Tree.{Tree}
 use Rattle.sedck_bre.specs.Rests.{names, is_top_group, NamesTopGroups}
-use Rattle.sedck_script.proofs.ReferenceLemmas.{more_other}
+use Rattle.sedck_commands.proofs.ReferenceLemmas.{more_other}
 
 pub names_more : (t : Tree) (bits k : ℕ) → NamesTopGroups t bits → 1 ≤ k → k ≤ 9 → IsTrue (is_top_group t k)
     → NamesTopGroups t (bit_or bits (2 ^ k))

@@ -5,7 +5,7 @@ use Rattle.sedck_cert.specs.Certificate.{Certificate}
 use Rattle.sedck_cert.specs.Versions.{SpellsCertificate, IsFaultIn}
 use Rattle.sedck_cert.specs.Ranked.{Accepts}
 use Rattle.sedck_cert.specs.Rejections.{IsRejection}
-use Rattle.sedck_script.specs.declared.fault.ScriptFault.TheVariants as script
+use Rattle.sedck_commands.specs.declared.fault.ScriptFault.TheVariants as script
 use Rattle.sedck_cert.specs.Headline.{Only, IsLimit}
 use Rattle.sedck_cert.specs.declared.limits.Bound.{Bound}
 use Rattle.sedck_cert.specs.declared.reading.CertFault.TheVariants as cert

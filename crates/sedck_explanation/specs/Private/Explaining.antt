@@ -3,7 +3,7 @@ use Rattle.std.specs.Prelude.{◌≡◌, ◌||◌, ℕ, Bool, true, not, List, S
 use Rattle.std.specs.List.{All}
 use Rattle.sedck_script.specs.Program.{Program}
 use Rattle.sedck_script.specs.Names.{reads, writes}
-use Rattle.sedck_script.specs.declared.location.Location.{Location}
+use Rattle.sedck_commands.specs.declared.location.Location.{Location}
 use Rattle.sedck_report.specs.Positions.{position_in}
 use Rattle.sedck_report.specs.Files.{is_there, names_of}
 use Rattle.sedck_report.specs.Levels.{has_warning, has_error}

@@ -1,7 +1,7 @@
 -- Which fault is reported for one of the script's text.
 use Rattle.std.specs.Prelude.{Bool, true, false, if◌then◌else◌}
-use Rattle.sedck_script.specs.declared.fault.ScriptFault.{ScriptFault}
-use Rattle.sedck_script.specs.declared.fault.ScriptFault.TheVariants as script
+use Rattle.sedck_commands.specs.declared.fault.ScriptFault.{ScriptFault}
+use Rattle.sedck_commands.specs.declared.fault.ScriptFault.TheVariants as script
 use Rattle.sedck_plain.specs.declared.plain.Fault.{Fault}
 use Rattle.sedck_plain.specs.declared.plain.Fault.TheVariants as fault
 

@@ -1,12 +1,12 @@
 -- What holds of a script's fields.
 use Rattle.std.specs.Prelude.{◌≡◌, Bool, List, map}
 use Rattle.sedck_bre.specs.Lengths.{IsLeastSize}
-use Rattle.sedck_script.specs.Program as clean
-use Rattle.sedck_script.specs.Program.{expressions}
+use Rattle.sedck_commands.specs.Program as clean
+use Rattle.sedck_commands.specs.Program.{expressions}
 use Rattle.sedck_script.specs.Names.{reads, writes}
 use Rattle.sedck_script.specs.Invariant.{IsScript}
 use Rattle.sedck_script.specs.Shortest.{SomeHasLength}
-pub use Rattle.sedck_script.specs.ReplacementView.{pattern_of, part_of}
+pub use Rattle.sedck_commands.specs.ReplacementView.{pattern_of, part_of}
 use Rattle.sedck_script.specs.declared.script.Command.{Command}
 use Rattle.sedck_script.specs.declared.script.Script.TheInside.{Inside}
 use Rattle.sedck_script.specs.View.{command_of}

@@ -1,14 +1,8 @@
--- What the readers of names say of what they read, and the names that commands read, or write.
-use Rattle.std.specs.Prelude.{ℕ, Bool, List, Option, Some, None, flat_map}
-use Rattle.sedck_text.specs.Bytes.{vertical_tab, carriage_return}
-use Rattle.sedck_bre.specs.Brackets.{is_from}
-use Rattle.sedck_script.specs.Program.{Command}
+-- The names that commands read, or write.
+use Rattle.std.specs.Prelude.{ℕ, List, Option, Some, None, flat_map}
+use Rattle.sedck_commands.specs.Program.{Command}
 use Rattle.sedck_script.specs.Names.{accessed, with_name}
-use Rattle.sedck_script.specs.declared.names.Access.{Access}
-
--- a byte that some seds skip before a name, as blanks are
-abbrev pub is_skipped : ℕ → Bool
-is_skipped b = is_from vertical_tab carriage_return b
+use Rattle.sedck_commands.specs.declared.names.Access.{Access}
 
 abbrev pub all_accessed : Access → List Command → List (List ℕ)
 all_accessed a cs = flat_map (λ c. accessed a c.verb) cs

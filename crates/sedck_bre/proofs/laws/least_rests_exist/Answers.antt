@@ -1,5 +1,5 @@
 -- The law is a lemma on the definitions.
-use Rattle.sedck_bre.proofs.LeastRest.{least_rests}
+use Rattle.sedck_bre.proofs.DifferentGroups.{least_rests}
 use Rattle.sedck_bre.proofs.laws.least_rests_exist.Goals as goal
 
 pub returns : goal.returns

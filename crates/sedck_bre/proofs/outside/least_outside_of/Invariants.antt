@@ -1,8 +1,8 @@
 use Rattle.std.proofs.Common.{◌≡◌, min, map, take}
-use Rattle.sedck_bre.specs.Tree.{trees}
+use Rattle.sedck_expressions.specs.Tree.{trees}
 use Rattle.sedck_bre.specs.Lengths.{cap}
-use Rattle.sedck_bre.specs.View.{tree}
-use Rattle.sedck_bre.specs.Private.Sequence.{sequence}
+use Rattle.sedck_expressions.specs.View.{tree}
+use Rattle.sedck_expressions.specs.Private.Sequence.{sequence}
 use Rattle.sedck_bre.specs.Private.Bounds.{no_bounds, Holds, after, outside}
 use Rattle.sedck_bre.proofs.outside.least_outside_of.Given as goal
 

@@ -5,9 +5,9 @@ use Rattle.std.proofs.lemmas.Bool.{eqb-true}
 use Rattle.sedck_bre.specs.Tree.{trees}
 use Rattle.sedck_bre.specs.Tree as spec
 use Rattle.sedck_bre.specs.View.{tree, bytes_in}
-use Rattle.sedck_bre.specs.Private.Sequence.{sequence}
-use Rattle.sedck_bre.specs.declared.tree.Bre.{Bre, the_lemmas}
-use Rattle.sedck_bre.proofs.ViewLemmas.{tree-Any, tree-Group, tree-Seq, tree-Repeat}
+use Rattle.sedck_expressions.specs.Private.Sequence.{sequence}
+use Rattle.sedck_expressions.specs.declared.tree.Bre.{Bre, the_lemmas}
+use Rattle.sedck_expressions.proofs.ViewLemmas.{tree-Any, tree-Group, tree-Seq, tree-Repeat}
 use Rattle.sedck_model.specs.declared.spots.Spot.{Spot}
 use Rattle.sedck_model.specs.Spots.{reached, Leads}
 use Rattle.sedck_model.specs.Private.Lists.{Among, IsLed, AreLed, AreWithin, Adds, IsWithout}

@@ -2,7 +2,7 @@ use Rattle.std.proofs.Common.{◌≡◌, ℕ, ◌+◌, ◌*◌, ◌≤◌, [], d
 use Rattle.std.specs.Prelude.{◌↔◌}
 use Rattle.sedck_bre.specs.Tree.{Group}
 use Rattle.sedck_bre.specs.View.{tree}
-use Rattle.sedck_bre.specs.Private.Sequence.{sequence}
+use Rattle.sedck_expressions.specs.Private.Sequence.{sequence}
 use Rattle.sedck_model.specs.Spots.{Reached, Leads}
 use Rattle.sedck_model.specs.Private.Lists.{Among, IsLed, AreWithin, AddsLed}
 use Rattle.sedck_model.specs.Private.Relations.{Steps, UpTo, Many}

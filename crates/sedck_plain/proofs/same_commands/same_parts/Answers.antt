@@ -1,6 +1,6 @@
 use Rattle.std.proofs.Common.{◌≤◌, List, map, length, refl, arith}
 use Rattle.sedck_script.specs.View.{part_of}
-use Rattle.sedck_script.specs.declared.script.Part.{Part}
+use Rattle.sedck_commands.specs.declared.types.Part.{Part}
 use Rattle.sedck_plain.specs.Private.SameScripts.{same_parts}
 use Rattle.sedck_plain.proofs.ListLemmas.{short, ended}
 use Rattle.sedck_plain.proofs.same_commands.same_parts.Goals as goal

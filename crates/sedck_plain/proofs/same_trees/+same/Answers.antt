@@ -4,7 +4,7 @@ use Rattle.std.proofs.lemmas.Bool.{eqb-true}
 use Rattle.std.proofs.lemmas.List.{drop_all}
 use Rattle.sedck_bre.specs.Tree.{trees}
 use Rattle.sedck_bre.specs.View.{tree}
-use Rattle.sedck_bre.specs.declared.tree.Bre.{Bre}
+use Rattle.sedck_expressions.specs.declared.tree.Bre.{Bre}
 use Rattle.sedck_plain.specs.Private.SameTrees.{same_trees}
 use Rattle.sedck_plain.proofs.same_trees.+same.Goals as goal
 

@@ -1,5 +1,5 @@
 use Rattle.std.proofs.Common.{map, take}
-use Rattle.sedck_script.specs.Program.{expressions}
+use Rattle.sedck_commands.specs.Program.{expressions}
 use Rattle.sedck_script.specs.View.{command_of}
 use Rattle.sedck_script.specs.Private.ExpressionReading.{IsLeastOf}
 use Rattle.sedck_script.proofs.expressions.least_of.Given as goal

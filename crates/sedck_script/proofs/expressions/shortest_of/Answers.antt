@@ -1,6 +1,6 @@
 use Rattle.std.proofs.Common.{map, subst, sym}
 use Rattle.sedck_bre.specs.Lengths.{IsLeastSize}
-use Rattle.sedck_script.specs.Program.{expressions}
+use Rattle.sedck_commands.specs.Program.{expressions}
 use Rattle.sedck_script.specs.View.{command_of}
 use Rattle.sedck_script.specs.Shortest.{SomeHasLength}
 use Rattle.sedck_script.proofs.ShortestLemmas.{least_or_cap}

@@ -1,7 +1,8 @@
 use Rattle.std.proofs.Common.{◌≡◌, ◌∙◌, ◌-◌, suc, map, drop, ap, sym, subst, arith}
 use Rattle.std.proofs.Math.Seq.{drop-length}
 use Rattle.std.specs.Option.{option_copied}
-use Rattle.sedck_script.specs.View.{verb_of, command_of}
+use Rattle.sedck_commands.specs.View.{verb_of}
+use Rattle.sedck_script.specs.View.{command_of}
 use Rattle.sedck_script.specs.Names.{AreIncreasing, sorted_names, accessed}
 use Rattle.sedck_script.specs.declared.script.Command.{Command}
 use Rattle.sedck_script.specs.Private.NameReading.{all_accessed, with_any}

@@ -1,5 +1,5 @@
 use Rattle.std.proofs.Common.{refl, sym, ◌∙◌}
-use Rattle.sedck_script.proofs.FlagLemmas.{none_of}
+use Rattle.sedck_commands.proofs.FlagLemmas.{none_of}
 use Rattle.sedck_script.proofs.resolving.check_target.Goals as goal
 
 pub returns-then-is_none-clause-placed : goal.returns-then-is_none-clause-placed

@@ -5,7 +5,7 @@ use Rattle.sedck_cert.specs.Certificate.{AreWithin, nodes_in}
 use Rattle.sedck_cert.specs.Faults.{nodes_due}
 use Rattle.sedck_cert.specs.Private.Reading.{Stops}
 use Rattle.sedck_cert.specs.declared.reading.CertFault.TheVariants.{OutOfMemory}
-use Rattle.sedck_script.proofs.ResultLemmas.{if_err_from}
+use Rattle.sedck_commands.proofs.ResultLemmas.{if_err_from}
 use Rattle.sedck_cert.proofs.LineLemmas.{leads_stops}
 use Rattle.sedck_cert.proofs.DueLines.{leads_node}
 use Rattle.sedck_cert.proofs.reading.nodes.nodes.Goals as goal

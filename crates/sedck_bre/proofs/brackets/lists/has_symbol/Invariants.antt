@@ -1,9 +1,0 @@
-use Rattle.std.proofs.Common.{◌≡◌, length}
-use Rattle.sedck_bre.specs.Brackets.{has_symbol}
-use Rattle.sedck_bre.proofs.brackets.lists.has_symbol.Given as goal
-
-abbrev pub invariant-symbols : goal.invariant-symbols
-invariant-symbols l = has_symbol l.rest ≡ has_symbol l.text
-
-abbrev pub decreases-symbols : goal.decreases-symbols
-decreases-symbols l = length l.rest

@@ -1,0 +1,79 @@
+-- A command is its addresses, its marks and its verb.
+use Rattle.std.proofs.Common.{◌≡◌, ℕ, Bool, ◌||◌, eqb, List, [], ◌∷◌, ◌++◌, Option, Some, None, length, refl, ap, ◌∙◌, subst₂, arith}
+use Rattle.std.specs.List.{list_any}
+use Rattle.std.specs.Option.{option_or}
+use Rattle.sedck_commands.specs.Cuts.{Longest}
+use Rattle.sedck_commands.specs.Program.{Pattern, Previous, Expression, Address}
+use Rattle.sedck_commands.specs.Parts.{AddressText}
+use Rattle.sedck_commands.specs.Parts as p
+use Rattle.sedck_commands.specs.Items.{WrittenVerb, VerbText, Takes, CommandText}
+use Rattle.sedck_commands.specs.Private.Reading.{EndsIn}
+use Rattle.sedck_commands.specs.Private.AddressReading.{is_mark, IsOnlyAddress}
+use Rattle.sedck_commands.specs.ReadItems.{has_previous, IsEmptyAt}
+use Rattle.sedck_commands.specs.Locations.{location_of}
+use Rattle.sedck_commands.specs.declared.location.Location.{Location}
+use Rattle.sedck_text.specs.Cursors.{unread}
+use Rattle.sedck_text.specs.declared.cursor.Cursor.{Cursor}
+use Rattle.sedck_text.proofs.Cursors.{unread_length}
+use Rattle.sedck_text.proofs.Runs.{longest_one}
+use Rattle.sedck_commands.proofs.OffsetLemmas.{tail_cut, tail_tail, tail_cons}
+use Rattle.sedck_commands.proofs.UniqueItems.{longest_along}
+use Rattle.sedck_commands.proofs.UniqueAddresses.{place_tail}
+
+pub address_tail : {text rest : List ℕ} {a : Address} → AddressText text a rest → EndsIn text rest
+address_tail p.none = ([], refl)
+address_tail (p.one x) = place_tail x
+address_tail (p.two {b = b} x l e m y) = tail_tail (place_tail x) (tail_tail (tail_cut l) (tail_cons b (tail_tail (tail_cut m) (place_tail y))))
+
+-- the parts of a command, where its addresses are the only ones
+pub record AreParts (a : Address) (marks begins : List ℕ) (b : Address) (n : Bool) (v : WrittenVerb) (rest : List ℕ) : Type 0 where
+  pub address : b ≡ a
+  pub negated : n ≡ list_any (λ x. eqb x 33) marks
+  pub verbs : VerbText begins v rest
+
+pub command_parts : {text r marks begins rest : List ℕ} {a b : Address} {n : Bool} {v : WrittenVerb} → IsOnlyAddress text a r
+    → Longest is_mark r marks begins → CommandText text b n v rest → AreParts a marks begins b n v rest
+command_parts {b = b} {v = v} only l c =
+    let one = only b c.behind c.marks c.begins _ v c.addresses c.run c.verbs in
+    let same = longest_one (longest_along one.1 c.run) l in
+    record { address = one.0; negated = c.mark ∙ ap (list_any (λ x. eqb x 33)) same.0; verbs = rw same.1 at c.verbs }
+
+-- the verb of each command begins here
+pub command_begins : {text r marks begins rest : List ℕ} {a b : Address} {n : Bool} {v : WrittenVerb} → IsOnlyAddress text a r
+    → Longest is_mark r marks begins → (c : CommandText text b n v rest) → c.begins ≡ begins
+command_begins {b = b} {v = v} only l c =
+    (longest_one (longest_along (only b c.behind c.marks c.begins _ v c.addresses c.run c.verbs).1 c.run) l).1
+
+pub takes_along : {a b : Address} {m n : Bool} (v : WrittenVerb) → a ≡ b → m ≡ n → Takes v a m → Takes v b n
+takes_along v e f h = subst₂ (λ x y. Takes v x y) e f h
+
+-- ---- Locations
+
+abbrev location_at : ℕ → ℕ → ℕ → Location
+location_at start verb end = record { start = start; verb = verb; end = end }
+
+location_same : {a b c x y z : ℕ} → a ≡ x → b ≡ y → c ≡ z → location_at a b c ≡ location_at x y z
+location_same e f g = rw (e, f, g) refl
+
+-- the offsets of a command are where it is in its text
+pub location_here : {address : Address} {negated : Bool} {verb : WrittenVerb} {left : List ℕ} {x y z : ℕ} (start begins rest : Cursor)
+    → begins.whole ≡ start.whole → rest.whole ≡ start.whole → (command : CommandText (unread start) address negated verb left)
+    → command.begins ≡ unread begins → left ≡ unread rest → x ≡ start.at → y ≡ begins.at → z ≡ rest.at
+    → location_at x y z ≡ location_of (length start.whole.now) command
+location_here start begins rest same all command e f h k m = location_same
+    (omega (arith, unread_length start, h))
+    (omega (arith, unread_length begins, ap (λ w. length w.now) same, ap length e, k))
+    (omega (arith, unread_length rest, ap (λ w. length w.now) all, ap length f, m))
+
+-- ---- Empty expressions
+
+previous_append : (ps qs : List Pattern) → has_previous (ps ++ qs) ≡ (has_previous ps || has_previous qs)
+previous_append [] qs = refl
+previous_append (Previous ∷ ps) qs = refl
+previous_append (Expression tree ∷ ps) qs = previous_append ps qs
+
+pub empty_append : (text : List ℕ) (ps qs : List Pattern) (o u : Option ℕ) → IsEmptyAt text ps o → IsEmptyAt text qs u
+    → IsEmptyAt text (ps ++ qs) (option_or o u)
+empty_append text ps qs None None h k = previous_append ps qs ∙ rw (h, k) refl
+empty_append text ps qs None (Some q) h k = (previous_append ps qs ∙ rw (h, k.0) refl, k.1)
+empty_append text ps qs (Some p) u h k = (previous_append ps qs ∙ rw h.0 refl, h.1)

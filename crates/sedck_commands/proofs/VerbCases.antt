@@ -1,0 +1,80 @@
+-- What follows a verb's byte, by its byte.
+use Rattle.std.proofs.Common.{◌≡◌, ℕ, Bool, true, false, eqb, inl, inr, List, [], ◌∷◌, Option, Some, None, is_some, refl, ap, sym, ◌∙◌, subst}
+use Rattle.std.specs.Borrow.{Bor}
+use Rattle.std.specs.HashMap.{HashMap}
+use Rattle.std.specs.Prelude.{codes}
+use Rattle.std.specs.List.{list_all}
+use Rattle.std.proofs.lemmas.Bool.{false≢true, or_cases, eqb-true, and_parts}
+use Rattle.sedck_text.specs.Text.{is_in, one_of}
+use Rattle.sedck_commands.specs.Cuts.{is_blank, Longest}
+use Rattle.sedck_commands.specs.Program.{Verb}
+use Rattle.sedck_commands.specs.Parts.{Ends, LabelText, Name, GivenText}
+use Rattle.sedck_commands.specs.Items.{WrittenVerb, JumpTo, Simple, VerbText, IsNoBrace}
+use Rattle.sedck_commands.specs.Items as w
+use Rattle.sedck_commands.specs.Private.Forms.{jump_byte}
+use Rattle.sedck_commands.specs.Labels.{label_place}
+use Rattle.sedck_commands.specs.Private.LabelReading.{BranchText}
+use Rattle.sedck_commands.specs.Private.VerbReading.{DefinesKnown}
+use Rattle.sedck_text.proofs.Runs.{longest_one}
+use Rattle.sedck_commands.proofs.UniqueParts.{label_one}
+use Rattle.sedck_commands.proofs.UniqueVerbs.{NoVerb, class, class_of, begins, differ, simple_class, jump_class}
+use Rattle.sedck_commands.proofs.FlagLemmas.{some_of}
+
+-- what each byte of a list passes, a byte of it passes
+of_all : (test : ℕ → Bool) (bytes : List ℕ) (b : ℕ) → is_in b bytes ≡ true → list_all test bytes ≡ true → test b ≡ true
+of_all test [] b h all = absurd (false≢true h)
+of_all test (c ∷ bytes) b h all =
+    let both = and_parts (test c) (list_all test bytes) all in
+    elim (or_cases (eqb c b) _ h) [ inl e ↦ subst (λ x. test x ≡ true) (eqb-true c b e) both.0 | inr more ↦ of_all test bytes b more both.1 ]
+
+-- a verb of none of these bytes
+no_byte_of : (bytes : List ℕ) (b : ℕ) {text rest : List ℕ} {verb : WrittenVerb} → is_in b bytes ≡ true → (x : VerbText (b ∷ text) verb rest)
+    → is_in (class_of x) bytes ≡ false → list_all (λ c. is_in (class c) bytes) bytes ≡ true → ⊥
+no_byte_of bytes b h x other all =
+    false≢true (sym other ∙ ap (λ c. is_in c bytes) (sym (begins x)) ∙ of_all (λ c. is_in (class c) bytes) bytes b h all)
+
+-- a verb with a text, where none is given
+pub no_text : (b : ℕ) {text blanks begins : List ℕ} → one_of "aci" b ≡ true → Longest is_blank text blanks begins
+    → ((bytes r : List ℕ) → GivenText begins bytes r → ⊥) → NoVerb (b ∷ text)
+no_text b h l n verb rest (w.append i m x) = n _ rest (rw (longest_one m l).1 at x)
+no_text b h l n verb rest (w.change i m x) = n _ rest (rw (longest_one m l).1 at x)
+no_text b h l n verb rest (w.insert i m x) = n _ rest (rw (longest_one m l).1 at x)
+no_text b h l n verb rest x = no_byte_of (codes "aci") b h x refl refl
+
+-- a verb with a file, where no name is
+pub no_name : (b : ℕ) {text : List ℕ} → one_of "rw" b ≡ true → ((name r : List ℕ) → Name text name r → ⊥) → NoVerb (b ∷ text)
+no_name b h n verb rest (w.read i x) = n _ rest x
+no_name b h n verb rest (w.write i x) = n _ rest x
+no_name b h n verb rest x = no_byte_of (codes "rw") b h x refl refl
+
+-- a verb that takes nothing, and doesn't end
+pub simple_no_end : {b : ℕ} {text : List ℕ} {simple : Verb} → Simple b simple → ((r : List ℕ) → Ends text r → ⊥) → NoVerb (b ∷ text)
+simple_no_end s n verb rest (w.simple x e) = n rest e
+simple_no_end s n verb rest x = differ 0 (class_of x) refl (sym (simple_class s) ∙ begins x)
+
+pub no_definition_at : {text : List ℕ} → ((name behind rest : List ℕ) → LabelText text name behind → IsNoBrace behind → Ends behind rest → ⊥)
+    → NoVerb (58 ∷ text)
+no_definition_at n verb rest (w.label h l k e) = n _ _ rest l k e
+no_definition_at n verb rest x = differ 58 (class_of x) refl (begins x)
+
+pub no_definition_end : {text name behind : List ℕ} → LabelText text name behind → ((rest : List ℕ) → Ends behind rest → ⊥) → NoVerb (58 ∷ text)
+no_definition_end l n = no_definition_at (λ name behind rest m k e. n rest (subst (λ t. Ends t rest) (label_one m l).1 e))
+
+-- a label that is there already
+pub defines_known : {S : Type 0} (labels : HashMap (Bor (List ℕ)) ℕ S) {text name behind : List ℕ} → LabelText text name behind
+    → is_some (label_place labels name) ≡ true → (verb : WrittenVerb) (rest : List ℕ) → VerbText (58 ∷ text) verb rest → DefinesKnown labels verb
+defines_known labels l some verb rest (w.label h m k e) =
+    let at = some_of _ some in (_, at.0, refl, ap (label_place labels) (label_one m l).0 ∙ at.1)
+defines_known labels l some verb rest x = absurd (differ 58 (class_of x) refl (begins x))
+
+pub jump_read : {text rest : List ℕ} {tests braced : Bool} (label : Option (List ℕ)) → BranchText text label braced rest
+    → VerbText (jump_byte tests ∷ text) (JumpTo tests label braced) rest
+jump_read (Some name) x = w.jump refl x.1 x.2 x.3 x.4
+jump_read None x = w.jump_to_end refl x.0 x.1 x.2
+
+-- a `b` or a `t`, after which no label is
+pub no_jump : {b : ℕ} {text : List ℕ} (tests : Bool) → b ≡ jump_byte tests
+    → ((label : Option (List ℕ)) (braced : Bool) (rest : List ℕ) → BranchText text label braced rest → ⊥) → NoVerb (b ∷ text)
+no_jump tests h n verb rest (w.jump {name = a} i l k e brace) = n (Some a) _ rest (_, l, k, e, brace)
+no_jump tests h n verb rest (w.jump_to_end i k e brace) = n None _ rest (k, e, brace)
+no_jump tests h n verb rest x = differ 98 (class_of x) refl (sym (jump_class tests) ∙ ap class (sym h) ∙ begins x)

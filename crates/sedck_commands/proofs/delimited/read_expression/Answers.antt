@@ -1,0 +1,45 @@
+use Rattle.std.proofs.Common.{◌≡◌, [], ◌∷◌, ◌++◌, ◌∙◌, ap, sym}
+use Rattle.sedck_text.specs.Cursors.{unread}
+use Rattle.sedck_commands.specs.Private.PieceReading.{IsPartPlaced, as_written}
+use Rattle.sedck_commands.proofs.ResultLemmas.{if_err_each, if_err_same}
+use Rattle.sedck_commands.proofs.UniqueVerbs.{no_backslash}
+use Rattle.sedck_commands.proofs.PieceLemmas.{expression_byte, expression_pair, expression_end, expression_stuck, expression_broken, written_none, written_more, written_between}
+use Rattle.sedck_commands.proofs.delimited.read_expression.Goals as goal
+
+pub returns-in_err-piece-clause-refused : goal.returns-in_err-piece-clause-refused
+returns-in_err-piece-clause-refused c = if_err_each _ c.from_residual.result
+    (λ fault memory. expression_stuck c.pieces.invariant.passed c.in_err-piece.ensures.refused)
+
+pub returns-in_err-piece-clause-placed : goal.returns-in_err-piece-clause-placed
+returns-in_err-piece-clause-placed c = if_err_same (IsPartPlaced c.args.opening) c.from_residual.result _ c.from_residual.ensures.1
+    c.pieces.invariant.same c.in_err-piece.ensures.placed
+
+pub returns-then-b-eq10-clause-refused : goal.returns-then-b-eq10-clause-refused
+returns-then-b-eq10-clause-refused c = λ memory. expression_broken (no_backslash c.requires.delimiter) c.pieces.invariant.passed
+    (rw c.in-Pair.is at c.in_ok-piece.ensures.read) c.if-b-eq10.true
+
+pub pieces-init : goal.pieces-init
+pieces-init c = written_none c.args.text
+
+pub pieces-preserved-in-Byte : goal.pieces-preserved-in-Byte
+pieces-preserved-in-Byte c =
+    let piece = rw c.in-Byte.is at c.in_ok-piece.ensures.read in
+    written_more (c.in-Byte.field-0 ∷ []) c.in_ok-piece.ensures.same piece.0 (expression_byte (no_backslash c.requires.delimiter) piece) c.pieces.invariant
+
+pub pieces-preserved : goal.pieces-preserved
+pieces-preserved c =
+    let piece = rw c.in-Pair.is at c.in_ok-piece.ensures.read in
+    written_more (92 ∷ c.in-Pair.b ∷ []) c.in_ok-piece.ensures.same piece.0 (expression_pair (no_backslash c.requires.delimiter) c.if-b-eq10.false piece)
+    c.pieces.invariant
+
+pub returns-in-End-clause-read : goal.returns-in-End-clause-read
+returns-in-End-clause-read c =
+    let between = written_between c.pieces.invariant c.offset.ensures c.offset-in-End.ensures c.unread.ensures in
+    rw (← between.2.2) at (expression_end between.2.3 (rw c.in-End.is at c.in_ok-piece.ensures.read))
+
+pub returns-in-End-clause-escape : goal.returns-in-End-clause-escape
+returns-in-End-clause-escape c =
+    let between = written_between c.pieces.invariant c.offset.ensures c.offset-in-End.ensures c.unread.ensures in
+    let end : unread c.pieces.rest ≡ c.args.delimiter ∷ unread c.in_ok-piece.behind =
+    rw c.in-End.is at c.in_ok-piece.ensures.read in
+    as_written (between.2.1 ∙ ap (λ t. between.2.0 ++ t) end ∙ ap (λ t. t ++ c.args.delimiter ∷ unread c.in_ok-piece.behind) (sym between.2.2))

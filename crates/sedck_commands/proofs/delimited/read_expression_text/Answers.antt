@@ -1,0 +1,28 @@
+use Rattle.std.proofs.Common.{inr, ap, sym, ◌∙◌}
+use Rattle.std.proofs.lemmas.Bool.{both_ways}
+use Rattle.std.specs.Prelude.{IsTrue}
+use Rattle.std.specs.Cow.{cow_slice_items}
+use Rattle.sedck_commands.specs.Parts.{is_misread}
+use Rattle.sedck_commands.proofs.UniqueVerbs.{no_backslash}
+use Rattle.sedck_commands.proofs.EscapeLemmas.{written_expression, no_written_expression, escape_place}
+use Rattle.sedck_commands.proofs.delimited.read_expression_text.Goals as goal
+use Rattle.sedck_commands.proofs.delimited.read_expression_text.Goals.{in-Some+else-is_misread, in_default}
+
+pub returns-then-is_misread-clause-refused : goal.returns-then-is_misread-clause-refused
+returns-then-is_misread-clause-refused c = λ memory expression rest.
+    let misread : IsTrue (is_misread c.args.delimiter (cow_slice_items c.in_ok-bytes.bytes)) =
+    ap (is_misread c.args.delimiter) (sym c.as_slice.ensures.value) ∙ sym c.is_misread.ensures ∙ c.if-is_misread.true in
+    no_written_expression (no_backslash c.requires.delimiter) c.in_ok-bytes.ensures.read c.in_ok-bytes.ensures.escape c.in-Some.place c.in-Some.is misread
+
+pub returns-then-is_misread-clause-placed : goal.returns-then-is_misread-clause-placed
+returns-then-is_misread-clause-placed c =
+    let misread : IsTrue (is_misread c.args.delimiter (cow_slice_items c.in_ok-bytes.bytes)) =
+    ap (is_misread c.args.delimiter) (sym c.as_slice.ensures.value) ∙ sym c.is_misread.ensures ∙ c.if-is_misread.true in
+    inr (escape_place c.args.text c.requires.opened c.in_ok-bytes.ensures.read c.in_ok-bytes.ensures.escape c.in-Some.place c.in-Some.is misread)
+
+pub returns-clause-read : goal.returns-clause-read
+returns-clause-read c = written_expression c.in_ok-bytes.ensures.read c.in_ok-bytes.ensures.escape (λ place some misread. elim c.match-escape.branch [
+  | in-Some+else-is_misread w ↦ both_ways _
+      (ap (is_misread c.args.delimiter) (sym w.as_slice.ensures.value) ∙ sym w.is_misread.ensures ∙ w.if-is_misread.false) misread
+  | in_default w ↦ cc (w.in_default.is, some)
+])

@@ -1,0 +1,11 @@
+use Rattle.std.proofs.Common.{◌≡◌, length}
+use Rattle.sedck_text.specs.Cursors.{unread}
+use Rattle.sedck_commands.specs.Parts.{DelimitedList}
+use Rattle.sedck_commands.specs.Private.PieceReading.{IsReadUpTo}
+use Rattle.sedck_commands.proofs.delimited.read_list.Given as goal
+
+abbrev pub invariant-loop-bytes : goal.invariant-loop-bytes
+invariant-loop-bytes l = (l.rest.whole ≡ l.text.whole) × IsReadUpTo (DelimitedList l.delimiter) (unread l.text) l.bytes.items (unread l.rest)
+
+abbrev pub decreases-loop-bytes : goal.decreases-loop-bytes
+decreases-loop-bytes l = length (unread l.rest)

@@ -1,0 +1,65 @@
+use Rattle.std.proofs.Common.{◌≡◌, [], ◌∷◌, ◌++◌, ◌∙◌, ap, sym, subst, Some, append_assoc}
+use Rattle.std.specs.Option.{option_or}
+use Rattle.sedck_text.specs.Cursors.{unread}
+use Rattle.sedck_commands.specs.Parts.{DelimitedExpression}
+use Rattle.sedck_commands.specs.Private.PieceReading.{IsReadUpTo, IsPartPlaced, as_written}
+use Rattle.sedck_commands.proofs.ResultLemmas.{if_err_each, if_err_same}
+use Rattle.sedck_commands.proofs.UniqueVerbs.{no_backslash}
+use Rattle.sedck_commands.proofs.PieceLemmas.{piece_more, expression_byte, expression_escaped, expression_pair, expression_end, expression_stuck, expression_broken, written_between}
+use Rattle.sedck_commands.proofs.EscapeLemmas.{escape_more, escape_noted}
+use Rattle.sedck_commands.proofs.delimited.read_replaced.Goals as goal
+
+pub returns-in_err-piece-clause-refused : goal.returns-in_err-piece-clause-refused
+returns-in_err-piece-clause-refused c = if_err_each _ c.from_residual-in_err-piece.result
+    (λ fault memory. expression_stuck c.loop-bytes.invariant.1 c.in_err-piece.ensures.refused)
+
+pub returns-in_err-piece-clause-placed : goal.returns-in_err-piece-clause-placed
+returns-in_err-piece-clause-placed c = if_err_same (IsPartPlaced c.args.opening) c.from_residual-in_err-piece.result _ c.from_residual-in_err-piece.ensures.1
+    c.loop-bytes.invariant.0 c.in_err-piece.ensures.placed
+
+pub returns-in-End-clause-read : goal.returns-in-End-clause-read
+returns-in-End-clause-read c = expression_end c.loop-bytes.invariant.1 (rw c.in-End.is at c.in_ok-piece.ensures.read)
+
+pub returns-then-b-eq10-clause-refused : goal.returns-then-b-eq10-clause-refused
+returns-then-b-eq10-clause-refused c = λ memory. expression_broken (no_backslash c.requires.delimiter) c.loop-bytes.invariant.1
+    (rw c.in-Pair.is at c.in_ok-piece.ensures.read) c.if-b-eq10.true
+
+pub loop-bytes-preserved-in_ok-push-in-Byte : goal.loop-bytes-preserved-in_ok-push-in-Byte
+loop-bytes-preserved-in_ok-push-in-Byte c =
+    let piece = rw c.in-Byte.is at c.in_ok-piece.ensures.read in (
+      c.in_ok-piece.ensures.same ∙ c.loop-bytes.invariant.0,
+      piece_more _ c.in_ok-push-in-Byte.ensures.items c.loop-bytes.invariant.1 (expression_byte (no_backslash c.requires.delimiter) piece),
+      escape_more (c.in-Byte.b ∷ []) _ c.in_ok-push-in-Byte.ensures.items piece.0 c.loop-bytes.invariant.2,
+    )
+
+pub loop-bytes-preserved-in_ok-push-in-Escaped : goal.loop-bytes-preserved-in_ok-push-in-Escaped
+loop-bytes-preserved-in_ok-push-in-Escaped c =
+    let piece = rw c.in-Escaped.is at c.in_ok-piece.ensures.read in (
+      c.in_ok-piece.ensures.same ∙ c.loop-bytes.invariant.0,
+      piece_more _ c.in_ok-push-in-Escaped.ensures.items c.loop-bytes.invariant.1
+          (expression_escaped (no_backslash c.requires.delimiter) piece),
+      escape_noted c.loop-bytes.rest _ c.in_ok-push-in-Escaped.ensures.items piece.0
+          (c.or-escape.ensures ∙ ap (λ n. option_or c.loop-bytes.escape (Some n)) c.offset-in-Escaped.ensures) c.loop-bytes.invariant.0 c.loop-bytes.invariant.2,
+    )
+
+pub loop-bytes-preserved : goal.loop-bytes-preserved
+loop-bytes-preserved c =
+    let piece = rw c.in-Pair.is at c.in_ok-piece.ensures.read in
+    let items = c.in_ok-push-in-Pair-2.ensures.items ∙ ap (λ t. t ++ c.in-Pair.b ∷ []) c.in_ok-push-in-Pair.ensures.items
+    ∙ append_assoc c.loop-bytes.bytes.items (92 ∷ []) (c.in-Pair.b ∷ []) in (
+      c.in_ok-piece.ensures.same ∙ c.loop-bytes.invariant.0,
+      piece_more _ items c.loop-bytes.invariant.1
+          (expression_pair (no_backslash c.requires.delimiter) c.if-b-eq10.false piece),
+      escape_more (92 ∷ c.in-Pair.b ∷ []) _ items piece.0 c.loop-bytes.invariant.2,
+    )
+
+pub loop-bytes-init : goal.loop-bytes-init
+loop-bytes-init c =
+    let text = unread c.args.text in
+    let rest = unread c.args.behind_written in
+    let between = written_between c.requires.written c.offset.ensures c.offset-2.ensures c.unread.ensures in
+    let items : c.in_ok-bytes.bytes.items ≡ between.2.0 = c.in_ok-bytes.ensures.items ∙ between.2.2 in (
+      c.requires.written.same,
+      subst (λ t. IsReadUpTo (DelimitedExpression c.args.delimiter) text t rest) (sym items) between.2.3,
+      as_written (between.2.1 ∙ ap (λ t. t ++ rest) (sym items)),
+    )

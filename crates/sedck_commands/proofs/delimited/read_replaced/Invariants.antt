@@ -1,0 +1,13 @@
+use Rattle.std.proofs.Common.{◌≡◌, length}
+use Rattle.sedck_text.specs.Cursors.{unread}
+use Rattle.sedck_commands.specs.Parts.{DelimitedExpression}
+use Rattle.sedck_commands.specs.Private.PieceReading.{IsReadUpTo, IsFirstEscape}
+use Rattle.sedck_commands.proofs.delimited.read_replaced.Given as goal
+
+abbrev pub invariant-loop-bytes : goal.invariant-loop-bytes
+invariant-loop-bytes l =
+    (l.rest.whole ≡ l.text.whole) × IsReadUpTo (DelimitedExpression l.delimiter) (unread l.text) l.bytes.items (unread l.rest)
+    × IsFirstEscape l.delimiter l.text.whole.now (unread l.text) l.bytes.items (unread l.rest) l.escape
+
+abbrev pub decreases-loop-bytes : goal.decreases-loop-bytes
+decreases-loop-bytes l = length (unread l.rest)

@@ -1,0 +1,67 @@
+use Rattle.std.proofs.Common.{refl, ◌∙◌, sym, subst}
+use Rattle.sedck_text.specs.Cursors.{unread}
+use Rattle.sedck_commands.specs.Faults.{IsPlaced}
+use Rattle.sedck_commands.proofs.ResultLemmas.{if_err_same}
+use Rattle.sedck_commands.proofs.CursorPlaces.{stands_here}
+use Rattle.sedck_commands.proofs.FlagLemmas.{FlagsPassed, extra_number, flags_global, flags_print, flags_nth, global_twice, print_twice, nth_twice, none_of, flags_end, flags_file}
+use Rattle.sedck_commands.proofs.flags.read_flags.Goals as goal
+
+pub returns-in-End-clause-read : goal.returns-in-End-clause-read
+returns-in-End-clause-read c = flags_end c.loop-flag.invariant.1 (rw c.in-End.is at c.in_ok-flag.ensures.read)
+
+pub returns-in-File-clause-read : goal.returns-in-File-clause-read
+returns-in-File-clause-read c =
+    let f = rw c.in-File.is at c.in_ok-flag.ensures.read in
+    flags_file c.loop-flag.invariant.1 c.in-File.name.now f.1 f.2
+
+pub returns-then-seen-clause-refused : goal.returns-then-seen-clause-refused
+returns-then-seen-clause-refused c = global_twice c.loop-flag.invariant.1 c.if-seen.true (rw c.in-Global.is at c.in_ok-flag.ensures.read)
+
+pub returns-then-seen-2-clause-refused : goal.returns-then-seen-2-clause-refused
+returns-then-seen-2-clause-refused c = print_twice c.loop-flag.invariant.1 c.if-seen-2.true (rw c.in-Print.is at c.in_ok-flag.ensures.read)
+
+pub returns-then-is_some-clause-refused : goal.returns-then-is_some-clause-refused
+returns-then-is_some-clause-refused c = nth_twice c.loop-flag.invariant.1 (sym c.is_some.ensures ∙ c.if-is_some.true)
+    (rw c.in-Nth.is at c.in_ok-flag.ensures.read)
+
+pub loop-flag-preserved-else-seen : goal.loop-flag-preserved-else-seen
+loop-flag-preserved-else-seen c = (
+  c.in_ok-flag.ensures.same ∙ c.loop-flag.invariant.0,
+  flags_global (rw c.if-seen.false at c.loop-flag.invariant.1) (rw c.in-Global.is at c.in_ok-flag.ensures.read),
+)
+
+pub loop-flag-preserved-else-seen-2 : goal.loop-flag-preserved-else-seen-2
+loop-flag-preserved-else-seen-2 c = (
+  c.in_ok-flag.ensures.same ∙ c.loop-flag.invariant.0,
+  flags_print (subst
+      (λ p. FlagsPassed (unread c.args.text) c.loop-flag.seen.global p c.loop-flag.seen.nth (unread c.loop-flag.rest)) c.if-seen-2.false
+      c.loop-flag.invariant.1) (rw c.in-Print.is at c.in_ok-flag.ensures.read),
+)
+
+pub loop-flag-preserved : goal.loop-flag-preserved
+loop-flag-preserved c = (
+  c.in_ok-flag.ensures.same ∙ c.loop-flag.invariant.0,
+  flags_nth (rw (none_of _ (sym c.is_some.ensures ∙ c.if-is_some.false)) at c.loop-flag.invariant.1) (rw c.in-Nth.is at c.in_ok-flag.ensures.read),
+)
+
+pub returns-then-seen-clause-placed : goal.returns-then-seen-clause-placed
+returns-then-seen-clause-placed c = (
+  103,
+  rw (c.offset-place.ensures, sym c.loop-flag.invariant.0) (stands_here c.loop-flag.rest (rw c.in-Global.is at c.in_ok-flag.ensures.read)),
+  refl,
+)
+
+pub returns-then-seen-2-clause-placed : goal.returns-then-seen-2-clause-placed
+returns-then-seen-2-clause-placed c = (
+  112,
+  rw (c.offset-place.ensures, sym c.loop-flag.invariant.0) (stands_here c.loop-flag.rest (rw c.in-Print.is at c.in_ok-flag.ensures.read)),
+  refl,
+)
+
+pub returns-then-is_some-clause-placed : goal.returns-then-is_some-clause-placed
+returns-then-is_some-clause-placed c = rw (c.offset-place.ensures, sym c.loop-flag.invariant.0) (extra_number c.loop-flag.rest
+    (rw c.in-Nth.is at c.in_ok-flag.ensures.read))
+
+pub returns-in_err-flag-clause-placed : goal.returns-in_err-flag-clause-placed
+returns-in_err-flag-clause-placed c = if_err_same IsPlaced c.from_residual.result _ c.from_residual.ensures.1 c.loop-flag.invariant.0
+    c.in_err-flag.ensures.placed

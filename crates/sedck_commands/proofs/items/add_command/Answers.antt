@@ -1,0 +1,59 @@
+use Rattle.std.proofs.Common.{◌⊎◌, ◌<◌, ◌≤◌, ◌∷◌, [], map, ap, ◌∙◌, subst, length-append, arith}
+use Rattle.std.proofs.lemmas.List.{map_push}
+use Rattle.std.proofs.lemmas.List.Elements.{All-push}
+use Rattle.sedck_commands.specs.Items.{Written}
+use Rattle.sedck_commands.specs.View.{address_of}
+use Rattle.sedck_commands.specs.ItemView.{written_verb, item_of}
+use Rattle.sedck_commands.specs.Private.VerbReading.{DefinesKnown}
+use Rattle.sedck_commands.specs.Labels.{commands_among}
+use Rattle.sedck_commands.specs.ReadItems.{IsItemAt, patterns_of, item_patterns}
+use Rattle.sedck_commands.specs.Private.Progress.{IsBeyond, NotesLabel}
+use Rattle.sedck_commands.proofs.ResultLemmas.{if_err_from}
+use Rattle.sedck_commands.proofs.ProgressLemmas.{front_refused, front_command, command_shorter, behind_begins, brace_stands}
+use Rattle.sedck_commands.proofs.StateLemmas.{among_append, patterns_push, locations_push, labels_noted, blocks_noted}
+use Rattle.sedck_commands.proofs.CommandLemmas.{empty_append}
+use Rattle.sedck_commands.proofs.LocationLemmas.{located_command}
+use Rattle.sedck_commands.proofs.items.add_command.Goals as goal
+
+pub returns-in_err-command-clause-refused : goal.returns-in_err-command-clause-refused
+returns-in_err-command-clause-refused c =
+    if_err_from _ c.from_residual.result _ c.from_residual.ensures.1
+    (λ memory. front_refused c.args.progress.now.labels c.requires.progress.front c.requires.begins c.requires.progress.labels c.requires.progress.count
+    (λ a n v rest x. subst (λ d. DefinesKnown c.args.progress.now.labels v ⊎ IsBeyond d c.args.progress.now.count v) (omega (arith, c.len.ensures))
+    (c.in_err-command.ensures.refused memory a n v rest x)))
+
+pub overflow_sub-last : goal.overflow_sub-last
+overflow_sub-last c = omega (arith, behind_begins c.args.begins c.in_ok-command.rest c.in_ok-command.ensures.same c.in_ok-command.ensures.read)
+
+pub returns-clause-shorter : goal.returns-clause-shorter
+returns-clause-shorter c = command_shorter c.in_ok-command.ensures.read
+
+pub returns-clause-progress : goal.returns-clause-progress
+returns-clause-progress c =
+    let old = c.args.progress.now in
+    let command = c.in_ok-command.command in
+    let items = ap (map item_of) c.in_ok-note_command.ensures.items ∙ map_push item_of old.items.items _ in
+    let noted = blocks_noted
+    (written_verb command.verb) c.args.begins.whole.now old.open_blocks.items c.note_command.new.progress.open_blocks.items _ c.in_ok-note_command.ensures.opened
+    (λ e. subst (λ d. d < 64) (omega (arith, c.len.ensures)) (c.in_ok-command.ensures.shallow e))
+    (λ e. rw c.offset-last.ensures (brace_stands c.args.begins c.in_ok-command.rest c.in_ok-command.ensures.same c.in_ok-command.ensures.read e)) (λ e. subst (λ d. d ≤ 1) (omega (arith, c.len.ensures)) (c.in_ok-command.ensures.braced e)) c.requires.progress.opened in
+    let size = length-append (commands_among (map item_of old.items.items))
+    (Written (address_of command.address) command.negated (written_verb command.verb) ∷ []) in
+    record {
+      front = rw items (front_command c.requires.progress.front c.requires.begins c.in_ok-command.ensures.read noted.0);
+      labels = rw (items, among_append) (labels_noted old.labels c.note_command.new.progress.labels (commands_among (map item_of old.items.items))
+          c.args.begins.whole.now (address_of command.address) command.negated command.verb
+          c.requires.progress.labels c.in_ok-command.ensures.label c.in_ok-command.ensures.read.taken c.in_ok-command.ensures.fresh
+          (subst (λ k. NotesLabel old.labels c.note_command.new.progress.labels k command.verb) c.requires.progress.count c.in_ok-note_command.ensures.labels));
+      count = rw (items, among_append) (omega (arith, c.requires.progress.count, c.in_ok-note_command.ensures.count, size));
+      located = rw (c.in_ok-note_command.ensures.items, locations_push)
+          (located_command _ c.requires.progress.located c.requires.begins c.in_ok-command.ensures.read c.in_ok-command.ensures.located);
+      few = omega (arith, c.in_ok-command.ensures.few, c.in_ok-note_command.ensures.count);
+      label_places = rw c.in_ok-note_command.ensures.items
+          (All-push (IsItemAt c.args.begins.whole.now) _ _ c.requires.progress.label_places c.in_ok-command.ensures.label);
+      opened = noted.1;
+      empty = rw (items, patterns_push, c.in_ok-note_command.ensures.empty)
+          (empty_append c.args.begins.whole.now (item_patterns (map item_of old.items.items))
+          (patterns_of (Written (address_of command.address) command.negated (written_verb command.verb))) old.empty c.in_ok-command.empty
+          c.requires.progress.empty c.in_ok-command.ensures.empty);
+    }

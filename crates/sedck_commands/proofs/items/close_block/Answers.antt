@@ -1,0 +1,42 @@
+use Rattle.std.proofs.Common.{◌≡◌, ℕ, suc, length, map, refl, ap, ◌∙◌, subst, length-append, arith}
+use Rattle.std.specs.Prelude.{All}
+use Rattle.std.proofs.lemmas.List.{map_push}
+use Rattle.std.proofs.lemmas.List.Elements.{All-push}
+use Rattle.sedck_text.specs.Bytes.{ascii}
+use Rattle.sedck_commands.specs.Faults.{StandsAt}
+use Rattle.sedck_commands.specs.ItemView.{item_of}
+use Rattle.sedck_commands.specs.ReadItems.{IsItemAt}
+use Rattle.sedck_commands.proofs.ResultLemmas.{if_err_from}
+use Rattle.sedck_commands.proofs.CursorPlaces.{stands_here}
+use Rattle.sedck_commands.proofs.ProgressLemmas.{front_unopened, front_unended, front_closing}
+use Rattle.sedck_commands.proofs.StateLemmas.{among_closing, patterns_closing, locations_closing, opened_front}
+use Rattle.sedck_commands.proofs.LocationLemmas.{located_closing}
+use Rattle.sedck_commands.proofs.items.close_block.Goals as goal
+
+pub returns-in_default-clause-refused : goal.returns-in_default-clause-refused
+returns-in_default-clause-refused c = λ memory. front_unopened c.requires.progress.front c.requires.begins refl (omega (arith, c.in_default.ensures.cases.0))
+
+pub returns-in_default-clause-placed : goal.returns-in_default-clause-placed
+returns-in_default-clause-placed c = rw c.offset.ensures (stands_here c.args.begins c.requires.begins)
+
+pub returns-in_err-rest-clause-refused : goal.returns-in_err-rest-clause-refused
+returns-in_err-rest-clause-refused c = if_err_from _ c.from_residual.result _ c.from_residual.ensures.1
+    (λ memory. front_unended c.requires.progress.front c.requires.begins refl c.in_err-rest.ensures.refused)
+
+pub returns-clause-progress : goal.returns-clause-progress
+returns-clause-progress c =
+    let items = ap (map item_of) c.in_ok-push.ensures.items ∙ map_push item_of c.args.progress.now.items.items _ in
+    let deep : length c.args.progress.now.open_blocks.items ≡ suc (length c.pop.new.self.items) =
+    omega (arith, ap length c.in-Some.ensures.items, length-append {A = ℕ}) in
+    record {
+      front = rw items (front_closing (rw deep at c.requires.progress.front) c.requires.begins refl c.in_ok-rest.ensures.read);
+      labels = rw (items, among_closing) c.requires.progress.labels;
+      count = rw (items, among_closing) c.requires.progress.count;
+      located = rw (c.in_ok-push.ensures.items, locations_closing)
+          (located_closing _ c.requires.progress.located c.requires.begins refl c.in_ok-rest.ensures.read);
+      few = c.requires.progress.few;
+      label_places = rw c.in_ok-push.ensures.items (All-push (IsItemAt c.args.begins.whole.now) _ _ c.requires.progress.label_places tt);
+      opened = opened_front c.args.begins.whole.now _ _ (subst
+          (λ xs. All (λ place. StandsAt c.args.begins.whole.now place (ascii "{")) xs) c.in-Some.ensures.items c.requires.progress.opened);
+      empty = rw (items, patterns_closing) c.requires.progress.empty;
+    }

@@ -1,0 +1,59 @@
+use Rattle.std.proofs.Common.{◌≡◌, length, ap, refl, rules, subst, sym, ◌∙◌, arith}
+use Rattle.sedck_text.specs.Cursors.{unread}
+use Rattle.sedck_commands.specs.Private.Progress.{IsProgress}
+use Rattle.sedck_commands.proofs.ProgressLemmas.{progress_at, front_none, front_skip, front_done, front_unclosed, front_closed}
+use Rattle.sedck_commands.proofs.LocationLemmas.{located_skip, located_done}
+use Rattle.sedck_commands.proofs.items.read_items.Goals as goal
+
+pub read_item-requires-clause-progress : goal.read_item-requires-clause-progress
+read_item-requires-clause-progress c =
+    let old = c.loop-first.invariant.progress in
+    let run = c.skip-begins.ensures.1 in
+    subst (λ t. IsProgress t (unread c.skip-begins.result) c.loop-first.progress) (sym (ap (λ w. w.now) c.skip-begins.ensures.2.whole ∙ c.loop-first.invariant.same))
+    (progress_at old (front_skip old.front run) (located_skip _ old.located run))
+
+pub loop-first-preserved : goal.loop-first-preserved
+loop-first-preserved c =
+    let same = ap (λ w. w.now) c.skip-begins.ensures.2.whole ∙ c.loop-first.invariant.same in
+    record {
+      progress = subst (λ t. IsProgress t (unread c.in_ok-rest.rest) c.read_item.new.progress) same c.in_ok-rest.ensures.progress;
+      same = ap (λ w. w.now) c.in_ok-rest.ensures.same ∙ same;
+    }
+
+pub returns-in-Some-last-clause-refused : goal.returns-in-Some-last-clause-refused
+returns-in-Some-last-clause-refused c = λ memory. front_unclosed c.loop-first.invariant.progress.front c.skip-begins.ensures.1
+    (ap length c.in_default.ensures.cut) (omega (arith, c.in-Some-last.ensures.item.3.0, ap length c.deref.ensures.value))
+
+pub returns-clause-read : goal.returns-clause-read
+returns-clause-read c =
+    let done = c.loop-first.invariant.progress in
+    let run = c.skip-begins.ensures.1 in
+    let end = ap length c.in_default.ensures.cut in
+    record {
+      spelled = front_done done.front run end;
+      located = λ all other. located_done _ done.located run end other;
+      nests = front_closed done.front (omega (arith, c.in_default-last.ensures.item.3, ap length c.deref.ensures.value));
+      labels = done.labels;
+      count = done.count;
+      few = done.few;
+      label_places = done.label_places;
+      empty = done.empty;
+    }
+
+pub loop-first-init : goal.loop-first-init
+loop-first-init c =
+    let text = c.args.text.now in
+    let all : unread c.new-rest.result ≡ text = rw (c.new-rest.ensures.at, c.new-rest.ensures.whole) refl in
+    record {
+      progress = rw all (record {
+        front = rw (c.new.ensures.items, c.new-3.ensures.items) front_none;
+        labels = search rules;
+        count = search rules;
+        located = rw c.new.ensures.items (λ all spelled. (all, spelled, refl));
+        few = omega arith;
+        label_places = search rules;
+        opened = search rules;
+        empty = search rules;
+      });
+      same = ap (λ w. w.now) c.new-rest.ensures.whole;
+    }

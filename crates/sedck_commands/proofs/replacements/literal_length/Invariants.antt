@@ -1,0 +1,8 @@
+use Rattle.std.proofs.Common.{◌≡◌, map, take}
+use Rattle.sedck_commands.specs.Program.{literal_length}
+use Rattle.sedck_commands.specs.View.{part_of}
+use Rattle.sedck_commands.proofs.replacements.literal_length.Given as goal
+
+-- the parts so far have this length
+abbrev pub invariant-loop-part : goal.invariant-loop-part
+invariant-loop-part l = l.length ≡ literal_length (take l.part-index (map part_of l.parts))

@@ -1,0 +1,34 @@
+use Rattle.sedck_commands.specs.View.{part_of}
+use Rattle.sedck_commands.proofs.ResultLemmas.{if_err_always}
+use Rattle.sedck_commands.proofs.CursorPlaces.{stands_here}
+use Rattle.sedck_commands.proofs.UniqueVerbs.{no_backslash}
+use Rattle.sedck_commands.proofs.ReplacementLemmas.{replacement_stuck, replacement_broken, first_whole, first_run, first_escaped, first_pair}
+use Rattle.sedck_commands.proofs.replacements.read_part.Goals as goal
+
+pub returns-in_err-piece-clause-refused : goal.returns-in_err-piece-clause-refused
+returns-in_err-piece-clause-refused c = if_err_always c.from_residual.result
+    (λ parts rest x w. replacement_stuck (no_backslash c.requires.delimiter) c.in_err-piece.ensures.refused x)
+
+pub returns-then-b-eq38-clause-read : goal.returns-then-b-eq38-clause-read
+returns-then-b-eq38-clause-read c = first_whole c.args.greatest (no_backslash c.requires.delimiter) (rw c.in-Byte.is at c.in_ok-piece.ensures.read) c.if-b-eq38.true
+
+pub returns-in_default-clause-refused : goal.returns-in_default-clause-refused
+returns-in_default-clause-refused c = λ parts rest x w.
+    replacement_broken (no_backslash c.requires.delimiter) (rw c.in-Pair.is at c.in_ok-piece.ensures.read) c.in_default.ensures.none x w
+
+pub returns-in_default-clause-placed : goal.returns-in_default-clause-placed
+returns-in_default-clause-placed c = rw c.offset.ensures (stands_here c.args.text (rw c.in-Pair.is at c.in_ok-piece.ensures.read).0)
+
+pub returns-else-b-eq38-clause-read : goal.returns-else-b-eq38-clause-read
+returns-else-b-eq38-clause-read c = first_run c.args.greatest (no_backslash c.requires.delimiter)
+    (rw c.in-Byte.is at c.in_ok-piece.ensures.read) c.if-b-eq38.false
+    c.split.ensures.run
+
+pub returns-in-Escaped-clause-read : goal.returns-in-Escaped-clause-read
+returns-in-Escaped-clause-read c = rw c.unread.ensures (first_escaped c.args.greatest (no_backslash c.requires.delimiter)
+    (rw c.in-Escaped.is at c.in_ok-piece.ensures.read))
+
+pub returns-in-Some-clause-read : goal.returns-in-Some-clause-read
+returns-in-Some-clause-read c =
+    first_pair c.args.greatest (part_of c.in-Some.part) (no_backslash c.requires.delimiter) (rw c.in-Pair.is at c.in_ok-piece.ensures.read)
+    c.in-Some.ensures.read.0 c.in-Some.ensures.read.1

@@ -1,0 +1,11 @@
+use Rattle.std.proofs.Common.{◌≡◌, length, map}
+use Rattle.sedck_text.specs.Cursors.{unread}
+use Rattle.sedck_commands.specs.View.{part_of}
+use Rattle.sedck_commands.proofs.ReplacementLemmas.{PartsPassed}
+use Rattle.sedck_commands.proofs.replacements.read_replacement.Given as goal
+
+abbrev pub invariant-loop-parts : goal.invariant-loop-parts
+invariant-loop-parts l = (l.rest.whole ≡ l.text.whole) × PartsPassed l.delimiter l.greatest (unread l.text) (map part_of l.parts.items) (unread l.rest)
+
+abbrev pub decreases-loop-parts : goal.decreases-loop-parts
+decreases-loop-parts l = length (unread l.rest)

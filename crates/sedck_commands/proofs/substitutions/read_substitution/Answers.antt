@@ -1,0 +1,80 @@
+use Rattle.std.proofs.Common.{◌<◌, ◌≤◌, ◌^◌, [], map, refl, ◌∙◌, sym, subst, arith}
+use Rattle.sedck_commands.specs.Program.{literal_length}
+use Rattle.std.proofs.lemmas.List.Elements.{All-from_recursion}
+use Rattle.sedck_text.specs.Cursors.{unread}
+use Rattle.sedck_text.proofs.Cursors.{unread_length}
+use Rattle.sedck_commands.specs.Faults.{IsPlaced}
+use Rattle.sedck_commands.specs.View.{pattern_of, part_of}
+use Rattle.sedck_commands.specs.Parts.{IsPart}
+use Rattle.sedck_commands.proofs.OffsetLemmas.{tail_length, tail_behind, expression_tail}
+use Rattle.sedck_commands.proofs.ResultLemmas.{if_err_each, if_err_from, if_err_same}
+use Rattle.sedck_commands.proofs.PlaceLemmas.{part_placed, part_placed_same, unread_before}
+use Rattle.sedck_commands.proofs.UniqueVerbs.{no_backslash}
+use Rattle.sedck_commands.proofs.VerbLemmas.{substitute_read, substitute_no_delimiter, substitute_no_pattern, substitute_no_parts, substitute_no_flags}
+use Rattle.sedck_commands.proofs.ReplacementParts.{replacement_parts, replacement_size}
+use Rattle.sedck_commands.proofs.substitutions.read_substitution.Goals as goal
+
+pub returns-in_err-delimiter-clause-refused : goal.returns-in_err-delimiter-clause-refused
+returns-in_err-delimiter-clause-refused c =
+    if_err_each _ c.from_residual.result (λ fault memory. substitute_no_delimiter c.in_err-delimiter.ensures.refused)
+
+pub returns-in_err-delimiter-clause-placed : goal.returns-in_err-delimiter-clause-placed
+returns-in_err-delimiter-clause-placed c =
+    if_err_from _ c.from_residual.result _ c.from_residual.ensures.1
+    (part_placed _ c.args.text.whole.now _ (c.in_err-delimiter.ensures.placed c.args.text.whole.now)
+    (λ is. unread_before c.args.text c.offset-opening.result c.offset-opening.ensures c.requires refl refl
+    (substitute_no_delimiter c.in_err-delimiter.ensures.refused)))
+
+pub returns-in_err-pattern-clause-refused : goal.returns-in_err-pattern-clause-refused
+returns-in_err-pattern-clause-refused c =
+    if_err_from _ c.from_residual-in_err-pattern.result _ c.from_residual-in_err-pattern.ensures.1
+    (λ memory. substitute_no_pattern c.in_ok-delimiter.ensures.read.0 (c.in_err-pattern.ensures.refused memory))
+
+pub returns-in_err-parts-clause-refused : goal.returns-in_err-parts-clause-refused
+returns-in_err-parts-clause-refused c =
+    if_err_from _ c.from_residual-in_err-parts.result _ c.from_residual-in_err-parts.ensures.1
+    (λ memory. substitute_no_parts _
+    (pattern_of c.in_ok-pattern.pattern) c.in_ok-delimiter.ensures.read.0 c.in_ok-pattern.ensures.only c.greatest_group-greatest.ensures
+    (c.in_err-parts.ensures.refused memory))
+
+pub outside_of-outside-requires : goal.outside_of-outside-requires
+outside_of-outside-requires c =
+    rw (← c.deref.ensures.value) at (All-from_recursion IsPart (map part_of c.in_ok-parts.parts.items) (replacement_parts c.in_ok-parts.ensures.read))
+
+pub returns-in_err-seen-clause-placed : goal.returns-in_err-seen-clause-placed
+returns-in_err-seen-clause-placed c = if_err_same IsPlaced c.from_residual-in_err-seen.result _ c.from_residual-in_err-seen.ensures.1
+    (c.in_ok-parts.ensures.same ∙ c.in_ok-pattern.ensures.same ∙ c.in_ok-delimiter.ensures.ahead.0.whole) c.in_err-seen.ensures.placed
+
+pub returns-in_err-seen-clause-refused : goal.returns-in_err-seen-clause-refused
+returns-in_err-seen-clause-refused c = if_err_each _ c.from_residual-in_err-seen.result (λ fault memory.
+    substitute_no_flags (pattern_of c.in_ok-pattern.pattern)
+    (no_backslash c.in_ok-delimiter.ensures.read.1) c.in_ok-delimiter.ensures.read.0 c.in_ok-pattern.ensures.only c.in_ok-parts.ensures.read
+    c.in_err-seen.ensures.refused)
+
+pub returns-clause-read : goal.returns-clause-read
+returns-clause-read c =
+    substitute_read c.in_ok-delimiter.ensures.read.0 c.in_ok-delimiter.ensures.read.1 c.in_ok-pattern.ensures.read c.in_ok-parts.ensures.read
+    (λ k i. subst (λ m. k ≤ m) c.greatest_group-greatest.ensures (c.in_ok-parts.ensures.groups k i)) (c.in_ok-seen.ensures.read _ _)
+
+pub returns-in_err-pattern-clause-placed : goal.returns-in_err-pattern-clause-placed
+returns-in_err-pattern-clause-placed c =
+    if_err_from _ c.from_residual-in_err-pattern.result _ c.from_residual-in_err-pattern.ensures.1
+    (part_placed_same _ _ c.in_ok-delimiter.ensures.ahead.0.whole c.in_err-pattern.ensures.placed
+    (λ is. unread_before c.args.text c.offset-opening.result c.offset-opening.ensures c.requires refl refl
+    (substitute_no_pattern c.in_ok-delimiter.ensures.read.0 (c.in_err-pattern.ensures.refused (λ memory. absurd (cc (is, memory)))))))
+
+pub returns-in_err-parts-clause-placed : goal.returns-in_err-parts-clause-placed
+returns-in_err-parts-clause-placed c =
+    if_err_from _ c.from_residual-in_err-parts.result _ c.from_residual-in_err-parts.ensures.1
+    (part_placed_same _ _ (c.in_ok-pattern.ensures.same ∙ c.in_ok-delimiter.ensures.ahead.0.whole) c.in_err-parts.ensures.placed
+    (λ is. unread_before c.args.text c.offset-opening.result c.offset-opening.ensures c.requires refl refl
+    (substitute_no_parts _
+    (pattern_of c.in_ok-pattern.pattern) c.in_ok-delimiter.ensures.read.0 c.in_ok-pattern.ensures.only c.greatest_group-greatest.ensures
+    (c.in_err-parts.ensures.refused (λ memory. absurd (cc (is, memory)))))))
+
+pub literal_length-literal-requires : goal.literal_length-literal-requires
+literal_length-literal-requires c =
+    let opened = tail_length (tail_behind {text = (unread c.args.text)} ([], refl) c.in_ok-delimiter.ensures.read.0) in
+    let behind = tail_length (expression_tail c.in_ok-pattern.ensures.read.1.cut) in
+    let small = replacement_size c.in_ok-parts.ensures.read in
+    subst (λ parts. literal_length (map part_of parts) < 2 ^ 64) (sym c.deref-2.ensures.value) (omega (arith, opened, behind, small, unread_length c.args.text, c.ranges.text.0))

@@ -1,0 +1,28 @@
+use Rattle.std.proofs.Common.{◌≡◌, subst, arith}
+use Rattle.sedck_commands.specs.Items.{HasNoInnerReturn}
+use Rattle.sedck_text.proofs.Runs.{longest_one}
+use Rattle.sedck_commands.proofs.CommentLemmas.{no_inner_return, inner_return, return_stands}
+use Rattle.sedck_commands.proofs.texts.read_comment.Goals as goal
+use Rattle.sedck_commands.proofs.texts.read_comment.Goals.{in-Some+else-at-line, in_default}
+
+pub returns-then-at-line-clause-refused : goal.returns-then-at-line-clause-refused
+returns-then-at-line-clause-refused c = λ line rest x.
+    inner_return c.split.result.0.now c.in-Some.at c.in-Some.ensures.1 (omega (arith, c.if-at-line.true))
+    (subst HasNoInnerReturn (longest_one x.0 c.split.ensures.run).0 x.1)
+
+pub returns-then-at-line-clause-placed : goal.returns-then-at-line-clause-placed
+returns-then-at-line-clause-placed c =
+    rw c.offset.ensures (return_stands c.args.text c.split.result.0.now _ c.in-Some.at c.split.ensures.run.cut c.in-Some.ensures.1
+    (omega (arith, c.if-at-line.true)))
+
+pub returns-clause-read : goal.returns-clause-read
+returns-clause-read c = (
+  c.split.result.0.now,
+  (
+    c.split.ensures.run,
+    no_inner_return c.split.result.0.now c.memchr.result c.memchr.ensures (λ at is. elim c.match-memchr.branch [
+      | in-Some+else-at-line w ↦ (let same : w.in-Some.at ≡ at = cc (w.in-Some.is, is) in omega (arith, same, w.if-at-line.false))
+      | in_default w ↦ absurd (cc (w.in_default.is, is))
+    ]),
+  ),
+)

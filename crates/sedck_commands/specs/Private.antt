@@ -1,0 +1,14 @@
+-- What functions inside the crate promise each other: no contract of an exported function reaches it.
+pub mod AddressReading
+pub mod CommentReading
+pub mod FlagReading
+pub mod Forms
+pub mod Keeping
+pub mod LabelReading
+pub mod Locating
+pub mod NameReading
+pub mod PieceReading
+pub mod Progress
+pub mod Reading
+pub mod ReplacementReading
+pub mod VerbReading

@@ -1,0 +1,25 @@
+-- What the readers of verbs say of what they read.
+use Rattle.std.specs.Prelude.{◌≡◌, ℕ, Bool, false, List, length, Some}
+use Rattle.std.specs.Borrow.{Bor}
+use Rattle.std.specs.HashMap.{HashMap}
+use Rattle.sedck_commands.specs.Program.{Label}
+use Rattle.sedck_commands.specs.Parts.{DelimitedList, FirstList}
+use Rattle.sedck_commands.specs.Items.{WrittenVerb, Known, JumpTo, Opening}
+use Rattle.sedck_commands.specs.Labels.{label_place}
+
+-- a `}` is right after the label of a branch or a test
+abbrev pub is_braced : WrittenVerb → Bool
+is_braced (Known verb) = false
+is_braced (JumpTo tests label braced) = braced
+is_braced Opening = false
+
+-- two lists after the delimiter of a `y`, equally long
+pub record AreLists (delimiter : ℕ) (text from to rest : List ℕ) : Type 0 where
+  pub behind : List ℕ
+  pub first : FirstList delimiter text from behind
+  pub second : DelimitedList delimiter behind to rest
+  pub equal : length from ≡ length to
+
+-- the verb defines a label that the map has
+abbrev pub DefinesKnown : {S : Type 0} → HashMap (Bor (List ℕ)) ℕ S → WrittenVerb → Type 0
+DefinesKnown labels verb = (name : List ℕ) × (at : ℕ) × (verb ≡ Known (Label name)) × (label_place labels name ≡ Some at)

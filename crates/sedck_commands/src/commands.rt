@@ -1,0 +1,181 @@
+//! Commands as they are written.
+
+ghost use Rattle.std.specs.Prelude.{if◌then◌else◌, ◌≡◌, ◌≤◌, ◌<◌, ◌++◌, ◌==◌, ◌⊎◌, ◌-◌, ℕ, List, Bool, true, length, IfOk, IfErr, OnOk, OnErr};
+ghost use Rattle.std.specs.List.{list_any};
+ghost use Rattle.sedck_text.specs.Bytes.{ascii};
+ghost use Rattle.sedck_text.specs.Text.{one_of};
+ghost use Rattle.sedck_commands.specs.Program as clean;
+ghost use Rattle.sedck_commands.specs.Program.{address_patterns};
+ghost use Rattle.sedck_commands.specs.Items.{WrittenVerb, Opening, VerbText, Takes, CommandText, MayBeBraced};
+ghost use Rattle.sedck_commands.specs.Faults.{BeginsCommand, IsVerbDue, IsEmptyExpression, IsPlaced, IsOfText};
+ghost use Rattle.sedck_text.specs.Cursors.{unread};
+ghost use Rattle.sedck_commands.specs.ItemView.{written_verb};
+ghost use Rattle.sedck_commands.specs.Private.VerbReading.{is_braced, DefinesKnown};
+ghost use Rattle.sedck_commands.specs.ReadItems.{IsWrittenAt, has_previous, IsEmptyAt, written_patterns};
+ghost use Rattle.sedck_commands.specs.Private.AddressReading.{is_mark};
+ghost use Rattle.sedck_commands.specs.Private.Progress.{takes, IsBeyond, AreAllowed};
+ghost use Rattle.sedck_commands.specs.Private.Forms.{IsForm, IsVerbAt};
+ghost use Rattle.sedck_commands.specs.Private.Locating.{IsOnlyLocation};
+ghost use Rattle.sedck_commands.specs.View.{address_of};
+
+use crate::addresses::split_address;
+use crate::bytes::{COMMAND_LIMIT, DEPTH_LIMIT};
+use crate::fault::ScriptFault;
+use crate::forms::{Form, form_of};
+use crate::items::{Reader, Written, WrittenCommand};
+use crate::location::Location;
+use crate::types::{Address, Pattern, Verb};
+use crate::verbs::read_verb;
+use sedck_text::{Class, Cursor};
+use std::alloc::Global;
+
+/// Whether a command with a verb of this form takes the addresses and the `!`.
+fn takes(form: &Form, address: &Address, negated: bool) -> bool
+    ensures { (b : ℕ) → IsForm b form.now → result ≡ takes b (address_of address.now) negated }
+{
+    match form {
+        Form::Label => matches!(address, Address::None) && !negated,
+        Form::Nothing(Verb::Quit) => !matches!(address, Address::Two(..)),
+        _ => true,
+    }
+}
+
+/// Whether a verb of this form opens a block.
+fn opens_block(form: &Form) -> bool
+    ensures { (b : ℕ) → IsForm b form.now → result ≡ (b == ascii "{") }
+{
+    matches!(form, Form::Block)
+}
+
+/// The fault of a byte that is no verb: addresses and a `!` may be before neither a `}` nor a comment.
+fn no_verb(byte: u8, place: usize) -> ScriptFault
+    ensures { result ≡ (if one_of "}#" byte then ScriptFault.TooManyAddresses place else ScriptFault.UnknownCommand place) }
+{
+    match byte {
+        b'}' | b'#' => ScriptFault::TooManyAddresses { place },
+        _ => ScriptFault::UnknownCommand { place },
+    }
+}
+
+/// What the verb that begins here takes, and what follows its byte, where a command with these addresses may go on with it.
+fn check_verb<'a>(
+    reader: Reader<'_, 'a>,
+    address: &Address,
+    negated: bool,
+) -> Result<(Form<'a>, Cursor<'a>), ScriptFault>
+    requires due { IsVerbDue reader.cursor.whole.now reader.cursor.at }
+    ensures begins { IfOk result (λ x. IsVerbAt reader.entry.cursor x.0 x.1) }
+    ensures allowed { IfOk result (λ x. AreAllowed (address_of address.now) negated reader.entry.depth reader.entry.count (unread reader.entry.cursor)) }
+    ensures refused { IfErr result (λ fault. (verb : WrittenVerb) (rest : List ℕ) → VerbText (unread reader.entry.cursor) verb rest → Takes verb (address_of address.now) negated → IsBeyond reader.entry.depth reader.entry.count verb) }
+    ensures placed { IfErr result (λ fault. IsPlaced reader.entry.cursor.whole.now fault) }
+{
+    let place = reader.cursor.offset();
+    let Some((byte, behind)) = reader.cursor.split_first() else {
+        return Err(ScriptFault::UnknownCommand { place });
+    };
+    let Some(form) = form_of(byte) else {
+        return Err(no_verb(byte, place));
+    };
+    if !takes(&form, address, negated) {
+        return Err(ScriptFault::TooManyAddresses { place });
+    }
+    if opens_block(&form) && reader.depth >= DEPTH_LIMIT {
+        return Err(ScriptFault::TooDeep { place });
+    }
+    if reader.count >= COMMAND_LIMIT {
+        return Err(ScriptFault::TooManyCommands { place });
+    }
+    Ok((form, behind))
+}
+
+/// Whether the verb may be where this many blocks are open: no `}` may be right after its label inside of two of them.
+fn check_brace(verb: &Written, depth: usize) -> Result<(), ScriptFault>
+    ensures allowed { OnOk result (MayBeBraced (is_braced (written_verb verb.now)) depth) }
+    ensures refused { OnErr result ((is_braced (written_verb verb.now) ≡ true) × (2 ≤ depth)) }
+    ensures placed { IfErr result (λ fault. (text : List ℕ) → IsWrittenAt text verb.now → IsPlaced text fault) }
+{
+    if let Written::JumpTo(jump) = verb {
+        if let (Some(place), 2..) = (jump.brace, depth) {
+            return Err(ScriptFault::BadLabel { place });
+        }
+    }
+    Ok(())
+}
+
+/// Where the verb has an empty expression, the offset after its delimiter.
+fn empty_verb(verb: &Written, behind: usize) -> Option<usize>
+    ensures { (text : List ℕ) → (has_previous (written_patterns (written_verb verb.now)) ≡ true → IsEmptyExpression text behind) → IsEmptyAt text (written_patterns (written_verb verb.now)) result }
+{
+    if let Written::Known(Verb::Substitute(substitution)) = verb {
+        if let Pattern::Previous = substitution.pattern {
+            return Some(behind);
+        }
+    }
+    None
+}
+
+/// The verb at the start, where a command with these addresses may go on with it, and what follows it.
+fn read_allowed_verb<'a>(
+    alloc: Global,
+    reader: Reader<'_, 'a>,
+    address: &Address,
+    negated: bool,
+) -> Result<(Written<'a>, Cursor<'a>), ScriptFault>
+    requires due { IsVerbDue reader.cursor.whole.now reader.cursor.at }
+    ensures read { IfOk result (λ x. VerbText (unread reader.entry.cursor) (written_verb x.0) (unread x.1)) }
+    ensures same { IfOk result (λ x. x.1.whole ≡ reader.entry.cursor.whole) }
+    ensures taken { IfOk result (λ x. Takes (written_verb x.0) (address_of address.now) negated) }
+    ensures fresh { IfOk result (λ x. DefinesKnown reader.entry.labels.now (written_verb x.0) → ⊥) }
+    ensures shallow { IfOk result (λ x. written_verb x.0 ≡ Opening → reader.entry.depth < 64) }
+    ensures braced { IfOk result (λ x. MayBeBraced (is_braced (written_verb x.0)) reader.entry.depth) }
+    ensures few { IfOk result (λ x. reader.entry.count < 4095) }
+    ensures label { IfOk result (λ x. IsWrittenAt reader.entry.cursor.whole.now x.0) }
+    ensures refused { IfErr result (λ fault. IsOfText fault → (verb : WrittenVerb) (rest : List ℕ) → VerbText (unread reader.entry.cursor) verb rest → Takes verb (address_of address.now) negated → DefinesKnown reader.entry.labels.now verb ⊎ IsBeyond reader.entry.depth reader.entry.count verb) }
+    ensures placed { IfErr result (λ fault. IsPlaced reader.entry.cursor.whole.now fault) }
+{
+    let (form, behind) = check_verb(reader, address, negated)?;
+    let (verb, rest) = read_verb(alloc, reader.labels, form, behind)?;
+    check_brace(&verb, reader.depth)?;
+    Ok((verb, rest))
+}
+
+/// The command at the start, the offset of its first empty expression, and what follows it.
+pub fn read_command<'a>(
+    alloc: Global,
+    reader: Reader<'_, 'a>,
+) -> Result<(WrittenCommand<'a>, Option<usize>, Cursor<'a>), ScriptFault>
+    requires begins { BeginsCommand (unread reader.cursor) }
+    ensures read { IfOk result (λ x. CommandText (unread reader.entry.cursor) (address_of x.0.address) x.0.negated (written_verb x.0.verb) (unread x.2)) }
+    ensures same { IfOk result (λ x. x.2.whole ≡ reader.entry.cursor.whole) }
+    ensures fresh { IfOk result (λ x. DefinesKnown reader.entry.labels.now (written_verb x.0.verb) → ⊥) }
+    ensures shallow { IfOk result (λ x. written_verb x.0.verb ≡ Opening → reader.entry.depth < 64) }
+    ensures braced { IfOk result (λ x. MayBeBraced (is_braced (written_verb x.0.verb)) reader.entry.depth) }
+    ensures few { IfOk result (λ x. reader.entry.count < 4095) }
+    ensures label { IfOk result (λ x. IsWrittenAt reader.entry.cursor.whole.now x.0.verb) }
+    ensures located { IfOk result (λ x. IsOnlyLocation (length reader.entry.cursor.whole.now) (unread reader.entry.cursor) x.0.location) }
+    ensures empty { IfOk result (λ x. IsEmptyAt reader.entry.cursor.whole.now (address_patterns (address_of x.0.address) ++ written_patterns (written_verb x.0.verb)) x.1) }
+    ensures refused { IfErr result (λ fault. IsOfText fault → (given : clean.Address) (negated : Bool) (verb : WrittenVerb) (rest : List ℕ) → CommandText (unread reader.entry.cursor) given negated verb rest → DefinesKnown reader.entry.labels.now verb ⊎ IsBeyond reader.entry.depth reader.entry.count verb) }
+    ensures placed { IfErr result (λ fault. IsPlaced reader.entry.cursor.whole.now fault) }
+{
+    let start = reader.cursor;
+    let (address, empty, behind) = split_address(alloc, start)?;
+    let (marks, begins) = behind.split(Class::Mark);
+    let negated = marks.contains(&b'!');
+    let at_verb = Reader {
+        cursor: begins,
+        ..reader
+    };
+    let (verb, rest) = read_allowed_verb(alloc, at_verb, &address, negated)?;
+    let empty = empty.or(empty_verb(&verb, begins.offset() + 2));
+    let command = WrittenCommand {
+        address,
+        negated,
+        verb,
+        location: Location {
+            start: start.offset(),
+            verb: begins.offset(),
+            end: rest.offset(),
+        },
+    };
+    Ok((command, empty, rest))
+}

@@ -1,0 +1,206 @@
+//! Labels after `:`, `b` and `t`, and the places of the commands that define them.
+
+ghost use Rattle.std.specs.Prelude.{◌≡◌, ◌<◌, ◌+◌, ℕ, Bool, false, List, Option, length, is_some, option_copied, IfOk, IfErr, IfSome, OnOk, Some, if◌then◌else◌};
+ghost use Rattle.sedck_text.specs.Text.{begins, one_of};
+ghost use Rattle.sedck_text.specs.Cursors.{unread};
+ghost use Rattle.sedck_commands.specs.Cuts.{is_ending, is_label_byte, IsEmptyOr, Longest};
+ghost use Rattle.sedck_commands.specs.Parts.{Ends, LabelText};
+ghost use Rattle.sedck_commands.specs.Items.{IsNoComment, IsNoBrace, EndsJump, begins_braced_comment};
+ghost use Rattle.sedck_commands.specs.Faults.{IsLabelBehind, IsPlaced};
+ghost use Rattle.sedck_commands.specs.Private.Reading.{IsLabelAt};
+ghost use Rattle.sedck_commands.specs.Labels.{label_place};
+ghost use Rattle.sedck_commands.specs.Private.LabelReading.{BranchText, IsBehindVerb, IsBehindLabel};
+ghost use Rattle.sedck_commands.specs.ReadItems.{IsJumpAt};
+ghost use Rattle.std.specs.Str.{bytes_eq};
+
+use crate::bytes::is_ending;
+use crate::fault::ScriptFault;
+use crate::texts::end_of_command;
+use indexmap::IndexMap;
+use sedck_text::{Class, Cursor};
+
+/// Where a branch or a test leads.
+#[derive(Clone, Copy)]
+pub struct Jump<'a> {
+    pub tests: bool,
+    pub label: Option<&'a [u8]>,
+    /// The offset of the label's first byte, or of what is there where it is missing.
+    pub offset: usize,
+    /// The offset of a `}` that is right after the label.
+    pub brace: Option<usize>,
+}
+
+/// The bytes of a label after blanks, their offset, and what follows them. There may be none.
+fn split_label<'a>(text: Cursor<'a>) -> (&'a [u8], usize, Cursor<'a>)
+    requires { IsBehindVerb (one_of ":bt") text }
+    ensures parts { IsLabelAt (unread text.entry) result.0.now (unread result.2) }
+    ensures same { result.2.whole ≡ text.entry.whole }
+    ensures behind { IsBehindLabel result.2 }
+    ensures offset { result.1 + length result.0.now ≡ result.2.at }
+    ensures label { (test : ℕ → Bool) → IsBehindVerb test text.entry → 0 < length result.0.now → IsLabelBehind test text.entry.whole.now result.1 result.0.now }
+{
+    let begins = text.skip(Class::Blank);
+    let (name, behind) = begins.split(Class::Label);
+    (name, begins.offset(), behind)
+}
+
+/// Whether a label that is defined may end here.
+fn check_behind_definition<'a>(behind: Cursor<'a>) -> Result<(), ScriptFault>
+    requires { IsBehindLabel behind }
+    ensures allowed { OnOk result (IsNoBrace (unread behind.entry)) }
+    ensures refused { IfErr result (λ fault. (rest : List ℕ) → IsNoBrace (unread behind.entry) → Ends (unread behind.entry) rest → ⊥) }
+    ensures placed { IfErr result (λ fault. IsPlaced behind.entry.whole.now fault) }
+{
+    if let Some(next) = behind.first() {
+        if !Class::Separator.has(next) {
+            return Err(ScriptFault::BadLabel {
+                place: behind.offset(),
+            });
+        }
+    }
+    Ok(())
+}
+
+/// The label that is defined, its offset, and what follows it.
+pub fn read_definition<'a>(text: Cursor<'a>) -> Result<(&'a [u8], usize, Cursor<'a>), ScriptFault>
+    requires { IsBehindVerb (one_of ":") text }
+    ensures read { IfOk result (λ x. LabelText (unread text.entry) x.0.now (unread x.2) × IsNoBrace (unread x.2)) }
+    ensures same { IfOk result (λ x. x.2.whole ≡ text.entry.whole) }
+    ensures label { IfOk result (λ x. IsLabelBehind (one_of ":") text.entry.whole.now x.1 x.0.now) }
+    ensures refused { IfErr result (λ fault. (name : List ℕ) (behind : List ℕ) (rest : List ℕ) → LabelText (unread text.entry) name behind → IsNoBrace behind → Ends behind rest → ⊥) }
+    ensures placed { IfErr result (λ fault. IsPlaced text.entry.whole.now fault) }
+{
+    let (name, offset, behind) = split_label(text);
+    if name.is_empty() {
+        return Err(ScriptFault::BadLabel { place: offset });
+    }
+    check_behind_definition(behind)?;
+    Ok((name, offset, behind))
+}
+
+/// Whether the label of a branch may end here.
+fn check_behind_label<'a>(behind: Cursor<'a>) -> Result<(), ScriptFault>
+    requires { IsBehindLabel behind }
+    ensures allowed { OnOk result (IsNoComment (unread behind.entry)) }
+    ensures refused { IfErr result (λ fault. (rest : List ℕ) → IsNoComment (unread behind.entry) → Ends (unread behind.entry) rest → ⊥) }
+    ensures placed { IfErr result (λ fault. IsPlaced behind.entry.whole.now fault) }
+{
+    if let Some(next) = behind.first() {
+        if !Class::Separator.has(next) && next != b'}' {
+            return Err(ScriptFault::BadLabel {
+                place: behind.offset(),
+            });
+        }
+    }
+    Ok(())
+}
+
+/// Whether one or more `}` begin the text, and a `#` is right after them.
+fn begins_braced_comment(text: &[u8]) -> bool
+    ensures { result ≡ begins_braced_comment text.now }
+{
+    let mut rest = text;
+    'braces: while let [b'}', behind @ ..] = rest {
+        if behind.starts_with(b"#") {
+            return true;
+        }
+        rest = behind;
+    }
+    false
+}
+
+/// The rest of the text from the end of a branch with a label on. Some seds take a `}` right after the label for a part of it, and
+/// a comment after that too.
+fn end_of_jump<'a>(behind: Cursor<'a>) -> Result<Cursor<'a>, ScriptFault>
+    requires { IsBehindLabel behind }
+    ensures read { IfOk result (λ rest. EndsJump (unread behind.entry) (unread rest)) }
+    ensures same { IfOk result (λ x. x.whole ≡ behind.entry.whole) }
+    ensures refused { IfErr result (λ fault. (rest : List ℕ) → EndsJump (unread behind.entry) rest → ⊥) }
+    ensures placed { IfErr result (λ fault. IsPlaced behind.entry.whole.now fault) }
+{
+    let rest = end_of_command(behind)?;
+    if begins_braced_comment(rest.unread()) {
+        return Err(ScriptFault::BadLabel {
+            place: behind.offset(),
+        });
+    }
+    Ok(rest)
+}
+
+/// Whether a branch without a label may end here, after its blanks. A comment may not follow, since some seds take it for a
+/// label.
+fn check_no_label<'a>(begins: Cursor<'a>) -> Result<(), ScriptFault>
+    requires behind { IsBehindLabel begins }
+    ensures allowed { OnOk result (IsNoComment (unread begins.entry) × IsEmptyOr is_ending (unread begins.entry) × (begins_braced_comment (unread begins.entry) ≡ false)) }
+    ensures refused { IfErr result (λ fault. IsNoComment (unread begins.entry) → IsEmptyOr is_ending (unread begins.entry) → begins_braced_comment (unread begins.entry) ≡ false → ⊥) }
+    ensures placed { IfErr result (λ fault. IsPlaced begins.entry.whole.now fault) }
+{
+    if let Some(next) = begins.first() {
+        if !is_ending(next) || next == b'#' || begins_braced_comment(begins.unread()) {
+            return Err(ScriptFault::BadLabel {
+                place: begins.offset(),
+            });
+        }
+    }
+    Ok(())
+}
+
+/// The offset of the `}` that is right after a label, or after a verb without one.
+fn brace_behind<'a>(behind: Cursor<'a>) -> Option<usize>
+    requires { IsBehindLabel behind }
+    ensures brace { is_some result ≡ begins "}" (unread behind.entry) }
+    ensures placed { IfSome result (λ place. IsPlaced behind.entry.whole.now (ScriptFault.BadLabel place)) }
+{
+    if behind.unread().starts_with(b"}") {
+        return Some(behind.offset());
+    }
+    None
+}
+
+/// The label of a branch or a test, or none, and the rest of the text from the command's end on.
+pub fn read_jump<'a>(tests: bool, text: Cursor<'a>) -> Result<(Jump<'a>, Cursor<'a>), ScriptFault>
+    requires { IsBehindVerb (one_of "bt") text }
+    ensures read { IfOk result (λ x. BranchText (unread text.entry) (option_copied x.0.label) (is_some x.0.brace) (unread x.1)) }
+    ensures same { IfOk result (λ x. x.1.whole ≡ text.entry.whole) }
+    ensures tests { IfOk result (λ x. x.0.tests ≡ tests) }
+    ensures label { IfOk result (λ x. IsJumpAt text.entry.whole.now x.0) }
+    ensures refused { IfErr result (λ fault. (label : Option (List ℕ)) (braced : Bool) (rest : List ℕ) → BranchText (unread text.entry) label braced rest → ⊥) }
+    ensures placed { IfErr result (λ fault. IsPlaced text.entry.whole.now fault) }
+{
+    let (name, offset, behind) = split_label(text);
+    let brace = brace_behind(behind);
+    let (label, rest) = if name.is_empty() {
+        check_no_label(behind)?;
+        (None, behind)
+    } else {
+        check_behind_label(behind)?;
+        (Some(name), end_of_jump(behind)?)
+    };
+    let jump = Jump {
+        tests,
+        label,
+        offset,
+        brace,
+    };
+    Ok((jump, rest))
+}
+
+/// The place that a map has for a label.
+pub fn place_of(labels: &IndexMap<&[u8], usize>, name: &[u8]) -> Option<usize>
+    ensures { result ≡ label_place labels.now name.now }
+{
+    labels.get(name).copied()
+}
+
+/// Adds a label at a place.
+pub fn add_label<'a>(
+    labels: &mut IndexMap<&'a [u8], usize>,
+    name: &'a [u8],
+    at: usize,
+) -> Result<(), ScriptFault>
+    ensures ok { OnOk result ((q : List ℕ) → label_place labels.new q ≡ (if bytes_eq name.now q then Some at else label_place labels.old q)) }
+    ensures err { IfErr result (λ fault. fault ≡ ScriptFault.OutOfMemory) }
+{
+    labels.insert(name, at)?;
+    Ok(())
+}

@@ -1,0 +1,119 @@
+//! The verbs with delimited parts: `s` and `y`.
+
+ghost use Rattle.std.specs.Prelude.{◌≡◌, ◌≢◌, ◌<◌, ◌-◌, ℕ, List, ◌∷◌, length, IsTrue, IfOk, IfErr};
+ghost use Rattle.sedck_text.specs.Bytes.{ascii};
+ghost use Rattle.sedck_commands.specs.Cuts.{is_delimiter};
+ghost use Rattle.sedck_commands.specs.Program as clean;
+ghost use Rattle.sedck_commands.specs.Items.{WrittenVerb, Known, VerbText};
+ghost use Rattle.sedck_commands.specs.Faults.{StandsAt, IsPlaced, IsOfText};
+ghost use Rattle.sedck_commands.specs.Private.PieceReading.{IsPartPlaced};
+ghost use Rattle.sedck_text.specs.Cursors.{unread, IsAhead, Follows};
+ghost use Rattle.sedck_commands.specs.Private.VerbReading.{AreLists};
+ghost use Rattle.sedck_commands.specs.ReadItems.{IsWrittenAt};
+ghost use Rattle.sedck_commands.specs.ItemView.{written_verb};
+
+use crate::bytes::is_delimiter;
+use crate::delimited::{read_first_list, read_list, read_pattern};
+use crate::fault::ScriptFault;
+use crate::flags::read_flags;
+use crate::items::Written;
+use crate::replacements::{greatest_group, literal_length, outside_of, read_replacement};
+use crate::texts::end_of_command;
+use crate::types::{Substitution, Verb};
+use sedck_text::Cursor;
+use std::alloc::Global;
+
+/// The delimiter after a verb, and what follows it.
+fn split_delimiter<'a>(opening: usize, text: Cursor<'a>) -> Result<(u8, Cursor<'a>), ScriptFault>
+    ensures read { IfOk result (λ x. (unread text.entry ≡ x.0 ∷ unread x.1) × IsTrue (is_delimiter x.0)) }
+    ensures ahead { IfOk result (λ x. IsAhead text.entry 1 x.1 × Follows x.1 x.0) }
+    ensures refused { IfErr result (λ fault. (delimiter : ℕ) (rest : List ℕ) → unread text.entry ≡ delimiter ∷ rest → IsTrue (is_delimiter delimiter) → ⊥) }
+    ensures placed { IfErr result (λ fault. (whole : List ℕ) → IsPartPlaced opening whole fault) }
+{
+    let unterminated = ScriptFault::Unterminated { place: opening };
+    let Some((delimiter, behind)) = text.split_first() else {
+        return Err(unterminated);
+    };
+    if !is_delimiter(delimiter) {
+        return Err(unterminated);
+    }
+    Ok((delimiter, behind))
+}
+
+/// What a `s` takes, and the rest of the text from its end on.
+pub fn read_substitution<'a>(
+    alloc: Global,
+    text: Cursor<'a>,
+) -> Result<(Written<'a>, Cursor<'a>), ScriptFault>
+    requires { Follows text (ascii "s") }
+    ensures read { IfOk result (λ x. VerbText (ascii "s" ∷ unread text.entry) (written_verb x.0) (unread x.1)) }
+    ensures same { IfOk result (λ x. x.1.whole ≡ text.entry.whole) }
+    ensures no_label { IfOk result (λ x. (name : List ℕ) → written_verb x.0 ≢ Known (clean.Label name)) }
+    ensures label { IfOk result (λ x. IsWrittenAt text.entry.whole.now x.0) }
+    ensures refused { IfErr result (λ fault. IsOfText fault → (verb : WrittenVerb) (rest : List ℕ) → VerbText (ascii "s" ∷ unread text.entry) verb rest → ⊥) }
+    ensures placed { IfErr result (λ fault. IsPlaced text.entry.whole.now fault) }
+{
+    let opening = text.offset() - 1;
+    let (delimiter, opened) = split_delimiter(opening, text)?;
+    let (pattern, behind) = read_pattern(alloc, opening, delimiter, opened)?;
+    let greatest = greatest_group(&pattern);
+    let (parts, after) = read_replacement(alloc, opening, delimiter, greatest, behind)?;
+    let (seen, file, rest) = read_flags(after)?;
+    let outside = outside_of(&pattern, &parts);
+    let literal = literal_length(&parts);
+    let substitution = Substitution {
+        pattern,
+        parts,
+        global: seen.global,
+        print: seen.print,
+        nth: seen.nth,
+        file,
+        outside,
+        literal,
+    };
+    Ok((Written::Known(Verb::Substitute(substitution)), rest))
+}
+
+/// The two lists of a `y`, which are equally long, and what follows them.
+fn read_lists<'a>(
+    alloc: Global,
+    opening: usize,
+    delimiter: u8,
+    text: Cursor<'a>,
+) -> Result<(Vec<u8>, Vec<u8>, Cursor<'a>), ScriptFault>
+    requires delimiter { IsTrue (is_delimiter delimiter) }
+    requires opened { Follows text delimiter }
+    requires verb { (1 < text.at) × StandsAt text.whole.now (text.at - 2) (ascii "y") }
+    requires stands { StandsAt text.whole.now opening (ascii "y") }
+    ensures read { IfOk result (λ x. AreLists delimiter (unread text.entry) x.0.items x.1.items (unread x.2)) }
+    ensures same { IfOk result (λ x. x.2.whole ≡ text.entry.whole) }
+    ensures refused { IfErr result (λ fault. IsOfText fault → (from to rest : List ℕ) → AreLists delimiter (unread text.entry) from to rest → ⊥) }
+    ensures placed { IfErr result (λ fault. IsPartPlaced opening text.entry.whole.now fault) }
+{
+    let (from, behind) = read_first_list(alloc, opening, delimiter, text)?;
+    let (to, rest) = read_list(alloc, opening, delimiter, behind)?;
+    if from.len() != to.len() {
+        return Err(ScriptFault::BadTransliteration { place: opening });
+    }
+    Ok((from, to, rest))
+}
+
+/// What a `y` takes, and the rest of the text from its end on.
+pub fn read_transliteration<'a>(
+    alloc: Global,
+    text: Cursor<'a>,
+) -> Result<(Written<'a>, Cursor<'a>), ScriptFault>
+    requires { Follows text (ascii "y") }
+    ensures read { IfOk result (λ x. VerbText (ascii "y" ∷ unread text.entry) (written_verb x.0) (unread x.1)) }
+    ensures same { IfOk result (λ x. x.1.whole ≡ text.entry.whole) }
+    ensures no_label { IfOk result (λ x. (name : List ℕ) → written_verb x.0 ≢ Known (clean.Label name)) }
+    ensures label { IfOk result (λ x. IsWrittenAt text.entry.whole.now x.0) }
+    ensures refused { IfErr result (λ fault. IsOfText fault → (verb : WrittenVerb) (rest : List ℕ) → VerbText (ascii "y" ∷ unread text.entry) verb rest → ⊥) }
+    ensures placed { IfErr result (λ fault. IsPlaced text.entry.whole.now fault) }
+{
+    let opening = text.offset() - 1;
+    let (delimiter, opened) = split_delimiter(opening, text)?;
+    let (from, to, after) = read_lists(alloc, opening, delimiter, opened)?;
+    let rest = end_of_command(after)?;
+    Ok((Written::Known(Verb::Transliterate(from, to)), rest))
+}

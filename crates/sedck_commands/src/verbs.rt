@@ -1,0 +1,154 @@
+//! Verbs with what they take.
+
+ghost use Rattle.std.specs.Prelude.{◌≡◌, ◌≢◌, ◌-◌, ℕ, List, ◌∷◌, IfOk, IfErr};
+ghost use Rattle.sedck_text.specs.Bytes.{ascii};
+ghost use Rattle.sedck_commands.specs.Program as clean;
+ghost use Rattle.sedck_commands.specs.Items.{WrittenVerb, Known, Simple, VerbText};
+ghost use Rattle.sedck_commands.specs.Faults.{IsPlaced, IsOfText};
+ghost use Rattle.sedck_text.specs.Cursors.{unread, Follows};
+ghost use Rattle.sedck_commands.specs.View.{verb_of};
+ghost use Rattle.sedck_commands.specs.ItemView.{written_verb};
+ghost use Rattle.sedck_commands.specs.ReadItems.{IsWrittenAt};
+ghost use Rattle.sedck_commands.specs.Private.VerbReading.{DefinesKnown};
+ghost use Rattle.sedck_commands.specs.Private.Forms.{IsForm, text_byte, file_byte, jump_byte};
+
+use crate::fault::ScriptFault;
+use crate::forms::{Form, TextVerb};
+use crate::items::Written;
+use crate::labels::{place_of, read_definition, read_jump};
+use crate::names::{Access, name_fault, read_name};
+use crate::substitutions::{read_substitution, read_transliteration};
+use crate::texts::{end_of_command, read_text};
+use crate::types::Verb;
+use indexmap::IndexMap;
+use sedck_text::{Class, Cursor};
+use std::alloc::Global;
+
+/// The end of a verb that takes nothing, and the rest of the script from there on.
+fn read_simple_verb<'a>(
+    verb: Verb<'a>,
+    text: Cursor<'a>,
+) -> Result<(Written<'a>, Cursor<'a>), ScriptFault>
+    requires { (b : ℕ) × Simple b (verb_of verb) }
+    ensures read { IfOk result (λ x. (b : ℕ) → Simple b (verb_of verb.entry) → VerbText (b ∷ unread text.entry) (written_verb x.0) (unread x.1)) }
+    ensures same { IfOk result (λ x. x.1.whole ≡ text.entry.whole) }
+    ensures no_label { IfOk result (λ x. (name : List ℕ) → written_verb x.0 ≢ Known (clean.Label name)) }
+    ensures label { IfOk result (λ x. IsWrittenAt text.entry.whole.now x.0) }
+    ensures refused { IfErr result (λ fault. (b : ℕ) → Simple b (verb_of verb.entry) → (written : WrittenVerb) (rest : List ℕ) → VerbText (b ∷ unread text.entry) written rest → ⊥) }
+    ensures placed { IfErr result (λ fault. IsPlaced text.entry.whole.now fault) }
+{
+    let rest = end_of_command(text)?;
+    Ok((Written::Known(verb), rest))
+}
+
+/// The text after a verb, and the rest of the script from its end on.
+fn read_text_verb<'a>(
+    verb: TextVerb,
+    text: Cursor<'a>,
+) -> Result<(Written<'a>, Cursor<'a>), ScriptFault>
+    requires { Follows text (text_byte verb) }
+    ensures read { IfOk result (λ x. VerbText (text_byte verb ∷ unread text.entry) (written_verb x.0) (unread x.1)) }
+    ensures same { IfOk result (λ x. x.1.whole ≡ text.entry.whole) }
+    ensures no_label { IfOk result (λ x. (name : List ℕ) → written_verb x.0 ≢ Known (clean.Label name)) }
+    ensures label { IfOk result (λ x. IsWrittenAt text.entry.whole.now x.0) }
+    ensures refused { IfErr result (λ fault. (written : WrittenVerb) (rest : List ℕ) → VerbText (text_byte verb ∷ unread text.entry) written rest → ⊥) }
+    ensures placed { IfErr result (λ fault. IsPlaced text.entry.whole.now fault) }
+{
+    let Some((bytes, rest)) = read_text(text.skip(Class::Blank)) else {
+        return Err(ScriptFault::MissingText {
+            place: text.offset() - 1,
+        });
+    };
+    match verb {
+        TextVerb::Append => Ok((Written::Known(Verb::Append(bytes)), rest)),
+        TextVerb::Change => Ok((Written::Known(Verb::Change(bytes)), rest)),
+        TextVerb::Insert => Ok((Written::Known(Verb::Insert(bytes)), rest)),
+    }
+}
+
+/// The file after a verb, and the rest of the script from the end of its line on.
+fn read_file_verb<'a>(
+    access: Access,
+    text: Cursor<'a>,
+) -> Result<(Written<'a>, Cursor<'a>), ScriptFault>
+    requires { Follows text (file_byte access) }
+    ensures read { IfOk result (λ x. VerbText (file_byte access ∷ unread text.entry) (written_verb x.0) (unread x.1)) }
+    ensures same { IfOk result (λ x. x.1.whole ≡ text.entry.whole) }
+    ensures no_label { IfOk result (λ x. (name : List ℕ) → written_verb x.0 ≢ Known (clean.Label name)) }
+    ensures label { IfOk result (λ x. IsWrittenAt text.entry.whole.now x.0) }
+    ensures refused { IfErr result (λ fault. (written : WrittenVerb) (rest : List ℕ) → VerbText (file_byte access ∷ unread text.entry) written rest → ⊥) }
+    ensures placed { IfErr result (λ fault. IsPlaced text.entry.whole.now fault) }
+{
+    let Some((name, rest)) = read_name(text) else {
+        return Err(name_fault(text.offset() - 1, text));
+    };
+    match access {
+        Access::Read => Ok((Written::Known(Verb::Read(name)), rest)),
+        Access::Write => Ok((Written::Known(Verb::Write(name)), rest)),
+    }
+}
+
+/// The label that is defined after a `:`, and the rest of the script from its end on.
+fn read_label<'a>(
+    labels: &IndexMap<&'a [u8], usize>,
+    text: Cursor<'a>,
+) -> Result<(Written<'a>, Cursor<'a>), ScriptFault>
+    requires { Follows text (ascii ":") }
+    ensures read { IfOk result (λ x. VerbText (ascii ":" ∷ unread text.entry) (written_verb x.0) (unread x.1)) }
+    ensures same { IfOk result (λ x. x.1.whole ≡ text.entry.whole) }
+    ensures fresh { IfOk result (λ x. DefinesKnown labels.now (written_verb x.0) → ⊥) }
+    ensures label { IfOk result (λ x. IsWrittenAt text.entry.whole.now x.0) }
+    ensures refused { IfErr result (λ fault. (verb : WrittenVerb) (rest : List ℕ) → VerbText (ascii ":" ∷ unread text.entry) verb rest → DefinesKnown labels.now verb) }
+    ensures placed { IfErr result (λ fault. IsPlaced text.entry.whole.now fault) }
+{
+    let (name, offset, behind) = read_definition(text)?;
+    if place_of(labels, name).is_some() {
+        return Err(ScriptFault::DuplicateLabel { place: offset });
+    }
+    let rest = end_of_command(behind)?;
+    Ok((Written::Label(name), rest))
+}
+
+/// The label after a branch or a test, or none, and the rest of the script from its end on.
+fn read_branch<'a>(tests: bool, text: Cursor<'a>) -> Result<(Written<'a>, Cursor<'a>), ScriptFault>
+    requires { Follows text (jump_byte tests) }
+    ensures read { IfOk result (λ x. VerbText (jump_byte tests ∷ unread text.entry) (written_verb x.0) (unread x.1)) }
+    ensures same { IfOk result (λ x. x.1.whole ≡ text.entry.whole) }
+    ensures no_label { IfOk result (λ x. (name : List ℕ) → written_verb x.0 ≢ Known (clean.Label name)) }
+    ensures label { IfOk result (λ x. IsWrittenAt text.entry.whole.now x.0) }
+    ensures refused { IfErr result (λ fault. (written : WrittenVerb) (rest : List ℕ) → VerbText (jump_byte tests ∷ unread text.entry) written rest → ⊥) }
+    ensures placed { IfErr result (λ fault. IsPlaced text.entry.whole.now fault) }
+{
+    let (jump, rest) = read_jump(tests, text)?;
+    Ok((Written::JumpTo(jump), rest))
+}
+
+/// What a verb of this form takes, from right after its byte on, and the rest of the text from its end on.
+///
+/// The labels are those that are before it: one of them may not be defined again. That is reported before the end of the
+/// command is looked at.
+pub fn read_verb<'a>(
+    alloc: Global,
+    labels: &IndexMap<&'a [u8], usize>,
+    form: Form<'a>,
+    text: Cursor<'a>,
+) -> Result<(Written<'a>, Cursor<'a>), ScriptFault>
+    requires { (b : ℕ) × IsForm b form × Follows text b }
+    ensures read { IfOk result (λ x. (b : ℕ) → IsForm b form.entry → VerbText (b ∷ unread text.entry) (written_verb x.0) (unread x.1)) }
+    ensures same { IfOk result (λ x. x.1.whole ≡ text.entry.whole) }
+    ensures fresh { IfOk result (λ x. DefinesKnown labels.now (written_verb x.0) → ⊥) }
+    ensures label { IfOk result (λ x. IsWrittenAt text.entry.whole.now x.0) }
+    ensures refused { IfErr result (λ fault. IsOfText fault → (b : ℕ) → IsForm b form.entry → (verb : WrittenVerb) (rest : List ℕ) → VerbText (b ∷ unread text.entry) verb rest → DefinesKnown labels.now verb) }
+    ensures placed { IfErr result (λ fault. IsPlaced text.entry.whole.now fault) }
+{
+    match form {
+        Form::Nothing(verb) => read_simple_verb(verb, text),
+        Form::Text(verb) => read_text_verb(verb, text),
+        Form::File(access) => read_file_verb(access, text),
+        Form::Label => read_label(labels, text),
+        Form::Jump { tests } => read_branch(tests, text),
+        Form::Block => Ok((Written::Opening, text)),
+        Form::Substitution => read_substitution(alloc, text),
+        Form::Transliteration => read_transliteration(alloc, text),
+    }
+}

@@ -1,0 +1,95 @@
+-- Tools on readings, what a bracket list and an interval reader must give, and which trees fit the groups so far.
+use Rattle.std.proofs.Common.{◌≡◌, ◌≢◌, ℕ, ◌+◌, ◌<◌, ◌≤◌, Bool, true, false, cond, List, [], ◌∷◌, ◌++◌, length, drop, Option, Some, None, IfSome, refl, arith, length-append}
+use Rattle.std.specs.Prelude.{◌&&◌, nat_le}
+use Rattle.std.proofs.lemmas.Bool.Decides.{nat_tests}
+use Rattle.sedck_text.specs.Text.{begins}
+use Rattle.sedck_expressions.specs.Private.Numbering.{CountsFrom}
+use Rattle.sedck_expressions.specs.Tree.{Tree, Trees, Seq, Then, groups_in, groups_in_all, depth}
+use Rattle.sedck_expressions.specs.WellFormed.{RefersBack, IsSound, AreBounds}
+use Rattle.sedck_expressions.specs.Shape.{is_empty, SpellsCount, IsRepeatable}
+use Rattle.sedck_expressions.specs.Brackets.{IsBracketList}
+use Rattle.sedck_expressions.specs.Private.Reading.{◌>>=◌, Readers, begins_pair, is_repeatable}
+use Rattle.sedck_expressions.proofs.NumberedGroups.{CountsFrom-left, CountsFrom-right, CountsFrom-join}
+
+pub bind_holds : {A B : Type 0} (o : Option A) (f : A → Option B) (P : B → Type 0) (Q : A → Type 0) → IfSome o Q → ((x : A) → Q x → IfSome (f x) P)
+    → IfSome (o >>= f) P
+bind_holds None f P Q h g = tt
+bind_holds (Some x) f P Q h g = g x h
+
+-- where a test chooses between two readings
+pub cond_holds : {A : Type 0} (b : Bool) (x y : Option A) (P : A → Type 0) → (b ≡ true → IfSome x P) → (b ≡ false → IfSome y P) → IfSome (cond b x y) P
+cond_holds true x y P f g = f refl
+cond_holds false x y P f g = g refl
+
+pub and_left : (a b : Bool) → (a && b) ≡ true → (a ≡ true) × (b ≡ true)
+and_left a b h = grind arith
+
+pub pair_text : (c : ℕ) (text : List ℕ) → begins_pair c text ≡ true → text ≡ 92 ∷ c ∷ drop 2 text
+pair_text c text h = grind (arith, nat_tests)
+
+-- a bracket list is at the start of the text, before the rest
+abbrev pub IsListBefore : List ℕ → List ℕ × List ℕ → Type 0
+IsListBefore text x = (u : List ℕ) × (text ≡ u ++ x.1) × IsBracketList u x.0 × (x.0 ≢ [])
+
+-- and an interval is
+abbrev pub IsIntervalBefore : List ℕ → ℕ × Option ℕ × List ℕ → Type 0
+IsIntervalBefore text x = (u : List ℕ) × (text ≡ u ++ x.2) × SpellsCount u x.0 x.1 × AreBounds x.0 x.1
+
+-- what is read as a bracket list is one, and an interval is one
+pub record Takes (readers : Readers) : Type 0 where
+  pub bracket : (text : List ℕ) → IfSome (readers.bracket text) (IsListBefore text)
+  pub interval : (text : List ℕ) → IfSome (readers.interval text) (IsIntervalBefore text)
+
+-- a bracket list is read, whatever follows it, and so is an interval
+pub record Reads (readers : Readers) : Type 0 where
+  pub bracket : (u words rest : List ℕ) → IsBracketList u words → words ≢ [] → readers.bracket (u ++ rest) ≡ Some (words, rest)
+  pub interval : (u : List ℕ) (least : ℕ) (most : Option ℕ) (rest : List ℕ) → begins_pair 123 u ≡ true → SpellsCount u least most
+      → readers.interval (u ++ rest) ≡ Some (least, most, rest)
+
+pub star_text : (text : List ℕ) → begins "*" text ≡ true → text ≡ 42 ∷ drop 1 text
+star_text text h = grind (arith, nat_tests)
+
+pub not_empty_more : (u w : List ℕ) → is_empty u ≡ false → is_empty (u ++ w) ≡ false
+not_empty_more u w h = grind arith
+
+pub repeatable_of : (t : Tree) → is_repeatable t ≡ true → IsRepeatable t
+repeatable_of t h = grind arith
+
+pub length_some : (u : List ℕ) → is_empty u ≡ false → 0 < length u
+length_some u h = grind arith
+
+-- the tree fits the groups and the depth so far
+pub record Fit (deep opened : ℕ) (closed : List ℕ) (t : Tree) : Type 0 where
+  pub counted : CountsFrom (opened + 1) (groups_in t)
+  pub back : RefersBack closed t
+  pub sound : IsSound t
+  pub few : opened + length (groups_in t) ≤ 99
+  pub shallow : deep + depth t ≤ 32
+
+module _ (deep opened : ℕ) (closed : List ℕ) (t : Tree) (ts : Trees) where
+  abbrev FitsBehind : Type 0
+  FitsBehind = Fit deep (opened + length (groups_in t)) (closed ++ groups_in t) (Seq ts)
+
+  pub fit_first : Fit deep opened closed (Seq (Then t ts)) → Fit deep opened closed t
+  fit_first f =
+      let counted = CountsFrom-left (opened + 1) (groups_in t) (groups_in_all ts) f.counted in
+      let size = length-append (groups_in t) (groups_in_all ts) in
+      grind (arith, f, counted, size)
+
+  pub fit_others : Fit deep opened closed (Seq (Then t ts)) → FitsBehind
+  fit_others f =
+      let counted = CountsFrom-right (opened + 1) (groups_in t) (groups_in_all ts) f.counted in
+      let size = length-append (groups_in t) (groups_in_all ts) in
+      grind (arith, f, counted, size)
+
+  pub fit_all : Fit deep opened closed t → FitsBehind → Fit deep opened closed (Seq (Then t ts))
+  fit_all f g =
+      let more : CountsFrom ((opened + 1) + length (groups_in t)) (groups_in_all ts) = grind (arith, g) in
+      let counted = CountsFrom-join (opened + 1) (groups_in t) (groups_in_all ts) f.counted more in
+      let size = length-append (groups_in t) (groups_in_all ts) in
+      grind (arith, f, g, counted, size)
+
+-- ---- Tests of numbers
+
+pub nat_le_of : (a b : ℕ) → nat_le a b ≡ true → a ≤ b
+nat_le_of a b h = grind (arith, nat_tests)

@@ -1,0 +1,160 @@
+-- What is read is spelled so, and well formed.
+use Rattle.std.proofs.Common.{◌≡◌, ℕ, zero, suc, ◌+◌, ◌≤◌, Bool, true, false, List, [], ◌∷◌, ◌++◌, length, drop, Option, None, inl, refl, sym, ap, subst, ◌∙◌, arith, IfSome, append_assoc}
+use Rattle.std.specs.Prelude.{◌==◌, codes, nat_lt, ◌&&◌}
+use Rattle.std.proofs.lemmas.Bool.{eqb-true}
+use Rattle.std.proofs.lemmas.Bool.Decides.{nat_tests}
+use Rattle.std.proofs.lemmas.List.{append-nil}
+use Rattle.std.proofs.lemmas.Option.{IfSome_then}
+use Rattle.sedck_text.specs.Text.{begins}
+use Rattle.sedck_expressions.specs.Tree.{Tree, Trees, Seq, Repeat, Then, groups_in, groups_in_all}
+use Rattle.sedck_expressions.specs.WellFormed.{AreBounds}
+use Rattle.sedck_expressions.specs.Shape.{Level, Whole, Inside, Position, First, is_empty, behind, SpellsCount, SpellsItem, SpellsItems, Shape}
+use Rattle.sedck_expressions.specs.Brackets.{is_listed}
+use Rattle.sedck_expressions.specs.Private.Reading.{Readers, begins_pair, at_end, is_repeatable, plain, closed_by, escaped, backslash, atom, with_sign, Lister, items, whole, read}
+use Rattle.sedck_expressions.proofs.ReadLemmas.{bind_holds, cond_holds, pair_text, Takes, IsListBefore, IsIntervalBefore, star_text, not_empty_more, repeatable_of, Fit, fit_all}
+use Rattle.sedck_expressions.proofs.ItemBeginnings.{sign_some, list_ends}
+use Rattle.sedck_expressions.proofs.NumberedGroups.{counts_range}
+
+-- an item was read from the start of the text
+pub record ItemRead (level : Level) (place : Position) (deep opened : ℕ) (closed text : List ℕ) (x : Tree × List ℕ) : Type 0 where
+  pub front : List ℕ
+  pub cut : text ≡ front ++ x.1
+  -- whatever is left of the list, if something is left of it exactly where the list is not over
+  pub spells : (w : List ℕ) → is_empty w ≡ at_end x.1 → SpellsItem level place front w x.0
+  pub fit : Fit deep opened closed x.0
+
+-- the items up to the end of the list were read
+pub record ListRead (level : Level) (place : Position) (deep opened : ℕ) (closed text : List ℕ) (x : Trees × List ℕ) : Type 0 where
+  pub front : List ℕ
+  pub cut : text ≡ front ++ x.1
+  pub over : at_end x.1 ≡ true
+  pub spells : SpellsItems level place front x.0
+  pub fit : Fit deep opened closed (Seq x.0)
+
+module _ (level : Level) (place : Position) (deep opened : ℕ) (closed : List ℕ) (few : opened ≤ 99) (shallow : deep ≤ 32) where
+  abbrev IsItem : List ℕ → Tree × List ℕ → Type 0
+  IsItem = ItemRead level place deep opened closed
+
+  -- the lists inside a group
+  abbrev pub ReadsInside : (List ℕ → Option (Trees × List ℕ)) → Type 0
+  ReadsInside inner = deep + 1 ≤ 32 → opened + 1 ≤ 99 → (text : List ℕ) → IfSome (inner text) (ListRead Inside First (deep + 1) (opened + 1) closed text)
+
+  abbrev IsPlain : Bool → ℕ → Tree → Type 0
+  IsPlain last b t = Fit deep opened closed t × ((w : List ℕ) → is_empty w ≡ last → SpellsItem level place (b ∷ []) w t)
+
+  plain_read : (last : Bool) (b : ℕ) → (b == 92) ≡ false → (b == 91) ≡ false → (b == 46) ≡ false → IfSome (plain level place last b) (IsPlain last b)
+  plain_read last b h0 h1 h2 = grind (arith, nat_tests)
+
+  escaped_read : (inner : List ℕ → Option (Trees × List ℕ)) (b : ℕ) (text : List ℕ) → (b == 40) ≡ false → IfSome (escaped inner deep opened closed b text)
+      (λ x. Fit deep opened closed x.0 × (x.1 ≡ text) × ((w : List ℕ) → SpellsItem level place (92 ∷ b ∷ []) w x.0))
+  escaped_read inner b text h = grind (arith, nat_tests)
+
+  -- the inside of a group, and its `\)`
+  group_sound : (text : List ℕ) (x : Trees × List ℕ) → deep + 1 ≤ 32 → opened + 1 ≤ 99
+      → ListRead Inside First (deep + 1) (opened + 1) closed text x → IfSome (closed_by (opened + 1) x) (IsItem (92 ∷ 40 ∷ text))
+  group_sound text (ts, rest) d o r = cond_holds (begins_pair 41 rest) _ _ _ (λ s. record {
+    front = codes "\\(" ++ r.front ++ codes "\\)";
+    cut = ap (λ x. 92 ∷ 40 ∷ x) (r.cut ∙ ap (λ x. r.front ++ x) (pair_text 41 rest s) ∙ sym (append_assoc r.front (codes "\\)") (drop 2 rest)));
+    spells = λ w e. (r.front, refl, r.spells);
+    fit = let fit = r.fit in grind (arith, fit);
+  }) (λ _. tt)
+
+  backslash_sound : (inner : List ℕ → Option (Trees × List ℕ)) (text : List ℕ) → ReadsInside inner
+      → IfSome (backslash inner deep opened closed text) (IsItem (92 ∷ text))
+  backslash_sound inner [] list = tt
+  backslash_sound inner (b ∷ text) list = go (b == 40) refl
+    where
+      go : (x : Bool) → (b == 40) ≡ x → IfSome (escaped inner deep opened closed b text) (IsItem (92 ∷ b ∷ text))
+      go true s = rw (eqb-true b 40 s) (cond_holds (nat_lt deep 32 && nat_lt opened 99) _ _ _ (λ m.
+          let both : (deep + 1 ≤ 32) × (opened + 1 ≤ 99) = grind (arith, nat_tests) in
+          bind_holds _ _ _ _ (list both.0 both.1 text) (λ x r. group_sound text x both.0 both.1 r)) (λ _. tt))
+      go false s = IfSome_then (escaped inner deep opened closed b text) (escaped_read inner b text s)
+          (λ x h. record { front = 92 ∷ b ∷ []; cut = ap (λ r. 92 ∷ b ∷ r) (sym h.1); spells = λ w _. h.2 w; fit = h.0 })
+
+  pub atom_sound : (readers : Readers) → Takes readers → (inner : List ℕ → Option (Trees × List ℕ)) (text : List ℕ) → ReadsInside inner
+      → IfSome (atom readers inner level place deep opened closed text) (IsItem text)
+  atom_sound readers takes inner [] list = tt
+  atom_sound readers takes inner (b ∷ text) list =
+      cond_holds (b == 92) _ _ _ (λ s. rw (eqb-true b 92 s) (backslash_sound inner text list))
+      (λ s92. cond_holds (b == 91) _ _ _ (λ _. bind_holds _ _ _ (IsListBefore (b ∷ text)) (takes.bracket (b ∷ text)) (λ x (u, cut, l, member). record {
+        front = u;
+        cut = cut;
+        spells = λ w _. l;
+        fit = record { counted = tt; back = tt; sound = (member, is_listed l.complement l.elements, l.set); few = omega arith; shallow = omega arith };
+      }))
+      (λ s91. cond_holds (b == 46) _ _ _
+      (λ s. record { front = b ∷ []; cut = refl; spells = λ w _. ap (λ x. x ∷ []) (eqb-true b 46 s); fit = omega arith })
+      (λ s46. bind_holds _ _ _ (IsPlain (at_end text) b) (plain_read (at_end text) b s92 s91 s46)
+      (λ t h. record { front = b ∷ []; cut = refl; spells = h.1; fit = h.0 }))))
+
+  -- the item with a sign of repetition after it
+  repeated_read : (text : List ℕ) (t : Tree) (rest sign after : List ℕ) (least : ℕ) (most : Option ℕ) → IsItem text (t, rest) → is_repeatable t ≡ true
+      → rest ≡ sign ++ after → SpellsCount sign least most → AreBounds least most → IsItem text (Repeat t least most, after)
+  repeated_read text t rest sign after least most r can cut count bounds = let some = sign_some sign least most after count in record {
+    front = r.front ++ sign;
+    cut = r.cut ∙ ap (λ x. r.front ++ x) cut ∙ sym (append_assoc r.front sign after);
+    spells = λ w e. (r.front, sign, refl, repeatable_of t can, r.spells (sign ++ w) (not_empty_more sign w some.0 ∙ sym (ap at_end cut ∙ some.1)), count);
+    fit = record { counted = r.fit.counted; back = r.fit.back; sound = (bounds, r.fit.sound); few = r.fit.few; shallow = r.fit.shallow };
+  }
+
+  pub sign_sound : (readers : Readers) → Takes readers → (text : List ℕ) (x : Tree × List ℕ) → IsItem text x → IfSome (with_sign readers x) (IsItem text)
+  sign_sound readers takes text (t, rest) r =
+      cond_holds (is_repeatable t) _ _ _ (λ can. cond_holds (begins "*" rest) _ _ _
+      (λ s. repeated_read text t rest (codes "*") (drop 1 rest) 0 None r can (star_text rest s) (inl (refl, refl)) (omega arith))
+      (λ _. cond_holds (begins_pair 123 rest) _ _ _
+      (λ _. bind_holds _ _ _ (IsIntervalBefore rest) (takes.interval rest) (λ x h. repeated_read text t rest h.0 x.2 x.0 x.1 r can h.1 h.2 h.3)) (λ _. r))) (λ _. r)
+
+  -- an item, and the items after it
+  pub list_read : (text : List ℕ) (x : Tree × List ℕ) (y : Trees × List ℕ) → IsItem text x
+      → ListRead level (behind place x.0) deep (opened + length (groups_in x.0)) (closed ++ groups_in x.0) x.1 y
+      → ListRead level place deep opened closed text (Then x.0 y.0, y.1)
+  list_read text (t, rest) (ts, end) i l = record {
+    front = i.front ++ l.front;
+    cut = i.cut ∙ ap (λ x. i.front ++ x) l.cut ∙ sym (append_assoc i.front l.front end);
+    over = l.over;
+    spells = (
+      i.front,
+      l.front,
+      refl,
+      i.spells l.front (list_ends ts level (behind place t) l.front end l.spells l.over ∙ ap at_end (sym l.cut)),
+      l.spells,
+    );
+    fit = fit_all deep opened closed t ts i.fit l.fit;
+  }
+
+-- a lister gives what is spelled so
+abbrev pub IsSoundLister : Lister → Type 0
+IsSoundLister list = (level : Level) (place : Position) (deep opened : ℕ) (closed text : List ℕ) → opened ≤ 99 → deep ≤ 32
+    → IfSome (list level place deep opened closed text) (ListRead level place deep opened closed text)
+
+pub items_sound : (readers : Readers) → Takes readers → (n : ℕ) → IsSoundLister (items readers n)
+unfolding items
+items_sound readers takes zero level place deep opened closed text few shallow = tt
+items_sound readers takes (suc n) level place deep opened closed text few shallow =
+    cond_holds (at_end text) _ _ _ (λ s. record { front = []; cut = refl; over = s; spells = refl; fit = omega arith })
+    (λ _. bind_holds _ _ _ (IsItem level place deep opened closed few shallow text) (bind_holds _ _ _ _
+    (atom_sound level place deep opened closed few shallow readers takes (items readers n Inside First (deep + 1) (opened + 1) closed) text
+    (λ d o after. items_sound readers takes n Inside First (deep + 1) (opened + 1) closed after o d))
+    (λ x i. sign_sound level place deep opened closed few shallow readers takes text x i))
+    (λ x i. bind_holds _ _ _ _
+    (items_sound readers takes n level (behind place x.0) deep (opened + length (groups_in x.0)) (closed ++ groups_in x.0) x.1 i.fit.few shallow)
+    (λ y l. list_read level place deep opened closed few shallow text x y i l)))
+
+whole_sound : (text : List ℕ) (x : Trees × List ℕ) → ListRead Whole First 0 0 [] text x → IfSome (whole x) (λ t. Shape text t)
+whole_sound text (ts, []) l = (
+  subst (λ u. SpellsItems Whole First u ts) (sym (l.cut ∙ append-nil l.front)) l.spells,
+  record {
+    numbered = counts_range 1 (groups_in_all ts) l.fit.counted;
+    back = l.fit.back;
+    sound = l.fit.sound;
+    groups = omega (arith, l.fit.few);
+    nested = omega (arith, l.fit.shallow);
+  },
+)
+whole_sound text (ts, _ ∷ _) l = tt
+
+-- what is read has the shape
+pub read_sound : (readers : Readers) → Takes readers → (text : List ℕ) → IfSome (read readers text) (λ t. Shape text t)
+unfolding read
+read_sound readers takes text =
+    bind_holds _ _ _ _ (items_sound readers takes (length text + 1) Whole First 0 0 [] text (omega arith) (omega arith)) (λ x l. whole_sound text x l)

@@ -1,0 +1,19 @@
+-- The tree of each form that has parts.
+use Rattle.std.proofs.Common.{◌≡◌, ℕ, map, Option, Vec, Box, Global, sym, ap, ◌∙◌}
+use Rattle.sedck_expressions.specs.Tree.{Tree, trees}
+use Rattle.sedck_expressions.specs.View.{tree, node_tree}
+use Rattle.sedck_expressions.specs.Tree as spec
+use Rattle.sedck_expressions.specs.declared.tree.Bre.{Bre, Bre-F, fold-roll-Bre}
+use Rattle.sedck_expressions.specs.declared.tree.Bre.TheVariants.{Any, Group, Seq, Repeat, rolls-Any, rolls-Group, rolls-Seq, rolls-Repeat}
+
+pub tree-Any : tree Any ≡ spec.Any
+tree-Any = ap tree (sym rolls-Any) ∙ fold-roll-Bre Tree node_tree Bre-F.Any
+
+pub tree-Group : (k : ℕ) (body : Box Bre Global) → tree (Group k body) ≡ spec.Group k (tree body.value)
+tree-Group k body = ap tree (sym (rolls-Group k body)) ∙ fold-roll-Bre Tree node_tree (Bre-F.Group k body)
+
+pub tree-Seq : (items : Vec Bre Global) → tree (Seq items) ≡ spec.Seq (trees (map tree items.items))
+tree-Seq items = ap tree (sym (rolls-Seq items)) ∙ fold-roll-Bre Tree node_tree (Bre-F.Seq items)
+
+pub tree-Repeat : (body : Box Bre Global) (least : ℕ) (most : Option ℕ) → tree (Repeat body least most) ≡ spec.Repeat (tree body.value) least most
+tree-Repeat body least most = ap tree (sym (rolls-Repeat body least most)) ∙ fold-roll-Bre Tree node_tree (Bre-F.Repeat body least most)

@@ -1,0 +1,44 @@
+-- The reading of a whole text, from that of its list of items.
+use Rattle.std.proofs.Common.{◌≡◌, ℕ, ◌+◌, ◌<◌, Bool, true, false, List, [], length, Option, Some, None, ap, subst, replicate, arith}
+use Rattle.std.specs.Prelude.{◌==◌}
+use Rattle.std.proofs.lemmas.Bool.Decides.{nat_tests}
+use Rattle.std.proofs.lemmas.List.{get_or-replicate}
+use Rattle.sedck_expressions.specs.Tree.{Tree, Trees, Seq}
+use Rattle.sedck_expressions.specs.Shape.{Whole, First, Shape}
+use Rattle.sedck_expressions.specs.Private.Reading.{◌>>=◌, items, whole, read}
+use Rattle.sedck_expressions.specs.Private.FullReading.{full}
+use Rattle.sedck_expressions.specs.Private.Gives.{ClosedIs}
+use Rattle.sedck_expressions.proofs.ReadingSound.{read_sound}
+use Rattle.sedck_expressions.proofs.ReadingComplete.{read_again, one_shape}
+use Rattle.sedck_expressions.proofs.ItemLoop.{full_takes, full_reads}
+
+-- the whole text is read at the first cursor
+pub read-at : {first text : List ℕ} {o : Option (Trees × List ℕ)} → first ≡ text
+    → ((bound : ℕ) → length first < bound → items full bound Whole First 0 0 [] first ≡ o) → read full text ≡ (o >>= whole)
+unfolding read
+read-at {first} {text} {o} is h =
+    ap (λ o. o >>= whole) (subst (λ t. items full (length t + 1) Whole First 0 0 [] t ≡ o) is (h (length first + 1) (omega arith)))
+
+-- where something is left, it isn't read
+pub whole-some : (ts : Trees) {slice rest : List ℕ} {over : Bool} → slice ≡ rest → over ≡ (length slice == 0) → over ≡ false
+    → (whole (ts, rest) ≡ None) × (length rest ≡ 0 → ⊥)
+whole-some ts is e told = grind (arith, nat_tests)
+
+pub whole-none : (ts : Trees) {slice rest : List ℕ} {over : Bool} → slice ≡ rest → over ≡ (length slice == 0) → over ≡ true → whole (ts, rest) ≡ Some (Seq ts)
+whole-none ts is e told = grind (arith, nat_tests)
+
+pub shape_of : (text : List ℕ) (t : Tree) → read full text ≡ Some t → Shape text t
+shape_of text t e = rw e at (read_sound full full_takes text)
+
+pub only_of : (text : List ℕ) (t : Tree) → read full text ≡ Some t → (u : Tree) → Shape text u → u ≡ t
+only_of text t e u h = cc (read_again full full_reads text u h)
+
+-- no text spells two trees
+pub one_tree : (text : List ℕ) (a b : Tree) → Shape text a → Shape text b → a ≡ b
+one_tree = one_shape full full_reads
+
+pub none_of : (text : List ℕ) → read full text ≡ None → (u : Tree) → Shape text u → ⊥
+none_of text e u h = cc (read_again full full_reads text u h)
+
+pub none_closed : ClosedIs (replicate 256 false) []
+none_closed k l = get_or-replicate 256 k false false l

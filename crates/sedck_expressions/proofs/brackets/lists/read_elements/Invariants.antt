@@ -1,0 +1,20 @@
+use Rattle.std.proofs.Common.{◌≡◌, ◌≤◌, List, length}
+use Rattle.sedck_text.specs.Cursors.{unread}
+use Rattle.sedck_expressions.specs.Brackets.{Element}
+use Rattle.sedck_expressions.specs.Private.Sets.{HasJust}
+use Rattle.sedck_expressions.specs.Private.BracketCode.{is_of}
+use Rattle.sedck_expressions.specs.Private.BracketReading.{elements_of}
+use Rattle.sedck_expressions.proofs.ElementLoop.{LeftToRead}
+use Rattle.sedck_expressions.proofs.brackets.lists.read_elements.Given as goal
+
+abbrev pub invariant-elements : goal.invariant-elements
+invariant-elements l = record {
+  same : l.next.whole ≡ l.cursor.whole;
+  shorter : length (unread l.next) ≤ length (unread l.cursor);
+  front : List Element;
+  just : HasJust l.set.0 (is_of front);
+  reads : LeftToRead (elements_of (unread l.cursor)) front l.first (unread l.next);
+}
+
+abbrev pub decreases-elements : goal.decreases-elements
+decreases-elements l = length (unread l.next)

@@ -1,0 +1,49 @@
+use Rattle.std.proofs.Common.{◌≡◌, ℕ, ◌<◌, Bool, List, [], map, length, Some, sym, ap, ◌∙◌, subst, true}
+use Rattle.std.specs.Prelude.{◌==◌}
+use Rattle.sedck_expressions.specs.declared.tree.Bre.{Bre}
+use Rattle.sedck_expressions.specs.declared.tree.Bre.TheVariants.{Seq}
+use Rattle.std.proofs.lemmas.Result.{err_from_is_err_and}
+use Rattle.sedck_expressions.specs.Tree.{Nil, trees}
+use Rattle.sedck_expressions.specs.View.{tree}
+use Rattle.sedck_expressions.specs.Private.Sequence.{sequence}
+use Rattle.sedck_expressions.specs.Shape.{Whole, First, Shape}
+use Rattle.sedck_expressions.specs.Private.Reading.{read, items}
+use Rattle.sedck_expressions.specs.Private.FullReading.{full}
+use Rattle.sedck_expressions.proofs.WholeReading.{read-at, whole-some, whole-none, shape_of, only_of, none_of, none_closed}
+use Rattle.sedck_expressions.proofs.ViewLemmas.{tree-Seq}
+use Rattle.sedck_expressions.proofs.OffsetLemmas.{end_stands}
+use Rattle.sedck_expressions.proofs.parser.read_tree.Goals as goal
+
+pub returns-in_err-items-clause-refused : goal.returns-in_err-items-clause-refused
+returns-in_err-items-clause-refused c =
+    let p = err_from_is_err_and c.from_residual.result c.from_residual.ensures.1 in
+    rw (p.1, p.2) (λ bad. none_of c.args.text.now (read-at c.new.ensures.left (λ n room. c.in_err-items.ensures.value n [] room none_closed bad)))
+
+pub returns-then-not-is_empty-clause-refused : goal.returns-then-not-is_empty-clause-refused
+returns-then-not-is_empty-clause-refused c bad =
+    let some = whole-some (trees (map tree c.in_ok-items.items.items)) c.unread.ensures c.is_empty.ensures c.if-not-is_empty.true in
+    none_of c.args.text.now (read-at c.new.ensures.left (λ n room. c.in_ok-items.ensures.value n [] room none_closed) ∙ some.0)
+
+pub returns-then-not-is_empty-clause-place : goal.returns-then-not-is_empty-clause-place
+returns-then-not-is_empty-clause-place c =
+    let stands = end_stands c.in_ok-items.end c.in_ok-items.ensures.end (whole-some Nil c.unread.ensures c.is_empty.ensures c.if-not-is_empty.true).1 in
+    let whole : c.in_ok-items.end.whole ≡ c.args.text = c.in_ok-items.ensures.same ∙ c.new.ensures.whole in
+    rw (c.offset-place.ensures, ← whole) stands
+
+-- the whole text was read
+whole_read : {first text slice left : List ℕ} {over : Bool} (list : List Bre) → first ≡ text → slice ≡ left → over ≡ (length slice == 0) → over ≡ true
+    → ((bound : ℕ) → length first < bound → items full bound Whole First 0 0 [] first ≡ Some (trees (map tree list), left)) → read full text ≡ Some (sequence list)
+whole_read list is same e told h = read-at is h ∙ whole-none (trees (map tree list)) same e told
+
+pub returns-clause-only : goal.returns-clause-only
+returns-clause-only c =
+    let read = whole_read c.in_ok-items.items.items c.new.ensures.left c.unread.ensures c.is_empty.ensures c.if-not-is_empty.false
+    (λ n room. c.in_ok-items.ensures.value n [] room none_closed) in
+    only_of c.args.text.now (tree (Seq c.in_ok-items.items)) (read ∙ ap (λ t. Some t) (sym (tree-Seq c.in_ok-items.items)))
+
+pub returns-clause-shape : goal.returns-clause-shape
+returns-clause-shape c =
+    let read = whole_read c.in_ok-items.items.items c.new.ensures.left c.unread.ensures c.is_empty.ensures c.if-not-is_empty.false
+    (λ n room. c.in_ok-items.ensures.value n [] room none_closed) in
+    subst (λ t. Shape c.args.text.now t) (sym (tree-Seq c.in_ok-items.items))
+    (shape_of c.args.text.now (sequence c.in_ok-items.items.items) read)

@@ -1,0 +1,10 @@
+-- What the public contracts cite, in reading order.
+pub mod Tree
+pub mod View
+pub mod WellFormed
+pub mod Shape
+pub mod Brackets
+pub mod Faults
+pub mod FaultWords
+-- What functions inside the crate promise each other.
+pub mod Private

@@ -1,0 +1,75 @@
+-- How the code's values relate to what is read of a bracket list.
+use Rattle.std.specs.Prelude.{◌≡◌, ℕ, ◌-◌, ◌<◌, ◌≤◌, not, Bool, List, ◌++◌, codes, length, drop, nat_eq, if◌then◌else◌, Option, Some, None, Result, Ok, Err}
+use Rattle.std.specs.List.{list_any, starts_with}
+use Rattle.sedck_expressions.specs.Brackets as brackets
+use Rattle.sedck_expressions.specs.Brackets.{class_row, in_element}
+use Rattle.sedck_expressions.specs.Private.BracketReading.{class_name}
+use Rattle.sedck_expressions.specs.Faults.{HasOneAt}
+use Rattle.sedck_expressions.specs.Private.Sets.{HasJust}
+use Rattle.sedck_expressions.specs.declared.brackets.elements.Class.{Class}
+use Rattle.sedck_expressions.specs.declared.brackets.elements.Class.TheVariants.{Upper, Lower, Alpha, Digit, Alnum, Xdigit, Space, Blank, Punct, Graph, Print, Cntrl}
+use Rattle.sedck_expressions.specs.declared.brackets.elements.Element.{Element}
+use Rattle.sedck_expressions.specs.declared.brackets.symbols.Flaw.{Flaw}
+use Rattle.sedck_expressions.specs.declared.brackets.symbols.Flaw.TheVariants.{Escape}
+use Rattle.sedck_expressions.specs.declared.brackets.elements.Element.TheVariants.{One, Range, Members}
+
+abbrev pub class_of : Class → brackets.Class
+class_of Upper = brackets.upper
+class_of Lower = brackets.lower
+class_of Alpha = brackets.alpha
+class_of Digit = brackets.digit
+class_of Alnum = brackets.alnum
+class_of Xdigit = brackets.xdigit
+class_of Space = brackets.space
+class_of Blank = brackets.blank
+class_of Punct = brackets.punct
+class_of Graph = brackets.graph
+class_of Print = brackets.print
+class_of Cntrl = brackets.cntrl
+
+abbrev pub in_class : brackets.Class → ℕ → Bool
+in_class class = (class_row class).1
+
+abbrev pub element_of : Element → brackets.Element
+element_of (One c) = brackets.One c
+element_of (Range a z) = brackets.Range a z
+element_of (Members class) = brackets.Members (class_of class)
+
+-- what a class's name and the `:]` after it are
+abbrev pub closed_name : brackets.Class → List ℕ
+closed_name class = class_name class ++ codes ":]"
+
+-- what follows the closed name, if it is at the start
+abbrev pub behind_name : brackets.Class → List ℕ → Option (List ℕ)
+behind_name class text = if starts_with nat_eq text (closed_name class) then Some (drop (length (closed_name class)) text) else None
+
+-- what a function returned, seen by view, is what is read
+abbrev pub Reads : {X Y E : Type 0} → (X → Y) → Result X E → Option Y → Type 0
+Reads view (Ok x) read = read ≡ Some (view x)
+Reads view (Err flaw) read = read ≡ None
+
+-- so many bytes are read of the text
+abbrev pub IsTaken : ℕ → List ℕ → Type 0
+IsTaken count text = (0 < count) × (count ≤ length text)
+
+-- an element is flawed, and not by an escape
+abbrev pub HasNoEscape : Flaw → Type 0
+HasNoEscape (Escape left) = ⊥
+HasNoEscape _ = Unit {0}
+
+-- a refused escape is at a backslash of the text
+abbrev pub IsFlawIn : List ℕ → Flaw → Type 0
+IsFlawIn text (Escape left) = (left ≤ length text) × HasOneAt text (length text - left) "\\"
+IsFlawIn text _ = Unit {0}
+
+-- a byte of one of the elements
+abbrev pub is_of : List brackets.Element → ℕ → Bool
+is_of es b = list_any (in_element b) es
+
+-- elements are read, and the set has just their bytes
+abbrev pub HasElements : List ℕ → List ℕ → Option (List brackets.Element × List ℕ) → Type 0
+HasElements words rest read = (es : List brackets.Element) × (read ≡ Some (es, rest)) × HasJust words (is_of es)
+
+-- a test turned round, if the flag says so
+abbrev pub signed : Bool → (ℕ → Bool) → ℕ → Bool
+signed complement test b = if complement then not (test b) else test b

@@ -1,9 +1,0 @@
-use Rattle.std.proofs.Common.{◌≡◌, length}
-use Rattle.sedck_script.specs.Parts.{has_loose_quote}
-use Rattle.sedck_script.proofs.delimited.has_loose_quote.Given as goal
-
-abbrev pub invariant-quotes : goal.invariant-quotes
-invariant-quotes l = has_loose_quote l.rest ≡ has_loose_quote l.text
-
-abbrev pub decreases-quotes : goal.decreases-quotes
-decreases-quotes l = length l.rest

@@ -1,7 +1,0 @@
-use Rattle.std.proofs.Common.{subst}
-use Rattle.sedck_script.specs.Items.{opening}
-use Rattle.sedck_script.specs.Private.Forms.{IsForm}
-use Rattle.sedck_script.proofs.verbs.read_verb.Goals as goal
-
-pub returns-in-Block-clause-read : goal.returns-in-Block-clause-read
-returns-in-Block-clause-read c = λ b is. opening (subst (IsForm b) c.in-Block.is is)

@@ -1,0 +1,62 @@
+-- What the resolver of labels says of items.
+use Rattle.std.specs.Prelude.{◌≡◌, ℕ, if◌then◌else◌, List, [], ◌∷◌, ◌++◌, Option, Some, None, unwrap_or}
+use Rattle.std.specs.Borrow.{Bor}
+use Rattle.std.specs.HashMap.{HashMap}
+use Rattle.sedck_text.specs.Text.{one_of}
+use Rattle.sedck_commands.specs.Program.{Verb, Branch, Test, Block, Command}
+use Rattle.sedck_commands.specs.Items.{WrittenVerb, Known, JumpTo, Opening, Item, Written, Closing}
+use Rattle.sedck_commands.specs.View.{address_of}
+use Rattle.sedck_commands.specs.Faults.{IsLabelBehind}
+use Rattle.sedck_commands.specs.Labels.{label_place}
+use Rattle.sedck_commands.specs.Blocks.{Turn, Opens, Closes, Stays, Jumps}
+use Rattle.sedck_commands.specs.ItemView.{written_verb}
+use Rattle.sedck_commands.specs.declared.fault.ScriptFault.{ScriptFault}
+use Rattle.sedck_commands.specs.declared.fault.ScriptFault.TheVariants.{UnknownLabel}
+use Rattle.sedck_commands.specs.declared.items.WrittenCommand.{WrittenCommand}
+
+-- a label is one that the map has, or there is none
+abbrev pub IsKnownLabel : {S : Type 0} → HashMap (Bor (List ℕ)) ℕ S → Option (List ℕ) → Type 0
+IsKnownLabel labels None = Unit {0}
+IsKnownLabel labels (Some name) = (i : ℕ) × (label_place labels name ≡ Some i)
+
+-- a label is one that the map lacks
+abbrev pub IsLostLabel : {S : Type 0} → HashMap (Bor (List ℕ)) ℕ S → Option (List ℕ) → Type 0
+IsLostLabel labels None = ⊥
+IsLostLabel labels (Some name) = label_place labels name ≡ None
+
+-- the label to which a verb leads, if it leads to one
+abbrev pub label_of : WrittenVerb → Option (List ℕ)
+label_of (JumpTo tests label braced) = label
+label_of (Known v) = None
+label_of Opening = None
+
+abbrev pub item_label : Item → Option (List ℕ)
+item_label (Written a n v) = label_of v
+item_label Closing = None
+
+-- the place to which a label leads
+abbrev pub target_of : {S : Type 0} → HashMap (Bor (List ℕ)) ℕ S → ℕ → Option (List ℕ) → ℕ
+target_of labels end None = end
+target_of labels end (Some name) = unwrap_or (label_place labels name) end
+
+-- the verb with its target, where a block leads to this place
+abbrev pub resolved_verb : {S : Type 0} → HashMap (Bor (List ℕ)) ℕ S → ℕ → ℕ → WrittenVerb → Verb
+resolved_verb labels end block (Known v) = v
+resolved_verb labels end block (JumpTo tests label braced) = if tests then Test (target_of labels end label) else Branch (target_of labels end label)
+resolved_verb labels end block Opening = Block block
+
+-- the command with its target
+abbrev pub resolved_command : {S : Type 0} → HashMap (Bor (List ℕ)) ℕ S → ℕ → ℕ → WrittenCommand → Command
+resolved_command labels end block c = record { address = address_of c.address; negated = c.negated; verb = resolved_verb labels end block (written_verb c.verb) }
+
+-- where the command opens a block, its target is taken from the end of the list, and else nothing is taken
+abbrev pub TakesTarget : Turn → List ℕ → List ℕ → ℕ → Type 0
+TakesTarget Opens old new target = (old ≡ [] → ⊥) → old ≡ new ++ target ∷ []
+TakesTarget Closes old new target = new ≡ old
+TakesTarget Stays old new target = new ≡ old
+TakesTarget (Jumps braced) old new target = new ≡ old
+
+-- the fault is a label of the text that the map lacks
+abbrev pub IsUnknownLabel : {S : Type 0} → HashMap (Bor (List ℕ)) ℕ S → List ℕ → ScriptFault → Type 0
+IsUnknownLabel labels text fault =
+    (place : ℕ) × (name : List ℕ) × (fault ≡ UnknownLabel place) × IsLabelBehind (one_of "bt") text place name × (label_place labels name ≡ None)
