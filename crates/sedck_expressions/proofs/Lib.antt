@@ -18,3 +18,4 @@ pub mod ElementLoop
 pub mod SetLoop
 pub mod OffsetLemmas
 pub mod ViewLemmas
+pub mod Along

@@ -14,7 +14,7 @@ use Rattle.sedck_expressions.specs.Private.Reading.{at_end}
 use Rattle.sedck_expressions.specs.Private.BracketReading.{inside_at, bracket_at, inside_of}
 
 -- what is at an offset behind which the text begins with one of these bytes
-stands_behind : (text : List ℕ) (n : ℕ) (s : String) → IsTrue (begins s (drop n text)) → HasOneAt text n s
+pub stands_behind : (text : List ℕ) (n : ℕ) (s : String) → IsTrue (begins s (drop n text)) → HasOneAt text n s
 stands_behind [] zero s h = absurd (false≢true h)
 stands_behind [] (suc n) s h = absurd (false≢true h)
 stands_behind (c ∷ text) zero s h = (omega arith, h)

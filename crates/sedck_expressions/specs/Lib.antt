@@ -6,5 +6,6 @@ pub mod Shape
 pub mod Brackets
 pub mod Faults
 pub mod FaultWords
+pub mod Misjudged
 -- What functions inside the crate promise each other.
 pub mod Private

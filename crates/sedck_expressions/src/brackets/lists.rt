@@ -7,7 +7,7 @@ ghost use Rattle.sedck_expressions.specs.Brackets.{has_symbol, is_mistakable};
 ghost use Rattle.sedck_expressions.specs.View.{bytes_in};
 ghost use Rattle.sedck_expressions.specs.Private.BracketReading.{elements_of, set_at, bracket_at};
 ghost use Rattle.sedck_expressions.specs.Private.BracketCode.{HasElements, signed, IsFlawIn};
-ghost use Rattle.sedck_expressions.specs.Faults.{HasOneAt, IsPlaced};
+ghost use Rattle.sedck_expressions.specs.Faults.{HasOneAt, IsPlaced, IsOfText};
 ghost use Rattle.sedck_expressions.specs.Private.Gives.{Gives};
 ghost use Rattle.sedck_expressions.specs.Private.Sets.{HasJust};
 
@@ -34,7 +34,8 @@ fn fault_of(outer: usize, cursor: Cursor<'_>, flaw: Flaw) -> ReFault
     requires outer { HasOneAt cursor.whole.now outer "[" }
     requires some { flaw ≡ Flaw.Bad → 0 < length (unread cursor) }
     requires flaw { IsFlawIn (unread cursor) flaw }
-    ensures { IsPlaced cursor.entry.whole.now result }
+    ensures place { IsPlaced cursor.entry.whole.now result }
+    ensures memory { IsOfText result }
 {
     match flaw {
         Flaw::Unclosed => ReFault::UnclosedBracket { place: outer },
@@ -56,6 +57,7 @@ fn read_elements<'a>(outer: usize, cursor: Cursor<'a>) -> Result<(ByteSet, Curso
     ensures same { IfOk result (λ x. x.1.whole ≡ cursor.entry.whole) }
     ensures shorter { IfOk result (λ x. length (unread x.1) < length (unread cursor.entry)) }
     ensures place { IfErr result (λ fault. IsPlaced cursor.entry.whole.now fault) }
+    ensures memory { IfErr result IsOfText }
 {
     let mut set = ByteSet([0; 4]);
     let mut next = cursor;
@@ -154,6 +156,7 @@ fn read_set<'a>(
     ensures same { IfOk result (λ x. x.1.whole ≡ cursor.entry.whole) }
     ensures shorter { IfOk result (λ x. length (unread x.1) < length (unread cursor.entry)) }
     ensures place { IfErr result (λ fault. IsPlaced cursor.entry.whole.now fault) }
+    ensures memory { IfErr result IsOfText }
 {
     let (listed, behind) = read_elements(outer, cursor)?;
     let inside = behind.offset() - cursor.offset() - 1;
@@ -176,6 +179,7 @@ pub(crate) fn read_bracket_list<'a>(cursor: Cursor<'a>) -> Result<(ByteSet, Curs
     ensures same { IfOk result (λ x. x.1.whole ≡ cursor.entry.whole) }
     ensures shorter { IfOk result (λ x. length (unread x.1) < length (unread cursor.entry)) }
     ensures place { IfErr result (λ fault. IsPlaced cursor.entry.whole.now fault) }
+    ensures memory { IfErr result IsOfText }
 {
     let outer = cursor.offset();
     let inside = cursor.advance(1);

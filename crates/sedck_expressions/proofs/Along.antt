@@ -1,0 +1,160 @@
+-- Going through a list of items: what is left of it, and that nothing before is sought.
+use Rattle.std.proofs.Common.{◌≡◌, ℕ, ◌+◌, ◌≤◌, Bool, true, false, List, [], ◌∷◌, ◌++◌, drop, Option, Some, inl, inr, refl, sym, ap, ◌∙◌, arith, append_assoc}
+use Rattle.std.specs.Prelude.{IsTrue, codes, unwrap_or, ◌||◌, ◌&&◌}
+use Rattle.std.proofs.lemmas.Bool.Decides.{nat_tests}
+use Rattle.std.proofs.lemmas.List.{drop-drop}
+use Rattle.sedck_text.specs.Text.{begins}
+use Rattle.sedck_text.specs.Cursors.{unread}
+use Rattle.sedck_text.specs.declared.cursor.Cursor.{Cursor}
+use Rattle.sedck_expressions.specs.Faults.{HasOneAt}
+use Rattle.sedck_expressions.specs.Private.Reading.{begins_pair}
+use Rattle.sedck_expressions.proofs.OffsetLemmas.{stands_at, stands_behind}
+use Rattle.sedck_expressions.specs.Tree.{Tree, Trees, Then, Nil, Seq, Group, Repeat}
+use Rattle.sedck_expressions.specs.WellFormed.{AreSound}
+use Rattle.sedck_expressions.specs.Shape.{Level, Position, SpellsItem, SpellsItems, SpellsCount, behind}
+use Rattle.sedck_expressions.specs.Misjudged.{has_part, one_has_part, is_reference, is_anchor, repeats_anchor, has_misjudged_reference, is_misjudged, IsMisjudgedAt}
+use Rattle.sedck_expressions.specs.Private.Along.{HasNone, StopsAt}
+use Rattle.sedck_expressions.specs.declared.fault.ReFault.{ReFault}
+use Rattle.sedck_expressions.specs.declared.fault.ReFault.TheVariants.{BadReference, NothingToRepeat}
+use Rattle.sedck_expressions.specs.declared.judging.Sought.{Sought}
+
+-- These items are left of the list, and the text from here on spells them; those before them have nothing that is sought.
+pub record IsLeft (sought : Sought) (level : Level) (after text : List ℕ) (all ts : Trees) : Type 0 where
+  pub position : Position
+  pub own : List ℕ
+  pub cut : text ≡ own ++ after
+  pub spelled : SpellsItems level position own ts
+  pub sound : AreSound ts
+  pub references : IsTrue sought.references → one_has_part is_reference ts ≡ one_has_part is_reference all
+  pub anchors : IsTrue sought.anchors → one_has_part is_anchor ts ≡ one_has_part is_anchor all
+  pub repeated : one_has_part repeats_anchor ts ≡ one_has_part repeats_anchor all
+
+pub left_first : (sought : Sought) (level : Level) (position : Position) (own after text : List ℕ) (ts : Trees) → text ≡ own ++ after
+    → SpellsItems level position own ts → AreSound ts → IsLeft sought level after text ts ts
+left_first sought level position own after text ts cut spelled sound = record {
+  position = position;
+  own = own;
+  cut = cut;
+  spelled = spelled;
+  sound = sound;
+  references = λ _. refl;
+  anchors = λ _. refl;
+  repeated = refl;
+}
+
+-- one item of the list is passed
+pub left_more : {sought : Sought} {level : Level} {after text : List ℕ} {all : Trees} (more : List ℕ) (t : Tree) (ts : Trees)
+    (left : IsLeft sought level after text all (Then t ts)) → more ≡ left.spelled.1 ++ after → HasNone sought t → IsLeft sought level after more all ts
+left_more more t ts left is none = record {
+  position = behind left.position t;
+  own = left.spelled.1;
+  cut = is;
+  spelled = left.spelled.4;
+  sound = left.sound.1;
+  references = λ s. sym (ap (λ b. b || one_has_part is_reference ts) (none.references s)) ∙ left.references s;
+  anchors = λ s. sym (ap (λ b. b || one_has_part is_anchor ts) (none.anchors s)) ∙ left.anchors s;
+  repeated = sym (ap (λ b. b || one_has_part repeats_anchor ts) none.repeated) ∙ left.repeated;
+}
+
+-- nothing of the list is left
+pub left_none : {sought : Sought} {level : Level} {after text : List ℕ} {all : Trees} → IsLeft sought level after text all Nil
+    → (text ≡ after) × HasNone sought (Seq all)
+left_none {after = after} left = (
+  left.cut ∙ ap (λ x. x ++ after) left.spelled,
+  record {
+    references = λ s. sym (left.references s);
+    anchors = λ s. sym (left.anchors s);
+    repeated = sym left.repeated;
+  },
+)
+
+pub none_group : {sought : Sought} (k : ℕ) (body : Tree) → HasNone sought body → HasNone sought (Group k body)
+none_group k body none = record { references = none.references; anchors = none.anchors; repeated = none.repeated }
+
+-- where also each anchor was sought in what is repeated
+pub none_repeat : {sought : Sought} (body : Tree) (least : ℕ) (most : Option ℕ) → HasNone (record sought { anchors = true }) body
+    → HasNone sought (Repeat body least most)
+none_repeat body least most none = record {
+  references = none.references;
+  anchors = λ _. none.anchors refl;
+  repeated = ap (λ b. b || has_part repeats_anchor body) (none.anchors refl) ∙ none.repeated;
+}
+
+or_true : (b : Bool) → (b || true) ≡ true
+or_true true = refl
+or_true false = refl
+
+nothing_misjudged : (reference by_group repeated anchor : Bool) → ((reference && by_group) ≡ true → reference ≡ false) → (reference ≡ true → anchor ≡ false)
+    → repeated ≡ false → ((reference && by_group) || (repeated || (reference && anchor))) ≡ false
+nothing_misjudged false by_group repeated anchor f g h = rw h refl
+nothing_misjudged true true repeated anchor f g h = absurd (cc (f refl))
+nothing_misjudged true false repeated anchor f g h = rw (h, g refl) refl
+
+-- so the expression isn't misjudged, where its first such reference or anchor was sought
+pub none_misjudged : (sought : Sought) (t : Tree) → sought.references ≡ has_misjudged_reference t → sought.anchors ≡ has_part is_reference t
+    → HasNone sought t → is_misjudged t ≡ false
+none_misjudged sought t references anchors none =
+    nothing_misjudged (has_part is_reference t) _ (has_part repeats_anchor t) (has_part is_anchor t) (λ e. none.references (references ∙ e))
+    (λ e. none.anchors (anchors ∙ e)) none.repeated
+
+-- what stops inside stops outside
+pub stops_group : (sought : Sought) (text : List ℕ) (k : ℕ) (body : Tree) (fault : ReFault) → StopsAt sought body text fault → StopsAt sought (Group k body) text fault
+stops_group sought text k body (BadReference offset) stop = stop
+stops_group sought text k body (NothingToRepeat offset) stop = stop
+stops_group sought text k body fault stop = absurd stop
+
+pub stops_repeat : (sought : Sought) (text : List ℕ) (body : Tree) (least : ℕ) (most : Option ℕ) (fault : ReFault)
+    → StopsAt (record sought { anchors = true }) body text fault → StopsAt sought (Repeat body least most) text fault
+stops_repeat sought text body least most (BadReference offset) stop = stop
+stops_repeat sought text body least most (NothingToRepeat offset) (at, inl (any, has)) = (at, inr (ap (λ b. b || has_part repeats_anchor body) has))
+stops_repeat sought text body least most (NothingToRepeat offset) (at, inr has) = (at, inr (ap (λ b. has_part is_anchor body || b) has ∙ or_true (has_part is_anchor body)))
+stops_repeat sought text body least most fault stop = absurd stop
+
+pub stops_all : (sought : Sought) (text : List ℕ) {level : Level} {after left : List ℕ} {all : Trees} (t : Tree) (ts : Trees) (fault : ReFault)
+    → IsLeft sought level after left all (Then t ts) → StopsAt sought t text fault → StopsAt sought (Seq all) text fault
+stops_all sought text t ts (BadReference offset) left stop = stop
+stops_all sought text t ts (NothingToRepeat offset) left (at, inl (any, has)) =
+    (at, inl (any, sym (left.anchors any) ∙ ap (λ b. b || one_has_part is_anchor ts) has))
+stops_all sought text t ts (NothingToRepeat offset) left (at, inr has) = (at, inr (sym left.repeated ∙ ap (λ b. b || one_has_part repeats_anchor ts) has))
+stops_all sought text t ts fault left stop = absurd stop
+
+-- the first reference or anchor that was sought is one for which the expression is misjudged
+pub stops_misjudged : (sought : Sought) (text : List ℕ) (t : Tree) (fault : ReFault) → sought.references ≡ has_misjudged_reference t
+    → sought.anchors ≡ has_part is_reference t → StopsAt sought t text fault → IsMisjudgedAt text t fault
+stops_misjudged sought text t (BadReference offset) references anchors stop = (stop.0, stop.1, sym references ∙ stop.2)
+stops_misjudged sought text t (NothingToRepeat offset) references anchors (at, inl (any, has)) =
+    (at, rw (sym anchors ∙ any, has) (or_true (has_part repeats_anchor t)))
+stops_misjudged sought text t (NothingToRepeat offset) references anchors (at, inr has) = (at, rw has refl)
+stops_misjudged sought text t fault references anchors stop = absurd stop
+
+-- ---- Signs, groups and references in the text
+
+pub star_left : (text after : List ℕ) (least : ℕ) (most : Option ℕ) → SpellsCount text least most → begins "*" (text ++ after) ≡ true
+    → drop 1 (text ++ after) ≡ after
+star_left text after least most count star = grind (arith, nat_tests)
+
+pub interval_opens : (text after : List ℕ) (least : ℕ) (most : Option ℕ) → SpellsCount text least most → begins "*" (text ++ after) ≡ false
+    → begins_pair 123 text ≡ true
+interval_opens text after least most count star = grind (arith, nat_tests)
+
+pub second_same : {A : Type 0} {a b : A} {x y : List ℕ} → ◌≡◌ {A = Option (A × List ℕ)} (Some (a, x)) (Some (b, y)) → x ≡ y
+second_same {A} {a = a} {x = x} e = ap (λ o. (unwrap_or {T = A × List ℕ} o (a, x)).1) e
+
+pub third_same : {A B : Type 0} {a c : A} {b d : B} {x y : List ℕ} → ◌≡◌ {A = Option (A × B × List ℕ)} (Some (a, b, x)) (Some (c, d, y)) → x ≡ y
+third_same {A} {B} {a = a} {b = b} {x = x} e = ap (λ o. (unwrap_or {T = A × B × List ℕ} o (a, b, x)).2) e
+
+-- the inside of a group, and what follows it
+pub group_cut : (text inside after : List ℕ) → text ≡ codes "\\(" ++ inside ++ codes "\\)" → drop 2 (text ++ after) ≡ inside ++ (92 ∷ 41 ∷ after)
+group_cut text inside after is = ap (λ x. drop 2 (x ++ after)) is ∙ append_assoc inside (codes "\\)") after
+
+pub reference_stands : (cursor : Cursor) (k : ℕ) (text after : List ℕ) → unread cursor ≡ text ++ after → 1 ≤ k → k ≤ 9
+    → text ≡ codes "\\" ++ (48 + k) ∷ [] → HasOneAt cursor.whole.now cursor.at "\\" × HasOneAt cursor.whole.now (cursor.at + 1) "123456789"
+reference_stands cursor k text after cut low high is =
+    let here : unread cursor ≡ 92 ∷ (48 + k) ∷ after = cut ∙ ap (λ x. x ++ after) is in
+    let next : drop (cursor.at + 1) cursor.whole.now ≡ (48 + k) ∷ after = sym (drop-drop 1 cursor.at cursor.whole.now) ∙ ap (drop 1) here in (
+      stands_at cursor "\\" (ap (begins "\\") here),
+      stands_behind cursor.whole.now (cursor.at + 1) "123456789" (ap (begins "123456789") next ∙ digit k low high),
+    )
+  where
+    digit : (k : ℕ) → 1 ≤ k → k ≤ 9 → begins "123456789" ((48 + k) ∷ after) ≡ true
+    digit k low high = grind (arith, nat_tests)
