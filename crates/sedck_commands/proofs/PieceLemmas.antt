@@ -1,12 +1,11 @@
 -- How far a delimited part has been read.
 use Rattle.std.proofs.Common.{◌≡◌, ◌≢◌, ℕ, ◌-◌, ◌<◌, ◌≤◌, take, length-append, Some, None, inl, inr, ◌⊎◌, List, [], ◌∷◌, ◌++◌, length, refl, ap, sym, ◌∙◌, subst, append_assoc, append-nil, arith}
-use Rattle.sedck_commands.specs.Parts.{DelimitedExpression, ExpressionText, DelimitedList, IsPattern, previous, expression}
+use Rattle.sedck_commands.specs.Parts.{DelimitedExpression, ExpressionText, DelimitedList, IsExpression, IsPattern, previous, expression}
 use Rattle.sedck_commands.specs.Parts as p
 use Rattle.sedck_commands.specs.declared.delimited.Piece.{Piece}
 use Rattle.sedck_commands.specs.declared.delimited.Piece.TheVariants as piece
 use Rattle.std.proofs.lemmas.Bool.Decides.{nat_tests}
 use Rattle.sedck_bre.specs.Tree.{Tree}
-use Rattle.sedck_bre.specs.Shape.{Shape}
 use Rattle.sedck_commands.specs.Program.{Pattern, Previous, Expression}
 use Rattle.sedck_commands.specs.Private.PieceReading.{IsPiece, IsReadUpTo, IsWrittenUpTo, list_escape, PatternText}
 use Rattle.sedck_text.specs.Cursors.{unread}
@@ -125,27 +124,27 @@ list_broken {b = b} n h k l e r x = let more = at_piece (piece.Pair b) _ (list_f
 pub pattern_none : {d : ℕ} {text bytes rest : List ℕ} → ExpressionText d text bytes rest → length bytes ≡ 0 → PatternText d text Previous rest
 pattern_none {d} {text} {bytes} {rest} x e = let none = nil_from_length bytes e in ([], subst (λ t. ExpressionText d text t rest) none x, previous)
 
-pub pattern_some : {d : ℕ} {text bytes rest : List ℕ} {tree : Tree} → ExpressionText d text bytes rest → 0 < length bytes → Shape bytes tree
+pub pattern_some : {d : ℕ} {text bytes rest : List ℕ} {tree : Tree} → ExpressionText d text bytes rest → 0 < length bytes → IsExpression bytes tree
     → PatternText d text (Expression tree) rest
 pattern_some {bytes = bytes} {tree = tree} x some s = (bytes, x, is_expression bytes some s)
   where
-    is_expression : (bytes : List ℕ) → 0 < length bytes → Shape bytes tree → IsPattern bytes (Expression tree)
+    is_expression : (bytes : List ℕ) → 0 < length bytes → IsExpression bytes tree → IsPattern bytes (Expression tree)
     is_expression [] some s = absurd (omega arith)
     is_expression (b ∷ bytes) some s = expression s
 
-no_pattern_by : (bytes : List ℕ) (pattern : Pattern) → 0 < length bytes → ((t : Tree) → Shape bytes t → ⊥) → IsPattern bytes pattern → ⊥
+no_pattern_by : (bytes : List ℕ) (pattern : Pattern) → 0 < length bytes → ((t : Tree) → IsExpression bytes t → ⊥) → IsPattern bytes pattern → ⊥
 no_pattern_by bytes pattern some n previous = omega arith
 no_pattern_by bytes pattern some n (expression s) = n _ s
 
 pub no_pattern : {d : ℕ} {text bytes rest r : List ℕ} (pattern : Pattern) → d ≢ 92 → ExpressionText d text bytes rest → 0 < length bytes
-    → ((t : Tree) → Shape bytes t → ⊥) → PatternText d text pattern r → ⊥
+    → ((t : Tree) → IsExpression bytes t → ⊥) → PatternText d text pattern r → ⊥
 no_pattern {bytes = bytes} pattern k x some n y = no_pattern_by bytes pattern some n (subst (λ t. IsPattern t pattern) (expression_one k y.1.cut x.cut).0 y.2)
 
 none_only : (q : Pattern) (bytes : List ℕ) → length bytes ≡ 0 → IsPattern bytes q → q ≡ Previous
 none_only q bytes e previous = refl
 none_only q bytes e (expression s) = absurd (omega arith)
 
-some_only : {tree : Tree} (q : Pattern) (bytes : List ℕ) → 0 < length bytes → ((t : Tree) → Shape bytes t → t ≡ tree) → IsPattern bytes q → q ≡ Expression tree
+some_only : {tree : Tree} (q : Pattern) (bytes : List ℕ) → 0 < length bytes → ((t : Tree) → IsExpression bytes t → t ≡ tree) → IsPattern bytes q → q ≡ Expression tree
 some_only q bytes some n previous = absurd (omega arith)
 some_only q bytes some n (expression {tree = t} s) = ap Expression (n t s)
 
@@ -154,5 +153,5 @@ pub pattern_none_only : {d : ℕ} {text bytes rest r : List ℕ} (q : Pattern) �
 pattern_none_only {bytes = bytes} q k x e y = let one = expression_one k y.1.cut x.cut in (none_only q bytes e (subst (λ t. IsPattern t q) one.0 y.2), one.1)
 
 pub pattern_some_only : {d : ℕ} {text bytes rest r : List ℕ} {tree : Tree} (q : Pattern) → d ≢ 92 → ExpressionText d text bytes rest
-    → 0 < length bytes → ((t : Tree) → Shape bytes t → t ≡ tree) → PatternText d text q r → (q ≡ Expression tree) × (r ≡ rest)
+    → 0 < length bytes → ((t : Tree) → IsExpression bytes t → t ≡ tree) → PatternText d text q r → (q ≡ Expression tree) × (r ≡ rest)
 pattern_some_only {bytes = bytes} q k x some n y = let one = expression_one k y.1.cut x.cut in (some_only q bytes some n (subst (λ t. IsPattern t q) one.0 y.2), one.1)

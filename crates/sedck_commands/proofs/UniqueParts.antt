@@ -75,7 +75,7 @@ expression_one n (p.pair {b = b} f g h x) y = let more = at_piece (piece.Pair b)
 -- an expression has one pattern, since it has one tree
 pub pattern_one : {text : List ℕ} {q r : Pattern} → IsPattern text q → IsPattern text r → q ≡ r
 pattern_one previous previous = refl
-pattern_one (expression h) (expression g) = ap Expression (one_tree _ _ _ h g)
+pattern_one (expression h) (expression g) = ap Expression (one_tree _ _ _ h.0 g.0)
 
 abbrev pub ListBehind : ℕ → List ℕ → List ℕ → Piece → List ℕ → Type 0
 ListBehind d e r piece.End rest = ([] ≡ e) × (rest ≡ r)

@@ -1,11 +1,12 @@
 -- What is at the offset of a fault in its text, this project's own.
-use Rattle.std.specs.Prelude.{◌≡◌, ◌≢◌, ℕ, ◌+◌, ◌-◌, ◌<◌, ◌≤◌, Bool, false, not, ◌||◌, ◌&&◌, ◌==◌, IsTrue, List, ◌∷◌, ◌++◌, length, Some, slice_get, take, drop, Contains, codes, ◌⊎◌}
+use Rattle.std.specs.Prelude.{◌≡◌, ◌≢◌, ℕ, ◌+◌, ◌-◌, ◌<◌, ◌≤◌, Bool, true, false, not, ◌||◌, ◌&&◌, ◌==◌, IsTrue, List, ◌∷◌, ◌++◌, length, Some, slice_get, take, drop, Contains, codes, ◌⊎◌}
 use Rattle.std.specs.List.{list_all}
 use Rattle.sedck_text.specs.Bytes.{ascii}
 use Rattle.sedck_text.specs.Text.{is_in, one_of}
 use Rattle.sedck_bre.specs.Tree.{Tree}
 use Rattle.sedck_bre.specs.Shape.{Shape}
 use Rattle.sedck_bre.specs.Faults as expressions
+use Rattle.sedck_expressions.specs.Misjudged.{is_misjudged, IsMisjudgedAt}
 use Rattle.sedck_expressions.specs.declared.fault.ReFault.{ReFault}
 use Rattle.sedck_commands.specs.Cuts.{backslash, is_blank, is_digit, is_label_byte, is_separator, is_ending, can_be_escaped, is_delimiter, Longest}
 use Rattle.sedck_commands.specs.BracketLists.{BracketList, BracketsClose}
@@ -70,6 +71,19 @@ FollowsByte test text offset =
 abbrev pub IsNoSecondAddress : List ℕ → ℕ → Type 0
 IsNoSecondAddress text offset = FollowsByte (one_of ",") text offset × EndsOrFails begins_address text offset
 
+-- the text spells no expression, for this cause
+pub record IsNoExpression (text : List ℕ) (cause : ReFault) : Type 0 where
+  pub of_text : expressions.IsOfText cause
+  pub placed : expressions.IsPlaced text cause
+  pub spelled : (tree : Tree) → Shape text tree → ⊥
+
+-- The text spells an expression that matchers of real seds get wrong, and the cause is at a reference or an anchor of it.
+pub record IsMisjudged (text : List ℕ) (cause : ReFault) : Type 0 where
+  pub tree : Tree
+  pub spelled : Shape text tree
+  pub misjudged : is_misjudged tree ≡ true
+  pub placed : IsMisjudgedAt text tree cause
+
 -- An expression begins at the offset, right after its opening delimiter. With its escaped delimiters replaced it is
 -- refused for this cause, whose offset is one in that expression.
 pub record IsRefusedExpression (text : List ℕ) (offset : ℕ) (cause : ReFault) : Type 0 where
@@ -80,9 +94,7 @@ pub record IsRefusedExpression (text : List ℕ) (offset : ℕ) (cause : ReFault
   pub expression : List ℕ
   pub rest : List ℕ
   pub written : ExpressionText delimiter (drop offset text) expression rest
-  pub of_text : expressions.IsOfText cause
-  pub placed : expressions.IsPlaced expression cause
-  pub refused : (tree : Tree) → Shape expression tree → ⊥
+  pub refused : IsNoExpression expression cause ⊎ IsMisjudged expression cause
 
 -- neither an address nor a verb, whole with what it takes, can be read from the offset on
 unfoldable pub IsUnread : List ℕ → ℕ → Type 0

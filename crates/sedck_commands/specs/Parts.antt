@@ -3,8 +3,9 @@
 use Rattle.std.specs.Prelude.{◌≡◌, ◌≢◌, ℕ, ◌<◌, ◌≤◌, ◌^◌, ◌-◌, Bool, true, false, not, ◌&&◌, ◌||◌, ◌==◌, if◌then◌else◌, List, [], ◌∷◌, ◌++◌, length, Some, None, IsTrue, Contains, ◌⊎◌}
 use Rattle.std.specs.Str.Parse.{digits_value}
 use Rattle.sedck_text.specs.Text.{is_in, one_of, begins}
-use Rattle.sedck_bre.specs.Tree.{group_count}
+use Rattle.sedck_bre.specs.Tree.{Tree, group_count}
 use Rattle.sedck_bre.specs.Shape.{Shape}
+use Rattle.sedck_expressions.specs.Misjudged.{is_misjudged}
 use Rattle.sedck_bre.specs.Brackets.{is_from}
 use Rattle.sedck_text.specs.Bytes.{vertical_tab, carriage_return, ascii}
 pub use Rattle.sedck_text.specs.Classes.{is_plain}
@@ -62,10 +63,14 @@ pub record ExpressionText (delimiter : ℕ) (text expression rest : List ℕ) : 
   pub cut : DelimitedExpression delimiter text expression rest
   pub as_written : IsTrue (is_misread delimiter expression) → text ≡ expression ++ delimiter ∷ rest
 
+-- the text spells the expression, and it is none that matchers of real seds get wrong (ours)
+abbrev pub IsExpression : List ℕ → Tree → Type 0
+IsExpression text tree = Shape text tree × (is_misjudged tree ≡ false)
+
 -- the pattern of an expression: the empty one stands for another of the script
 pub data IsPattern : List ℕ → Pattern → Type 0 where
   previous : IsPattern [] Previous
-  expression : {b : ℕ} {bytes : List ℕ} {tree : _} → Shape (b ∷ bytes) tree → IsPattern (b ∷ bytes) (Expression tree)
+  expression : {b : ℕ} {bytes : List ℕ} {tree : _} → IsExpression (b ∷ bytes) tree → IsPattern (b ∷ bytes) (Expression tree)
 
 -- One list of a `y` command after its opening delimiter.
 pub data DelimitedList (delimiter : ℕ) : List ℕ → List ℕ → List ℕ → Type 0 where

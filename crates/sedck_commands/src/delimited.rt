@@ -1,11 +1,12 @@
 //! Parts between delimiters, and bracket lists in them.
 
-ghost use Rattle.std.specs.Prelude.{◌≡◌, ◌<◌, ◌-◌, ◌∷◌, ℕ, List, IsTrue, IfOk, IfErr, ◌==◌, not, [], IfSome, IfNone};
+ghost use Rattle.std.specs.Prelude.{◌≡◌, ◌<◌, ◌-◌, ◌∷◌, ℕ, List, IsTrue, IfOk, IfErr, ◌⊎◌, ◌==◌, not, [], IfSome, IfNone};
 ghost use Rattle.std.specs.Cow.{cow_slice_items};
 ghost use Rattle.sedck_text.specs.Bytes.{ascii};
 ghost use Rattle.sedck_commands.specs.Cuts.{is_delimiter, Longest};
-ghost use Rattle.sedck_commands.specs.Parts.{DelimitedExpression, begins_firmly, has_loose_quote, is_misread, ExpressionText, DelimitedList, FirstList};
-ghost use Rattle.sedck_commands.specs.Faults.{StandsAt, IsRefusedExpression, IsOfText};
+ghost use Rattle.sedck_bre.specs.Tree.{Tree};
+ghost use Rattle.sedck_commands.specs.Parts.{DelimitedExpression, IsExpression, begins_firmly, has_loose_quote, is_misread, ExpressionText, DelimitedList, FirstList};
+ghost use Rattle.sedck_commands.specs.Faults.{StandsAt, IsNoExpression, IsMisjudged, IsRefusedExpression, IsOfText};
 ghost use Rattle.sedck_text.specs.Cursors.{unread, Follows};
 ghost use Rattle.sedck_commands.specs.View.{pattern_of};
 ghost use Rattle.sedck_commands.specs.Private.PieceReading.{IsPiece, PatternText, IsWrittenUpTo, IsFirstEscape, IsPartPlaced, list_escape};
@@ -17,7 +18,8 @@ ghost use Rattle.sedck_commands.specs.Program as clean;
 use crate::bytes::{can_be_escaped, is_digit, is_letter};
 use crate::fault::ScriptFault;
 use crate::types::Pattern;
-use sedck_bre::{ReFault, parse};
+use sedck_bre::{Expr, ReFault, parse};
+use sedck_expressions::misjudged;
 use sedck_text::{Class, Cursor};
 use std::alloc::Global;
 use std::borrow::CowSlice;
@@ -233,6 +235,20 @@ fn expression_fault(place: usize, fault: ReFault) -> ScriptFault
     }
 }
 
+/// The expression that the text spells, where matchers of real seds don't get it wrong.
+fn read_judged(alloc: Global, text: &[u8]) -> Result<Expr, ReFault>
+    ensures read { IfOk result (λ e. IsExpression text.now e) }
+    ensures only { IfOk result (λ e. (t : Tree) → IsExpression text.now t → t ≡ e) }
+    ensures none { IfErr result (λ fault. expressions.IsOfText fault → (t : Tree) → IsExpression text.now t → ⊥) }
+    ensures refused { IfErr result (λ fault. expressions.IsOfText fault → IsNoExpression text.now fault ⊎ IsMisjudged text.now fault) }
+{
+    let expression = parse(alloc, text)?;
+    match misjudged(text, expression.body()) {
+        None => Ok(expression),
+        Some(fault) => Err(fault),
+    }
+}
+
 /// The pattern up to the first delimiter that no backslash escapes, and what follows it.
 pub fn read_pattern<'a>(
     alloc: Global,
@@ -253,7 +269,7 @@ pub fn read_pattern<'a>(
     if bytes.is_empty() {
         return Ok((Pattern::Previous, rest));
     }
-    match parse(alloc, bytes) {
+    match read_judged(alloc, bytes) {
         Ok(expression) => Ok((Pattern::Expr(expression), rest)),
         Err(fault) => Err(expression_fault(text.offset(), fault)),
     }

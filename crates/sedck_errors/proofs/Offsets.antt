@@ -9,7 +9,7 @@ use Rattle.sedck_bre.specs.FaultWords as words
 use Rattle.sedck_expressions.specs.declared.fault.ReFault.{ReFault}
 use Rattle.sedck_expressions.specs.declared.fault.ReFault.TheVariants as cause
 use Rattle.sedck_script.specs.Cuts.{backslash}
-use Rattle.sedck_script.specs.Faults.{StandsAt, IsPlaced, IsRefusedExpression}
+use Rattle.sedck_script.specs.Faults.{StandsAt, IsPlaced, IsNoExpression, IsMisjudged, IsRefusedExpression}
 use Rattle.sedck_commands.specs.declared.fault.ScriptFault.{ScriptFault}
 use Rattle.sedck_commands.specs.declared.fault.ScriptFault.TheVariants.{BadExpression}
 use Rattle.sedck_script.specs.Parts.{DelimitedExpression}
@@ -163,6 +163,14 @@ cause_inside expression (cause.TooDeep place) of_text placed = (place, refl, pla
 cause_inside expression (cause.TooManyGroups place) of_text placed = (place, refl, placed.0)
 cause_inside expression cause.OutOfMemory of_text placed = absurd of_text
 
+-- an expression that matchers get wrong is refused at one of its bytes, too
+refused_inside : (expression : List ℕ) (why : ReFault) → IsNoExpression expression why ⊎ IsMisjudged expression why
+    → (index : ℕ) × (words.fault_place why ≡ Some index) × (index < length expression)
+refused_inside expression why (inl none) = cause_inside expression why none.of_text none.placed
+refused_inside expression (cause.BadReference place) (inr judged) = (place, refl, judged.placed.0.0)
+refused_inside expression (cause.NothingToRepeat place) (inr judged) = (place, refl, judged.placed.0.0)
+refused_inside expression why (inr judged) = absurd judged.placed
+
 -- so the walk finds the offset of the fault
 pub fault_offset : (text : List ℕ) (why : ScriptFault) (place : ℕ) (cause : ReFault) (index offset : ℕ) → why ≡ BadExpression place cause → IsPlaced text why
     → index ≡ unwrap_or (words.fault_place cause) 0
@@ -171,7 +179,7 @@ pub fault_offset : (text : List ℕ) (why : ScriptFault) (place : ℕ) (cause : 
     → IsFaultOffset text why offset
 fault_offset text why place cause index offset is placed by_place found =
     let refused : IsRefusedExpression text place cause = subst (IsPlaced text) is placed in
-    let inside = cause_inside refused.expression cause refused.of_text refused.placed in
+    let inside = refused_inside refused.expression cause refused.refused in
     let same : index ≡ inside.0 = by_place ∙ ap (λ o. unwrap_or o 0) inside.1 in
     let at = found refused.delimiter refused.expression refused.rest refused.opened refused.written.cut (omega (arith, same, inside.2)) in
     rw is (refused, (inside.0, inside.1, at ∙ ap (λ k. place + bytes_before refused.written.cut k) same))
