@@ -2,6 +2,7 @@
 
 use crate::bytes::{is_blank, without_blanks};
 use crate::escapes::escape_hint;
+use crate::misjudged::{is_misjudged, misjudged_hint};
 use crate::reading::{Place, Reading};
 use crate::spot::{Spot, behind_part};
 use sedck_bre::ReFault;
@@ -171,6 +172,9 @@ fn following_hint(spot: Spot) -> &'static str {
 }
 
 fn expression_hint(fault: ReFault, spot: Spot) -> Option<&'static str> {
+    if is_misjudged(fault, spot) {
+        return Some(misjudged_hint(fault));
+    }
     match fault {
         ReFault::BadEscape { .. } => Some(escape_hint(spot)),
         ReFault::UnclosedBracket { .. } => Some(unclosed_hint(spot)),

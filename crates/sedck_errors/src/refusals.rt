@@ -10,7 +10,8 @@ ghost use Rattle.sedck_errors.specs.Private.Errors.{is_escaped, is_pair};
 
 use crate::ends::fault_length;
 use sedck_advice::{
-    Mend, Spot, has_escaped_text, has_open_class, other_kind, script_hint, script_mend,
+    Mend, Spot, has_escaped_text, has_open_class, is_misjudged, misjudged_reason, other_kind,
+    script_hint, script_mend,
 };
 use sedck_bre::ReFault;
 use sedck_report::{Code, Finding, Fix, Level, NewText, end_behind, position_at, skipped};
@@ -183,6 +184,9 @@ fn extra_reason(rest: &[u8]) -> &'static str {
 
 /// Why the text is no expression.
 fn expression_reason(fault: ReFault, spot: Spot) -> &'static str {
+    if is_misjudged(fault, spot) {
+        return misjudged_reason(fault);
+    }
     match fault {
         ReFault::TrailingBackslash { .. } => "the expression ends in a backslash",
         ReFault::BadEscape { .. } => {
