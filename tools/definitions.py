@@ -361,7 +361,7 @@ flow.Run flow.Substitutes flow.Patterns
 bre.Match expressions.Tree
 commands.Program script.Names
 script.Spelling commands.Items script.Resolution commands.Parts commands.BracketLists commands.Cuts
-expressions.Shape expressions.Brackets expressions.WellFormed text.Classes text.Runs text.Text text.Bytes
+expressions.Shape expressions.Brackets expressions.WellFormed expressions.Misjudged text.Classes text.Runs text.Text text.Bytes
 cert.Ranked flow.Flow flow.Nodes commands.References bre.Rests
 cert.Certificate cert.Text cert.Versions cert.VersionOne
 cert.Everywhere flow.WideRun bre.WideMatch script.ByteSafe
