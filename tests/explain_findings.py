@@ -43,6 +43,8 @@ RANGES = [
     (b"s/a*\\{2\\}b/x/\n", [("double-repeat", b"\\{2\\}")]),
     (b"s/a**/x/\n", [("double-repeat", b"*")]),
     (b"s/\\1/x/\n", [("bad-reference", b"\\1")]),
+    (b"s/\\(a\\)*\\(b\\)\\2/x/\n", [("bad-reference", b"\\2")]),
+    (b"s/\\(^a\\)*b/x/\n", [("nothing-to-repeat", b"^")]),
     # the whole command, but no blanks behind it and no second line
     (b":a\n  1!b a ;p\n", [("loop-idle", b":a"), ("label-to-the-line-end", b";p")]),
     (b"p\n:a\ns/x/xx/g ;ta\n", [("loop-growing", b"s/x/xx/g")]),

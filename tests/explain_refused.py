@@ -40,6 +40,14 @@ LABEL = "a label consists of letters, digits, `_`, `.` and `-`"
 SEPARATED = "end each command with a newline or a `;`"
 
 # the script; the line and the column; the code, the message, and the hint where there is one
+REFERENCE = ("seds get this reference wrong: a group is repeated, or the one that it names has a reference in it, or may match nothing "
+             "and it is repeated")
+NO_GROUP = ("repeat bytes and lists in place of groups, as `a*` for `\\(a\\)*`, or split the command in two; "
+            "a group whose reference is repeated needs a byte")
+ANCHOR = "seds get this anchor wrong: its group is repeated, or the expression has a reference"
+OUTSIDE = ("an anchor holds in one place: move it out of the group, as in `^\\(a\\)`, if that is meant; "
+           "a literal one is written `\\^` or `\\$`")
+
 REFUSED = [
     (b"p\n" * 524288 + b"p", 524289, 1, "too-long", "the script is longer than 1,048,576 bytes", SPLIT),
     (b"p\n\tp\0p\n", 2, 3, "nul-byte", "a script can't contain a NUL byte", None),
@@ -142,6 +150,13 @@ REFUSED = [
      "for a literal brace write `{`; else put what is to be repeated before it"),
     (b"s/a*\\{2\\}/x/\n", 1, 5, "double-repeat", "this is already repeated, and can't be repeated again", AGAIN),
     (b"s/\\1/x/\n", 1, 3, "bad-reference", "no group with this number is closed before this reference", None),
+    (b"s/\\(a\\1\\)/x/\n", 1, 6, "bad-reference", "no group with this number is closed before this reference", None),
+    (b"s/\\(a\\)\\2\\(b\\)/x/\n", 1, 8, "bad-reference", "no group with this number is closed before this reference", None),
+    (b"s/\\(a\\)*\\(b\\)\\2/x/\n", 1, 14, "bad-reference", REFERENCE, NO_GROUP),
+    (b"s,\\(\\(\\,\\)\\2\\)\\1,x,\n", 1, 11, "bad-reference", REFERENCE, NO_GROUP),
+    (b"/x/,/[\\(]\\(a*\\)\\1*/p\n", 1, 16, "bad-reference", REFERENCE, NO_GROUP),
+    (b"s/\\(^a\\)*b/x/\n", 1, 5, "nothing-to-repeat", ANCHOR, OUTSIDE),
+    (b"s/\\(a$\\)\\1/x/\n", 1, 6, "nothing-to-repeat", ANCHOR, OUTSIDE),
     (b"s/" + b"\\(" * 33 + b"\\)" * 33 + b"/x/\n", 1, 67, "too-deep", "this group is inside 32 others, which is the limit", None),
     (b"s/" + b"\\(\\)" * 100 + b"/x/\n", 1, 399, "too-many-groups", "this is the hundredth group, one more than an expression may have", None),
 ]

@@ -54,6 +54,6 @@ pub(crate) fn misjudged_hint(fault: ReFault) -> &'static str {
             "repeat bytes and lists in place of groups, as `a*` for `\\(a\\)*`, or split the command in two; a group whose reference is repeated needs a byte"
         }
         _ =>
-            "move the anchor out of the group, as in `^\\(a\\)`; a literal one is written `\\^` or `\\$`",
+            "an anchor holds in one place: move it out of the group, as in `^\\(a\\)`, if that is meant; a literal one is written `\\^` or `\\$`",
     }
 }
