@@ -4,6 +4,7 @@
 mod bounding;
 mod certificate;
 mod checking;
+mod falling;
 pub mod laws;
 mod limits;
 mod reading;
@@ -16,6 +17,7 @@ mod writing;
 pub use bounding::{bound, first_growth, limit};
 pub use certificate::Cert;
 pub use checking::{Rejection, Verdict, check};
+pub use falling::limit_by_lines;
 pub use limits::Bound;
 pub use reading::{CertFault, read_any, read_cert, read_cert_one};
 pub use verifying::{Fault, Judged, judge, verify};
