@@ -16,6 +16,9 @@ pub mod NamesListed
 pub mod CheckingLemmas
 pub mod BoundingLemmas
 pub mod FallingLemmas
+pub mod HoldKept
+pub mod SpacesCounted
+pub mod SpaceLemmas
 pub mod TextLength
 pub mod Upgraded
 pub mod UpgradeLaw
