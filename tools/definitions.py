@@ -366,7 +366,7 @@ cert.Ranked flow.Flow flow.Nodes commands.References bre.Rests
 cert.Certificate cert.Text cert.Versions cert.VersionOne
 cert.Everywhere flow.WideRun bre.WideMatch script.ByteSafe
 cert.Rejections
-cert.Bounds cert.StepLimit flow.Spaces
+cert.Bounds cert.SpaceLimit cert.Limits cert.StepLimit flow.Spaces
 text.Cursors model.Spots model.States
 search.Found search.Obstacle search.Rows search.NodeSet flow.VersionOne flow.LiteralKinds search.VersionOne
 commands.Locations plain.Plain
@@ -395,6 +395,8 @@ PARTS = [
         ("The fault of a text that is refused", [("sedck_cert", "judge", ("reported",)), ("sedck_cert", "verify", ("reported",))]),
     ], [
         ("The bound", [("sedck_cert", "bound", None), ("sedck_cert", "steady_runs_are_counted", None)]),
+        ("The other limits", [("sedck_cert", "limit_by_lines", None), ("sedck_cert", "falling_runs_are_counted", None), ("sedck_cert", "space_limit", None),
+         ("sedck_cert", "limits_of", None), ("sedck_cert", "Limits*", None)]),
         ("The search", [("sedck_search", "search", None), ("sedck_search", "count_bits", None)]),
         ("Readers and faults", [("sedck_expressions", "read_tree", None), ("sedck_bre", "parse", None), ("sedck_commands", "read_items", None), ("sedck_script", "parse", None), ("sedck_cert", "read_cert", None), ("sedck_cert", "read_any", None),
          ("sedck_expressions", "ReFault*", None), ("sedck_commands", "ScriptFault*", None), ("sedck_cert", "CertFault*", None)]),

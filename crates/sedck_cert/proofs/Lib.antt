@@ -10,10 +10,15 @@ pub mod LineLemmas
 pub mod CutLemmas
 pub mod RanksBoundRuns
 pub mod SteadyRunsCounted
+pub mod FallingRunsCounted
 pub mod Promise
 pub mod NamesListed
 pub mod CheckingLemmas
 pub mod BoundingLemmas
+pub mod FallingLemmas
+pub mod HoldKept
+pub mod SpacesCounted
+pub mod SpaceLemmas
 pub mod TextLength
 pub mod Upgraded
 pub mod UpgradeLaw

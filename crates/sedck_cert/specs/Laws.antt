@@ -11,7 +11,7 @@ use Rattle.sedck_cert.specs.Certificate.{Certificate, IsCertificate}
 use Rattle.sedck_cert.specs.Text.{text_in}
 use Rattle.sedck_cert.specs.declared.versions.Version.{Version}
 use Rattle.sedck_cert.specs.declared.versions.Version.TheVariants.{One, Two}
-use Rattle.sedck_cert.specs.Ranked.{ranks_at, IsRanked, Accepts, IsSteady, ListsNames}
+use Rattle.sedck_cert.specs.Ranked.{ranks_at, IsRanked, Accepts, IsSteady, IsFalling, ListsNames}
 use Rattle.sedck_cert.specs.VersionOne.{ranks_at_one, AcceptsOne, upgraded}
 use Rattle.sedck_flow.specs.VersionOne.{plain_node}
 use Rattle.sedck_flow.specs.declared.graph.Node.{Node}
@@ -45,6 +45,20 @@ RanksBoundWideRuns = (p : Program) → AreWellFormed p → (c : Certificate) →
 abbrev pub SteadyWideRunsAreCounted : Type 0
 SteadyWideRunsAreCounted = (p : Program) → AreWellFormed p → (c : Certificate) → IsSteady p c
     → (d : ℕ) (files : Files) (steps : List (Event × WideState)) → WideRun p d files steps → length steps ≤ steady_limit c (all_lines files)
+
+-- the steps that a falling script takes at most, by the number of the lines alone
+abbrev pub falling_limit : Certificate → List (List ℕ) → ℕ
+falling_limit c lines = (greatest_first c.ranks + 1) * length lines + 1
+
+-- no run of a falling script has more steps
+abbrev pub FallingRunsAreCounted : Type 0
+FallingRunsAreCounted = (p : Program) → AreWellFormed p → (c : Certificate) → IsFalling p c
+    → (lines : List (List ℕ)) (steps : List (Event × State)) → Run p lines steps → length steps ≤ falling_limit c lines
+
+-- nor has a wide run, by the lines of all files
+abbrev pub FallingWideRunsAreCounted : Type 0
+FallingWideRunsAreCounted = (p : Program) → AreWellFormed p → (c : Certificate) → IsFalling p c
+    → (d : ℕ) (files : Files) (steps : List (Event × WideState)) → WideRun p d files steps → length steps ≤ falling_limit c (all_lines files)
 
 -- upgrading gives both nodes of a place and flag the ranks of that place and flag, or none where it has none
 abbrev pub UpgradesKeepRanks : Type 0

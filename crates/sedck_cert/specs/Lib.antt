@@ -17,6 +17,8 @@ pub mod Ranked
 pub mod Rejections
 pub mod Bounds
 pub mod StepLimit
+pub mod SpaceLimit
+pub mod Limits
 pub mod Faults
 pub mod FaultText
 pub mod Streams

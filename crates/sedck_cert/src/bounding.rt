@@ -90,7 +90,7 @@ fn bound_of(cert: &Cert) -> Bound
 }
 
 /// The greatest first rank and the greatest second rank.
-fn greatest(ranks: &[Option<(u16, u16)>]) -> (u16, u16)
+pub(crate) fn greatest(ranks: &[Option<(u16, u16)>]) -> (u16, u16)
     ensures first { result.0 ≡ greatest_first ranks.now }
     ensures second { result.1 ≡ greatest_second ranks.now }
 {

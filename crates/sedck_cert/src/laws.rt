@@ -1,6 +1,6 @@
 //! What is proved of certificates and runs alone. The functions do nothing: their contracts are the laws.
 
-ghost use Rattle.sedck_cert.specs.Laws.{NamesAreListed, RanksBoundRuns, SteadyRunsAreCounted, RanksBoundWideRuns, SteadyWideRunsAreCounted, TextsAreLimited, UpgradesAreAccepted, UpgradesKeepRanks};
+ghost use Rattle.sedck_cert.specs.Laws.{NamesAreListed, RanksBoundRuns, SteadyRunsAreCounted, RanksBoundWideRuns, SteadyWideRunsAreCounted, FallingRunsAreCounted, FallingWideRunsAreCounted, TextsAreLimited, UpgradesAreAccepted, UpgradesKeepRanks};
 
 /// The sorted names of a script are the one list of just the names that its commands name.
 pub fn names_are_listed()
@@ -29,6 +29,18 @@ pub fn ranks_bound_wide_runs()
 #[tactic(auto, using(crate::proofs::SteadyRunsCounted::wide_steady_counted))]
 pub fn steady_wide_runs_are_counted()
     ensures { SteadyWideRunsAreCounted }
+{}
+
+/// No run of a falling script has more steps than its limit, which grows with the number of the input's lines alone.
+#[tactic(auto, using(crate::proofs::FallingRunsCounted::falling_counted))]
+pub fn falling_runs_are_counted()
+    ensures { FallingRunsAreCounted }
+{}
+
+/// No wide run of a falling script has more steps than its limit for the number of the lines of all files.
+#[tactic(auto, using(crate::proofs::FallingRunsCounted::wide_falling_counted))]
+pub fn falling_wide_runs_are_counted()
+    ensures { FallingWideRunsAreCounted }
 {}
 
 /// No certificate's text has more than 1,388,247 bytes, and none of version 1 more than 1,202,051.

@@ -1,0 +1,50 @@
+-- The limit of a falling script: its numbers, and the edges that lower the first rank.
+use Rattle.std.proofs.Common.{◌≡◌, List, [], ◌∷◌, ◌++◌, Contains, refl, arith, append_assoc}
+use Rattle.std.proofs.lemmas.List.{append-nil}
+use Rattle.std.proofs.lemmas.List.Elements.{All-from_recursion, All-contains, Contains-append_right}
+use Rattle.std.specs.List.{AllByRecursion}
+use Rattle.sedck_script.proofs.SortedNames.{all_append}
+use Rattle.sedck_script.specs.Invariant.{AreWellFormed}
+use Rattle.sedck_script.specs.Program.{Program}
+use Rattle.sedck_flow.specs.Flow.{ListsEdges}
+use Rattle.sedck_flow.specs.declared.graph.Edge.{Edge}
+use Rattle.sedck_cert.specs.Certificate.{Certificate}
+use Rattle.sedck_cert.specs.Ranked.{LowersFirst, AllLowerFirst, IsFalling}
+use Rattle.sedck_cert.specs.Bounds.{IsBoundByLines, BoundsRuns}
+use Rattle.sedck_cert.specs.Everywhere.{BoundsWideRuns}
+use Rattle.sedck_cert.specs.declared.limits.Bound.{Bound}
+use Rattle.sedck_cert.proofs.FallingRunsCounted.{falling_counted, wide_falling_counted}
+
+-- the edges are these, of which those so far lower the first rank
+pub record LowerUpTo (c : Certificate) (IsEdge : Edge → Type 0) (done coming : List Edge) : Type 0 where
+  pub listed : ListsEdges (done ++ coming) IsEdge
+  pub lower : AllByRecursion (LowersFirst c) done
+
+-- one of the edges doesn't
+pub one_stays : (c : Certificate) (IsEdge : Edge → Type 0) (done coming : List Edge) (e : Edge) → ListsEdges (done ++ e ∷ coming) IsEdge
+    → ¬ LowersFirst c e → ¬ AllLowerFirst c IsEdge
+one_stays c IsEdge done coming e listed stays all =
+    stays (all e ((listed.same e).0 (Contains-append_right done (e ∷ coming) e (0, omega arith, refl))))
+
+-- one edge more does
+pub one_more : (c : Certificate) (IsEdge : Edge → Type 0) (done coming : List Edge) (e : Edge) → ListsEdges (done ++ e ∷ coming) IsEdge
+    → AllByRecursion (LowersFirst c) done → LowersFirst c e → LowerUpTo c IsEdge (done ++ e ∷ []) coming
+one_more c IsEdge done coming e listed lower one = record {
+  listed = rw append_assoc listed;
+  lower = all_append (LowersFirst c) done (e ∷ []) lower (one, tt);
+}
+
+-- all of them do
+pub all_done : (c : Certificate) (IsEdge : Edge → Type 0) (done coming : List Edge) → LowerUpTo c IsEdge done coming → coming ≡ []
+    → AllLowerFirst c IsEdge
+all_done c IsEdge done coming up none e is_edge =
+    let among : Contains done e = rw (none, append-nil) at (up.listed.same e).1 is_edge in
+    All-contains (LowersFirst c) done e (All-from_recursion (LowersFirst c) done up.lower) among
+
+pub bounds_runs : (p : Program) → AreWellFormed p → (c : Certificate) (b : Bound) → IsFalling p c → IsBoundByLines c b → BoundsRuns p b
+bounds_runs p formed c b falling numbers lines steps run =
+    rw (numbers.per_byte, numbers.per_line, numbers.fixed) (omega (arith, falling_counted p formed c falling lines steps run))
+
+pub bounds_wide_runs : (p : Program) → AreWellFormed p → (c : Certificate) (b : Bound) → IsFalling p c → IsBoundByLines c b → BoundsWideRuns p b
+bounds_wide_runs p formed c b falling numbers safe d files steps run =
+    rw (numbers.per_byte, numbers.per_line, numbers.fixed) (omega (arith, wide_falling_counted p formed c falling d files steps run))

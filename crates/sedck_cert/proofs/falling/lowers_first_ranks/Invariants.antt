@@ -1,0 +1,9 @@
+use Rattle.std.proofs.Common.{◌<◌}
+use Rattle.sedck_flow.specs.Nodes.{node_index}
+use Rattle.sedck_flow.specs.Flow.{Flow}
+use Rattle.sedck_cert.specs.Ranked.{AllLowerFirst}
+use Rattle.sedck_cert.proofs.falling.lowers_first_ranks.Given as goal
+
+-- the edges that leave the nodes so far lower the first rank
+abbrev pub invariant-loop-index : goal.invariant-loop-index
+invariant-loop-index l = AllLowerFirst l.cert (λ e. Flow l.script e × (node_index e.from < l.index))
