@@ -1,10 +1,10 @@
 //! Which of the parts that matchers get wrong a tree has.
 
-ghost use Rattle.std.specs.Prelude.{◌≡◌, ℕ, Option, map};
+ghost use Rattle.std.specs.Prelude.{◌≡◌, ℕ, Option, min, map, nat_lt, sum_by, false};
 ghost use Rattle.std.specs.List.{list_any};
 ghost use Rattle.sedck_expressions.specs.Tree.{trees};
 ghost use Rattle.sedck_expressions.specs.View.{tree};
-ghost use Rattle.sedck_expressions.specs.Misjudged.{has_part, one_has_part, is_group, is_reference_to, may_be_empty, all_may_be_empty, is_misjudged_group, has_misjudged_reference, has_misjudged_anchor};
+ghost use Rattle.sedck_expressions.specs.Misjudged.{has_part, one_has_part, is_group, is_reference_to, may_be_empty, all_may_be_empty, is_misjudged_group, references_to, all_references_to, references_to_nothing, is_end, is_end_last, ends_in_anchor, has_two_to_nothing, has_misjudged_reference, has_misjudged_anchor};
 ghost use Rattle.sedck_expressions.specs.Tree as spec;
 ghost use Rattle.sedck_expressions.specs.Private.Parts.{is_part};
 
@@ -130,9 +130,10 @@ fn is_repeated_part(body: &Bre, part: Part) -> bool
 fn is_misjudged_group(whole: &Bre, k: u8) -> bool
     ensures { result ≡ is_misjudged_group (tree whole.now) k }
 {
-    (has_part(whole, Part::ReferenceTo(k)) && has_part(whole, Part::GroupWithReference(k)))
-        || (has_part(whole, Part::RepeatedReferenceTo(k))
-            && has_part(whole, Part::GroupOfNothing(k)))
+    has_part(whole, Part::ReferenceTo(k))
+        && (has_part(whole, Part::GroupWithReference(k))
+            || (has_part(whole, Part::RepeatedReferenceTo(k))
+                && has_part(whole, Part::GroupOfNothing(k))))
 }
 
 /// Whether a reference to one of the groups is misjudged by what the group is.
@@ -142,13 +143,98 @@ fn is_one_misjudged(whole: &Bre, groups: &[u8]) -> bool
     groups.iter().any(|k| is_misjudged_group(whole, *k))
 }
 
+/// How many references there are to the group; 2 stands for more.
+#[cycle(counts)]
+fn references_to(expression: &Bre, group: u8) -> u8
+    ensures { result ≡ min (references_to group (tree expression.now)) 2 }
+{
+    match expression {
+        Bre::Ref(k) => u8::from(*k == group),
+        Bre::Group(_, body) => references_to(body, group),
+        Bre::Seq(items) => all_references_to(items, group),
+        Bre::Repeat { body, .. } => references_to(body, group),
+        Bre::Byte(_) => 0,
+        Bre::Any => 0,
+        Bre::Set(_) => 0,
+        Bre::Start => 0,
+        Bre::End => 0,
+        Bre::Maybe(_) => 0,
+    }
+}
+
+#[cycle(counts)]
+fn all_references_to(items: &[Bre], group: u8) -> u8
+    ensures { result ≡ min (all_references_to group (trees (map tree items.now))) 2 }
+{
+    let mut total = 0;
+    for item in items {
+        total = (total + references_to(item, group)).min(2);
+    }
+    total
+}
+
+/// How many there are to the group where it may match nothing; 2 stands for more.
+fn references_to_nothing(whole: &Bre, k: u8) -> u8
+    ensures { result ≡ min (references_to_nothing (tree whole.now) k) 2 }
+{
+    if has_part(whole, Part::GroupOfNothing(k)) {
+        return references_to(whole, k);
+    }
+    0
+}
+
+/// Whether there are two or more to those of the groups that may match nothing.
+fn are_two_to_nothing(whole: &Bre, groups: &[u8]) -> bool
+    ensures { result ≡ nat_lt 1 (sum_by (references_to_nothing (tree whole.now)) groups.now) }
+{
+    let mut total = 0;
+    for k in groups {
+        total = (total + references_to_nothing(whole, *k)).min(2);
+    }
+    total > 1
+}
+
+/// Whether the last item of the expression is a `$`.
+fn ends_in_anchor(expression: &Bre) -> bool
+    ensures { result ≡ ends_in_anchor (tree expression.now) }
+{
+    match expression {
+        Bre::Seq(items) => is_end_last(items),
+        _ => false,
+    }
+}
+
+fn is_end_last(items: &[Bre]) -> bool
+    ensures { result ≡ is_end_last false (trees (map tree items.now)) }
+{
+    let mut last = false;
+    for item in items {
+        last = is_end(item);
+    }
+    last
+}
+
+fn is_end(item: &Bre) -> bool
+    ensures { result ≡ is_end (tree item.now) }
+{
+    matches!(item, Bre::End)
+}
+
 /// Whether the expression has a reference that matchers get wrong.
 pub(crate) fn has_misjudged_reference(whole: &Bre) -> bool
     ensures { result ≡ has_misjudged_reference (tree whole.now) }
 {
     has_part(whole, Part::Reference)
         && (has_part(whole, Part::RepeatedGroup)
-            || is_one_misjudged(whole, &[1, 2, 3, 4, 5, 6, 7, 8, 9]))
+            || is_one_misjudged(whole, &[1, 2, 3, 4, 5, 6, 7, 8, 9])
+            || has_two_to_nothing(whole))
+}
+
+/// Whether before a `$` that ends the expression there are two references or more to groups that may match nothing.
+fn has_two_to_nothing(whole: &Bre) -> bool
+    ensures { result ≡ has_two_to_nothing (tree whole.now) }
+{
+    ends_in_anchor(whole) && are_two_to_nothing(whole, &[1, 2, 3, 4, 5, 6, 7, 8, 9])
 }
 
 /// Whether the expression has an anchor that matchers get wrong.
