@@ -40,10 +40,9 @@ LABEL = "a label consists of letters, digits, `_`, `.` and `-`"
 SEPARATED = "end each command with a newline or a `;`"
 
 # the script; the line and the column; the code, the message, and the hint where there is one
-REFERENCE = ("seds get this reference wrong: a group is repeated, or the one that it names has a reference in it, or may match nothing "
-             "and it is repeated")
+REFERENCE = "seds get this reference wrong, by a group that is repeated, has a reference in it, or may match nothing"
 NO_GROUP = ("repeat bytes and lists in place of groups, as `a*` for `\\(a\\)*`, or split the command in two; "
-            "a group whose reference is repeated needs a byte")
+            "give a group a byte where it may match nothing")
 ANCHOR = "seds get this anchor wrong: its group is repeated, or the expression has a reference"
 OUTSIDE = ("an anchor holds in one place: move it out of the group, as in `^\\(a\\)`, if that is meant; "
            "a literal one is written `\\^` or `\\$`")

@@ -41,7 +41,7 @@ fn closes_group(spot: Spot, number: usize) -> bool {
 pub fn misjudged_reason(fault: ReFault) -> &'static str {
     match fault {
         ReFault::BadReference { .. } => {
-            "seds get this reference wrong: a group is repeated, or the one that it names has a reference in it, or may match nothing and it is repeated"
+            "seds get this reference wrong, by a group that is repeated, has a reference in it, or may match nothing"
         }
         _ => "seds get this anchor wrong: its group is repeated, or the expression has a reference",
     }
@@ -51,7 +51,7 @@ pub fn misjudged_reason(fault: ReFault) -> &'static str {
 pub(crate) fn misjudged_hint(fault: ReFault) -> &'static str {
     match fault {
         ReFault::BadReference { .. } => {
-            "repeat bytes and lists in place of groups, as `a*` for `\\(a\\)*`, or split the command in two; a group whose reference is repeated needs a byte"
+            "repeat bytes and lists in place of groups, as `a*` for `\\(a\\)*`, or split the command in two; give a group a byte where it may match nothing"
         }
         _ =>
             "an anchor holds in one place: move it out of the group, as in `^\\(a\\)`, if that is meant; a literal one is written `\\^` or `\\$`",
