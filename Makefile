@@ -52,6 +52,7 @@ docs examples: build
 rows: build probe
 	@echo "Running build/sedck on rows of scripts and certificates ..."
 	python3 tests/rows.py build/sedck crates/sedck_probe/out/sedck_probe
+	python3 tests/matchers.py build/sedck build/sedck-explain
 
 explain-tests: build probe
 	@echo "Testing the reports of sedck-explain ..."
