@@ -4,8 +4,8 @@
 RT ?= rt
 PREFIX ?= /usr/local
 
-.PHONY: all build sedck demo try test docs examples rows explain-tests refusals streams tools-tests calls-tests wrapper-tests bench planted seds states \
-	changes measures probe install dist clean
+.PHONY: all build sedck demo try test docs examples rows explain-tests refusals streams tools-tests calls-tests wrapper-tests bench planted seds matchers \
+	states changes measures probe install dist clean
 
 # One target after the other, also under `make -j`: proofs want all processors and much memory, and tests have limits of time.
 .NOTPARALLEL:
@@ -52,6 +52,7 @@ docs examples: build
 rows: build probe
 	@echo "Running build/sedck on rows of scripts and certificates ..."
 	python3 tests/rows.py build/sedck crates/sedck_probe/out/sedck_probe
+	python3 tests/matchers.py build/sedck build/sedck-explain
 
 explain-tests: build probe
 	@echo "Testing the reports of sedck-explain ..."
@@ -96,6 +97,11 @@ bench: build
 seds: build
 	@echo "Running every sed that is found beside build/sedck (20,000 scripts take up to ten processor minutes) ..."
 	python3 tests/seds/seds.py build/sedck $(SEDS)
+
+# More arguments in MATCHERS, such as `--expressions 200000 --jobs 3`, `--high 1`, `--unrefused` or `--sed NAME=COMMAND`.
+matchers: build
+	@echo "Looking for expressions that the matchers of real seds get wrong (20,000 take a few minutes) ..."
+	python3 tests/seds/seds_matchers.py build/sedck-explain build/sedck $(MATCHERS)
 
 # The wrong bodies that the gate leaves out, of the crates that have changed since they were tried: `PLANTED=NAME` has those of one crate
 # tried, `ALL=1` all of them.

@@ -43,7 +43,7 @@ def table(page, head):
 
 IN_UTF_8 = "trace in UTF-8"
 HEADS = {"statuses": "| script | sedck |", "traces": "| script | input | trace |", "outputs": "| script | input | sedck |",
-         "matches": "| script | input | what is repeated |", "locales": "| script | input | %s |" % IN_UTF_8}
+         "matches": "| script | input | what is refused |", "locales": "| script | input | %s |" % IN_UTF_8}
 
 
 def shown(done):

@@ -96,11 +96,11 @@ class Scratch:
         for name, text in ((self.script, script), (self.given, given), ("in1", b"read\n"), ("secret", SECRET + b"\n")):
             self.write(name, text)
 
-    def spawn(self, words, seconds, environment=None):
+    def spawn(self, words, seconds, environment=None, errors=os.devnull):
         """The status of a run, below 0 for a signal; None for one that doesn't end in time."""
         opened = [(os.POSIX_SPAWN_OPEN, 0, self.given, os.O_RDONLY, 0),
                   (os.POSIX_SPAWN_OPEN, 1, self.out, os.O_WRONLY | os.O_CREAT | os.O_TRUNC, 0o600),
-                  (os.POSIX_SPAWN_OPEN, 2, os.devnull, os.O_WRONLY, 0)]
+                  (os.POSIX_SPAWN_OPEN, 2, errors, os.O_WRONLY, 0)]
         self.child = os.posix_spawn(words[0], words, {**self.environment, **(environment or {})}, file_actions=opened, setpgroup=0,
                                     setsigdef=[signal.SIGXFSZ])
         watched = os.pidfd_open(self.child)
@@ -111,7 +111,8 @@ class Scratch:
         os.close(watched)
         if not ended:
             os.killpg(self.child, signal.SIGKILL)
-        status = os.waitstatus_to_exitcode(os.waitpid(self.child, 0)[1])
+        _, ended_as, usage = os.wait4(self.child, 0)
+        status, self.kilobytes = os.waitstatus_to_exitcode(ended_as), usage.ru_maxrss
         self.child = None
         return None if not ended or status == -signal.SIGXFSZ else status
 
@@ -166,14 +167,18 @@ class Judge:
         os.mkdir(self.folder)
 
     def judge_all(self, scripts):
-        """Status, bound and files of each script, by one call for all."""
+        """Status, bound and files of each script."""
+        return [self.judged(one) for one in self.reports(scripts)]
+
+    def reports(self, scripts):
+        """What `sedck-explain` reports of each script in JSON, by one call for all."""
         paths = [os.path.join(self.folder, str(at)) for at in range(len(scripts))]
         for path, script in zip(paths, scripts):
             self.scratch.write(path, script)
         self.scratch.spawn([self.explain, "--format", "json", "--"] + paths, JUDGE_SECONDS)
         objects = [json.loads(line) for line in self.scratch.output().decode().split("\n")[:-1]]
         assert len(objects) == len(scripts), "sedck-explain doesn't answer for each script"
-        return [self.judged(one) for one in objects]
+        return objects
 
     @staticmethod
     def judged(one):
@@ -184,6 +189,12 @@ class Judge:
     def call(self, *words):
         status = self.scratch.spawn([self.sedck] + list(words), LONG_SECONDS)
         return status, self.scratch.output()
+
+    def fault(self, script):
+        """What `sedck files` says on standard error."""
+        errors = self.scratch.write(os.path.join(self.folder, "errors"), b"")
+        self.scratch.spawn([self.sedck, "files", self.scratch.write(os.path.join(self.folder, "one"), script)], LONG_SECONDS, errors=errors)
+        return self.scratch.output(errors)
 
     def certificate(self, script):
         """The status of `sedck rank`; where that is 0, its certificate must be accepted by `sedck check`."""
