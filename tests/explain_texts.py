@@ -8,10 +8,10 @@ IDLE = "this loop reads no line and never shortens the pattern space: it may run
 GROWING = "this loop reads no line and may lengthen the pattern space each time: it may run forever"
 ROUND = ("make each round read a line, with `n`, `N` or `d`, or shorten the pattern space; or write the commands out a fixed number "
          "of times")
-ONCE = ("if no replacement makes a new match, use one `s` with the flag `g`, else repeat the command as often as it may be needed; then "
-        "write `t c` and `:c`, since the loop leaves the flag of `t` unset")
-OFTEN = ("repeat the command as often as it may be needed, without the loop; or, if no replacement makes a new match, use one `s` with "
-         "the flag `g`")
+ONCE = ("repeat the command as often as it may be needed, and then write `t c` and `:c`, since the loop leaves the flag of `t` unset; "
+        "one `s` with the flag `g` does the same only where it leaves no match")
+OFTEN = ("repeat the command as often as it may be needed, without the loop; one `s` with the flag `g` does the same only where it leaves "
+         "no match")
 TAKE = ("branch only where a line was read: put the branch into a block with the `N` or `n`, as in `/x/{`, `N`, `b a`, `}` on lines "
         "of their own")
 UNKNOWN = "every run ends, but no limit on its steps is known, since this may lengthen the pattern space"

@@ -186,7 +186,7 @@ LOOPS = [
     Row("digits with a flag behind", ":d\n%st d\ns/^\\(_*\\)$/1\\1/\nt n\ns/$/!/\n:n\n" % CARRY, "then write `t c` and `:c`",
         "%st c\n:c\ns/^\\(_*\\)$/1\\1/\nt n\ns/$/!/\n:n\n" % (CARRY * 9), NINES,
         wrong=("%ss/^\\(_*\\)$/1\\1/\nt n\ns/$/!/\n:n\n" % (CARRY * 9), "s/9\\(_*\\)$/_\\1/g\ns/^\\(_*\\)$/1\\1/\nt n\ns/$/!/\n:n\n")),
-    Row("all at once with a flag behind", ":a\ns/x/y/\nt a\ns/b/c/\nt e\ns/$/!/\n:e\n", "use one `s` with the flag `g`",
+    Row("all at once with a flag behind", ":a\ns/x/y/\nt a\ns/b/c/\nt e\ns/$/!/\n:e\n", "one `s` with the flag `g` does the same only where it leaves no match",
         "s/x/y/g\nt c\n:c\ns/b/c/\nt e\ns/$/!/\n:e\n", ("x\n", "xxb\n", "b\na\n"), wrong=("s/x/y/g\ns/b/c/\nt e\ns/$/!/\n:e\n",)),
     Row("already with g", ":a\ns/- /--/g\nta\n", "repeat the command as often as it may be needed", "s/- /--/g\n" * 5 + "t c\n:c\n",
         ("-   x\n", "- -\n", "ab - c\n"), wrong=("s/- /--/g\n",)),

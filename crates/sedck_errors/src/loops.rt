@@ -98,7 +98,7 @@ fn loop_hint(script: &Script, walk: &Walk) -> &'static str {
     }
     match walk.form {
         Form::Growing =>
-            "repeat the command as often as it may be needed, without the loop; or, if no replacement makes a new match, use one `s` with the flag `g`",
+            "repeat the command as often as it may be needed, without the loop; one `s` with the flag `g` does the same only where it leaves no match",
         Form::Idle =>
             "make each round read a line, with `n`, `N` or `d`, or shorten the pattern space; or write the commands out a fixed number of times",
     }
@@ -188,7 +188,7 @@ fn test_hint(script: &Script, walk: &Walk) -> &'static str {
             "repeat the command as often as it may be needed, and then write `t c` and `:c`, since the loop leaves the flag of `t` unset"
         }
         _ =>
-            "if no replacement makes a new match, use one `s` with the flag `g`, else repeat the command as often as it may be needed; then write `t c` and `:c`, since the loop leaves the flag of `t` unset",
+            "repeat the command as often as it may be needed, and then write `t c` and `:c`, since the loop leaves the flag of `t` unset; one `s` with the flag `g` does the same only where it leaves no match",
     }
 }
 
