@@ -17,7 +17,8 @@ SPLIT = "split the script into several that run one after another"
 RETURN = "the line ends in a carriage return: save the file with Unix line endings"
 MARK = "the file begins with a byte order mark: save it without one"
 ANY_ADDRESS = "an address is a line number, `$`, or an expression between delimiters"
-ANY_FLAG = "the flags are `g`, `p`, a number, and `w` with a file name, each once"
+ANY_FLAG = ("the flags are `g`, `p`, a number, and `w` with a file name, each once; where the text has the delimiter use another one, "
+            "as in `s,a/b,c,`")
 SKIPPED = "for `0~3d` write `n`, `n` and `d`; for `1~2d` write `$d`, `N` and `s/.*\\n//`; for `2~3d` put an `n` before these"
 STEPS = "for `0~3p` write `n`, `n` and `p`; for `2~5p` write `n`, `p`, `n`, `n` and `n`"
 GNU = "this extension of GNU sed has no equivalent in POSIX: do it outside the script"
@@ -61,6 +62,7 @@ REFUSED = [
     (b"p;v\n", 1, 3, "unknown-command", NO_VERB, "`v` requires a version of GNU sed: leave it out"),
     (b"W x\n", 1, 1, "unknown-command", NO_VERB, GNU),
     (b"k\n", 1, 1, "unknown-command", NO_VERB, None),
+    (b"-n p\n", 1, 1, "unknown-command", NO_VERB, "an option of sed is no part of a script: give it to sed itself"),
     (b"p;1", 1, 4, "unknown-command", NO_VERB, "a command is missing after the address"),
     (b"\xef\xbb\xbfp\n", 1, 1, "unknown-command", NO_VERB, MARK),
     (b"1p\n/x/\r\n", 2, 4, "unknown-command", NO_VERB, RETURN),
@@ -88,6 +90,7 @@ REFUSED = [
     (b"s/a/b/0\n", 1, 7, "bad-flag", NO_FLAG, "matches are counted from 1"),
     (b"s/a/b/4294967296\n", 1, 7, "bad-flag", NO_FLAG, "give only one number among the flags, of at most 4,294,967,295"),
     (b"s/a/b/gg\n", 1, 8, "bad-flag", NO_FLAG, ANY_FLAG),
+    (b"s/http://x/\n", 1, 9, "bad-flag", NO_FLAG, ANY_FLAG),
     (b"s/a/b/\r\n", 1, 7, "bad-flag", NO_FLAG, RETURN),
     (b"y/a/bc/\n", 1, 1, "bad-transliteration", LISTS, "make both lists the same length"),
     (b"y/a\\t/bc/\n", 1, 4, "bad-transliteration", LISTS,

@@ -228,6 +228,7 @@ NARROWED = [
         due=("b\n", "c\n", "bb\n")),
     Row("carriage return in a comment", "# a\rb\ns/a/b/\n", "remove it", "# ab\ns/a/b/\n", ("a\n", "b\n", "aa\n")),
     Row("x as the delimiter of a list", "sx[\\x5b]xZx\n", "use a delimiter that isn't in the expression", "s,[x5b],Z,\n", ("x\n", "[\n", "5b\n"), due=("Z\n", "[\n", "Zb\n")),
+    Row("delimiter in the text", "s/http://x/\n", "as in `s,a/b,c,`", "s,http:/,x,\n", ("http://a\n", "http:\n", "http:/\n"), due=("x/a\n", "http:\n", "x\n")),
     Row("reference beside a repeated group", "s/\\(a\\)*\\(b\\)\\2/x/\n", "`a*` for `\\(a\\)*`", "s/a*\\(b\\)\\1/x/\n", ("aabb\n", "abb\n", "bb\nxaab\n")),
     Row("anchor in a group beside a reference", "s/\\(^a\\)b\\1/x/\n", "as in `^\\(a\\)`", "s/^\\(a\\)b\\1/x/\n", ("aba\n", "xaba\n", "ab\naba\n")),
     Row("open list in y", "y/[/(/\n", "to both lists", "y/[a]/(a]/\n", ("[a]\n", "b\n", "[[\n"), wrong=("y/[a]/(a)/\n",)),

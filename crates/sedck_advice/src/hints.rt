@@ -98,6 +98,7 @@ fn verb_hint(verb: u8) -> Option<&'static str> {
         ),
         b'"' | b'\'' => Some("quotes belong to the shell: leave them out of the script"),
         b',' => Some("a command has at most two addresses"),
+        b'-' => Some("an option of sed is no part of a script: give it to sed itself"),
         b'\n' | b';' | b'}' => Some("a command is missing after the address"),
         _ => None,
     }
@@ -346,7 +347,9 @@ fn flag_hint(rest: &[u8]) -> Option<&'static str> {
         ),
         Some(b'0') => Some("matches are counted from 1"),
         Some(b'1'..=b'9') => Some("give only one number among the flags, of at most 4,294,967,295"),
-        _ => Some("the flags are `g`, `p`, a number, and `w` with a file name, each once"),
+        _ => Some(
+            "the flags are `g`, `p`, a number, and `w` with a file name, each once; where the text has the delimiter use another one, as in `s,a/b,c,`",
+        ),
     }
 }
 
