@@ -90,7 +90,7 @@ REFUSED = [
     (b"s/a/b/0\n", 1, 7, "bad-flag", NO_FLAG, "matches are counted from 1"),
     (b"s/a/b/4294967296\n", 1, 7, "bad-flag", NO_FLAG, "give only one number among the flags, of at most 4,294,967,295"),
     (b"s/a/b/gg\n", 1, 8, "bad-flag", NO_FLAG, ANY_FLAG),
-    (b"s/http://x/\n", 1, 9, "bad-flag", NO_FLAG, ANY_FLAG),
+    (b"s/http://x/\n", 1, 10, "bad-flag", NO_FLAG, ANY_FLAG),
     (b"s/a/b/\r\n", 1, 7, "bad-flag", NO_FLAG, RETURN),
     (b"y/a/bc/\n", 1, 1, "bad-transliteration", LISTS, "make both lists the same length"),
     (b"y/a\\t/bc/\n", 1, 4, "bad-transliteration", LISTS,
