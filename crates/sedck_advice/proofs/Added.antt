@@ -1,10 +1,10 @@
 -- Findings that are added.
-use Rattle.std.proofs.Common.{◌≡◌, ◌∙◌, ◌||◌, Bool, true, false, List, [], ◌∷◌, ◌++◌, Option, Result, Ok, Err, OnOk, refl, sym, ap, subst}
+use Rattle.std.proofs.Common.{◌≡◌, ◌∙◌, ◌||◌, ◌&&◌, Bool, true, false, List, [], ◌∷◌, ◌++◌, Option, Result, Ok, Err, OnOk, refl, sym, ap, subst}
 use Rattle.std.proofs.lemmas.List.Folds.{list_any-append}
-use Rattle.sedck_report.specs.Levels.{is_error, has_error, is_warning, has_warning, BeginsWithError}
+use Rattle.sedck_report.specs.Levels.{is_error, has_error, is_warning, has_warning, is_locale, has_locale, BeginsWithError}
 use Rattle.sedck_report.specs.declared.finding.Finding.{Finding}
 use Rattle.sedck_report.specs.declared.places.Position.{Position}
-use Rattle.sedck_advice.specs.Added.{AddsNoError}
+use Rattle.sedck_advice.specs.Added.{AddsNoError, AddsOthers}
 
 begins-append : (position : Option Position) (old more : List Finding) → BeginsWithError position old → BeginsWithError position (old ++ more)
 begins-append position [] more begins = absurd begins
@@ -58,7 +58,26 @@ no_error_trans a b c one two = record {
   first = λ position begins. two.first position (one.first position begins);
 }
 
+-- ---- The same of findings that aren't the warning `locale`
+
+and_none : (a b : Bool) → b ≡ false → (a && b) ≡ false
+and_none true b is = is
+and_none false b is = refl
+
+pub others_push : (old new : List Finding) (f : Finding) → new ≡ old ++ (f ∷ []) → is_error f.level ≡ false → is_locale f.code ≡ false → AddsOthers old new
+others_push old new f is none other = record {
+  adds = no_error_push old new f is none;
+  locale = ap has_locale is ∙ list_any-append (λ finding. is_warning finding.level && is_locale finding.code) old (f ∷ [])
+      ∙ or-false (has_locale old) (is_warning f.level && is_locale f.code) (and_none (is_warning f.level) (is_locale f.code) other);
+}
+
+pub others_trans : (a b c : List Finding) → AddsOthers a b → AddsOthers b c → AddsOthers a c
+others_trans a b c one two = record {
+  adds = no_error_trans a b c one.adds two.adds;
+  locale = two.locale ∙ one.locale;
+}
+
 -- the same where a call ends well
-pub ok_no_error : {T E : Type 0} (a b c : List Finding) (r : Result T E) → AddsNoError a b → OnOk r (AddsNoError b c) → OnOk r (AddsNoError a c)
-ok_no_error a b c (Ok x) one two = no_error_trans a b c one two
-ok_no_error a b c (Err e) one two = two
+pub ok_others : {T E : Type 0} (a b c : List Finding) (r : Result T E) → AddsOthers a b → OnOk r (AddsOthers b c) → OnOk r (AddsOthers a c)
+ok_others a b c (Ok x) one two = others_trans a b c one two
+ok_others a b c (Err e) one two = two

@@ -2,7 +2,6 @@
 use Rattle.std.proofs.Common.{◌≡◌, Option, Some, None, ◌∙◌, ◌||◌, ◌&&◌, ℕ, ◌+◌, ◌<◌, min, Bool, true, false, List, [], ◌∷◌, ◌++◌, map, refl, sym, ap, subst, arith}
 use Rattle.std.specs.Prelude.{sum_by}
 use Rattle.std.specs.List.{list_any}
-use Rattle.std.proofs.lemmas.Bool.{false≢true}
 use Rattle.std.proofs.lemmas.List.Folds.{list_any-append}
 use Rattle.std.proofs.lemmas.List.Sums.{sum_by_push}
 use Rattle.sedck_bre.specs.Tree.{trees}
@@ -10,11 +9,9 @@ use Rattle.sedck_bre.specs.Lengths.{cap}
 use Rattle.sedck_bre.specs.View.{tree}
 use Rattle.sedck_expressions.specs.declared.tree.Bre.{Bre}
 use Rattle.sedck_bre.proofs.CappedSums.{capped_sum}
-use Rattle.sedck_report.specs.Levels.{is_warning, has_warning}
+use Rattle.sedck_report.specs.Levels.{is_warning, is_locale, has_locale}
 use Rattle.sedck_report.specs.declared.finding.Finding.{Finding}
 use Rattle.sedck_script.specs.Program.{Command}
-use Rattle.sedck_advice.specs.declared.concerns.Concern.{Concern}
-use Rattle.sedck_advice.specs.Concerns.{is_code_of, is_warned_of}
 use Rattle.sedck_script.specs.ByteSafe.{command_expressions}
 use Rattle.sedck_advice.specs.Slow.{repeats_reference, written_out, all_written_out, copies}
 use Rattle.sedck_advice.specs.Private.Weights.{Weighs, WeighsAll}
@@ -38,11 +35,11 @@ any-push p cs c = list_any-append p cs (c ∷ []) ∙ ap (λ b. list_any p cs ||
 
 -- one command more
 pub weighs_more : (cs more : List Command) (c : Command) (w own new : Weight) → more ≡ cs ++ c ∷ [] → WeighsAll cs w → Weighs (command_expressions c) own
-    → new.reference ≡ (w.reference || own.reference)
+    → new.repetition ≡ (w.repetition || own.repetition)
     → new.items ≡ min (min (w.items + own.items) 4294967295) cap → WeighsAll more new
-weighs_more cs more c w own new is all one reference items = subst (λ (ds : List Command). WeighsAll ds new) (sym is) (record {
-  reference = reference ∙ ap (λ b. b || own.reference) all.reference
-      ∙ ap (λ b. list_any (λ d. list_any repeats_reference (command_expressions d)) cs || b) one.reference
+weighs_more cs more c w own new is all one repetition items = subst (λ (ds : List Command). WeighsAll ds new) (sym is) (record {
+  repetition = repetition ∙ ap (λ b. b || own.repetition) all.repetition
+      ∙ ap (λ b. list_any (λ d. list_any repeats_reference (command_expressions d)) cs || b) one.repetition
       ∙ sym (any-push (λ d. list_any repeats_reference (command_expressions d)) cs c);
   items = items ∙ ap (λ n. min (min (n + own.items) 4294967295) cap) all.items
       ∙ ap (λ n. min (min (min (sum_by (λ d. sum_by (written_out false) (command_expressions d)) cs) cap + n) 4294967295) cap) one.items
@@ -56,22 +53,6 @@ copies_positive least (Some most) = omega arith
 
 -- ---- Warnings
 
-both_true : (a b : Bool) → (a && b) ≡ true → b ≡ true
-both_true true b is = is
-both_true false b is = absurd (false≢true is)
-
-either_true : (a b c d : Bool) → (a ≡ true → b ≡ true) → (c ≡ true → d ≡ true) → (a || c) ≡ true → (b || d) ≡ true
-either_true true b c d one two is = rw (one refl) refl
-either_true false true c d one two is = refl
-either_true false false c d one two is = two is
-
--- a warning of a repeated reference is a warning
-pub warned_of_is_warned : (concern : Concern) (findings : List Finding) → is_warned_of concern findings ≡ true → has_warning findings ≡ true
-warned_of_is_warned concern [] is = is
-warned_of_is_warned concern (f ∷ more) is =
-    either_true (is_code_of concern f.code && is_warning f.level) (is_warning f.level) (is_warned_of concern more) (has_warning more)
-    (both_true (is_code_of concern f.code) (is_warning f.level)) (warned_of_is_warned concern more) is
-
 or_true : (a : Bool) → (a || true) ≡ true
 or_true true = refl
 or_true false = refl
@@ -84,12 +65,11 @@ with_warning was now next rest left due split is warned known =
 pub without_warning : (was next rest left due : Bool) → left ≡ (next || rest) → next ≡ false → (was || left) ≡ due → (was || rest) ≡ due
 without_warning was next rest left due split none known = ap (λ l. was || l) (sym (split ∙ ap (λ b. b || rest) none)) ∙ known
 
--- a warning of this concern that is added
-pub warned_push : (concern : Concern) (old new : List Finding) (f : Finding) → new ≡ old ++ f ∷ [] → is_code_of concern f.code ≡ true
-    → is_warning f.level ≡ true → is_warned_of concern new ≡ true
-warned_push concern old new f is coded warns =
-    ap (is_warned_of concern) is
-    ∙ list_any-append (λ finding. is_code_of concern finding.code && is_warning finding.level) old (f ∷ [])
-    ∙ ap (λ b. is_warned_of concern old || ((b && is_warning f.level) || false)) coded
-    ∙ ap (λ b. is_warned_of concern old || ((true && b) || false)) warns
-    ∙ or_true (is_warned_of concern old)
+-- the warning `locale` that is added
+pub locale_push : (old new : List Finding) (f : Finding) → new ≡ old ++ f ∷ [] → (is_warning f.level && is_locale f.code) ≡ true
+    → has_locale new ≡ true
+locale_push old new f is warns =
+    ap has_locale is
+    ∙ list_any-append (λ finding. is_warning finding.level && is_locale finding.code) old (f ∷ [])
+    ∙ ap (λ b. has_locale old || (b || false)) warns
+    ∙ or_true (has_locale old)

@@ -1,6 +1,6 @@
 -- What stays of the findings where others are added, this project's own.
 use Rattle.std.specs.Prelude.{◌≡◌, true, List, Option}
-use Rattle.sedck_report.specs.Levels.{has_error, has_warning, BeginsWithError}
+use Rattle.sedck_report.specs.Levels.{has_error, has_warning, has_locale, BeginsWithError}
 use Rattle.sedck_report.specs.declared.finding.Finding.{Finding}
 use Rattle.sedck_report.specs.declared.places.Position.{Position}
 
@@ -9,3 +9,8 @@ pub record AddsNoError (old new : List Finding) : Type 0 where
   pub errors : has_error new ≡ has_error old
   pub warned : has_warning old ≡ true → has_warning new ≡ true
   pub first : (position : Option Position) → BeginsWithError position old → BeginsWithError position new
+
+-- the same, and none of them is the warning `locale`
+pub record AddsOthers (old new : List Finding) : Type 0 where
+  pub adds : AddsNoError old new
+  pub locale : has_locale new ≡ has_locale old

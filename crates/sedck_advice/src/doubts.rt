@@ -1,10 +1,13 @@
 //! Why a file's name should be looked at twice.
 
+ghost use Rattle.std.specs.Prelude.{◌≡◌, true, false};
+ghost use Rattle.sedck_report.specs.Levels.{is_locale};
+
 use crate::paths::last_part;
 use sedck_report::{Code, is_printable};
 
 /// What may be doubtful of a name, in the order of the warnings.
-pub(crate) static DOUBTS: [Code; 14] = [
+pub(crate) static DOUBTS: [Code; 15] = [
     Code::StreamName,
     Code::DeviceName,
     Code::AbsoluteName,
@@ -19,6 +22,7 @@ pub(crate) static DOUBTS: [Code; 14] = [
     Code::ReadAndWritten,
     Code::SameFile,
     Code::NamesItself,
+    Code::WritesItsInput,
 ];
 
 /// Why such a name should be looked at twice.
@@ -40,13 +44,17 @@ pub(crate) fn reason_of(code: Code) -> &'static str {
             "it has a byte to which a shell gives a meaning, and sed doesn't: quotes, `*`, `$` and the like are part of the name",
         Code::ReadAndWritten => "the script reads it too",
         Code::SameFile => "another name in the script leads to the same file, as `F` and `./F` do",
+        Code::WritesItsInput =>
+            "the call names this file as an operand, which is emptied before it is read, and then may grow while it is read, without an end",
         _ =>
             "the script's own file has that name, and a sed empties it before it has read the whole script",
     }
 }
 
 /// Whether the name is doubtful so by its bytes alone.
-pub(crate) fn is_doubtful(code: Code, name: &[u8]) -> bool {
+pub(crate) fn is_doubtful(code: Code, name: &[u8]) -> bool
+    ensures { result ≡ true → is_locale code ≡ false }
+{
     let mut parts = name.split(|byte| *byte == b'/');
     match code {
         Code::StreamName => is_one_of(name, &STREAMS),

@@ -1,7 +1,8 @@
 //! Comments in a script that silence warnings and notes, as `# sedck: ignore absolute-name`.
 
-ghost use Rattle.std.specs.Prelude.{OnOk};
-ghost use Rattle.sedck_advice.specs.Added.{AddsNoError};
+ghost use Rattle.std.specs.Prelude.{◌≡◌, OnOk};
+ghost use Rattle.sedck_advice.specs.Added.{AddsOthers};
+ghost use Rattle.sedck_advice.specs.Ignored.{is_kept};
 
 use crate::bytes::{is_blank, without_blanks};
 use crate::comments::comments_in;
@@ -17,24 +18,49 @@ pub struct Word<'a> {
 }
 
 impl Word<'_> {
-    /// The code that it names, if that may be ignored.
-    pub fn code(self) -> Option<Code> {
-        IGNORABLE
+    /// The code of a warning or a note that it names.
+    fn named(self) -> Option<Code> {
+        NAMED
             .iter()
             .find(|code| code.name().as_bytes() == self.bytes)
             .copied()
     }
+
+    /// The code that it names, if that may be ignored.
+    pub fn code(self) -> Option<Code> {
+        self.named().filter(|code| !is_kept(*code))
+    }
 }
 
-/// The codes of warnings and notes that a comment in the script may silence: all but those of what isn't known.
-static IGNORABLE: [Code; 26] = [
+/// Whether findings with this code are reported whatever the comments of the script say.
+pub fn is_kept(code: Code) -> bool
+    ensures { result ≡ is_kept code }
+{
+    matches!(
+        code,
+        Code::OptionsInFirstLine
+            | Code::Locale
+            | Code::BackslashInList
+            | Code::ClassWithoutList
+            | Code::RangeInY
+            | Code::NamesItself
+            | Code::WritesItsInput
+            | Code::LabelToTheLineEnd
+            | Code::LongLabels
+    )
+}
+
+/// The codes of warnings and notes on what a script is: all but those on what isn't known of it.
+static NAMED: [Code; 29] = [
     Code::OptionsInFirstLine,
     Code::BraceBehindLabel,
     Code::LooksExtended,
     Code::OneLineText,
     Code::SilencingComment,
-    Code::RepeatedReference,
     Code::Locale,
+    Code::BackslashInList,
+    Code::ClassWithoutList,
+    Code::RangeInY,
     Code::StreamName,
     Code::DeviceName,
     Code::AbsoluteName,
@@ -49,6 +75,7 @@ static IGNORABLE: [Code; 26] = [
     Code::ReadAndWritten,
     Code::SameFile,
     Code::NamesItself,
+    Code::WritesItsInput,
     Code::UnknownCode,
     Code::InPlace,
     Code::NoBound,
@@ -93,7 +120,7 @@ pub(crate) fn unknown_warnings(
     text: &[u8],
     words: &[Word],
 ) -> Result<(), AllocError>
-    ensures { OnOk result (AddsNoError findings.old.items findings.new.items) }
+    ensures { OnOk result (AddsOthers findings.old.items findings.new.items) }
 {
     let (unknown, offsets) = unknown_words(alloc, words)?;
     let places = positions(alloc, text, &offsets)?;
@@ -130,22 +157,37 @@ fn push_unknown(
     word: Word,
     position: Position,
 ) -> Result<(), AllocError>
-    ensures { OnOk result (AddsNoError findings.old.items findings.new.items) }
+    ensures { OnOk result (AddsOthers findings.old.items findings.new.items) }
 {
-    let name = shown_name(alloc, word.bytes)?;
+    let (message, hint) = unknown_words_of(alloc, word)?;
     findings.push(Finding {
         level: Level::Warning,
         code: Code::UnknownCode,
         position: Some(position),
         end: Some(end_behind(text, position, word.bytes.len())),
-        message: format!(in alloc;
-            "\"{name}\" is not the code of a warning or a note: this comment doesn't ignore it"
-        )?,
-        hint: Some(
-            "a code is what a report shows in brackets after a message; errors can't be ignored",
-        ),
+        message,
+        hint: Some(hint),
         fix: None,
         steps: Vec::new(alloc),
     })?;
     Ok(())
+}
+
+/// Why the comment doesn't ignore what the word names, and a hint.
+fn unknown_words_of(alloc: Global, word: Word) -> Result<(String, &'static str), AllocError> {
+    let name = shown_name(alloc, word.bytes)?;
+    if word.named().is_some() {
+        return Ok((
+            format!(in alloc;
+                "no comment can ignore \"{name}\": whether a yes holds depends on it"
+            )?,
+            "take the code out of the comment, and change the script where it is reported",
+        ));
+    }
+    Ok((
+        format!(in alloc;
+            "\"{name}\" is not the code of a warning or a note: this comment doesn't ignore it"
+        )?,
+        "a code is what a report shows in brackets after a message; errors can't be ignored",
+    ))
 }

@@ -1,7 +1,8 @@
 //! Scripts that are read as POSIX has them, and look as if something else was meant.
 
-ghost use Rattle.std.specs.Prelude.{OnOk};
-ghost use Rattle.sedck_advice.specs.Added.{AddsNoError};
+ghost use Rattle.std.specs.Prelude.{◌≡◌, false, OnOk};
+ghost use Rattle.sedck_report.specs.Levels.{is_error, is_locale};
+ghost use Rattle.sedck_advice.specs.Added.{AddsOthers};
 
 use crate::bytes::{is_blank, without_blanks};
 use crate::comments::silencing;
@@ -22,12 +23,10 @@ pub(crate) struct Look {
     pub message: &'static str,
     pub hint: &'static str,
     pub fix: Option<Fix>,
+    ghost other: { is_locale code ≡ false },
 }
 
 impl Look {
-    ghost use Rattle.std.specs.Prelude.{◌≡◌, false};
-    ghost use Rattle.sedck_report.specs.Levels.{is_error};
-
     /// A note where all that is read so otherwise is a label, else a warning.
     fn level(self) -> Level
         ensures { is_error result ≡ false }
@@ -45,7 +44,7 @@ pub(crate) fn push_looks(
     findings: &mut Vec<Finding>,
     looks: &[Look],
 ) -> Result<(), AllocError>
-    ensures { OnOk result (AddsNoError findings.old.items findings.new.items) }
+    ensures { OnOk result (AddsOthers findings.old.items findings.new.items) }
 {
     for look in looks {
         findings.push(Finding {

@@ -1,8 +1,9 @@
 //! The files that a script names, and the names at which a reader should look twice.
 
-ghost use Rattle.std.specs.Prelude.{◌≡◌, IfOk, OnOk, map};
+ghost use Rattle.std.specs.Prelude.{◌≡◌, true, false, IfOk, OnOk, map};
+ghost use Rattle.sedck_report.specs.Levels.{is_locale};
 ghost use Rattle.sedck_report.specs.Files.{names_of};
-ghost use Rattle.sedck_advice.specs.Added.{AddsNoError};
+ghost use Rattle.sedck_advice.specs.Added.{AddsOthers};
 
 use crate::doubts::{DOUBTS, is_doubtful, reason_of};
 use crate::paths::{Paths, has_name};
@@ -49,10 +50,11 @@ fn unplaced_files<'a>(alloc: Global, names: &[&'a [u8]]) -> Result<Vec<NamedFile
     Ok(files)
 }
 
-/// The files of a script: the path of its own, if it has one, and those that it names.
+/// The files of a script: the path of its own, if it has one, the operands of its call, and those that it names.
 #[derive(Clone, Copy)]
 pub struct NamedFiles<'a> {
     pub own: Option<&'a [u8]>,
+    pub inputs: &'a [&'a [u8]],
     pub reads: &'a [NamedFile<'a>],
     pub writes: &'a [NamedFile<'a>],
 }
@@ -63,6 +65,7 @@ struct Doubt<'a> {
     file: &'a NamedFile<'a>,
     access: Access,
     code: Code,
+    ghost other: { is_locale code ≡ false },
 }
 
 /// A warning for each name at which a reader should look twice, and each reason for it.
@@ -71,7 +74,7 @@ pub(crate) fn name_warnings(
     findings: &mut Vec<Finding>,
     files: NamedFiles,
 ) -> Result<(), AllocError>
-    ensures { OnOk result (AddsNoError findings.old.items findings.new.items) }
+    ensures { OnOk result (AddsOthers findings.old.items findings.new.items) }
 {
     let doubts = doubts_of(alloc, files)?;
     for doubt in &doubts {
@@ -107,6 +110,7 @@ fn push_doubts<'a>(
             // What is read of both is no matter.
             Code::ReadAndWritten => access == Access::Write && has_name(paths.files.reads, name),
             Code::NamesItself => access == Access::Write && paths.is_own(name),
+            Code::WritesItsInput => access == Access::Write && paths.is_input(alloc, name)?,
             Code::SameFile => paths.is_shared(alloc, name)?,
             code => is_doubtful(code, name),
         };
@@ -123,7 +127,7 @@ fn push_doubts<'a>(
 
 /// Adds the warning on the name for this reason, at the first command that names it.
 fn push_warning(alloc: Global, findings: &mut Vec<Finding>, doubt: Doubt) -> Result<(), AllocError>
-    ensures { OnOk result (AddsNoError findings.old.items findings.new.items) }
+    ensures { OnOk result (AddsOthers findings.old.items findings.new.items) }
 {
     let does = match doubt.access {
         Access::Read => "reads",

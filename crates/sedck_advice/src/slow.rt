@@ -1,5 +1,5 @@
-//! Expressions with which the matchers of seds may take very long, or never end: those that repeat a reference or its group, and
-//! those that intervals make very long.
+//! Expressions with which the matchers of seds may take very long: those that repeat a reference, and those that intervals make very
+//! long.
 
 ghost use Rattle.std.specs.Prelude.{◌≡◌};
 ghost use Rattle.std.specs.Option.{is_some};
@@ -25,10 +25,10 @@ pub fn slow_of(script: &Script, positions: &[Position]) -> Option<Slow>
     ensures { is_some result ≡ is_slow script.now }
 {
     let weight = weight_of(script.commands());
-    if weight.reference {
+    if weight.repetition {
         return Some(Slow {
             position: first_repeating(script, positions),
-            reason: "a reference is repeated, or its group is, and matching may take very long or never end",
+            reason: "a reference is repeated, and matching may take very long",
         });
     }
     if weight.items > ITEM_LIMIT {
@@ -40,12 +40,12 @@ pub fn slow_of(script: &Script, positions: &[Position]) -> Option<Slow>
     None
 }
 
-/// Where the first command is that repeats a reference, or its group.
+/// Where the first command is that repeats a reference.
 fn first_repeating(script: &Script, positions: &[Position]) -> Option<Position> {
     let index = script
         .commands()
         .iter()
-        .position(|command| weight_of_command(command).reference)?;
+        .position(|command| weight_of_command(command).repetition)?;
     positions.get(index).copied()
 }
 

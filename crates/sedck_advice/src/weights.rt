@@ -1,4 +1,4 @@
-//! What is known of a command's expressions: whether they repeat a reference, its group or a byte above 127, and how many items their
+//! What is known of a command's expressions: whether they have a reference, repeat one or split a character, and how many items their
 //! intervals write out.
 
 ghost use Rattle.std.specs.Prelude.{◌≡◌, ◌+◌, ◌||◌, [], ◌∷◌, min, map, flat_map};
@@ -8,7 +8,8 @@ ghost use Rattle.sedck_bre.specs.View.{tree};
 ghost use Rattle.sedck_script.specs.Program.{place_patterns, address_patterns, verb_patterns, pattern_expressions};
 ghost use Rattle.sedck_script.specs.View.{pattern_of, place_of, address_of, verb_of, command_of};
 ghost use Rattle.sedck_script.specs.ByteSafe.{goes_on, bytes_due, due_behind, splits_character, one_splits, is_cut, command_expressions};
-ghost use Rattle.sedck_advice.specs.Slow.{copies, is_group, refers_to, one_refers_to, repeats_in, one_repeats_in, written_out, all_written_out};
+ghost use Rattle.sedck_advice.specs.Slow.{copies, is_reference, repeats_reference, one_repeats_reference, written_out, all_written_out};
+ghost use Rattle.sedck_advice.specs.References.{has_reference, one_has_reference};
 ghost use Rattle.sedck_advice.specs.Private.Weights.{Weighs, WeighsAll};
 
 use sedck_bre::Bre;
@@ -17,65 +18,58 @@ use sedck_script::{Address, Command, Pattern, Place, Verb};
 /// Where numbers of items are capped.
 const CAP: u32 = 16_777_215;
 
-/// Whether the tree refers to this group.
+/// Whether the tree is a reference.
+fn is_reference(expression: &Bre) -> bool
+    ensures { result ≡ is_reference (tree expression.now) }
+{
+    matches!(expression, Bre::Ref(_))
+}
+
+/// Whether a reference is in the tree.
 #[cycle(references)]
-fn refers_to(expression: &Bre, group: u8) -> bool
-    ensures { result ≡ refers_to group (tree expression.now) }
+fn has_reference(expression: &Bre) -> bool
+    ensures { result ≡ has_reference (tree expression.now) }
 {
     match expression {
-        Bre::Ref(k) => group == *k,
-        Bre::Group(_, body) => refers_to(body, group),
-        Bre::Seq(items) => one_refers_to(items, group),
-        Bre::Repeat { body, .. } => refers_to(body, group),
+        Bre::Ref(_) => true,
+        Bre::Group(_, body) => has_reference(body),
+        Bre::Seq(items) => one_has_reference(items),
+        Bre::Repeat { body, .. } => has_reference(body),
         _ => false,
     }
 }
 
 #[cycle(references)]
-fn one_refers_to(items: &[Bre], group: u8) -> bool
-    ensures { result ≡ one_refers_to group (trees (map tree items.now)) }
+fn one_has_reference(items: &[Bre]) -> bool
+    ensures { result ≡ one_has_reference (trees (map tree items.now)) }
 {
     for item in items {
-        if refers_to(item, group) {
+        if has_reference(item) {
             return true;
         }
     }
     false
 }
 
-/// Whether the tree is a group.
-fn is_group(expression: &Bre) -> bool
-    ensures { result ≡ is_group (tree expression.now) }
-{
-    matches!(expression, Bre::Group(..))
-}
-
-/// Whether a group that is repeated has a reference in it, or is or has a group to which the whole expression refers. What is inside
-/// is, or is in, such a group. A reference that is repeated by itself counts where `alone` says so.
+/// Whether a reference is repeated by itself.
 #[cycle(repetitions)]
-fn repeats_in(expression: &Bre, whole: &Bre, alone: bool, is_inside: bool) -> bool
-    ensures { result ≡ repeats_in (tree whole.now) alone is_inside (tree expression.now) }
+fn repeats_reference(expression: &Bre) -> bool
+    ensures { result ≡ repeats_reference (tree expression.now) }
 {
     match expression {
-        Bre::Ref(_) => is_inside,
-        Bre::Group(k, body) => {
-            (is_inside && refers_to(whole, *k)) || repeats_in(body, whole, alone, is_inside)
-        }
-        Bre::Seq(items) => one_repeats_in(items, whole, alone, is_inside),
-        Bre::Repeat { body, .. } => {
-            let is_meant = alone || is_group(body);
-            repeats_in(body, whole, alone, is_inside || is_meant)
-        }
+        Bre::Group(_, body) => repeats_reference(body),
+        Bre::Seq(items) => one_repeats_reference(items),
+        Bre::Repeat { body, .. } => is_reference(body) || repeats_reference(body),
         _ => false,
     }
 }
 
 #[cycle(repetitions)]
-fn one_repeats_in(items: &[Bre], whole: &Bre, alone: bool, is_inside: bool) -> bool
-    ensures { result ≡ one_repeats_in (tree whole.now) alone is_inside (trees (map tree items.now)) }
+fn one_repeats_reference(items: &[Bre]) -> bool
+    ensures { result ≡ one_repeats_reference (trees (map tree items.now)) }
 {
     for item in items {
-        if repeats_in(item, whole, alone, is_inside) {
+        if repeats_reference(item) {
             return true;
         }
     }
@@ -211,10 +205,10 @@ fn is_cut(item: &Bre, due: u8) -> bool
 /// What is known of some expressions.
 #[derive(Clone, Copy)]
 pub(crate) struct Weight {
-    /// Whether one of them repeats a group that has a reference in it, or to which there is one.
-    pub group: bool,
-    /// Whether one does, or repeats a reference by itself.
+    /// Whether one of them has a reference.
     pub reference: bool,
+    /// Whether one repeats a reference by itself.
+    pub repetition: bool,
     /// Whether one splits a character of UTF-8.
     pub byte: bool,
     /// The items that their intervals write out, at most the cap.
@@ -224,22 +218,22 @@ pub(crate) struct Weight {
 impl Weight {
     /// That of no expression.
     const NOTHING: Weight = Weight {
-        group: false,
         reference: false,
+        repetition: false,
         byte: false,
         items: 0,
     };
 
     /// That of these expressions and the others.
     fn with(self, other: Weight) -> Weight
-        ensures group { result.group ≡ (self.group || other.group) }
         ensures reference { result.reference ≡ (self.reference || other.reference) }
+        ensures repetition { result.repetition ≡ (self.repetition || other.repetition) }
         ensures byte { result.byte ≡ (self.byte || other.byte) }
         ensures items { result.items ≡ min (min (self.items + other.items) 4294967295) cap }
     {
         Weight {
-            group: self.group || other.group,
             reference: self.reference || other.reference,
+            repetition: self.repetition || other.repetition,
             byte: self.byte || other.byte,
             items: self.items.saturating_add(other.items).min(CAP),
         }
@@ -250,8 +244,8 @@ fn weight_of_tree(whole: &Bre) -> Weight
     ensures { Weighs (tree whole.now ∷ []) result }
 {
     Weight {
-        group: repeats_in(whole, whole, false, false),
-        reference: repeats_in(whole, whole, true, false),
+        reference: has_reference(whole),
+        repetition: repeats_reference(whole),
         byte: splits_character(whole),
         items: written_out(whole, false),
     }
@@ -266,7 +260,7 @@ fn weight_of_pattern(pattern: &Pattern) -> Weight
     }
 }
 
-fn weight_of_place(place: &Place) -> Weight
+pub(crate) fn weight_of_place(place: &Place) -> Weight
     ensures { Weighs (flat_map pattern_expressions (place_patterns (place_of place.now))) result }
 {
     match place {
@@ -286,7 +280,7 @@ fn weight_of_address(address: &Address) -> Weight
     }
 }
 
-fn weight_of_verb(verb: &Verb) -> Weight
+pub(crate) fn weight_of_verb(verb: &Verb) -> Weight
     ensures { Weighs (flat_map pattern_expressions (verb_patterns (verb_of verb.now))) result }
 {
     if let Verb::Substitute(substitution) = verb {

@@ -2,7 +2,7 @@
 
 ghost use Rattle.std.specs.Prelude.{◌≡◌, ◌&&◌, ◌||◌, not, true, false, IfOk, OnOk};
 ghost use Rattle.std.specs.Option.{is_some};
-ghost use Rattle.sedck_report.specs.Levels.{has_warning, is_warning, has_error, is_error};
+ghost use Rattle.sedck_report.specs.Levels.{has_warning, is_warning, has_locale, has_error, is_error};
 ghost use Rattle.sedck_report.specs.Files.{is_there};
 
 use sedck_advice::Slow;
@@ -21,8 +21,10 @@ pub struct Denied {
     pub warnings: bool,
     /// Steps without a known limit.
     pub unbounded: bool,
-    /// Expressions with which matching may take very long, or never end.
+    /// Expressions with which matching may take very long.
     pub slow: bool,
+    /// References to groups in expressions.
+    pub references: bool,
     /// The locale is C or POSIX, where a character is a byte: so nothing is warned of what is read otherwise in UTF-8.
     pub c_locale: bool,
 }
@@ -35,6 +37,7 @@ impl Denied {
         warnings: false,
         unbounded: false,
         slow: false,
+        references: false,
         c_locale: false,
     };
 }
@@ -60,28 +63,45 @@ pub fn has_writes(cert: &Cert) -> bool
     !cert.writes().is_empty()
 }
 
+/// What an accepted script has that may be denied, beside its findings.
+#[derive(Clone, Copy)]
+pub struct Deniable<'a> {
+    pub reads: &'a [NamedFile<'a>],
+    pub writes: &'a [NamedFile<'a>],
+    pub is_bounded: bool,
+    pub slow: Option<Slow>,
+    /// Where the expressions with a reference are.
+    pub references: &'a [Position],
+}
+
 /// The findings on an accepted script after an error for each thing that is denied and there.
 pub fn with_denials(
     alloc: Global,
     mut findings: Vec<Finding>,
     denied: Denied,
-    reads: &[NamedFile],
-    writes: &[NamedFile],
-    is_bounded: bool,
-    slow: Option<Slow>,
+    has: Deniable,
 ) -> Result<Vec<Finding>, AllocError>
     // There is an error where something is denied and there, or was one before; all warnings are kept.
-    ensures errors { IfOk result (λ all. has_error all.items ≡ ((denied.reads && is_there reads.now) || (denied.writes && is_there writes.now)
-        || (denied.unbounded && not is_bounded) || (denied.warnings && has_warning findings.items) || (denied.slow && is_some slow) || has_error findings.items)) }
+    ensures errors { IfOk result (λ all. has_error all.items ≡ ((denied.reads && is_there has.entry.reads.now) || (denied.writes && is_there has.entry.writes.now)
+        || (denied.unbounded && not has.entry.is_bounded) || (denied.warnings && has_warning findings.items) || (denied.slow && is_some has.entry.slow)
+        || (denied.references && is_there has.entry.references.now) || has_error findings.items)) }
     ensures warnings { IfOk result (λ all. has_warning all.items ≡ has_warning findings.items) }
+    ensures locale { IfOk result (λ all. has_locale all.items ≡ has_locale findings.items) }
 {
     let mut all = Vec::new(alloc);
-    push_files(alloc, &mut all, denied.reads, reads, Code::DeniedReads)?;
-    push_files(alloc, &mut all, denied.writes, writes, Code::DeniedWrites)?;
-    let is_unbounded = denied.unbounded && !is_bounded;
+    push_files(alloc, &mut all, denied.reads, has.reads, Code::DeniedReads)?;
+    push_files(
+        alloc,
+        &mut all,
+        denied.writes,
+        has.writes,
+        Code::DeniedWrites,
+    )?;
+    let is_unbounded = denied.unbounded && !has.is_bounded;
     push_unbounded(alloc, &mut all, is_unbounded, &findings)?;
     push_warnings(alloc, &mut all, denied.warnings, &findings)?;
-    push_slow(alloc, &mut all, denied.slow, slow)?;
+    push_slow(alloc, &mut all, denied.slow, has.slow)?;
+    push_references(alloc, &mut all, denied.references, has.references)?;
     all.append(&mut findings)?;
     Ok(all)
 }
@@ -96,6 +116,7 @@ fn push_files(
 ) -> Result<(), AllocError>
     ensures errors { OnOk result (has_error findings.new.items ≡ (has_error findings.old.items || (is_denied && is_there files.now))) }
     ensures warnings { OnOk result (has_warning findings.new.items ≡ has_warning findings.old.items) }
+    ensures locale { OnOk result (has_locale findings.new.items ≡ has_locale findings.old.items) }
 {
     if is_denied {
         let does = if code == Code::DeniedReads {
@@ -118,6 +139,7 @@ fn push_each_file(
 ) -> Result<(), AllocError>
     ensures errors { OnOk result (has_error findings.new.items ≡ (has_error findings.old.items || is_there files.now)) }
     ensures warnings { OnOk result (has_warning findings.new.items ≡ has_warning findings.old.items) }
+    ensures locale { OnOk result (has_locale findings.new.items ≡ has_locale findings.old.items) }
 {
     for file in files {
         let name = shown_name(alloc, file.name)?;
@@ -136,6 +158,7 @@ fn push_warnings(
 ) -> Result<(), AllocError>
     ensures errors { OnOk result (has_error findings.new.items ≡ (has_error findings.old.items || (is_denied && has_warning given.now))) }
     ensures warnings { OnOk result (has_warning findings.new.items ≡ has_warning findings.old.items) }
+    ensures locale { OnOk result (has_locale findings.new.items ≡ has_locale findings.old.items) }
 {
     if is_denied {
         return push_each_warning(alloc, findings, given);
@@ -151,6 +174,7 @@ fn push_each_warning(
 ) -> Result<(), AllocError>
     ensures errors { OnOk result (has_error findings.new.items ≡ (has_error findings.old.items || has_warning given.now)) }
     ensures warnings { OnOk result (has_warning findings.new.items ≡ has_warning findings.old.items) }
+    ensures locale { OnOk result (has_locale findings.new.items ≡ has_locale findings.old.items) }
 {
     for finding in given {
         if finding.is_warning() {
@@ -175,6 +199,7 @@ fn push_slow(
 ) -> Result<(), AllocError>
     ensures errors { OnOk result (has_error findings.new.items ≡ (has_error findings.old.items || (is_denied && is_some slow))) }
     ensures warnings { OnOk result (has_warning findings.new.items ≡ has_warning findings.old.items) }
+    ensures locale { OnOk result (has_locale findings.new.items ≡ has_locale findings.old.items) }
 {
     match slow {
         Some(slow) if is_denied => {
@@ -187,6 +212,43 @@ fn push_slow(
     }
 }
 
+/// Adds an error for each of these places of expressions with a reference, where they are denied.
+fn push_references(
+    alloc: Global,
+    findings: &mut Vec<Finding>,
+    is_denied: bool,
+    places: &[Position],
+) -> Result<(), AllocError>
+    ensures errors { OnOk result (has_error findings.new.items ≡ (has_error findings.old.items || (is_denied && is_there places.now))) }
+    ensures warnings { OnOk result (has_warning findings.new.items ≡ has_warning findings.old.items) }
+    ensures locale { OnOk result (has_locale findings.new.items ≡ has_locale findings.old.items) }
+{
+    if is_denied {
+        return push_each_reference(alloc, findings, places);
+    }
+    Ok(())
+}
+
+/// Adds an error for each of these places of expressions with a reference.
+fn push_each_reference(
+    alloc: Global,
+    findings: &mut Vec<Finding>,
+    places: &[Position],
+) -> Result<(), AllocError>
+    ensures errors { OnOk result (has_error findings.new.items ≡ (has_error findings.old.items || is_there places.now)) }
+    ensures warnings { OnOk result (has_warning findings.new.items ≡ has_warning findings.old.items) }
+    ensures locale { OnOk result (has_locale findings.new.items ≡ has_locale findings.old.items) }
+{
+    for place in places {
+        let message = String::from_str(
+            alloc,
+            "this expression has a reference to a group, which `--deny references` forbids",
+        )?;
+        findings.push(denial(alloc, Code::DeniedReferences, Some(*place), message))?;
+    }
+    Ok(())
+}
+
 /// Adds an error where steps without a known limit are denied, and there is none.
 fn push_unbounded(
     alloc: Global,
@@ -196,6 +258,7 @@ fn push_unbounded(
 ) -> Result<(), AllocError>
     ensures errors { OnOk result (has_error findings.new.items ≡ (has_error findings.old.items || is_denied)) }
     ensures warnings { OnOk result (has_warning findings.new.items ≡ has_warning findings.old.items) }
+    ensures locale { OnOk result (has_locale findings.new.items ≡ has_locale findings.old.items) }
 {
     if is_denied {
         findings.push(unbounded_denial(alloc, given)?)?;

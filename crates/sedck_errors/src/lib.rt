@@ -10,7 +10,7 @@ mod refusals;
 mod steps;
 
 pub use certificates::{certificate_refusal, rejection};
-pub use denied::{Denied, any_warning, has_reads, has_writes, with_denials};
+pub use denied::{Deniable, Denied, any_warning, has_reads, has_writes, with_denials};
 pub use ends::with_end;
 pub use loops::{loop_finding, unbounded};
 pub use refusals::script_refusal;

@@ -1,8 +1,7 @@
 //! What is reported of a loop, and of a script whose steps have no limit.
 
-ghost use Rattle.std.specs.Prelude.{◌≡◌, false, IfOk, IfSome};
-ghost use Rattle.sedck_report.specs.Levels.{is_error};
-ghost use Rattle.sedck_report.specs.declared.finding.Level.TheVariants.{Error};
+ghost use Rattle.std.specs.Prelude.{◌≡◌, IfOk, IfSome};
+ghost use Rattle.sedck_report.specs.declared.finding.Level.TheVariants.{Error, Note};
 ghost use Rattle.sedck_errors.specs.Errors.{first_position};
 
 use crate::steps::{position_of, step, target_step};
@@ -275,7 +274,7 @@ pub fn unbounded(
     positions: &[Position],
     cert: &Cert,
 ) -> Result<Option<Finding>, AllocError>
-    ensures { IfOk result (λ found. IfSome found (λ finding. is_error finding.level ≡ false)) }
+    ensures { IfOk result (λ found. IfSome found (λ finding. finding.level ≡ Note)) }
 {
     let Some(edge) = first_growth(script, cert) else {
         return Ok(None);

@@ -11,6 +11,7 @@ use Rattle.sedck_explanation.proofs.Answering.{on_ok}
 use Rattle.sedck_explanation.specs.Denial.{status_under}
 use Rattle.sedck_explanation.specs.Explanations.{Keeps, KeepsScript, IsExplanation}
 use Rattle.sedck_explanation.specs.declared.answer.Answer.{Answer}
+use Rattle.sedck_explanation.specs.declared.answer.Expressions.{Expressions}
 use Rattle.sedck_explanation.specs.declared.answer.Answer.TheVariants.{Accepted, Rejected, Endless, ScriptRefused, CertificateRefused, NotJudged}
 use Rattle.sedck_explanation.specs.Status.{IsOfAnswer}
 use Rattle.sedck_explanation.specs.declared.status.Status.{Status}
@@ -36,14 +37,14 @@ judged_yes judged status (inr both) accepted = both.0
 -- ---- The script
 
 -- an accepted script is kept
-kept_script : (text : List ℕ) (denied : Denied) (warned slow : Bool) (e : Explanation) (answer : Answer)
-    → e.status ≡ status_under denied warned slow answer → Keeps text answer e → e.status ≡ exit.Accepted → KeepsScript text e
-kept_script text denied warned slow e (Accepted cert bound) is keeps accepted = keeps
-kept_script text denied warned slow e (Rejected cert why) is keeps accepted = keeps
-kept_script text denied warned slow e (Endless walk) is keeps accepted = keeps
-kept_script text denied warned slow e (CertificateRefused why) is keeps accepted = keeps
-kept_script text denied warned slow e (ScriptRefused why) is keeps accepted = let clash : exit.Refused ≡ exit.Accepted = sym is ∙ accepted in cc clash
-kept_script text denied warned slow e NotJudged is keeps accepted = let clash : exit.Refused ≡ exit.Accepted = sym is ∙ accepted in cc clash
+kept_script : (text : List ℕ) (denied : Denied) (warned : Bool) (expressions : Expressions) (e : Explanation) (answer : Answer)
+    → e.status ≡ status_under denied warned expressions answer → Keeps text answer e → e.status ≡ exit.Accepted → KeepsScript text e
+kept_script text denied warned expressions e (Accepted cert bound) is keeps accepted = keeps
+kept_script text denied warned expressions e (Rejected cert why) is keeps accepted = keeps
+kept_script text denied warned expressions e (Endless walk) is keeps accepted = keeps
+kept_script text denied warned expressions e (CertificateRefused why) is keeps accepted = keeps
+kept_script text denied warned expressions e (ScriptRefused why) is keeps accepted = let clash : exit.Refused ≡ exit.Accepted = sym is ∙ accepted in cc clash
+kept_script text denied warned expressions e NotJudged is keeps accepted = let clash : exit.Refused ≡ exit.Accepted = sym is ∙ accepted in cc clash
 
 -- what spells it is a copy of the text
 copied : (text : List ℕ) (e : Explanation) (out : Output) → KeepsScript text e → IfSome e.script (Writes out) → Copies text out

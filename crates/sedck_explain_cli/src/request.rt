@@ -183,6 +183,7 @@ fn denied_of(given: Option<&str>, locale: Option<&str>) -> Denied
             warnings: names(list.as_bytes(), b"warnings"),
             unbounded: names(list.as_bytes(), b"unbounded"),
             slow: names(list.as_bytes(), b"slow"),
+            references: names(list.as_bytes(), b"references"),
             c_locale,
         },
         None => Denied {
@@ -209,7 +210,14 @@ const KINDS: &[&str] = &["sh", "make", "docker", "yaml", "spec", "m4"];
 const LEVELS: &[&str] = &["error", "warning", "note"];
 
 /// What a script may be denied, by name.
-const DENIALS: &[&str] = &["reads", "writes", "warnings", "unbounded", "slow"];
+const DENIALS: &[&str] = &[
+    "reads",
+    "writes",
+    "warnings",
+    "unbounded",
+    "slow",
+    "references",
+];
 
 /// What follows an option; the first word is what the help calls it.
 #[derive(Clone, Copy)]

@@ -1,5 +1,5 @@
 -- Errors among findings.
-use Rattle.std.proofs.Common.{◌≡◌, ◌∙◌, ◌||◌, if◌then◌else◌, ℕ, Bool, true, false, not, List, [], ◌∷◌, Option, Some, refl}
+use Rattle.std.proofs.Common.{◌≡◌, ◌∙◌, ◌||◌, if◌then◌else◌, ℕ, Bool, true, false, not, List, [], ◌∷◌, Option, Some, refl, ap}
 use Rattle.sedck_report.specs.Levels.{has_warning, is_error, has_error, BeginsWithError}
 use Rattle.sedck_report.specs.declared.finding.Finding.{Finding}
 use Rattle.sedck_report.specs.declared.places.Position.{Position}
@@ -12,6 +12,7 @@ use Rattle.sedck_explanation.specs.Status.{Status, is_accepted}
 use Rattle.sedck_explanation.specs.Private.Errors.{IsRefused, AreFindingsOf, IsFindingOf}
 use Rattle.sedck_explanation.specs.Private.Explaining.{AreDeniedFindings}
 use Rattle.sedck_explanation.specs.declared.answer.Answer.{Answer}
+use Rattle.sedck_explanation.specs.declared.answer.Expressions.{Expressions}
 use Rattle.sedck_explanation.specs.declared.answer.Answer.TheVariants.{ScriptRefused, CertificateRefused, Accepted, Rejected, Endless, NotJudged}
 use Rattle.sedck_explanation.specs.declared.status.Status.TheVariants as exit
 
@@ -30,7 +31,7 @@ findings_stay text positions NotJudged old new adds found = (found.0, found.1, a
 -- one finding
 pub finding_alone : (text : List ℕ) (positions : List Position) (answer : Answer) (f : Finding) → IsFindingOf text positions answer (Some f)
     → AreFindingsOf text positions answer (f ∷ [])
-finding_alone text positions (Accepted cert bound) f is = or-false false (is_error f.level) is
+finding_alone text positions (Accepted cert bound) f is = or-false false (is_error f.level) (ap is_error is)
 finding_alone text positions (ScriptRefused why) f is = (f.position, is.1, (is.0, refl))
 finding_alone text positions (CertificateRefused why) f is = (f.position, is.1, (is.0, refl))
 finding_alone text positions (Rejected cert why) f is = (f.position, is.1, (is.0, refl))
@@ -49,26 +50,26 @@ denied_is_error true before error status is none is_status = rw (is_status, is) 
 denied_is_error false before error status is none is_status = rw (is_status, is, none) refl
 
 -- there is an error exactly where it isn't accepted, and the first is that of the answer
-pub errors_of : (text : List ℕ) (positions : List Position) (denied : Denied) (slow : Bool) (answer : Answer) (before all : List Finding) (status : Status)
-    → AreFindingsOf text positions answer before → AreDeniedFindings denied slow before all answer → status ≡ status_under denied (has_warning all) slow answer
+pub errors_of : (text : List ℕ) (positions : List Position) (denied : Denied) (has : Expressions) (answer : Answer) (before all : List Finding) (status : Status)
+    → AreFindingsOf text positions answer before → AreDeniedFindings denied has before all answer → status ≡ status_under denied (has_warning all) has answer
     → (has_error all ≡ not (is_accepted status)) × BeginsWithAnswer text positions all answer
-errors_of text positions denied slow (Accepted cert bound) before all status found denials is =
-    (denied_is_error (is_denied denied (has_warning all) slow (Accepted cert bound)) (has_error before) (has_error all) status denials found is, tt)
-errors_of text positions denied slow (ScriptRefused why) before all status found denials is =
+errors_of text positions denied has (Accepted cert bound) before all status found denials is =
+    (denied_is_error (is_denied denied (has_warning all) has (Accepted cert bound)) (has_error before) (has_error all) status denials found is, tt)
+errors_of text positions denied has (ScriptRefused why) before all status found denials is =
     rw denials ((rw is (begins_is_error found.0 before found.2)), found)
-errors_of text positions denied slow (CertificateRefused why) before all status found denials is =
+errors_of text positions denied has (CertificateRefused why) before all status found denials is =
     rw denials ((rw is (begins_is_error found.0 before found.2)), found)
-errors_of text positions denied slow (Rejected cert why) before all status found denials is =
+errors_of text positions denied has (Rejected cert why) before all status found denials is =
     rw denials ((rw is (begins_is_error found.0 before found.2)), found)
-errors_of text positions denied slow (Endless walk) before all status found denials is =
+errors_of text positions denied has (Endless walk) before all status found denials is =
     rw denials ((rw is (begins_is_error found.0 before found.2)), found)
-errors_of text positions denied slow NotJudged before all status found denials is =
+errors_of text positions denied has NotJudged before all status found denials is =
     rw denials ((rw is (begins_is_error found.0 before found.2)), found)
 
 -- the same of a script that is refused, where nothing is denied
-pub errors_of_refusal : (text : List ℕ) (denied : Denied) (slow : Bool) (answer : Answer) (findings : List Finding) (status : Status) → IsRefused text answer
-    → AreFindingsOf text [] answer findings → status ≡ status_under denied (has_warning findings) slow answer
+pub errors_of_refusal : (text : List ℕ) (denied : Denied) (has : Expressions) (answer : Answer) (findings : List Finding) (status : Status) → IsRefused text answer
+    → AreFindingsOf text [] answer findings → status ≡ status_under denied (has_warning findings) has answer
     → (has_error findings ≡ not (is_accepted status)) × BeginsWithAnswer text [] findings answer
-errors_of_refusal text denied slow (ScriptRefused why) findings status refused found is =
-    errors_of text [] denied slow (ScriptRefused why) findings findings status found refl is
-errors_of_refusal text denied slow _ findings status refused found is = absurd refused
+errors_of_refusal text denied has (ScriptRefused why) findings status refused found is =
+    errors_of text [] denied has (ScriptRefused why) findings findings status found refl is
+errors_of_refusal text denied has _ findings status refused found is = absurd refused

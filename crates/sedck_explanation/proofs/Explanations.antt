@@ -74,7 +74,7 @@ explained_script text given denied p locations answer e spelled located is expla
   is_text = explains.is_text;
   is_answer = subst (IsAnswer text given) (sym explains.is_answer) is;
   is_status = explains.is_status;
-  concerned = explains.concerned;
+  locale = explains.locale;
   keeps = subst (λ (a : Answer). Keeps text a e) (sym explains.is_answer) (keeps_script text given p locations answer e spelled located is kept);
   errors = explains.errors;
   order = explains.order;
@@ -88,7 +88,7 @@ explained_refusal text given denied answer e refused is explains kept = record {
   is_text = explains.is_text;
   is_answer = subst (IsAnswer text given) (sym explains.is_answer) is;
   is_status = explains.is_status;
-  concerned = explains.concerned;
+  locale = explains.locale;
   keeps = subst (λ (a : Answer). Keeps text a e) (sym explains.is_answer) (keeps_nothing text answer e refused kept);
   errors = explains.errors;
   order = explains.order;

@@ -14,6 +14,7 @@ use Rattle.sedck_explanation.specs.Errors.{BeginsWithAnswer}
 use Rattle.sedck_explanation.specs.Status.{Status, is_accepted}
 use Rattle.sedck_explanation.specs.Private.Reporting.{errors_in, KeepsErrors, AreReported}
 use Rattle.sedck_explanation.specs.declared.answer.Answer.{Answer}
+use Rattle.sedck_explanation.specs.declared.answer.Expressions.{Expressions}
 use Rattle.sedck_explanation.specs.declared.answer.Answer.TheVariants.{ScriptRefused, CertificateRefused, Accepted, Rejected, Endless, NotJudged}
 use Rattle.sedck_explanation.proofs.Reports.{errors_of_ordered}
 
@@ -68,14 +69,14 @@ warned_same true was now same = sym (same refl)
 warned_same false was now same = refl
 
 -- the status
-pub status_kept : (denied : Denied) (slow : Bool) (answer : Answer) (was now : Bool) → (denied.warnings ≡ true → now ≡ was)
-    → status_under denied was slow answer ≡ status_under denied now slow answer
-status_kept denied slow (Accepted cert bound) was now same = rw (warned_same denied.warnings was now same) refl
-status_kept denied slow (ScriptRefused why) was now same = refl
-status_kept denied slow (CertificateRefused why) was now same = refl
-status_kept denied slow (Rejected cert why) was now same = refl
-status_kept denied slow (Endless walk) was now same = refl
-status_kept denied slow NotJudged was now same = refl
+pub status_kept : (denied : Denied) (has : Expressions) (answer : Answer) (was now : Bool) → (denied.warnings ≡ true → now ≡ was)
+    → status_under denied was has answer ≡ status_under denied now has answer
+status_kept denied has (Accepted cert bound) was now same = rw (warned_same denied.warnings was now same) refl
+status_kept denied has (ScriptRefused why) was now same = refl
+status_kept denied has (CertificateRefused why) was now same = refl
+status_kept denied has (Rejected cert why) was now same = refl
+status_kept denied has (Endless walk) was now same = refl
+status_kept denied has NotJudged was now same = refl
 
 -- what holds of the errors that were found holds of those that are reported
 pub errors_reported : (text : List ℕ) (positions : List Position) (answer : Answer) (ignored : List Code) (found all : List Finding) (status : Status)
@@ -84,8 +85,8 @@ pub errors_reported : (text : List ℕ) (positions : List Position) (answer : An
 errors_reported text positions answer ignored found all status reported errors =
     (error_kept found all reported.errors ∙ errors.0, answer_kept text positions answer found all reported.errors reported.order errors.1)
 
-pub status_reported : (text : List ℕ) (denied : Denied) (slow : Bool) (answer : Answer) (ignored : List Code) (found all : List Finding) (status : Status)
-    → AreReported text ignored found all → (denied.warnings ≡ true → ignored ≡ []) → status ≡ status_under denied (has_warning found) slow answer
-    → status ≡ status_under denied (has_warning all) slow answer
-status_reported text denied slow answer ignored found all status reported none is =
-    is ∙ status_kept denied slow answer (has_warning found) (has_warning all) (λ counts. reported.warnings (none counts))
+pub status_reported : (text : List ℕ) (denied : Denied) (has : Expressions) (answer : Answer) (ignored : List Code) (found all : List Finding) (status : Status)
+    → AreReported text ignored found all → (denied.warnings ≡ true → ignored ≡ []) → status ≡ status_under denied (has_warning found) has answer
+    → status ≡ status_under denied (has_warning all) has answer
+status_reported text denied has answer ignored found all status reported none is =
+    is ∙ status_kept denied has answer (has_warning found) (has_warning all) (λ counts. reported.warnings (none counts))

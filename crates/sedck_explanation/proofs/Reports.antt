@@ -1,14 +1,16 @@
 -- Findings that are sorted out by their levels.
-use Rattle.std.proofs.Common.{◌≡◌, ◌∙◌, ◌||◌, ℕ, Bool, true, false, List, [], ◌∷◌, ◌++◌, map, refl, sym, ap, subst}
+use Rattle.std.proofs.Common.{◌≡◌, ◌∙◌, ◌||◌, ◌&&◌, ℕ, Bool, true, false, List, [], ◌∷◌, ◌++◌, Option, map, refl, sym, ap, subst}
+use Rattle.std.proofs.lemmas.Bool.{false≢true}
 use Rattle.std.proofs.lemmas.List.{map-append}
 use Rattle.std.proofs.lemmas.List.Folds.{list_any-append}
 use Rattle.std.proofs.lemmas.List.Elements.{filter-append, All-append, All-cons, All-nil, All-head, All-tail}
 use Rattle.std.specs.List.{All}
-use Rattle.sedck_report.specs.Levels.{has_warning, is_warning, is_error}
+use Rattle.sedck_report.specs.Levels.{has_warning, has_locale, is_warning, is_locale, is_error}
 use Rattle.sedck_report.specs.Reported.{AreOf, AreInOrder, HasRange, head_of}
 use Rattle.sedck_report.specs.declared.code.Code.{Code}
 use Rattle.sedck_report.specs.declared.finding.Finding.{Finding}
 use Rattle.sedck_report.specs.declared.finding.Level.{Level}
+use Rattle.sedck_report.specs.declared.places.Position.{Position}
 use Rattle.sedck_report.specs.declared.finding.Level.TheVariants.{Error, Warning, Note}
 use Rattle.sedck_explanation.specs.Private.Reporting.{errors_in, AreReported}
 
@@ -16,6 +18,7 @@ use Rattle.sedck_explanation.specs.Private.Reporting.{errors_in, AreReported}
 pub record IsSortedOut (text : List ℕ) (ignored : List Code) (found errors warnings notes : List Finding) : Type 0 where
   pub heads : map head_of errors ≡ map head_of (errors_in found)
   pub warned : ignored ≡ [] → has_warning warnings ≡ has_warning found
+  pub locale : has_locale warnings ≡ has_locale found
   pub are_errors : AreOf Error errors
   pub are_warnings : AreOf Warning warnings
   pub are_notes : AreOf Note notes
@@ -47,6 +50,17 @@ warned_by f found = list_any-append (λ finding. is_warning finding.level) found
 not_warned : (f : Finding) → is_warning f.level ≡ false → (found : List Finding) → has_warning (found ++ (f ∷ [])) ≡ has_warning found
 not_warned f none found = warned_by f found ∙ ap (λ b. has_warning found || b) none ∙ or_false (has_warning found)
 
+-- whether there is the warning `locale`, with one finding more
+locale_by : (f : Finding) (found : List Finding) → has_locale (found ++ (f ∷ [])) ≡ (has_locale found || (is_warning f.level && is_locale f.code))
+locale_by f found = list_any-append (λ finding. is_warning finding.level && is_locale finding.code) found (f ∷ [])
+    ∙ ap (λ b. has_locale found || b) (or_false (is_warning f.level && is_locale f.code))
+
+pub not_locale : (f : Finding) → (is_warning f.level && is_locale f.code) ≡ false → (found : List Finding) → has_locale (found ++ (f ∷ [])) ≡ has_locale found
+not_locale f none found = locale_by f found ∙ ap (λ b. has_locale found || b) none ∙ or_false (has_locale found)
+
+none_and : (a b : Bool) → a ≡ false → (a && b) ≡ false
+none_and a b is = rw is refl
+
 errors_one : (f : Finding) → f.level ≡ Error → errors_in (f ∷ []) ≡ f ∷ []
 errors_one f is = rw is refl
 
@@ -76,6 +90,7 @@ more_error text ignored found errors pushed warnings notes f g same head has is 
     record {
       heads = subst (λ (t : List Finding). map head_of t ≡ map head_of (errors_in (found ++ (f ∷ [])))) (sym pushes) heads;
       warned = λ none. sorted.warned none ∙ sym (not_warned f (ap is_warning was) found);
+      locale = sorted.locale ∙ sym (not_locale f (none_and (is_warning f.level) (is_locale f.code) (ap is_warning was)) found);
       are_errors = subst (AreOf Error) (sym pushes) (level_of Error g is errors sorted.are_errors);
       are_warnings = sorted.are_warnings;
       are_notes = sorted.are_notes;
@@ -85,15 +100,18 @@ more_error text ignored found errors pushed warnings notes f g same head has is 
     }
 
 pub more_warning : (text : List ℕ) (ignored : List Code) (found errors warnings pushed notes : List Finding) (f g : Finding)
-    → g.level ≡ f.level → HasRange text g → g.level ≡ Warning → pushed ≡ warnings ++ (g ∷ [])
+    → g.level ≡ f.level → head_of g ≡ head_of f → HasRange text g → g.level ≡ Warning → pushed ≡ warnings ++ (g ∷ [])
     → IsSortedOut text ignored found errors warnings notes → IsSortedOut text ignored (found ++ (f ∷ [])) errors pushed notes
-more_warning text ignored found errors warnings pushed notes f g same has is pushes sorted =
+more_warning text ignored found errors warnings pushed notes f g same head has is pushes sorted =
     let was : f.level ≡ Warning = sym same ∙ is in
     let both : has_warning (warnings ++ (g ∷ [])) ≡ (has_warning warnings || true) = warned_by g warnings ∙ ap (λ l. has_warning warnings || is_warning l) is in
     let found_both : has_warning (found ++ (f ∷ [])) ≡ (has_warning found || true) = warned_by f found ∙ ap (λ l. has_warning found || is_warning l) was in
     record {
       heads = sorted.heads ∙ ap (map head_of) (sym (no_error_more f (ap is_error was) found));
       warned = λ none. ap has_warning pushes ∙ both ∙ ap (λ b. b || true) (sorted.warned none) ∙ sym found_both;
+      locale = ap has_locale pushes ∙ locale_by g warnings ∙ ap (λ b. b || (is_warning g.level && is_locale g.code)) sorted.locale
+          ∙ ap (λ l. has_locale found || (is_warning l && is_locale g.code)) same
+          ∙ ap (λ (h : Code × Option Position). has_locale found || (is_warning f.level && is_locale h.0)) head ∙ sym (locale_by f found);
       are_errors = sorted.are_errors;
       are_warnings = subst (AreOf Warning) (sym pushes) (level_of Warning g is warnings sorted.are_warnings);
       are_notes = sorted.are_notes;
@@ -110,6 +128,7 @@ more_note text ignored found errors warnings notes pushed f g same has is pushes
     record {
       heads = sorted.heads ∙ ap (map head_of) (sym (no_error_more f (ap is_error was) found));
       warned = λ none. sorted.warned none ∙ sym (not_warned f (ap is_warning was) found);
+      locale = sorted.locale ∙ sym (not_locale f (none_and (is_warning f.level) (is_locale f.code) (ap is_warning was)) found);
       are_errors = sorted.are_errors;
       are_warnings = sorted.are_warnings;
       are_notes = subst (AreOf Note) (sym pushes) (level_of Note g is notes sorted.are_notes);
@@ -118,12 +137,52 @@ more_note text ignored found errors warnings notes pushed f g same has is pushes
       note_ends = subst (All (HasRange text)) (sym pushes) (range_of text g has notes sorted.note_ends);
     }
 
+not_so : (a is : Bool) → is ≡ true → (a ≡ true → is ≡ false) → a ≡ false
+not_so true is holds denies = absurd (false≢true (sym (denies refl) ∙ holds))
+not_so false is holds denies = refl
+
+and_none : (a b : Bool) → b ≡ false → (a && b) ≡ false
+and_none true b is = is
+and_none false b is = refl
+
+-- one that is left out
+pub more_ignored : (text : List ℕ) (ignored : List Code) (found errors warnings notes : List Finding) (f : Finding) (is : Bool) → is ≡ true
+    → (is_error f.level ≡ true → is ≡ false) → (is_locale f.code ≡ true → is ≡ false) → (ignored ≡ [] → is ≡ false)
+    → IsSortedOut text ignored found errors warnings notes → IsSortedOut text ignored (found ++ (f ∷ [])) errors warnings notes
+more_ignored text ignored found errors warnings notes f is holds error locale nothing sorted = record {
+  heads = sorted.heads ∙ ap (map head_of) (sym (no_error_more f (not_so (is_error f.level) is holds error) found));
+  warned = λ none. absurd (false≢true (sym (nothing none) ∙ holds));
+  locale = sorted.locale ∙ sym (not_locale f (and_none (is_warning f.level) (is_locale f.code) (not_so (is_locale f.code) is holds locale)) found);
+  are_errors = sorted.are_errors;
+  are_warnings = sorted.are_warnings;
+  are_notes = sorted.are_notes;
+  error_ends = sorted.error_ends;
+  warning_ends = sorted.warning_ends;
+  note_ends = sorted.note_ends;
+}
+
 -- ---- All of them
+
+-- one finding that is no warning
+pub locale_alone : (f : Finding) → is_warning f.level ≡ false → has_locale (f ∷ []) ≡ false
+locale_alone f none = rw none refl
+
+-- none is added to none
+pub no_locale_append : (old new more : List Finding) → new ≡ old ++ more → has_locale old ≡ false → has_locale more ≡ false → has_locale new ≡ false
+no_locale_append old new more is one two =
+    ap has_locale is ∙ list_any-append (λ finding. is_warning finding.level && is_locale finding.code) old more
+    ∙ ap (λ b. b || has_locale more) one ∙ two
 
 none_warns : (level : Level) → is_warning level ≡ false → (findings : List Finding) → AreOf level findings → has_warning findings ≡ false
 none_warns level none [] are = refl
 none_warns level none (f ∷ more) are =
     ap (λ l. is_warning l || has_warning more) (All-head (Of level) f more are) ∙ ap (λ b. b || has_warning more) none ∙ none_warns level none more (All-tail (Of level) f more are)
+
+none_locale : (level : Level) → is_warning level ≡ false → (findings : List Finding) → AreOf level findings → has_locale findings ≡ false
+none_locale level none [] are = refl
+none_locale level none (f ∷ more) are =
+    ap (λ l. (is_warning l && is_locale f.code) || has_locale more) (All-head (Of level) f more are)
+    ∙ ap (λ b. b || has_locale more) (none_and (is_warning level) (is_locale f.code) none) ∙ none_locale level none more (All-tail (Of level) f more are)
 
 no_errors_in : (level : Level) → is_error level ≡ false → (findings : List Finding) → AreOf level findings → errors_in findings ≡ []
 no_errors_in level none [] are = refl
@@ -162,9 +221,17 @@ sorted_reports text ignored found errors warnings notes all is sorted =
     ∙ list_any-append w warnings notes
     ∙ ap (λ b. has_warning warnings || b) (none_warns Note refl notes sorted.are_notes)
     ∙ or_false (has_warning warnings) in
+    let l = λ (f : Finding). is_warning f.level && is_locale f.code in
+    let located : has_locale (errors ++ (warnings ++ notes)) ≡ has_locale warnings =
+    list_any-append l errors (warnings ++ notes)
+    ∙ ap (λ b. b || has_locale (warnings ++ notes)) (none_locale Error refl errors sorted.are_errors)
+    ∙ list_any-append l warnings notes
+    ∙ ap (λ b. has_locale warnings || b) (none_locale Note refl notes sorted.are_notes)
+    ∙ or_false (has_locale warnings) in
     record {
       errors = ap (λ t. map head_of (errors_in t)) is ∙ ap (map head_of) (errors_of_parts errors warnings notes sorted.are_errors sorted.are_warnings sorted.are_notes) ∙ sorted.heads;
       warnings = λ none. ap has_warning is ∙ warned ∙ sorted.warned none;
+      locale = ap has_locale is ∙ located ∙ sorted.locale;
       order = record {
         errors = errors;
         warnings = warnings;

@@ -15,7 +15,7 @@ use Rattle.sedck_call.specs.declared.call.Call.{Call}
 use Rattle.sedck_engines.specs.Inputs.{IsRead}
 use Rattle.sedck_engines.specs.Opened.{Known}
 use Rattle.sedck_report.specs.Files.{is_there}
-use Rattle.sedck_report.specs.Levels.{has_warning, has_error}
+use Rattle.sedck_report.specs.Levels.{has_warning, has_locale, has_error}
 use Rattle.sedck_errors.specs.declared.denied.Denied.{Denied}
 use Rattle.sedck_explanation.specs.Explanations.{IsExplanation, Keeps}
 use Rattle.sedck_explanation.specs.Status.{Status, Accepted, Rejected, is_accepted}
@@ -61,6 +61,7 @@ pub record IsDenied (text : List ℕ) (judged e : Explanation) : Type 0 where
   pub answer : e.answer ≡ judged.answer
   pub status : e.status ≡ Rejected
   pub errors : has_error e.findings.items ≡ true
+  pub locale : has_locale e.findings.items ≡ has_locale judged.findings.items
   pub keeps : Keeps text e.answer e
 
 -- What is said of a call whose script is this text: what is said of the text, but where that is denied for an operand that is

@@ -1,24 +1,34 @@
 -- What a caller may deny of an accepted script, this project's own: files that it reads or writes, warnings, steps without a
--- limit, and expressions that are slow to match. A script that isn't accepted has its status with or without it.
-use Rattle.std.specs.Prelude.{Bool, false, ◌&&◌, ◌||◌, is_none, if◌then◌else◌}
+-- limit, and expressions that are slow to match or have a reference. A script that isn't accepted has its status with or without it.
+use Rattle.std.specs.Prelude.{Bool, false, ◌&&◌, ◌||◌, Option, Some, None, is_none, if◌then◌else◌}
+use Rattle.sedck_script.specs.Program.{Program}
 use Rattle.sedck_report.specs.Files.{is_there}
+use Rattle.sedck_advice.specs.Slow.{is_slow}
+use Rattle.sedck_advice.specs.References.{has_references}
 use Rattle.sedck_errors.specs.declared.denied.Denied.{Denied}
 use Rattle.sedck_explanation.specs.Answers.{status_of}
 use Rattle.sedck_explanation.specs.declared.answer.Answer.{Answer}
 use Rattle.sedck_explanation.specs.declared.answer.Answer.TheVariants.{Accepted}
+use Rattle.sedck_explanation.specs.declared.answer.Expressions.{Expressions}
 use Rattle.sedck_explanation.specs.Status.{Status, Rejected}
 
 -- nothing is denied, and nothing is known of the locale
 abbrev pub nothing : Denied
-nothing = record { reads = false; writes = false; warnings = false; unbounded = false; slow = false; c_locale = false }
+nothing = record { reads = false; writes = false; warnings = false; unbounded = false; slow = false; references = false; c_locale = false }
 
--- the script is accepted, and has what is denied. Its lists are those of the accepted certificate.
-abbrev pub is_denied : Denied → (warned slow : Bool) → Answer → Bool
-is_denied denied warned slow (Accepted cert bound) =
+-- what may be denied of the expressions of a script, where one is kept
+abbrev pub expressions_of : Option Program → Expressions
+expressions_of None = record { slow = false; references = false }
+expressions_of (Some p) = record { slow = is_slow p; references = has_references p }
+
+-- The script is accepted, and has what is denied. Its lists are those of the accepted certificate.
+abbrev pub is_denied : Denied → (warned : Bool) → Expressions → Answer → Bool
+is_denied denied warned expressions (Accepted cert bound) =
     (denied.reads && is_there cert.reads) || (denied.writes && is_there cert.writes)
-    || (denied.unbounded && is_none bound) || (denied.warnings && warned) || (denied.slow && slow)
-is_denied denied warned slow _ = false
+    || (denied.unbounded && is_none bound) || (denied.warnings && warned)
+    || (denied.slow && expressions.slow) || (denied.references && expressions.references)
+is_denied denied warned expressions _ = false
 
 -- the exit status: rejected for a script that is accepted and has what is denied, else that of the answer
-abbrev pub status_under : Denied → (warned slow : Bool) → Answer → Status
-status_under denied warned slow answer = if is_denied denied warned slow answer then Rejected else status_of answer
+abbrev pub status_under : Denied → (warned : Bool) → Expressions → Answer → Status
+status_under denied warned expressions answer = if is_denied denied warned expressions answer then Rejected else status_of answer

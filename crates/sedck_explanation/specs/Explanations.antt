@@ -1,5 +1,5 @@
 -- What an explanation keeps of the script beside the answer, this project's own.
-use Rattle.std.specs.Prelude.{◌≡◌, ℕ, Bool, true, false, not, List, [], length, map, Option, Some, None}
+use Rattle.std.specs.Prelude.{◌≡◌, ◌&&◌, ℕ, Bool, true, false, not, List, [], length, map, Option, Some, None}
 use Rattle.std.specs.List.{All}
 use Rattle.sedck_script.specs.Program.{Program}
 use Rattle.sedck_script.specs.Names.{reads, writes}
@@ -9,17 +9,14 @@ use Rattle.sedck_script.specs.Spelling.{Spells}
 use Rattle.sedck_cert.specs.Headline.{Only}
 use Rattle.sedck_report.specs.Positions.{position_in}
 use Rattle.sedck_report.specs.Files.{names_of}
-use Rattle.sedck_report.specs.Levels.{has_warning}
+use Rattle.sedck_report.specs.Levels.{has_warning, has_locale}
 use Rattle.sedck_report.specs.Reported.{AreInOrder, HasRange}
 use Rattle.sedck_report.specs.declared.finding.Finding.{Finding}
 use Rattle.sedck_report.specs.declared.places.Position.{Position}
-use Rattle.sedck_advice.specs.Slow.{is_slow}
-use Rattle.sedck_advice.specs.Concerns.{concerns}
-use Rattle.sedck_advice.specs.declared.concerns.Concern.{Concern}
-use Rattle.sedck_advice.specs.declared.concerns.Concern.TheVariants.{Endless, Locale}
+use Rattle.sedck_advice.specs.Locale.{depends_on_locale}
 use Rattle.sedck_errors.specs.declared.denied.Denied.{Denied}
 use Rattle.sedck_explanation.specs.Answers.{IsAnswer}
-use Rattle.sedck_explanation.specs.Denial.{status_under}
+use Rattle.sedck_explanation.specs.Denial.{expressions_of, status_under}
 use Rattle.sedck_explanation.specs.Errors.{HasErrors}
 use Rattle.sedck_explanation.specs.declared.answer.Answer.{Answer}
 use Rattle.sedck_explanation.specs.declared.answer.Answer.TheVariants.{ScriptRefused, NotJudged}
@@ -57,24 +54,14 @@ abbrev pub kept_has : (Program → Bool) → Option Program → Bool
 kept_has has None = false
 kept_has has (Some p) = has p
 
--- it is warned of: what a sed reads otherwise in a locale of UTF-8 only where the locale isn't known to be C
-abbrev pub is_due : Denied → Concern → Bool
-is_due denied Endless = true
-is_due denied Locale = not denied.c_locale
-
 -- The explanation of a script's text, and of a certificate's where there is one, to a caller who denies this
 pub record IsExplanation (text : List ℕ) (given : Option (List ℕ)) (denied : Denied) (e : Explanation) : Type 0 where
   pub is_text : e.text.now ≡ text
   pub is_answer : IsAnswer text given e.answer
-  pub is_status : e.status ≡ status_under denied (has_warning e.findings.items) (kept_has is_slow e.script) e.answer
-  -- where warnings are denied, there is one of a script in which something is of concern, whatever its comments ignore
-  pub concerned : (concern : Concern) → denied.warnings ≡ true → is_due denied concern ≡ true → kept_has (concerns concern) e.script ≡ true
-      → has_warning e.findings.items ≡ true
+  pub is_status : e.status ≡ status_under denied (has_warning e.findings.items) (expressions_of e.script) e.answer
+  -- the warning `locale` is there exactly where the script isn't byte safe and the locale isn't known to be C, whatever comments say
+  pub locale : has_locale e.findings.items ≡ (not denied.c_locale && kept_has depends_on_locale e.script)
   pub keeps : Keeps text e.answer e
   pub errors : HasErrors text e
   pub order : AreInOrder e.findings.items
   pub ends : All (HasRange text) e.findings.items
-
--- where warnings are denied, those that are given beside the script's own are reported; else a comment of the script may ignore them
-abbrev pub WarnedWith : Denied → List Finding → Explanation → Type 0
-WarnedWith denied given e = denied.warnings ≡ true → has_warning given ≡ true → has_warning e.findings.items ≡ true

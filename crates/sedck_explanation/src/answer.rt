@@ -47,6 +47,23 @@ pub enum Answer {
     NotJudged,
 }
 
+/// What may be denied of a script's expressions.
+#[derive(Clone, Copy)]
+pub struct Expressions {
+    /// Matching one may take very long.
+    pub slow: bool,
+    /// One has a reference.
+    pub references: bool,
+}
+
+impl Expressions {
+    /// There is none of either.
+    pub const NONE: Expressions = Expressions {
+        slow: false,
+        references: false,
+    };
+}
+
 impl Answer {
     /// The exit status.
     pub fn status(&self) -> Status
@@ -62,9 +79,14 @@ impl Answer {
     }
 
     /// The exit status where this is denied: `Rejected` for a script that is accepted and has what is denied, else as `status`. One of
-    /// the findings is a warning where `has_warning` says so, and the script is slow where `is_slow` does.
-    pub fn status_under(&self, denied: Denied, has_warning: bool, is_slow: bool) -> Status
-        ensures value { result ≡ status_under denied has_warning is_slow self.now }
+    /// the findings is a warning where `has_warning` says so, and the script's expressions are such.
+    pub fn status_under(
+        &self,
+        denied: Denied,
+        has_warning: bool,
+        expressions: Expressions,
+    ) -> Status
+        ensures value { result ≡ status_under denied has_warning expressions self.now }
         ensures few { IsOfAnswer result }
         // A no stays what it is, and without a denial a yes does too.
         ensures never_a_yes { result ≡ Status.Accepted → status_of self.now ≡ Status.Accepted }
@@ -72,7 +94,7 @@ impl Answer {
     {
         match self {
             Answer::Accepted { cert, bound } => {
-                if has_denied(denied, cert, bound.is_none(), has_warning, is_slow) {
+                if has_denied(denied, cert, bound.is_none(), has_warning, expressions) {
                     Status::Rejected
                 } else {
                     Status::Accepted
@@ -89,16 +111,18 @@ fn has_denied(
     cert: &Cert,
     is_unbounded: bool,
     has_warning: bool,
-    is_slow: bool,
+    expressions: Expressions,
 ) -> bool
     ensures { result ≡ ((denied.reads && is_there cert.now.reads) || (denied.writes && is_there cert.now.writes)
-        || (denied.unbounded && is_unbounded) || (denied.warnings && has_warning) || (denied.slow && is_slow)) }
+        || (denied.unbounded && is_unbounded) || (denied.warnings && has_warning) || (denied.slow && expressions.slow)
+        || (denied.references && expressions.references)) }
 {
     (denied.reads && has_reads(cert))
         || (denied.writes && has_writes(cert))
         || (denied.unbounded && is_unbounded)
         || (denied.warnings && has_warning)
-        || (denied.slow && is_slow)
+        || (denied.slow && expressions.slow)
+        || (denied.references && expressions.references)
 }
 
 /// An answer, and the script with the places of its commands where it isn't refused.

@@ -30,11 +30,27 @@ pub fn explain_called<'a>(
     ensures yes { IfOk result (λ e. e.status ≡ Status.Accepted → IsExplanation text.now None denied e) }
 {
     let warnings = call_warnings(alloc, words, call)?;
-    let explanation = explain_call(alloc, text, warnings, denied)?;
+    let inputs = inputs_of(alloc, words, call)?;
+    let explanation = explain_call(alloc, text, &inputs, warnings, denied)?;
     if is_denied_call(denied, call, explanation.status) {
         return denied_call(alloc, words, call, explanation);
     }
     Ok(explanation)
+}
+
+/// The operands of the call that are inputs.
+fn inputs_of<'a>(
+    alloc: Global,
+    words: &[&'a [u8]],
+    call: &Call,
+) -> Result<Vec<&'a [u8]>, AllocError> {
+    let mut inputs = Vec::new(alloc);
+    for number in &call.inputs {
+        if let Some(word) = words.get(*number) {
+            inputs.push(*word)?;
+        }
+    }
+    Ok(inputs)
 }
 
 /// Whether the script is accepted, but the call overwrites operands where writing is denied.

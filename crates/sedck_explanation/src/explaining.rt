@@ -1,30 +1,30 @@
 //! All that is reported of a script.
 
-ghost use Rattle.std.specs.Prelude.{◌≡◌, true, false, None, [], IfOk, OnOk, map};
-ghost use Rattle.std.specs.Option.{is_some, option_map};
+ghost use Rattle.std.specs.Prelude.{◌≡◌, ◌&&◌, ◌||◌, not, true, false, Some, None, [], IfOk, IfSome, OnOk, map};
+ghost use Rattle.std.specs.Option.{option_map};
 ghost use Rattle.sedck_script.specs.Names.{reads, writes};
 ghost use Rattle.sedck_report.specs.Files.{names_of};
-ghost use Rattle.sedck_report.specs.Levels.{has_warning, has_error};
+ghost use Rattle.sedck_report.specs.Levels.{has_warning, has_locale, has_error, is_warning};
 ghost use Rattle.sedck_report.specs.Positions.{position_in};
 ghost use Rattle.sedck_advice.specs.Added.{AddsNoError};
-ghost use Rattle.sedck_advice.specs.Concerns.{concerns};
-ghost use Rattle.sedck_advice.specs.declared.concerns.Concern.TheVariants.{Locale};
-ghost use Rattle.sedck_explanation.specs.Explanations.{IsExplanation, KeepsNothing, WarnedWith, is_due};
+ghost use Rattle.sedck_advice.specs.Locale.{depends_on_locale};
+ghost use Rattle.sedck_explanation.specs.Explanations.{IsExplanation, KeepsNothing};
+ghost use Rattle.sedck_explanation.specs.Denial.{expressions_of};
 ghost use Rattle.sedck_explanation.specs.Status.{IsOfAnswer};
 ghost use Rattle.sedck_explanation.specs.Private.Errors.{IsOfScript, IsRefused, CanBeReported, AreFindingsOf, IsFindingOf};
-ghost use Rattle.sedck_explanation.specs.Private.Explaining.{Explains, Reports, KeepsLocated, HasLists, AreDeniedFindings};
+ghost use Rattle.sedck_explanation.specs.Private.Explaining.{Explains, Reports, WarnedWith, KeepsLocated, HasLists, AreDeniedFindings, kinds_of};
 
-use crate::answer::{Answer, Answered, answer_of};
+use crate::answer::{Answer, Answered, Expressions, answer_of};
 use crate::explanation::Explanation;
 use crate::reporting::{ignored_codes, reported};
 use crate::status::Status;
 use sedck_advice::{
-    Concern, NamedFiles, ReadScript, Slow, add_warnings, concern_warnings, ignoring_words,
-    named_files, slow_of,
+    NamedFiles, ReadScript, Slow, add_warnings, ignoring_words, locale_warnings, named_files,
+    references_in, slow_of,
 };
 use sedck_errors::{
-    Denied, any_warning, certificate_refusal, loop_finding, rejection, script_refusal, unbounded,
-    with_denials,
+    Deniable, Denied, any_warning, certificate_refusal, loop_finding, rejection, script_refusal,
+    unbounded, with_denials,
 };
 use sedck_report::{Finding, NamedFile, Position, positions};
 use sedck_script::{Access, Located, Location, Script};
@@ -42,70 +42,89 @@ pub fn explain<'a>(
     ensures explanation { IfOk result (IsExplanation text.now (option_map (λ bytes. bytes.now) certificate.entry) denied) }
     ensures few { IfOk result (λ e. IsOfAnswer e.status) }
 {
-    explained_with(alloc, own, text, certificate, Vec::new(alloc), denied)
+    let asked = Asked {
+        own,
+        inputs: &[],
+        denied,
+    };
+    explained_with(alloc, text, certificate, Vec::new(alloc), asked)
 }
 
-/// Explains the script of a call of sed, as `explain` does without a certificate. What is warned of the call is reported with the
-/// script's own warnings, and is denied with them.
-pub fn explain_call<'a>(
+/// What is known beside a script's text: the path of its file, if it has one, the operands of its call, and what is denied.
+#[derive(Clone, Copy)]
+struct Asked<'a> {
+    own: Option<&'a [u8]>,
+    inputs: &'a [&'a [u8]],
+    denied: Denied,
+}
+
+/// Explains the script of a call of sed with these operands, as `explain` does without a certificate. What is warned of the call is
+/// reported with the script's own warnings, and is denied with them.
+pub(crate) fn explain_call<'a>(
     alloc: Global,
     text: &'a [u8],
+    inputs: &[&[u8]],
     warnings: Vec<Finding>,
     denied: Denied,
 ) -> Result<Explanation<'a>, AllocError>
-    requires { has_error warnings.items ≡ false }
+    requires errors { has_error warnings.items ≡ false }
+    requires locale { has_locale warnings.items ≡ false }
     ensures explanation { IfOk result (IsExplanation text.now None denied) }
     ensures few { IfOk result (λ e. IsOfAnswer e.status) }
     ensures warned { IfOk result (WarnedWith denied warnings.items) }
 {
-    explained_with(alloc, None, text, None, warnings, denied)
+    let asked = Asked {
+        own: None,
+        inputs,
+        denied,
+    };
+    explained_with(alloc, text, None, warnings, asked)
 }
 
 /// Explains a script, with these warnings beside its own.
 fn explained_with<'a>(
     alloc: Global,
-    own: Option<&'a [u8]>,
     text: &'a [u8],
     certificate: Option<&[u8]>,
     warnings: Vec<Finding>,
-    denied: Denied,
+    asked: Asked,
 ) -> Result<Explanation<'a>, AllocError>
-    requires { has_error warnings.items ≡ false }
-    ensures explanation { IfOk result (IsExplanation text.now (option_map (λ bytes. bytes.now) certificate.entry) denied) }
+    requires errors { has_error warnings.items ≡ false }
+    requires locale { has_locale warnings.items ≡ false }
+    ensures explanation { IfOk result (IsExplanation text.now (option_map (λ bytes. bytes.now) certificate.entry) asked.entry.denied) }
     ensures few { IfOk result (λ e. IsOfAnswer e.status) }
-    ensures warned { IfOk result (WarnedWith denied warnings.items) }
+    ensures warned { IfOk result (WarnedWith asked.entry.denied warnings.items) }
 {
     let Answered { answer, located } = answer_of(alloc, text, certificate)?;
     match located {
-        Some(located) => explained(alloc, own, text, answer, located, warnings, denied),
-        None => refused(alloc, text, answer, warnings, denied),
+        Some(located) => explained(alloc, text, answer, located, warnings, asked),
+        None => refused(alloc, text, answer, warnings, asked.denied),
     }
 }
 
 /// What is reported of a script that was read.
 fn explained<'a>(
     alloc: Global,
-    own: Option<&'a [u8]>,
     text: &'a [u8],
     answer: Answer,
     located: Located<'a>,
     warnings: Vec<Finding>,
-    denied: Denied,
+    asked: Asked,
 ) -> Result<Explanation<'a>, AllocError>
     requires script { IsOfScript text.now located.script answer }
-    requires warned { has_error warnings.items ≡ false }
-    ensures explains { IfOk result (Explains text.now denied answer) }
+    requires errors { has_error warnings.items ≡ false }
+    requires locale { has_locale warnings.items ≡ false }
+    ensures explains { IfOk result (Explains text.now asked.entry.denied answer) }
     ensures keeps { IfOk result (KeepsLocated text.now located.entry.script located.entry.locations.items) }
     ensures few { IfOk result (λ e. IsOfAnswer e.status) }
-    ensures warned { IfOk result (WarnedWith denied warnings.items) }
+    ensures warned { IfOk result (WarnedWith asked.entry.denied warnings.items) }
 {
-    let lists = lists_of(alloc, own, text, &located)?;
-    let (status, findings) = reports(alloc, text, &answer, &located, &lists, warnings, denied)?;
+    let lists = lists_of(alloc, text, &located)?;
+    let (status, findings) = reports(alloc, text, &answer, &located, &lists, warnings, asked)?;
     let Lists {
         positions,
         reads,
         writes,
-        ..
     } = lists;
     Ok(Explanation {
         text,
@@ -119,21 +138,15 @@ fn explained<'a>(
     })
 }
 
-/// Where the verbs of a script are, and the files: its own, if it has one, and those that it names.
+/// Where the verbs of a script are, and the files that it names.
 #[derive(Drop)]
 struct Lists<'a> {
     positions: Vec<Position>,
-    own: Option<&'a [u8]>,
     reads: Vec<NamedFile<'a>>,
     writes: Vec<NamedFile<'a>>,
 }
 
-fn lists_of<'a>(
-    alloc: Global,
-    own: Option<&'a [u8]>,
-    text: &[u8],
-    located: &Located<'a>,
-) -> Result<Lists<'a>, AllocError>
+fn lists_of<'a>(alloc: Global, text: &[u8], located: &Located<'a>) -> Result<Lists<'a>, AllocError>
     ensures reads { IfOk result (λ lists. names_of lists.reads.items ≡ reads located.entry.now.script) }
     ensures writes { IfOk result (λ lists. names_of lists.writes.items ≡ writes located.entry.now.script) }
     ensures positions { IfOk result (λ lists. lists.positions.items ≡ map (λ location. position_in text.now location.verb) located.entry.now.locations.items) }
@@ -144,7 +157,6 @@ fn lists_of<'a>(
     let writes = named_files(alloc, script.writes(), script, &positions, Access::Write)?;
     Ok(Lists {
         positions,
-        own,
         reads,
         writes,
     })
@@ -159,43 +171,83 @@ fn reports(
     located: &Located,
     lists: &Lists,
     mut warnings: Vec<Finding>,
-    denied: Denied,
+    asked: Asked,
 ) -> Result<(Status, Vec<Finding>), AllocError>
     requires script { IsOfScript text.now located.now.script answer.now }
-    requires warned { has_error warnings.items ≡ false }
+    requires errors { has_error warnings.items ≡ false }
+    requires locale { has_locale warnings.items ≡ false }
     requires reads { names_of lists.now.reads.items ≡ reads located.now.script }
     requires writes { names_of lists.now.writes.items ≡ writes located.now.script }
-    ensures reports { IfOk result (λ r. Reports text.now denied answer.now located.now.script lists.now.positions.items r.0 r.1.items) }
+    ensures reports { IfOk result (λ r. Reports text.now asked.entry.denied answer.now located.now.script lists.now.positions.items r.0 r.1.items) }
     ensures few { IfOk result (λ r. IsOfAnswer r.0) }
-    ensures warned { IfOk result (λ r. denied.warnings ≡ true → has_warning warnings.items ≡ true → has_warning r.1.items ≡ true) }
+    ensures warned { IfOk result (λ r. asked.entry.denied.warnings ≡ true → has_warning warnings.items ≡ true → has_warning r.1.items ≡ true) }
 {
+    let Asked {
+        own,
+        inputs,
+        denied,
+    } = asked;
     let locations = &located.locations;
     let words = ignoring_words(alloc, text)?;
     let mut found = answer_findings(alloc, text, &located.script, &lists.positions, answer)?;
     found.append(&mut warnings)?;
-    concern_warnings(alloc, &mut found, text, located, Concern::Endless)?;
-    locale_warnings(alloc, &mut found, text, located, denied)?;
+    due_warnings(alloc, &mut found, text, located, denied)?;
     let script = ReadScript {
         text,
         locations,
         files: NamedFiles {
-            own: lists.own,
+            own,
+            inputs,
             reads: &lists.reads,
             writes: &lists.writes,
         },
         words: &words,
     };
     add_warnings(alloc, &mut found, script)?;
-    let slow = slow_of(&located.script, &lists.positions);
-    let all = denied_findings(alloc, found, denied, answer, lists, slow)?;
-    let status = answer.status_under(denied, any_warning(&all), slow.is_some());
+    let expressions = expressions_in_script(alloc, text, located, &lists.positions)?;
+    let all = denied_findings(alloc, found, denied, answer, lists, &expressions)?;
+    let status = answer.status_under(denied, any_warning(&all), expressions.kinds());
     let ignored = ignored_codes(alloc, &words, denied)?;
     let findings = reported(alloc, text, locations, all, &ignored)?;
     Ok((status, findings))
 }
 
-/// A warning of each command that a sed reads otherwise in a locale of UTF-8, unless the locale is known to be C.
-fn locale_warnings(
+/// Where that is which may be denied of the script's expressions.
+#[derive(Drop)]
+struct FoundExpressions {
+    slow: Option<Slow>,
+    /// Where those with a reference are.
+    references: Vec<Position>,
+}
+
+impl FoundExpressions {
+    /// Which of it is there.
+    fn kinds(&self) -> Expressions
+        ensures { result ≡ kinds_of self.now }
+    {
+        Expressions {
+            slow: self.slow.is_some(),
+            references: !self.references.is_empty(),
+        }
+    }
+}
+
+fn expressions_in_script(
+    alloc: Global,
+    text: &[u8],
+    located: &Located,
+    positions: &[Position],
+) -> Result<FoundExpressions, AllocError>
+    ensures { IfOk result (λ found. kinds_of found ≡ expressions_of (Some located.now.script)) }
+{
+    Ok(FoundExpressions {
+        slow: slow_of(&located.script, positions),
+        references: references_in(alloc, text, located)?,
+    })
+}
+
+/// The warning `locale` of each command that a sed reads otherwise in a locale of UTF-8, unless the locale is known to be C.
+fn due_warnings(
     alloc: Global,
     findings: &mut Vec<Finding>,
     text: &[u8],
@@ -203,12 +255,12 @@ fn locale_warnings(
     denied: Denied,
 ) -> Result<(), AllocError>
     ensures added { OnOk result (AddsNoError findings.old.items findings.new.items) }
-    ensures warned { OnOk result (is_due denied Locale ≡ true → concerns Locale located.now.script ≡ true → has_warning findings.new.items ≡ true) }
+    ensures exactly { OnOk result (has_locale findings.new.items ≡ (has_locale findings.old.items || (not denied.c_locale && depends_on_locale located.now.script))) }
 {
     if denied.c_locale {
         return Ok(());
     }
-    concern_warnings(alloc, findings, text, located, Concern::Locale)
+    locale_warnings(alloc, findings, text, located)
 }
 
 /// What is reported of a script that is refused.
@@ -220,7 +272,8 @@ fn refused<'a>(
     denied: Denied,
 ) -> Result<Explanation<'a>, AllocError>
     requires refusal { IsRefused text.now answer }
-    requires warned { has_error warnings.items ≡ false }
+    requires errors { has_error warnings.items ≡ false }
+    requires locale { has_locale warnings.items ≡ false }
     ensures explains { IfOk result (Explains text.now denied answer) }
     ensures keeps { IfOk result KeepsNothing }
     ensures few { IfOk result (λ e. IsOfAnswer e.status) }
@@ -228,7 +281,7 @@ fn refused<'a>(
 {
     let mut found = refusal_findings(alloc, text, &answer)?;
     found.append(&mut warnings)?;
-    let status = answer.status_under(denied, any_warning(&found), false);
+    let status = answer.status_under(denied, any_warning(&found), Expressions::NONE);
     let findings = reported(alloc, text, &[], found, &[])?;
     Ok(Explanation {
         text,
@@ -245,7 +298,8 @@ fn refused<'a>(
 /// What is reported of the answer that a script is refused.
 fn refusal_findings(alloc: Global, text: &[u8], answer: &Answer) -> Result<Vec<Finding>, AllocError>
     requires { IsRefused text.now answer.now }
-    ensures { IfOk result (λ findings. AreFindingsOf text.now [] answer.now findings.items) }
+    ensures answer { IfOk result (λ findings. AreFindingsOf text.now [] answer.now findings.items) }
+    ensures locale { IfOk result (λ findings. has_locale findings.items ≡ false) }
 {
     let mut findings = Vec::new(alloc);
     let Answer::ScriptRefused(fault) = answer else {
@@ -262,24 +316,23 @@ fn denied_findings(
     denied: Denied,
     answer: &Answer,
     lists: &Lists,
-    slow: Option<Slow>,
+    expressions: &FoundExpressions,
 ) -> Result<Vec<Finding>, AllocError>
     requires { HasLists lists.now.reads.items lists.now.writes.items answer.now }
-    ensures errors { IfOk result (λ all. AreDeniedFindings denied (is_some slow) findings.items all.items answer.now) }
+    ensures errors { IfOk result (λ all. AreDeniedFindings denied (kinds_of expressions.now) findings.items all.items answer.now) }
     ensures warnings { IfOk result (λ all. has_warning all.items ≡ has_warning findings.items) }
+    ensures locale { IfOk result (λ all. has_locale all.items ≡ has_locale findings.items) }
 {
     match answer {
         Answer::Accepted { bound, .. } => {
-            let is_bounded = bound.is_some();
-            with_denials(
-                alloc,
-                findings,
-                denied,
-                &lists.reads,
-                &lists.writes,
-                is_bounded,
-                slow,
-            )
+            let has = Deniable {
+                reads: &lists.reads,
+                writes: &lists.writes,
+                is_bounded: bound.is_some(),
+                slow: expressions.slow,
+                references: &expressions.references,
+            };
+            with_denials(alloc, findings, denied, has)
         }
         _ => Ok(findings),
     }
@@ -309,7 +362,8 @@ fn answer_findings(
     answer: &Answer,
 ) -> Result<Vec<Finding>, AllocError>
     requires { CanBeReported text.now answer.now }
-    ensures { IfOk result (λ findings. AreFindingsOf text.now positions.now answer.now findings.items) }
+    ensures answer { IfOk result (λ findings. AreFindingsOf text.now positions.now answer.now findings.items) }
+    ensures locale { IfOk result (λ findings. has_locale findings.items ≡ false) }
 {
     let mut findings = Vec::new(alloc);
     let Some(finding) = answer_finding(alloc, text, script, positions, answer)? else {
@@ -328,7 +382,8 @@ fn answer_finding(
     answer: &Answer,
 ) -> Result<Option<Finding>, AllocError>
     requires { CanBeReported text.now answer.now }
-    ensures { IfOk result (IsFindingOf text.now positions.now answer.now) }
+    ensures answer { IfOk result (IsFindingOf text.now positions.now answer.now) }
+    ensures warning { IfOk result (λ found. IfSome found (λ finding. is_warning finding.level ≡ false)) }
 {
     match answer {
         Answer::ScriptRefused(fault) => Ok(Some(script_refusal(alloc, text, *fault)?)),

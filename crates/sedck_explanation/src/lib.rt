@@ -14,9 +14,9 @@ mod parts;
 mod reporting;
 mod status;
 
-pub use answer::Answer;
+pub use answer::{Answer, Expressions};
 pub use called::{call_finding, explain_called, not_judged};
-pub use explaining::{explain, explain_call};
+pub use explaining::explain;
 pub use explanation::Explanation;
 pub use options::{foreign_findings, has_foreign, refusal_of};
 pub use parts::{Unexplained, parts_of};

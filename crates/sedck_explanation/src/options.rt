@@ -1,8 +1,9 @@
 //! What is said of the options of a call, and of words that no sed takes.
 
-ghost use Rattle.std.specs.Prelude.{◌≡◌, true, false, IfOk};
+ghost use Rattle.std.specs.Prelude.{◌≡◌, false, IfOk};
+ghost use Rattle.sedck_report.specs.declared.finding.Level.TheVariants.{Error};
 ghost use Rattle.std.specs.List.{list_any};
-ghost use Rattle.sedck_report.specs.Levels.{has_warning, is_error, has_error};
+ghost use Rattle.sedck_report.specs.Levels.{has_warning, has_locale, has_error};
 ghost use Rattle.sedck_explanation.specs.Called.{is_foreign as is_foreign_option, has_foreign as has_foreign_option};
 ghost use Rattle.sedck_explanation.specs.Called.{is_overwriting as is_overwriting_option, is_in_place as is_in_place_call};
 
@@ -74,6 +75,7 @@ pub(crate) fn call_warnings(
 ) -> Result<Vec<Finding>, AllocError>
     ensures errors { IfOk result (λ findings. has_error findings.items ≡ false) }
     ensures warnings { IfOk result (λ findings. has_warning findings.items ≡ is_in_place_call call.now) }
+    ensures locale { IfOk result (λ findings. has_locale findings.items ≡ false) }
 {
     let mut findings = Vec::new(alloc);
     if is_in_place(call) {
@@ -89,7 +91,7 @@ pub(crate) fn denied_overwriting(
     words: &[&[u8]],
     call: &Call,
 ) -> Result<Finding, AllocError>
-    ensures { IfOk result (λ finding. is_error finding.level ≡ true) }
+    ensures { IfOk result (λ finding. finding.level ≡ Error) }
 {
     let message = overwritten(alloc, words, call)?;
     Ok(call_finding(alloc, Level::Error, Code::DeniedWrites, message, None))

@@ -1,10 +1,10 @@
 //! From the findings to the order in which they are reported: without those that the script ignores, and each with its end.
 
 ghost use Rattle.std.specs.Prelude.{◌≡◌, [], false, true, IfOk};
-ghost use Rattle.sedck_report.specs.Levels.{is_error};
+ghost use Rattle.sedck_report.specs.Levels.{is_error, is_locale};
 ghost use Rattle.sedck_explanation.specs.Private.Reporting.{AreReported};
 
-use sedck_advice::Word;
+use sedck_advice::{Word, is_kept};
 use sedck_errors::{Denied, with_end};
 use sedck_report::{Code, Finding, Level};
 use sedck_script::Location;
@@ -40,12 +40,13 @@ pub(crate) fn reported(
     Ok(errors)
 }
 
-/// Whether the finding is left out: no error ever is.
+/// Whether the finding is left out: no error ever is, and nothing on which a yes rests.
 fn is_ignored(finding: &Finding, ignored: &[Code]) -> bool
     ensures error { is_error finding.now.level ≡ true → result ≡ false }
+    ensures locale { is_locale finding.now.code ≡ true → result ≡ false }
     ensures nothing { ignored.now ≡ [] → result ≡ false }
 {
-    !finding.is_error() && ignored.contains(&finding.code)
+    !finding.is_error() && !is_kept(finding.code) && ignored.contains(&finding.code)
 }
 
 /// The codes to be ignored, each once. A script silences nothing where the caller denies warnings.

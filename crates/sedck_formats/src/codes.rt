@@ -78,14 +78,17 @@ denied-writes TRUST.md#scripts-of-strangers The script writes a file, which is d
 denied-unbounded TRUST.md#scripts-of-strangers No limit on the steps of the script is known, which is denied
 denied-warnings TRUST.md#scripts-of-strangers The script has a warning, which is denied
 denied-slow TRUST.md#what-a-limit-on-steps-doesnt-limit The script has what may make a single step slow, which is denied
+denied-references TRUST.md#what-a-limit-on-steps-doesnt-limit An expression has a reference, which is denied
 no-plain-spelling GRAMMAR.md#the-plain-spelling A command has no plain spelling
 options-in-first-line TRUST.md#options-and-the-scripts-first-line The first line gives sed options of which nothing is known
 brace-behind-label GRAMMAR.md#what-seds-read-differently A } right behind a label, which some seds read as a part of it
 looks-extended TRUST.md#options-and-the-scripts-first-line Bytes that look like an extended regular expression
 one-line-text GRAMMAR.md#what-seds-read-differently A text on the line of its command, which POSIX does not have
 silencing-comment GRAMMAR.md#what-seds-read-differently A comment that begins with n, by which BusyBox prints nothing by itself
-repeated-reference TRUST.md#what-a-limit-on-steps-doesnt-limit A group is repeated that has a reference in it, or to which there is one
 locale TRUST.md#the-locale Bytes that are part of a character in a locale of UTF-8, where sed then reads another script
+backslash-in-list GRAMMAR.md#what-seds-read-differently A list with an escape that most seds read as one byte, and POSIX as two
+class-without-list GRAMMAR.md#what-seds-read-differently A class without the list around it, which GNU sed refuses
+range-in-y GRAMMAR.md#what-seds-read-differently A range in the lists of y, which has none
 stream-name TRUST.md#names The name of a standard stream, which some seds read as a file
 device-name TRUST.md#devices-pipes-and-links The name of what may be no regular file
 absolute-name TRUST.md#names An absolute path
@@ -100,7 +103,8 @@ shell-byte-in-name TRUST.md#names A name with a byte that means something to a s
 read-and-written TRUST.md#names The script reads and writes the same file
 same-file TRUST.md#names Two names for one file
 names-itself TRUST.md#the-scripts-own-file The script writes a file that has the name of its own
-unknown-code RECIPES.md#fewer-findings A comment ignores what is not the code of a warning or a note
+writes-its-input TRUST.md#input-and-output The script writes an operand of its call
+unknown-code RECIPES.md#fewer-findings A comment ignores what is not the code of a warning or a note, or what no comment can ignore
 other-language CALLS.md#other-languages Options by which sed reads another language
 bad-call CALLS.md#words-that-are-refused Words that no sed takes
 in-place CALLS.md#in-place The operands are overwritten

@@ -1,6 +1,8 @@
 -- The levels of findings, this project's own.
-use Rattle.std.specs.Prelude.{◌≡◌, Bool, true, false, List, [], ◌∷◌, Option}
+use Rattle.std.specs.Prelude.{◌≡◌, ◌&&◌, Bool, true, false, List, [], ◌∷◌, Option}
 use Rattle.std.specs.List.{list_any}
+use Rattle.sedck_report.specs.declared.code.Code.{Code}
+use Rattle.sedck_report.specs.declared.code.Code.TheVariants as code
 use Rattle.sedck_report.specs.declared.finding.Finding.{Finding}
 use Rattle.sedck_report.specs.declared.finding.Level.{Level}
 use Rattle.sedck_report.specs.declared.finding.Level.TheVariants.{Error, Warning}
@@ -26,3 +28,11 @@ is_warning _ = false
 -- one of these findings is a warning
 abbrev pub has_warning : List Finding → Bool
 has_warning findings = list_any (λ finding. is_warning finding.level) findings
+
+abbrev pub is_locale : Code → Bool
+is_locale code.Locale = true
+is_locale _ = false
+
+-- one of these findings is the warning `locale`
+abbrev pub has_locale : List Finding → Bool
+has_locale findings = list_any (λ finding. is_warning finding.level && is_locale finding.code) findings

@@ -36,6 +36,7 @@ pub enum Code {
     DeniedUnbounded,
     DeniedWarnings,
     DeniedSlow,
+    DeniedReferences,
 
     // The format `sed`.
     /// A command that has no plain spelling.
@@ -49,10 +50,14 @@ pub enum Code {
     OneLineText,
     /// A comment that begins with `n`, by which BusyBox prints nothing by itself.
     SilencingComment,
-    /// A reference that is repeated, or whose group is.
-    RepeatedReference,
     /// A byte above 127 where a sed that knows characters reads another script.
     Locale,
+    /// A list with an escape, such as `[\t]`, that GNU sed reads as one byte.
+    BackslashInList,
+    /// A class such as `[:alpha:]` without the list around it.
+    ClassWithoutList,
+    /// A range in both lists of `y`, which has none.
+    RangeInY,
 
     // Warnings of file names.
     StreamName,
@@ -71,6 +76,8 @@ pub enum Code {
     SameFile,
     /// A file that is written has the name of the script's own file.
     NamesItself,
+    /// A file that is written is an operand of the call.
+    WritesItsInput,
 
     // Warnings of comments.
     UnknownCode,
@@ -126,14 +133,17 @@ impl Code {
             Code::DeniedUnbounded => "denied-unbounded",
             Code::DeniedWarnings => "denied-warnings",
             Code::DeniedSlow => "denied-slow",
+            Code::DeniedReferences => "denied-references",
             Code::NoPlainSpelling => "no-plain-spelling",
             Code::OptionsInFirstLine => "options-in-first-line",
             Code::BraceBehindLabel => "brace-behind-label",
             Code::LooksExtended => "looks-extended",
             Code::OneLineText => "one-line-text",
             Code::SilencingComment => "silencing-comment",
-            Code::RepeatedReference => "repeated-reference",
             Code::Locale => "locale",
+            Code::BackslashInList => "backslash-in-list",
+            Code::ClassWithoutList => "class-without-list",
+            Code::RangeInY => "range-in-y",
             Code::StreamName => "stream-name",
             Code::DeviceName => "device-name",
             Code::AbsoluteName => "absolute-name",
@@ -148,6 +158,7 @@ impl Code {
             Code::ReadAndWritten => "read-and-written",
             Code::SameFile => "same-file",
             Code::NamesItself => "names-itself",
+            Code::WritesItsInput => "writes-its-input",
             Code::UnknownCode => "unknown-code",
             Code::OtherLanguage => "other-language",
             Code::BadCall => "bad-call",

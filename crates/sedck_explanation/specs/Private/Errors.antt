@@ -2,9 +2,9 @@
 use Rattle.std.specs.Prelude.{◌≡◌, ℕ, false, List, Option, Some, None, IfSome}
 use Rattle.sedck_script.specs.Program.{Program}
 use Rattle.sedck_script.specs.Names.{reads, writes}
-use Rattle.sedck_report.specs.Levels.{is_error, has_error}
+use Rattle.sedck_report.specs.Levels.{has_error}
 use Rattle.sedck_report.specs.declared.finding.Finding.{Finding}
-use Rattle.sedck_report.specs.declared.finding.Level.TheVariants.{Error}
+use Rattle.sedck_report.specs.declared.finding.Level.TheVariants.{Error, Note}
 use Rattle.sedck_report.specs.declared.places.Position.{Position}
 use Rattle.sedck_errors.specs.Errors.{IsReportable}
 use Rattle.sedck_explanation.specs.Errors.{IsErrorPosition, BeginsWithAnswer}
@@ -31,7 +31,7 @@ CanBeReported text _ = Unit {0}
 
 -- the finding of an answer: an error where it isn't a yes
 abbrev pub IsFindingOf : List ℕ → List Position → Answer → Option Finding → Type 0
-IsFindingOf text positions (Accepted cert bound) found = IfSome found (λ finding. is_error finding.level ≡ false)
+IsFindingOf text positions (Accepted cert bound) found = IfSome found (λ finding. finding.level ≡ Note)
 IsFindingOf text positions answer None = ⊥
 IsFindingOf text positions answer (Some finding) = (finding.level ≡ Error) × IsErrorPosition text positions answer finding.position
 

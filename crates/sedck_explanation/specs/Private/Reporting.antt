@@ -1,7 +1,7 @@
 -- The steps from what is found to what is reported.
 use Rattle.std.specs.Prelude.{◌≡◌, ℕ, List, [], map}
 use Rattle.std.specs.List.{All, filter}
-use Rattle.sedck_report.specs.Levels.{has_warning, is_error}
+use Rattle.sedck_report.specs.Levels.{has_warning, has_locale, is_error}
 use Rattle.sedck_report.specs.Reported.{head_of, AreInOrder, HasRange}
 use Rattle.sedck_report.specs.declared.code.Code.{Code}
 use Rattle.sedck_report.specs.declared.finding.Finding.{Finding}
@@ -18,5 +18,6 @@ KeepsErrors old new = map head_of (errors_in new) ≡ map head_of (errors_in old
 pub record AreReported (text : List ℕ) (ignored : List Code) (found all : List Finding) : Type 0 where
   pub errors : KeepsErrors found all
   pub warnings : ignored ≡ [] → has_warning all ≡ has_warning found
+  pub locale : has_locale all ≡ has_locale found
   pub order : AreInOrder all
   pub ends : All (HasRange text) all

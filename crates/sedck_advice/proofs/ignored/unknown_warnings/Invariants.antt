@@ -1,5 +1,5 @@
-use Rattle.sedck_advice.specs.Added.{AddsNoError}
+use Rattle.sedck_advice.specs.Added.{AddsOthers}
 use Rattle.sedck_advice.proofs.ignored.unknown_warnings.Given as goal
 
 abbrev pub invariant-loop-word : goal.invariant-loop-word
-invariant-loop-word l = AddsNoError l.initial.findings.items l.findings.items
+invariant-loop-word l = AddsOthers l.initial.findings.items l.findings.items

@@ -1,5 +1,5 @@
-use Rattle.sedck_advice.specs.Added.{AddsNoError}
+use Rattle.sedck_advice.specs.Added.{AddsOthers}
 use Rattle.sedck_advice.proofs.looks.push_looks.Given as goal
 
 abbrev pub invariant-loop-look : goal.invariant-loop-look
-invariant-loop-look l = AddsNoError l.initial.findings.items l.findings.items
+invariant-loop-look l = AddsOthers l.initial.findings.items l.findings.items

@@ -1,5 +1,5 @@
-use Rattle.sedck_advice.specs.Added.{AddsNoError}
+use Rattle.sedck_advice.specs.Added.{AddsOthers}
 use Rattle.sedck_advice.proofs.names.name_warnings.Given as goal
 
 abbrev pub invariant-loop-doubt : goal.invariant-loop-doubt
-invariant-loop-doubt l = AddsNoError l.initial.findings.items l.findings.items
+invariant-loop-doubt l = AddsOthers l.initial.findings.items l.findings.items

@@ -12,4 +12,4 @@ loop-command-preserved c =
     let one = map_more command_of commands i c.command-item.result c.loop-command-test.true
     ∙ ap (λ x. before ++ command_of x ∷ []) (sym c.command-item.is) in
     weighs_more before _ (command_of c.command-item.result) c.loop-command.weight c.weight_of_command-own.result _ one
-    c.loop-command.invariant c.weight_of_command-own.ensures c.with-weight.ensures.reference c.with-weight.ensures.items
+    c.loop-command.invariant c.weight_of_command-own.ensures c.with-weight.ensures.repetition c.with-weight.ensures.items

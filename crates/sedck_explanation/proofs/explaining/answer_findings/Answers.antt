@@ -1,11 +1,14 @@
-use Rattle.std.proofs.Common.{◌≡◌, ◌∙◌, List, [], ◌∷◌, ◌++◌, ap, sym, subst}
+use Rattle.std.proofs.Common.{◌≡◌, ◌∙◌, false, List, [], ◌∷◌, ◌++◌, ap, sym, subst}
+use Rattle.sedck_report.specs.Levels.{has_locale, is_warning}
 use Rattle.sedck_report.specs.declared.finding.Finding.{Finding}
 use Rattle.sedck_explanation.specs.Private.Errors.{IsFindingOf, AreFindingsOf}
+use Rattle.sedck_commands.proofs.ResultLemmas.{if_some_at}
 use Rattle.sedck_explanation.proofs.Errors.{finding_alone}
+use Rattle.sedck_explanation.proofs.Reports.{locale_alone}
 use Rattle.sedck_explanation.proofs.explaining.answer_findings.Goals as goal
 
-pub returns : goal.returns
-returns c =
+pub returns-clause-answer : goal.returns-clause-answer
+returns-clause-answer c =
     let text = c.args.text.now in
     let positions = c.args.positions.now in
     let answer = c.args.answer.now in
@@ -13,4 +16,11 @@ returns c =
     let items : c.push.new.self.items ≡ finding ∷ [] =
     c.in_ok-push.ensures.items ∙ ap (λ (before : List Finding). before ++ (finding ∷ [])) c.new-findings.ensures.items in
     subst (AreFindingsOf text positions answer) (sym items)
-    (finding_alone text positions answer finding (subst (IsFindingOf text positions answer) c.in-Some.is c.in_ok-finding.ensures))
+    (finding_alone text positions answer finding (subst (IsFindingOf text positions answer) c.in-Some.is c.in_ok-finding.ensures.answer))
+
+pub returns-clause-locale : goal.returns-clause-locale
+returns-clause-locale c =
+    let finding = c.in-Some.finding in
+    let items : c.push.new.self.items ≡ finding ∷ [] =
+    c.in_ok-push.ensures.items ∙ ap (λ (before : List Finding). before ++ (finding ∷ [])) c.new-findings.ensures.items in
+    ap has_locale items ∙ locale_alone finding (if_some_at (λ (f : Finding). is_warning f.level ≡ false) c.in-Some.is c.in_ok-finding.ensures.warning)

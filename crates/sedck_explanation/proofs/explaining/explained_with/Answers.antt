@@ -27,14 +27,14 @@ returns-in-Some-clause-explanation c =
     let located : (items : List Item) (spells : Items text items) → locations ≡ locations_of (length text) spells =
     if_some_at (λ (located : Located). (items : List Item) (spells : Items text items) → located.locations.items ≡ locations_of (length text) spells)
     c.in-Some.is c.in_ok-answer.ensures.locations in
-    on_both (Explains text c.args.denied answer) (KeepsLocated text script locations) (IsExplanation text _ c.args.denied) c.explained.result
-    (λ e explains kept. explained_script text _ c.args.denied script locations answer e spelled located c.in_ok-answer.ensures.answer explains kept)
+    on_both (Explains text c.args.asked.denied answer) (KeepsLocated text script locations) (IsExplanation text _ c.args.asked.denied) c.explained.result
+    (λ e explains kept. explained_script text _ c.args.asked.denied script locations answer e spelled located c.in_ok-answer.ensures.answer explains kept)
     c.explained.ensures.explains c.explained.ensures.keeps
 
 pub returns-in-None-clause-explanation : goal.returns-in-None-clause-explanation
 returns-in-None-clause-explanation c =
     let text = c.args.text.now in
     let answer = c.in_ok-answer.field-0.answer in
-    on_both (Explains text c.args.denied answer) KeepsNothing (IsExplanation text _ c.args.denied) c.refused.result
-    (λ e explains kept. explained_refusal text _ c.args.denied answer e (c.in_ok-answer.ensures.refused c.in-None.is) c.in_ok-answer.ensures.answer explains kept)
+    on_both (Explains text c.args.asked.denied answer) KeepsNothing (IsExplanation text _ c.args.asked.denied) c.refused.result
+    (λ e explains kept. explained_refusal text _ c.args.asked.denied answer e (c.in_ok-answer.ensures.refused c.in-None.is) c.in_ok-answer.ensures.answer explains kept)
     c.refused.ensures.explains c.refused.ensures.keeps

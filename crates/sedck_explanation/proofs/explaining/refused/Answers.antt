@@ -1,35 +1,42 @@
-use Rattle.std.proofs.Common.{◌≡◌, ◌∙◌, false, [], refl, ap, sym, subst}
-use Rattle.std.proofs.lemmas.Bool.{false≢true}
+use Rattle.std.proofs.Common.{◌≡◌, ◌∙◌, ◌&&◌, Bool, true, false, not, None, [], refl, ap, sym, subst}
 use Rattle.sedck_report.specs.Levels.{has_warning}
-use Rattle.sedck_explanation.specs.Denial.{status_under}
+use Rattle.sedck_explanation.specs.Denial.{expressions_of, status_under}
+use Rattle.sedck_explanation.specs.declared.answer.Expressions.{Expressions}
 use Rattle.sedck_explanation.specs.Errors.{BeginsWithAnswer}
 use Rattle.sedck_explanation.specs.Private.Errors.{AreFindingsOf}
 use Rattle.sedck_explanation.specs.Private.Reporting.{AreReported}
 use Rattle.sedck_advice.proofs.Added.{no_error_append, warned_behind}
 use Rattle.sedck_explanation.proofs.Errors.{errors_of_refusal, findings_stay}
+use Rattle.sedck_explanation.proofs.Reports.{no_locale_append}
 use Rattle.sedck_explanation.proofs.Kept.{errors_reported, status_reported}
 use Rattle.sedck_explanation.proofs.explaining.refused.Goals as goal
+
+and_false : (a : Bool) → (a && false) ≡ false
+and_false true = refl
+and_false false = refl
 
 pub returns-clause-explains : goal.returns-clause-explains
 returns-clause-explains c =
     let text = c.args.text.now in
     let answer = c.args.answer in
+    let none : Expressions = expressions_of None in
     let begun = c.in_ok-found.found.items in
     let found = c.append.new.self.items in
     let all = c.in_ok-findings.findings.items in
-    let status : c.status_under-status.result ≡ status_under c.args.denied (has_warning found) false answer =
+    let status : c.status_under-status.result ≡ status_under c.args.denied (has_warning found) none answer =
     c.status_under-status.ensures.value
-    ∙ ap (λ warned. status_under c.args.denied warned false answer) (c.any_warning.ensures ∙ ap has_warning c.deref.ensures.value) in
+    ∙ ap (λ warned. status_under c.args.denied warned none answer) (c.any_warning.ensures ∙ ap has_warning c.deref.ensures.value) in
     let of_answer : AreFindingsOf text [] answer found =
-    findings_stay text [] answer begun found (no_error_append begun found c.args.warnings.items c.in_ok-append.ensures.items c.requires.warned) c.in_ok-found.ensures in
+    findings_stay text [] answer begun found (no_error_append begun found c.args.warnings.items c.in_ok-append.ensures.items c.requires.errors) c.in_ok-found.ensures.answer in
     let reported : AreReported text [] found all = c.in_ok-findings.ensures in
     let errors = errors_reported text [] answer [] found all c.status_under-status.result reported
-    (errors_of_refusal text c.args.denied false answer found c.status_under-status.result c.requires.refusal of_answer status) in
+    (errors_of_refusal text c.args.denied none answer found c.status_under-status.result c.requires.refusal of_answer status) in
     record {
       is_text = refl;
       is_answer = refl;
-      is_status = status_reported text c.args.denied false answer [] found all c.status_under-status.result reported (λ _. refl) status;
-      concerned = λ concern denied due is. absurd (false≢true is);
+      is_status = status_reported text c.args.denied none answer [] found all c.status_under-status.result reported (λ _. refl) status;
+      locale = reported.locale ∙ no_locale_append begun found c.args.warnings.items c.in_ok-append.ensures.items c.in_ok-found.ensures.locale c.requires.locale
+          ∙ sym (and_false (not c.args.denied.c_locale));
       errors = record {
         exactly = errors.0;
         first = subst (λ positions. BeginsWithAnswer text positions all answer) (sym c.new.ensures.items) errors.1;

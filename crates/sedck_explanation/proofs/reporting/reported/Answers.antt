@@ -4,8 +4,13 @@ use Rattle.std.proofs.lemmas.Iterator.Adapters.{YieldsList-from_vec}
 use Rattle.std.proofs.lemmas.List.Folds.{map_fixed}
 use Rattle.sedck_report.specs.declared.finding.Finding.{Finding}
 use Rattle.sedck_explanation.specs.Private.Reporting.{AreReported}
-use Rattle.sedck_explanation.proofs.Reports.{more_error, more_warning, more_note, sorted_reports}
+use Rattle.sedck_explanation.proofs.Reports.{more_error, more_warning, more_note, more_ignored, sorted_reports}
 use Rattle.sedck_explanation.proofs.reporting.reported.Goals as goal
+
+pub loop-finding-preserved-then-is_ignored : goal.loop-finding-preserved-then-is_ignored
+loop-finding-preserved-then-is_ignored c =
+    more_ignored _ _ _ _ _ _ _ c.is_ignored.result c.if-is_ignored.true c.is_ignored.ensures.error c.is_ignored.ensures.locale c.is_ignored.ensures.nothing
+    c.loop-finding.invariant
 
 pub loop-finding-preserved-in-Continue-1 : goal.loop-finding-preserved-in-Continue-1
 loop-finding-preserved-in-Continue-1 c =
@@ -14,7 +19,7 @@ loop-finding-preserved-in-Continue-1 c =
 
 pub loop-finding-preserved-in-Continue-branch-2 : goal.loop-finding-preserved-in-Continue-branch-2
 loop-finding-preserved-in-Continue-branch-2 c =
-    more_warning _ _ _ _ _ _ _ _ _ c.with_end-finding.ensures.level c.with_end-finding.ensures.range c.in-Warning.is
+    more_warning _ _ _ _ _ _ _ _ _ c.with_end-finding.ensures.level c.with_end-finding.ensures.head c.with_end-finding.ensures.range c.in-Warning.is
     c.in_ok-push-in-Warning.ensures.items c.loop-finding.invariant
 
 pub loop-finding-preserved : goal.loop-finding-preserved

@@ -1,0 +1,11 @@
+use Rattle.std.proofs.Common.{◌≡◌, ◌||◌, drop, map}
+use Rattle.std.specs.List.{list_any}
+use Rattle.sedck_script.specs.View.{command_of}
+use Rattle.sedck_report.specs.Files.{is_there}
+use Rattle.sedck_advice.specs.References.{refers}
+use Rattle.sedck_advice.proofs.references.references_in.Given as goal
+
+-- what was found, with the commands that are left
+abbrev pub invariant-loop-index : goal.invariant-loop-index
+invariant-loop-index l =
+    (is_there l.offsets.items || list_any refers (map command_of (drop l.index l.command-items))) ≡ list_any refers (map command_of l.command-items)
