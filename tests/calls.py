@@ -21,6 +21,7 @@ LONG = ["expression=", "file=", "regexp-extended", "quiet", "silent", "separate"
 TEXTS = ["p", "s/a/b/", "s/a/b", ":a;N;ba", ":a;ba", "$!N", "w out", "/x/{p", "}", "a\\", "text", "", "#n", "y/ab/ba/", "b end", ":end"]
 FILES = {"one.sed": "s/x/y/\n", "two.sed": "N\nP\nD\n", "three.sed": ":a\nba", "-dash": "p\n"}
 FOREIGN = {"-E", "-r", "--regexp-extended"}
+WRITES = ["writes-its-input"]
 # Words that `getopt` doesn't know, the status that is due, and the codes of the findings.
 ROWS = [
     (["-i", "p", "f"], 0, ["in-place"]), (["-i.bak", "p", "f"], 0, ["in-place"]), (["-i", "p"], 0, []),
@@ -34,6 +35,12 @@ ROWS = [
     (["-zs", "p"], 0, []), (["-s", "p", "f", "g"], 0, []), (["--separate", "$!N", "f", "g"], 0, []), (["--null-data", "N;P;D"], 0, []),
     (["--zero-terminated", "p", "f"], 0, []), (["-sni", "p", "f", "g"], 0, ["in-place"]), (["-zi.bak", "p", "f"], 0, ["in-place"]),
     (["-s", ":a;$!N;ba", "f"], 1, ["loop-idle"]), (["-z", ":a;ba"], 1, ["loop-idle"]), (["-z", "s/a/b"], 2, ["unterminated"]),
+    # A file that is written is an operand as well, perhaps by another path; the operand `-` is standard input.
+    (["-n", "w in2", "in1", "in2"], 0, WRITES), (["s/a/b/w f", "f"], 0, WRITES), (["w ./f", "f"], 0, WRITES), (["w a/b", "a//b", "c"], 0, WRITES),
+    (["w a/./b", "a/b"], 0, WRITES), (["w a/../f", "f"], 0, ["upward-name", *WRITES]), (["w f", "--", "x/y/../.././f"], 0, WRITES),
+    (["w /f", "/x/../f"], 0, ["absolute-name", *WRITES]), (["-i", "w f", "f"], 0, ["in-place", *WRITES]), (["-e", "w f", "-e", "w g", "g", "f"], 0, WRITES * 2),
+    (["w f", "g"], 0, []), (["w f", "d/f"], 0, []), (["r f", "f"], 0, []), (["w ../f", "f"], 0, ["upward-name"]), (["w ../f", "x/f"], 0, ["upward-name"]),
+    (["w /f", "f"], 0, ["absolute-name"]), (["-f", "one.sed", "f"], 0, []), (["-e", "w p", "p"], 0, WRITES), (["w f"], 0, []),
     (["-zE", "p"], 2, ["other-language"]), (["-sE", "-z", "p"], 2, ["other-language"]), (["--separate", "--regexp-extended", "p"], 2, ["other-language"]),
 ]
 # The same with what is denied before.
@@ -42,13 +49,13 @@ DENIED = [
     ("writes", ["w out", "f"], 1, ["denied-writes"]), ("reads", ["-i", "p", "f"], 0, ["in-place"]),
     ("warnings", ["-i", "p", "f"], 1, ["denied-warnings", "in-place"]), ("warnings", ["p", "f"], 0, []),
     ("writes", ["-iE", "p", "f"], 1, ["denied-writes", "in-place"]), ("writes", ["-E", "p", "f"], 2, ["other-language"]),
-    ("writes", ["-sz", "p", "f"], 0, []), ("writes", ["-si", "p", "f"], 1, ["denied-writes", "in-place"]),
+    ("warnings", ["w f", "f"], 1, ["denied-warnings", *WRITES]), ("writes", ["-sz", "p", "f"], 0, []), ("writes", ["-si", "p", "f"], 1, ["denied-writes", "in-place"]),
 ]
 # The same where warnings are denied, in the locale of this name: of a byte above 127 that is repeated, or is in a list of `y`.
 WARNED = ["denied-warnings", "locale"]
 LOCALES = [
     ("C", ["s/é*//"], 0, []), ("POSIX", ["-n", "s/é*//"], 0, []), ("C", ["y/é/ee/", "f"], 0, []), ("C", ["-i", "y/é/ee/", "f"], 1, ["denied-warnings", "in-place"]),
-    ("C", ["s/\\(\\(a\\)\\2\\)*//"], 1, ["denied-warnings", "repeated-reference"]), ("C", ["s/é*//;:a;ba"], 1, ["loop-idle"]), ("C", ["s/é*/"], 2, ["unterminated"]),
+    ("C", ["s/[\\t]//"], 1, ["denied-warnings", "backslash-in-list"]), ("C", ["s/é*//;:a;ba"], 1, ["loop-idle"]), ("C", ["s/é*/"], 2, ["unterminated"]),
     *((name, words, 1, WARNED) for name in ("c", "posix", "C.UTF-8", "de_DE.UTF-8", "", "C ", "CC") for words in (["s/é*//"], ["y/é/ee/"])),
 ]
 

@@ -173,7 +173,8 @@ PLACES = [
     ("a=u\nb=\nsed \"s/$a/$b/\" f\nsed p\n", ["3:8 known-value", "3:11 known-value"]),
     ("sed -i p f\n", ["1:1 in-place"]),
     ("sed 's/é*//' f\nLC_ALL=C sed 's/é*//' f\n", ["1:8 locale"]),
-    ("LC_ALL=C sed -i 's/\\(a\\)*\\1/b/' f\n", ["1:10 in-place", "1:18 repeated-reference", "1:18 no-bound"]),
+    ("LC_ALL=C sed -i 's/a/bb/' f\n", ["1:10 in-place", "1:18 no-bound"]),
+    ("sed -n 'w g' big ./g\n", ["1:9 writes-its-input"]),
 ]
 
 

@@ -2,9 +2,9 @@
 import itertools
 import json
 
-DENIALS = ("reads", "writes", "warnings", "unbounded", "slow")
+DENIALS = ("reads", "writes", "warnings", "unbounded", "slow", "references")
 EXTENDED, OPTIONS, BRACE = "looks-extended", "options-in-first-line", "brace-behind-label"
-REPEATED, LOCALE = "repeated-reference", "locale"
+LOCALE = "locale"
 
 # An accepted script, the place and the code of what each denial finds in it, worked out by hand.
 ACCEPTED = [
@@ -17,37 +17,41 @@ ACCEPTED = [
     (b"s/a/b/\n", {}),
     (b"r /etc/motd\n", {"reads": [(1, 1, "denied-reads")], "warnings": [(1, 1, "denied-warnings")]}),
     (b"p;s/[0-9]+/x/\n", {"warnings": [(1, 10, "denied-warnings")]}),
-    (b"p\ns/\\(a*\\)*\\1//\n", {"warnings": [(2, 1, "denied-warnings")], "slow": [(2, 1, "denied-slow")]}),
+    (b"p\ns/\\(a*\\)\\1*//\n", {"slow": [(2, 1, "denied-slow")], "references": [(2, 3, "denied-references")]}),
+    (b"/\\(a\\)\\1/w x\n", {"writes": [(1, 10, "denied-writes")], "references": [(1, 2, "denied-references")]}),
     (b"s/\\(\\(a\\{255\\}\\)\\{255\\}\\)\\{9\\}//\n", {"slow": [(1, 1, "denied-slow")]}),
     (b"s/x/y/;w ../o\nG\n", {"writes": [(1, 8, "denied-writes")], "warnings": [(1, 8, "denied-warnings")], "unbounded": [(2, 1, "denied-unbounded")]}),
 ]
 
-# An accepted script, the place of each warning of a repeated reference, and that of the error where the script is slow: by the rule
-# that a group is repeated which has a reference in it, or to which there is one; slow too that a reference is repeated by itself, and that
+# An accepted script, and the place of the error where the script is slow: by the rule that a reference is repeated by itself, or that
 # intervals write out more than 2,000 items.
 SLOW = [
-    (b"s/\\(\\(a*\\)\\2\\2\\)*//\n", [(1, 1)], (1, 1)),
-    (b"p\n/\\(a*\\)*\\1/d\n", [(2, 12)], (2, 12)),
-    (b"1,/\\(a\\)x\\(b\\1\\)\\{3\\}/p\n", [(1, 23)], (1, 23)),
-    (b"$!s/\\(\\(a\\)b\\)*\\2//;s/\\(b\\(a\\)\\2*\\)\\{2,\\}//\n", [(1, 3), (1, 21)], (1, 3)),
-    (b"/\\(a\\)\\(b\\(c\\)*\\)\\3/,/x/d\n", [(1, 25)], (1, 25)),
-    (b"s/\\(.\\)\\1*/\\1/g\n", [], (1, 1)),
-    (b"p;/\\(.\\)\\1\\{3\\}/d\n", [], (1, 17)),
-    # A reference that is outside of what is repeated, and a group that is repeated without one.
-    (b"s/^\\(.*\\)\\n\\1$/\\1/\n", [], None),
-    (b"s/\\(a*\\)\\(b\\)*\\1//\n", [], None),
-    (b"s/\\(a*b\\)*\\(c\\)\\2/\\1/\n", [], None),
-    (b"s/\\(a\\)*/\\1/\n", [], None),
+    (b"s/\\(.\\)\\1*/\\1/g\n", (1, 1)),
+    (b"p;/\\(.\\)\\1\\{3\\}/d\n", (1, 17)),
+    (b"p\n1,/\\(a\\)\\(b\\1*\\)/p\n", (2, 18)),
+    # A reference that isn't repeated, and a group that is repeated without one.
+    (b"s/^\\(.*\\)\\n\\1$/\\1/\n", None),
+    (b"s/\\(.\\)\\(\\1x\\)/\\2/\n", None),
+    (b"s/\\(a\\)*/\\1/\n", None),
     # 2,000 items, and two more. An item that may be there once only is written once.
-    (b"s/\\(a\\{200\\}\\)\\{10\\}//\n", [], None),
-    (b"s/\\(a\\{200\\}\\)\\{10\\}b\\{0,1\\}c*d\\{1\\}//\n", [], None),
-    (b"p;s/\\(a\\{200\\}\\)\\{10\\}b\\{2\\}//\n", [], (1, 3)),
-    (b"s/\\(a\\{100\\}b\\)\\{2,20\\}//\n", [], (1, 1)),
-    (b"s/\\(a\\{3,\\}\\)\\{255\\}//\n", [], None),
-    (b"/\\(a\\{100\\}\\)\\{8\\}/{\n/\\(a\\{100\\}\\)\\{12\\}/d\n}\n", [], None),
-    (b"/\\(a\\{100\\}\\)\\{8\\}/{\n/\\(a\\{100\\}\\)\\{12\\}/,/x\\{2\\}/d\n}\n", [], (2, 30)),
-    (b"s/\\(\\(\\(a\\{255\\}\\)\\{255\\}\\)\\{120\\}\\)//\n", [], (1, 1)),
-    (b"s/\\(\\(\\(\\(\\(a\\{255\\}\\)\\{255\\}\\)\\{255\\}\\)\\{255\\}\\)\\{255\\}\\)//\n", [], (1, 1)),
+    (b"s/\\(a\\{200\\}\\)\\{10\\}//\n", None),
+    (b"s/\\(a\\{200\\}\\)\\{10\\}b\\{0,1\\}c*d\\{1\\}//\n", None),
+    (b"p;s/\\(a\\{200\\}\\)\\{10\\}b\\{2\\}//\n", (1, 3)),
+    (b"s/\\(a\\{100\\}b\\)\\{2,20\\}//\n", (1, 1)),
+    (b"s/\\(a\\{3,\\}\\)\\{255\\}//\n", None),
+    (b"/\\(a\\{100\\}\\)\\{8\\}/{\n/\\(a\\{100\\}\\)\\{12\\}/d\n}\n", None),
+    (b"/\\(a\\{100\\}\\)\\{8\\}/{\n/\\(a\\{100\\}\\)\\{12\\}/,/x\\{2\\}/d\n}\n", (2, 30)),
+    (b"s/\\(\\(\\(a\\{255\\}\\)\\{255\\}\\)\\{120\\}\\)//\n", (1, 1)),
+    (b"s/\\(\\(\\(\\(\\(a\\{255\\}\\)\\{255\\}\\)\\{255\\}\\)\\{255\\}\\)\\{255\\}\\)//\n", (1, 1)),
+]
+
+# An accepted script, and where its expressions with a reference begin, behind their delimiters.
+REFERENCES = [
+    (b"s/\\(a\\)\\1//\n", [(1, 3)]), (b"p\n/^\\(.*\\)\\n\\1$/!P\n", [(2, 2)]), (b"\\,\\(a\\)\\1,p\n", [(1, 3)]), (b"s/\\(.\\)\\1*//\n", [(1, 3)]),
+    (b"1,/\\(a\\)\\1/p\n", [(1, 4)]), (b"/x/,/\\(a\\)\\1/s/\\(b\\)//\n", [(1, 6)]), (b"/\\(a\\)\\1/,/\\(b\\)\\(c\\)\\2/s/\\(d\\)\\1/x/\n", [(1, 2), (1, 12), (1, 27)]),
+    (b"/\\(a\\)\\1/s//x/\n", [(1, 2)]), (b"//,/\\(a\\)\\1/s//x/\n", [(1, 5)]), (b"$,//s/\\(a\\)\\1/x/\n", [(1, 7)]), (b"/a/{\n  s/\\(\\(a\\)\\2\\)b/x/;s/\\(a\\)\\1/x/\n}\n", [(2, 5), (2, 23)]),
+    # replacements, texts, comments, lists and pairs of backslashes have none
+    (b"s/\\(a\\)/\\1\\1/\n", []), (b"s/\\(a\\)[\\1]\\\\1/x/\n", []), (b"# s/\\(a\\)\\1/x/\na\\\n\\(a\\)\\1\n", []), (b"w \\(a\\)\\1\n", []), (b"p\n", []),
 ]
 
 # An accepted script, and for each command in which a byte above 127 is repeated by itself, or is in a list of `y`, the column of the first
@@ -126,7 +130,7 @@ def errors(tools, words):
 
 def check_denials(tools):
     """Each set of denials of each script: nothing is found but what is denied, and no no becomes a yes."""
-    subsets = [subset for size in range(1, 6) for subset in itertools.combinations(DENIALS, size)]
+    subsets = [subset for size in range(1, 7) for subset in itertools.combinations(DENIALS, size)]
     for script, found in ACCEPTED:
         tools.write("d.sed", script)
         tools.same("%r without a denial" % script, errors(tools, ["d.sed"]), (0, "accepted", []))
@@ -143,19 +147,20 @@ def check_denials(tools):
 
 
 def check_slow(tools):
-    """The warnings of repeated references, and what `--deny slow` and `--deny warnings` make of slow scripts."""
-    for script, warned, slow in SLOW:
+    """What `--deny slow` makes of slow scripts."""
+    for script, slow in SLOW:
         tools.write("d.sed", script)
-        status, report, _ = tools.explain("--format", "json", "d.sed")
-        found = [(finding["position"]["line"], finding["position"]["column"]) for finding in json.loads(report)["findings"] if finding["code"] == REPEATED]
-        tools.same("repeated references of %r" % script, (status, found), (0, warned))
         due = (1, "denied", [(*slow, "denied-slow")]) if slow else (0, "accepted", [])
         tools.same("%r, slow" % script, errors(tools, ["--deny", "slow", "d.sed"]), due)
-        # The warning can't be ignored where warnings are denied.
-        tools.write("d.sed", b"# sedck: ignore repeated-reference\n" + script)
-        status, report, _ = tools.explain("--format", "gcc", "d.sed")
-        tools.same("%r, ignored" % script, (status, REPEATED.encode() in report), (0, False))
-        tools.same("%r, ignored and denied" % script, tools.explain("--format", "gcc", "--deny", "warnings", "d.sed")[0], 1 if warned else 0)
+
+
+def check_references(tools):
+    """What `--deny references` makes of references in expressions, which no other denial looks at."""
+    for script, places in REFERENCES:
+        tools.write("d.sed", script)
+        due = (1, "denied", [(*place, "denied-references") for place in places]) if places else (0, "accepted", [])
+        tools.same("%r, references" % script, errors(tools, ["--deny", "references", "d.sed"]), due)
+        tools.same("%r, other denials" % script, b"denied-references" in tools.explain("--format", "gcc", "--deny", "reads,slow", "d.sed")[1], False)
 
 
 def check_bytes(tools):
@@ -166,9 +171,13 @@ def check_bytes(tools):
         found = [(finding["position"]["line"], finding["position"]["column"], script[finding["position"]["offset"]:finding["end"]["offset"]])
                  for finding in json.loads(report)["findings"] if finding["code"] == LOCALE]
         tools.same("bytes of %r" % script, (status, found), (0, warned))
-        tools.write("d.sed", b"# sedck: ignore locale\n" + script)
-        tools.same("%r, ignored" % script, LOCALE.encode() in tools.explain("--format", "gcc", "d.sed")[1], False)
-        tools.same("%r, ignored and denied" % script, tools.explain("--format", "gcc", "--deny", "warnings", "d.sed")[0], 1 if warned else 0)
+        tools.same("%r, denied" % script, tools.explain("--format", "gcc", "--deny", "warnings", "d.sed")[0], 1 if warned else 0)
+        # A comment that tries to hide it is warned of itself.
+        tools.write("ignoring.sed", b"# sedck: ignore locale\n" + script)
+        shown = [LOCALE] * len(warned) + ["unknown-code"]
+        report = json.loads(tools.explain("--format", "json", "ignoring.sed")[1])
+        tools.same("%r, ignored" % script, [finding["code"] for finding in report["findings"] if finding["code"] in shown], shown)
+        tools.same("%r, ignored in C" % script, b"[locale]" in tools.explain("--format", "gcc", "--locale", "C", "ignoring.sed")[1], False)
         for name in ("C", "POSIX", "C.UTF-8"):
             tools.same("%r, denied, in %s" % (script, name), tools.explain("--format", "gcc", "--locale", name, "--deny", "warnings", "d.sed")[0], 1 if warned and name == "C.UTF-8" else 0)
 
@@ -215,6 +224,7 @@ def check(tools):
     """Compares statuses, findings and texts."""
     check_denials(tools)
     check_slow(tools)
+    check_references(tools)
     check_bytes(tools)
     check_texts(tools)
     check_looks(tools)

@@ -57,6 +57,9 @@ RANGES = [
     (b":a; $!{N;ba\n}\n", [("label-to-the-line-end", b"; $!{N;ba")]),
     (b":twelvemonth\nn\nb twelvemonths\n:  twelvemonths \n", [("long-labels", b":  twelvemonths")]),
     (b"s/x\xc3\xa9*/y/\n", [("locale", b"\xc3\xa9")]),
+    (b"p;s/[ \\t]*$//\n", [("backslash-in-list", b"\\t")]),
+    (b"s/x[^:alpha:]y/z/\n", [("class-without-list", b"[^:alpha:]")]),
+    (b"$y/a-z/A-Z/ ;p\n", [("range-in-y", b"y/a-z/A-Z/")]),
     (b"# sedck: ignore no-such, bad-flag\np\n", [("unknown-code", b"no-such"), ("unknown-code", b"bad-flag")]),
     (b"p\n $!a hello \np\n", [("one-line-text", b"a hello")]),
     (b"s/a/b/\n#now\n", [("silencing-comment", b"#n")]),
@@ -64,6 +67,7 @@ RANGES = [
 
 # An accepted script, and the line, the column and the code of each warning on how it looks.
 TEXT, COMMENT, EXTENDED = "one-line-text", "silencing-comment", "looks-extended"
+ESCAPE, CLASS, RANGE = "backslash-in-list", "class-without-list", "range-in-y"
 LABEL, LONG = "label-to-the-line-end", "long-labels"
 LOOKS = [
     # what follows a label of `:`, `b` or `t` on its line: the first one alone
@@ -103,6 +107,16 @@ LOOKS = [
     (b"#n\np\n", []), (b"#n", []), (b"s/a/b/ #now\ns/a/b/#now\ns/a/b/p #n\n", []), (b"# now\n##n\n#N\n#\n", []), (b"a\\\n#now\np\n", []), (b"s/aa/#n/;s/#n/a/\n", []),
     (b"w a #n\n", [(1, 1, "command-in-name")]), (b"s/a/b/ #x\n;#n\n", [(2, 2, COMMENT)]), (b"s/a/\\\n#now/\n", [(1, 1, "no-bound")]),
     (b"#n\n" * 150, [(line, 1, COMMENT) for line in range(2, 102)]),
+    # an escape in a list, which GNU sed reads as one byte: the first one alone. `[\\n]` is a newline to all, and `\\\\` a backslash.
+    (b"s/[ \\t]*$//\n", [(1, 5, ESCAPE)]), (b"p\n1,/[^\\r\\t]/p\n", [(2, 6, ESCAPE)]), (b"s/[]\\v]x[\\f]//\n/[\\a]/p\n", [(1, 5, ESCAPE)]),
+    (b"s/[[:alpha:]\\t]//\n", [(1, 13, ESCAPE)]), (b"\\,[\\t],p\n", [(1, 4, ESCAPE)]),
+    (b"s/[\\n]//;s/[\\\\t]//;s/[t\\]//;s/[\\]t//;s/\\t//;s/xyz/[\\t]/\n", []), (b"# [\\t]\na\\\n[\\t]\n", []),
+    # a class without the list around it, which GNU sed refuses: the first one alone
+    (b"s/[:alpha:]/x/\n", [(1, 3, CLASS)]), (b"/x/,/a[^:digit:]/d\n/[:x:]/p\n", [(1, 7, CLASS)]), (b"s/[:A9:]*//\n", [(1, 3, CLASS)]),
+    (b"s/[:a]//;s/[a:]//;s/[::]//;s/[:a-c:]//;s/[:]//;s/[[:alpha:]]//;s/:alpha://\n", []),
+    # what would be ranges in both lists of `y`
+    (b"y/a-z/A-Z/\n", [(1, 1, RANGE)]), (b"p;1y/0-9ab/xa-zy/;y/a-c/A-C/\n", [(1, 4, RANGE)]),
+    (b"y/-a/a-/;y/a-z/abc/;y/xyz/A-C/;y/z-a/Z-A/;y/a-Z/A-z/;y/1-a/2-b/\n", []),
 ]
 
 # A script with findings of several levels, in the order of the report.
@@ -111,6 +125,16 @@ ORDERED = [
     (b"s/[0-9]+/xx/\nr /a\nw ../b\n", ["looks-extended", "absolute-name", "upward-name"]),
     (b":a\nw /x\nba\n", ["loop-idle", "absolute-name"]),
     (b"# sedck: ignore x\n:a\nba\n", ["loop-idle", "unknown-code"]),
+]
+
+# A script that tries to ignore what a yes rests on, and the codes that are reported.
+KEPT = [
+    (b"# sedck: ignore label-to-the-line-end long-labels locale\n:abcdefgh1;s/\xc3\xa9*//\n:abcdefgh2\n",
+     ["locale", "unknown-code", "unknown-code", "unknown-code", "label-to-the-line-end", "long-labels"]),
+    (b"#!/bin/sed -Ef\n# sedck: ignore options-in-first-line\np\n", ["options-in-first-line", "unknown-code"]),
+    (b"# sedck: ignore backslash-in-list,range-in-y\ns/[\\t]*$//\ny/a-c/A-C/\n", ["backslash-in-list", "range-in-y", "unknown-code", "unknown-code"]),
+    (b"s/[:alpha:]/x/\n# sedck: ignore class-without-list\n", ["class-without-list", "unknown-code"]),
+    (b"# sedck: ignore names-itself writes-its-input\nw other\n", ["unknown-code", "unknown-code"]),
 ]
 
 # A script; the codes that are reported, and those where warnings are denied as well, without the errors of the denial.
@@ -122,7 +146,6 @@ IGNORED = [
     (b"# sedck: ignore absolute-name absolute-name\nr /y\nw /x\n", [], ["absolute-name", "absolute-name"]),
     (b"{\n# sedck: ignore absolute-name\nw /x\n}\n", [], ["absolute-name"]),
     (b"1{;p;}\n# sedck: ignore absolute-name\nw /x\n", [], ["absolute-name"]),
-    (b"# sedck: ignore label-to-the-line-end long-labels locale\n:abcdefgh1;s/\xc3\xa9*//\n:abcdefgh2\n", [], ["locale", "label-to-the-line-end", "long-labels"]),
     # what is no such comment
     (b"#sedck: absolute-name\nw /x\n", ["absolute-name"], ["absolute-name"]),
     (b"# sedck: ignored absolute-name\nw /x\n", ["absolute-name"], ["absolute-name"]),
@@ -132,10 +155,11 @@ IGNORED = [
     (b"a\\\n# sedck: ignore absolute-name\nw /x\n", ["absolute-name"], ["absolute-name"]),
     (b"s/a/\\\n# sedck: ignore absolute-name/\nw /x\n", ["absolute-name", "no-bound"], ["absolute-name", "no-bound"]),
     (b"w /x # sedck: ignore absolute-name\n", ["absolute-name", "command-in-name"], ["absolute-name", "command-in-name"]),
-    # codes that can't be ignored
+    # codes that can't be ignored: those of errors, and those of what a yes rests on
     (b"# sedck: ignore loop-idle\n:a\nba\n", ["loop-idle", "unknown-code"], ["loop-idle", "unknown-code"]),
     (b"# sedck: ignore Absolute-Name\nw /x\n", ["absolute-name", "unknown-code"], ["absolute-name", "unknown-code"]),
     (b"# sedck: ignore typo unknown-code\np\n", [], ["unknown-code"]),
+    *((script, due, due) for script, due in KEPT),
 ]
 
 

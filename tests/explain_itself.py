@@ -42,7 +42,8 @@ def check_rows(tools):
         tools.same("%s: %r" % (path, script), (status, places(json.loads(report))), (0, due))
         tools.same("%s: %r with a denial" % (path, script), tools.explain("--deny", "warnings", path)[0] if due else 1, 1)
         tools.write(path, b"# sedck: ignore names-itself\n" + script)
-        tools.same("%s: %r, ignored" % (path, script), places(json.loads(tools.explain("--format", "json", path)[1])), [])
+        behind = [(line + 1, column) for line, column in due]
+        tools.same("%s: %r, ignored" % (path, script), places(json.loads(tools.explain("--format", "json", path)[1])), behind)
     for words, due in (([], []), (["--stdin-filename", "/home/me/self.sed"], [(1, 1)]), (["--stdin-filename", "other.sed"], [])):
         report = tools.explain("--format", "json", *words, "-", given=b"w self.sed\nw -\n")[1]
         tools.same("standard input, %s" % words, places(json.loads(report)), due)

@@ -114,13 +114,14 @@ PAGES = {
     "TRUST.md#scripts-of-strangers": ["denied-reads", "denied-writes", "denied-unbounded", "denied-warnings"],
     "TRUST.md#devices-pipes-and-links": ["device-name"],
     "TRUST.md#the-scripts-own-file": ["names-itself"],
+    "TRUST.md#input-and-output": ["writes-its-input"],
     "SEDS.md#seds-of-the-bsds-and-macos": ["label-to-the-line-end", "long-labels"],
     "TRUST.md#names": ["stream-name", "absolute-name", "upward-name", "unprintable-name", "blank-at-end", "command-in-name", "hidden-name",
                        "makefile-name", "option-name", "shell-byte-in-name", "read-and-written", "same-file"],
     "TRUST.md#options-and-the-scripts-first-line": ["options-in-first-line", "looks-extended"],
     "GRAMMAR.md#the-plain-spelling": ["no-plain-spelling"],
-    "GRAMMAR.md#what-seds-read-differently": ["brace-behind-label", "one-line-text", "silencing-comment"],
-    "TRUST.md#what-a-limit-on-steps-doesnt-limit": ["repeated-reference", "denied-slow"],
+    "GRAMMAR.md#what-seds-read-differently": ["brace-behind-label", "one-line-text", "silencing-comment", "backslash-in-list", "class-without-list", "range-in-y"],
+    "TRUST.md#what-a-limit-on-steps-doesnt-limit": ["denied-slow", "denied-references"],
 }
 
 
