@@ -27,7 +27,7 @@ impl Word<'_> {
 }
 
 /// The codes of warnings and notes that a comment in the script may silence: all but those of what isn't known.
-static IGNORABLE: [Code; 26] = [
+static IGNORABLE: [Code; 27] = [
     Code::OptionsInFirstLine,
     Code::BraceBehindLabel,
     Code::LooksExtended,
@@ -52,6 +52,7 @@ static IGNORABLE: [Code; 26] = [
     Code::UnknownCode,
     Code::InPlace,
     Code::NoBound,
+    Code::NoSpaceBound,
     Code::LabelToTheLineEnd,
     Code::LongLabels,
 ];

@@ -1,12 +1,13 @@
 //! What a caller denies of an accepted script, and what is reported of it.
 
-ghost use Rattle.std.specs.Prelude.{◌≡◌, ◌&&◌, ◌||◌, not, true, false, IfOk, OnOk};
+ghost use Rattle.std.specs.Prelude.{◌≡◌, ◌&&◌, ◌||◌, true, false, IfOk, OnOk};
 ghost use Rattle.std.specs.Option.{is_some};
+ghost use Rattle.sedck_cert.specs.Limits.{is_unbounded, is_growing};
 ghost use Rattle.sedck_report.specs.Levels.{has_warning, is_warning, has_error, is_error};
 ghost use Rattle.sedck_report.specs.Files.{is_there};
 
 use sedck_advice::Slow;
-use sedck_cert::Cert;
+use sedck_cert::{Cert, Limits};
 use sedck_report::{Code, Finding, Level, NamedFile, Position, shown_name};
 use std::alloc::{AllocError, Global};
 
@@ -21,6 +22,8 @@ pub struct Denied {
     pub warnings: bool,
     /// Steps without a known limit.
     pub unbounded: bool,
+    /// Spaces without a known limit on their lengths.
+    pub growing: bool,
     /// Expressions with which matching may take very long, or never end.
     pub slow: bool,
     /// The locale is C or POSIX, where a character is a byte: so nothing is warned of what is read otherwise in UTF-8.
@@ -34,6 +37,7 @@ impl Denied {
         writes: false,
         warnings: false,
         unbounded: false,
+        growing: false,
         slow: false,
         c_locale: false,
     };
@@ -67,19 +71,22 @@ pub fn with_denials(
     denied: Denied,
     reads: &[NamedFile],
     writes: &[NamedFile],
-    is_bounded: bool,
+    limits: Limits,
     slow: Option<Slow>,
 ) -> Result<Vec<Finding>, AllocError>
     // There is an error where something is denied and there, or was one before; all warnings are kept.
     ensures errors { IfOk result (λ all. has_error all.items ≡ ((denied.reads && is_there reads.now) || (denied.writes && is_there writes.now)
-        || (denied.unbounded && not is_bounded) || (denied.warnings && has_warning findings.items) || (denied.slow && is_some slow) || has_error findings.items)) }
+        || (denied.unbounded && is_unbounded limits) || (denied.growing && is_growing limits)
+        || (denied.warnings && has_warning findings.items) || (denied.slow && is_some slow) || has_error findings.items)) }
     ensures warnings { IfOk result (λ all. has_warning all.items ≡ has_warning findings.items) }
 {
     let mut all = Vec::new(alloc);
     push_files(alloc, &mut all, denied.reads, reads, Code::DeniedReads)?;
     push_files(alloc, &mut all, denied.writes, writes, Code::DeniedWrites)?;
-    let is_unbounded = denied.unbounded && !is_bounded;
+    let is_unbounded = denied.unbounded && limits.is_unbounded();
     push_unbounded(alloc, &mut all, is_unbounded, &findings)?;
+    let is_growing = denied.growing && limits.is_growing();
+    push_growing(alloc, &mut all, is_growing, &findings)?;
     push_warnings(alloc, &mut all, denied.warnings, &findings)?;
     push_slow(alloc, &mut all, denied.slow, slow)?;
     all.append(&mut findings)?;
@@ -217,6 +224,38 @@ fn unbounded_denial(alloc: Global, findings: &[Finding]) -> Result<Finding, Allo
         "no limit on the steps is known, which `--deny unbounded` forbids",
     )?;
     Ok(denial(alloc, Code::DeniedUnbounded, position, message))
+}
+
+/// Adds an error where spaces without a known limit are denied, and there is none.
+fn push_growing(
+    alloc: Global,
+    findings: &mut Vec<Finding>,
+    is_denied: bool,
+    given: &[Finding],
+) -> Result<(), AllocError>
+    ensures errors { OnOk result (has_error findings.new.items ≡ (has_error findings.old.items || is_denied)) }
+    ensures warnings { OnOk result (has_warning findings.new.items ≡ has_warning findings.old.items) }
+{
+    if is_denied {
+        findings.push(growing_denial(alloc, given)?)?;
+    }
+    Ok(())
+}
+
+/// The error where no limit on the spaces is known, at the place of the note that says so.
+fn growing_denial(alloc: Global, findings: &[Finding]) -> Result<Finding, AllocError>
+    ensures error { IfOk result (λ finding. is_error finding.level ≡ true) }
+    ensures warning { IfOk result (λ finding. is_warning finding.level ≡ false) }
+{
+    let position = findings
+        .iter()
+        .find(|finding| matches!(finding.code, Code::NoBound | Code::NoSpaceBound))
+        .and_then(|finding| finding.position);
+    let message = String::from_str(
+        alloc,
+        "no limit on the memory is known, which `--deny growing` forbids",
+    )?;
+    Ok(denial(alloc, Code::DeniedGrowing, position, message))
 }
 
 /// An error on something that is denied.

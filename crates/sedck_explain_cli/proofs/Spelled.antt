@@ -38,7 +38,7 @@ judged_yes judged status (inr both) accepted = both.0
 -- an accepted script is kept
 kept_script : (text : List ℕ) (denied : Denied) (warned slow : Bool) (e : Explanation) (answer : Answer)
     → e.status ≡ status_under denied warned slow answer → Keeps text answer e → e.status ≡ exit.Accepted → KeepsScript text e
-kept_script text denied warned slow e (Accepted cert bound) is keeps accepted = keeps
+kept_script text denied warned slow e (Accepted cert limits) is keeps accepted = keeps
 kept_script text denied warned slow e (Rejected cert why) is keeps accepted = keeps
 kept_script text denied warned slow e (Endless walk) is keeps accepted = keeps
 kept_script text denied warned slow e (CertificateRefused why) is keeps accepted = keeps

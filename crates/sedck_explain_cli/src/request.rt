@@ -182,6 +182,7 @@ fn denied_of(given: Option<&str>, locale: Option<&str>) -> Denied
             writes: names(list.as_bytes(), b"writes"),
             warnings: names(list.as_bytes(), b"warnings"),
             unbounded: names(list.as_bytes(), b"unbounded"),
+            growing: names(list.as_bytes(), b"growing"),
             slow: names(list.as_bytes(), b"slow"),
             c_locale,
         },
@@ -209,7 +210,14 @@ const KINDS: &[&str] = &["sh", "make", "docker", "yaml", "spec", "m4"];
 const LEVELS: &[&str] = &["error", "warning", "note"];
 
 /// What a script may be denied, by name.
-const DENIALS: &[&str] = &["reads", "writes", "warnings", "unbounded", "slow"];
+const DENIALS: &[&str] = &[
+    "reads",
+    "writes",
+    "warnings",
+    "unbounded",
+    "growing",
+    "slow",
+];
 
 /// What follows an option; the first word is what the help calls it.
 #[derive(Clone, Copy)]

@@ -1,6 +1,7 @@
--- What a caller may deny of an accepted script, this project's own: files that it reads or writes, warnings, steps without a
+-- What a caller may deny of an accepted script, this project's own: files that it reads or writes, warnings, steps or spaces without a
 -- limit, and expressions that are slow to match. A script that isn't accepted has its status with or without it.
-use Rattle.std.specs.Prelude.{Bool, false, ◌&&◌, ◌||◌, is_none, if◌then◌else◌}
+use Rattle.std.specs.Prelude.{Bool, false, ◌&&◌, ◌||◌, if◌then◌else◌}
+use Rattle.sedck_cert.specs.Limits.{is_unbounded, is_growing}
 use Rattle.sedck_report.specs.Files.{is_there}
 use Rattle.sedck_errors.specs.declared.denied.Denied.{Denied}
 use Rattle.sedck_explanation.specs.Answers.{status_of}
@@ -10,13 +11,13 @@ use Rattle.sedck_explanation.specs.Status.{Status, Rejected}
 
 -- nothing is denied, and nothing is known of the locale
 abbrev pub nothing : Denied
-nothing = record { reads = false; writes = false; warnings = false; unbounded = false; slow = false; c_locale = false }
+nothing = record { reads = false; writes = false; warnings = false; unbounded = false; growing = false; slow = false; c_locale = false }
 
 -- the script is accepted, and has what is denied. Its lists are those of the accepted certificate.
 abbrev pub is_denied : Denied → (warned slow : Bool) → Answer → Bool
-is_denied denied warned slow (Accepted cert bound) =
+is_denied denied warned slow (Accepted cert limits) =
     (denied.reads && is_there cert.reads) || (denied.writes && is_there cert.writes)
-    || (denied.unbounded && is_none bound) || (denied.warnings && warned) || (denied.slow && slow)
+    || (denied.unbounded && is_unbounded limits) || (denied.growing && is_growing limits) || (denied.warnings && warned) || (denied.slow && slow)
 is_denied denied warned slow _ = false
 
 -- the exit status: rejected for a script that is accepted and has what is denied, else that of the answer

@@ -23,7 +23,7 @@ use sedck_advice::{
     named_files, slow_of,
 };
 use sedck_errors::{
-    Denied, any_warning, certificate_refusal, loop_finding, rejection, script_refusal, unbounded,
+    Denied, any_warning, certificate_refusal, growth_note, loop_finding, rejection, script_refusal,
     with_denials,
 };
 use sedck_report::{Finding, NamedFile, Position, positions};
@@ -269,18 +269,15 @@ fn denied_findings(
     ensures warnings { IfOk result (λ all. has_warning all.items ≡ has_warning findings.items) }
 {
     match answer {
-        Answer::Accepted { bound, .. } => {
-            let is_bounded = bound.is_some();
-            with_denials(
-                alloc,
-                findings,
-                denied,
-                &lists.reads,
-                &lists.writes,
-                is_bounded,
-                slow,
-            )
-        }
+        Answer::Accepted { limits, .. } => with_denials(
+            alloc,
+            findings,
+            denied,
+            &lists.reads,
+            &lists.writes,
+            *limits,
+            slow,
+        ),
         _ => Ok(findings),
     }
 }
@@ -337,7 +334,7 @@ fn answer_finding(
             Ok(Some(rejection(alloc, script, positions, cert, *why)?))
         }
         Answer::Endless(walk) => Ok(Some(loop_finding(alloc, script, positions, walk)?)),
-        Answer::Accepted { cert, bound: None } => unbounded(alloc, script, positions, cert),
-        Answer::Accepted { .. } | Answer::NotJudged => Ok(None),
+        Answer::Accepted { cert, limits } => growth_note(alloc, script, positions, cert, *limits),
+        Answer::NotJudged => Ok(None),
     }
 }

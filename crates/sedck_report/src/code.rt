@@ -34,6 +34,7 @@ pub enum Code {
     DeniedReads,
     DeniedWrites,
     DeniedUnbounded,
+    DeniedGrowing,
     DeniedWarnings,
     DeniedSlow,
 
@@ -94,7 +95,10 @@ pub enum Code {
     NotUnderstood,
 
     // Notes.
+    /// No limit on the steps is known.
     NoBound,
+    /// A limit on the steps is known, and none on the lengths of the spaces.
+    NoSpaceBound,
     /// Something follows a label on its line, which some seds take for a part of the label.
     LabelToTheLineEnd,
     /// Labels that are alike in the bytes by which POSIX has labels told apart.
@@ -124,6 +128,7 @@ impl Code {
             Code::DeniedReads => "denied-reads",
             Code::DeniedWrites => "denied-writes",
             Code::DeniedUnbounded => "denied-unbounded",
+            Code::DeniedGrowing => "denied-growing",
             Code::DeniedWarnings => "denied-warnings",
             Code::DeniedSlow => "denied-slow",
             Code::NoPlainSpelling => "no-plain-spelling",
@@ -157,6 +162,7 @@ impl Code {
             Code::KnownValue => "known-value",
             Code::NotUnderstood => "not-understood",
             Code::NoBound => "no-bound",
+            Code::NoSpaceBound => "no-space-bound",
             Code::LabelToTheLineEnd => "label-to-the-line-end",
             Code::LongLabels => "long-labels",
         }

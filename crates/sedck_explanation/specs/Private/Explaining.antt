@@ -52,11 +52,11 @@ pub record KeepsLocated (text : List ℕ) (script : Program) (locations : List L
 
 -- the lists of files have something where those of an accepted certificate do
 abbrev pub HasLists : List NamedFile → List NamedFile → Answer → Type 0
-HasLists reads writes (Accepted cert bound) = (is_there cert.reads ≡ is_there reads) × (is_there cert.writes ≡ is_there writes)
+HasLists reads writes (Accepted cert limits) = (is_there cert.reads ≡ is_there reads) × (is_there cert.writes ≡ is_there writes)
 HasLists reads writes _ = Unit {0}
 
 -- what is denied adds errors to the findings of a script that is accepted
 abbrev pub AreDeniedFindings : Denied → (slow : Bool) → List Finding → List Finding → Answer → Type 0
-AreDeniedFindings denied slow before all (Accepted cert bound) =
-    has_error all ≡ (is_denied denied (has_warning all) slow (Accepted cert bound) || has_error before)
+AreDeniedFindings denied slow before all (Accepted cert limits) =
+    has_error all ≡ (is_denied denied (has_warning all) slow (Accepted cert limits) || has_error before)
 AreDeniedFindings denied slow before all _ = all ≡ before
