@@ -166,14 +166,14 @@ PLACES = [
     ("sed 's/a/b/' f\nsed 's/\\(a/b/' f\n", ["2:8 unclosed-group"]),
     ("x\nsed -n '\n  :a\n  p\n  b a\n'\n", ["3:3 loop-idle"]),
     ("sed 'w /etc/x' f\n", ["1:6 absolute-name"]),
-    ("sed \"s/a/$b/;s/$c/d/\"\n", ["1:10 open-hole", "1:16 open-hole", "1:6 no-bound"]),
+    ("sed \"s/a/$b/;s/$c/d/\"\n", ["1:10 open-hole", "1:16 open-hole", "1:6 no-space-bound"]),
     ("sed p \"$f\" -l5$x g\n", ["1:8 open-hole", "1:15 open-hole"]),
     ("sed -e p -e \"$x\"\n", ["1:1 unknowable"]),
     ("a='s/x'\nsed \"$a\"\n", ["1:4 unterminated", "2:6 known-value"]),
     ("a=u\nb=\nsed \"s/$a/$b/\" f\nsed p\n", ["3:8 known-value", "3:11 known-value"]),
     ("sed -i p f\n", ["1:1 in-place"]),
     ("sed 's/é*//' f\nLC_ALL=C sed 's/é*//' f\n", ["1:8 locale"]),
-    ("LC_ALL=C sed -i 's/a/bb/' f\n", ["1:10 in-place", "1:18 no-bound"]),
+    ("LC_ALL=C sed -i 's/a/bb/' f\n", ["1:10 in-place", "1:18 no-space-bound"]),
     ("sed -n 'w g' big ./g\n", ["1:9 writes-its-input"]),
 ]
 

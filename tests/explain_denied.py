@@ -2,7 +2,7 @@
 import itertools
 import json
 
-DENIALS = ("reads", "writes", "warnings", "unbounded", "slow", "references")
+DENIALS = ("reads", "writes", "warnings", "unbounded", "growing", "slow", "references")
 EXTENDED, OPTIONS, BRACE = "looks-extended", "options-in-first-line", "brace-behind-label"
 LOCALE = "locale"
 
@@ -12,15 +12,18 @@ ACCEPTED = [
     (b"p\n r in\n", {"reads": [(2, 2, "denied-reads")]}),
     (b"w a\ns/x/y/w b\nw a\n", {"writes": [(1, 1, "denied-writes"), (2, 1, "denied-writes")]}),
     (b"r f\nw g\n", {"reads": [(1, 1, "denied-reads")], "writes": [(2, 1, "denied-writes")]}),
-    (b"p\nG\n", {"unbounded": [(2, 1, "denied-unbounded")]}),
-    (b"s/a/bb/\n", {"unbounded": [(1, 1, "denied-unbounded")]}),
+    (b"p\nG\n", {"growing": [(2, 1, "denied-growing")]}),
+    (b"s/a/bb/\n", {"growing": [(1, 1, "denied-growing")]}),
+    (b"p;H\n", {"growing": [(1, 3, "denied-growing")]}),
+    (b":a\ns/x//\nta\n", {}),
+    (b"p;G\n:a\ns/x//\nta\n", {"unbounded": [(1, 3, "denied-unbounded")], "growing": [(1, 3, "denied-growing")]}),
     (b"s/a/b/\n", {}),
     (b"r /etc/motd\n", {"reads": [(1, 1, "denied-reads")], "warnings": [(1, 1, "denied-warnings")]}),
     (b"p;s/[0-9]+/x/\n", {"warnings": [(1, 10, "denied-warnings")]}),
-    (b"p\ns/\\(a*\\)\\1*//\n", {"slow": [(2, 1, "denied-slow")], "references": [(2, 3, "denied-references")]}),
+    (b"p\ns/\\(a\\)\\1*//\n", {"slow": [(2, 1, "denied-slow")], "references": [(2, 3, "denied-references")]}),
     (b"/\\(a\\)\\1/w x\n", {"writes": [(1, 10, "denied-writes")], "references": [(1, 2, "denied-references")]}),
     (b"s/\\(\\(a\\{255\\}\\)\\{255\\}\\)\\{9\\}//\n", {"slow": [(1, 1, "denied-slow")]}),
-    (b"s/x/y/;w ../o\nG\n", {"writes": [(1, 8, "denied-writes")], "warnings": [(1, 8, "denied-warnings")], "unbounded": [(2, 1, "denied-unbounded")]}),
+    (b"s/x/y/;w ../o\nG\n", {"writes": [(1, 8, "denied-writes")], "warnings": [(1, 8, "denied-warnings")], "growing": [(2, 1, "denied-growing")]}),
 ]
 
 # An accepted script, and the place of the error where the script is slow: by the rule that a reference is repeated by itself, or that
@@ -188,7 +191,7 @@ def check_texts(tools):
     said = 'd.sed:2:1: error: this writes "out", which `--deny writes` forbids [denied-writes]\n'
     tools.same("text of a denial", tools.explain("--deny", "writes", "d.sed"), (1, (said + (
         "   2 | w out\n     | ^\n     = see: docs/TRUST.md#scripts-of-strangers\nd.sed: denied, though every run ends\n"
-        "  steps: at most 4 a byte, plus 20 a line, plus 4; for 1,000 lines of 80 bytes at most 340,004\n"
+        "  steps: at most 4 a line, plus 1; for 1,000 lines of 80 bytes at most 4,001\n  memory: each space at most as long as the input\n"
         "  reads: no file\n  writes: \"out\" (2:1)\n")).encode(), b""))
     tools.same("gcc of a denial", tools.explain("--format", "gcc", "--deny=writes", "d.sed"), (1, said.encode(), b""))
     status, report, _ = tools.explain("--format", "html", "--deny", "reads,writes", "d.sed")

@@ -48,9 +48,11 @@ RANGES = [
     # the whole command, but no blanks behind it and no second line
     (b":a\n  1!b a ;p\n", [("loop-idle", b":a"), ("label-to-the-line-end", b";p")]),
     (b"p\n:a\ns/x/xx/g ;ta\n", [("loop-growing", b"s/x/xx/g")]),
-    (b"G\nx\n", [("no-bound", b"G")]),
+    (b"G\nx\n", [("no-space-bound", b"G")]),
+    (b"p\nG\n:a\ns/x//\nta\n", [("no-bound", b"G")]),
+    (b"p;H\n", [("no-space-bound", b"H")]),
     (b"p;w /x\ny/a/b/\n", [("absolute-name", b"w /x")]),
-    (b"s/a/b\\\nc/w ../x y\n", [("upward-name", b"s/a/b\\"), ("no-bound", b"s/a/b\\")]),
+    (b"s/a/b\\\nc/w ../x y\n", [("upward-name", b"s/a/b\\"), ("no-space-bound", b"s/a/b\\")]),
     (b"s/[0-9]+/x/\n", [("looks-extended", b"+")]),
     (b"#!/bin/sed -Ef\np\n", [("options-in-first-line", b"#!/bin/sed -Ef")]),
     (b":a\n$!{N;ba}\n", [("brace-behind-label", b"}"), ("label-to-the-line-end", b"}")]),
@@ -105,7 +107,7 @@ LOOKS = [
     (b"p#n", [(1, 2, COMMENT)]), (b"y/a/b/ #n\n", [(1, 8, COMMENT)]), (b"b e #n\n:e #n\n", [(1, 5, COMMENT), (2, 4, COMMENT), (1, 5, LABEL)]), (b"#n\n#n\np\n", [(2, 1, COMMENT)]),
     (b"#x\n#now\n# now\n#now\n", [(2, 1, COMMENT), (4, 1, COMMENT)]), (b"w f\n#n\n", [(2, 1, COMMENT)]), (b"s/a/b/w f\n#n\n", [(2, 1, COMMENT)]),
     (b"#n\np\n", []), (b"#n", []), (b"s/a/b/ #now\ns/a/b/#now\ns/a/b/p #n\n", []), (b"# now\n##n\n#N\n#\n", []), (b"a\\\n#now\np\n", []), (b"s/aa/#n/;s/#n/a/\n", []),
-    (b"w a #n\n", [(1, 1, "command-in-name")]), (b"s/a/b/ #x\n;#n\n", [(2, 2, COMMENT)]), (b"s/a/\\\n#now/\n", [(1, 1, "no-bound")]),
+    (b"w a #n\n", [(1, 1, "command-in-name")]), (b"s/a/b/ #x\n;#n\n", [(2, 2, COMMENT)]), (b"s/a/\\\n#now/\n", [(1, 1, "no-space-bound")]),
     (b"#n\n" * 150, [(line, 1, COMMENT) for line in range(2, 102)]),
     # an escape in a list, which GNU sed reads as one byte: the first one alone. `[\\n]` is a newline to all, and `\\\\` a backslash.
     (b"s/[ \\t]*$//\n", [(1, 5, ESCAPE)]), (b"p\n1,/[^\\r\\t]/p\n", [(2, 6, ESCAPE)]), (b"s/[]\\v]x[\\f]//\n/[\\a]/p\n", [(1, 5, ESCAPE)]),
@@ -121,7 +123,7 @@ LOOKS = [
 
 # A script with findings of several levels, in the order of the report.
 ORDERED = [
-    (b"G\nw /x\n", ["absolute-name", "no-bound"]),
+    (b"G\nw /x\n", ["absolute-name", "no-space-bound"]),
     (b"s/[0-9]+/xx/\nr /a\nw ../b\n", ["looks-extended", "absolute-name", "upward-name"]),
     (b":a\nw /x\nba\n", ["loop-idle", "absolute-name"]),
     (b"# sedck: ignore x\n:a\nba\n", ["loop-idle", "unknown-code"]),
@@ -141,8 +143,9 @@ KEPT = [
 IGNORED = [
     (b"# sedck: ignore absolute-name\nw /x\n", [], ["absolute-name"]),
     (b"w /x\n \t#sedck:ignore\tabsolute-name\n", [], ["absolute-name"]),
-    (b"w /x\nG\n# sedck: ignore no-bound,absolute-name", [], ["absolute-name", "no-bound"]),
-    (b"# sedck: ignore no-bound , upward-name\nw /../x\nG\n", ["absolute-name"], ["absolute-name", "upward-name", "no-bound"]),
+    (b"w /x\nG\n# sedck: ignore no-space-bound,absolute-name", [], ["absolute-name", "no-space-bound"]),
+    (b"# sedck: ignore no-bound,absolute-name\nw /x\nG\n:a\ns/x//\nta\n", [], ["absolute-name", "no-bound"]),
+    (b"# sedck: ignore no-space-bound , upward-name\nw /../x\nG\n", ["absolute-name"], ["absolute-name", "upward-name", "no-space-bound"]),
     (b"# sedck: ignore absolute-name absolute-name\nr /y\nw /x\n", [], ["absolute-name", "absolute-name"]),
     (b"{\n# sedck: ignore absolute-name\nw /x\n}\n", [], ["absolute-name"]),
     (b"1{;p;}\n# sedck: ignore absolute-name\nw /x\n", [], ["absolute-name"]),
@@ -153,7 +156,7 @@ IGNORED = [
     (b"p # sedck: ignore absolute-name\nw /x\n", ["absolute-name"], ["absolute-name"]),
     (b"p;# sedck: ignore absolute-name\nw /x\n", ["absolute-name"], ["absolute-name"]),
     (b"a\\\n# sedck: ignore absolute-name\nw /x\n", ["absolute-name"], ["absolute-name"]),
-    (b"s/a/\\\n# sedck: ignore absolute-name/\nw /x\n", ["absolute-name", "no-bound"], ["absolute-name", "no-bound"]),
+    (b"s/a/\\\n# sedck: ignore absolute-name/\nw /x\n", ["absolute-name", "no-space-bound"], ["absolute-name", "no-space-bound"]),
     (b"w /x # sedck: ignore absolute-name\n", ["absolute-name", "command-in-name"], ["absolute-name", "command-in-name"]),
     # codes that can't be ignored: those of errors, and those of what a yes rests on
     (b"# sedck: ignore loop-idle\n:a\nba\n", ["loop-idle", "unknown-code"], ["loop-idle", "unknown-code"]),

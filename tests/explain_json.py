@@ -23,7 +23,7 @@ from seds_draw import Draw  # noqa: E402
 WHOLE = 200
 COMMANDS = 4095
 LABELS = ["label-to-the-line-end", "long-labels"]
-FIELDS = ["file", "status", "answer", "bound", "reads", "writes", "findings", "commands", "version"]
+FIELDS = ["file", "status", "answer", "bound", "bound_by_lines", "space_bound", "reads", "writes", "findings", "commands", "version"]
 FINDING = ["level", "code", "message", "hint", "position", "steps", "page", "end", "fix"]
 ANSWERS = {0: ["accepted"], 1: ["rejected", "loop"], 2: ["script-refused", "certificate-refused"]}
 
@@ -132,15 +132,38 @@ def hold_names(tools, what, script, report):
     tools.holds("commands %s" % what, all(position in report["commands"] for position in named))
 
 
-def hold_bound(tools, what, certificate, report):
-    """The bound against that of `sedck check`."""
+def verb_at(script, position):
+    """The byte of a command's verb."""
+    return script[position["offset"]:position["offset"] + 1]
+
+
+def by_lines_due(graph, certificate):
+    """The limit by lines by the edges that `sedck graph` prints and the ranks of the certificate, or None where it isn't due."""
+    ranks = {}
+    for line in certificate.split("\n"):
+        words = line.split(" ")
+        if len(words) == 5:
+            ranks[tuple(words[:3])] = int(words[3])
+    for line in graph.split("\n"):
+        words = line.split(" ")
+        if len(words) == 7 and words[6] != "consume" and tuple(words[:3]) in ranks and ranks[tuple(words[3:6])] >= ranks[tuple(words[:3])]:
+            return None
+    return {"per_byte": 0, "per_line": max(ranks.values()) + 1, "fixed": 1}
+
+
+def hold_bound(tools, what, script, certificate, report):
+    """The bound against that of `sedck check`, and the other limits against the graph, the ranks and the verbs."""
     tools.write(what + ".cert", certificate)
     lines = tools.sedck("check", what, what + ".cert")[1].split(b"\n")
     bound = report["bound"]
     shown = ["bound %(per_byte)d %(per_line)d %(fixed)d" % bound] if bound else []
     tools.same("bound %s" % what, [line.decode() for line in lines if line.startswith(b"bound ")], shown)
     codes = [finding["code"] for finding in report["findings"] if finding["level"] != "warning" and finding["code"] not in LABELS]
-    tools.same("note %s" % what, codes, [] if bound else ["no-bound"])
+    by_lines, spaces = report["bound_by_lines"], report["space_bound"]
+    tools.same("note %s" % what, codes, [] if spaces else ["no-space-bound"] if bound or by_lines else ["no-bound"])
+    tools.same("limit by lines %s" % what, by_lines, by_lines_due(tools.sedck("graph", what)[1].decode(), certificate.decode()))
+    due = {"per_byte": 1, "per_line": 1, "fixed": 0} if bound and not any(verb_at(script, at) == b"H" for at in report["commands"]) else None
+    tools.same("limit on the spaces %s" % what, spaces, due)
 
 
 def hold_loop(tools, what, text, report):
@@ -163,7 +186,8 @@ def hold_script(tools, what, script, report):
     for position in positions_in(report):
         tools.same("place %s" % what, (position["line"], position["column"]), place(script, position["offset"]))
     if status == 2:
-        tools.same("refused %s" % what, [report[key] for key in ("bound", "reads", "writes", "commands")], [None, [], [], []])
+        empty = [report[key] for key in ("bound", "bound_by_lines", "space_bound", "reads", "writes", "commands")]
+        tools.same("refused %s" % what, empty, [None, None, None, [], [], []])
         code, at = re.fullmatch(r".*fault [0-9]+ ([a-z-]+) at ([0-9]+)\n", errors.decode()).groups()
         finding, = report["findings"]
         tools.same("fault %s" % what, finding["code"], code)
@@ -172,10 +196,10 @@ def hold_script(tools, what, script, report):
         return
     hold_names(tools, what, script, report)
     if status == 0:
-        hold_bound(tools, what, text, report)
+        hold_bound(tools, what, script, text, report)
     else:
         hold_loop(tools, what, text, report)
-        tools.same("no bound %s" % what, report["bound"], None)
+        tools.same("no bound %s" % what, [report[key] for key in ("bound", "bound_by_lines", "space_bound")], [None] * 3)
 
 
 def hold_place(tools, what, script, number, position):

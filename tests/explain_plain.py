@@ -26,9 +26,9 @@ REPORTED = [
     ([], b":a;ba\n", 1),
     ([], b"s/a\\{2/x/\n", 2),
     (["--deny", "writes"], b"w f\n", 1),
-    (["--deny", "warnings,slow"], b"s/\\(a*\\)\\1*//\n", 1),
-    (["--deny", "reads,writes,warnings,unbounded,slow,references"], b"G\n", 1),
-    (["--deny", "reads,writes,warnings,unbounded,slow,references"], b"$!N;/^\\(.*\\)\\n\\1$/!P;D\n", 1),
+    (["--deny", "warnings,slow"], b"s/\\(a\\)\\1*//\n", 1),
+    (["--deny", "reads,writes,warnings,unbounded,growing,slow,references"], b"G\n", 1),
+    (["--deny", "reads,writes,warnings,unbounded,growing,slow,references"], b"$!N;/^\\(.*\\)\\n\\1$/!P;D\n", 1),
     (["--cert", "empty.cert"], b"p\n", 2),
     (["--cert", "other.cert"], b"p;p\n", 1),
 ]

@@ -60,7 +60,7 @@ def hold_rule(tools, rule, page):
     tools.same("fields of the rule %s" % what, list(rule), ["id", "shortDescription", "fullDescription", "help"])
     short, full = (rule.get(key, {}).get("text", "?") for key in ("shortDescription", "fullDescription"))
     tools.holds("meaning of %s" % what, 10 < len(short) <= 100 and short[0].isupper() and short[-1] not in ".:" and full.startswith(short + ". "))
-    due = page_due(what) if what != "no-bound" else page
+    due = page_due(what) if what not in ("no-bound", "no-space-bound") else page
     tools.same("help of %s" % what, rule["help"], {"text": "See docs/" + due, "markdown": "See `docs/%s`" % due})
     tools.holds("page of %s" % what, "docs/" + due in full)
 

@@ -14,9 +14,15 @@ OFTEN = ("repeat the command as often as it may be needed, without the loop; one
          "no match")
 TAKE = ("branch only where a line was read: put the branch into a block with the `N` or `n`, as in `/x/{`, `N`, `b a`, `}` on lines "
         "of their own")
-UNKNOWN = "every run ends, but no limit on its steps is known, since this may lengthen the pattern space"
+NO_STEPS = "every run ends, but no limit on its steps is known, since this may lengthen the pattern space"
+UNKNOWN = "every run ends, but no limit on its memory is known, since this may lengthen the pattern space"
+APPENDS = "every run ends, but no limit on its memory is known, since this lengthens the hold space"
 NO_FILES = "  reads: no file\n  writes: no file\n"
-NO_LIMIT = "  steps: no limit is known\n"
+MEMORY = "  memory: each space at most as long as the input\n"
+NO_MEMORY = "  memory: no limit is known\n"
+NO_LIMIT = "  steps: no limit is known\n" + NO_MEMORY
+# for a greatest first rank of 3: 4 * 1,000 + 1
+FOUR = "  steps: at most 4 a line, plus 1; for 1,000 lines of 80 bytes at most 4,001\n" + NO_MEMORY
 LOOP = "s.sed: loop: a run may never end\n" + NO_FILES
 REJECTED = "s.sed: rejected: the certificate doesn't fit the script\n"
 
@@ -147,63 +153,88 @@ s.sed:2:1: note: `D` deletes up to the first newline, and starts again without r
 s.sed:1:1: note: `G` and so on
 s.sed:1:1: note: hint: {OFTEN}
 """),
-    # greatest ranks 1 and 1, so that the bound is 2, 2 * 3 and 2: 2 * 80,000 + 6 * 1,000 + 2
+    # greatest first rank 1, so that the limit by lines is 2 and 1: 2 * 1,000 + 1
     (b"", 0, f"""\
 s.sed: accepted: every run ends
-  steps: at most 2 a byte, plus 6 a line, plus 2; for 1,000 lines of 80 bytes at most 166,002
-{NO_FILES}""", ""),
-    # greatest ranks 3 and 3: 4, 4 * 5 and 4
+  steps: at most 2 a line, plus 1; for 1,000 lines of 80 bytes at most 2,001
+{MEMORY}{NO_FILES}""", ""),
+    # greatest first rank 3
     (b":a\nn\nb a\n", 0, f"""\
 s.sed: accepted: every run ends
-  steps: at most 4 a byte, plus 20 a line, plus 4; for 1,000 lines of 80 bytes at most 340,004
-{NO_FILES}""", ""),
-    # files by name, with the commands that name them, of which eight are listed; greatest ranks 13 and 13: 14, 14 * 15 and 14
+  steps: at most 4 a line, plus 1; for 1,000 lines of 80 bytes at most 4,001
+{MEMORY}{NO_FILES}""", ""),
+    # files by name, with the commands that name them, of which eight are listed; greatest first rank 13
     (b"r in\n" + b"p;w a b\n" + b"w x\n" * 9, 0, """\
 s.sed: accepted: every run ends
-  steps: at most 14 a byte, plus 210 a line, plus 14; for 1,000 lines of 80 bytes at most 1,330,014
+  steps: at most 14 a line, plus 1; for 1,000 lines of 80 bytes at most 14,001
+  memory: each space at most as long as the input
   reads: "in" (1:1)
   writes: "a b" (2:3)
   writes: "x" (3:1, 4:1, 5:1, 6:1, 7:1, 8:1, 9:1, 10:1 and 1 more)
 """, ""),
     (b"$!N\nG\n", 0, f"""\
-s.sed:2:1: note: {UNKNOWN} [no-bound]
+s.sed:2:1: note: {UNKNOWN} [no-space-bound]
    2 | G
      | ^
        2:1  G  may lengthen the pattern space with the contents of the hold space
 s.sed: accepted: every run ends
-{NO_LIMIT}{NO_FILES}""", f"""\
-s.sed:2:1: note: {UNKNOWN} [no-bound]
+{FOUR}{NO_FILES}""", f"""\
+s.sed:2:1: note: {UNKNOWN} [no-space-bound]
 s.sed:2:1: note: `G` may lengthen the pattern space with the contents of the hold space
 """),
     (b"$s/a/[&]/\n", 0, f"""\
-s.sed:1:2: note: {UNKNOWN} [no-bound]
+s.sed:1:2: note: {UNKNOWN} [no-space-bound]
    1 | $s/a/[&]/
      |  ^
        1:2  $s/a/[&]/  may replace a match with a longer text: it has the whole match, `&`, and more (on the last line)
 s.sed: accepted: every run ends
-{NO_LIMIT}{NO_FILES}""", f"""\
-s.sed:1:2: note: {UNKNOWN} [no-bound]
+{FOUR}{NO_FILES}""", f"""\
+s.sed:1:2: note: {UNKNOWN} [no-space-bound]
 s.sed:1:2: note: `$s/a/[&]/` may replace a match with a longer text: it has the whole match, `&`, and more (on the last line)
 """),
     (b"s/\\(a\\)b/\\1\\1/\n", 0, f"""\
-s.sed:1:1: note: {UNKNOWN} [no-bound]
+s.sed:1:1: note: {UNKNOWN} [no-space-bound]
    1 | s/\\(a\\)b/\\1\\1/
      | ^
        1:1  s/\\(a\\)b/\\1\\1/  may replace a match with a longer text: it has a group twice, or one that is repeated or inside another
 s.sed: accepted: every run ends
-{NO_LIMIT}{NO_FILES}""", f"""\
-s.sed:1:1: note: {UNKNOWN} [no-bound]
+{FOUR}{NO_FILES}""", f"""\
+s.sed:1:1: note: {UNKNOWN} [no-space-bound]
 s.sed:1:1: note: `s/\\(a\\)b/\\1\\1/` may replace a match with a longer text: it has a group twice, or one that is repeated or inside another
 """),
     (b"/a/s//xy/\n", 0, f"""\
-s.sed:1:4: note: {UNKNOWN} [no-bound]
+s.sed:1:4: note: {UNKNOWN} [no-space-bound]
    1 | /a/s//xy/
      |    ^
        1:4  /a/s//xy/  may replace a match with a longer text: it has 2 bytes, and the expression may be any of the script's
 s.sed: accepted: every run ends
-{NO_LIMIT}{NO_FILES}""", f"""\
-s.sed:1:4: note: {UNKNOWN} [no-bound]
+{FOUR}{NO_FILES}""", f"""\
+s.sed:1:4: note: {UNKNOWN} [no-space-bound]
 s.sed:1:4: note: `/a/s//xy/` may replace a match with a longer text: it has 2 bytes, and the expression may be any of the script's
+"""),
+    # a loop that shortens the pattern space: greatest ranks 5 and 5, so that the bound is 6, 6 * 7 and 6
+    (b":a\ns/x//\nta\n", 0, f"""\
+s.sed: accepted: every run ends
+  steps: at most 6 a byte, plus 42 a line, plus 6; for 1,000 lines of 80 bytes at most 522,006
+{MEMORY}{NO_FILES}""", ""),
+    # the same after what may lengthen it
+    (b"G\n:a\ns/x//\nta\n", 0, f"""\
+s.sed:1:1: note: {NO_STEPS} [no-bound]
+   1 | G
+     | ^
+       1:1  G  may lengthen the pattern space with the contents of the hold space
+s.sed: accepted: every run ends
+{NO_LIMIT}{NO_FILES}""", f"""\
+s.sed:1:1: note: {NO_STEPS} [no-bound]
+s.sed:1:1: note: `G` may lengthen the pattern space with the contents of the hold space
+"""),
+    (b"p;H\n", 0, f"""\
+s.sed:1:3: note: {APPENDS} [no-space-bound]
+   1 | p;H
+     |   ^
+s.sed: accepted: every run ends
+{FOUR}{NO_FILES}""", f"""\
+s.sed:1:3: note: {APPENDS} [no-space-bound]
 """),
 ]
 
@@ -230,13 +261,13 @@ def replaced(text, number, line):
 WITH_CERTIFICATE = [
     (NEXT_LINE, NEXT_LINE_TEXT, 0, f"""\
 s.sed: accepted: every run ends
-  steps: at most 4 a byte, plus 20 a line, plus 4; for 1,000 lines of 80 bytes at most 340,004
-{NO_FILES}""", ""),
-    # the greatest ranks there are: 65,536, 65,536 * 65,537 and 65,536
+  steps: at most 4 a line, plus 1; for 1,000 lines of 80 bytes at most 4,001
+{MEMORY}{NO_FILES}""", ""),
+    # the greatest ranks there are
     (PRINT, certificate(1, both({"0 0": "65535 65535", "1 0": "1 1"})), 0, f"""\
 s.sed: accepted: every run ends
-  steps: at most 65,536 a byte, plus 4,295,032,832 a line, plus 65,536; for 1,000 lines of 80 bytes at most 4,300,275,777,536
-{NO_FILES}""", ""),
+  steps: at most 65,536 a line, plus 1; for 1,000 lines of 80 bytes at most 65,536,001
+{MEMORY}{NO_FILES}""", ""),
     (LOOP_SCRIPT, certificate(3, both({"0 0": "3 3", "1 0": "2 2", "2 0": "1 1"})), 1, f"""\
 s.sed:3:1: error: {LOWERED} [not-lowered]
    3 | b a
@@ -430,7 +461,7 @@ def check_names(tools):
 
 def check_both(tools):
     """A file that is read and written, and the order of warnings: files that are read come first, both by name. The script's end is
-    reached with the flag and without it, so that the greatest ranks are 7 and 7."""
+    reached with the flag and without it, so that the greatest first rank is 7."""
     script = b"w f\nw /b\nr f\nr /a\ns/x/y/w f\n"
     tools.write("s.sed", script)
     parts = [
@@ -440,7 +471,8 @@ def check_both(tools):
     ]
     summary = """\
 s.sed: accepted: every run ends
-  steps: at most 8 a byte, plus 72 a line, plus 8; for 1,000 lines of 80 bytes at most 712,008
+  steps: at most 8 a line, plus 1; for 1,000 lines of 80 bytes at most 8,001
+  memory: each space at most as long as the input
   reads: "/a" (4:1)
   reads: "f" (3:1)
   writes: "/b" (2:1)

@@ -111,7 +111,7 @@ PAGES = {
     "FAULTS.md#18-too-deep-19-too-many-commands": ["too-deep", "too-many-commands"],
     "FAULTS.md#faults-of-certificates": ["bad-header", "bad-count", "bad-node", "bad-names", "bad-end"],
     "FAULTS.md#rejections": ["wrong-count", "start-unranked", "leaves-ranked", "not-lowered", "reads-differ", "writes-differ"],
-    "TRUST.md#scripts-of-strangers": ["denied-reads", "denied-writes", "denied-unbounded", "denied-warnings"],
+    "TRUST.md#scripts-of-strangers": ["denied-reads", "denied-writes", "denied-unbounded", "denied-growing", "denied-warnings"],
     "TRUST.md#devices-pipes-and-links": ["device-name"],
     "TRUST.md#the-scripts-own-file": ["names-itself"],
     "TRUST.md#input-and-output": ["writes-its-input"],

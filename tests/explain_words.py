@@ -7,7 +7,7 @@ import subprocess
 from explain_texts import NEXT_LINE, NEXT_LINE_TEXT
 from explain_tools import VERSION
 
-ACCEPTED = "%s: accepted: every run ends\n  steps: at most 4 a byte, plus 20 a line, plus 4; for 1,000 lines of 80 bytes at most 340,004\n  reads: no file\n  writes: no file\n"
+ACCEPTED = "%s: accepted: every run ends\n  steps: at most 4 a line, plus 1; for 1,000 lines of 80 bytes at most 4,001\n  memory: each space at most as long as the input\n  reads: no file\n  writes: no file\n"
 UNKNOWN = "%s:1:3: error: this label isn't defined [unknown-label]\n   1 | b z\n     |   ^\n     = see: docs/FAULTS.md#15-unknown-label\n"
 ESCAPES = {"red": "\x1b[1;31m", "yellow": "\x1b[1;33m", "cyan": "\x1b[1;36m", "green": "\x1b[1;32m", "plain": "\x1b[0m"}
 FORMATS = ("text", "gcc", "json", "sarif", "html", "dot")
@@ -124,7 +124,7 @@ def check_unreadable(tools):
         tools.same("unreadable %r" % path, (status, errors), (4, ("sedck-explain: %s\n" % message).encode()))
         finding = {"level": "error", "code": "unreadable", "message": message, "hint": None, "position": None, "steps": [], "page": page, "end": None, "fix": None}
         tools.same("unreadable %r" % path, json.loads(report),
-                   {"file": path, "status": 4, "answer": "unreadable", "bound": None, "reads": [], "writes": [], "findings": [finding], "commands": [],
+                   {"file": path, "status": 4, "answer": "unreadable", "bound": None, "bound_by_lines": None, "space_bound": None, "reads": [], "writes": [], "findings": [finding], "commands": [],
                     "version": json.loads(tools.explain("--format", "json", "s.sed")[1])["version"]})
         log = tools.explain("--format", "sarif", *words)[1]
         tools.holds("unreadable %r, sarif" % path, ('"message":{"text":%s}' % json.dumps(message)).encode() in log)
@@ -166,9 +166,9 @@ def check_colours(tools):
     error += "     = {cyan}see{plain}: docs/FAULTS.md#2-bad-escape--and-\n"
     other = 'w.sed:1:1: {yellow}warning{plain}: this writes "/x": it is an absolute path [absolute-name]\n   1 | w /x\n     | {yellow}^{plain}\n'
     other += "     = {cyan}see{plain}: docs/TRUST.md#names\n"
-    other += "w.sed:3:1: {cyan}note{plain}: every run ends, but no limit on its steps is known, since this may lengthen the pattern space [no-bound]\n"
+    other += "w.sed:3:1: {cyan}note{plain}: every run ends, but no limit on its memory is known, since this may lengthen the pattern space [no-space-bound]\n"
     other += "   3 | G\n     | {cyan}^{plain}\n       3:1  G  may lengthen the pattern space with the contents of the hold space\n"
-    other += 'w.sed: {green}accepted{plain}: every run ends\n  steps: no limit is known\n  reads: no file\n  writes: "/x" (1:1)\n'
+    other += 'w.sed: {green}accepted{plain}: every run ends\n  steps: at most 5 a line, plus 1; for 1,000 lines of 80 bytes at most 5,001\n  memory: no limit is known\n  reads: no file\n  writes: "/x" (1:1)\n'
     tools.holds("terminal, loop", at_terminal(tools, ["l.sed"]).find(coloured("l.sed: {red}loop{plain}: a run may never end\n")) > 0)
     tools.write("s.sed", b"r x\n")
     tools.holds("terminal, rejected", at_terminal(tools, ["--cert", "s.cert", "s.sed"]).find(coloured("s.sed: {red}rejected{plain}: ")) > 0)

@@ -148,8 +148,8 @@ def stranger(scratch):
     scratch.write("good.sed", "s/a/b/\n")
     scratch.write("mail", "a\nxa\n")
     holds(scratch.run(0, "sh", "-c", "sh run-stranger.sh good.sed < mail") == "b\nxb\n", "other texts")
-    for script, code in (("w out\n", "denied-writes"), ("r mail\n", "denied-reads"), ("G\n", "denied-unbounded"), (ENDLESS, "loop-idle"), ("1e id\n", "unknown-command"),
-                         ("s/[0-9]+//\n", "denied-warnings"), ("s/\\(a*\\)\\1*//\n", "denied-slow"), ("s/\\(a\\)\\1//\n", "denied-references"), ("s/[ \\t]//\n", "denied-warnings"), ("s/\\(a\\{255\\}\\)\\{255\\}//\n", "denied-slow"),
+    for script, code in (("w out\n", "denied-writes"), ("r mail\n", "denied-reads"), ("G\n", "denied-growing"), (ENDLESS, "loop-idle"), ("1e id\n", "unknown-command"),
+                         ("s/[0-9]+//\n", "denied-warnings"), ("s/\\(a\\)\\1*//\n", "denied-slow"), ("s/\\(a\\)\\1//\n", "denied-references"), ("s/[ \\t]//\n", "denied-warnings"), ("s/\\(a\\{255\\}\\)\\{255\\}//\n", "denied-slow"),
                          ("#" * 1048576 + "\nw out\n", "too-long")):
         scratch.write("bad.sed", script)
         holds(code in scratch.run(125, "sh", "-c", "sh run-stranger.sh bad.sed < mail"), "%s isn't shown" % code)

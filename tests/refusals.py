@@ -298,7 +298,7 @@ EXPLAINED = [
     (["script"], {"script": PARTS}, 0),
     (["script"], {"script": "r ../a b \nw /dev/tty;\nr /x\nw /x\n$!N\nG\n"}, 0),
     (["script"], {"script": "w ./F\nr F\nw .x'\n#now\na x\ny/\xe9/a/\n"}, 0),
-    (["--deny", "slow,warnings,references", "script"], {"script": "s/\\(a*\\)\\1*//\ns/\\(a\\{255\\}\\)\\{9\\}\xe9*//\n"}, 1),
+    (["--deny", "slow,warnings,references", "script"], {"script": "s/\\(a\\)\\1*//\ns/\\(a\\{255\\}\\)\\{9\\}\xe9*//\n"}, 1),
     (["script"], {"script": IDLE}, 1),
     (["script"], {"script": GROWING}, 1),
     (["script"], {"script": ":a\n$!N\ns/a/b/\nba\n"}, 1),

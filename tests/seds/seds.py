@@ -112,9 +112,12 @@ class Report:
 # ---- steps of GNU sed
 
 def try_steps(scratch, judge, script, inputs, seds, report):
-    """The script by each sed, and the steps of GNU sed held against its edges and its bound; with a loop, by GNU sed on one input."""
+    """The script by each sed, and the steps of GNU sed held against its edges and its limits; with a loop, by GNU sed on one input."""
     judged = judge.judge_all([script])[0]
     report.count("scripts held step by step: " + ("with a certificate", "with a loop", "refused")[judged.status])
+    for name, limit in (("bound", judged.bound), ("limit on the steps", judged.bound or judged.by_lines), ("limit on the spaces", judged.spaces)):
+        if limit:
+            report.count("scripts held step by step: with a " + name)
     if judged.status == 2 or not is_inside(judged.reads | judged.writes):
         return judged
     graph = Graph(judge.call("graph", os.path.join(judge.folder, "0"))[1])
@@ -136,11 +139,11 @@ def try_steps(scratch, judge, script, inputs, seds, report):
             elif done.status == 1:
                 report.count("runs step by step of scripts that %s doesn't read" % sed.name)
             elif sed.is_gnu:
-                hold_steps(graph, judged.bound, Trace(done.output), given, sed, script, report)
+                hold_steps(graph, judged, Trace(done.output), given, sed, script, report)
     return judged
 
 
-def hold_steps(graph, bound, trace, given, sed, script, report):
+def hold_steps(graph, judged, trace, given, sed, script, report):
     if len(trace.places()) != graph.commands:
         if trace.program:
             report.count("runs whose commands couldn't be told apart")
@@ -152,11 +155,14 @@ def hold_steps(graph, bound, trace, given, sed, script, report):
         report.finding(sed, "step on no edge", script, given, wrong)
     if unexplained(graph.with_keep_for_grow(), trace, total):
         report.count("runs that a graph with keep for grow doesn't explain")
-    if bound:
-        most = len(steps) + sum(1 for line in trace.events if line == "END-OF-CYCLE:") + 1
-        report.count("runs held against a bound")
-        if most > limit_of(bound, [given]):
-            report.finding(sed, "run above its bound", script, given, "%d steps at most, above %d" % (most, limit_of(bound, [given])))
+    most = len(steps) + sum(1 for line in trace.events if line == "END-OF-CYCLE:") + 1
+    for name, limit, reached in (("bound", judged.bound, most), ("limit by lines", judged.by_lines, most), ("limit on the spaces", judged.spaces, trace.longest())):
+        if limit:
+            report.count("runs held against a " + name)
+            if reached == limit_of(limit, [given]):
+                report.count("runs that reach a " + name)
+            if reached > limit_of(limit, [given]):
+                report.finding(sed, "run above its " + name, script, given, "%d at most, above %d" % (reached, limit_of(limit, [given])))
 
 
 # ---- work, by processes

@@ -199,13 +199,14 @@ class Hunt:
         if done.status is None:
             if not sed.counts or again(sed.words, LONG_SECONDS).status is None:
                 yield END, "stopped"
-        elif sed.is_gnu and judged.bound and done.status == 0:
+        elif sed.is_gnu and (judged.bound or judged.by_lines) and done.status == 0:
             shown = again(sed.words + ["--debug", "-n"])
-            self.report.count("runs of GNU sed held against a bound")
-            steps, limit = steps_at_most(shown.output), limit_of(judged.bound, files, end)
-            if shown.status == 0 and steps > limit:
-                yield END, "%d steps, above the bound %d" % (steps, limit)
-            if len(files) > 1 and steps > limit_of(judged.bound, files[:1], end):
+            self.report.count("runs of GNU sed held against a limit on steps")
+            steps = steps_at_most(shown.output)
+            for bound in filter(None, (judged.bound, judged.by_lines)):
+                if shown.status == 0 and steps > limit_of(bound, files, end):
+                    yield END, "%d steps, above the limit %d" % (steps, limit_of(bound, files, end))
+            if judged.bound and len(files) > 1 and steps > limit_of(judged.bound, files[:1], end):
                 self.report.count(BEYOND_FIRST)
 
     def found_so(self, sed, what, script, way, detail, is_safe):

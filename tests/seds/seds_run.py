@@ -23,7 +23,7 @@ NOBODY = 65534
 SECRET = b"@SECRET@"
 
 Done = collections.namedtuple("Done", "status output made")
-Judged = collections.namedtuple("Judged", "status bound reads writes codes")
+Judged = collections.namedtuple("Judged", "status bound by_lines spaces reads writes codes")
 # How a script is run other than as it was checked: by these words for the sed, in a locale, on several files.
 Way = collections.namedtuple("Way", "name options environment files end")
 OPERANDS = (b"one", b"two", b"three", b"four")
@@ -167,7 +167,7 @@ class Judge:
         os.mkdir(self.folder)
 
     def judge_all(self, scripts):
-        """Status, bound and files of each script."""
+        """Status, limits and files of each script."""
         return [self.judged(one) for one in self.reports(scripts)]
 
     def reports(self, scripts):
@@ -182,9 +182,9 @@ class Judge:
 
     @staticmethod
     def judged(one):
-        bound = one["bound"] and (one["bound"]["per_byte"], one["bound"]["per_line"], one["bound"]["fixed"])
+        limits = (one[name] and tuple(one[name].values()) for name in ("bound", "bound_by_lines", "space_bound"))
         names = ({name_bytes(name["name"]) for name in one[word]} for word in ("reads", "writes"))
-        return Judged(one["status"], bound, *names, {finding["code"] for finding in one["findings"]})
+        return Judged(one["status"], *limits, *names, {finding["code"] for finding in one["findings"]})
 
     def call(self, *words):
         status = self.scratch.spawn([self.sedck] + list(words), LONG_SECONDS)

@@ -43,6 +43,10 @@ class Trace:
                 visited[-1][3:5] = length(pattern), read
         return visited
 
+    def longest(self):
+        """The bytes of the longest space that is shown."""
+        return max([length(line[9:]) for line in self.events if line.startswith(("PATTERN: ", "HOLD:    "))], default=0)
+
     @staticmethod
     def reads_line(text):
         return re.fullmatch(r"(?:[^sy:bt].*?)?[nN]", text) is not None and not text.startswith((":", "s", "y", "b", "t"))
@@ -104,7 +108,7 @@ def steps_at_most(text):
 
 
 def limit_of(bound, files, end=b"\n"):
-    """The bound's steps for these files, whose lines end with this byte."""
+    """The steps of a limit for these files, whose lines end with this byte, or the bytes of one on the spaces."""
     ends = sum(text.count(end) for text in files)
     lines = ends + sum(1 for text in files if text and not text.endswith(end))
     return bound[0] * (sum(map(len, files)) - ends) + bound[1] * lines + bound[2]

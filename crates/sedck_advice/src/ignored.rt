@@ -51,7 +51,7 @@ pub fn is_kept(code: Code) -> bool
 }
 
 /// The codes of warnings and notes on what a script is: all but those on what isn't known of it.
-static NAMED: [Code; 29] = [
+static NAMED: [Code; 30] = [
     Code::OptionsInFirstLine,
     Code::BraceBehindLabel,
     Code::LooksExtended,
@@ -79,6 +79,7 @@ static NAMED: [Code; 29] = [
     Code::UnknownCode,
     Code::InPlace,
     Code::NoBound,
+    Code::NoSpaceBound,
     Code::LabelToTheLineEnd,
     Code::LongLabels,
 ];

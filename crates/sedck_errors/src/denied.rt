@@ -1,12 +1,13 @@
 //! What a caller denies of an accepted script, and what is reported of it.
 
-ghost use Rattle.std.specs.Prelude.{◌≡◌, ◌&&◌, ◌||◌, not, true, false, IfOk, OnOk};
+ghost use Rattle.std.specs.Prelude.{◌≡◌, ◌&&◌, ◌||◌, true, false, IfOk, OnOk};
 ghost use Rattle.std.specs.Option.{is_some};
+ghost use Rattle.sedck_cert.specs.Limits.{is_unbounded, is_growing};
 ghost use Rattle.sedck_report.specs.Levels.{has_warning, is_warning, has_locale, has_error, is_error};
 ghost use Rattle.sedck_report.specs.Files.{is_there};
 
 use sedck_advice::Slow;
-use sedck_cert::Cert;
+use sedck_cert::{Cert, Limits};
 use sedck_report::{Code, Finding, Level, NamedFile, Position, shown_name};
 use std::alloc::{AllocError, Global};
 
@@ -21,6 +22,8 @@ pub struct Denied {
     pub warnings: bool,
     /// Steps without a known limit.
     pub unbounded: bool,
+    /// Spaces without a known limit on their lengths.
+    pub growing: bool,
     /// Expressions with which matching may take very long.
     pub slow: bool,
     /// References to groups in expressions.
@@ -36,6 +39,7 @@ impl Denied {
         writes: false,
         warnings: false,
         unbounded: false,
+        growing: false,
         slow: false,
         references: false,
         c_locale: false,
@@ -68,7 +72,7 @@ pub fn has_writes(cert: &Cert) -> bool
 pub struct Deniable<'a> {
     pub reads: &'a [NamedFile<'a>],
     pub writes: &'a [NamedFile<'a>],
-    pub is_bounded: bool,
+    pub limits: Limits,
     pub slow: Option<Slow>,
     /// Where the expressions with a reference are.
     pub references: &'a [Position],
@@ -83,7 +87,7 @@ pub fn with_denials(
 ) -> Result<Vec<Finding>, AllocError>
     // There is an error where something is denied and there, or was one before; all warnings are kept.
     ensures errors { IfOk result (λ all. has_error all.items ≡ ((denied.reads && is_there has.entry.reads.now) || (denied.writes && is_there has.entry.writes.now)
-        || (denied.unbounded && not has.entry.is_bounded) || (denied.warnings && has_warning findings.items) || (denied.slow && is_some has.entry.slow)
+        || (denied.unbounded && is_unbounded has.entry.limits) || (denied.growing && is_growing has.entry.limits) || (denied.warnings && has_warning findings.items) || (denied.slow && is_some has.entry.slow)
         || (denied.references && is_there has.entry.references.now) || has_error findings.items)) }
     ensures warnings { IfOk result (λ all. has_warning all.items ≡ has_warning findings.items) }
     ensures locale { IfOk result (λ all. has_locale all.items ≡ has_locale findings.items) }
@@ -97,8 +101,10 @@ pub fn with_denials(
         has.writes,
         Code::DeniedWrites,
     )?;
-    let is_unbounded = denied.unbounded && !has.is_bounded;
+    let is_unbounded = denied.unbounded && has.limits.is_unbounded();
     push_unbounded(alloc, &mut all, is_unbounded, &findings)?;
+    let is_growing = denied.growing && has.limits.is_growing();
+    push_growing(alloc, &mut all, is_growing, &findings)?;
     push_warnings(alloc, &mut all, denied.warnings, &findings)?;
     push_slow(alloc, &mut all, denied.slow, has.slow)?;
     push_references(alloc, &mut all, denied.references, has.references)?;
@@ -280,6 +286,39 @@ fn unbounded_denial(alloc: Global, findings: &[Finding]) -> Result<Finding, Allo
         "no limit on the steps is known, which `--deny unbounded` forbids",
     )?;
     Ok(denial(alloc, Code::DeniedUnbounded, position, message))
+}
+
+/// Adds an error where spaces without a known limit are denied, and there is none.
+fn push_growing(
+    alloc: Global,
+    findings: &mut Vec<Finding>,
+    is_denied: bool,
+    given: &[Finding],
+) -> Result<(), AllocError>
+    ensures errors { OnOk result (has_error findings.new.items ≡ (has_error findings.old.items || is_denied)) }
+    ensures warnings { OnOk result (has_warning findings.new.items ≡ has_warning findings.old.items) }
+    ensures locale { OnOk result (has_locale findings.new.items ≡ has_locale findings.old.items) }
+{
+    if is_denied {
+        findings.push(growing_denial(alloc, given)?)?;
+    }
+    Ok(())
+}
+
+/// The error where no limit on the spaces is known, at the place of the note that says so.
+fn growing_denial(alloc: Global, findings: &[Finding]) -> Result<Finding, AllocError>
+    ensures error { IfOk result (λ finding. is_error finding.level ≡ true) }
+    ensures warning { IfOk result (λ finding. is_warning finding.level ≡ false) }
+{
+    let position = findings
+        .iter()
+        .find(|finding| matches!(finding.code, Code::NoBound | Code::NoSpaceBound))
+        .and_then(|finding| finding.position);
+    let message = String::from_str(
+        alloc,
+        "no limit on the memory is known, which `--deny growing` forbids",
+    )?;
+    Ok(denial(alloc, Code::DeniedGrowing, position, message))
 }
 
 /// An error on something that is denied.

@@ -1,5 +1,5 @@
 //! What is said of a script that has no yes: errors on a text that is refused, a certificate that is rejected, a loop, and on what is
-//! denied of an accepted script. A note is here as well, on steps without a limit.
+//! denied of an accepted script. A note is here as well, on steps or spaces without a limit.
 #![tactic(auto)]
 
 mod certificates;
@@ -12,5 +12,5 @@ mod steps;
 pub use certificates::{certificate_refusal, rejection};
 pub use denied::{Deniable, Denied, any_warning, has_reads, has_writes, with_denials};
 pub use ends::with_end;
-pub use loops::{loop_finding, unbounded};
+pub use loops::{growth_note, loop_finding};
 pub use refusals::script_refusal;

@@ -1,11 +1,11 @@
-//! What is reported of a loop, and of a script whose steps have no limit.
+//! What is reported of a loop, and of a script whose steps or spaces have no limit.
 
 ghost use Rattle.std.specs.Prelude.{◌≡◌, IfOk, IfSome};
 ghost use Rattle.sedck_report.specs.declared.finding.Level.TheVariants.{Error, Note};
 ghost use Rattle.sedck_errors.specs.Errors.{first_position};
 
 use crate::steps::{position_of, step, target_step};
-use sedck_cert::{Cert, first_growth};
+use sedck_cert::{Cert, Limits, first_growth};
 use sedck_flow::{Edge, Kind, Node};
 use sedck_report::{Code, Finding, Level, Position, Step};
 use sedck_script::{Part, Pattern, Script, Substitution, Verb};
@@ -267,31 +267,72 @@ fn is_of(verb: &Verb, form: VerbForm) -> bool {
     }
 }
 
-/// A note on the first command that may make the pattern space longer, at a node with ranks, where no limit is given.
-pub fn unbounded(
+/// A note where no limit on the spaces is known: on the first command that may make the pattern space longer, at a node with ranks, or
+/// else on the first one that makes the hold space longer. It says so of the steps where no limit on them is known either.
+pub fn growth_note(
     alloc: Global,
     script: &Script,
     positions: &[Position],
     cert: &Cert,
+    limits: Limits,
 ) -> Result<Option<Finding>, AllocError>
     ensures { IfOk result (λ found. IfSome found (λ finding. finding.level ≡ Note)) }
 {
-    let Some(edge) = first_growth(script, cert) else {
+    if !limits.is_growing() {
         return Ok(None);
-    };
-    let mut steps = Vec::new(alloc);
-    steps.push(step(alloc, script, positions, edge)?)?;
-    Ok(Some(Finding {
-        level: Level::Note,
-        code: Code::NoBound,
-        position: position_of(positions, edge.from),
-        end: None,
-        message: String::from_str(
+    }
+    let Some(edge) = first_growth(script, cert) else {
+        let position = first_append(script, positions);
+        return Ok(Some(note(
             alloc,
+            Code::NoSpaceBound,
+            position,
+            "every run ends, but no limit on its memory is known, since this lengthens the hold space",
+        )?));
+    };
+    let (code, message) = if limits.is_unbounded() {
+        (
+            Code::NoBound,
             "every run ends, but no limit on its steps is known, since this may lengthen the pattern space",
-        )?,
+        )
+    } else {
+        (
+            Code::NoSpaceBound,
+            "every run ends, but no limit on its memory is known, since this may lengthen the pattern space",
+        )
+    };
+    let mut found = note(alloc, code, position_of(positions, edge.from), message)?;
+    found.steps.push(step(alloc, script, positions, edge)?)?;
+    Ok(Some(found))
+}
+
+/// The position of the first `H`.
+fn first_append(script: &Script, positions: &[Position]) -> Option<Position> {
+    for (index, command) in script.commands().iter().enumerate() {
+        if matches!(command.verb, Verb::HoldAppend) {
+            return positions.get(index).copied();
+        }
+    }
+    None
+}
+
+/// A note with these words.
+fn note(
+    alloc: Global,
+    code: Code,
+    position: Option<Position>,
+    words: &'static str,
+) -> Result<Finding, AllocError>
+    ensures { IfOk result (λ finding. is_error finding.level ≡ false) }
+{
+    Ok(Finding {
+        level: Level::Note,
+        code,
+        position,
+        end: None,
+        message: String::from_str(alloc, words)?,
         hint: None,
         fix: None,
-        steps,
-    }))
+        steps: Vec::new(alloc),
+    })
 }

@@ -39,7 +39,7 @@ judged_yes judged status (inr both) accepted = both.0
 -- an accepted script is kept
 kept_script : (text : List ℕ) (denied : Denied) (warned : Bool) (expressions : Expressions) (e : Explanation) (answer : Answer)
     → e.status ≡ status_under denied warned expressions answer → Keeps text answer e → e.status ≡ exit.Accepted → KeepsScript text e
-kept_script text denied warned expressions e (Accepted cert bound) is keeps accepted = keeps
+kept_script text denied warned expressions e (Accepted cert limits) is keeps accepted = keeps
 kept_script text denied warned expressions e (Rejected cert why) is keeps accepted = keeps
 kept_script text denied warned expressions e (Endless walk) is keeps accepted = keeps
 kept_script text denied warned expressions e (CertificateRefused why) is keeps accepted = keeps

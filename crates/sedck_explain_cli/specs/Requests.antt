@@ -22,12 +22,14 @@ has_bytes (Some name) = bytes_eq name (codes "C") || bytes_eq name (codes "POSIX
 
 -- what is denied by these names, which have commas between, in the locale of this name
 abbrev pub denied_by : Option (List ℕ) → Option (List ℕ) → Denied
-denied_by None locale = record { reads = false; writes = false; warnings = false; unbounded = false; slow = false; references = false; c_locale = has_bytes locale }
+denied_by None locale =
+    record { reads = false; writes = false; warnings = false; unbounded = false; growing = false; slow = false; references = false; c_locale = has_bytes locale }
 denied_by (Some names) locale = record {
   reads = is_named names (codes "reads");
   writes = is_named names (codes "writes");
   warnings = is_named names (codes "warnings");
   unbounded = is_named names (codes "unbounded");
+  growing = is_named names (codes "growing");
   slow = is_named names (codes "slow");
   references = is_named names (codes "references");
   c_locale = has_bytes locale;

@@ -182,6 +182,7 @@ fn denied_of(given: Option<&str>, locale: Option<&str>) -> Denied
             writes: names(list.as_bytes(), b"writes"),
             warnings: names(list.as_bytes(), b"warnings"),
             unbounded: names(list.as_bytes(), b"unbounded"),
+            growing: names(list.as_bytes(), b"growing"),
             slow: names(list.as_bytes(), b"slow"),
             references: names(list.as_bytes(), b"references"),
             c_locale,
@@ -215,6 +216,7 @@ const DENIALS: &[&str] = &[
     "writes",
     "warnings",
     "unbounded",
+    "growing",
     "slow",
     "references",
 ];

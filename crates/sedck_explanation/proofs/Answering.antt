@@ -32,7 +32,7 @@ certificate_refused p bytes why answer is refused =
 -- the answer for the script's text, where this script is read from it
 pub judged_answer : (text bytes : List ℕ) (p : Program) (answer : Answer) → Only Spells text p → IsJudgedAnswer p bytes answer → IsAnswer text (Some bytes) answer
 judged_answer text bytes p (CertificateRefused why) spelled h = ((p, spelled.spells), h.0, h.1)
-judged_answer text bytes p (Accepted c bound) spelled h =
+judged_answer text bytes p (Accepted c limits) spelled h =
     record { program = p; spelled = spelled; cert = c; written = h.0; holds = (refl, h.1, h.2) }
 judged_answer text bytes p (Rejected c why) spelled h = record { program = p; spelled = spelled; cert = c; written = h.0; holds = (refl, h.1) }
 judged_answer text bytes p _ spelled h = absurd h
@@ -50,7 +50,7 @@ locate_refused text given why answer is refused is_fault =
 
 -- what `search` finds
 pub search_found : (text : List ℕ) (p : Program) (answer : Answer) → Only Spells text p → IsFoundAnswer p answer → IsAnswer text None answer
-search_found text p (Accepted cert bound) spelled found = (p, spelled, found)
+search_found text p (Accepted cert limits) spelled found = (p, spelled, found)
 search_found text p (Endless walk) spelled found = (p, spelled, found)
 search_found text p _ spelled found = absurd found
 

@@ -21,7 +21,7 @@ use Rattle.sedck_explanation.specs.declared.status.Status.TheVariants as exit
 -- the findings stay those of the answer where none that is added is an error
 pub findings_stay : (text : List ℕ) (positions : List Position) (answer : Answer) (old new : List Finding) → AddsNoError old new
     → AreFindingsOf text positions answer old → AreFindingsOf text positions answer new
-findings_stay text positions (Accepted cert bound) old new adds found = adds.errors ∙ found
+findings_stay text positions (Accepted cert limits) old new adds found = adds.errors ∙ found
 findings_stay text positions (ScriptRefused why) old new adds found = (found.0, found.1, adds.first found.0 found.2)
 findings_stay text positions (CertificateRefused why) old new adds found = (found.0, found.1, adds.first found.0 found.2)
 findings_stay text positions (Rejected cert why) old new adds found = (found.0, found.1, adds.first found.0 found.2)
@@ -31,7 +31,7 @@ findings_stay text positions NotJudged old new adds found = (found.0, found.1, a
 -- one finding
 pub finding_alone : (text : List ℕ) (positions : List Position) (answer : Answer) (f : Finding) → IsFindingOf text positions answer (Some f)
     → AreFindingsOf text positions answer (f ∷ [])
-finding_alone text positions (Accepted cert bound) f is = or-false false (is_error f.level) (ap is_error is)
+finding_alone text positions (Accepted cert limits) f is = or-false false (is_error f.level) is
 finding_alone text positions (ScriptRefused why) f is = (f.position, is.1, (is.0, refl))
 finding_alone text positions (CertificateRefused why) f is = (f.position, is.1, (is.0, refl))
 finding_alone text positions (Rejected cert why) f is = (f.position, is.1, (is.0, refl))
@@ -53,8 +53,8 @@ denied_is_error false before error status is none is_status = rw (is_status, is,
 pub errors_of : (text : List ℕ) (positions : List Position) (denied : Denied) (has : Expressions) (answer : Answer) (before all : List Finding) (status : Status)
     → AreFindingsOf text positions answer before → AreDeniedFindings denied has before all answer → status ≡ status_under denied (has_warning all) has answer
     → (has_error all ≡ not (is_accepted status)) × BeginsWithAnswer text positions all answer
-errors_of text positions denied has (Accepted cert bound) before all status found denials is =
-    (denied_is_error (is_denied denied (has_warning all) has (Accepted cert bound)) (has_error before) (has_error all) status denials found is, tt)
+errors_of text positions denied has (Accepted cert limits) before all status found denials is =
+    (denied_is_error (is_denied denied (has_warning all) has (Accepted cert limits)) (has_error before) (has_error all) status denials found is, tt)
 errors_of text positions denied has (ScriptRefused why) before all status found denials is =
     rw denials ((rw is (begins_is_error found.0 before found.2)), found)
 errors_of text positions denied has (CertificateRefused why) before all status found denials is =

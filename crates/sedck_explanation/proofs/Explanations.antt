@@ -38,9 +38,9 @@ accepted_names p q cert same accepts =
 pub of_script : (text : List ℕ) (given : Option (List ℕ)) (p : Program) (answer : Answer) → Only Spells text p → IsAnswer text given answer
     → IsOfScript text p answer
 of_script text given p (ScriptRefused why) spelled is = (is.0, is.2.placed)
-of_script text (Some bytes) p (Accepted cert bound) spelled is =
+of_script text (Some bytes) p (Accepted cert limits) spelled is =
     accepted_names p is.program cert (spelled.only is.program is.spelled.spells) (subst (Accepts is.program) is.holds.0 is.holds.1)
-of_script text None p (Accepted cert bound) spelled is = accepted_names p is.0 cert (spelled.only is.0 is.1.spells) is.2.0
+of_script text None p (Accepted cert limits) spelled is = accepted_names p is.0 cert (spelled.only is.0 is.1.spells) is.2.0
 of_script text given p (CertificateRefused why) spelled is = tt
 of_script text given p (Rejected cert why) spelled is = tt
 of_script text given p (Endless walk) spelled is = tt

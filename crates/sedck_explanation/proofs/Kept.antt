@@ -57,7 +57,7 @@ first_kept position (f ∷ more) all keeps order begins =
 
 answer_kept : (text : List ℕ) (positions : List Position) (answer : Answer) (found all : List Finding) → KeepsErrors found all → AreInOrder all
     → BeginsWithAnswer text positions found answer → BeginsWithAnswer text positions all answer
-answer_kept text positions (Accepted cert bound) found all keeps order begins = tt
+answer_kept text positions (Accepted cert limits) found all keeps order begins = tt
 answer_kept text positions (ScriptRefused why) found all keeps order begins = (begins.0, begins.1, first_kept begins.0 found all keeps order begins.2)
 answer_kept text positions (CertificateRefused why) found all keeps order begins = (begins.0, begins.1, first_kept begins.0 found all keeps order begins.2)
 answer_kept text positions (Rejected cert why) found all keeps order begins = (begins.0, begins.1, first_kept begins.0 found all keeps order begins.2)
@@ -71,7 +71,7 @@ warned_same false was now same = refl
 -- the status
 pub status_kept : (denied : Denied) (has : Expressions) (answer : Answer) (was now : Bool) → (denied.warnings ≡ true → now ≡ was)
     → status_under denied was has answer ≡ status_under denied now has answer
-status_kept denied has (Accepted cert bound) was now same = rw (warned_same denied.warnings was now same) refl
+status_kept denied has (Accepted cert limits) was now same = rw (warned_same denied.warnings was now same) refl
 status_kept denied has (ScriptRefused why) was now same = refl
 status_kept denied has (CertificateRefused why) was now same = refl
 status_kept denied has (Rejected cert why) was now same = refl

@@ -8,7 +8,8 @@ use Rattle.sedck_cert.specs.Certificate.{Certificate}
 use Rattle.sedck_cert.specs.Versions.{SpellsCertificate, IsFaultIn}
 use Rattle.sedck_cert.specs.Ranked.{Accepts}
 use Rattle.sedck_cert.specs.Rejections.{IsRejection}
-use Rattle.sedck_cert.specs.Headline.{Only, SpellBoth, IsLimit, IsScriptFaultOf}
+use Rattle.sedck_cert.specs.Headline.{Only, SpellBoth, IsScriptFaultOf}
+use Rattle.sedck_cert.specs.Limits.{AreLimits}
 use Rattle.sedck_search.specs.Found.{IsLoop}
 use Rattle.sedck_explanation.specs.declared.answer.Answer.{Answer}
 use Rattle.sedck_explanation.specs.declared.answer.Answer.TheVariants.{ScriptRefused, CertificateRefused, Accepted, Rejected, Endless, NotJudged}
@@ -25,8 +26,8 @@ IsAnswer text given (ScriptRefused why) = (why ≢ OutOfMemory) × ((p : Program
 IsAnswer text (Some bytes) (CertificateRefused why) =
     ((p : Program) × Spells text p) × ((c : Certificate) → ¬ SpellsCertificate bytes c) × IsFaultIn bytes why
 IsAnswer text None (CertificateRefused why) = ⊥
-IsAnswer text (Some bytes) (Accepted cert bound) = SpellBoth text bytes (λ p c. (c ≡ cert) × Accepts p c × IsLimit p c bound)
-IsAnswer text None (Accepted cert bound) = SpellsOneWith text (λ p. Accepts p cert × IsLimit p cert bound)
+IsAnswer text (Some bytes) (Accepted cert limits) = SpellBoth text bytes (λ p c. (c ≡ cert) × Accepts p c × AreLimits p c limits)
+IsAnswer text None (Accepted cert limits) = SpellsOneWith text (λ p. Accepts p cert × AreLimits p cert limits)
 IsAnswer text (Some bytes) (Rejected cert why) = SpellBoth text bytes (λ p c. (c ≡ cert) × IsRejection p c why)
 IsAnswer text None (Rejected cert why) = ⊥
 IsAnswer text (Some bytes) (Endless walk) = ⊥
@@ -35,7 +36,7 @@ IsAnswer text given NotJudged = ⊥
 
 -- the exit status
 abbrev pub status_of : Answer → Status
-status_of (Accepted cert bound) = exit.Accepted
+status_of (Accepted cert limits) = exit.Accepted
 status_of (Rejected cert why) = exit.Rejected
 status_of (Endless walk) = exit.Rejected
 status_of (ScriptRefused why) = exit.Refused

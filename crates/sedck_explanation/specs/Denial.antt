@@ -1,7 +1,8 @@
--- What a caller may deny of an accepted script, this project's own: files that it reads or writes, warnings, steps without a
+-- What a caller may deny of an accepted script, this project's own: files that it reads or writes, warnings, steps or spaces without a
 -- limit, and expressions that are slow to match or have a reference. A script that isn't accepted has its status with or without it.
-use Rattle.std.specs.Prelude.{Bool, false, ◌&&◌, ◌||◌, Option, Some, None, is_none, if◌then◌else◌}
+use Rattle.std.specs.Prelude.{Bool, false, ◌&&◌, ◌||◌, Option, Some, None, if◌then◌else◌}
 use Rattle.sedck_script.specs.Program.{Program}
+use Rattle.sedck_cert.specs.Limits.{is_unbounded, is_growing}
 use Rattle.sedck_report.specs.Files.{is_there}
 use Rattle.sedck_advice.specs.Slow.{is_slow}
 use Rattle.sedck_advice.specs.References.{has_references}
@@ -14,7 +15,7 @@ use Rattle.sedck_explanation.specs.Status.{Status, Rejected}
 
 -- nothing is denied, and nothing is known of the locale
 abbrev pub nothing : Denied
-nothing = record { reads = false; writes = false; warnings = false; unbounded = false; slow = false; references = false; c_locale = false }
+nothing = record { reads = false; writes = false; warnings = false; unbounded = false; growing = false; slow = false; references = false; c_locale = false }
 
 -- what may be denied of the expressions of a script, where one is kept
 abbrev pub expressions_of : Option Program → Expressions
@@ -23,9 +24,9 @@ expressions_of (Some p) = record { slow = is_slow p; references = has_references
 
 -- The script is accepted, and has what is denied. Its lists are those of the accepted certificate.
 abbrev pub is_denied : Denied → (warned : Bool) → Expressions → Answer → Bool
-is_denied denied warned expressions (Accepted cert bound) =
+is_denied denied warned expressions (Accepted cert limits) =
     (denied.reads && is_there cert.reads) || (denied.writes && is_there cert.writes)
-    || (denied.unbounded && is_none bound) || (denied.warnings && warned)
+    || (denied.unbounded && is_unbounded limits) || (denied.growing && is_growing limits) || (denied.warnings && warned)
     || (denied.slow && expressions.slow) || (denied.references && expressions.references)
 is_denied denied warned expressions _ = false
 

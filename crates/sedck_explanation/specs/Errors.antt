@@ -18,11 +18,11 @@ IsErrorPosition text positions (CertificateRefused why) position = position ≡ 
 IsErrorPosition text positions (Rejected cert why) position = position ≡ rejection_position positions why
 IsErrorPosition text positions (Endless walk) position = position ≡ first_position positions walk.nodes.items
 IsErrorPosition text positions NotJudged position = position ≡ None
-IsErrorPosition text positions (Accepted cert bound) position = ⊥
+IsErrorPosition text positions (Accepted cert limits) position = ⊥
 
 -- the first finding is the error of an answer that isn't a yes
 abbrev pub BeginsWithAnswer : List ℕ → List Position → List Finding → Answer → Type 0
-BeginsWithAnswer text positions findings (Accepted cert bound) = Unit {0}
+BeginsWithAnswer text positions findings (Accepted cert limits) = Unit {0}
 BeginsWithAnswer text positions findings answer =
     (position : Option Position) × IsErrorPosition text positions answer position × BeginsWithError position findings
 

@@ -4,6 +4,7 @@ ghost use Rattle.std.specs.Prelude.{◌≡◌, ◌&&◌, ◌||◌, ℕ, List, If
 ghost use Rattle.std.specs.Option.{option_map};
 ghost use Rattle.sedck_script.specs.Locations.{locations_of};
 ghost use Rattle.sedck_script.specs.Items.{Item, Items};
+ghost use Rattle.sedck_cert.specs.Limits.{is_unbounded, is_growing};
 ghost use Rattle.sedck_cert.specs.Ranked.{Accepts};
 ghost use Rattle.sedck_script.specs.Spelling.{Spells};
 ghost use Rattle.sedck_cert.specs.Headline.{Only};
@@ -16,7 +17,7 @@ ghost use Rattle.sedck_explanation.specs.Private.Answering.{IsFoundAnswer, IsJud
 ghost use Rattle.sedck_explanation.specs.Private.Errors.{IsRefused};
 
 use crate::status::Status;
-use sedck_cert::{Bound, Cert, CertFault, Rejection, Verdict, check, limit, read_any};
+use sedck_cert::{Cert, CertFault, Limits, Rejection, Verdict, check, limits_of, read_any};
 use sedck_errors::{Denied, has_reads, has_writes};
 use sedck_script::{Located, Script, ScriptFault, locate};
 use sedck_search::{Found, Walk, search};
@@ -32,8 +33,8 @@ pub enum Answer {
     /// This certificate is accepted: the one that was given, or else one that was found.
     Accepted {
         cert: Cert,
-        /// The limit on the steps of the script's runs, where it has one.
-        bound: Option<Bound>,
+        /// The limits on the steps of the script's runs and on their spaces.
+        limits: Limits,
     },
     /// The certificate that was given is rejected.
     Rejected {
@@ -93,8 +94,8 @@ impl Answer {
         ensures same { denied ≡ nothing → result ≡ status_of self.now }
     {
         match self {
-            Answer::Accepted { cert, bound } => {
-                if has_denied(denied, cert, bound.is_none(), has_warning, expressions) {
+            Answer::Accepted { cert, limits } => {
+                if has_denied(denied, cert, *limits, has_warning, expressions) {
                     Status::Rejected
                 } else {
                     Status::Accepted
@@ -109,17 +110,18 @@ impl Answer {
 fn has_denied(
     denied: Denied,
     cert: &Cert,
-    is_unbounded: bool,
+    limits: Limits,
     has_warning: bool,
     expressions: Expressions,
 ) -> bool
     ensures { result ≡ ((denied.reads && is_there cert.now.reads) || (denied.writes && is_there cert.now.writes)
-        || (denied.unbounded && is_unbounded) || (denied.warnings && has_warning) || (denied.slow && expressions.slow)
+        || (denied.unbounded && is_unbounded limits) || (denied.growing && is_growing limits) || (denied.warnings && has_warning) || (denied.slow && expressions.slow)
         || (denied.references && expressions.references)) }
 {
     (denied.reads && has_reads(cert))
         || (denied.writes && has_writes(cert))
-        || (denied.unbounded && is_unbounded)
+        || (denied.unbounded && limits.is_unbounded())
+        || (denied.growing && limits.is_growing())
         || (denied.warnings && has_warning)
         || (denied.slow && expressions.slow)
         || (denied.references && expressions.references)
@@ -181,8 +183,8 @@ fn accepted(script: &Script, cert: Cert) -> Answer
     requires { Accepts script.now cert }
     ensures { IsAcceptedAnswer script.now cert result }
 {
-    let bound = limit(script, &cert);
-    Answer::Accepted { cert, bound }
+    let limits = limits_of(script, &cert);
+    Answer::Accepted { cert, limits }
 }
 
 /// The answer for a script's text that is refused.

@@ -23,8 +23,8 @@ use sedck_advice::{
     references_in, slow_of,
 };
 use sedck_errors::{
-    Deniable, Denied, any_warning, certificate_refusal, loop_finding, rejection, script_refusal,
-    unbounded, with_denials,
+    Deniable, Denied, any_warning, certificate_refusal, growth_note, loop_finding, rejection,
+    script_refusal, with_denials,
 };
 use sedck_report::{Finding, NamedFile, Position, positions};
 use sedck_script::{Access, Located, Location, Script};
@@ -324,11 +324,11 @@ fn denied_findings(
     ensures locale { IfOk result (λ all. has_locale all.items ≡ has_locale findings.items) }
 {
     match answer {
-        Answer::Accepted { bound, .. } => {
+        Answer::Accepted { limits, .. } => {
             let has = Deniable {
                 reads: &lists.reads,
                 writes: &lists.writes,
-                is_bounded: bound.is_some(),
+                limits: *limits,
                 slow: expressions.slow,
                 references: &expressions.references,
             };
@@ -392,7 +392,7 @@ fn answer_finding(
             Ok(Some(rejection(alloc, script, positions, cert, *why)?))
         }
         Answer::Endless(walk) => Ok(Some(loop_finding(alloc, script, positions, walk)?)),
-        Answer::Accepted { cert, bound: None } => unbounded(alloc, script, positions, cert),
-        Answer::Accepted { .. } | Answer::NotJudged => Ok(None),
+        Answer::Accepted { cert, limits } => growth_note(alloc, script, positions, cert, *limits),
+        Answer::NotJudged => Ok(None),
     }
 }

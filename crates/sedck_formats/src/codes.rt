@@ -76,6 +76,7 @@ loop-growing MENDING.md#repairing-loops A loop that reads no line and may length
 denied-reads TRUST.md#scripts-of-strangers The script reads a file, which is denied
 denied-writes TRUST.md#scripts-of-strangers The script writes a file, which is denied
 denied-unbounded TRUST.md#scripts-of-strangers No limit on the steps of the script is known, which is denied
+denied-growing TRUST.md#scripts-of-strangers No limit on the lengths of the spaces is known, which is denied
 denied-warnings TRUST.md#scripts-of-strangers The script has a warning, which is denied
 denied-slow TRUST.md#what-a-limit-on-steps-doesnt-limit The script has what may make a single step slow, which is denied
 denied-references TRUST.md#what-a-limit-on-steps-doesnt-limit An expression has a reference, which is denied
@@ -113,6 +114,7 @@ unknowable CALLS.md#what-isnt-known Too much of the script is not known before a
 known-value CALLS.md#what-isnt-known The value of a variable is taken from where the file sets it
 not-understood CALLS.md#what-isnt-known A part of the file cannot be read
 no-bound FORMATS.md#the-line-of-the-bound Every run ends, but no limit on its steps is known
+no-space-bound TRUST.md#what-the-limits-mean Every run ends, but no limit on the lengths of the spaces is known
 label-to-the-line-end SEDS.md#seds-of-the-bsds-and-macos Something follows a label on its line, which some seds read as a part of the label
 long-labels SEDS.md#seds-of-the-bsds-and-macos Two labels that agree in their first 8 bytes
 ";

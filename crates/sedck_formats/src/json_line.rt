@@ -11,7 +11,7 @@ use crate::json_findings::{push_findings, push_place, push_positions, push_unrea
 use crate::json_text::Json;
 use crate::names::Names;
 use crate::words::{VERSION, answer_word};
-use sedck_cert::Bound;
+use sedck_cert::{Bound, Limits};
 use sedck_explanation::{Answer, Explanation, Level, NamedFile, Status, shown_name};
 use std::alloc::{AllocError, Global};
 
@@ -49,7 +49,9 @@ pub fn json_unreadable(alloc: Global, name: &str, message: &str) -> Result<Vec<u
         .text("file", name)
         .status(Status::Failed)
         .text("answer", "unreadable")
-        .null("bound");
+        .null("bound")
+        .null("bound_by_lines")
+        .null("space_bound");
     out.list("reads").close("]").list("writes").close("]");
     push_unreadable(&mut out, message);
     out.list("commands").close("]");
@@ -150,13 +152,15 @@ fn push_counts(out: &mut Json, counts: &Counts) {
 
 /// Adds what belongs to an answer, and ends the object.
 ///
-/// - `bound`: the limit on the steps of any run; null where there is none, or where the script isn't accepted.
+/// - `bound`: the limit on the steps of any run, by bytes and lines; null where there is none, or where the script isn't accepted.
+/// - `bound_by_lines`: the same by lines alone, which is never more than `bound`.
+/// - `space_bound`: the limit on the bytes of the pattern space, and on those of the hold space.
 /// - `reads`, `writes`: the files, sorted by name. Empty where the script is refused.
 /// - `findings`: those of the level that is asked for: errors first, then warnings and notes.
 /// - `commands`: where the verb of each command is; a step's `command` counts in this list, from 0. Empty where the script is refused.
 /// - `version`: the program's.
 fn push_details(out: &mut Json, names: Names, explanation: &Explanation, least: Level) {
-    push_bound(out, &explanation.answer);
+    push_bounds(out, &explanation.answer);
     push_files(out, "reads", names, &explanation.reads);
     push_files(out, "writes", names, &explanation.writes);
     push_findings(out, names, &explanation.findings, least);
@@ -164,22 +168,33 @@ fn push_details(out: &mut Json, names: Names, explanation: &Explanation, least: 
     out.text("version", VERSION).close("}");
 }
 
-/// Adds the limit: no run has more than `per_byte` * bytes + `per_line` * lines + `fixed` steps, newlines not counted.
-fn push_bound(out: &mut Json, answer: &Answer) {
-    let Answer::Accepted {
-        bound: Some(bound),
-        ..
-    } = answer
-    else {
-        out.null("bound");
+/// Adds the limits, which are null where the script isn't accepted.
+fn push_bounds(out: &mut Json, answer: &Answer) {
+    let limits = match answer {
+        Answer::Accepted { limits, .. } => *limits,
+        _ => Limits {
+            steps: None,
+            by_lines: None,
+            spaces: None,
+        },
+    };
+    push_bound(out, "bound", limits.steps);
+    push_bound(out, "bound_by_lines", limits.by_lines);
+    push_bound(out, "space_bound", limits.spaces);
+}
+
+/// Adds a limit: no run has more than `per_byte` * bytes + `per_line` * lines + `fixed` steps, or bytes in a space, newlines not counted.
+fn push_bound(out: &mut Json, name: &str, bound: Option<Bound>) {
+    let Some(bound) = bound else {
+        out.null(name);
         return;
     };
     let Bound {
         per_byte,
         per_line,
         fixed,
-    } = *bound;
-    out.object("bound")
+    } = bound;
+    out.object(name)
         .number("per_byte", per_byte)
         .number("per_line", per_line)
         .number("fixed", fixed)

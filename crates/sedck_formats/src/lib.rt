@@ -36,7 +36,7 @@ pub use listed::{Stretch, is_listed, listed_steps};
 pub use names::{Names, PartName, Place};
 pub use plain::plain_report;
 pub use sarif::{sarif_report, sarif_unreadable};
-pub use summary::push_steps;
+pub use summary::{push_memory, push_steps};
 pub use text::{text_findings, text_report};
 pub use words::{
     VERSION, answer_word, level_word, place_words, push_left_out, shown_letter, shown_path,

@@ -1,4 +1,4 @@
-//! The answer, and what the script may do: its limit on steps, and its files.
+//! The answer, and what the script may do: its limits on steps and on memory, and its files.
 
 use crate::names::Names;
 use crate::words::{GREEN, RED, answer_word, ink_where, place_words, push_inked};
@@ -9,7 +9,7 @@ use sedck_explanation::{Answer, Explanation, NamedFile, Position, shown_name};
 /// The most positions of one file that are listed.
 const POSITIONS: usize = 8;
 
-/// Adds the answer, the limit on steps and the files. Of what is refused it adds nothing, and of what isn't judged no files.
+/// Adds the answer, the limits and the files. Of what is refused it adds nothing, and of what isn't judged no files.
 pub(crate) fn push_summary(
     out: &mut Written,
     names: Names,
@@ -31,26 +31,50 @@ pub(crate) fn push_summary(
     push_inked(out, ink_where(colour, ink), answer_word(explanation));
     out.text(rest);
     push_steps(out, "  steps: ", &explanation.answer, "\n");
+    push_memory(out, "  memory: ", &explanation.answer, "\n");
     push_files(out, names, "  reads: ", &explanation.reads);
     push_files(out, names, "  writes: ", &explanation.writes);
 }
 
-/// Adds the limit on steps of an accepted script between these words, with an example, or that none is known.
+/// Adds the limit on steps of an accepted script between these words, with an example, or that none is known. It is the one by lines alone
+/// where that is known, since it is never more than the other one.
 pub fn push_steps(out: &mut Written, before: &str, answer: &Answer, behind: &str) {
-    let Answer::Accepted { bound, .. } = answer else {
+    let Answer::Accepted { limits, .. } = answer else {
         return;
     };
     out.text(before);
-    if let Some(bound) = bound {
-        out.text("at most ").grouped(bound.per_byte);
-        out.text(" a byte, plus ").grouped(bound.per_line);
-        out.text(" a line, plus ").grouped(bound.fixed);
-        if let Some(steps) = example_steps(*bound) {
-            out.text("; for 1,000 lines of 80 bytes at most ")
-                .grouped(steps);
-        }
+    if let Some(bound) = limits.by_lines.or(limits.steps) {
+        push_bound(out, bound);
     } else {
         out.text("no limit is known");
+    }
+    out.text(behind);
+}
+
+/// Adds a limit on steps with an example.
+fn push_bound(out: &mut Written, bound: Bound) {
+    out.text("at most ");
+    if bound.per_byte > 0 {
+        out.grouped(bound.per_byte).text(" a byte, plus ");
+    }
+    out.grouped(bound.per_line).text(" a line, plus ");
+    out.grouped(bound.fixed);
+    if let Some(steps) = example_steps(bound) {
+        out.text("; for 1,000 lines of 80 bytes at most ")
+            .grouped(steps);
+    }
+}
+
+/// Adds the limit on the spaces of an accepted script between these words, or that none is known.
+pub fn push_memory(out: &mut Written, before: &str, answer: &Answer, behind: &str) {
+    let Answer::Accepted { limits, .. } = answer else {
+        return;
+    };
+    out.text(before);
+    if limits.is_growing() {
+        out.text("no limit is known");
+    } else {
+        out.text("each space at most as long as the input");
     }
     out.text(behind);
 }

@@ -3,13 +3,15 @@
 use crate::boxes::{is_at_top, push_box};
 use crate::markup::push_prose;
 use sedck_explanation::{Answer, Explanation, Finding, Level};
-use sedck_formats::{Names, Shown, Written, is_listed, level_word, place_words, push_steps};
+use sedck_formats::{
+    Names, Shown, Written, is_listed, level_word, place_words, push_memory, push_steps,
+};
 use std::alloc::AllocError;
 
 /// What precedes the findings.
 const HEADING: &str = "<h2>Findings</h2>\n";
 
-/// Adds the answer, the limit on steps and the findings: errors and those without a line in full, then a list with links to those that are
+/// Adds the answer, the limits and the findings: errors and those without a line in full, then a list with links to those that are
 /// beside a line.
 pub(crate) fn push_top(
     out: &mut Written,
@@ -21,6 +23,7 @@ pub(crate) fn push_top(
     out.text("<p class=\"answer ").text(class);
     out.text("\">").text(answer).text("</p>\n");
     push_steps(out, "<p>Steps of a run: ", &explanation.answer, ".</p>\n");
+    push_memory(out, "<p>Memory of a run: ", &explanation.answer, ".</p>\n");
     push_counts(out, explanation);
     let mut heading = HEADING;
     for (index, finding) in explanation.findings.iter().enumerate() {

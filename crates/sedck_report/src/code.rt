@@ -34,6 +34,7 @@ pub enum Code {
     DeniedReads,
     DeniedWrites,
     DeniedUnbounded,
+    DeniedGrowing,
     DeniedWarnings,
     DeniedSlow,
     DeniedReferences,
@@ -101,7 +102,10 @@ pub enum Code {
     NotUnderstood,
 
     // Notes.
+    /// No limit on the steps is known.
     NoBound,
+    /// A limit on the steps is known, and none on the lengths of the spaces.
+    NoSpaceBound,
     /// Something follows a label on its line, which some seds take for a part of the label.
     LabelToTheLineEnd,
     /// Labels that are alike in the bytes by which POSIX has labels told apart.
@@ -131,6 +135,7 @@ impl Code {
             Code::DeniedReads => "denied-reads",
             Code::DeniedWrites => "denied-writes",
             Code::DeniedUnbounded => "denied-unbounded",
+            Code::DeniedGrowing => "denied-growing",
             Code::DeniedWarnings => "denied-warnings",
             Code::DeniedSlow => "denied-slow",
             Code::DeniedReferences => "denied-references",
@@ -168,6 +173,7 @@ impl Code {
             Code::KnownValue => "known-value",
             Code::NotUnderstood => "not-understood",
             Code::NoBound => "no-bound",
+            Code::NoSpaceBound => "no-space-bound",
             Code::LabelToTheLineEnd => "label-to-the-line-end",
             Code::LongLabels => "long-labels",
         }

@@ -14,7 +14,7 @@ use Rattle.sedck_explanation.specs.declared.answer.Answer.TheVariants.{ScriptRef
 -- what is known of an answer for this script that is read or refused
 abbrev pub IsOfScript : List ℕ → Program → Answer → Type 0
 IsOfScript text p (ScriptRefused why) = IsReportable text why
-IsOfScript text p (Accepted cert bound) = (cert.reads ≡ reads p) × (cert.writes ≡ writes p)
+IsOfScript text p (Accepted cert limits) = (cert.reads ≡ reads p) × (cert.writes ≡ writes p)
 IsOfScript text p NotJudged = ⊥
 IsOfScript text p _ = Unit {0}
 
@@ -31,11 +31,11 @@ CanBeReported text _ = Unit {0}
 
 -- the finding of an answer: an error where it isn't a yes
 abbrev pub IsFindingOf : List ℕ → List Position → Answer → Option Finding → Type 0
-IsFindingOf text positions (Accepted cert bound) found = IfSome found (λ finding. finding.level ≡ Note)
+IsFindingOf text positions (Accepted cert limits) found = IfSome found (λ finding. is_error finding.level ≡ false)
 IsFindingOf text positions answer None = ⊥
 IsFindingOf text positions answer (Some finding) = (finding.level ≡ Error) × IsErrorPosition text positions answer finding.position
 
 -- the findings before anything is denied: no error for a yes, and else the answer's first
 abbrev pub AreFindingsOf : List ℕ → List Position → Answer → List Finding → Type 0
-AreFindingsOf text positions (Accepted cert bound) findings = has_error findings ≡ false
+AreFindingsOf text positions (Accepted cert limits) findings = has_error findings ≡ false
 AreFindingsOf text positions answer findings = BeginsWithAnswer text positions findings answer

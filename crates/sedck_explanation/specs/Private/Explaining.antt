@@ -52,7 +52,7 @@ pub record KeepsLocated (text : List ℕ) (script : Program) (locations : List L
 
 -- the lists of files have something where those of an accepted certificate do
 abbrev pub HasLists : List NamedFile → List NamedFile → Answer → Type 0
-HasLists reads writes (Accepted cert bound) = (is_there cert.reads ≡ is_there reads) × (is_there cert.writes ≡ is_there writes)
+HasLists reads writes (Accepted cert limits) = (is_there cert.reads ≡ is_there reads) × (is_there cert.writes ≡ is_there writes)
 HasLists reads writes _ = Unit {0}
 
 -- which expressions were found that may be denied
@@ -61,8 +61,8 @@ kinds_of found = record { slow = is_some found.slow; references = is_there found
 
 -- what is denied adds errors to the findings of a script that is accepted
 abbrev pub AreDeniedFindings : Denied → Expressions → List Finding → List Finding → Answer → Type 0
-AreDeniedFindings denied expressions before all (Accepted cert bound) =
-    has_error all ≡ (is_denied denied (has_warning all) expressions (Accepted cert bound) || has_error before)
+AreDeniedFindings denied expressions before all (Accepted cert limits) =
+    has_error all ≡ (is_denied denied (has_warning all) expressions (Accepted cert limits) || has_error before)
 AreDeniedFindings denied expressions before all _ = all ≡ before
 
 -- where warnings are denied, those that are given beside the script's own are reported; else a comment of the script may ignore them
