@@ -66,7 +66,7 @@ done
 has() {
     case $1 in
         gnu-sed) LC_ALL=C sed --version 2> /dev/null | grep -q '^sed (GNU sed)' ;;
-        endless-match) [ "$(ulimit -v 60000; echo b | LC_ALL=C timeout 60 sed 's/\(\(a*\)\2\2\)*b/X/' 2> /dev/null)" = b ] ;;
+        lacking-match) [ "$(ulimit -v 60000; { head -c 5000000 /dev/zero | tr '\0' a; echo; } | LC_ALL=C sed 's/^\(.*\)a$/X/' 2> /dev/null | wc -c)" = 5000001 ] ;;
         utf-8) locale -a 2> /dev/null | grep -qi '^C[.]utf-*8$' ;;
         *) command -v "$1" > /dev/null ;;
     esac
