@@ -173,13 +173,22 @@ def check_answers(place):
     place.lines()
     for script in (loop, "# sedck: ignore locale\n" + loop, "y/é/ee/"):
         status, _, said = place.call(script, mode="refuse", LC_ALL="C.UTF-8", SED="/bin/true")
-        expect(status == 120 and said.count(b"sed: error: ") == said.count(b"[locale]\n") - said.count(b"warning: ") == 1, "refuse: %r in UTF-8: %d, %s" % (script, status, said))
+        expect(status == 120 and said.count(b"sed: error: ") == 1 and said.count(b"[locale]\n") == 2, "refuse: %r in UTF-8: %d, %s" % (script, status, said))
     for locale, script, is_due in (("C.UTF-8", "s/é/e/", False), ("C.UTF-8", "s/[é]*/e/", False), ("C", loop, False), ("POSIX", loop, False), ("de_DE@euro", "s/é/e/", True)):
         found = place.call(script, mode="refuse", given="é\n".encode(), LC_ALL=locale)
         due = (120, b"") if is_due else real(script, given="é\n".encode(), here=place.here, LC_ALL=locale)[:2]
         expect(found[:2] == due and (b"[locale]\n" in found[2]) == is_due, "refuse: %r in %s: %s" % (script, locale, found))
     found = [[finding["code"] for finding in line["report"]["findings"]] for line in place.lines()]
-    expect([codes.count("locale") for codes in found] == [1, 0, 1, 0, 0, 0, 0, 0], "locale: the log has %s" % found)
+    expect([codes.count("locale") for codes in found] == [1, 1, 1, 0, 0, 0, 0, 0], "locale: the log has %s" % found)
+    # A list is bytes to the plain spelling, and characters to sed: there sed gets the words that were judged.
+    for script, given in (("s/[^a-zA-Z]//g;# keep only [^[:alpha:]]", "aÜb1\n"), ("s/[abcd]/_/g", "aéáe\n"), ("s/[A-Z]/x/;s/[[:upper:]]/y/", "ÉA\n"), ("s/[89:;]/_/g", "8:9\n")):
+        for locale in ("C.UTF-8", "C"):
+            found = place.call(script, mode="refuse", given=given.encode(), LC_ALL=locale)
+            expect(found[:2] == real(script, given=given.encode(), here=place.here, LC_ALL=locale)[:2], "refuse: %r in %s prints %r" % (script, locale, found[:2]))
+        (place.here / "list.sed").write_text(script + "\n", encoding="utf-8")
+        found = place.call("-f", "list.sed", mode="refuse", given=given.encode(), LC_ALL="C.UTF-8")
+        expect(found[:2] == real(script, given=given.encode(), here=place.here, LC_ALL="C.UTF-8")[:2], "refuse: %r of a file prints %r" % (script, found[:2]))
+    place.lines()
     own = place.here / "own.sed"
     for text, words in (("p\nw own.sed\n", ["in"]), ("p\n", ["-i", "in", "own.sed"])):
         own.write_text(text)
