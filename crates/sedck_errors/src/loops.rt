@@ -323,7 +323,7 @@ fn note(
     position: Option<Position>,
     words: &'static str,
 ) -> Result<Finding, AllocError>
-    ensures { IfOk result (λ finding. is_error finding.level ≡ false) }
+    ensures { IfOk result (λ finding. finding.level ≡ Note) }
 {
     Ok(Finding {
         level: Level::Note,

@@ -31,7 +31,7 @@ findings_stay text positions NotJudged old new adds found = (found.0, found.1, a
 -- one finding
 pub finding_alone : (text : List ℕ) (positions : List Position) (answer : Answer) (f : Finding) → IsFindingOf text positions answer (Some f)
     → AreFindingsOf text positions answer (f ∷ [])
-finding_alone text positions (Accepted cert limits) f is = or-false false (is_error f.level) is
+finding_alone text positions (Accepted cert limits) f is = or-false false (is_error f.level) (ap is_error is)
 finding_alone text positions (ScriptRefused why) f is = (f.position, is.1, (is.0, refl))
 finding_alone text positions (CertificateRefused why) f is = (f.position, is.1, (is.0, refl))
 finding_alone text positions (Rejected cert why) f is = (f.position, is.1, (is.0, refl))

@@ -31,7 +31,7 @@ CanBeReported text _ = Unit {0}
 
 -- the finding of an answer: an error where it isn't a yes
 abbrev pub IsFindingOf : List ℕ → List Position → Answer → Option Finding → Type 0
-IsFindingOf text positions (Accepted cert limits) found = IfSome found (λ finding. is_error finding.level ≡ false)
+IsFindingOf text positions (Accepted cert limits) found = IfSome found (λ finding. finding.level ≡ Note)
 IsFindingOf text positions answer None = ⊥
 IsFindingOf text positions answer (Some finding) = (finding.level ≡ Error) × IsErrorPosition text positions answer finding.position
 
