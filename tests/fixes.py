@@ -57,7 +57,8 @@ CHARACTERS = [
     ("three and four bytes", "s/€*😀*x/<&>/\n", "s/\\(€\\)*\\(😀\\)*x/<&>/\n", 0),
     ("behind its own list", "s/[é]é*/<&>/g\n", "s/[é]\\(é\\)*/<&>/g\n", 0),
     ("in a group that is named", "s/\\(aé*\\)b/<\\1>/\n", "s/\\(a\\(é\\)*\\)b/<\\1>/\n", 0),
-    ("behind a group that is named", "s/\\(a\\)é*\\1/<\\1>/\n", "s/\\(a\\)\\(é\\)*\\1/<\\1>/\n", 0),
+    # Beside a reference the fixed script is refused, since it repeats a group.
+    ("behind a group that is named", "s/\\(a\\)é*\\1/<\\1>/\n", "s/\\(a\\)\\(é\\)*\\1/<\\1>/\n", 2),
     ("before a group that isn't named", "s/é*\\(ab\\)*$/<&>/\n", "s/\\(é\\)*\\(ab\\)*$/<&>/\n", 0),
     ("several in several commands", "/a/s/é*à\\{2\\}/x/\ns/à*e/<&>/\n", "/a/s/\\(é\\)*\\(à\\)\\{2\\}/x/\ns/\\(à\\)*e/<&>/\n", 0),
     ("thirty-one groups", "s/" + "\\(a\\)" * 31 + "*é*/<&>/\n", "s/" + "\\(a\\)" * 31 + "*\\(é\\)*/<&>/\n", 0),
