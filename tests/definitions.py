@@ -206,7 +206,7 @@ def requiring(tool):
 def faults_of_requires(tool):
     """docs/PROVED.md names just the exported functions that require something."""
     page = (TOP / "docs" / "PROVED.md").read_text(encoding="utf-8")
-    said = re.search(r"These functions require something, and no other exported one does: (.*)\.$", page, re.M)
+    said = re.search(r"^These functions require something, and no other exported one does:\n\n((?:- .*\n)+)", page, re.M)
     named, there = set(re.findall(r"`([^`]+)`", said[1])) if said else set(), set(requiring(tool))
     if not there or named != there:
         yield f"docs/PROVED.md, what functions require: {', '.join(sorted(named ^ there))}"
