@@ -1,7 +1,7 @@
 #!/usr/bin/env python3
 """Compares the two readers of scripts: python3 tests/parts.py crates/sedck_probe/out/sedck_probe [--scripts N] [--seed SEED]
 
-`Reading` of `sedck_advice` knows just enough of the language to say in which part of a script a byte is, also where the text is no script:
+`Reading` of `sedck_parts` knows just enough of the language to say in which part of a script a byte is, also where the text is no script:
 hints, warnings and the holes of calls depend on it. `sedck_script` is proved. It is asked by what it makes of a script that it accepts once
 a few bytes are put in: the fault and its place say in which part they are. So each offset of each script is tried, of the examples, of
 the rows that are scripts, and of drawn ones. The status is 0 only where both readers find the same everywhere.

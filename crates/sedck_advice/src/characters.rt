@@ -1,8 +1,7 @@
 //! Where bytes above 127 are repeated by themselves, are in no whole character, or are in lists of `y`, and the characters of UTF-8 of
 //! which they are parts.
 
-use crate::expressions::{Expression, expressions_in};
-use crate::reading::Reading;
+use sedck_parts::{Expression, Reading, expressions_in};
 use sedck_script::{Location, Part, Pattern, Script, Verb};
 use std::alloc::{AllocError, Global};
 use std::str;

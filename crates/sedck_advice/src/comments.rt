@@ -1,7 +1,7 @@
 //! The comments of a script, and those that some seds take for `#n`, by which a sed prints no line on its own.
 
 use crate::bytes::is_blank;
-use crate::reading::{Place, Reading};
+use sedck_parts::{Place, Reading};
 use sedck_report::line_len;
 use std::alloc::{AllocError, Global};
 

@@ -1,7 +1,7 @@
 //! What to write in place of an escape of an expression that is refused.
 
-use crate::reading::Reading;
 use crate::spot::{Purpose, Spot, behind_part};
+use sedck_parts::Reading;
 
 /// By the byte after the backslash, and by what is around it.
 pub fn escape_hint(spot: Spot) -> &'static str {

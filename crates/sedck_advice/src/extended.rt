@@ -1,8 +1,7 @@
 //! Signs of extended expressions in those of a script, which are read as basic ones.
 
 use crate::bytes::{is_blank, is_of_label};
-use crate::expressions::{Expression, expressions_in};
-use crate::reading::Reading;
+use sedck_parts::{Expression, Reading, expressions_in};
 use sedck_script::Location;
 use std::alloc::{AllocError, Global};
 

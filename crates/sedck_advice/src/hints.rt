@@ -3,9 +3,9 @@
 use crate::bytes::{is_blank, without_blanks};
 use crate::escapes::escape_hint;
 use crate::misjudged::{is_misjudged, misjudged_hint};
-use crate::reading::{Place, Reading};
 use crate::spot::{Spot, behind_part};
 use sedck_bre::ReFault;
+use sedck_parts::{Place, Reading};
 use sedck_script::ScriptFault;
 
 /// What to write instead, by the fault and by what is around it.

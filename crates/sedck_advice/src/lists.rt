@@ -1,8 +1,7 @@
 //! Bracket lists and lists of `y` that are read as POSIX has them, and seldom mean that.
 
-use crate::expressions::{Expression, expressions_in};
 use crate::looks::Look;
-use crate::reading::{Place, Reading};
+use sedck_parts::{Expression, Place, Reading, expressions_in};
 use sedck_report::{Code, end_behind, position_at};
 use sedck_script::Location;
 use std::alloc::{AllocError, Global};

@@ -7,7 +7,7 @@ ghost use Rattle.sedck_advice.specs.Added.{AddsOthers};
 use crate::bytes::{is_blank, without_blanks};
 use crate::comments::silencing;
 use crate::extended::extended_in;
-use crate::reading::{Place, Reading};
+use sedck_parts::{Place, Reading};
 use sedck_report::{
     Code, Finding, Fix, Level, NewText, Position, end_behind, line_len, position_at, positions,
 };

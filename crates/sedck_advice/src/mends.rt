@@ -2,9 +2,9 @@
 
 use crate::bytes::is_blank;
 use crate::hints::{BYTE_ORDER_MARK, ends_in_return};
-use crate::reading::Place;
 use crate::spot::Spot;
 use sedck_bre::ReFault;
+use sedck_parts::Place;
 use sedck_script::ScriptFault;
 
 /// What to write in place of the bytes around a fault.

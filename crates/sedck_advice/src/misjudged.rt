@@ -1,8 +1,8 @@
 //! What is said of expressions that matchers of real seds get wrong: they are refused by the faults of expressions, which other texts have, too.
 
-use crate::reading::Reading;
 use crate::spot::Spot;
 use sedck_bre::ReFault;
+use sedck_parts::Reading;
 
 /// Whether the fault is one of an expression that matchers get wrong, at a reference or an anchor of it.
 pub fn is_misjudged(fault: ReFault, spot: Spot) -> bool {

@@ -71,7 +71,7 @@ pub(crate) fn last_part(path: &[u8]) -> &[u8] {
 }
 
 /// The name without what leads nowhere: `./`, `/./`, the second of two slashes, and a folder with the `..` after it.
-fn path_of(alloc: Global, name: &[u8]) -> Result<Vec<u8>, AllocError> {
+pub fn path_of(alloc: Global, name: &[u8]) -> Result<Vec<u8>, AllocError> {
     let mut path = Vec::new(alloc);
     if name.starts_with(b"/") {
         path.push(b'/')?;

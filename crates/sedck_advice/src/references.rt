@@ -5,8 +5,8 @@ ghost use Rattle.sedck_script.specs.View.{command_of};
 ghost use Rattle.sedck_report.specs.Files.{is_there};
 ghost use Rattle.sedck_advice.specs.References.{refers, has_references};
 
-use crate::expressions::expressions_in;
 use crate::weights::{weight_of_place, weight_of_verb};
+use sedck_parts::expressions_in;
 use sedck_report::{Position, positions};
 use sedck_script::{Address, Command, Located, Location, Place};
 use std::alloc::{AllocError, Global};

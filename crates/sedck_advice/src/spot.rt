@@ -1,7 +1,7 @@
 //! What is around a fault, as far as a hint depends on it.
 
 use crate::bytes::{is_blank, without_blanks};
-use crate::reading::{Place, Reading};
+use sedck_parts::{Place, Reading};
 
 /// Where a fault is, and what is around it.
 #[derive(Clone, Copy)]

@@ -4,8 +4,9 @@ ghost use Rattle.std.specs.Prelude.{◌≡◌};
 ghost use Rattle.sedck_report.specs.Reported.{IsRange, head_of};
 
 use memchr::memmem;
-use sedck_advice::{Reading, Spot, behind_part, is_blank};
+use sedck_advice::{Spot, behind_part, is_blank};
 use sedck_bre::ReFault;
+use sedck_parts::Reading;
 use sedck_report::{Finding, end_behind, line_len};
 use sedck_script::{Location, ScriptFault};
 

@@ -2,9 +2,9 @@
 
 use crate::found::{OpenHole, Role};
 use crate::words::{CallWord, add, empty};
-use sedck_advice::{Place, Reading};
 use sedck_call::{Call, Piece};
 use sedck_origin::{Hole, Origin, Result, Traced, Way};
+use sedck_parts::{Place, Reading};
 use std::alloc::Global;
 
 /// The most holes of a script.

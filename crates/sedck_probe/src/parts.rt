@@ -1,7 +1,7 @@
-//! What two readers say of the parts of a text: that of `sedck_advice`, which knows just enough of the language and reads every text, and
+//! What two readers say of the parts of a text: that of `sedck_parts`, which knows just enough of the language and reads every text, and
 //! `sedck_script`. `tests/parts.py` compares them.
 
-use sedck_advice::{Place, Reading};
+use sedck_parts::{Place, Reading};
 use sedck_script::{Command, Location, Script, Verb, locate};
 use std::{fs, io};
 

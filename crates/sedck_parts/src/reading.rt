@@ -1,5 +1,5 @@
 //! A reader that knows just enough of sed's language to say in which part of a script a byte is (POSIX.1-2024 XCU, sed), also of a text
-//! that is no script, or none yet. Where `sedck_script` accepts the text, both find the same parts: `sedck_runs --parts` compares them.
+//! that is no script, or none yet. Where `sedck_script` accepts the text, both find the same parts: `tests/parts.py` compares them.
 
 /// Where in a script the next byte is.
 #[derive(Clone, Copy, PartialEq, Eq)]
