@@ -57,8 +57,6 @@ CHARACTERS = [
     ("three and four bytes", "s/€*😀*x/<&>/\n", "s/\\(€\\)*\\(😀\\)*x/<&>/\n", 0),
     ("behind its own list", "s/[é]é*/<&>/g\n", "s/[é]\\(é\\)*/<&>/g\n", 0),
     ("in a group that is named", "s/\\(aé*\\)b/<\\1>/\n", "s/\\(a\\(é\\)*\\)b/<\\1>/\n", 0),
-    # Beside a reference the fixed script is refused, since it repeats a group.
-    ("behind a group that is named", "s/\\(a\\)é*\\1/<\\1>/\n", "s/\\(a\\)\\(é\\)*\\1/<\\1>/\n", 2),
     ("before a group that isn't named", "s/é*\\(ab\\)*$/<&>/\n", "s/\\(é\\)*\\(ab\\)*$/<&>/\n", 0),
     ("several in several commands", "/a/s/é*à\\{2\\}/x/\ns/à*e/<&>/\n", "/a/s/\\(é\\)*\\(à\\)\\{2\\}/x/\ns/\\(à\\)*e/<&>/\n", 0),
     ("thirty-one groups", "s/" + "\\(a\\)" * 31 + "*é*/<&>/\n", "s/" + "\\(a\\)" * 31 + "*\\(é\\)*/<&>/\n", 0),
@@ -66,8 +64,9 @@ CHARACTERS = [
     ("loop", ":a\ns/xé*/x/\nt a\n", ":a\ns/x\\(é\\)*/x/\nt a\n", 1),
 ]
 
-# A group would change what `\1` means, or can't be written there; or the bytes are no character.
+# A group would change what `\1` means, or be repeated beside a reference, or can't be written there; or the bytes are no character.
 UNGROUPED = [
+    "s/\\(a\\)é*\\1/<\\1>/\n",
     "s/é*\\(a\\)/\\1/\n", "s/é*\\(a\\)\\1//\n", "s/\\(aé*\\(b\\)\\)/\\2/\n", "s/é*\\(a\\)/x/;s//\\1/\n", "/\\(b\\)/s//\\1é/;s/é*\\(a\\)/x/\n", "y/éa/bcd/\n",
     "s(é*(x(\n", "s)é*)x)\n", "s/" + "\\(a\\)" * 32 + "é*//\n",
 ]

@@ -113,10 +113,12 @@ fn only_character(bytes: &[u8]) -> Option<char> {
 /// The most groups of an expression that may get one more: an expression may have groups in 32 others.
 const MOST_GROUPS: usize = 31;
 
-/// Whether a group after so many others may be written there, and changes the number of none to which the command refers.
+/// Whether a group after so many others may be written there, and changes the number of none to which the command refers. Beside a
+/// reference no group may be repeated.
 fn may_be_grouped(expression: Expression, command: &[u8], before: usize) -> bool {
     !matches!(expression.delimiter, b'(' | b')' | 128..=255)
         && groups_in(expression.bytes) <= MOST_GROUPS
+        && highest_reference(expression.bytes) == 0
         && highest_reference(command) <= before
 }
 
