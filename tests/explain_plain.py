@@ -8,17 +8,38 @@ from seds_draw import Grammar  # noqa: E402
 # A script and its plain spelling, by the rules of GRAMMAR.md.
 SPELLED = [
     (b"", b""),
-    (b"#no\n", b""),
+    (b"#no\n", b"#no\n"),
     (b"#n\np", b"#n\np\n"),
     (b"  2 , $ ! ! { p ; n }\n", b"2,$!{\n  p\n  n\n}\n"),
-    (b":a;n;ba;:c # c\nt\n", b":a\nn\nb a\n:c\nt\n"),
+    (b":a;n;ba;:c # c\nt\n", b":a\nn\nb a\n# c\n:c\nt\n"),
     (b"a hello\\\nworld\n$!d", b"a\\\nhello\\\nworld\n$!d\n"),
     (b"s|/|,|gp", b"s:/:,:gp\n"),
     (b"s|[a-z][/]|&|3pgw f\n\\,x,r  g\n", b"s,[a-z][/],&,3gpw f\n/x/r g\n"),
     (b"/a\\{0,\\}b\\{1,1\\}/d;y/\\//\\n/", b"/a*b\\{1\\}/d\ny,/,\\n,\n"),
-    (b"s/[[:digit:]x-z\\n-]//", b"s/[\\n0-9xyz-]//\n"),
+    (b"s/[[:digit:]x-z\\n-]//", b"s/[[:digit:]x-z\\n-]//\n"),
     ("s/[éè]é/x/;s/[^ü]*$//\n".encode(), "s/[éè]é/x/\ns/[^ü]*$//\n".encode()),
+    # Lists with the same bytes and other characters, and lists that are in a comment and in a text.
+    ("s/[é£]/1/g;s/[©ã]/2/g\n".encode(), "s/[é£]/1/g\ns/[©ã]/2/g\n".encode()),
+    (b"# [[:alpha:]]\ns/[a-zA-Z]/y/\n", b"# [[:alpha:]]\ns/[a-zA-Z]/y/\n"),
+    (b"i\\\n[[:alpha:]]\ns/[a-zA-Z]/y/\n", b"i\\\n[[:alpha:]]\ns/[a-zA-Z]/y/\n"),
+    (b"s/[abcd]/_/g;s/[89:;]/_/g;s/[a-c]/_/g\n", b"s/[abcd]/_/g\ns/[89:;]/_/g\ns/[a-c]/_/g\n"),
+    # Each list is at its own place: of two addresses, in a group, repeated, and with its delimiter escaped.
+    (b"/[ab]/,\\%[b\\%a]%s,\\([a-b]\\)*[ \\t\\,]\\{2\\},[x],\n", b"/[ab]/,/[b%a]/s/\\([a-b]\\)*[ \\t,]\\{2\\}/[x]/\n"),
     (b"s/a/b/w o\\", b"s/a/b/w o\\"),
+]
+
+# A script, its plain spelling, and that without comments.
+COMMENTED = [
+    (b"#!/bin/sed -f\n# top\n\n\n/x/{ # start\n  p # print\n\t# before\n\n  } # end\n\n:a # loop\n;s/ab/b/;ta ; # again\n\n",
+     b"#!/bin/sed -f\n# top\n\n# start\n/x/{\n  # print\n  p\n  # before\n  # end\n}\n\n# loop\n:a\ns/ab/b/\n# again\nt a\n",
+     b"/x/{\n  p\n}\n:a\ns/ab/b/\nt a\n"),
+    (b"\n\n# only", b"# only\n", b""),
+    # A first line `#n` makes a script quiet, and this one isn't.
+    (b"p #n\n", b"# n\np\n", b"p\n"),
+    (b"#n\n#n\np;#n", b"#n\n#n\n#n\np\n", b"#n\np\n"),
+    (b"{{p;}\n\n}#a\n#b \r\n", b"{\n  {\n    p\n  }\n#a\n}\n#b \r\n".replace(b"\n#a", b"\n  #a"), b"{\n  {\n    p\n  }\n}\n"),
+    (b"a\\\n# text\n# c\\\n$!d # x\\", b"a\\\n# text\n# c\\\n# x\\\n$!d\n", b"a\\\n# text\n$!d\n"),
+    (b"/[#]/s/#/[#]/w #f\n/a/y,#,b, # y", b"/[#]/s/#/[#]/w #f\n# y\n/a/y/#/b/\n", b"/[#]/s/#/[#]/w #f\n/a/y/#/b/\n"),
 ]
 
 # The words, after `--format sed`, of which nothing is written: the status, and the script.
@@ -49,6 +70,8 @@ sed -e 's|a|b|;p' f | sed -n '$p' g
 sed ":a;ba" f
 sed "s/a/$1/" f
 \tsed -i 'w out' f
+# words are [[:alpha:]]
+sed 's/[a-zA-Z]/x/;s/["'\\'']/y/' f
 """
 
 # Where a call is in that file, and the status and the script.
@@ -63,6 +86,7 @@ PLACES = [
     ("2", 3, b""),
     ("1", 3, b""),
     ("6", 3, b""),
+    ("7", 0, b"s/[a-zA-Z]/x/\ns/[\"']/y/\n"),
     ("x", 3, b""),
 ]
 
@@ -79,22 +103,10 @@ INVALID = [
 
 
 def unspelled():
-    """A script whose plain lists name every byte that could be a delimiter: three in a row are no range there. Its own delimiter, `>`, is
-    in the middle of a range."""
-    spans = [(first, first + 2) for first in range(1, 127, 3)]
-    lists = []
-    for first, last in spans:
-        inside = set(range(first, last + 1))
-        if inside & {10, 45, 91, 92, 93, 94}:
-            # Each of these means something in a list, or ends a line; what is beside them is listed by itself.
-            lists.append(b"[%s]" % bytes(sorted(inside - {10, 45, 91, 92, 93, 94}) or b"_"))
-        else:
-            lists.append(b"[%c-%c]" % (first, last))
-    lists += [b"[a-]", b"[a^]", b"[]a]"]
+    """A script whose list names every byte that could be a delimiter but its own, `*`, which is the plain sign of a repetition."""
+    named = bytes(set(range(1, 127)) - set(b"\n*-[\\]^"))
     # The replacement has those that could be escaped in a list, side by side: escaped there, each would be a part of its own.
-    used = b"".join(lists) + b"/,;!@#%~_"
-    assert b">" not in used
-    return b"p\n s>%s>/,;!@#%%~_>\n" % b"".join(lists)
+    return b"p\n s*[]%s[\\\\^-]a\\{0,\\}*/,;!@#%%~_*\n" % named
 
 
 def check(tools, count):
@@ -107,6 +119,12 @@ def check(tools, count):
     tools.write("other.cert", certificate)
     for script, plain in SPELLED:
         spelled(tools, script, plain)
+    for script, plain, bare in COMMENTED:
+        spelled(tools, script, plain)
+        tools.write("script.sed", script)
+        tools.same("without comments: %r" % script, tools.explain("--format", "sed", "--no-comments", "script.sed"), (0, bare, b""))
+        tools.same("again without comments: %r" % plain, tools.explain("--no-comments", "--format", "sed", given=plain), (0, bare, b""))
+        tools.same("in a call: %r" % script, tools.explain("--format", "sed", "--sed", "--", "-f", "script.sed"), (0, bare, b""))
     for words, script, status in REPORTED:
         reported(tools, words, script, status)
     for words, status, plain in CALLS:
@@ -120,6 +138,8 @@ def check(tools, count):
     for words in INVALID:
         status, out, said = tools.explain("--format", "sed", *words)
         tools.same("invalid: %r" % words, (status, out, said.startswith(b"sedck-explain: ")), (3, b"", True))
+    status, out, said = tools.explain("--no-comments", "one.sed")
+    tools.same("in another format", (status, out, said), (3, b"", b"sedck-explain: --no-comments is for --format sed\n"))
     tools.same("a file that isn't there", tools.explain("--format", "sed", "none.sed")[:2], (4, b""))
     tools.same("a folder", tools.explain("--format", "sed", "--calls", "--at", "1", ".")[:2], (4, b""))
     none(tools)
@@ -154,6 +174,12 @@ def none(tools):
     status, out, said = tools.explain("--format", "sed", "script.sed")
     tools.same("no plain spelling", (status, out, said.split(b"\n")[0].rpartition(b" ")[2]), (2, b"", b"[no-plain-spelling]"))
     tools.same("the place of the command", said.split(b" ")[0], b"script.sed:2:2:")
+    # Each command is indented by two blanks for each block around it.
+    script = b"{" * 60 + b"p;" * 4000 + b"}" * 60 + b"\ni\\\n" + b"x" * 600000 + b"\n"
+    tools.write("script.sed", script)
+    tools.same("a long one is accepted", tools.explain("--format", "gcc", "--level", "error", "script.sed")[:2], (0, b""))
+    status, out, said = tools.explain("--format", "sed", "script.sed")
+    tools.same("its plain spelling is too long", (status, out, b"longer than a script may be" in said), (2, b"", True))
 
 
 def check_drawn(tools, count):

@@ -180,8 +180,8 @@ def check_answers(place):
         expect(found[:2] == due and (b"[locale]\n" in found[2]) == is_due, "refuse: %r in %s: %s" % (script, locale, found))
     found = [[finding["code"] for finding in line["report"]["findings"]] for line in place.lines()]
     expect([codes.count("locale") for codes in found] == [1, 1, 1, 0, 0, 0, 0, 0], "locale: the log has %s" % found)
-    # A list is bytes to the plain spelling, and characters to sed: there sed gets the words that were judged.
-    for script, given in (("s/[^a-zA-Z]//g;# keep only [^[:alpha:]]", "aÜb1\n"), ("s/[abcd]/_/g", "aéáe\n"), ("s/[A-Z]/x/;s/[[:upper:]]/y/", "ÉA\n"), ("s/[89:;]/_/g", "8:9\n")):
+    # The plain spelling has each list as it was written: in another locale it has other characters.
+    for script, given in (("s/[^a-zA-Z]//g;# keep only [^[:alpha:]]", "aÜb1\n"), ("s/[abcd]/_/g", "aéáe\n"), ("s/[A-Z]/x/;s/[[:upper:]]/y/", "ÉA\n"), ("s/[89:;]/_/g", "8:9\n"), ("s/[é£]/1/g;s/[©ã]/2/g", "é©ã£\n")):
         for locale in ("C.UTF-8", "C"):
             found = place.call(script, mode="refuse", given=given.encode(), LC_ALL=locale)
             expect(found[:2] == real(script, given=given.encode(), here=place.here, LC_ALL=locale)[:2], "refuse: %r in %s prints %r" % (script, locale, found[:2]))

@@ -82,6 +82,10 @@ class Grammar(random.Random):
               "}", "{", ";", "#", "/", "!", ",", "$", "^", "*", "&", "'", "\\n", "\\c", "\\x", "\\(", "\\)", "\\{1\\}", "b", "t", "a",
               "w F", "\x7f", "\x80", "\xff"]
 
+    # Lists that in bytes are another one of these, or nearly, and have other characters in some locale.
+    ALIKE = ["[abcd]", "[a-d]", "[89:;]", "[8-;]", "[@ABCD]", "[@-D]", "[[:digit:]]", "[0-9]", "[[:alpha:]]", "[a-zA-Z]", "[^A-Z]", "[^[:upper:]]", "[[=a=]]", "[a]", "[ \\t]", "[\\t ]", "[\t ]"]
+    HIGH_ALIKE = [text.encode().decode("latin-1") for text in ("[é£]", "[©ã]", "[^é£]", "[ã©]", "[а-я]", "[é-ü]")]
+
     def __init__(self, seed):
         super().__init__(seed)
         self.delimiter, self.labels, self.is_high, self.high = "/", [], False, WHOLE
@@ -119,6 +123,8 @@ class Grammar(random.Random):
         parts = [self.choice(["x", "a", self.choice(self.TOKENS), self.hidden()]) for _ in range(self.randrange(3))]
         if self.random() < 0.15:
             parts.append(self.choice(self.high))
+        if self.random() < 0.1:
+            parts.append(self.choice(self.ALIKE + self.HIGH_ALIKE))
         if self.random() < 0.6:
             parts.append(self.hidden())
         parts.append(self.choice(["", "", "", "", "\\", "\\\\", " ", "\r", "}", "\\\\\\"]))
@@ -312,7 +318,9 @@ class Grammar(random.Random):
         return piece + self.choice(repeats)
 
     def bracket(self):
-        """A bracket list from tokens."""
+        """A bracket list from tokens, or one that in bytes is another one."""
+        if self.random() < 0.15:
+            return self.choice(self.HIGH_ALIKE if self.is_high else self.ALIKE)
         begin = "[" + self.choice(["", "", "^"]) + self.choice(["", "", "", "]", "-"])
         elements = "".join(self.element() for _ in range(self.randrange(1, 4)))
         return begin + elements + self.choice(["", "", "", "-", "[", "[^", "\\"]) + "]"

@@ -1,7 +1,7 @@
 """Ways to run scripts: locales, options and files.
 
-Every locale of this machine is used, and some more are compiled where `localedef` can: one of UTF-8 with other cases, and two in which
-bytes of ASCII are parts of characters. What a sed knows is tried: whether `-s`, `-i` and `-z` do what they should, and in which locales
+Every locale of this machine is used, and some more are compiled where `localedef` can: three of UTF-8 with other orders, one of UTF-8 with
+other cases, and two in which bytes of ASCII are parts of characters. What a sed knows is tried: whether `-s`, `-i` and `-z` do what they should, and in which locales
 it knows characters.
 """
 import collections
@@ -15,7 +15,8 @@ from seds_draw import CONTROLS
 from seds_run import OPERANDS, Way
 
 Locale = collections.namedtuple("Locale", "name charmap environment")
-COMPILED = (("tr_TR", "UTF-8", "tr_TR.UTF-8"), ("ja_JP", "SHIFT_JIS", "ja_JP.SJIS"), ("zh_CN", "GB18030", "zh_CN.GB18030"))
+COMPILED = (("en_US", "UTF-8", "en_US.UTF-8"), ("de_DE", "UTF-8", "de_DE.UTF-8"), ("cs_CZ", "UTF-8", "cs_CZ.UTF-8"), ("tr_TR", "UTF-8", "tr_TR.UTF-8"),
+            ("ja_JP", "SHIFT_JIS", "ja_JP.SJIS"), ("zh_CN", "GB18030", "zh_CN.GB18030"))
 OPTIONS = ((), ("-s",), ("-i",), ("-z",))
 POSIX = Locale("POSIX", "", {"LC_ALL": "C"})
 # In these the characters of UTF-8, or each byte, are whole characters: elsewhere only scripts of ASCII are run.

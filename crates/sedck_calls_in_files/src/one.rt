@@ -23,6 +23,7 @@ use sedck_engines::Opener;
 use sedck_explanation::{Position, Status, position_at};
 use sedck_find::FoundCall;
 use sedck_formats::{Names, plain_report, shown_path};
+use sedck_plain::Comments;
 use std::alloc::{AllocError, Global};
 use std::io::Input;
 
@@ -185,7 +186,8 @@ fn report_of(asked: &FileScan, call: &FoundCall) -> Result<(Vec<u8>, Status), Al
     let explanation = explain_found(alloc, text, position, call, asked.scan.denied)?;
     let report = call_report(asked, position, call, &explanation)?;
     let shown = shown_path(alloc, asked.file.path)?;
-    plain_report(alloc, Names::of_file(shown.as_str()), &explanation, report)
+    let names = Names::of_file(shown.as_str());
+    plain_report(alloc, names, &explanation, Comments::LeftOut, report)
 }
 
 /// Writes what is to be written with this status, and answers the exit status.

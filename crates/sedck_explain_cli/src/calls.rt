@@ -20,6 +20,7 @@ use sedck_explanation::{
     parts_of, position_at, refusal_of,
 };
 use sedck_formats::{Names, PartName, plain_report};
+use sedck_plain::Comments;
 use std::alloc::{AllocError, AllocGlobal, Global};
 use std::io::Input;
 
@@ -88,7 +89,8 @@ fn shown<R: AllocGlobal, O, F, W: Sink, E: Sink>(
         .style()
         .rendered(session.alloc(), names, names, explanation)?;
     if session.request.format.is_plain() {
-        let (made, status) = plain_report(session.alloc(), names, explanation, made)?;
+        let bare = Comments::LeftOut;
+        let (made, status) = plain_report(session.alloc(), names, explanation, bare, made)?;
         return Ok(sent(out, err, &made, status)?);
     }
     write_all(out, &made)?;

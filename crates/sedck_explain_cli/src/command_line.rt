@@ -29,6 +29,7 @@ use sedck_cert::streams::{FromRead, Sink, Source, write_all};
 use sedck_engines::{FromFiles, Input as InputOf, Opener, RunFault};
 use sedck_explanation::{Denied, Status, Unexplained};
 use sedck_formats::{ScriptCounts, json_unreadable, sarif_unreadable};
+use sedck_plain::Comments;
 use std::alloc::{AllocError, Global};
 use std::fs::Files;
 use std::io::{Input, Write};
@@ -138,6 +139,9 @@ fn answer<R: Files + Input + AllocGlobal + Clone + Drop, O: Opener, F: Finder, W
 fn misplaced(request: &Request) -> Option<&'static [u8]> {
     if !request.calls && (request.kind.is_some() || !request.assumed.is_empty()) {
         return Some(b"--as and --assume are for --calls\n");
+    }
+    if request.comments == Comments::LeftOut && !request.format.is_plain() {
+        return Some(b"--no-comments is for --format sed\n");
     }
     if request.at.is_some() && !(request.calls && request.format.is_plain()) {
         return Some(b"--at is for --calls with --format sed\n");

@@ -6,6 +6,7 @@ use crate::explaining::Reporter;
 use sedck_explanation::{Explanation, Level};
 use sedck_formats::{Names, gcc_report, json_report, sarif_report, shown_path, text_report};
 use sedck_page::{dot_report, html_report};
+use sedck_plain::Comments;
 use std::alloc::{AllocError, Global};
 
 /// How a report is printed.
@@ -85,6 +86,8 @@ pub struct Style {
     pub colour: bool,
     /// The least level of findings that are reported.
     pub least: Level,
+    /// Whether the plain spelling of a script has its comments.
+    pub comments: Comments,
 }
 
 impl Reporter for Style {

@@ -161,7 +161,7 @@ fn report_of(
     let shown = shown_path(alloc, named.name)?;
     let names = Names::of_file(shown.as_str());
     let report = named.reporter.rendered(alloc, names, names, explanation)?;
-    plain_report(alloc, names, explanation, report)
+    plain_report(alloc, names, explanation, named.reporter.comments, report)
 }
 
 /// Writes the report, where the status is that of a yes to the output and else to standard error. Answers the status.

@@ -12,6 +12,7 @@ use sedck_explanation::{Denied, Level};
 use sedck_find::Assumed;
 use sedck_formats::VERSION;
 use sedck_hosts::Kind;
+use sedck_plain::Comments;
 use std::alloc::{AllocError, Global};
 
 /// What is asked for.
@@ -20,6 +21,8 @@ pub struct Request<'a> {
     pub format: Format,
     /// The least level of findings that are reported.
     pub least: Level,
+    /// Whether the plain spelling of a script has its comments.
+    pub comments: Comments,
     /// What a script may not have.
     pub denied: Denied,
     /// The certificate's path.
@@ -57,6 +60,7 @@ impl Request<'_> {
             format: self.format,
             colour,
             least: self.least,
+            comments: self.comments,
         }
     }
 }
@@ -81,6 +85,7 @@ pub fn request_of<'a>(alloc: Global, words: &'a [String]) -> Result<Request<'a>,
     Ok(Request {
         format,
         least: level_of(&matches, format, calls),
+        comments: comments_of(&matches),
         denied: denied_of(denied, locale),
         certificate,
         stdin_name: matches.get_str("stdin-filename").unwrap_or("-"),
@@ -119,6 +124,15 @@ fn level_of(matches: &ArgMatches, format: Format, is_of_calls: bool) -> Level {
         Some("warning") => Level::Warning,
         Some(_) => Level::Note,
         None => format.least(is_of_calls),
+    }
+}
+
+/// Whether comments are printed: unless the words say that they aren't.
+fn comments_of(matches: &ArgMatches) -> Comments {
+    if matches.get_flag("no-comments") {
+        Comments::LeftOut
+    } else {
+        Comments::Kept
     }
 }
 
@@ -243,7 +257,7 @@ struct Choice {
 }
 
 /// The options, in the order of the help.
-static CHOICES: [Choice; 11] = [
+static CHOICES: [Choice; 12] = [
     Choice {
         name: "format",
         takes: Takes::OneOf("FORMAT", NAMES),
@@ -253,6 +267,11 @@ static CHOICES: [Choice; 11] = [
         name: "level",
         takes: Takes::OneOf("LEVEL", LEVELS),
         help: "The least level of findings that are reported: error, warning or note [default: note; warning for gcc, and for text without --calls]; the exit status stays the same",
+    },
+    Choice {
+        name: "no-comments",
+        takes: Takes::Nothing,
+        help: "Leave out the comments of a script, with --format sed",
     },
     Choice {
         name: "cert",

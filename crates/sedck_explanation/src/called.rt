@@ -86,6 +86,7 @@ pub fn not_judged<'a>(alloc: Global, text: &'a [u8], findings: Vec<Finding>) -> 
 {
     Explanation {
         text,
+        source: &[],
         answer: Answer::NotJudged,
         status: Status::Refused,
         script: None,

@@ -128,6 +128,7 @@ fn explained<'a>(
     } = lists;
     Ok(Explanation {
         text,
+        source: text,
         answer,
         status,
         script: Some(located.script),
@@ -285,6 +286,7 @@ fn refused<'a>(
     let findings = reported(alloc, text, &[], found, &[])?;
     Ok(Explanation {
         text,
+        source: text,
         answer,
         status,
         script: None,

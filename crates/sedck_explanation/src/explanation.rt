@@ -8,7 +8,10 @@ use sedck_script::Script;
 /// All that is reported of a script.
 #[derive(Drop)]
 pub struct Explanation<'a> {
+    /// The text in which the positions are: the script's own, or that of a file with a call that has the script.
     pub text: &'a [u8],
+    /// The script's own text; empty where there is none to judge.
+    pub source: &'a [u8],
     pub answer: Answer,
     /// That of the answer, but `Rejected` where the script is accepted and has what is denied.
     pub status: Status,

@@ -6,8 +6,8 @@ ghost use Rattle.sedck_formats.specs.Plain.{IsPlainReport, IsPlainStatus};
 
 use crate::names::Names;
 use crate::text::text_findings;
-use sedck_explanation::{Code, Explanation, Finding, Level, Status, not_judged};
-use sedck_plain::{Fault, plain_of};
+use sedck_explanation::{Code, Explanation, Finding, Level, Position, Status, not_judged};
+use sedck_plain::{Comments, Fault, plain_of};
 use sedck_script::Script;
 use std::alloc::{AllocError, Global};
 
@@ -19,13 +19,14 @@ pub fn plain_report(
     alloc: Global,
     names: Names,
     explanation: &Explanation,
+    comments: Comments,
     report: Vec<u8>,
 ) -> Result<(Vec<u8>, Status), AllocError>
     ensures { IfOk result (λ made. IsPlainReport explanation.now made.0.items made.1) }
 {
     match explanation.status {
         Status::Accepted => match &explanation.script {
-            Some(script) => spelled(alloc, names, explanation, script),
+            Some(script) => spelled(alloc, names, explanation, script, comments),
             None => Ok((report, Status::Accepted)),
         },
         status => Ok((report, status)),
@@ -38,40 +39,52 @@ fn spelled(
     names: Names,
     explanation: &Explanation,
     script: &Script,
+    comments: Comments,
 ) -> Result<(Vec<u8>, Status), AllocError>
     ensures spelled { IfOk result (λ made. made.1 ≡ Status.Accepted → Spells made.0.items script.now) }
     ensures status { IfOk result (λ made. IsPlainStatus Status.Accepted made.1) }
 {
-    match plain_of(alloc, explanation.text, script) {
-        Ok(text) => Ok((text, Status::Accepted)),
-        Err(Fault::NoSpelling(place)) => {
-            let report = unspelled(alloc, names, explanation, place)?;
-            Ok((report, Status::Refused))
-        }
-        Err(_) => Err(AllocError),
-    }
+    let why = match plain_of(alloc, explanation.source, script, comments) {
+        Ok(text) => return Ok((text, Status::Accepted)),
+        Err(Fault::NoSpelling(place)) => Reason {
+            position: explanation.positions.get(place).copied(),
+            message: "the script is accepted, but this command has no plain spelling",
+            hint: "leave one sign that could be a delimiter out of its lists, or out of its replacement",
+        },
+        Err(Fault::TooLong) => Reason {
+            position: None,
+            message: "the script is accepted, but its plain spelling would be longer than a script may be",
+            hint: "run the script as it is: that one is accepted",
+        },
+        Err(_) => return Err(AllocError),
+    };
+    let report = unspelled(alloc, names, explanation, why)?;
+    Ok((report, Status::Refused))
 }
 
-/// The report on an accepted script of which this command has no plain spelling.
+/// Why an accepted script has no plain spelling.
+#[derive(Clone, Copy)]
+struct Reason {
+    position: Option<Position>,
+    message: &'static str,
+    hint: &'static str,
+}
+
+/// The report on an accepted script that has no plain spelling.
 fn unspelled(
     alloc: Global,
     names: Names,
     explanation: &Explanation,
-    place: usize,
+    why: Reason,
 ) -> Result<Vec<u8>, AllocError> {
     let mut findings = Vec::new(alloc);
     findings.push(Finding {
         level: Level::Error,
         code: Code::NoPlainSpelling,
-        position: explanation.positions.get(place).copied(),
+        position: why.position,
         end: None,
-        message: String::from_str(
-            alloc,
-            "the script is accepted, but this command has no plain spelling",
-        )?,
-        hint: Some(
-            "leave one sign that could be a delimiter out of its lists, or out of its replacement",
-        ),
+        message: String::from_str(alloc, why.message)?,
+        hint: Some(why.hint),
         fix: None,
         steps: Vec::new(alloc),
     })?;

@@ -2,49 +2,51 @@
 
 use crate::delimiters::{delimiter, push_part};
 use crate::expressions::push_number;
-use crate::lists::Source;
+use crate::lists::Lists;
 use crate::same_commands::letter;
 use crate::substitutions::{pattern_text, push_lists, push_substitution};
 use sedck_script::{Address, Command, Pattern, Place, Verb};
 use std::alloc::AllocError;
 
-/// Adds the command, one of these, without the newline after it.
+/// Adds the command, one of these, without the newline after it. Answers where its verb is.
 pub(crate) fn push_command(
-    source: &Source,
+    lists: &mut Lists,
     out: &mut Vec<u8>,
     commands: &[Command],
     command: &Command,
-) -> Result<(), AllocError> {
-    push_address(source, out, &command.address)?;
+) -> Result<usize, AllocError> {
+    push_address(lists, out, &command.address)?;
     if command.negated {
         out.push(b'!')?;
     }
+    let verb = out.len();
     out.push(letter(&command.verb))?;
-    push_taken(source, out, commands, &command.verb)
+    push_taken(lists, out, commands, &command.verb)?;
+    Ok(verb)
 }
 
-fn push_address(source: &Source, out: &mut Vec<u8>, address: &Address) -> Result<(), AllocError> {
+fn push_address(lists: &mut Lists, out: &mut Vec<u8>, address: &Address) -> Result<(), AllocError> {
     match address {
         Address::None => Ok(()),
-        Address::One(place) => push_place(source, out, place),
+        Address::One(place) => push_place(lists, out, place),
         Address::Two(from, to) => {
-            push_place(source, out, from)?;
+            push_place(lists, out, from)?;
             out.push(b',')?;
-            push_place(source, out, to)
+            push_place(lists, out, to)
         }
     }
 }
 
-fn push_place(source: &Source, out: &mut Vec<u8>, place: &Place) -> Result<(), AllocError> {
+fn push_place(lists: &mut Lists, out: &mut Vec<u8>, place: &Place) -> Result<(), AllocError> {
     match place {
-        Place::Line(n) => push_number(source, out, *n),
+        Place::Line(n) => push_number(lists.alloc, out, *n),
         Place::Last => Ok(out.push(b'$')?),
-        Place::Context(pattern) => push_context(source, out, pattern),
+        Place::Context(pattern) => push_context(lists, out, pattern),
     }
 }
 
-fn push_context(source: &Source, out: &mut Vec<u8>, pattern: &Pattern) -> Result<(), AllocError> {
-    let expression = pattern_text(source, pattern)?;
+fn push_context(lists: &mut Lists, out: &mut Vec<u8>, pattern: &Pattern) -> Result<(), AllocError> {
+    let expression = pattern_text(lists, pattern)?;
     let delimiter = delimiter(&expression, b"", b"");
     if delimiter != b'/' {
         out.push(b'\\')?;
@@ -55,7 +57,7 @@ fn push_context(source: &Source, out: &mut Vec<u8>, pattern: &Pattern) -> Result
 
 /// Adds what the verb takes.
 fn push_taken(
-    source: &Source,
+    lists: &mut Lists,
     out: &mut Vec<u8>,
     commands: &[Command],
     verb: &Verb,
@@ -67,8 +69,8 @@ fn push_taken(
             push_behind(out, b"\\\n", text)
         }
         Verb::Read(name) | Verb::Write(name) => push_behind(out, b" ", name),
-        Verb::Substitute(substitution) => push_substitution(source, out, substitution),
-        Verb::Transliterate(from, to) => push_lists(source, out, from, to),
+        Verb::Substitute(substitution) => push_substitution(lists, out, substitution),
+        Verb::Transliterate(from, to) => push_lists(lists.alloc, out, from, to),
         _ => Ok(()),
     }
 }

@@ -1,43 +1,46 @@
 //! Expressions, each in one spelling: what has a meaning is escaped wherever it stands for itself, and each repetition has one
 //! form.
 
-use crate::lists::Source;
-use crate::sets::push_set;
+use crate::lists::Lists;
 use sedck_bre::Bre;
-use std::alloc::AllocError;
+use std::alloc::{AllocError, Global};
 
 /// Adds the expression.
 #[cycle(spelling)]
-pub(crate) fn push_tree(tree: &Bre, source: &Source, out: &mut Vec<u8>) -> Result<(), AllocError> {
+pub(crate) fn push_tree(
+    tree: &Bre,
+    lists: &mut Lists,
+    out: &mut Vec<u8>,
+) -> Result<(), AllocError> {
     match tree {
         Bre::Byte(byte) => push_byte(out, *byte),
         Bre::Any => Ok(out.push(b'.')?),
-        Bre::Set(set) => push_set(source, out, set),
+        Bre::Set(_) => lists.push_next(out),
         Bre::Start => Ok(out.push(b'^')?),
         Bre::End => Ok(out.push(b'$')?),
         Bre::Maybe(byte) => Ok(out.push(*byte)?),
         Bre::Group(_, body) => {
             out.extend_from_slice(b"\\(")?;
-            push_tree(body, source, out)?;
+            push_tree(body, lists, out)?;
             out.extend_from_slice(b"\\)")
         }
         Bre::Ref(k) => {
             out.push(b'\\')?;
-            push_number(source, out, u32::from(*k))
+            push_number(lists.alloc, out, u32::from(*k))
         }
-        Bre::Seq(items) => push_trees(items, source, out),
+        Bre::Seq(items) => push_trees(items, lists, out),
         Bre::Repeat { body, least, most } => {
-            push_tree(body, source, out)?;
-            push_count(source, out, *least, *most)
+            push_tree(body, lists, out)?;
+            push_count(lists.alloc, out, *least, *most)
         }
     }
 }
 
 /// Adds the items, one after another.
 #[cycle(spelling)]
-fn push_trees(items: &[Bre], source: &Source, out: &mut Vec<u8>) -> Result<(), AllocError> {
+fn push_trees(items: &[Bre], lists: &mut Lists, out: &mut Vec<u8>) -> Result<(), AllocError> {
     for item in items {
-        push_tree(item, source, out)?;
+        push_tree(item, lists, out)?;
     }
     Ok(())
 }
@@ -53,7 +56,7 @@ fn push_byte(out: &mut Vec<u8>, byte: u8) -> Result<(), AllocError> {
 
 /// Adds a sign of repetition.
 fn push_count(
-    source: &Source,
+    alloc: Global,
     out: &mut Vec<u8>,
     least: u8,
     most: Option<u8>,
@@ -62,14 +65,14 @@ fn push_count(
         return Ok(out.push(b'*')?);
     }
     out.extend_from_slice(b"\\{")?;
-    push_number(source, out, u32::from(least))?;
-    push_most(source, out, least, most)?;
+    push_number(alloc, out, u32::from(least))?;
+    push_most(alloc, out, least, most)?;
     out.extend_from_slice(b"\\}")
 }
 
 /// Adds the upper bound of a repetition, where it isn't the lower one.
 fn push_most(
-    source: &Source,
+    alloc: Global,
     out: &mut Vec<u8>,
     least: u8,
     most: Option<u8>,
@@ -81,13 +84,13 @@ fn push_most(
                 return Ok(());
             }
             out.push(b',')?;
-            push_number(source, out, u32::from(most))
+            push_number(alloc, out, u32::from(most))
         }
     }
 }
 
 /// Adds the number in decimal.
-pub(crate) fn push_number(source: &Source, out: &mut Vec<u8>, n: u32) -> Result<(), AllocError> {
-    let digits = format!(in source.alloc; "{n}")?;
+pub(crate) fn push_number(alloc: Global, out: &mut Vec<u8>, n: u32) -> Result<(), AllocError> {
+    let digits = format!(in alloc; "{n}")?;
     out.extend_from_slice(digits.as_bytes())
 }

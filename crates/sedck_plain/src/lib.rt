@@ -1,12 +1,14 @@
-//! Scripts in their plain spelling: one text for each program.
+//! Scripts in their plain spelling: one text for each program, but for its bracket lists.
 //!
 //! - `plain_text` answers a text that spells the very program that a script spells. It is printed, read again by
-//!   `sedck_script`, and compared: the printer isn't trusted. `plain_of` does the same for a script that was read before.
+//!   `sedck_script`, and compared: the printer isn't trusted. `plain_of` does the same for a script that was read before, also with its
+//!   comments.
 //! - `same_program` says whether two scripts are the same program, and `spells` whether a text spells a script.
 //! - `Fault` is why there is no plain text.
 //!
-//! In a plain text each command has a line of its own, blocks are indented by two blanks, and comments are left out. Where the
-//! grammar lets a part be written in several ways, it is written in the one that all seds read alike.
+//! In a plain text each command has a line of its own, and blocks are indented by two blanks. Where the
+//! grammar lets a part be written in several ways, it is written in the one that all seds read alike. Bracket lists stay as the
+//! script has them.
 #![tactic(auto)]
 
 mod commands;
@@ -18,8 +20,8 @@ mod plain;
 mod same;
 mod same_commands;
 mod same_trees;
-mod sets;
 mod substitutions;
 
+pub use layout::Comments;
 pub use plain::{Fault, plain_of, plain_text, spells};
 pub use same::same_program;

@@ -6,10 +6,12 @@ ghost use Rattle.sedck_script.specs.Spelling.{Spells};
 ghost use Rattle.sedck_plain.specs.Plain.{SpellSame, IsOutOfMemory, IsRefused, IsNoRefusal, ReportsFault};
 ghost use Rattle.sedck_plain.specs.Private.Refusals.{is_memory, fault_of};
 
-use crate::layout::laid_out;
+use crate::layout::{Comments, laid_out};
+use crate::lists::{Commands, first_change};
 use crate::same::same_program;
 use crate::same_commands::first_difference;
-use sedck_script::{Script, ScriptFault, parse};
+use sedck_commands::TEXT_LIMIT;
+use sedck_script::{Location, Script, ScriptFault, locate, parse};
 use std::alloc::{AllocError, Global};
 
 /// Why there is no plain text.
@@ -17,22 +19,26 @@ use std::alloc::{AllocError, Global};
 pub enum Fault {
     /// The script is refused.
     Script(ScriptFault),
-    /// What was printed spells no script, or another one: the command at this place among the commands is read otherwise.
+    /// What was printed spells no script, or another one: the command at this place among the commands is read otherwise, or has other
+    /// bracket lists.
     NoSpelling(usize),
+    /// What was printed is longer than a script may be.
+    TooLong,
     OutOfMemory,
 }
 
-/// A script in its plain spelling: a text that spells the very program that the script spells.
+/// A script in its plain spelling, without comments: a text that spells the very program that the script spells.
 ///
 /// That the text is plain, and the same for each spelling of a program, isn't proved: it is printed, and what was printed is
-/// read and compared.
+/// read and compared. Each bracket list is written as the script has it, since a set of bytes doesn't say what its list is in
+/// other locales; that isn't proved either.
 pub fn plain_text(alloc: Global, script: &[u8]) -> Result<Vec<u8>, Fault>
     ensures same { IfOk result (λ text. SpellSame script.now text.items) }
     ensures refused { (¬ IsOutOfMemory result) → (IsRefused result ↔ ((p : Program) → ¬ Spells script.now p)) }
     ensures reported { ReportsFault script.now result }
 {
     match parse(alloc, script) {
-        Ok(program) => plain_of(alloc, script, &program),
+        Ok(program) => plain_of(alloc, script, &program, Comments::LeftOut),
         Err(fault) => Err(refusal(fault)),
     }
 }
@@ -57,34 +63,74 @@ fn refusal(fault: ScriptFault) -> Fault
     }
 }
 
-/// The same for a script that was read from the text: a text that spells it.
-///
-/// Of the script's own text only the order of bytes above 127 in bracket lists is taken.
-pub fn plain_of(alloc: Global, script: &[u8], program: &Script) -> Result<Vec<u8>, Fault>
+/// The same for a program that was read from this script, perhaps with the script's comments: a text that spells it. There is none where
+/// the script spells another one.
+pub fn plain_of(
+    alloc: Global,
+    script: &[u8],
+    program: &Script,
+    comments: Comments,
+) -> Result<Vec<u8>, Fault>
     ensures spelled { IfOk result (λ text. Spells text.items program.now) }
     ensures fault { IfErr result IsNoRefusal }
 {
-    let Ok((text, starts)) = laid_out(alloc, script, program) else {
-        return Err(Fault::OutOfMemory);
-    };
+    let (text, locations) = printed(alloc, script, comments)?;
     match spells(alloc, &text, program) {
         Ok(true) => Ok(text),
-        Ok(false) => Err(Fault::NoSpelling(misread(alloc, &text, &starts, program))),
+        Ok(false) => Err(Fault::NoSpelling(misread(alloc, &text, &locations, program))),
         Err(_) => Err(Fault::OutOfMemory),
     }
 }
 
-/// The place of the command of this text that is read otherwise than it was, where the commands begin at these offsets.
-fn misread(alloc: Global, text: &[u8], starts: &[usize], program: &Script) -> usize {
+/// The script as it is printed, and where each command is: with the bracket lists of the script, one by one.
+fn printed(
+    alloc: Global,
+    script: &[u8],
+    comments: Comments,
+) -> Result<(Vec<u8>, Vec<Location>), Fault>
+    ensures { IfErr result IsNoRefusal }
+{
+    let located = match locate(alloc, script) {
+        Ok(located) => located,
+        Err(ScriptFault::OutOfMemory) => return Err(Fault::OutOfMemory),
+        Err(_) => return Err(Fault::NoSpelling(0)),
+    };
+    let Ok((text, locations)) = laid_out(alloc, script, &located, comments) else {
+        return Err(Fault::OutOfMemory);
+    };
+    if text.len() > TEXT_LIMIT {
+        return Err(Fault::TooLong);
+    }
+    let commands = Commands {
+        text: script,
+        locations: &located.locations,
+    };
+    let others = Commands {
+        text: &text,
+        locations: &locations,
+    };
+    match first_change(alloc, commands, others) {
+        Ok(None) => {}
+        Ok(Some(place)) => return Err(Fault::NoSpelling(place)),
+        Err(_) => return Err(Fault::OutOfMemory),
+    }
+    Ok((text, locations))
+}
+
+/// The place of the command of this text that is read otherwise than it was.
+fn misread(alloc: Global, text: &[u8], locations: &[Location], program: &Script) -> usize {
     match parse(alloc, text) {
         Ok(other) => first_difference(program.commands(), other.commands()),
-        Err(fault) => place_at(starts, fault.place().unwrap_or(0)),
+        Err(fault) => place_at(locations, fault.place().unwrap_or(0)),
     }
 }
 
 /// The place of the last command that begins at the offset or before it.
-fn place_at(starts: &[usize], offset: usize) -> usize {
-    let begun = starts.iter().take_while(|start| **start <= offset).count();
+fn place_at(locations: &[Location], offset: usize) -> usize {
+    let begun = locations
+        .iter()
+        .take_while(|location| location.start <= offset)
+        .count();
     begun.saturating_sub(1)
 }
 

@@ -2,28 +2,29 @@
 
 use crate::delimiters::{delimiter, push_part};
 use crate::expressions::{push_number, push_tree};
-use crate::lists::Source;
+use crate::lists::Lists;
 use sedck_script::{Part, Pattern, Substitution};
-use std::alloc::AllocError;
+use std::alloc::{AllocError, Global};
 
 /// The text of an expression; none for the empty one.
-pub(crate) fn pattern_text(source: &Source, pattern: &Pattern) -> Result<Vec<u8>, AllocError> {
-    let mut text = Vec::new(source.alloc);
+pub(crate) fn pattern_text(lists: &mut Lists, pattern: &Pattern) -> Result<Vec<u8>, AllocError> {
+    let mut text = Vec::new(lists.alloc);
     if let Pattern::Expr(expression) = pattern {
-        push_tree(expression.body(), source, &mut text)?;
+        push_tree(expression.body(), lists, &mut text)?;
     }
     Ok(text)
 }
 
 /// Adds what `s` takes: delimited parts and flags.
 pub(crate) fn push_substitution(
-    source: &Source,
+    lists: &mut Lists,
     out: &mut Vec<u8>,
     substitution: &Substitution,
 ) -> Result<(), AllocError> {
-    let expression = pattern_text(source, &substitution.pattern)?;
-    let mut literal = Vec::new(source.alloc);
-    let mut fixed = Vec::new(source.alloc);
+    let alloc = lists.alloc;
+    let expression = pattern_text(lists, &substitution.pattern)?;
+    let mut literal = Vec::new(alloc);
+    let mut fixed = Vec::new(alloc);
     push_literals(&mut literal, &substitution.parts, 1)?;
     push_literals(&mut fixed, &substitution.parts, 2)?;
     // References and escapes are of these bytes.
@@ -35,9 +36,9 @@ pub(crate) fn push_substitution(
     };
     out.push(delimiter)?;
     push_part(out, &expression, delimiter)?;
-    push_parts(source, out, &substitution.parts, delimiter)?;
+    push_parts(alloc, out, &substitution.parts, delimiter)?;
     out.push(delimiter)?;
-    push_flags(source, out, substitution)
+    push_flags(alloc, out, substitution)
 }
 
 /// Adds the texts of the replacement that are this long at least.
@@ -92,7 +93,7 @@ fn is_letter(part: &Part) -> bool {
 
 /// Adds the parts of the replacement.
 fn push_parts(
-    source: &Source,
+    alloc: Global,
     out: &mut Vec<u8>,
     parts: &[Part],
     delimiter: u8,
@@ -100,7 +101,7 @@ fn push_parts(
     let mut after_text = false;
     for (place, part) in parts.iter().enumerate() {
         let beside = after_text || is_text(parts.get(place + 1));
-        push_replacement(source, out, part, beside, delimiter)?;
+        push_replacement(alloc, out, part, beside, delimiter)?;
         after_text = is_text(Some(part));
     }
     Ok(())
@@ -108,7 +109,7 @@ fn push_parts(
 
 /// Adds one part of the replacement. Beside another text, one that can be escaped is: each is a text of its own.
 fn push_replacement(
-    source: &Source,
+    alloc: Global,
     out: &mut Vec<u8>,
     part: &Part,
     beside: bool,
@@ -121,7 +122,7 @@ fn push_replacement(
         Part::Whole => Ok(out.push(b'&')?),
         Part::Group(k) => {
             out.push(b'\\')?;
-            push_number(source, out, u32::from(*k))
+            push_number(alloc, out, u32::from(*k))
         }
     }
 }
@@ -154,12 +155,12 @@ fn is_escaped(byte: u8, beside: bool, delimiter: u8) -> bool {
 
 /// Adds the flags: the number, `g`, `p`, and `w` with its name.
 fn push_flags(
-    source: &Source,
+    alloc: Global,
     out: &mut Vec<u8>,
     substitution: &Substitution,
 ) -> Result<(), AllocError> {
     if let Some(n) = substitution.nth {
-        push_number(source, out, n)?;
+        push_number(alloc, out, n)?;
     }
     push_flag(out, substitution.global, b'g')?;
     push_flag(out, substitution.print, b'p')?;
@@ -178,8 +179,8 @@ fn push_flag(out: &mut Vec<u8>, is: bool, flag: u8) -> Result<(), AllocError> {
 }
 
 /// A list of `y`, before its delimiter is escaped.
-fn list_text(source: &Source, bytes: &[u8]) -> Result<Vec<u8>, AllocError> {
-    let mut text = Vec::new(source.alloc);
+fn list_text(alloc: Global, bytes: &[u8]) -> Result<Vec<u8>, AllocError> {
+    let mut text = Vec::new(alloc);
     for byte in bytes {
         match byte {
             b'\\' => text.extend_from_slice(b"\\\\")?,
@@ -192,13 +193,13 @@ fn list_text(source: &Source, bytes: &[u8]) -> Result<Vec<u8>, AllocError> {
 
 /// Adds what `y` takes: two lists.
 pub(crate) fn push_lists(
-    source: &Source,
+    alloc: Global,
     out: &mut Vec<u8>,
     from: &[u8],
     to: &[u8],
 ) -> Result<(), AllocError> {
-    let from = list_text(source, from)?;
-    let to = list_text(source, to)?;
+    let from = list_text(alloc, from)?;
+    let to = list_text(alloc, to)?;
     let delimiter = delimiter(&from, &to, b"");
     out.push(delimiter)?;
     push_part(out, &from, delimiter)?;

@@ -6,7 +6,7 @@ use std::alloc::Global;
 use std::process::Abort;
 
 /// A script, and its plain text.
-static SCRIPTS: [(&'static str, &'static str); 38] = [
+static SCRIPTS: [(&'static str, &'static str); 41] = [
     ("", ""),
     ("#n", "#n\n"),
     ("p;p", "p\np\n"),
@@ -33,30 +33,40 @@ static SCRIPTS: [(&'static str, &'static str); 38] = [
         "s/a\\{0,\\}b\\{2,2\\}c\\{1,\\}d\\{0,1\\}//",
         "s/a*b\\{2\\}c\\{1,\\}d\\{0,1\\}//\n",
     ),
-    ("s/^*[[:digit:]]\\t$x\\$$//", "s/^\\*[0-9]\t\\$x\\$$//\n"),
+    (
+        "s/^*[[:digit:]]\\t$x\\$$//",
+        "s/^\\*[[:digit:]]\t\\$x\\$$//\n",
+    ),
     ("s/\\(^*a\\)b*//", "s/\\(^\\*a\\)b*//\n"),
-    ("s/[]a-c0123\\\\^[-]//", "s/[]0-3abc\\\\[^-]//\n"),
-    ("s/[[:punct:][:space:]x]//", "s/[x[:space:][:punct:]]//\n"),
+    ("s/[]a-c0123\\\\^[-]//", "s/[]a-c0123\\\\^[-]//\n"),
+    ("s/[[:punct:][:space:]x]//", "s/[[:punct:][:space:]x]//\n"),
     ("s/[^[:print:]]//", "s/[^[:print:]]//\n"),
     ("s/[[:cntrl:]]//", "s/[[:cntrl:]]//\n"),
     (
         "s/[[.^.]]//;s/[[.^.]-]//;s/[^-^]//",
-        "s/[[.^.]]//\ns/[-^]//\ns/[^^-]//\n",
+        "s/[[.^.]]//\ns/[[.^.]-]//\ns/[^-^]//\n",
     ),
     (
         "s/[a[:alnum:]_]//;s/[a-zA-Z0-9]//",
-        "s/[_[:alnum:]]//\ns/[0-9A-Za-z]//\n",
+        "s/[a[:alnum:]_]//\ns/[a-zA-Z0-9]//\n",
     ),
-    ("s/[]-]//", "s/[-[.].]]//\n"),
+    ("s/[]-]//", "s/[]-]//\n"),
     (
         "s/[[:blank:]-]//;s/[][:blank:]-]//",
-        "s/[-[:blank:]]//\ns/[-[.].][:blank:]]//\n",
+        "s/[[:blank:]-]//\ns/[][:blank:]-]//\n",
     ),
-    ("s/[[[:alpha:]]//", "s/[[A[:alpha:]]//\n"),
-    ("s/[^]ba[]//;s/[^][\\]//", "s/[^]ab[a]//\ns/[^][\\\\]//\n"),
+    ("s/[[[:alpha:]]//", "s/[[[:alpha:]]//\n"),
+    ("s/[^]ba[]//;s/[^][\\]//", "s/[^]ba[]//\ns/[^][\\]//\n"),
     ("s/a/\\/x\\//", "s,a,\\/x\\/,\n"),
     ("//p;s/a/b/", "//p\ns/a/b/\n"),
-    ("s^[/,:|#%@!~=_;\"]^x^", "s$[!\"#%,/:;=@_|~]$x$\n"),
+    // Lists with the same bytes and other characters, and a list in a comment.
+    ("s/[é£]/1/g;s/[©ã]/2/g", "s/[é£]/1/g\ns/[©ã]/2/g\n"),
+    ("# [[:alpha:]]\ns/[a-zA-Z]/y/", "s/[a-zA-Z]/y/\n"),
+    (
+        "/[ab]/,\\%[b\\%a]%s,\\([a-b]\\)*[ \\t\\,]\\{2\\},[x],",
+        "/[ab]/,/[b%a]/s/\\([a-b]\\)*[ \\t,]\\{2\\}/[x]/\n",
+    ),
+    ("s^[/,:|#%@!~=_;\"]^x^", "s$[/,:|#%@!~=_;\"]$x$\n"),
 ];
 
 fn plain_of(rt: &impl Abort, alloc: Global, text: &[u8]) -> Vec<u8> {
