@@ -1,5 +1,6 @@
 -- From what was explained to the status of what the words ask for.
 use Rattle.std.proofs.Common.{◌≡◌, ℕ, Bool, true, false, List, Option, Some, inl, inr, subst, String}
+use Rattle.std.specs.Prelude.{MatchBool}
 use Rattle.std.specs.declared.alloc.Global.{Global}
 use Rattle.sedck_engines.specs.Opened.{Known}
 use Rattle.sedck_errors.specs.declared.denied.Denied.{Denied}
@@ -10,13 +11,12 @@ use Rattle.sedck_calls_in_files.specs.Scanned.{Holds, IsWorstOf}
 use Rattle.sedck_explain_cli.specs.CallStatus.{HasCallStatus}
 use Rattle.sedck_explain_cli.specs.Readings.{texts_of}
 use Rattle.sedck_explain_cli.specs.Requests.{scripts_of, is_plain, IsRequest}
-use Rattle.sedck_explain_cli.specs.Spelled.{IsIn}
-use Rattle.sedck_explain_cli.specs.Private.Shown.{SpellsFound}
+use Rattle.sedck_explain_cli.specs.Spelled.{IsIn, SpellsScript, SpellsFound, SpellsCall}
 use Rattle.sedck_explain_cli.proofs.Spelled.{found_status}
 use Rattle.sedck_explain_cli.specs.declared.request.Request.{Request}
 use Rattle.sedck_explain_cli.specs.declared.words.Words.{Words}
 use Rattle.sedck_explain_cli.specs.Statuses.{StatusAt}
-use Rattle.sedck_explain_cli.specs.Answers.{call_of, asks_for_help, IsStatusOfCall, HasStatusFor, IsAnswered}
+use Rattle.sedck_explain_cli.specs.Answers.{call_of, asks_for_help, IsStatusOfCall, HasStatusFor, IsAnswered, SpellsGiven, SpellsFor, IsWritten}
 
 -- ---- By what is asked for
 
@@ -35,7 +35,40 @@ pub given_status : (plain : Bool) (k : Known) (denied : Denied) (call : Option (
     → IsIn plain (HasCallStatus k denied words) status → IsIn plain (IsStatusOfCall k denied call) status
 given_status plain k denied call words status is has = rw is has
 
+-- ---- What is written
+
+pub found_spelled : (k : Known) (found : List ℕ → List ℕ → Option Holds) (request : Request) (call : Option (List (List ℕ))) (out : Output) (status : Status)
+    → request.calls ≡ true → SpellsFound k found request.denied (scripts_of request) out status → SpellsFor k found request call out status
+found_spelled k found request call out status calls spells = rw calls spells
+
+pub call_spelled : (k : Known) (found : List ℕ → List ℕ → Option Holds) (request : Request) (call : Option (List (List ℕ))) (out : Output) (status : Status)
+    → request.calls ≡ false → request.sed ≡ true → SpellsGiven k request.denied call out status → SpellsFor k found request call out status
+call_spelled k found request call out status calls sed spells = rw (calls, sed) spells
+
+-- the last of three, where neither of the others is chosen
+last_of : (A B C : Type 0) (first second : Bool) → first ≡ false → second ≡ false → C → MatchBool first A (MatchBool second B C)
+last_of A B C first second one other c = rw (one, other) c
+
+pub script_spelled : (k : Known) (found : List ℕ → List ℕ → Option Holds) (request : Request) (call : Option (List (List ℕ))) (out : Output) (status : Status)
+    → request.calls ≡ false → request.sed ≡ false → SpellsScript k request (scripts_of request) out status → SpellsFor k found request call out status
+script_spelled k found request call out status calls sed spells =
+    last_of (SpellsFound k found request.denied (scripts_of request) out status) (SpellsGiven k request.denied call out status)
+    (SpellsScript k request (scripts_of request) out status) request.calls request.sed calls sed spells
+
+pub given_spelled : (k : Known) (denied : Denied) (call : Option (List (List ℕ))) (words : List (List ℕ)) (out : Output) (status : Status) → call ≡ Some words
+    → SpellsCall k denied words out status → SpellsGiven k denied call out status
+given_spelled k denied call words out status is spells = rw is spells
+
 -- ---- By the words
+
+pub written : (k : Known) (found : List ℕ → List ℕ → Option Holds) (words : Words) (own : List (String Global)) (request : Request) (out : Output) (status : Status)
+    → own ≡ words.own.items → IsRequest (texts_of own) request → (is_plain request.format ≡ true → SpellsFor k found request (call_of words) out status)
+    → IsWritten k found words out status
+written k found words own request out status same is spells = inl (request, subst (λ own. IsRequest (texts_of own) request) same is, spells)
+
+pub help_written : (k : Known) (found : List ℕ → List ℕ → Option Holds) (words : Words) (own : List (String Global)) (out : Output) (status : Status)
+    → own ≡ words.own.items → asks_for_help own ≡ true → IsWritten k found words out status
+help_written k found words own out status same help = inr (subst (λ own. asks_for_help own ≡ true) same help)
 
 pub answered : (k : Known) (found : List ℕ → List ℕ → Option Holds) (words : Words) (own : List (String Global)) (request : Request) (status : Status)
     → own ≡ words.own.items → IsRequest (texts_of own) request → HasStatusFor k found request (call_of words) status

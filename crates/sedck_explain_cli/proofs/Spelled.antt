@@ -24,8 +24,8 @@ use Rattle.sedck_explain_cli.specs.Requests.{certificate_of}
 use Rattle.sedck_explain_cli.specs.Statuses.{IsGiven, StatusAt}
 use Rattle.sedck_explain_cli.specs.declared.request.Request.{Request}
 use Rattle.sedck_explain_cli.proofs.Greatest.{yes_gives_way}
-use Rattle.sedck_explain_cli.specs.Private.Shown.{IsShown, SpellsFound}
-use Rattle.sedck_explain_cli.specs.Spelled.{IsPlainly, IsIn, Copies, WritesSame, IsSpelled, SpellsAt, CopiesCall, SpellsCall}
+use Rattle.sedck_explain_cli.specs.Private.Shown.{IsShown}
+use Rattle.sedck_explain_cli.specs.Spelled.{IsPlainly, IsIn, Copies, WritesSame, IsSpelled, SpellsAt, SpellsFound, CopiesCall, SpellsCall}
 
 -- ---- The status
 

@@ -7,11 +7,12 @@ use Rattle.sedck_engines.specs.Opened.{Known}
 use Rattle.sedck_errors.specs.declared.denied.Denied.{Denied}
 use Rattle.sedck_explanation.specs.declared.status.Status.{Status}
 use Rattle.sedck_explanation.specs.declared.status.Status.TheVariants.{Accepted}
+use Rattle.sedck_formats.specs.Plain.{Output}
 use Rattle.sedck_calls_in_files.specs.Scanned.{Holds, PathStatus, OneStatus, IsWorstOf}
 use Rattle.sedck_explain_cli.specs.CallStatus.{HasCallStatus}
 use Rattle.sedck_explain_cli.specs.Readings.{texts_of, read}
 use Rattle.sedck_explain_cli.specs.Requests.{scripts_of, is_plain, is_plain_name, IsRequest}
-use Rattle.sedck_explain_cli.specs.Spelled.{IsPlainly}
+use Rattle.sedck_explain_cli.specs.Spelled.{IsPlainly, SpellsScript, SpellsFound, SpellsCall}
 use Rattle.sedck_explain_cli.specs.declared.request.Request.{Request}
 use Rattle.sedck_explain_cli.specs.declared.words.Words.{Words}
 use Rattle.sedck_explain_cli.specs.Statuses.{StatusAt}
@@ -72,3 +73,22 @@ abbrev pub IsAnswered : Known → (List ℕ → List ℕ → Option Holds) → W
 IsAnswered k found words status =
     ((request : Request) × IsRequest (own_of words) request × HasStatusFor k found request (call_of words) status)
     ⊎ ((status ≡ Accepted) × (asks_for_help words.own.items ≡ true))
+
+-- ---- What is written in the format `sed`
+
+-- the words of a call are given, and what its script spells is written where it is accepted; else nothing
+abbrev pub SpellsGiven : Known → Denied → Option (List (List ℕ)) → Output → Status → Type 0
+SpellsGiven k denied None out status = ⊥
+SpellsGiven k denied (Some words) out status = SpellsCall k denied words out status
+
+-- so it is of what is asked for: of a call in a file, of the call with these words, or of a script
+abbrev pub SpellsFor : Known → (List ℕ → List ℕ → Option Holds) → Request → Option (List (List ℕ)) → Output → Status → Type 0
+SpellsFor k found request call out status =
+    MatchBool request.calls (SpellsFound k found request.denied (scripts_of request) out status)
+    (MatchBool request.sed (SpellsGiven k request.denied call out status) (SpellsScript k request (scripts_of request) out status))
+
+-- the words are a request, and where it is for that format this is written; or they ask for the help or the version
+abbrev pub IsWritten : Known → (List ℕ → List ℕ → Option Holds) → Words → Output → Status → Type 0
+IsWritten k found words out status =
+    ((request : Request) × IsRequest (own_of words) request × (is_plain request.format ≡ true → SpellsFor k found request (call_of words) out status))
+    ⊎ (asks_for_help words.own.items ≡ true)

@@ -12,6 +12,7 @@ use Rattle.sedck_explanation.specs.declared.explanation.Explanation.{Explanation
 use Rattle.sedck_explanation.specs.declared.status.Status.{Status}
 use Rattle.sedck_explanation.specs.declared.status.Status.TheVariants.{Accepted}
 use Rattle.sedck_formats.specs.Plain.{Output, IsPlainStatus}
+use Rattle.sedck_calls_in_files.specs.Scanned.{Holds, SpellsOne}
 use Rattle.sedck_explain_cli.specs.Requests.{certificate_of}
 use Rattle.sedck_explain_cli.specs.Statuses.{IsGiven}
 use Rattle.sedck_explain_cli.specs.declared.request.Request.{Request}
@@ -52,6 +53,11 @@ pub record SpellsAt (k : Known) (request : Request) (path : List ℕ) (out : Out
 abbrev pub SpellsScript : Known → Request → List (List ℕ) → Output → Status → Type 0
 SpellsScript k request (path ∷ []) out status = SpellsAt k request path out status
 SpellsScript k request _ out status = ⊥
+
+-- where it is accepted a text is written that spells the script of one of the calls that are found in the only file at these paths
+abbrev pub SpellsFound : Known → (List ℕ → List ℕ → Option Holds) → Denied → List (List ℕ) → Output → Status → Type 0
+SpellsFound k found denied (path ∷ []) out status = SpellsOne k found denied path out status
+SpellsFound k found denied _ out status = ⊥
 
 -- the call with these words is accepted, and what its script spells is written, its parts joined
 abbrev pub CopiesCall : Known → Denied → List (List ℕ) → Output → Type 0

@@ -11,7 +11,7 @@ ghost use Rattle.sedck_calls_in_files.specs.Scanned.{IsWorstOf};
 ghost use Rattle.sedck_explain_cli.specs.Requests.{certificate_of, scripts_of, is_plain};
 ghost use Rattle.sedck_explain_cli.specs.Spelled.{IsIn, SpellsCall};
 ghost use Rattle.sedck_explain_cli.specs.Statuses.{HasStatus, StatusAt};
-ghost use Rattle.sedck_explain_cli.specs.Answers.{call_of, asks_for_help, asks_for_plain, is_help as is_help_text, IsStatusOfCall, HasStatusFor, IsAnswered};
+ghost use Rattle.sedck_explain_cli.specs.Answers.{call_of, asks_for_help, asks_for_plain, is_help as is_help_text, IsStatusOfCall, HasStatusFor, IsAnswered, SpellsGiven, SpellsFor, IsWritten};
 
 use crate::calls::explain_words;
 use crate::explaining::{Named, explain_alone, explain_with};
@@ -80,6 +80,8 @@ pub fn program_over<
 ) -> Status
     // The status of what the words ask for, of the bytes of the files at the paths that they name.
     ensures answered { result ≢ Status.Misused → result ≢ Status.Failed → IsAnswered (O.known files.now) (F.found finder.now) words.now result }
+    // In the format `sed` a text that spells the program of the script that was read is written, and nothing else; or nothing.
+    ensures spelled { result ≢ Status.Misused → result ≢ Status.Failed → IsWritten (O.known files.now) (F.found finder.now) words.now (record { before = W.taken out.old; after = W.taken out.new }) result }
     // Invalid arguments write nothing to the output.
     ensures refused { result ≡ Status.Misused → Keeps (W.taken out.old) (W.taken out.new) }
     // Only what has no plain spelling, or isn't accepted, is reported there, where a plain spelling is asked for.
@@ -108,6 +110,7 @@ fn answer<R: Files + Input + AllocGlobal + Clone + Drop, O: Opener, F: Finder, W
     err: &mut E,
 ) -> Status
     ensures status { result ≢ Status.Misused → result ≢ Status.Failed → HasStatusFor (O.known session.now.files.now) (F.found session.now.finder.now) session.now.request.now (call_of words.now) result }
+    ensures spelled { result ≢ Status.Misused → result ≢ Status.Failed → is_plain session.now.request.now.format ≡ true → SpellsFor (O.known session.now.files.now) (F.found session.now.finder.now) session.now.request.now (call_of words.now) (record { before = W.taken out.old; after = W.taken out.new }) result }
     ensures refused { result ≡ Status.Misused → Keeps (W.taken out.old) (W.taken out.new) }
     ensures silent { result ≢ Status.Misused → result ≢ Status.Failed → (is_plain session.now.request.now.format ≡ false) ⊎ (result ≡ Status.Accepted) → Keeps (E.taken err.old) (E.taken err.new) }
 {
@@ -159,6 +162,7 @@ fn answer_plainly<
 >(session: &Session<R, O, F>, words: &Words, out: &mut W, err: &mut E) -> Status
     requires { is_plain session.now.request.now.format ≡ true }
     ensures status { result ≢ Status.Misused → result ≢ Status.Failed → HasStatusFor (O.known session.now.files.now) (F.found session.now.finder.now) session.now.request.now (call_of words.now) result }
+    ensures spelled { result ≢ Status.Misused → result ≢ Status.Failed → SpellsFor (O.known session.now.files.now) (F.found session.now.finder.now) session.now.request.now (call_of words.now) (record { before = W.taken out.old; after = W.taken out.new }) result }
     ensures refused { result ≡ Status.Misused → Keeps (W.taken out.old) (W.taken out.new) }
     ensures silent { result ≡ Status.Accepted → Keeps (E.taken err.old) (E.taken err.new) }
 {
@@ -179,6 +183,7 @@ fn explain_given<R: Input + AllocGlobal, O: Opener, F, W: Sink, E: Sink>(
     err: &mut E,
 ) -> Status
     ensures status { result ≢ Status.Misused → result ≢ Status.Failed → IsIn (is_plain session.now.request.now.format) (IsStatusOfCall (O.known session.now.files.now) session.now.request.now.denied (call_of words.now)) result }
+    ensures spelled { result ≢ Status.Misused → result ≢ Status.Failed → is_plain session.now.request.now.format ≡ true → SpellsGiven (O.known session.now.files.now) session.now.request.now.denied (call_of words.now) (record { before = W.taken out.old; after = W.taken out.new }) result }
     ensures refused { result ≡ Status.Misused → Keeps (W.taken out.old) (W.taken out.new) }
     ensures silent { result ≢ Status.Misused → result ≢ Status.Failed → (is_plain session.now.request.now.format ≡ false) ⊎ (result ≡ Status.Accepted) → Keeps (E.taken err.old) (E.taken err.new) }
 {

@@ -4,7 +4,7 @@ ghost use Rattle.std.specs.Prelude.{◌≡◌, ◌≢◌};
 ghost use Rattle.std.specs.Io.KnownBytes.{Keeps};
 ghost use Rattle.sedck_calls_in_files.specs.Scanned.{PathStatus, IsWorstOf};
 ghost use Rattle.sedck_explain_cli.specs.Requests.{scripts_of};
-ghost use Rattle.sedck_explain_cli.specs.Private.Shown.{SpellsFound};
+ghost use Rattle.sedck_explain_cli.specs.Spelled.{SpellsFound};
 
 use crate::format::Format;
 use crate::request::Request;
