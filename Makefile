@@ -60,6 +60,7 @@ explain-tests: build probe
 	python3 tests/hints.py build/sedck-explain build/sedck
 	python3 tests/fixes.py build/sedck-explain
 	python3 tests/parts.py crates/sedck_probe/out/sedck_probe
+	python3 tests/locales.py build/sedck-explain
 
 # `sedck_probe --twice` makes one call twice, also those that sedck doesn't show; the library refuses one request for memory of the program that it is loaded into.
 refusals: build probe build/refuse.so
@@ -85,8 +86,9 @@ calls-tests: build
 	python3 tests/attacks.py build/sedck-explain
 
 wrapper-tests: build
-	@echo "Testing the sed that has its calls judged ..."
+	@echo "Testing the sed that has its calls judged, and the formatter ..."
 	python3 tests/wrapper.py build/sedck-explain
+	python3 tests/formatter.py build/sedck-explain
 
 bench: build
 	@echo "Measuring build/sedck and build/sedck-explain (bench/run.py prints the tables of docs/BENCH.md) ..."
@@ -125,14 +127,16 @@ probe:
 	cd crates/sedck_probe && $(RT) run -- --places ../../examples/end-mark.sed > /dev/null
 
 install: build
-	@echo "Installing sedck, sedck-explain, sedck-sed, their manual pages and the pages on loops, faults and calls under $(PREFIX) ..."
+	@echo "Installing sedck, sedck-explain, sedck-fmt, sedck-sed, their manual pages and the pages on loops, faults and calls under $(PREFIX) ..."
 	install -d $(DESTDIR)$(PREFIX)/bin $(DESTDIR)$(PREFIX)/libexec/sedck $(DESTDIR)$(PREFIX)/share/man/man1 $(DESTDIR)$(PREFIX)/share/man/man5 $(DESTDIR)$(PREFIX)/share/doc/sedck
 	install -m 755 build/sedck $(DESTDIR)$(PREFIX)/bin/sedck
 	install -m 755 build/sedck-explain $(DESTDIR)$(PREFIX)/bin/sedck-explain
+	install -m 755 wrapper/sedck-fmt $(DESTDIR)$(PREFIX)/bin/sedck-fmt
 	install -m 755 wrapper/sedck-sed $(DESTDIR)$(PREFIX)/bin/sedck-sed
 	install -m 755 wrapper/sed $(DESTDIR)$(PREFIX)/libexec/sedck/sed
 	install -m 644 man/sedck.1 $(DESTDIR)$(PREFIX)/share/man/man1/sedck.1
 	install -m 644 man/sedck-explain.1 $(DESTDIR)$(PREFIX)/share/man/man1/sedck-explain.1
+	install -m 644 man/sedck-fmt.1 $(DESTDIR)$(PREFIX)/share/man/man1/sedck-fmt.1
 	install -m 644 man/sedck-sed.1 $(DESTDIR)$(PREFIX)/share/man/man1/sedck-sed.1
 	install -m 644 man/sedck.5 $(DESTDIR)$(PREFIX)/share/man/man5/sedck.5
 	install -m 644 docs/MENDING.md $(DESTDIR)$(PREFIX)/share/doc/sedck/MENDING.md

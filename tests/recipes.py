@@ -45,7 +45,7 @@ class LeftOut(Exception):
 
 
 class Scratch:
-    """A folder with the programs sedck, sedck-explain and sedck-sed on the path."""
+    """A folder with the programs sedck, sedck-explain, sedck-fmt and sedck-sed on the path."""
     def __init__(self, sedck, explain):
         self.sedck, self.explain = sedck, explain
 
@@ -57,7 +57,8 @@ class Scratch:
         shutil.copy(self.sedck, os.path.join(self.whole.name, "bin", "sedck"))
         shutil.copy(self.explain, os.path.join(self.whole.name, "bin", "sedck-explain"))
         os.makedirs(os.path.join(self.whole.name, "libexec", "sedck"))
-        shutil.copy(os.path.join(TOP, "wrapper", "sedck-sed"), os.path.join(self.whole.name, "bin"))
+        for name in ("sedck-fmt", "sedck-sed"):
+            shutil.copy(os.path.join(TOP, "wrapper", name), os.path.join(self.whole.name, "bin"))
         shutil.copy(os.path.join(TOP, "wrapper", "sed"), os.path.join(self.whole.name, "libexec", "sedck"))
         self.environment = {"PATH": os.path.join(self.whole.name, "bin") + ":" + os.environ["PATH"], "HOME": self.whole.name, "LC_ALL": "C"}
         return self
@@ -298,6 +299,16 @@ def hook_of_calls(scratch):
     holds(asked == names[:-3], "the hook is asked of %s" % asked)
 
 
+def hook_of_forms(scratch):
+    """The hook sedck-fmt: a script that isn't in its plain spelling fails and is named, and so does one that isn't accepted."""
+    hook = {hook["id"]: hook for hook in yaml.safe_load(read(".pre-commit-hooks.yaml"))}["sedck-fmt"]
+    for name, text, status, said in (("a.sed", "# x\np\n", 0, ""), ("-h.sed", "p\n", 0, ""), ("b.sed", "p;p\n", 1, "b.sed\n"), ("-n.sed", "p # x\n", 1, "./-n.sed\n")):
+        scratch.write(name, text)
+        holds(scratch.run(status, *shlex.split(hook["entry"]), name) == said, "of %s something else is said" % name)
+    scratch.write("c.sed", ENDLESS)
+    holds("c.sed:" in scratch.run(2, *shlex.split(hook["entry"]), "a.sed", "c.sed"), "a loop isn't named")
+
+
 def pre_commit(scratch):
     hooks = {hook["id"]: hook for hook in yaml.safe_load(read(".pre-commit-hooks.yaml"))}
     used = yaml.safe_load(block("A hook", "yaml"))["repos"][0]["hooks"]
@@ -322,7 +333,7 @@ def pre_commit(scratch):
 
 
 # Each recipe with the programs that it needs.
-RECIPES = [(make_check, "make"), (pre_commit, "yaml"), (hook_of_calls, "yaml"), (step, "curl sha256sum tar"), (certificates, ""), (makefile, "make sed"),
+RECIPES = [(make_check, "make"), (pre_commit, "yaml"), (hook_of_calls, "yaml"), (hook_of_forms, "yaml"), (step, "curl sha256sum tar"), (certificates, ""), (makefile, "make sed"),
            (in_place, "sed"), (inline, "sed"), (vim, "vim"), (fewer, ""), (stranger, "sed")]
 
 

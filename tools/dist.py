@@ -19,11 +19,11 @@ from pathlib import Path
 import planted
 
 TOP = Path(__file__).resolve().parent.parent
-PACKED = {"bin/sedck": "build/sedck", "bin/sedck-explain": "build/sedck-explain", "bin/sedck-sed": "wrapper/sedck-sed",
-          "libexec/sedck/sed": "wrapper/sed"}
+PACKED = {"bin/sedck": "build/sedck", "bin/sedck-explain": "build/sedck-explain", "bin/sedck-fmt": "wrapper/sedck-fmt",
+          "bin/sedck-sed": "wrapper/sedck-sed", "libexec/sedck/sed": "wrapper/sed"}
 PROGRAMS = tuple(PACKED)
 PACKED.update({name: name for name in ["README.md", "docs/TRUST.md", "docs/MENDING.md", "docs/FAULTS.md", "docs/CALLS.md",
-                                       "man/sedck.1", "man/sedck-explain.1", "man/sedck-sed.1", "man/sedck.5"]})
+                                       "man/sedck.1", "man/sedck-explain.1", "man/sedck-fmt.1", "man/sedck-sed.1", "man/sedck.5"]})
 
 
 def name_of(rt):
