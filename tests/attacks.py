@@ -164,7 +164,31 @@ VALUES = [Row("a value that is set " + how, before + 'sed "$s" f\n', run, WRITES
     ("again by builtin read", "s=p\nbuiltin read s < es\n", "bash a.sh"),
     ("again by command -p read", "s=p\ncommand -p read s < es\n", "sh a.sh"),
     ("again by an alias", "s=p\nalias change='s=\"w evil\"'\nchange\n", "sh a.sh"),
-]] + [Row("a value that is set behind the call", 'sed "$s" f\ns=p\n', GIVEN, WRITES)]
+    ("before by readonly", "readonly s\ns=p\n", "s='w evil' bash a.sh"),
+    ("again by command -- read", "s=p\ncommand -- read s < es\n", "sh a.sh"),
+    ("again by builtin -- read", "s=p\nbuiltin -- read s < es\n", "bash a.sh"),
+    ("again by read -as", "s=p\nIFS= read -as < es\n", "bash a.sh"),
+    ("beside a redirection that fails", "s=p < missing\n", "s='w evil' dash a.sh"),
+    ("again by nameref", "s=p\nnameref r=s\nr='w evil'\n", "ksh a.sh"),
+    ("again by set -A", "s=p\nset -A s 'w evil'\n", "ksh a.sh"),
+    ("again by a discipline", "s=p\nfunction s.get { .sh.value='w evil'; }\n", "ksh a.sh"),
+    ("again by ${ }", "s=p\n: ${ s='w evil'; }\n", "ksh a.sh"),
+    ("again by print -v", "s=p\nprint -v s 'w evil'\n", "zsh a.sh"),
+    ("again by ${::=}", "s=p\n: ${s::='w evil'}\n", "zsh a.sh"),
+]] + [Row("a value that is set behind the call", 'sed "$s" f\ns=p\n', GIVEN, WRITES)
+] + [Row("a number that is set " + how, "s=1\n" + before + 'sed ":a;s/ab\\{$s\\}/a/;ta" f\n', run, LOOPS) for how, before, run in [
+    ("in an expression of two lines", "((\ns=0\n))\n", "bash a.sh"),
+    ("in an expression between brackets", ": $[s=0]\n", "bash a.sh"),
+    ("in the length of a part", "x=a\n: ${x:s=0:1}\n", "bash a.sh"),
+    ("in the index of an array", "a[s=0]=x\n", "bash a.sh"),
+    ("in a comparison", "[[ s=0 -eq 0 ]]\n", "bash a.sh"),
+    ("behind other parentheses", "x=$(( ((1)) + (s=0) ))\n", "bash a.sh"),
+    ("by test -v", "test -v 'y[s=0]'\n", "bash a.sh"),
+    ("by unset", "y=(a)\nunset 'y[s=0]'\n", "bash a.sh"),
+    ("by a number of the environment", "n=$((n+1))\n", "n=s=0 bash a.sh"),
+    ("by another variable's text", "x='s=0'\n: $((x))\n", "bash a.sh"),
+]] + [Row("a variable of the shell, %s" % name, '%s=p\nsed "$%s" f\n' % (name, name), "bash a.sh", REFUSED)
+      for name in ("BASH_VERSINFO", "BASHPID", "BASH_SUBSHELL")]
 VALUES_OF_MAKE = [Row("a value of make that is set " + how, before + "all:\n\t@sed '$(X)' f\n", run, WRITES, "Makefile", {"conf.mk": "X = w evil\n"})
                   for how, before, run in [
     ("by ?=", "X ?= p\n", "X='w evil' make"),
@@ -173,7 +197,10 @@ VALUES_OF_MAKE = [Row("a value of make that is set " + how, before + "all:\n\t@s
     ("again by its name", "N = X\nX = p\n$(N) = w evil\n", "make"),
     ("behind ifdef", "ifdef Y\nX = p\nendif\n", "X='w evil' make"),
 ]] + [Row("a value of make that is set again on the command line", "X = p\nall:\n\t@sed '$(X)' f\n", "make 'X=w evil'", WRITES, "Makefile",
-          due=FOUND, warning="known-value")]
+          due={"accepted-if"}),
+     Row("a value of make that is set again by foreach", "X = p\nrun = sed '$(X)' f\nall:\n\t@$(foreach X,wevil,$(run))\n", "make", WRITES, "Makefile"),
+     Row("a value of make that is set again by the environment", "X = p\nall:\n\t@sed '$(X)' f\n", "MAKEFILES=conf.mk make", WRITES, "Makefile",
+         {"conf.mk": "override X = w evil\n"})]
 
 # ---- Calls that are there
 
@@ -231,7 +258,8 @@ INNOCENT = [Row("innocent: %r" % text, text, due=ACCEPTED) for text in [
     "cmd | sed p\n",
     "find . -exec sed -n p {} \\;\n",
     "sed -f - <<'E'\np\nE\n",
-]] + [Row("innocent: a value that is set once", 'a=u\nsed "s/$a/b/" f\n', due=ACCEPTED, warning="known-value")]
+]] + [Row("innocent: a value that is given", 'sed "s/$a/b/" f\n', options=("--assume", "a=u"), due=ACCEPTED, warning="known-value"),
+      Row("a value that is set once", 'a=u\nsed "s/$a/b/" f\n', due={"accepted-if"})]
 
 ROWS = CONDITIONS + OTHER_WORDS + VALUES + VALUES_OF_MAKE + RECALL + INNOCENT
 
@@ -421,7 +449,8 @@ def long_files():
         took, peak = used.ru_utime + used.ru_stime, used.ru_maxrss / 1000
         shown = "%s: status %d, %.1f s of processor time, %d MB, %r" % (name, run.returncode, took, peak, said[-200:])
         is_refused = may_be_refused and (run.returncode == 4 and b"it has more than" in said or run.returncode == 5)
-        if run.returncode != 0 and not is_refused or took >= seconds or peak >= MEGABYTES:
+        # A value that the file sets is a condition.
+        if run.returncode not in (0, 5) and not is_refused or took >= seconds or peak >= MEGABYTES:
             fail(shown)
         else:
             print("attacks: " + shown)

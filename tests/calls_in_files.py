@@ -95,18 +95,23 @@ ROWS = [
     ("a.sh", [], 'sed ":x;s/$a/b/;bx"\n', 1, [("1:1", LOOP, None)]),
     ("a.sh", [], 'sed "# $x\np"\n', 5, [("1:1", IF, None)]),
     # Values.
-    ("a.sh", [], 'a=u\nsed "s/$a/b/"\n', 0, [("2:1", A, ["s/u/b/"])]),
-    ("a.sh", [], 'a=u\nif c; then sed "s/$a/b/"; fi\nf() { sed "s/$a/c/"; }\n', 0, [("2:12", A, ["s/u/b/"]), ("3:7", A, ["s/u/c/"])]),
-    ("a.sh", [], 'f() { a=u; sed "s/$a/b/"; }\nsed "s/$a/b/"\n', 5, [("1:12", A, ["s/u/b/"]), ("2:1", IF, None)]),
-    ("a.sh", [], 'a=u\nsed "s/$a/b/"\n. ./c\nsed "s/$a/b/"\n', 5, [("2:1", A, ["s/u/b/"]), ("4:1", IF, None)]),
-    ("a.sh", [], 'a=u\nf() { sed "s/$a/b/"; }\n. ./c\n', 5, [("2:7", IF, None)]),
+    ("a.sh", [], 'a=u\nsed "s/$a/b/"\n', 5, [("2:1", IF, ["s/u/b/"])]),
+    ("a.sh", [], 'a=\nsed "s/$a$a/b/"\nsed p f\n', 2, [("2:1", REFUSED, ["s//b/"]), ("3:1", A, ["p", "f"])]),
+    ("a.sh", [], 'a=u\nsed ":x;s/$a/$a/;tx"\n', 1, [("2:1", LOOP, [":x;s/u/u/;tx"])]),
+    ("a.sh", [], 'a=u\nif c; then sed "s/$a/b/"; fi\nf() { sed "s/$a/c/"; }\n', 5, [("2:12", IF, ["s/u/b/"]), ("3:7", IF, ["s/u/c/"])]),
+    ("a.sh", [], 'f() { a=u; sed "s/$a/b/"; }\nsed "s/$a/b/"\n', 5, [("1:12", IF, ["s/u/b/"]), ("2:1", IF, ["s/x/b/"])]),
+    ("a.sh", [], 'a=u\nsed "s/$a/b/"\n. ./c\nsed "s/$a/b/"\n', 5, [("2:1", IF, ["s/u/b/"]), ("4:1", IF, ["s/x/b/"])]),
+    ("a.sh", [], 'a=u\nf() { sed "s/$a/b/"; }\n. ./c\n', 5, [("2:7", IF, ["s/x/b/"])]),
     ("a.sh", [], 'if c; then a=u; fi\nb && a2=u\n(a3=u)\na4=u | c\na5=u &\nwhile c; do a6=u; done\n{ a7=u; }\ncase c in c) a8=u;; esac\n' + "".join('sed "s/$a%s/b/"\n' % n for n in ("", 2, 3, 4, 5, 6, 7, 8)), 5, [("%d:1" % line, IF, None) for line in range(9, 17)]),
     ("a.sh", [], 'a=u\na=v\nsed "s/$a/b/"\n', 5, [("3:1", IF, None)]),
     ("a.sh", [], 'a=u\nread a\nsed "s/$a/b/"\n', 5, [("3:1", IF, None)]),
     ("a.sh", [], "a=u; bash -c 'sed \"s/$a/b/\"'\n", 5, [("1:15", IF, None)]),
     ("a.sh", ["--assume", "a=u"], 'sed "s/$a/b/"\n', 0, [("1:1", A, ["s/u/b/"])]),
     ("a.sh", ["--assume", "a=u/"], 'sed "s/$a/b/"\n', 2, [("1:1", REFUSED, ["s/u//b/"])]),
-    ("a.sh", [], "SED='sed -n'\n$SED p\n", 0, [("2:1", A, ["-n", "p"])]),
+    ("a.sh", ["--assume", "a=u"], 'a=v\nb=w\nsed "s/$a/b/"\nsed "s/$a/$b/"\n', 5, [("3:1", A, ["s/u/b/"]), ("4:1", IF, ["s/u/w/"])]),
+    ("a.sh", [], "SED='sed -n'\n$SED p\n\"$SED\" d\n", 5, [("2:1", IF, ["-n", "p"])]),
+    ("a.sh", [], "SED=sed\n$SED p\n\"$SED\" d\n", 5, [("2:1", IF, ["p"]), ("3:1", A, ["d"])]),
+    ("a.sh", ["--assume", "SED=sed -n"], "$SED p\n", 0, [("1:1", A, ["-n", "p"])]),
     ("a.sh", [], "SED=sed\nSED='sed -E'\n$SED p\n\"$SED\" p\n", 5, [("3:1", IF, ["p"]), ("4:1", A, ["p"])]),
     # What is refused, rejected or not judged.
     ("a.sh", [], "sed 's/a' f\n", 2, [("1:1", REFUSED, ["s/a", "f"])]),
@@ -261,11 +266,18 @@ def places():
 def values():
     """Each variable that is followed is listed, with where its value comes from."""
     status, calls, _ = explained("a=u\nb=\nsed \"s/$a/$c$b/\" f\n", "a.sh", "--assume", "c=v")
-    if status != 0 or any(finding["level"] != "warning" for finding in calls[0]["findings"] if finding["code"] == "known-value"):
+    if status != 5 or any(finding["level"] != "warning" for finding in calls[0]["findings"] if finding["code"] == "known-value"):
         fail("values: %d %s" % (status, calls))
     got = [finding["message"] for finding in calls[0]["findings"] if finding["code"] == "known-value"]
-    if got != ['"$a" has the value that line 1 sets', '"$c" has the value that is assumed', '"$b" is empty: so the file sets it']:
+    if got != ['the answer holds if "$a" has the value that line 1 sets', '"$c" has the value that is assumed', 'the answer holds if "$b" is empty, as the file sets it']:
         fail("values: %s" % got)
+    # What a value makes of a script is a part of the condition: no plain spelling is written.
+    with tempfile.TemporaryDirectory() as folder:
+        Path(folder, "a.sh").write_text("a=u\nsed \"s/$a/b/\" f\nsed \"s/$c/b/\" f\n")
+        for line, given, due, text in ((2, [], 5, b""), (3, ["--assume", "c=u"], 0, b"s/u/b/\n"), (2, ["--assume", "a=u"], 0, b"s/u/b/\n")):
+            got = run(folder, "--format", "sed", *given, "--at", str(line), "--calls", "a.sh")
+            if got[:2] != (due, text) or bool(got[2]) == (due == 0):
+                fail("values: the spelling of line %d with %s: %s" % (line, given, got))
 
 
 def refused_words():

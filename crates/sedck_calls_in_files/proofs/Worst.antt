@@ -7,12 +7,12 @@ use Rattle.sedck_explanation.specs.declared.status.Status.{Status}
 use Rattle.sedck_explanation.specs.declared.status.Status.TheVariants.{Accepted}
 use Rattle.sedck_explanation.specs.declared.explanation.Explanation.{Explanation}
 use Rattle.sedck_find.specs.declared.found.FoundCall.{FoundCall}
-use Rattle.sedck_calls_in_files.specs.Judged.{IsSaidOf, denied_of}
+use Rattle.sedck_calls_in_files.specs.Judged.{IsSaidOfFound}
 use Rattle.sedck_calls_in_files.specs.Scanned.{IsWorst, IsWorstOf}
 
 -- one call more
 worst_snoc : (file : List ℕ) (denied : Denied) (known : Status) (calls : List FoundCall) (found : FoundCall) (status : Status) (e : Explanation)
-    → IsWorst file denied known calls status → IsSaidOf file (denied_of found denied) found.words.items found.script e
+    → IsWorst file denied known calls status → IsSaidOfFound file denied found e
     → IsWorst file denied known (calls ++ found ∷ []) (worse status e.status)
 worst_snoc file denied known [] found status e worst said = (e, said, ap (λ s. worse s e.status) worst)
 worst_snoc file denied known (first ∷ calls) found status e worst said =
@@ -20,7 +20,7 @@ worst_snoc file denied known (first ∷ calls) found status e worst said =
 
 pub next_worst : (file : List ℕ) (denied : Denied) (known : Status) (calls : List FoundCall) (i : ℕ) (d : FoundCall) (status : Status) (e : Explanation)
     → i < length calls → IsWorst file denied known (take i calls) status
-    → IsSaidOf file (denied_of (get_or calls i d) denied) (get_or calls i d).words.items (get_or calls i d).script e
+    → IsSaidOfFound file denied (get_or calls i d) e
     → IsWorst file denied known (take (i + 1) calls) (worse status e.status)
 next_worst file denied known calls i d status e within worst said =
     subst (λ front. IsWorst file denied known front (worse status e.status)) (sym (take_more calls i d within))

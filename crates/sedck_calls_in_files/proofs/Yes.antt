@@ -10,12 +10,13 @@ use Rattle.sedck_explanation.specs.Status.{is_accepted}
 use Rattle.sedck_explanation.specs.declared.status.Status.{Status}
 use Rattle.sedck_explanation.specs.declared.explanation.Explanation.{Explanation}
 use Rattle.sedck_explanation.specs.declared.status.Status.TheVariants as exit
+use Rattle.sedck_find.specs.declared.found.FoundCall.{FoundCall}
 use Rattle.sedck_find.specs.declared.found.FoundScript.{FoundScript}
 use Rattle.sedck_find.specs.declared.found.OpenHole.{OpenHole}
 use Rattle.sedck_find.specs.declared.found.FoundScript.TheVariants.{Text, Foreign, Refused, Unknown}
 use Rattle.sedck_origin.specs.Traced.{has_hole}
 use Rattle.sedck_origin.specs.declared.origin.Traced.{Traced}
-use Rattle.sedck_calls_in_files.specs.Judged.{words_of, is_in_file, is_open, status_with, IsUnjudged, IsJudged, IsSaidOfCall, IsSaidOfText, IsSaidOf, IsAcceptedText, IsAcceptedScript}
+use Rattle.sedck_calls_in_files.specs.Judged.{words_of, is_in_file, is_open, status_with, IsUnjudged, IsJudged, IsSaidOfCall, IsSaidOfText, IsSaidOf, IsSaidOfFound, IsAcceptedText, IsAcceptedScript, IsAcceptedFound, denied_of, has_set}
 
 by_test : (b : Bool) (A B : Type 0) → MatchBool b A B → ((b ≡ true) × A) ⊎ ((b ≡ false) × B)
 by_test true A B holds = inl (refl, holds)
@@ -88,9 +89,18 @@ yes_of_text : (file : List ℕ) (denied : Denied) (words : List Traced) (text : 
 yes_of_text file denied words text holes e (inl known) is = yes_of_call file denied words known.0 text holes e known.1 known.2 is
 yes_of_text file denied words text holes e (inr none) is = absurd (yes_is_judged exit.Unknown e refl none.1 is)
 
-pub yes_of_found : (file : List ℕ) (denied : Denied) (words : List Traced) (script : FoundScript) (e : Explanation)
+yes_of_script : (file : List ℕ) (denied : Denied) (words : List Traced) (script : FoundScript) (e : Explanation)
     → IsSaidOf file denied words script e → e.status ≡ exit.Accepted → IsAcceptedScript file denied words script
-yes_of_found file denied words (Text call text holes) e said is = yes_of_text file denied words text holes.items e said is
-yes_of_found file denied words (Foreign call) e said is = absurd (yes_is_judged exit.Refused e refl said is)
-yes_of_found file denied words (Refused fault) e said is = absurd (yes_is_judged exit.Refused e refl said is)
-yes_of_found file denied words (Unknown why) e said is = absurd (yes_is_judged exit.Unknown e refl said is)
+yes_of_script file denied words (Text call text holes) e said is = yes_of_text file denied words text holes.items e said is
+yes_of_script file denied words (Foreign call) e said is = absurd (yes_is_judged exit.Refused e refl said is)
+yes_of_script file denied words (Refused fault) e said is = absurd (yes_is_judged exit.Refused e refl said is)
+yes_of_script file denied words (Unknown why) e said is = absurd (yes_is_judged exit.Unknown e refl said is)
+
+pub yes_of_found : (file : List ℕ) (denied : Denied) (found : FoundCall) (e : Explanation)
+    → IsSaidOfFound file denied found e → e.status ≡ exit.Accepted → IsAcceptedFound file denied found
+yes_of_found file denied found e said is =
+    let known = yes_is_known (has_set found.followed.items) said.before.status (sym said.is_status ∙ is) in
+    record {
+      accepted = yes_of_script file (denied_of found denied) found.words.items found.script said.before said.is_said known.1;
+      unset = known.0;
+    }

@@ -17,8 +17,11 @@ use Rattle.sedck_explanation.specs.declared.status.Status.{Status}
 use Rattle.sedck_explanation.specs.declared.answer.Answer.TheVariants.{NotJudged}
 use Rattle.sedck_explanation.specs.declared.explanation.Explanation.{Explanation}
 use Rattle.sedck_explanation.specs.declared.status.Status.TheVariants as exit
+use Rattle.sedck_find.specs.declared.found.Followed.{Followed}
 use Rattle.sedck_find.specs.declared.found.FoundCall.{FoundCall}
 use Rattle.sedck_find.specs.declared.found.FoundScript.{FoundScript}
+use Rattle.sedck_find.specs.declared.found.KnownValue.{KnownValue}
+use Rattle.sedck_find.specs.declared.found.KnownValue.TheVariants as value
 use Rattle.sedck_find.specs.declared.found.OpenHole.{OpenHole}
 use Rattle.sedck_find.specs.declared.found.FoundScript.TheVariants.{Text, Foreign, Refused, Unknown}
 use Rattle.sedck_origin.specs.Traced.{is_traced, has_hole}
@@ -107,6 +110,24 @@ IsSaidOf file denied words (Foreign call) e = IsUnjudged exit.Refused e
 IsSaidOf file denied words (Refused fault) e = IsUnjudged exit.Refused e
 IsSaidOf file denied words (Unknown why) e = IsUnjudged exit.Unknown e
 
+-- ---- Values that the file sets
+
+-- it isn't one that was given with the call of the program
+abbrev pub is_set : KnownValue → Bool
+is_set value.Given = false
+is_set _ = true
+
+-- one of these variables is replaced by a value that the file sets
+abbrev pub has_set : List Followed → Bool
+has_set followed = list_any (λ one. is_set one.value) followed
+
+-- What is said of a call that was found: what is said of its words and its script; but it is no yes where a value that the file sets is put in.
+pub record IsSaidOfFound (file : List ℕ) (denied : Denied) (found : FoundCall) (e : Explanation) : Type 0 where
+  pub before : Explanation
+  pub is_said : IsSaidOf file (denied_of found denied) found.words.items found.script before
+  pub agrees : Agrees before e
+  pub is_status : e.status ≡ status_with (has_set found.followed.items) before.status
+
 -- ---- A yes
 
 -- The call is accepted: its words are a call, none of whose options changes the language; the file has the words and the script where
@@ -126,3 +147,8 @@ pub record IsAcceptedText (file : List ℕ) (denied : Denied) (words : List Trac
 abbrev pub IsAcceptedScript : List ℕ → Denied → List Traced → FoundScript → Type 0
 IsAcceptedScript file denied words (Text call text holes) = IsAcceptedText file denied words text holes.items
 IsAcceptedScript file denied words _ = ⊥
+
+-- so has a call that was found, and no value that the file sets is put in
+pub record IsAcceptedFound (file : List ℕ) (denied : Denied) (found : FoundCall) : Type 0 where
+  pub accepted : IsAcceptedScript file (denied_of found denied) found.words.items found.script
+  pub unset : has_set found.followed.items ≡ false

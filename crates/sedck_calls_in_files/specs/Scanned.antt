@@ -10,7 +10,7 @@ use Rattle.sedck_explanation.specs.declared.explanation.Explanation.{Explanation
 use Rattle.sedck_formats.specs.Plain.{Output, IsPlainStatus, IsPlainOutput}
 use Rattle.sedck_find.specs.declared.found.Found.{Found}
 use Rattle.sedck_find.specs.declared.found.FoundCall.{FoundCall}
-use Rattle.sedck_calls_in_files.specs.Judged.{IsSaidOf, denied_of}
+use Rattle.sedck_calls_in_files.specs.Judged.{IsSaidOfFound}
 
 -- ---- The calls of a file
 
@@ -18,7 +18,7 @@ use Rattle.sedck_calls_in_files.specs.Judged.{IsSaidOf, denied_of}
 abbrev pub IsWorst : List ℕ → Denied → Status → List FoundCall → Status → Type 0
 IsWorst file denied known [] status = status ≡ known
 IsWorst file denied known (found ∷ more) status =
-    (e : Explanation) × IsSaidOf file (denied_of found denied) found.words.items found.script e × IsWorst file denied (worse known e.status) more status
+    (e : Explanation) × IsSaidOfFound file denied found e × IsWorst file denied (worse known e.status) more status
 
 -- what is held to be in a file: the calls, and the offsets of what isn't understood
 pub record Holds : Type 0 where
@@ -57,7 +57,7 @@ pub record IsSaidOfOne (known : Option Holds) (denied : Denied) (text : List ℕ
   pub is_found : IfSome known (IsFound found)
   pub call : FoundCall
   pub is_one : Contains found.calls.items call
-  pub is_said : IsSaidOf text (denied_of call denied) call.words.items call.script explanation
+  pub is_said : IsSaidOfFound text denied call explanation
 
 -- and so of one in the file at a path
 pub record IsSaidIn (k : Known) (found : List ℕ → List ℕ → Option Holds) (denied : Denied) (path : List ℕ) (explanation : Explanation) : Type 0 where

@@ -25,6 +25,9 @@ const DASHES: &str =
 /// How a call says which sed runs.
 const NAMED: &str = "write the name of the sed, or quote the variable that has it";
 
+/// How a value that the file sets is made sure of.
+const VALUE: &str = "write the value in its place, or give it with --assume NAME=VALUE";
+
 /// A warning for each hole: what its value may not have, so that the answer holds.
 pub(crate) fn open_warnings(
     alloc: Global,
@@ -93,23 +96,35 @@ fn value_note(
 {
     let written = shown_part(alloc, file, followed.start, followed.end)?;
     let message = value_words(alloc, written.as_str(), followed.value)?;
-    let mut finding = call_finding(alloc, Level::Warning, Code::KnownValue, message, None);
+    let hint = value_hint(followed.value);
+    let mut finding = call_finding(alloc, Level::Warning, Code::KnownValue, message, hint);
     finding.position = Some(places.place_offset(followed.start));
     finding.end = Some(places.place_offset(followed.end));
     Ok(finding)
 }
 
-/// Where the value of what is written comes from, in words.
+/// Where the value of what is written comes from, in words. What the file sets is a condition: the environment, the arguments or another
+/// command may give another value.
 fn value_words(alloc: Global, written: &str, value: KnownValue) -> Result<String, AllocError> {
     match value {
         KnownValue::Line(line) => {
-            format!(in alloc; "\"{written}\" has the value that line {line} sets")
+            format!(in alloc; "the answer holds if \"{written}\" has the value that line {line} sets")
         }
         KnownValue::Made(line) => format!(in alloc;
-            "\"{written}\" has the value that line {line} sets, unless make is called with another one"
+            "the answer holds if \"{written}\" has the value that line {line} sets: make may be called with another one"
         ),
-        KnownValue::Empty => format!(in alloc; "\"{written}\" is empty: so the file sets it"),
+        KnownValue::Empty => {
+            format!(in alloc; "the answer holds if \"{written}\" is empty, as the file sets it")
+        }
         KnownValue::Given => format!(in alloc; "\"{written}\" has the value that is assumed"),
+    }
+}
+
+/// How the value is made sure of.
+fn value_hint(value: KnownValue) -> Option<&'static str> {
+    match value {
+        KnownValue::Given => None,
+        _ => Some(VALUE),
     }
 }
 

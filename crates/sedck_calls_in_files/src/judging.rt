@@ -4,7 +4,7 @@ ghost use Rattle.std.specs.Prelude.{◌≡◌, ◌≤◌, true, length, IfOk};
 ghost use Rattle.std.specs.List.{All};
 ghost use Rattle.sedck_report.specs.Positions.{position_in};
 ghost use Rattle.sedck_calls_in_files.specs.Placed.{IsFindingIn};
-ghost use Rattle.sedck_calls_in_files.specs.Judged.{Agrees, IsUnjudged, status_with, words_of, IsSaidOf, IsSaidOfText, IsSaidOfCall, IsJudged, IsAcceptedScript, denied_of, is_open as is_open_script};
+ghost use Rattle.sedck_calls_in_files.specs.Judged.{Agrees, IsUnjudged, status_with, words_of, IsSaidOf, IsSaidOfText, IsSaidOfCall, IsSaidOfFound, IsJudged, IsAcceptedFound, denied_of, is_open as is_open_script, is_set as is_set_value, has_set as has_set_value};
 
 use crate::holes::{open_warnings, unknown_warning, unread_warning, value_notes, written_words};
 use crate::placed::{place_findings, placed};
@@ -15,15 +15,15 @@ use sedck_explanation::{
     Denied, Explanation, Finding, Position, Status, explain_called, foreign_findings, has_foreign,
     not_judged, refusal_of,
 };
-use sedck_find::{Followed, FoundCall, FoundScript, OpenHole, Unknown};
+use sedck_find::{Followed, FoundCall, FoundScript, KnownValue, OpenHole, Unknown};
 use sedck_origin::{Traced, has_hole};
 use std::alloc::{AllocError, Global};
 
 /// Explains a call that was found in the file, which has it at this position. The explanation's positions are those of the file.
 ///
-/// It is accepted only where the words and the script are in the file, nothing of the script is unknown, nothing must hold so that the
-/// words are as they are read, and the script is accepted; `Unknown` where something isn't known before a run, and nothing worse is
-/// found; else its status is that of a call that is given by its words.
+/// It is accepted only where the words and the script are in the file, nothing of the script is unknown, no variable is replaced by a value
+/// that the file sets, nothing must hold so that the words are as they are read, and the script is accepted; `Unknown` where something
+/// isn't known before a run, and nothing worse is found; else its status is that of a call that is given by its words.
 pub fn explain_found<'a>(
     alloc: Global,
     file: &'a [u8],
@@ -32,9 +32,9 @@ pub fn explain_found<'a>(
     denied: Denied,
 ) -> Result<Explanation<'a>, AllocError>
     requires { position ≡ position_in file.now position.offset }
-    ensures said { IfOk result (IsSaidOf file.now (denied_of found.now denied) found.now.words.items found.now.script) }
+    ensures said { IfOk result (IsSaidOfFound file.now denied found.now) }
     ensures places { IfOk result (λ e. All (IsFindingIn file.now) e.findings.items) }
-    ensures yes { IfOk result (λ e. e.status ≡ Status.Accepted → IsAcceptedScript file.now (denied_of found.now denied) found.now.words.items found.now.script) }
+    ensures yes { IfOk result (λ e. e.status ≡ Status.Accepted → IsAcceptedFound file.now denied found.now) }
 {
     let written = written_words(alloc, file, &found.words)?;
     let shown = slices_of(alloc, &written)?;
@@ -47,7 +47,7 @@ pub fn explain_found<'a>(
         denied: with_locale(denied, found),
     };
     let explanation = explain_found_script(&given, &found.script)?;
-    with_values(alloc, file, position, explanation, &found.followed)
+    with_values(alloc, file, position, explanation, found)
 }
 
 /// A call in a file.
@@ -96,25 +96,58 @@ fn explain_found_script<'a>(
     }
 }
 
-/// The explanation with a warning for each variable that is replaced by its value.
+/// The explanation with a warning for each variable that is replaced by its value. It is no yes where the file sets such a value.
 fn with_values<'a>(
     alloc: Global,
     file: &[u8],
     position: Position,
     explanation: Explanation<'a>,
-    followed: &[Followed],
+    found: &FoundCall,
 ) -> Result<Explanation<'a>, AllocError>
     requires position { position ≡ position_in file.now position.offset }
     requires findings { All (IsFindingIn file.now) explanation.findings.items }
     ensures agrees { IfOk result (Agrees explanation.entry) }
-    ensures status { IfOk result (λ e. e.status ≡ explanation.entry.status) }
+    ensures status { IfOk result (λ e. e.status ≡ status_with (has_set_value found.now.followed.items) explanation.entry.status) }
     ensures places { IfOk result (λ e. All (IsFindingIn file.now) e.findings.items) }
 {
     let mut explanation = explanation;
     let mut places = Places::new(alloc, file, position, &[])?;
-    let mut notes = value_notes(alloc, file, &mut places, followed)?;
+    let mut notes = value_notes(alloc, file, &mut places, &found.followed)?;
     explanation.findings.append(&mut notes)?;
+    explanation.status = status_of(explanation.status, &found.followed);
     Ok(explanation)
+}
+
+/// The status of what is said of a call, where these variables are replaced by their values.
+fn status_of(status: Status, followed: &[Followed]) -> Status
+    ensures { result ≡ status_with (has_set_value followed.now) status }
+{
+    if has_set(followed) && status.is_accepted() {
+        return Status::Unknown;
+    }
+    status
+}
+
+/// Whether the file sets one of the values.
+fn has_set(followed: &[Followed]) -> bool
+    ensures { result ≡ has_set_value followed.now }
+{
+    for one in followed {
+        if is_set(one.value) {
+            return true;
+        }
+    }
+    false
+}
+
+/// Whether the file sets the value.
+fn is_set(value: KnownValue) -> bool
+    ensures { result ≡ is_set_value value }
+{
+    match value {
+        KnownValue::Given => false,
+        _ => true,
+    }
 }
 
 /// Explains the call, whose script is this text.

@@ -5,7 +5,7 @@ ghost use Rattle.std.specs.Io.KnownBytes.{Keeps, Appends};
 ghost use Rattle.sedck_explanation.specs.Called.{known_bytes};
 ghost use Rattle.sedck_explanation.specs.declared.explanation.Explanation.{Explanation};
 ghost use Rattle.sedck_formats.specs.Plain.{IsPlainReport};
-ghost use Rattle.sedck_calls_in_files.specs.Judged.{IsSaidOf, denied_of};
+ghost use Rattle.sedck_calls_in_files.specs.Judged.{IsSaidOfFound};
 ghost use Rattle.sedck_calls_in_files.specs.Scanned.{SpellsOne};
 ghost use Rattle.sedck_calls_in_files.specs.Private.Contents.{IsTextOf};
 ghost use Rattle.sedck_calls_in_files.specs.Private.Spelling.{SpellsCall, SpellsIn};
@@ -178,7 +178,7 @@ fn spell_one<W: Sink, E: Sink>(
 
 /// What is written of the call, and the exit status.
 fn report_of(asked: &FileScan, call: &FoundCall) -> Result<(Vec<u8>, Status), AllocError>
-    ensures { IfOk result (λ made. (e : Explanation) × IsSaidOf asked.now.file.text.now (denied_of call.now asked.now.scan.now.denied) call.now.words.items call.now.script e × IsPlainReport e made.0.items made.1) }
+    ensures { IfOk result (λ made. (e : Explanation) × IsSaidOfFound asked.now.file.text.now asked.now.scan.now.denied call.now e × IsPlainReport e made.0.items made.1) }
 {
     let alloc = asked.alloc;
     let text = asked.file.text;

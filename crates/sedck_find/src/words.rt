@@ -206,10 +206,10 @@ impl Filler<'_> {
     pub fn options(&mut self, hole: Hole, spot: Spot) -> Result<Option<Vec<CallWord>>> {
         let mut options = Vec::new(self.names.alloc);
         if let Some(value) = self.names.value_of(hole, spot) {
-            self.follow(hole, value)?;
             if !hole.way.is_split() {
                 return Ok(Some(options));
             }
+            self.follow(hole, value)?;
             let fits = self.spend(value.len().saturating_mul(WORD));
             if fits && value.is_kept(Way::MadeQuoted) && !value.has_any(SPECIAL) {
                 return Ok(Some(split_words(self.names.alloc, value, hole)?));

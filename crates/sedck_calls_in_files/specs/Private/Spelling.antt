@@ -5,13 +5,13 @@ use Rattle.sedck_explanation.specs.declared.explanation.Explanation.{Explanation
 use Rattle.sedck_explanation.specs.declared.status.Status.{Status}
 use Rattle.sedck_formats.specs.Plain.{Output, IsPlainStatus, IsPlainOutput}
 use Rattle.sedck_find.specs.declared.found.FoundCall.{FoundCall}
-use Rattle.sedck_calls_in_files.specs.Judged.{IsSaidOf, denied_of}
+use Rattle.sedck_calls_in_files.specs.Judged.{IsSaidOfFound}
 use Rattle.sedck_calls_in_files.specs.Scanned.{Holds, IsSaidOfOne}
 
 -- the script of what is said of the call, where it is accepted
 pub record SpellsCall (denied : Denied) (text : List ℕ) (call : FoundCall) (out : Output) (status : Status) : Type 0 where
   pub explanation : Explanation
-  pub is_said : IsSaidOf text (denied_of call denied) call.words.items call.script explanation
+  pub is_said : IsSaidOfFound text denied call explanation
   pub is_status : IsPlainStatus explanation.status status
   pub writes : IsPlainOutput explanation.script out status
 

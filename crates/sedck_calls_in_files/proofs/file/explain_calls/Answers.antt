@@ -1,6 +1,6 @@
 use Rattle.std.proofs.Common.{sym, subst, take, ◌+◌}
 use Rattle.sedck_explanation.specs.Status.{worse}
-use Rattle.sedck_calls_in_files.specs.Judged.{IsSaidOf, denied_of}
+use Rattle.sedck_calls_in_files.specs.Judged.{IsSaidOfFound}
 use Rattle.sedck_calls_in_files.specs.Scanned.{IsWorst}
 use Rattle.sedck_calls_in_files.proofs.Worst.{next_worst}
 use Rattle.sedck_calls_in_files.proofs.file.explain_calls.Goals as goal
@@ -12,7 +12,7 @@ loop-call-preserved g c =
     let denied = c.args.asked.now.scan.now.denied in
     let i = c.loop-call.call-index in
     let e = c.in_ok-explanation.explanation in
-    let said = subst (λ found. IsSaidOf text (denied_of found denied) found.words.items found.script e) c.call-item.is c.in_ok-explanation.ensures.said in (
+    let said = subst (λ found. IsSaidOfFound text denied found e) c.call-item.is c.in_ok-explanation.ensures.said in (
       subst (IsWorst text denied c.args.known (take (i + 1) calls)) {x = worse c.loop-call.status e.status} (sym {b = worse c.loop-call.status e.status} c.worse-status.ensures)
           (next_worst text denied c.args.known calls i c.call-item.result c.loop-call.status e c.loop-call-test.true c.loop-call.invariant.0 said),
       c.call_position-position.ensures,
