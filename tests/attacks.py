@@ -3,7 +3,7 @@
 
 A file of calls may have the status 0 only where every word that sed gets is known, whatever the environment, the arguments and the
 files are, or what isn't known is told as a condition (status 5). Each row of ROWS has a file and a run of it that does harm: sed
-never ends, writes the file `evil`, a command makes it, or sed refuses its script. First comes the run, with a real shell, `make` or
+never ends, writes the file `evil`, a command makes it, sed refuses its script, or its input grows or is emptied. First comes the run, with a real shell, `make` or
 `find`, so that the table stays true; then the program is asked. What is due comes from the rule and from that run: an answer that
 leaves the call open, with a condition that rules the run's values out; or one that tells of the harm, a loop or the file `evil`. A
 call that isn't found must be told as a place that isn't understood. Other rows are calls that must be found, and innocent ones,
@@ -27,6 +27,7 @@ from typing import NamedTuple
 
 PROGRAM = os.path.abspath(sys.argv[1])
 LOOPS, WRITES, RUNS, REFUSED = "never ends", "writes `evil`", "runs a command that makes `evil`", "is refused by sed"
+GROWS, EMPTIES = "has `big` grow to the limit of the run", "empties `f`"
 OPEN = {"accepted-if", "unknown"}
 FOUND = OPEN | {"accepted"}
 ACCEPTED = {"accepted"}
@@ -261,7 +262,18 @@ INNOCENT = [Row("innocent: %r" % text, text, due=ACCEPTED) for text in [
 ]] + [Row("innocent: a value that is given", 'sed "s/$a/b/" f\n', options=("--assume", "a=u"), due=ACCEPTED, warning="known-value"),
       Row("a value that is set once", 'a=u\nsed "s/$a/b/" f\n', due={"accepted-if"})]
 
-ROWS = CONDITIONS + OTHER_WORDS + VALUES + VALUES_OF_MAKE + RECALL + INNOCENT
+# ---- Outputs that go to what is read
+
+LIMITED = "ulimit -f 4096\n"
+BIG = {"big": "".join("%d\n" % number for number in range(3000))}
+OUTPUTS = [Row("an output behind an operand", LIMITED + "sed p big >> big\n", "sh a.sh", GROWS, files=BIG, due=ACCEPTED, warning="writes-its-input"),
+           Row("an output behind the standard input", LIMITED + "sed p < big >> big\n", "sh a.sh", GROWS, files=BIG, due=ACCEPTED, warning="writes-its-input"),
+           Row("an output behind an operand of the same variable", LIMITED + 'sed p -- "$1" >> "./$1"\n', "sh a.sh big", GROWS, files=BIG, due=ACCEPTED, warning="writes-its-input"),
+           Row("an output that find hands on", LIMITED + "find f -exec sed p big \\; >> big\n", "sh a.sh", GROWS, files=BIG, due=ACCEPTED, warning="writes-its-input"),
+           Row("an output in place of an operand", "sed 's/a/b/' f > f\n", "sh a.sh", EMPTIES, due=ACCEPTED, warning="writes-its-input"),
+           Row("an output in place of an operand, with -i", "sed -i 's/a/b/' f > f\n", "sh a.sh", EMPTIES, due=ACCEPTED, warning="writes-its-input")]
+
+ROWS = CONDITIONS + OTHER_WORDS + VALUES + VALUES_OF_MAKE + RECALL + INNOCENT + OUTPUTS
 
 
 def fail(words):
@@ -325,6 +337,10 @@ def harms(row):
             run.wait()
         if row.harm in (WRITES, RUNS):
             return Path(folder, "evil").exists()
+        if row.harm == GROWS:
+            return Path(folder, "big").stat().st_size > 1000000
+        if row.harm == EMPTIES:
+            return Path(folder, "f").stat().st_size == 0
         return status is None if row.harm == LOOPS else status not in (0, None)
 
 

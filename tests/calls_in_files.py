@@ -180,7 +180,27 @@ PLACES = [
     ("sed 's/é*//' f\nLC_ALL=C sed 's/é*//' f\n", ["1:8 locale"]),
     ("LC_ALL=C sed -i 's/a/bb/' f\n", ["1:10 in-place", "1:18 no-space-bound"]),
     ("sed -n 'w g' big ./g\n", ["1:9 writes-its-input"]),
-]
+    ("sed -n 'w g' big g\n", ["1:9 writes-its-input"]),
+    # Where the output goes to a file that the call reads.
+    ("sed p big >> big\n", ["1:14 writes-its-input"]),
+    ("sed p < big >> big\n", ["1:16 writes-its-input"]),
+    ("sed 's/a/b/' f > f\n", ["1:18 writes-its-input"]),
+    ("sed p -- \"$f\" >> \"$f\"\n", ["1:19 writes-its-input"]),
+    ("sed p -- \"${d}/f\" > ./\"$d\"/f\n", ["1:21 writes-its-input"]),
+    ("sed p -- \"$1\" > \"$1\"\n", ["1:18 writes-its-input"]),
+    ("sed p g d/../f > ./f\n", ["1:18 writes-its-input"]),
+    ("sed p f <<E >> f\nE\n", ["1:16 writes-its-input"]),
+    ("sed p <<E < f > f\nE\n", ["1:17 writes-its-input"]),
+    ("sed p - < f 1>> f 2>&1\n", ["1:17 writes-its-input"]),
+    ("sed p f > g > f\n", ["1:15 writes-its-input"]),
+    ("sed p f >| f; sed p f &> f; sed p f >& f\n", ["1:12 writes-its-input", "1:26 writes-its-input", "1:40 writes-its-input"]),
+    ("env LC_ALL=C sed p f 3>&2 1<> f\n", ["1:31 writes-its-input"]),
+    ("find . -exec sed p f \\; >> f\n", ["1:28 writes-its-input"]),
+    ("sed -i p f > f\n", ["1:1 in-place", "1:14 writes-its-input"]),
+] + [(text + "\n", []) for text in (
+    "sed p f 2>> f", "sed p f > f.new", "sed p f >&2", "sed p f | cat > f", "find . -exec sed p {} \\; >> {}", "sed p f >> f > g", "sed p f >> f >&2", "sed p < f < g >> f",
+    "sed p f < g >> g", "xargs sed -e p -- < f >> f", "sed p \"d/$(a)\" > \"d/$(a)\"", "{ sed p f; } >> f", "sed p F > f", "sed p f 0> f", "sed p f <<< f > g", "sed p f 3> f",
+)]
 
 
 # Files with calls that have a byte above 127 which is repeated, as `@`: in the first ones the locale is known to be C or POSIX.

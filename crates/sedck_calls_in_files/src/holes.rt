@@ -7,7 +7,7 @@ ghost use Rattle.sedck_calls_in_files.specs.Placed.{IsFindingIn};
 
 use crate::places::Places;
 use sedck_explanation::{Code, Finding, Level, Position, call_finding, shown_name};
-use sedck_find::{Followed, KnownValue, OpenHole, Role, Unknown};
+use sedck_find::{Followed, KnownValue, OpenHole, Overwritten, Role, Unknown};
 use sedck_origin::{Hole, Origin, Traced, Way};
 use std::alloc::{AllocError, Global};
 
@@ -27,6 +27,9 @@ const NAMED: &str = "write the name of the sed, or quote the variable that has i
 
 /// How a value that the file sets is made sure of.
 const VALUE: &str = "write the value in its place, or give it with --assume NAME=VALUE";
+
+/// How an output is kept from what is read.
+const OTHER_FILE: &str = "write to another file, and rename that behind the call";
 
 /// A warning for each hole: what its value may not have, so that the answer holds.
 pub(crate) fn open_warnings(
@@ -108,7 +111,9 @@ fn value_note(
 fn value_words(alloc: Global, written: &str, value: KnownValue) -> Result<String, AllocError> {
     match value {
         KnownValue::Line(line) => {
-            format!(in alloc; "the answer holds if \"{written}\" has the value that line {line} sets")
+            format!(in alloc;
+                "the answer holds if \"{written}\" has the value that line {line} sets"
+            )
         }
         KnownValue::Made(line) => format!(in alloc;
             "the answer holds if \"{written}\" has the value that line {line} sets: make may be called with another one"
@@ -126,6 +131,54 @@ fn value_hint(value: KnownValue) -> Option<&'static str> {
         KnownValue::Given => None,
         _ => Some(VALUE),
     }
+}
+
+/// The warning of the file to which the output of a call goes, where the call reads it.
+pub(crate) fn overwriting_warnings(
+    alloc: Global,
+    file: &[u8],
+    places: &mut Places,
+    overwritten: Option<Overwritten>,
+) -> Result<Vec<Finding>, AllocError>
+    requires { places.old.file.now ≡ file.now }
+    ensures file { places.new.file ≡ places.old.file }
+    ensures findings { IfOk result (λ findings. All (IsFindingIn file.now) findings.items) }
+{
+    let mut findings = Vec::new(alloc);
+    if let Some(one) = overwritten {
+        findings.push(overwriting_warning(alloc, file, places, one)?)?;
+    }
+    Ok(findings)
+}
+
+/// The same, of one file.
+fn overwriting_warning(
+    alloc: Global,
+    file: &[u8],
+    places: &mut Places,
+    one: Overwritten,
+) -> Result<Finding, AllocError>
+    requires { places.old.file.now ≡ file.now }
+    ensures file { places.new.file ≡ places.old.file }
+    ensures finding { IfOk result (IsFindingIn file.now) }
+{
+    let written = shown_part(alloc, file, one.start, one.end)?;
+    let message = overwriting_words(alloc, written.as_str(), one.is_emptied)?;
+    let hint = Some(OTHER_FILE);
+    let mut finding = call_finding(alloc, Level::Warning, Code::WritesItsInput, message, hint);
+    finding.position = Some(places.place_offset(one.start));
+    finding.end = Some(places.place_offset(one.end));
+    Ok(finding)
+}
+
+/// What happens to a file that takes the output of a call which reads it, in words.
+fn overwriting_words(alloc: Global, written: &str, is_emptied: bool) -> Result<String, AllocError> {
+    let what = if is_emptied {
+        "it is emptied before it is read, and then may grow while it is read, without an end"
+    } else {
+        "it may grow while it is read, so that the run never ends"
+    };
+    format!(in alloc; "the output goes to \"{written}\", which the call reads: {what}")
 }
 
 /// On what the answer depends, in words. An empty expression is the one before, and an empty list would go on behind its bracket.

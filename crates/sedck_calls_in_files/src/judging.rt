@@ -6,7 +6,10 @@ ghost use Rattle.sedck_report.specs.Positions.{position_in};
 ghost use Rattle.sedck_calls_in_files.specs.Placed.{IsFindingIn};
 ghost use Rattle.sedck_calls_in_files.specs.Judged.{Agrees, IsUnjudged, status_with, words_of, IsSaidOf, IsSaidOfText, IsSaidOfCall, IsSaidOfFound, IsJudged, IsAcceptedFound, denied_of, is_open as is_open_script, is_set as is_set_value, has_set as has_set_value};
 
-use crate::holes::{open_warnings, unknown_warning, unread_warning, value_notes, written_words};
+use crate::holes::{
+    open_warnings, overwriting_warnings, unknown_warning, unread_warning, value_notes,
+    written_words,
+};
 use crate::placed::{place_findings, placed};
 use crate::places::Places;
 use crate::tracing::{bytes_of, is_in_file, slices_of};
@@ -96,7 +99,8 @@ fn explain_found_script<'a>(
     }
 }
 
-/// The explanation with a warning for each variable that is replaced by its value. It is no yes where the file sets such a value.
+/// The explanation with a warning for each variable that is replaced by its value, and for an output that goes to what is read. It is no
+/// yes where the file sets such a value.
 fn with_values<'a>(
     alloc: Global,
     file: &[u8],
@@ -112,6 +116,8 @@ fn with_values<'a>(
 {
     let mut explanation = explanation;
     let mut places = Places::new(alloc, file, position, &[])?;
+    let mut notes = overwriting_warnings(alloc, file, &mut places, found.overwritten)?;
+    explanation.findings.append(&mut notes)?;
     let mut notes = value_notes(alloc, file, &mut places, &found.followed)?;
     explanation.findings.append(&mut notes)?;
     explanation.status = status_of(explanation.status, &found.followed);

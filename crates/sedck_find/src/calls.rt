@@ -2,6 +2,7 @@
 
 use crate::found::{Assumed, Found, FoundCall, FoundScript, OpenHole, Role, Unknown};
 use crate::names::{Names, Scope};
+use crate::overwriting::overwritten_by;
 use crate::parts::{Part, Runner, parts_of};
 use crate::programs::Program;
 use crate::script::{Around, script_of};
@@ -204,6 +205,7 @@ fn found_call(
     } else {
         script_of(names.alloc, &words, around)?
     };
+    let overwritten = overwritten_by(filler, held, part.runner, &script, &words)?;
     let mut traced = Vec::new(names.alloc);
     for word in words {
         traced.push(word.traced)?;
@@ -213,6 +215,7 @@ fn found_call(
         words: traced,
         script,
         followed: std::mem::replace(&mut filler.followed, Vec::new(names.alloc)),
+        overwritten,
         c_locale: part.c_locale,
     }))
 }

@@ -20,8 +20,21 @@ pub struct FoundCall {
     pub script: FoundScript,
     /// The variables that are replaced by their values.
     pub followed: Vec<Followed>,
+    /// The file to which its output goes, where it reads that file.
+    pub overwritten: Option<Overwritten>,
     /// Whether the words before the name make it run in the locale C or POSIX.
     pub c_locale: bool,
+}
+
+/// A file to which the output of a call goes, and which the call reads.
+#[derive(Clone, Copy)]
+pub struct Overwritten {
+    /// Its name is in the file of the call from this offset on ..
+    pub start: usize,
+    /// .. to before this one.
+    pub end: usize,
+    /// Whether the shell empties it before the call runs.
+    pub is_emptied: bool,
 }
 
 /// A variable that is replaced by its value.

@@ -10,6 +10,7 @@ mod conditions;
 mod found;
 mod holes;
 mod names;
+mod overwriting;
 mod parts;
 mod programs;
 mod script;
@@ -20,5 +21,6 @@ mod words;
 
 pub use calls::calls_in;
 pub use found::{
-    Assumed, Followed, Found, FoundCall, FoundScript, KnownValue, OpenHole, Role, Unknown,
+    Assumed, Followed, Found, FoundCall, FoundScript, KnownValue, OpenHole, Overwritten, Role,
+    Unknown,
 };

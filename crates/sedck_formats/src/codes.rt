@@ -104,7 +104,7 @@ shell-byte-in-name TRUST.md#names A name with a byte that means something to a s
 read-and-written TRUST.md#names The script reads and writes the same file
 same-file TRUST.md#names Two names for one file
 names-itself TRUST.md#the-scripts-own-file The script writes a file that has the name of its own
-writes-its-input TRUST.md#input-and-output The script writes an operand of its call
+writes-its-input TRUST.md#input-and-output The script or the output of its call goes to a file that the call reads
 unknown-code RECIPES.md#fewer-findings A comment ignores what is not the code of a warning or a note, or what no comment can ignore
 other-language CALLS.md#other-languages Options by which sed reads another language
 bad-call CALLS.md#words-that-are-refused Words that no sed takes

@@ -32,8 +32,18 @@ pub struct ShellCommand {
     pub site: Site,
     /// The here-document that is its standard input, if there is one.
     pub here: Option<Vec<Unit>>,
-    /// The file to which its standard output goes, if it is redirected.
-    pub target: Option<ShellWord>,
+    /// The file that is its standard input, if that is redirected.
+    pub source: Option<ShellWord>,
+    /// The file to which its standard output goes, if that is redirected.
+    pub target: Option<Target>,
+}
+
+/// A file to which an output goes.
+#[derive(Drop)]
+pub struct Target {
+    pub word: ShellWord,
+    /// Whether the shell empties the file before the command runs, as it does for `>`, and not for `>>`.
+    pub is_emptied: bool,
 }
 
 /// Where in its text a command is.

@@ -1,6 +1,6 @@
 //! What encloses a byte of shell text.
 
-use crate::command::{ShellWord, Site};
+use crate::command::{ShellWord, Site, Target};
 use std::alloc::Global;
 
 /// The quoting of a byte (XCU 2.2).
@@ -50,8 +50,12 @@ pub(crate) struct Mark {
 pub(crate) enum Awaited {
     /// A word of the command.
     Word,
-    /// Where its output goes.
-    Target,
+    /// The file that is its input.
+    Source,
+    /// The file to which its output goes, which is emptied before or not.
+    Target { is_emptied: bool },
+    /// Behind `>&` the descriptor to which its output goes, or in some shells a file.
+    Copied,
     /// Another word of a redirection.
     Skipped,
     /// The delimiter of a here-document.
@@ -74,7 +78,8 @@ pub(crate) struct Draft {
     pub site: Site,
     /// The number of the here-document that is its input.
     pub here: Option<usize>,
-    pub target: Option<ShellWord>,
+    pub source: Option<ShellWord>,
+    pub target: Option<Target>,
 }
 
 /// What is being read within what encloses it.
@@ -151,6 +156,7 @@ impl Draft {
             words: Vec::new(alloc),
             site: Site::default(),
             here: None,
+            source: None,
             target: None,
         }
     }

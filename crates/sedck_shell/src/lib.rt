@@ -13,6 +13,6 @@ mod quotes;
 mod reader;
 mod words;
 
-pub use command::{Pattern, ShellCommand, ShellText, ShellWord, Site};
+pub use command::{Pattern, ShellCommand, ShellText, ShellWord, Site, Target};
 pub use output::read_shell;
 pub use reader::{Dialect, Form};

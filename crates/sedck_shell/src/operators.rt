@@ -63,8 +63,9 @@ impl Reader<'_> {
         match self.text.byte(next) {
             Some(b'>') => {
                 self.end_word()?;
-                self.top.awaited = Awaited::Target;
                 let is_appended = self.text.byte(after) == Some(b'>');
+                let is_emptied = !is_appended;
+                self.top.awaited = Awaited::Target { is_emptied };
                 self.resume = after.saturating_add(usize::from(is_appended));
             }
             Some(b'&') => {
@@ -166,15 +167,22 @@ impl Reader<'_> {
             self.top.is_process = true;
             return Ok(());
         }
-        let (is_input, is_standard) = match self.take_descriptor()? {
-            Some(word) => (word.is("0"), word.is("0") || word.is("1")),
-            None => (byte == b'<', true),
+        let stream = match self.take_descriptor()? {
+            Some(word) => stream_of(&word),
+            None if byte == b'<' => Stream::Input,
+            None => Stream::Output,
         };
-        if is_input {
-            self.top.command.here = None;
+        // The last redirection counts.
+        match stream {
+            Stream::Input => {
+                self.top.command.here = None;
+                self.top.command.source = None;
+            }
+            Stream::Output => self.top.command.target = None,
+            Stream::Other => {}
         }
         let third = self.text.byte(next.saturating_add(1));
-        let (awaited, length) = redirection((byte, second, third), is_standard);
+        let (awaited, length) = redirection((byte, second, third), stream);
         self.resume = index.saturating_add(length);
         self.top.awaited = awaited;
         Ok(())
@@ -192,25 +200,62 @@ impl Reader<'_> {
     }
 }
 
-/// What follows the operator that begins with these bytes, and how long it is. It may be for a standard descriptor: 0 or 1.
-fn redirection(bytes: (u8, Option<u8>, Option<u8>), is_standard: bool) -> (Awaited, usize) {
+/// A stream of a command.
+#[derive(Clone, Copy, PartialEq, Eq)]
+enum Stream {
+    /// Its standard input.
+    Input,
+    /// Its standard output.
+    Output,
+    Other,
+}
+
+/// The stream with this descriptor.
+fn stream_of(descriptor: &ShellWord) -> Stream {
+    if descriptor.is("0") {
+        Stream::Input
+    } else if descriptor.is("1") {
+        Stream::Output
+    } else {
+        Stream::Other
+    }
+}
+
+/// What follows the operator that begins with these bytes, which is for this stream, and how long it is.
+fn redirection(bytes: (u8, Option<u8>, Option<u8>), stream: Stream) -> (Awaited, usize) {
     let delimiter = Delimiter {
         is_stripped: bytes.2 == Some(b'-'),
-        is_input: is_standard,
-    };
-    let target = if is_standard {
-        Awaited::Target
-    } else {
-        Awaited::Skipped
+        is_input: stream == Stream::Input,
     };
     match bytes {
         (b'<', Some(b'<'), Some(b'<')) => (Awaited::Skipped, 3),
         (b'<', Some(b'<'), Some(b'-')) => (Awaited::Delimiter(delimiter), 3),
         (b'<', Some(b'<'), _) => (Awaited::Delimiter(delimiter), 2),
-        (b'>', Some(b'>' | b'|'), _) => (target, 2),
-        (_, Some(b'&'), _) | (b'<', Some(b'>'), _) => (Awaited::Skipped, 2),
-        (b'>', _, _) => (target, 1),
-        _ => (Awaited::Skipped, 1),
+        (b'<', Some(b'&'), _) => (Awaited::Skipped, 2),
+        (b'<', Some(b'>'), _) => (opened(stream), 2),
+        (b'<', _, _) if stream == Stream::Input => (Awaited::Source, 1),
+        (b'<', _, _) => (Awaited::Skipped, 1),
+        (_, Some(b'&'), _) if stream == Stream::Output => (Awaited::Copied, 2),
+        (_, Some(b'&'), _) => (Awaited::Skipped, 2),
+        (_, Some(b'>'), _) => (written(stream, false), 2),
+        (_, Some(b'|'), _) => (written(stream, true), 2),
+        _ => (written(stream, true), 1),
+    }
+}
+
+/// What the word behind `<>` is, which opens a file for this stream and leaves what is in it.
+fn opened(stream: Stream) -> Awaited {
+    match stream {
+        Stream::Input => Awaited::Source,
+        _ => written(stream, false),
+    }
+}
+
+/// What the word behind `>` and the like is for this stream.
+fn written(stream: Stream, is_emptied: bool) -> Awaited {
+    match stream {
+        Stream::Output => Awaited::Target { is_emptied },
+        _ => Awaited::Skipped,
     }
 }
 

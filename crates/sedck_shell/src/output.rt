@@ -119,6 +119,7 @@ fn finished(alloc: Global, output: Output) -> Result<ShellText> {
             words,
             site,
             here,
+            source,
             target,
         } = draft;
         let here = here.and_then(|number| bodies.get_mut(number)?.take());
@@ -126,6 +127,7 @@ fn finished(alloc: Global, output: Output) -> Result<ShellText> {
             words,
             site,
             here,
+            source,
             target,
         })?;
     }

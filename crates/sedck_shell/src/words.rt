@@ -1,6 +1,6 @@
 //! Words and ends of commands, the reserved words (XCU 2.4), and which commands run whenever their text does (XCU 2.9.2 to 2.9.5).
 
-use crate::command::{ShellWord, Site};
+use crate::command::{ShellWord, Site, Target};
 use crate::frame::{Awaited, Braces, Draft, Enclosure, Quote};
 use crate::reader::{Dialect, Reader};
 use sedck_origin::{Hole, Result, Unit, Way, is_one_of, is_text};
@@ -87,10 +87,17 @@ impl Reader<'_> {
         match awaited {
             Awaited::Word => return self.add_word(word),
             Awaited::Delimiter(delimiter) => return self.await_body(word, delimiter),
-            Awaited::Target => self.top.command.target = Some(word),
-            Awaited::Skipped => {}
+            Awaited::Source => self.top.command.source = Some(word),
+            Awaited::Target { is_emptied } => self.set_target(word, is_emptied),
+            Awaited::Copied if !is_descriptor_copy(&word) => self.set_target(word, true),
+            Awaited::Copied | Awaited::Skipped => {}
         }
         Ok(())
+    }
+
+    /// Notes the file to which the output of the command goes.
+    fn set_target(&mut self, word: ShellWord, is_emptied: bool) {
+        self.top.command.target = Some(Target { word, is_emptied });
     }
 
     /// Makes a hole of braces that some shells expand, and others don't.
@@ -311,6 +318,15 @@ impl Reader<'_> {
         }
         self.end_list();
     }
+}
+
+/// Whether the word behind `>&` is a descriptor, or the hyphen that closes one.
+fn is_descriptor_copy(word: &ShellWord) -> bool {
+    let mut units = word.units.iter();
+    units.all(|unit| match unit.byte() {
+        Some(byte) => byte.is_ascii_digit() || byte == b'-',
+        None => true,
+    })
 }
 
 /// Whether the units are `sed`, or a path that ends with it.

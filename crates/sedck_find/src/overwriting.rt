@@ -1,0 +1,130 @@
+//! Calls whose output goes to a file that they read.
+
+use crate::found::{FoundScript, Overwritten};
+use crate::names::{Names, replaced_name};
+use crate::parts::Runner;
+use crate::texts::Held;
+use crate::words::{CallWord, Filler};
+use sedck_advice::path_of;
+use sedck_call::{Call, CallOption, Given};
+use sedck_origin::{Origin, Result, Traced, hole_name, is_among};
+use sedck_shell::ShellWord;
+
+/// The file to which the output of a call with these words goes, if the call reads it: as an operand, or as its standard input.
+pub(crate) fn overwritten_by(
+    filler: &mut Filler<'_>,
+    held: &Held,
+    runner: Runner,
+    script: &FoundScript,
+    words: &[CallWord],
+) -> Result<Option<Overwritten>> {
+    let (Some(target), FoundScript::Text { call, .. }) = (&held.command.target, script) else {
+        return Ok(None);
+    };
+    let (Some(first), Some(last)) = (target.word.units.first(), target.word.units.last()) else {
+        return Ok(None);
+    };
+    // With -i no line goes to the output.
+    if is_in_place(call) && !target.is_emptied {
+        return Ok(None);
+    }
+    let Some(path) = path_at(filler, held, &target.word)? else {
+        return Ok(None);
+    };
+    let is_read = has_operand(filler.names, call, words, &path)?
+        || (reads_standard(call, words, runner) && is_source(filler, held, &path)?);
+    if !is_read {
+        return Ok(None);
+    }
+    Ok(Some(Overwritten {
+        start: first.start(),
+        end: last.end(),
+        is_emptied: target.is_emptied,
+    }))
+}
+
+/// Whether an option has the operands overwritten.
+fn is_in_place(call: &Call) -> bool {
+    call.given.iter().any(|item| match *item {
+        Given::Alone(option, _) | Given::With(option, _) => matches!(
+            option,
+            CallOption::InPlace | CallOption::InPlaceSuffix
+        ),
+        Given::Operand(_) => false,
+    })
+}
+
+/// Whether an operand of the call has this path.
+fn has_operand(names: &Names<'_>, call: &Call, words: &[CallWord], path: &[u8]) -> Result<bool> {
+    for number in &call.inputs {
+        let Some(word) = words.get(*number) else {
+            continue;
+        };
+        let other = written_path(names, &word.traced)?;
+        if other.is_some_and(|other| other.as_slice() == path) {
+            return Ok(true);
+        }
+    }
+    Ok(false)
+}
+
+/// Whether the call reads the standard input of its command, which `xargs` reads itself.
+fn reads_standard(call: &Call, words: &[CallWord], runner: Runner) -> bool {
+    let is_free = matches!(runner, Runner::Plain | Runner::Find);
+    let is_named = call.inputs.iter().any(|number| {
+        let word = words.get(*number);
+        word.is_some_and(|word| is_among(&word.traced.bytes, &["-", "/dev/stdin"]))
+    });
+    is_free && (is_named || call.inputs.is_empty())
+}
+
+/// Whether the standard input of the command is the file with this path.
+fn is_source(filler: &mut Filler<'_>, held: &Held, path: &[u8]) -> Result<bool> {
+    let Some(source) = &held.command.source else {
+        return Ok(false);
+    };
+    let other = path_at(filler, held, source)?;
+    Ok(other.is_some_and(|other| other.as_slice() == path))
+}
+
+/// The path that the word of a redirection is. What its variables have is no matter of the call's words.
+fn path_at(filler: &mut Filler<'_>, held: &Held, word: &ShellWord) -> Result<Option<Vec<u8>>> {
+    let count = filler.followed.len();
+    let word = filler.word(word, held.spot())?;
+    filler.followed.truncate(count);
+    written_path(filler.names, &word.traced)
+}
+
+/// The path that these bytes are, in which names of variables are between bytes 0; none where what isn't known may be something else at
+/// each place.
+fn written_path(names: &Names<'_>, traced: &Traced) -> Result<Option<Vec<u8>>> {
+    let mut written = Vec::new(names.alloc);
+    let mut last = None;
+    for (byte, origin) in traced.bytes.iter().zip(traced.origins.iter()) {
+        let Origin::Hole(hole) = *origin else {
+            written.push(*byte)?;
+            continue;
+        };
+        if last == Some(hole) {
+            continue;
+        }
+        last = Some(hole);
+        let Some(name) = lasting_name(names, names.written_hole(hole)) else {
+            return Ok(None);
+        };
+        written.push(0)?;
+        written.extend_from_slice(name)?;
+        written.push(0)?;
+    }
+    Ok(Some(path_of(names.alloc, &written)?))
+}
+
+/// The name of what is written, where that is the same at each place of a command: a variable, a parameter, or a folder behind a tilde.
+fn lasting_name<'a>(names: &Names<'_>, written: &'a [u8]) -> Option<&'a [u8]> {
+    match written {
+        [b'~', ..] => Some(written),
+        [b'$', b'0'..=b'9'] => hole_name(written),
+        [b'$', b'@' | b'<' | b'^' | b'*'] => written.get(1..),
+        _ => replaced_name(written, names.kind),
+    }
+}
