@@ -71,6 +71,9 @@ ROWS = [
     ("a.sh", [], "LC_ALL=C sed p; env A=b sed d; exec sed x; command sed =; sudo -u me sed g\n", 0, [("1:10", A, ["p"]), ("1:25", A, ["d"]), ("1:37", A, ["x"]), ("1:52", A, ["="]), ("1:70", A, ["g"])]),
     ("a.sh", [], "xargs -0 -n 1 sed -n p; find . -name '*.c' -exec sed -n '1p' {} + -o -exec sed d {} \\;\n", 5, [("1:15", IF, ["-n", "p"]), ("1:50", A, ["-n", "1p", "xx"]), ("1:76", A, ["d", "xx"])]),
     ("a.sh", [], "xargs sed -e p --\nxargs -P$N -n1 sed -n p\nxargs -I% sed 's/a/%/' %\n", 5, [("1:7", A, ["-e", "p", "--"]), ("2:16", IF, ["-n", "p"]), ("3:11", IF, None)]),
+    ("a.sh", [], "xargs -0I{} sed p {}; xargs -rI{} sed -e p -- {}\nxargs -0P4 sed p\n", 5, [("1:13", IF, ["p", "xx"]), ("1:35", A, ["-e", "p", "--", "xx"]), ("2:12", IF, ["p"])]),
+    ("a.sh", [], "find . -exec sh -c 'sed p \"$1\"' x {} \\;\nfind . -exec sh -c 'sed -e p -- \"$@\"' x {} +\nfind . -exec sh -c 'sed p d/{}; sed d f' \\;\n", 5,
+     [("1:21", IF, ["p", "x"]), ("2:21", A, None), ("3:21", IF, ["p", "d/x"]), ("3:33", A, ["d", "f"])]),
     ("a.sh", [], "time -p sed p; timeout 5 sed d; nice -n 3 sed x; nohup sed =\n", 0, [("1:9", A, ["p"]), ("1:26", A, ["d"]), ("1:43", A, ["x"]), ("1:56", A, ["="])]),
     ("a.sh", [], "command -v sed p; which sed; type sed\n", 0, []),
     # What isn't known.

@@ -190,7 +190,7 @@ fn found_call(
         return Ok(None);
     }
     let mut named = Vec::new(names.alloc);
-    let words = words_of(filler, held, part, &mut named)?;
+    let (words, are_known) = words_of(filler, held, part, &mut named)?;
     let end = name.start.saturating_add(name.units.len().max(1));
     let around = Around {
         file: names.file,
@@ -202,6 +202,8 @@ fn found_call(
     };
     let script = if part.is_direct && is_redefined(names, name)? {
         FoundScript::Unknown(Unknown::Function)
+    } else if !are_known {
+        FoundScript::Unknown(Unknown::Words)
     } else {
         script_of(names.alloc, &words, around)?
     };
@@ -220,18 +222,19 @@ fn found_call(
     }))
 }
 
-/// The words of a call behind its name, with the options in the value of a variable that is the name. What isn't known of the name and of
-/// what runs it is noted.
+/// The words of a call behind its name, with the options in the value of a variable that is the name, and whether all that is put into them
+/// is known. What isn't known of the name and of what runs it is noted.
 fn words_of(
     filler: &mut Filler<'_>,
     held: &Held,
     part: Part,
     named: &mut Vec<OpenHole>,
-) -> Result<Vec<CallWord>> {
+) -> Result<(Vec<CallWord>, bool)> {
+    let alloc = filler.names.alloc;
     let command = held.command.words.as_slice();
-    let mut words = Vec::new(filler.names.alloc);
+    let mut words = Vec::new(alloc);
     let Some([name, others @ ..]) = command.get(part.name..part.end) else {
-        return Ok(words);
+        return Ok((words, true));
     };
     if let [Unit::Hole(hole)] = *name.units.as_slice() {
         match filler.options(hole, held.spot())? {
@@ -242,12 +245,16 @@ fn words_of(
     if let Some(runner) = part.unknown.and_then(|number| command.get(number)) {
         note_named(named, runner, Role::Runner)?;
     }
+    let Some(texts) = part.replaced.texts(alloc, command)? else {
+        return Ok((words, false));
+    };
+    let mut are_known = true;
     for word in others {
         let mut word = filler.word(word, held.spot())?;
-        put_in(filler.names, &mut word, part.runner, command)?;
+        are_known = put_in(&mut word, part.runner, &texts) && are_known;
         words.push(word)?;
     }
-    Ok(words)
+    Ok((words, are_known))
 }
 
 /// Notes a word of one hole, of which a shell may make several words.
@@ -260,32 +267,15 @@ fn note_named(named: &mut Vec<OpenHole>, word: &ShellWord, role: Role) -> Result
     Ok(())
 }
 
-/// Puts holes into a word where what runs the sed puts in a name or a line.
-fn put_in(
-    names: &Names<'_>,
-    word: &mut CallWord,
-    runner: Runner,
-    words: &[ShellWord],
-) -> Result<()> {
-    match runner {
-        Runner::Plain | Runner::Adding => {}
-        Runner::Braces => word.open(b"{}"),
-        Runner::Find => {
-            word.is_path = word.is_path || word.traced.bytes.starts_with(b"{}");
-            word.open(b"{}");
-        }
-        Runner::Replacing(number, from) => {
-            let units = match words.get(number) {
-                Some(word) => word.units.get(from..).unwrap_or(&[]),
-                None => &[],
-            };
-            match bytes_of(names.alloc, units)? {
-                Some(text) => word.open(&text),
-                None => word.open(b"{}"),
-            }
-        }
+/// Puts holes into a word where what runs the sed replaces these texts by a name or a line. Whether the file has all of them there.
+fn put_in(word: &mut CallWord, runner: Runner, texts: &[Vec<u8>]) -> bool {
+    let is_named = runner == Runner::Find && word.traced.bytes.starts_with(b"{}");
+    word.is_path = word.is_path || is_named;
+    let mut are_there = true;
+    for text in texts {
+        are_there = word.open(text) && are_there;
     }
-    Ok(())
+    are_there
 }
 
 /// Whether the file has a function or an alias with the name of the sed.

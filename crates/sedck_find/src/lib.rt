@@ -13,6 +13,7 @@ mod names;
 mod overwriting;
 mod parts;
 mod programs;
+mod replaced;
 mod script;
 mod texts;
 mod units;

@@ -3,6 +3,7 @@
 use crate::assigning::{is_assignment, is_c_locale};
 use crate::names::{Names, Spot};
 use crate::programs::{Before, Program, Wrapper, before_command, program_of};
+use crate::replaced::{Replaced, adds_operands, replaced_by};
 use crate::units::bytes_of;
 use sedck_origin::{Result, byte_at, is_one_of};
 use sedck_shell::ShellWord;
@@ -23,6 +24,8 @@ pub(crate) struct Part {
     /// Its last word is before the one of this number.
     pub end: usize,
     pub runner: Runner,
+    /// What is replaced in its words.
+    pub replaced: Replaced,
     /// Whether no other command runs it, so that a function may be called.
     pub is_direct: bool,
     /// The number of the word that may be a runner or nothing, where that isn't known.
@@ -31,19 +34,17 @@ pub(crate) struct Part {
     pub c_locale: bool,
 }
 
-/// What runs a command, by what it does to the words.
+/// What runs a command.
 #[derive(Clone, Copy, PartialEq, Eq)]
 pub(crate) enum Runner {
-    /// Nothing.
+    /// Nothing that gives it words.
     Plain,
-    /// `find` puts the name of a file in place of `{}`.
+    /// `find`.
     Find,
-    /// `xargs` adds operands.
+    /// `xargs`, which adds operands.
     Adding,
-    /// `xargs` puts a line in place of what the word of this number has from this unit on.
-    Replacing(usize, usize),
-    /// `xargs` puts a line in place of `{}`.
-    Braces,
+    /// `xargs`, which replaces parts of the words.
+    Replacing,
 }
 
 /// What takes an assignment before the name of a command.
@@ -83,6 +84,10 @@ struct Finder<'a> {
     spot: Spot,
     parts: Vec<Part>,
     runner: Runner,
+    replaced: Replaced,
+    /// Whether an option of the last `xargs` has it replace something, and whether it may add operands all the same.
+    replaces: bool,
+    may_add: bool,
     unknown: Option<usize>,
     setter: Setter,
     /// Whether LC_ALL is set to C or POSIX there.
@@ -103,6 +108,9 @@ pub(crate) fn parts_of(names: &Names<'_>, words: &[ShellWord], spot: Spot) -> Re
         spot,
         parts: Vec::new(names.alloc),
         runner: Runner::Plain,
+        replaced: Replaced::NOTHING,
+        replaces: false,
+        may_add: false,
         unknown: None,
         setter: Setter::Shell,
         c_locale: false,
@@ -133,7 +141,10 @@ impl Finder<'_> {
             State::Find if is_one_of(&word.units, EXECUTING) => {
                 self.state = State::Name;
                 self.is_found = true;
-                self.runner = Runner::Find;
+                if self.runner == Runner::Plain {
+                    self.runner = Runner::Find;
+                }
+                self.replaced.has_braces = true;
                 self.wrappers = 0;
                 self.set_by(Setter::Nothing);
             }
@@ -174,6 +185,7 @@ impl Finder<'_> {
                 name: index,
                 end: index,
                 runner: self.runner,
+                replaced: self.replaced,
                 is_direct: self.runner == Runner::Plain && self.wrappers == 0,
                 unknown: self.unknown,
                 c_locale: self.c_locale,
@@ -195,6 +207,9 @@ impl Finder<'_> {
     /// Notes that the word of this number is the name of a command that runs another one. It may change what was set before it.
     fn pass(&mut self, index: usize, wrapper: Wrapper) {
         if wrapper.is_adding {
+            // What another one adds goes to this one's command.
+            self.may_add = self.runner == Runner::Adding;
+            self.replaces = false;
             self.runner = Runner::Adding;
         }
         if wrapper.is_unknown {
@@ -215,11 +230,11 @@ impl Finder<'_> {
 
     /// Reads a word behind the name of a wrapper.
     fn read_option(&mut self, index: usize, word: &ShellWord, wrapper: Wrapper) -> Result<()> {
+        if wrapper.is_adding {
+            self.note_replacing(index, word)?;
+        }
         let before = match bytes_of(self.names.alloc, &word.units)? {
-            Some(bytes) => {
-                self.note_replacing(index, wrapper, &bytes);
-                before_command(wrapper, &bytes)
-            }
+            Some(bytes) => before_command(wrapper, &bytes),
             // An option with a value that isn't known, as `-P$N`.
             None if byte_at(&word.units, 0) == Some(b'-') => Before::Option,
             None => Before::Word,
@@ -235,18 +250,27 @@ impl Finder<'_> {
         Ok(())
     }
 
-    /// Notes an option with which `xargs` puts lines into the words.
-    fn note_replacing(&mut self, index: usize, wrapper: Wrapper, option: &[u8]) {
-        if !wrapper.is_adding {
-            return;
+    /// Notes an option with which `xargs` puts lines into the words. It adds no operands then, unless another option may have it do so.
+    fn note_replacing(&mut self, index: usize, word: &ShellWord) -> Result<()> {
+        let mut known = Vec::new(self.names.alloc);
+        for unit in &word.units {
+            match unit.byte() {
+                Some(byte) => known.push(byte)?,
+                None => break,
+            }
         }
-        self.runner = match option {
-            b"-I" | b"-J" => Runner::Replacing(index.saturating_add(1), 0),
-            [b'-', b'I' | b'J' | b'i', _, ..] => Runner::Replacing(index, 2),
-            b"-i" | b"--replace" => Runner::Braces,
-            _ if option.starts_with(b"--replace=") => Runner::Replacing(index, 10),
-            _ => self.runner,
+        let is_known = known.len() == word.units.len();
+        self.may_add = self.may_add || adds_operands(&known);
+        if let Some(replacing) = replaced_by(index, &known, is_known) {
+            self.replaced.add(replacing);
+            self.replaces = true;
+        }
+        self.runner = if self.replaces && !self.may_add {
+            Runner::Replacing
+        } else {
+            Runner::Adding
         };
+        Ok(())
     }
 
     /// Ends the command before the word of this number.

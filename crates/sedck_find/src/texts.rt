@@ -4,6 +4,7 @@ use crate::assigning::may_fix_locale;
 use crate::names::{Names, Scope, Spot};
 use crate::parts::{Part, parts_of};
 use crate::programs::{Program, mention_in};
+use crate::replaced::with_holes;
 use crate::units::{bytes_of, ends_with};
 use sedck_hosts::Kind;
 use sedck_origin::{Result, Text, Unit, byte_at, is_text};
@@ -115,10 +116,10 @@ impl Reading<'_> {
             return Ok(());
         };
         match (part.program, command.words.first()) {
-            (Program::Shell, _) => self.note_shell(words, command),
+            (Program::Shell, _) => self.note_shell(words, part, command),
             (Program::Again, _) => self.note_again(words, name.is("trap"), scope),
             (Program::User, _) => match user_text(words) {
-                Some(text) => self.note_text(text, Scope::Other),
+                Some(text) => self.note_other(text, part, command),
                 None => Ok(()),
             },
             (Program::Sourcing, Some(first)) if command.here.is_some() => {
@@ -129,12 +130,40 @@ impl Reading<'_> {
     }
 
     /// Notes the text that a shell is called with.
-    fn note_shell(&mut self, words: &[ShellWord], command: &ShellCommand) -> Result<()> {
+    fn note_shell(
+        &mut self,
+        words: &[ShellWord],
+        part: Part,
+        command: &ShellCommand,
+    ) -> Result<()> {
         match (shell_text(words), &command.here) {
-            (Input::Word(units), _) => self.note_text(units, Scope::Other),
+            (Input::Word(units), _) => self.note_other(units, part, command),
             (Input::Standard, Some(units)) => self.note_text(units, Scope::Other),
             _ => Ok(()),
         }
+    }
+
+    /// Notes a text in the words of a command that is for another shell. What runs that shell may put names or lines into it, before the
+    /// shell reads it.
+    fn note_other(&mut self, text: &[Unit], part: Part, command: &ShellCommand) -> Result<()> {
+        let alloc = self.names.alloc;
+        let Some(replaced) = part.replaced.texts(alloc, &command.words)? else {
+            return self.miss(text);
+        };
+        let mut units = Vec::new(alloc);
+        units.extend_from_slice(text)?;
+        for one in &replaced {
+            units = with_holes(alloc, &units, one)?;
+        }
+        self.note_text(&units, Scope::Other)
+    }
+
+    /// Notes that the text isn't understood.
+    fn miss(&mut self, text: &[Unit]) -> Result<()> {
+        if let Some(first) = text.first() {
+            self.unread.push(first.start())?;
+        }
+        Ok(())
     }
 
     /// Notes the text of `eval`, or of `trap`, which has other operands behind it.
@@ -157,10 +186,7 @@ impl Reading<'_> {
     /// Notes a text, which is read next.
     fn note_text(&mut self, text: &[Unit], scope: Scope) -> Result<()> {
         if text.len() > self.left {
-            if let Some(first) = text.first() {
-                self.unread.push(first.start())?;
-            }
-            return Ok(());
+            return self.miss(text);
         }
         self.left = self.left.saturating_sub(text.len());
         let mut units = Vec::new(self.names.alloc);

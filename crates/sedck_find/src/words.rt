@@ -60,30 +60,32 @@ impl CallWord {
         })
     }
 
-    /// Puts a hole in place of each such text.
-    pub fn open(&mut self, text: &[u8]) {
+    /// Puts a hole in place of each such text. Whether the file has all of them in the word.
+    pub fn open(&mut self, text: &[u8]) -> bool {
         let length = self.traced.bytes.len();
         if text.is_empty() || length < text.len() {
-            return;
+            return true;
         }
         let mut resume = 0usize;
+        let mut are_there = true;
         for index in 0..length {
             let end = index.saturating_add(text.len());
             if index < resume || self.traced.bytes.get(index..end) != Some(text) {
                 continue;
             }
             resume = end;
-            self.open_between(index, end);
+            are_there = self.open_between(index, end) && are_there;
         }
+        are_there
     }
 
-    /// Puts a hole in place of the bytes between these indices, if the file has them.
-    fn open_between(&mut self, from: usize, end: usize) {
+    /// Puts a hole in place of the bytes between these indices, if the file has them there.
+    fn open_between(&mut self, from: usize, end: usize) -> bool {
         let origins = &mut self.traced.origins;
         let first = origins.get(from).copied();
         let last = origins.get(end.saturating_sub(1)).copied();
         let (Some(Origin::At(start)), Some(Origin::At(stop))) = (first, last) else {
-            return;
+            return false;
         };
         let hole = Hole {
             start,
@@ -98,6 +100,7 @@ impl CallWord {
                 *byte = b'x';
             }
         }
+        true
     }
 
     /// Whether nothing of it is known from there on.
