@@ -74,6 +74,8 @@ ROWS = [
     ("a.sh", [], "xargs -0I{} sed p {}; xargs -rI{} sed -e p -- {}\nxargs -0P4 sed p\n", 5, [("1:13", IF, ["p", "xx"]), ("1:35", A, ["-e", "p", "--", "xx"]), ("2:12", IF, ["p"])]),
     ("a.sh", [], "find . -exec sh -c 'sed p \"$1\"' x {} \\;\nfind . -exec sh -c 'sed -e p -- \"$@\"' x {} +\nfind . -exec sh -c 'sed p d/{}; sed d f' \\;\n", 5,
      [("1:21", IF, ["p", "x"]), ("2:21", A, None), ("3:21", IF, ["p", "d/x"]), ("3:33", A, ["d", "f"])]),
+    ("a.bash", [], "bash -c \"sed \\$'s/a\\\\tb/c/'\"\nsh -c \"sed \\$'s/a\\\\tb/c/'\"\nsed $\"s/a/b/\"; sed p$\"x\" f\nsed p \"x$\" $\"d\"/f\n", 5,
+     [("1:10", A, ["s/a\tb/c/"]), ("2:8", UNKNOWN, None), ("3:1", UNKNOWN, None), ("3:16", UNKNOWN, None), ("4:1", IF, None)]),
     ("a.sh", [], "time -p sed p; timeout 5 sed d; nice -n 3 sed x; nohup sed =\n", 0, [("1:9", A, ["p"]), ("1:26", A, ["d"]), ("1:43", A, ["x"]), ("1:56", A, ["="])]),
     ("a.sh", [], "command -v sed p; which sed; type sed\n", 0, []),
     # What isn't known.

@@ -5,10 +5,10 @@ use crate::names::{Names, Scope, Spot};
 use crate::parts::{Part, parts_of};
 use crate::programs::{Program, mention_in};
 use crate::replaced::with_holes;
-use crate::units::{bytes_of, ends_with};
-use sedck_hosts::Kind;
+use crate::units::{bytes_of, ends_with, last_part};
+use sedck_hosts::{Kind, is_dollar_quoting};
 use sedck_origin::{Result, Text, Unit, byte_at, is_text};
-use sedck_shell::{ShellCommand, ShellWord, read_shell};
+use sedck_shell::{Form, ShellCommand, ShellWord, read_shell};
 use std::alloc::Global;
 
 /// How many levels of texts in texts are read.
@@ -35,6 +35,7 @@ impl Held {
 pub(crate) struct Inner {
     units: Vec<Unit>,
     scope: Scope,
+    form: Form,
 }
 
 /// What was read of a file.
@@ -51,9 +52,14 @@ pub(crate) struct Reading<'a> {
 }
 
 impl Reading<'_> {
-    /// Reads a text.
+    /// Reads a text of the file.
     pub fn read(&mut self, text: Text, scope: Scope, is_value: bool) -> Result<()> {
-        let read = read_shell(self.names.alloc, text, self.names.form)?;
+        self.read_as(text, self.names.form, scope, is_value)
+    }
+
+    /// Reads a text that is of this form.
+    fn read_as(&mut self, text: Text, form: Form, scope: Scope, is_value: bool) -> Result<()> {
+        let read = read_shell(self.names.alloc, text, form)?;
         if !is_value {
             self.unread.extend_from_slice(&read.unread)?;
         }
@@ -63,7 +69,7 @@ impl Reading<'_> {
             }
         }
         for command in read.commands {
-            self.note(&command, scope)?;
+            self.note(&command, form, scope)?;
             if may_call(&command.words) {
                 self.held.push(Held {
                     command,
@@ -80,7 +86,7 @@ impl Reading<'_> {
         for _ in 0..LEVELS {
             let texts = std::mem::replace(&mut self.inner, Vec::new(self.names.alloc));
             for text in &texts {
-                self.read(Text::Units(&text.units), text.scope, false)?;
+                self.read_as(Text::Units(&text.units), text.form, text.scope, false)?;
             }
         }
         for text in &self.inner {
@@ -92,7 +98,7 @@ impl Reading<'_> {
     }
 
     /// Notes what a command sets, and the texts in it.
-    fn note(&mut self, command: &ShellCommand, scope: Scope) -> Result<()> {
+    fn note(&mut self, command: &ShellCommand, form: Form, scope: Scope) -> Result<()> {
         let words = command.words.as_slice();
         self.names.may_fix_locale |= may_fix_locale(words);
         if self.names.kind != Kind::Make {
@@ -105,21 +111,30 @@ impl Reading<'_> {
             }
         }
         for part in &parts {
-            self.note_part(*part, command, scope)?;
+            self.note_part(*part, command, form, scope)?;
         }
         Ok(())
     }
 
     /// Notes the text that a part of a command has for a shell. A here-document that `.` reads isn't understood.
-    fn note_part(&mut self, part: Part, command: &ShellCommand, scope: Scope) -> Result<()> {
+    fn note_part(
+        &mut self,
+        part: Part,
+        command: &ShellCommand,
+        form: Form,
+        scope: Scope,
+    ) -> Result<()> {
         let Some([name, words @ ..]) = command.words.get(part.name..part.end) else {
             return Ok(());
         };
         match (part.program, command.words.first()) {
-            (Program::Shell, _) => self.note_shell(words, part, command),
-            (Program::Again, _) => self.note_again(words, name.is("trap"), scope),
+            (Program::Shell, _) => {
+                let form = self.form_for(name, form)?;
+                self.note_shell(words, part, command, form)
+            }
+            (Program::Again, _) => self.note_again(words, name.is("trap"), form, scope),
             (Program::User, _) => match user_text(words) {
-                Some(text) => self.note_other(text, part, command),
+                Some(text) => self.note_other(text, part, command, plain(form)),
                 None => Ok(()),
             },
             (Program::Sourcing, Some(first)) if command.here.is_some() => {
@@ -129,23 +144,38 @@ impl Reading<'_> {
         }
     }
 
+    /// How a text is read by the shell of this name, which a text of this form calls.
+    fn form_for(&self, name: &ShellWord, form: Form) -> Result<Form> {
+        match bytes_of(self.names.alloc, last_part(&name.units))? {
+            Some(name) if is_dollar_quoting(&name) => Ok(form),
+            _ => Ok(plain(form)),
+        }
+    }
+
     /// Notes the text that a shell is called with.
     fn note_shell(
         &mut self,
         words: &[ShellWord],
         part: Part,
         command: &ShellCommand,
+        form: Form,
     ) -> Result<()> {
         match (shell_text(words), &command.here) {
-            (Input::Word(units), _) => self.note_other(units, part, command),
-            (Input::Standard, Some(units)) => self.note_text(units, Scope::Other),
+            (Input::Word(units), _) => self.note_other(units, part, command, form),
+            (Input::Standard, Some(units)) => self.note_text(units, form, Scope::Other),
             _ => Ok(()),
         }
     }
 
     /// Notes a text in the words of a command that is for another shell. What runs that shell may put names or lines into it, before the
     /// shell reads it.
-    fn note_other(&mut self, text: &[Unit], part: Part, command: &ShellCommand) -> Result<()> {
+    fn note_other(
+        &mut self,
+        text: &[Unit],
+        part: Part,
+        command: &ShellCommand,
+        form: Form,
+    ) -> Result<()> {
         let alloc = self.names.alloc;
         let Some(replaced) = part.replaced.texts(alloc, &command.words)? else {
             return self.miss(text);
@@ -155,7 +185,7 @@ impl Reading<'_> {
         for one in &replaced {
             units = with_holes(alloc, &units, one)?;
         }
-        self.note_text(&units, Scope::Other)
+        self.note_text(&units, form, Scope::Other)
     }
 
     /// Notes that the text isn't understood.
@@ -167,7 +197,13 @@ impl Reading<'_> {
     }
 
     /// Notes the text of `eval`, or of `trap`, which has other operands behind it.
-    fn note_again(&mut self, words: &[ShellWord], is_trap: bool, scope: Scope) -> Result<()> {
+    fn note_again(
+        &mut self,
+        words: &[ShellWord],
+        is_trap: bool,
+        form: Form,
+        scope: Scope,
+    ) -> Result<()> {
         let scope = match scope.text() {
             Some(text) => Scope::Again(text),
             None => Scope::Other,
@@ -175,23 +211,31 @@ impl Reading<'_> {
         match words {
             [] => Ok(()),
             [_] if is_trap => Ok(()),
-            [first, ..] if is_trap => self.note_text(&first.units, scope),
+            [first, ..] if is_trap => self.note_text(&first.units, form, scope),
             _ => {
                 let text = joined(self.names.alloc, words)?;
-                self.note_text(&text, scope)
+                self.note_text(&text, form, scope)
             }
         }
     }
 
     /// Notes a text, which is read next.
-    fn note_text(&mut self, text: &[Unit], scope: Scope) -> Result<()> {
+    fn note_text(&mut self, text: &[Unit], form: Form, scope: Scope) -> Result<()> {
         if text.len() > self.left {
             return self.miss(text);
         }
         self.left = self.left.saturating_sub(text.len());
         let mut units = Vec::new(self.names.alloc);
         units.extend_from_slice(text)?;
-        Ok(self.inner.push(Inner { units, scope })?)
+        Ok(self.inner.push(Inner { units, scope, form })?)
+    }
+}
+
+/// The same form for a shell that may not read `$'..'`.
+fn plain(form: Form) -> Form {
+    Form {
+        has_dollar_quotes: false,
+        ..form
     }
 }
 

@@ -119,11 +119,16 @@ pub fn kind_of(path: &str, bytes: &[u8]) -> Option<Kind> {
 /// with an interpreter. A plain `sh` needn't read it.
 pub fn reads_dollar_quotes(path: &str, bytes: &[u8]) -> bool {
     if bytes.starts_with(b"#!") {
-        return interpreter(bytes).is_some_and(|name| is_among(name, DOLLAR_QUOTING));
+        return interpreter(bytes).is_some_and(is_dollar_quoting);
     }
     let path = path.as_bytes();
     let path = path.strip_suffix(b".in").unwrap_or(path);
     path.ends_with(b".bash") || path.ends_with(b".ksh")
+}
+
+/// Whether the shell of this name reads `$'..'`.
+pub fn is_dollar_quoting(name: &[u8]) -> bool {
+    is_among(name, DOLLAR_QUOTING)
 }
 
 /// What is before the last such byte, and what is behind it; nothing and all if there is none.

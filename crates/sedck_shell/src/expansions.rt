@@ -21,7 +21,11 @@ impl Reader<'_> {
                 self.resume = after;
                 Ok(())
             }
-            Some(b'"') if self.top.quote == Quote::None => Ok(()),
+            Some(b'"') if self.top.quote == Quote::None => {
+                self.begin_word(unit.start());
+                self.top.translated = Some((unit.start(), self.top.word.units.len()));
+                Ok(())
+            }
             Some(byte) if begins_name(byte) => {
                 let end = self.name_end(next);
                 self.add_hole_to(unit, end.saturating_sub(1), self.way())

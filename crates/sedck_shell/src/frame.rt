@@ -100,6 +100,8 @@ pub(crate) struct Frame {
     pub quote: Quote,
     /// The offset in the file of the last `$'`.
     pub quoted_from: usize,
+    /// The offset in the file of a `$"` that isn't closed, and how many units the word had before it.
+    pub translated: Option<(usize, usize)>,
     pub command: Draft,
     pub word: ShellWord,
     pub has_word: bool,
@@ -175,6 +177,7 @@ impl Frame {
             floor: 0,
             quote,
             quoted_from: 0,
+            translated: None,
             command: Draft::new(alloc),
             word: ShellWord::new(alloc),
             has_word: false,

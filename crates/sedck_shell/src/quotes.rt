@@ -72,15 +72,23 @@ impl Reader<'_> {
     /// Reads a unit between double quotes (XCU 2.2.3), or of a here-document (XCU 2.7.4).
     pub fn read_double(&mut self, index: usize, unit: Unit) -> Result<()> {
         match unit.byte() {
-            Some(b'"') if self.top.quote == Quote::Double => {
-                self.top.quote = Quote::None;
-                Ok(())
-            }
+            Some(b'"') if self.top.quote == Quote::Double => self.close_double(unit),
             Some(b'\\') => self.read_backslash_in_double(index, unit),
             Some(b'$') => self.read_expansion(index, unit),
             Some(b'`') => self.read_backquote(index, unit),
             _ => self.add_byte(index, unit),
         }
+    }
+
+    /// Ends a text between double quotes. One behind a dollar sign isn't known: some shells put a translation in its place, and others keep
+    /// the sign. Since it may have commands of the script, it is a hole that may be anything.
+    fn close_double(&mut self, unit: Unit) -> Result<()> {
+        self.top.quote = Quote::None;
+        let Some((start, count)) = self.top.translated.take() else {
+            return Ok(());
+        };
+        self.top.word.units.truncate(count);
+        self.add_hole(start, unit.end(), Way::Several)
     }
 
     /// Reads a backslash between double quotes or in a here-document: it quotes a dollar sign, a backquote, a backslash and a newline, and

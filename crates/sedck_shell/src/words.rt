@@ -207,6 +207,7 @@ impl Reader<'_> {
         self.top.command = Draft::new(self.alloc);
         self.top.word = ShellWord::new(self.alloc);
         self.top.has_word = false;
+        self.top.translated = None;
         self.top.awaited = Awaited::Word;
     }
 
