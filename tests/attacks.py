@@ -32,6 +32,7 @@ OPEN = {"accepted-if", "unknown"}
 FOUND = OPEN | {"accepted"}
 ACCEPTED = {"accepted"}
 # Files that are in the folder of each run.
+MY = "#!/bin/sh\n> evil\n"
 AROUND = {"f": "aab\n", "es": "w evil\n", "conf": "s='w evil'\n"}
 # How long a run may take, in seconds.
 LIMIT = 2
@@ -176,6 +177,29 @@ OTHER_WORDS = [
     Row("a function's words behind the script", "strip() { sed p \"$@\"; }\nstrip -e 'w evil' f\n", "sh a.sh", WRITES),
     Row("a function named sed", "sed() { command sed -e 'w evil' \"$@\"; }\nsed p f\n", "sh a.sh", WRITES),
     Row("an alias named sed", "alias sed='sed -n -f es'\nsed p f\n", "sh a.sh", WRITES),
+    Row("a path that hash has", "chmod +x my\nhash -p ./my sed\nsed p f\n", "bash a.sh", RUNS, files={"my": MY}),
+    Row("a path that hash has behind command", "chmod +x my\nhash -p ./my sed\ncommand sed p f\n", "bash a.sh", RUNS, files={"my": MY}),
+    Row("a table of paths", "chmod +x my\nBASH_CMDS[sed]=./my\nsed p f\n", "bash a.sh", RUNS, files={"my": MY}),
+    Row("a table of aliases", "shopt -s expand_aliases\nBASH_ALIASES[sed]='sed -n -f es'\nsed p f\n", "bash a.sh", WRITES),
+    Row("an alias named command", "alias command='sed -n -f es f; command'\ncommand sed p f\n", "sh a.sh", WRITES),
+    Row("a function named command", "command() { sed -n -f es f; }\ncommand sed p f\n", "bash a.sh", WRITES),
+    Row("a function named find", "find() { sed -n -f es f; }\nfind . -exec sed p {} \\;\n", "sh a.sh", WRITES),
+    Row("an alias for any word", "#!/bin/zsh\nalias -g p='-n -f es'\nsed p f\n", "zsh a.sh", WRITES),
+    Row("a table of functions", "#!/bin/zsh\nfunctions[sed]='command sed -n -f es f'\nsed p f\n", "zsh a.sh", WRITES),
+    Row("set -k", "set -k\nsed a=b 'w evil' f\n", "bash a.sh", WRITES),
+    Row("set -ek", "set -ek\nsed a=b 'w evil' f\n", "bash a.sh", WRITES),
+    Row("set -o keyword", "set -o keyword\nsed a=b 'w evil' f\n", "bash a.sh", WRITES),
+    Row("shopt -so keyword", "shopt -so keyword\nsed a=b 'w evil' f\n", "bash a.sh", WRITES),
+    Row("bash -k", "bash -kc \"sed a=b 'w evil' f\"\n", "sh a.sh", WRITES),
+    Row("bash -k in the first line", "#!/bin/bash -k\nsed a=b 'w evil' f\n", "bash -k a.sh", WRITES),
+    Row("-k of make", "SHELL = bash\n.SHELLFLAGS = -kc\nall:\n\t@sed a=b 'w evil' f\n", "make", WRITES, "Makefile"),
+    Row("set -k in a makefile", "SHELL = bash\nall:\n\t@set -k; sed a=b 'w evil' f\n", "make", WRITES, "Makefile"),
+    Row("names that find has from a list", "printf -- '-ewevil\\0' | find -files0-from - -exec sed p {} \\;\n", "sh a.sh", WRITES, files={"-ewevil": ""},
+        values=("-ewevil",)),
+    Row("a descriptor with two zeros", "sed -n -f - f <<B 00<<A\np\nB\nw evil\nA\n", "bash a.sh", WRITES),
+    Row("a pattern that vanishes", "shopt -s nullglob\nsed s/a*/b/ 'w evil' f\n", "bash a.sh", WRITES, due={"unknown"}),
+    Row("a pattern that vanishes in a makefile", "SHELL = bash -O nullglob\nall:\n\t@sed s/a*/b/ 'w evil' f\n", "make", WRITES, "Makefile", due={"unknown"}),
+    Row("a pattern that vanishes by the environment", "sed s/a*/b/ 'w evil' f\n", "BASHOPTS=nullglob bash a.sh", WRITES),
     Row("an alias with another language", "alias sed='sed -E'\nsed ':a;s/ab?/a/;ta' f\n", "sh a.sh", LOOPS),
 ]
 
@@ -296,6 +320,10 @@ INNOCENT = [Row("innocent: %r" % text, text, due=ACCEPTED) for text in [
     "cmd | sed p\n",
     "find . -exec sed -n p {} \\;\n",
     "sed -f - <<'E'\np\nE\n",
+    "set -e\nsed s=a=b= f\n",
+    "set -o pipefail\nset -- -k\nsed s=a=b= f\n",
+    "hash sed\nalias ll='ls -l'\nshopt -s extglob\nsed p ./*\n",
+    "f() { sed p f; }\nf\ncommand sed p f\nfind . -exec sed p {} \\;\n",
 ]] + [Row("innocent: a value that is given", 'sed "s/$a/b/" f\n', options=("--assume", "a=u"), due=ACCEPTED, warning="known-value"),
       Row("a value that is set once", 'a=u\nsed "s/$a/b/" f\n', due={"accepted-if"})]
 
@@ -394,6 +422,7 @@ def rules_out(message, values):
     nowhere += "".join(those for name, those in NAMED.items() if re.search(r"\b%ss?\b" % name, message))
     not_first = "".join(those for first, those in written if first) + ("-" if re.search(r"\boptions?\b", message) else "")
     return ("isn't empty" in message and "" in values
+            or any("`%s` isn't set" % value in message for value in values)
             or re.search(r"\bone (?:word|argument)\b", message) is not None and len(values) > 1
             or any(byte in nowhere for value in values for byte in value)
             or any(word[0] in not_first for value in values for word in value.split()))

@@ -209,7 +209,8 @@ fn words_of_role(role: Role) -> &'static str {
         Role::TextBegin => "it isn't empty, begins with no blank, and has no newline and no `\\`",
         Role::Word => "it is a part of one word",
         Role::Operand => "no word of it begins with `-`",
-        Role::Pattern => "no file's name matches it",
+        Role::Pattern =>
+            "no file's name matches it, and it stays as it is then: `nullglob` isn't set",
         Role::Names => "no file's name that matches it begins with `-`",
         Role::Sed => "it is the name of a sed, without options",
         Role::Runner => "it is nothing, or what runs the words behind it",
@@ -339,8 +340,12 @@ pub(crate) fn unknown_warning(
             "explain the script that M4 makes of this file",
         ),
         Unknown::Function => (
-            "a function or an alias of this file has the name of the sed, so the call is not judged",
-            "write `command sed` where the sed itself is called",
+            "a function, an alias or a table of this file may have something else run here, so the call is not judged",
+            "write `command sed` where a function has the name of the sed, and else the path of the sed",
+        ),
+        Unknown::Setting => (
+            "an option of the shell that this file sets may change the words of the call, so it is not judged",
+            "leave the option out, or quote the words",
         ),
     };
     warning_at(alloc, file, position, Code::Unknowable, words)

@@ -27,6 +27,10 @@ enum Utility {
     Opening,
     /// The same, and its operands are names of aliases.
     Aliasing,
+    /// Options of the shell.
+    Optioning,
+    /// Programs that run in place of others.
+    Hashing,
     /// What its text sets.
     Running,
     /// A variable behind an option.
@@ -42,6 +46,8 @@ static UTILITIES: &'static [(Utility, &'static [&'static str])] = &[
     (Utility::SettingSecond, &["getopts"]),
     (Utility::Opening, &[".", "source", "let", "coproc"]),
     (Utility::Aliasing, &["alias"]),
+    (Utility::Optioning, &["set", "shopt"]),
+    (Utility::Hashing, &["hash", "enable"]),
     (Utility::Running, &["eval", "trap"]),
     (Utility::Printing, &["printf"]),
 ];
@@ -130,6 +136,23 @@ impl Names<'_> {
         }
     }
 
+    /// Notes what a command of a makefile sets beside variables, which are make's there.
+    pub fn note_settings(&mut self, words: &[ShellWord]) -> Result<()> {
+        let [name, operands @ ..] = without_prefixes(words) else {
+            return Ok(());
+        };
+        let Some(bytes) = bytes_of(self.alloc, &name.units)? else {
+            return Ok(());
+        };
+        match named(UTILITIES, &bytes) {
+            Some(Utility::Optioning) => self.note_options(operands),
+            Some(Utility::Hashing) => self.note_hashed(operands)?,
+            Some(Utility::Aliasing) => self.note_aliases(operands)?,
+            _ => {}
+        }
+        Ok(())
+    }
+
     /// Notes what a command of this name sets by its operands.
     fn note_utility(&mut self, name: &ShellWord, operands: &[ShellWord], spot: Spot) -> Result<()> {
         let Some(bytes) = bytes_of(self.alloc, &name.units)? else {
@@ -148,12 +171,13 @@ impl Names<'_> {
             Utility::SettingFirst => self.note_names(operands.get(..1).unwrap_or(&[]), spot),
             Utility::SettingSecond => self.note_names(operands.get(1..2).unwrap_or(&[]), spot),
             Utility::Opening => self.note_open(spot),
+            Utility::Optioning => {
+                self.note_options(operands);
+                Ok(())
+            }
+            Utility::Hashing => self.note_hashed(operands),
             Utility::Aliasing => {
-                for word in operands {
-                    if let Some(name) = self.name_of(word)? {
-                        self.functions.push(name)?;
-                    }
-                }
+                self.note_aliases(operands)?;
                 self.note_open(spot)
             }
             // The texts of words that are known are read by themselves.
@@ -174,7 +198,7 @@ impl Names<'_> {
     }
 
     /// The name of a variable at the beginning of the word.
-    fn name_of(&self, word: &ShellWord) -> Result<Option<Vec<u8>>> {
+    pub fn name_of(&self, word: &ShellWord) -> Result<Option<Vec<u8>>> {
         let length = variable_length(&word.units);
         bytes_of(self.alloc, word.units.get(..length).unwrap_or(&[]))
     }

@@ -1,11 +1,13 @@
 //! Finds the calls of sed in a file.
 
+use crate::assigning::is_assignment;
 use crate::found::{Assumed, Found, FoundCall, FoundScript, OpenHole, Role, Unknown};
 use crate::names::{Names, Scope};
 use crate::overwriting::overwritten_by;
 use crate::parts::{Part, Runner, parts_of};
 use crate::programs::Program;
 use crate::script::{Around, script_of};
+use crate::settings::settings_of;
 use crate::texts::{Held, Reading};
 use crate::units::bytes_of;
 use crate::values::{has_placeholder, line_starts, written_value};
@@ -56,6 +58,8 @@ pub fn calls_in(
         is_open: false,
         may_fix_locale: false,
         functions: Vec::new(alloc),
+        hashed: Vec::new(alloc),
+        settings: settings_of(file),
         lines: line_starts(alloc, file)?,
     };
     let mut reading = Reading {
@@ -119,6 +123,7 @@ fn read_host(reading: &mut Reading<'_>) -> Result<()> {
 /// Notes an assignment of make's, and reads its value.
 fn read_assignment(reading: &mut Reading<'_>, assignment: &Assignment) -> Result<()> {
     let names = &mut reading.names;
+    names.note_shell_flags(assignment);
     let is_template = names.form.dialect == Dialect::Template;
     let value = if is_template && has_placeholder(&assignment.value) {
         None
@@ -199,9 +204,13 @@ fn found_call(
         runner: part.runner,
         here,
         named: &named,
+        has_no_match: names.settings.has_no_match,
     };
-    let script = if part.is_direct && is_redefined(names, name)? {
+    let has_assignment = others.iter().any(|word| is_assignment(&word.units));
+    let script = if is_redefined(names, name, part)? {
         FoundScript::Unknown(Unknown::Function)
+    } else if names.settings.has_keywords && has_assignment {
+        FoundScript::Unknown(Unknown::Setting)
     } else if !are_known {
         FoundScript::Unknown(Unknown::Words)
     } else {
@@ -278,10 +287,13 @@ fn put_in(word: &mut CallWord, runner: Runner, texts: &[Vec<u8>]) -> bool {
     are_there
 }
 
-/// Whether the file has a function or an alias with the name of the sed.
-fn is_redefined(names: &Names<'_>, name: &ShellWord) -> Result<bool> {
+/// Whether the file may have something else run in place of the sed, or of what runs it: a function or an alias, or another program.
+fn is_redefined(names: &Names<'_>, name: &ShellWord, part: Part) -> Result<bool> {
+    if part.is_redefined {
+        return Ok(true);
+    }
     Ok(match bytes_of(names.alloc, &name.units)? {
-        Some(name) => names.is_function(&name),
+        Some(name) => names.is_hashed(&name) || (part.is_direct && names.is_function(&name)),
         None => false,
     })
 }

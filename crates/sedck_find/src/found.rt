@@ -88,8 +88,10 @@ pub enum Unknown {
     File,
     /// Macros of M4 change the script.
     Macro,
-    /// The file has a function or an alias with the name of the sed.
+    /// A function, an alias or a table of the file may have something else run in place of the sed, or of what runs it.
     Function,
+    /// A setting of the file may change the words.
+    Setting,
 }
 
 /// What isn't known of a call, on which its words depend.

@@ -15,6 +15,7 @@ mod parts;
 mod programs;
 mod replaced;
 mod script;
+mod settings;
 mod texts;
 mod units;
 mod values;

@@ -1,6 +1,7 @@
 //! What is known of the values of variables.
 
 use crate::found::Assumed;
+use crate::settings::Settings;
 use crate::values::Value;
 use sedck_hosts::Kind;
 use sedck_origin::{Hole, Result, Unit, hole_name, is_among};
@@ -73,6 +74,9 @@ pub(crate) struct Names<'a> {
     pub may_fix_locale: bool,
     /// The names of functions and of aliases.
     pub functions: Vec<Vec<u8>>,
+    /// The names in whose place a shell may run other programs.
+    pub hashed: Vec<Vec<u8>>,
+    pub settings: Settings,
     /// The offset of each line's first byte.
     pub lines: Vec<usize>,
 }

@@ -28,6 +28,8 @@ pub(crate) struct Part {
     pub replaced: Replaced,
     /// Whether no other command runs it, so that a function may be called.
     pub is_direct: bool,
+    /// Whether a command that runs it has the name of a function or an alias.
+    pub is_redefined: bool,
     /// The number of the word that may be a runner or nothing, where that isn't known.
     pub unknown: Option<usize>,
     /// Whether the words right before the name set LC_ALL to C or POSIX.
@@ -88,6 +90,10 @@ struct Finder<'a> {
     /// Whether an option of the last `xargs` has it replace something, and whether it may add operands all the same.
     replaces: bool,
     may_add: bool,
+    /// Whether `find` has names from a list, which may begin with a hyphen.
+    is_listed: bool,
+    /// Whether a command that runs the next one has the name of a function or an alias.
+    is_redefined: bool,
     unknown: Option<usize>,
     setter: Setter,
     /// Whether LC_ALL is set to C or POSIX there.
@@ -111,6 +117,8 @@ pub(crate) fn parts_of(names: &Names<'_>, words: &[ShellWord], spot: Spot) -> Re
         replaced: Replaced::NOTHING,
         replaces: false,
         may_add: false,
+        is_listed: words.iter().any(|word| word.is("-files0-from")),
+        is_redefined: false,
         unknown: None,
         setter: Setter::Shell,
         c_locale: false,
@@ -141,7 +149,9 @@ impl Finder<'_> {
             State::Find if is_one_of(&word.units, EXECUTING) => {
                 self.state = State::Name;
                 self.is_found = true;
-                if self.runner == Runner::Plain {
+                if self.runner == Runner::Plain && self.is_listed {
+                    self.runner = Runner::Replacing;
+                } else if self.runner == Runner::Plain {
                     self.runner = Runner::Find;
                 }
                 self.replaced.has_braces = true;
@@ -173,6 +183,9 @@ impl Finder<'_> {
             return Ok(());
         }
         let program = program_of(self.names, word, self.spot)?;
+        if let Program::Wrapper(_) | Program::Find = program {
+            self.note_runner(word)?;
+        }
         self.state = match program {
             Program::Wrapper(wrapper) if self.wrappers < WRAPPED => {
                 self.pass(index, wrapper);
@@ -187,11 +200,20 @@ impl Finder<'_> {
                 runner: self.runner,
                 replaced: self.replaced,
                 is_direct: self.runner == Runner::Plain && self.wrappers == 0,
+                is_redefined: self.is_redefined,
                 unknown: self.unknown,
                 c_locale: self.c_locale,
             }),
         };
         self.wrappers = self.wrappers.saturating_add(1);
+        Ok(())
+    }
+
+    /// Notes the name of a command that runs another one.
+    fn note_runner(&mut self, word: &ShellWord) -> Result<()> {
+        if let Some(name) = bytes_of(self.names.alloc, &word.units)? {
+            self.is_redefined = self.is_redefined || self.names.is_function(&name);
+        }
         Ok(())
     }
 

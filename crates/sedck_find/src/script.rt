@@ -1,7 +1,7 @@
 //! The script of a call.
 
 use crate::conditions::Conditions;
-use crate::found::{FoundScript, OpenHole, Unknown};
+use crate::found::{FoundScript, OpenHole, Role, Unknown};
 use crate::holes::roles_of;
 use crate::parts::Runner;
 use crate::words::{CallWord, LONGEST};
@@ -22,6 +22,8 @@ pub(crate) struct Around<'a> {
     pub here: Option<&'a CallWord>,
     /// What must hold of the name of the sed, and of what runs it.
     pub named: &'a [OpenHole],
+    /// Whether a pattern without a match may vanish.
+    pub has_no_match: bool,
 }
 
 /// The script of a call with these words.
@@ -73,6 +75,10 @@ fn script_in(
     let conditions = Conditions::of(alloc, &call, words, around.name, around.runner)?;
     if conditions.is_unknown {
         return Ok(FoundScript::Unknown(Unknown::Words));
+    }
+    let has_pattern = |hole: &OpenHole| matches!(hole.role, Role::Pattern);
+    if around.has_no_match && conditions.holes.iter().any(has_pattern) {
+        return Ok(FoundScript::Unknown(Unknown::Setting));
     }
     holes.extend_from_slice(&conditions.holes)?;
     holes.extend_from_slice(around.named)?;

@@ -5,6 +5,7 @@ use crate::names::{Names, Scope, Spot};
 use crate::parts::{Part, parts_of};
 use crate::programs::{Program, mention_in};
 use crate::replaced::with_holes;
+use crate::settings::is_keyword_option;
 use crate::units::{bytes_of, ends_with, last_part};
 use sedck_hosts::{Kind, is_dollar_quoting};
 use sedck_origin::{Result, Text, Unit, byte_at, is_text};
@@ -101,7 +102,9 @@ impl Reading<'_> {
     fn note(&mut self, command: &ShellCommand, form: Form, scope: Scope) -> Result<()> {
         let words = command.words.as_slice();
         self.names.may_fix_locale |= may_fix_locale(words);
-        if self.names.kind != Kind::Make {
+        if self.names.kind == Kind::Make {
+            self.names.note_settings(words)?;
+        } else {
             self.names.note_command(command, scope)?;
         }
         let parts = parts_of(&self.names, words, Scope::Other.spot(command.site, 0))?;
@@ -160,6 +163,8 @@ impl Reading<'_> {
         command: &ShellCommand,
         form: Form,
     ) -> Result<()> {
+        let is_keyword = words.iter().any(|word| is_keyword_option(&word.units));
+        self.names.settings.has_keywords |= is_keyword;
         match (shell_text(words), &command.here) {
             (Input::Word(units), _) => self.note_other(units, part, command, form),
             (Input::Standard, Some(units)) => self.note_text(units, form, Scope::Other),

@@ -210,14 +210,17 @@ enum Stream {
     Other,
 }
 
-/// The stream with this descriptor.
+/// The stream with this descriptor. Zeros before a number don't count.
 fn stream_of(descriptor: &ShellWord) -> Stream {
-    if descriptor.is("0") {
-        Stream::Input
-    } else if descriptor.is("1") {
-        Stream::Output
-    } else {
-        Stream::Other
+    let units = descriptor.units.as_slice();
+    let zeros = units
+        .iter()
+        .position(|unit| unit.byte() != Some(b'0'))
+        .unwrap_or(units.len());
+    match units.get(zeros..) {
+        None | Some([]) => Stream::Input,
+        Some([unit]) if unit.byte() == Some(b'1') => Stream::Output,
+        Some(_) => Stream::Other,
     }
 }
 

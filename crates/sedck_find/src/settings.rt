@@ -1,0 +1,155 @@
+//! Settings of a shell by which a call may have other words, or another program runs in place of the sed.
+
+use crate::names::Names;
+use crate::units::bytes_of;
+use sedck_hosts::Assignment;
+use sedck_origin::{Result, Unit, byte_at, is_one_of, is_text};
+use sedck_shell::ShellWord;
+
+/// What a file sets somewhere. It counts for all of its calls.
+#[derive(Clone, Copy, Default)]
+pub(crate) struct Settings {
+    /// Words such as `name=value` may be no words of a command, wherever they stand in it: `set -k`.
+    pub has_keywords: bool,
+    /// A pattern without a match may vanish: `nullglob`.
+    pub has_no_match: bool,
+    /// Another program may run in place of any that is named without a path.
+    pub has_tables: bool,
+}
+
+/// Names of variables that are tables of programs and aliases.
+static TABLES: &'static [&'static str] = &["BASH_CMDS", "BASH_ALIASES"];
+
+/// The same for zsh alone.
+static TABLES_OF_ZSH: &'static [&'static str] = &[
+    "aliases[",
+    "functions[",
+    "aliases=",
+    "functions=",
+];
+
+/// What has patterns without a match vanish.
+static NO_MATCH: &'static [&'static str] = &["nullglob", "null_glob", "NULL_GLOB", "NULLGLOB"];
+
+/// The settings that the text of a file shows, whatever commands it has.
+pub(crate) fn settings_of(file: &[u8]) -> Settings {
+    let end = file
+        .iter()
+        .position(|byte| *byte == b'\n')
+        .unwrap_or(file.len());
+    let line = file.get(..end).unwrap_or(&[]);
+    let is_program = line.starts_with(b"#!");
+    let is_zsh = is_program && has_text(line, "zsh");
+    Settings {
+        has_keywords: is_program && names_keywords(line),
+        has_no_match: has_any(file, NO_MATCH),
+        has_tables: has_any(file, TABLES) || (is_zsh && has_any(file, TABLES_OF_ZSH)),
+    }
+}
+
+/// Whether a word of the first line is an option with the letter `k`.
+fn names_keywords(line: &[u8]) -> bool {
+    line.split(|byte| matches!(*byte, b' ' | b'\t'))
+        .any(|word| word.starts_with(b"-") && word.contains(&b'k'))
+}
+
+/// Whether one of the texts is in these bytes.
+fn has_any(bytes: &[u8], texts: &[&str]) -> bool {
+    texts.iter().any(|text| has_text(bytes, text))
+}
+
+/// Whether the text is in these bytes.
+fn has_text(bytes: &[u8], text: &str) -> bool {
+    let text = text.as_bytes();
+    (0..bytes.len()).any(|from| bytes.get(from..from.saturating_add(text.len())) == Some(text))
+}
+
+impl Names<'_> {
+    /// Notes what `set` and `shopt` set by these operands. What isn't known may be any option.
+    pub fn note_options(&mut self, operands: &[ShellWord]) {
+        for word in operands {
+            if word.is("--") {
+                return;
+            }
+            if is_keyword_option(&word.units) {
+                self.settings.has_keywords = true;
+            }
+        }
+    }
+
+    /// Notes what `hash` and `enable` put in place of programs: with an option `-p` or `-f` what is named behind it.
+    pub fn note_hashed(&mut self, operands: &[ShellWord]) -> Result<()> {
+        let is_put = operands.iter().any(|word| {
+            let is_option = byte_at(&word.units, 0) == Some(b'-');
+            is_hole_first(&word.units) || (is_option && has_letter(&word.units, b"pf"))
+        });
+        if !is_put {
+            return Ok(());
+        }
+        for word in operands {
+            match bytes_of(self.alloc, &word.units)? {
+                Some(name) => self.hashed.push(name)?,
+                None => self.settings.has_tables = true,
+            }
+        }
+        Ok(())
+    }
+
+    /// Notes what aliases with these operands replace: their names, and with an option any word.
+    pub fn note_aliases(&mut self, operands: &[ShellWord]) -> Result<()> {
+        for word in operands {
+            let is_option = byte_at(&word.units, 0) == Some(b'-');
+            if is_option && has_letter(&word.units, b"gs") {
+                self.settings.has_tables = true;
+            }
+            if let Some(name) = self.name_of(word)? {
+                self.functions.push(name)?;
+            }
+        }
+        Ok(())
+    }
+
+    /// Notes how make calls the shell, if the assignment says that.
+    pub fn note_shell_flags(&mut self, assignment: &Assignment) {
+        let value = assignment.value.as_slice();
+        let is_flags = assignment.name.as_slice() == b".SHELLFLAGS".as_slice();
+        let is_shell = assignment.name.as_slice() == b"SHELL".as_slice();
+        let has_hole = is_flags && value.iter().any(|unit| matches!(*unit, Unit::Hole(_)));
+        if has_hole || ((is_flags || is_shell) && has_option(value, b'k')) {
+            self.settings.has_keywords = true;
+        }
+    }
+
+    /// Whether another program may run in place of the one that is named so, also where another command runs it.
+    pub fn is_hashed(&self, name: &[u8]) -> bool {
+        self.settings.has_tables || self.hashed.iter().any(|other| other.as_slice() == name)
+    }
+}
+
+/// Whether a word behind `set`, `shopt` or the name of a shell may set the option `keyword`.
+pub(crate) fn is_keyword_option(units: &[Unit]) -> bool {
+    let is_letters = byte_at(units, 0) == Some(b'-') && byte_at(units, 1) != Some(b'-');
+    is_hole_first(units)
+        || is_one_of(units, &["keyword"])
+        || (is_letters && has_letter(units, b"k"))
+}
+
+/// Whether it isn't known how the units begin.
+fn is_hole_first(units: &[Unit]) -> bool {
+    matches!(units.first(), Some(Unit::Hole(_)))
+}
+
+/// Whether one of the units is one of these letters.
+fn has_letter(units: &[Unit], letters: &[u8]) -> bool {
+    let mut bytes = units.iter().filter_map(|unit| unit.byte());
+    bytes.any(|byte| letters.contains(&byte))
+}
+
+/// Whether a word among the units is an option that has the letter, or the option `keyword`.
+fn has_option(units: &[Unit], letter: u8) -> bool {
+    let mut words = units.split(|unit| matches!(unit.byte(), Some(b' ' | b'\t')));
+    words.any(|word| {
+        let is_option = byte_at(word, 0) == Some(b'-');
+        is_text(word, "keyword") || (is_option && has_letter(word, &[letter]))
+    })
+}
