@@ -203,6 +203,18 @@ OTHER_WORDS = [
     Row("an alias with another language", "alias sed='sed -E'\nsed ':a;s/ab?/a/;ta' f\n", "sh a.sh", LOOPS),
 ]
 
+# ---- Macros of M4, of which m4 makes other text
+
+MACROS = [Row("a macro of M4 that is defined by " + how, before + call, "sh made.sh", WRITES, "configure.ac", files={"made.sh": made})
+          for how, before, call, made in [
+    ("AC_DEFUN", "AC_DEFUN([MY_RE],[b/;w evil\n#])\n", "sed -n 's/a/MY_RE/' f\n", "sed -n 's/a/b/;w evil\n#/' f\n"),
+    ("m4_define", "m4_define([abc],[w evil])\n", "sed -n 'abc' f\n", "sed -n 'w evil' f\n"),
+    ("m4_define with blanks", "m4_define( [abc], [w evil])\n", "sed -n 'abc' f\n", "sed -n 'w evil' f\n"),
+    ("define", "define(abc, w evil)\n", "sed -n 'abc' f\n", "sed -n 'w evil' f\n"),
+    ("M4 itself", "", "sed -n \"ifelse(a,a,w evil)\" f\n", "sed -n \"w evil\" f\n"),
+    ("AC_DEFUN, as an operand", "AC_DEFUN([MY_FILES],[-e 'w evil' f])\n", "sed p MY_FILES\n", "sed p -e 'w evil' f\n"),
+]]
+
 # ---- Values that the file seems to set: each run has another one than `p`
 
 GIVEN = "s='w evil' sh a.sh"
@@ -324,6 +336,9 @@ INNOCENT = [Row("innocent: %r" % text, text, due=ACCEPTED) for text in [
     "set -o pipefail\nset -- -k\nsed s=a=b= f\n",
     "hash sed\nalias ll='ls -l'\nshopt -s extglob\nsed p ./*\n",
     "f() { sed p f; }\nf\ncommand sed p f\nfind . -exec sed p {} \\;\n",
+]] + [Row("innocent: %r" % text, text, file="configure.ac", due=ACCEPTED) for text in [
+    "AC_DEFUN([MY_RE],[b])\nsed -n 's/MY_REX/include define/p' f\n",
+    "m4_define([abc],[x])\nsed -n 's/abcd/unix format/p' f\n",
 ]] + [Row("innocent: a value that is given", 'sed "s/$a/b/" f\n', options=("--assume", "a=u"), due=ACCEPTED, warning="known-value"),
       Row("a value that is set once", 'a=u\nsed "s/$a/b/" f\n', due={"accepted-if"})]
 
@@ -338,7 +353,7 @@ OUTPUTS = [Row("an output behind an operand", LIMITED + "sed p big >> big\n", "s
            Row("an output in place of an operand", "sed 's/a/b/' f > f\n", "sh a.sh", EMPTIES, due=ACCEPTED, warning="writes-its-input"),
            Row("an output in place of an operand, with -i", "sed -i 's/a/b/' f > f\n", "sh a.sh", EMPTIES, due=ACCEPTED, warning="writes-its-input")]
 
-ROWS = CONDITIONS + OTHER_WORDS + VALUES + VALUES_OF_MAKE + RECALL + INNOCENT + OUTPUTS
+ROWS = CONDITIONS + OTHER_WORDS + MACROS + VALUES + VALUES_OF_MAKE + RECALL + INNOCENT + OUTPUTS
 
 
 def fail(words):

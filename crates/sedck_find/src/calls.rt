@@ -2,6 +2,7 @@
 
 use crate::assigning::is_assignment;
 use crate::found::{Assumed, Found, FoundCall, FoundScript, OpenHole, Role, Unknown};
+use crate::macros::macros_of;
 use crate::names::{Names, Scope};
 use crate::overwriting::overwritten_by;
 use crate::parts::{Part, Runner, parts_of};
@@ -60,6 +61,10 @@ pub fn calls_in(
         functions: Vec::new(alloc),
         hashed: Vec::new(alloc),
         settings: settings_of(file),
+        macros: match kind {
+            Kind::Autoconf => macros_of(alloc, file)?,
+            _ => Vec::new(alloc),
+        },
         lines: line_starts(alloc, file)?,
     };
     let mut reading = Reading {
@@ -205,6 +210,7 @@ fn found_call(
         here,
         named: &named,
         has_no_match: names.settings.has_no_match,
+        macros: &names.macros,
     };
     let has_assignment = others.iter().any(|word| is_assignment(&word.units));
     let script = if is_redefined(names, name, part)? {

@@ -9,6 +9,7 @@ mod calls;
 mod conditions;
 mod found;
 mod holes;
+mod macros;
 mod names;
 mod overwriting;
 mod parts;

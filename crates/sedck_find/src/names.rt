@@ -77,6 +77,8 @@ pub(crate) struct Names<'a> {
     /// The names in whose place a shell may run other programs.
     pub hashed: Vec<Vec<u8>>,
     pub settings: Settings,
+    /// The names of the macros of M4 that the file defines, in order.
+    pub macros: Vec<Vec<u8>>,
     /// The offset of each line's first byte.
     pub lines: Vec<usize>,
 }

@@ -3,10 +3,11 @@
 use crate::conditions::Conditions;
 use crate::found::{FoundScript, OpenHole, Role, Unknown};
 use crate::holes::roles_of;
+use crate::macros::{has_bracket, has_macro_hole, has_macro_name};
 use crate::parts::Runner;
 use crate::words::{CallWord, LONGEST};
 use sedck_call::{Call, CallFault, CallOption, Given, Piece, call_of};
-use sedck_origin::{Hole, Origin, Result, Way, has_hole, is_among, is_name_byte};
+use sedck_origin::{Hole, Result, Traced, Way, has_hole, is_among};
 use sedck_shell::Dialect;
 use std::alloc::{AllocError, Global};
 
@@ -24,6 +25,8 @@ pub(crate) struct Around<'a> {
     pub named: &'a [OpenHole],
     /// Whether a pattern without a match may vanish.
     pub has_no_match: bool,
+    /// The names of the macros of M4 that the file defines, in order.
+    pub macros: &'a [Vec<u8>],
 }
 
 /// The script of a call with these words.
@@ -82,12 +85,20 @@ fn script_in(
     }
     holes.extend_from_slice(&conditions.holes)?;
     holes.extend_from_slice(around.named)?;
-    let is_macro = around.dialect == Dialect::Macros
-        && (has_macro_name(&text.bytes) || has_macro_hole(around.file, &text.origins));
-    if is_macro {
+    if around.dialect == Dialect::Macros && has_macro(words, &text, around) {
         return Ok(FoundScript::Unknown(Unknown::Macro));
     }
     Ok(FoundScript::Text { call, text, holes })
+}
+
+/// Whether macros of M4 may change the script or a word of the call.
+fn has_macro(words: &[CallWord], text: &Traced, around: Around<'_>) -> bool {
+    has_bracket(&text.bytes)
+        || has_macro_name(&text.bytes, around.macros)
+        || has_macro_hole(around.file, &text.origins)
+        || words
+            .iter()
+            .any(|word| has_macro_name(&word.traced.bytes, around.macros))
 }
 
 /// Why the script isn't known, if its words say so.
@@ -138,39 +149,4 @@ fn unknown_piece(piece: Piece, words: &[CallWord], here: Option<&CallWord>) -> O
             }
         }
     }
-}
-
-/// Whether a bracket is in the text, or a word begins like the name of a macro.
-fn has_macro_name(text: &[u8]) -> bool {
-    let mut is_inside = false;
-    for (index, byte) in text.iter().enumerate() {
-        let begins_name = !is_inside && is_macro_name(text.get(index..).unwrap_or(&[]));
-        if begins_name || matches!(*byte, b'[' | b']') {
-            return true;
-        }
-        is_inside = is_name_byte(*byte);
-    }
-    false
-}
-
-/// Whether the text begins like the name of a macro of Autoconf, Automake, Libtool or M4, or is a parameter of one.
-fn is_macro_name(text: &[u8]) -> bool {
-    match text {
-        [b'_', b'A', b'A'..=b'Z', b'_', ..] | [b'A', b'A'..=b'Z', b'_', ..] => true,
-        [b'm', b'4', b'_', ..] | [b'L', b'T', b'_', ..] | [b'P', b'K', b'G', b'_', ..] => true,
-        [b'd', b'n', b'l'] => true,
-        [b'd', b'n', b'l', next, ..] => !is_name_byte(*next),
-        _ => false,
-    }
-}
-
-/// Whether a hole is a quadrigraph of Autoconf, or a parameter of a macro.
-fn has_macro_hole(file: &[u8], origins: &[Origin]) -> bool {
-    origins.iter().any(|origin| match *origin {
-        Origin::Hole(hole) => matches!(
-            file.get(hole.start..hole.end),
-            Some([b'@', ..] | [b'$', b'0'..=b'9' | b'@' | b'*' | b'#'])
-        ),
-        _ => false,
-    })
 }

@@ -1,0 +1,143 @@
+//! Macros of M4 in sources of Autoconf.
+
+use sedck_origin::{Origin, Result, is_among, is_name_byte};
+use std::alloc::Global;
+
+/// Macros whose first argument is the name of a macro that they define.
+static DEFINING: &'static [&'static [&'static str]] = &[
+    &["AC_DEFUN", "AC_DEFUN_ONCE", "AU_DEFUN", "AU_ALIAS"],
+    &["m4_define", "m4_define_default", "m4_defun"],
+    &["m4_defun_once", "m4_pushdef", "define", "pushdef"],
+    &["m4_for", "m4_foreach", "m4_foreach_w"],
+];
+
+/// Macros of M4 itself, where a parenthesis follows.
+static CALLED: &'static [&'static [&'static str]] = &[
+    &["builtin", "changecom", "changequote", "changeword"],
+    &["debugfile", "debugmode", "decr", "define", "defn"],
+    &["divert", "dumpdef", "errprint", "esyscmd", "eval"],
+    &["format", "ifdef", "ifelse", "include", "incr", "index"],
+    &["indir", "len", "m4exit", "m4wrap", "maketemp", "mkstemp"],
+    &["patsubst", "popdef", "pushdef", "regexp", "shift"],
+    &["sinclude", "substr", "syscmd", "traceoff", "traceon"],
+    &["translit", "undefine", "undivert"],
+];
+
+/// The same, whatever follows.
+static BARE: &'static [&'static [&'static str]] = &[
+    &["changecom", "changequote", "debugfile", "debugmode"],
+    &["divert", "divnum", "dnl", "dumpdef", "m4exit", "sysval"],
+    &["traceoff", "traceon", "undivert"],
+    &["__file__", "__line__", "__oline__", "__program__"],
+];
+
+/// The names of the macros that a source of Autoconf defines, in order.
+pub(crate) fn macros_of(alloc: Global, file: &[u8]) -> Result<Vec<Vec<u8>>> {
+    let mut macros = Vec::new(alloc);
+    for index in 0..file.len() {
+        let rest = file.get(index..).unwrap_or(&[]);
+        let is_inside = index > 0 && file.get(index.saturating_sub(1)).is_some_and(is_name);
+        if is_inside {
+            continue;
+        }
+        let name = name_at(rest);
+        let behind = rest.get(name.len()..).unwrap_or(&[]);
+        if !behind.starts_with(b"(") || !is_one_among(name, DEFINING) {
+            continue;
+        }
+        let defined = name_at(without_quotes(behind));
+        if !defined.is_empty() {
+            let mut owned = Vec::new(alloc);
+            owned.extend_from_slice(defined)?;
+            macros.push(owned)?;
+        }
+    }
+    macros.sort()?;
+    macros.dedup();
+    Ok(macros)
+}
+
+/// What is behind a parenthesis, blanks and brackets.
+fn without_quotes(text: &[u8]) -> &[u8] {
+    let begins = text
+        .iter()
+        .position(|byte| !b"([ \t\n".contains(byte))
+        .unwrap_or(text.len());
+    text.get(begins..).unwrap_or(&[])
+}
+
+/// Whether a name may have the byte.
+fn is_name(byte: &u8) -> bool {
+    is_name_byte(*byte)
+}
+
+/// The name at the beginning of the text; nothing where it doesn't begin with one.
+fn name_at(text: &[u8]) -> &[u8] {
+    if let Some(b'0'..=b'9') = text.first() {
+        return &[];
+    }
+    let end = text
+        .iter()
+        .position(|byte| !is_name_byte(*byte))
+        .unwrap_or(text.len());
+    text.get(..end).unwrap_or(&[])
+}
+
+/// Whether the name is in one of the lists.
+fn is_one_among(name: &[u8], lists: &[&[&str]]) -> bool {
+    lists.iter().any(|names| is_among(name, names))
+}
+
+/// Whether a bracket is in the text, which is a quote of M4.
+pub(crate) fn has_bracket(text: &[u8]) -> bool {
+    text.iter().any(|byte| matches!(*byte, b'[' | b']'))
+}
+
+/// Whether a word of the text is the name of a macro: of one of these, or one of Autoconf, Automake, Libtool, pkg-config or M4.
+pub(crate) fn has_macro_name(text: &[u8], macros: &[Vec<u8>]) -> bool {
+    let mut is_inside = false;
+    for (index, byte) in text.iter().enumerate() {
+        if !is_inside && is_macro(text.get(index..).unwrap_or(&[]), macros) {
+            return true;
+        }
+        is_inside = is_name_byte(*byte);
+    }
+    false
+}
+
+/// Whether the text begins with the name of a macro.
+fn is_macro(text: &[u8], macros: &[Vec<u8>]) -> bool {
+    let name = name_at(text);
+    if name.is_empty() {
+        return false;
+    }
+    let is_called = text.get(name.len()) == Some(&b'(');
+    let is_defined = |name: &[u8]| {
+        let found = macros.binary_search_by(|one| one.as_slice().cmp(name));
+        found.is_ok()
+    };
+    begins_macro(name)
+        || is_one_among(name, BARE)
+        || (is_called && is_one_among(name, CALLED))
+        || is_defined(name)
+}
+
+/// Whether the name begins like those of Autoconf, Automake, Libtool, pkg-config or M4.
+fn begins_macro(name: &[u8]) -> bool {
+    match name {
+        [b'_', b'A', b'A'..=b'Z', b'_', ..] | [b'A', b'A'..=b'Z', b'_', ..] => true,
+        [b'm', b'4', b'_', ..] | [b'L', b'T', b'_', ..] | [b'P', b'K', b'G', b'_', ..] => true,
+        _ => false,
+    }
+}
+
+/// Whether a hole is a quadrigraph of Autoconf, or a parameter of a macro.
+pub(crate) fn has_macro_hole(file: &[u8], origins: &[Origin]) -> bool {
+    origins.iter().any(|origin| match *origin {
+        Origin::Hole(hole) => matches!(
+            file.get(hole.start..hole.end),
+            Some([b'@', ..] | [b'$', b'0'..=b'9' | b'@' | b'*' | b'#'])
+        ),
+        _ => false,
+    })
+}
