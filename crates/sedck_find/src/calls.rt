@@ -61,12 +61,20 @@ pub fn calls_in(
         functions: Vec::new(alloc),
         hashed: Vec::new(alloc),
         settings: settings_of(file),
-        macros: match kind {
-            Kind::Autoconf => macros_of(alloc, file)?,
-            _ => Vec::new(alloc),
-        },
+        macros: macros_of(alloc, kind, file)?,
         lines: line_starts(alloc, file)?,
     };
+    let reading = read_file(names)?;
+    let calls = calls_of(&reading)?;
+    let mut unread = reading.unread;
+    unread.sort()?;
+    unread.dedup();
+    Ok(Found { calls, unread })
+}
+
+/// Reads the file of these names: its texts, and those in them.
+fn read_file(names: Names<'_>) -> Result<Reading<'_>> {
+    let (alloc, kind, file) = (names.alloc, names.kind, names.file);
     let mut reading = Reading {
         names,
         held: Vec::new(alloc),
@@ -82,11 +90,7 @@ pub fn calls_in(
     if kind != Kind::Make {
         reading.names.note_expansions()?;
     }
-    let calls = calls_of(&reading)?;
-    let mut unread = reading.unread;
-    unread.sort()?;
-    unread.dedup();
-    Ok(Found { calls, unread })
+    Ok(reading)
 }
 
 /// The calls in the commands that were read, in the file's order, each once.
@@ -192,35 +196,22 @@ fn found_call(
     here: Option<&CallWord>,
 ) -> Result<Option<FoundCall>> {
     let names = filler.names;
-    let dialect = names.form.dialect;
     let Some([name, others @ ..]) = held.command.words.get(part.name..part.end) else {
         return Ok(None);
     };
-    if dialect == Dialect::Macros && is_prose(names.file, name, others) {
+    if names.form.dialect == Dialect::Macros && is_prose(names.file, name, others) {
         return Ok(None);
     }
     let mut named = Vec::new(names.alloc);
     let (words, are_known) = words_of(filler, held, part, &mut named)?;
-    let end = name.start.saturating_add(name.units.len().max(1));
-    let around = Around {
-        file: names.file,
-        dialect,
-        name: quoted(name.start, end),
-        runner: part.runner,
-        here,
-        named: &named,
-        has_no_match: names.settings.has_no_match,
-        macros: &names.macros,
-    };
-    let has_assignment = others.iter().any(|word| is_assignment(&word.units));
-    let script = if is_redefined(names, name, part)? {
-        FoundScript::Unknown(Unknown::Function)
-    } else if names.settings.has_keywords && has_assignment {
-        FoundScript::Unknown(Unknown::Setting)
-    } else if !are_known {
-        FoundScript::Unknown(Unknown::Words)
-    } else {
-        script_of(names.alloc, &words, around)?
+    let script = match changed_by(names, name, others, part)? {
+        Some(unknown) => FoundScript::Unknown(unknown),
+        None if !are_known => FoundScript::Unknown(Unknown::Words),
+        None => script_of(
+            names.alloc,
+            &words,
+            around(names, name, part.runner, here, &named),
+        )?,
     };
     let overwritten = overwritten_by(filler, held, part.runner, &script, &words)?;
     let mut traced = Vec::new(names.alloc);
@@ -235,6 +226,44 @@ fn found_call(
         overwritten,
         c_locale: part.c_locale,
     }))
+}
+
+/// What is known of a call by this name beside its words.
+fn around<'a>(
+    names: &'a Names<'_>,
+    name: &ShellWord,
+    runner: Runner,
+    here: Option<&'a CallWord>,
+    named: &'a [OpenHole],
+) -> Around<'a> {
+    let end = name.start.saturating_add(name.units.len().max(1));
+    Around {
+        file: names.file,
+        dialect: names.form.dialect,
+        name: quoted(name.start, end),
+        runner,
+        here,
+        named,
+        has_no_match: names.settings.has_no_match,
+        macros: &names.macros,
+    }
+}
+
+/// Why what the file sets elsewhere may change the call, if it may: what runs by its name, or which of its words are words.
+fn changed_by(
+    names: &Names<'_>,
+    name: &ShellWord,
+    others: &[ShellWord],
+    part: Part,
+) -> Result<Option<Unknown>> {
+    let has_assignment = others.iter().any(|word| is_assignment(&word.units));
+    if is_redefined(names, name, part)? {
+        return Ok(Some(Unknown::Function));
+    }
+    if names.settings.has_keywords && has_assignment {
+        return Ok(Some(Unknown::Setting));
+    }
+    Ok(None)
 }
 
 /// The words of a call behind its name, with the options in the value of a variable that is the name, and whether all that is put into them

@@ -1,5 +1,6 @@
 //! Macros of M4 in sources of Autoconf.
 
+use sedck_hosts::Kind;
 use sedck_origin::{Origin, Result, is_among, is_name_byte};
 use std::alloc::Global;
 
@@ -31,9 +32,12 @@ static BARE: &'static [&'static [&'static str]] = &[
     &["__file__", "__line__", "__oline__", "__program__"],
 ];
 
-/// The names of the macros that a source of Autoconf defines, in order.
-pub(crate) fn macros_of(alloc: Global, file: &[u8]) -> Result<Vec<Vec<u8>>> {
+/// The names of the macros that a file of this kind defines, in order: none but in a source of Autoconf.
+pub(crate) fn macros_of(alloc: Global, kind: Kind, file: &[u8]) -> Result<Vec<Vec<u8>>> {
     let mut macros = Vec::new(alloc);
+    if kind != Kind::Autoconf {
+        return Ok(macros);
+    }
     for index in 0..file.len() {
         let rest = file.get(index..).unwrap_or(&[]);
         let is_inside = index > 0 && file.get(index.saturating_sub(1)).is_some_and(is_name);
