@@ -21,7 +21,7 @@ use Rattle.sedck_find.specs.declared.found.Followed.{Followed}
 use Rattle.sedck_find.specs.declared.found.FoundCall.{FoundCall}
 use Rattle.sedck_find.specs.declared.found.FoundScript.{FoundScript}
 use Rattle.sedck_find.specs.declared.found.KnownValue.{KnownValue}
-use Rattle.sedck_find.specs.declared.found.KnownValue.TheVariants as value
+use Rattle.sedck_find.specs.declared.found.KnownValue.TheVariants as variant
 use Rattle.sedck_find.specs.declared.found.OpenHole.{OpenHole}
 use Rattle.sedck_find.specs.declared.found.FoundScript.TheVariants.{Text, Foreign, Refused, Unknown}
 use Rattle.sedck_origin.specs.Traced.{is_traced, has_hole}
@@ -114,8 +114,10 @@ IsSaidOf file denied words (Unknown why) e = IsUnjudged exit.Unknown e
 
 -- it isn't one that was given with the call of the program
 abbrev pub is_set : KnownValue → Bool
-is_set value.Given = false
-is_set _ = true
+is_set (variant.Line line) = true
+is_set (variant.Made line) = true
+is_set variant.Empty = true
+is_set variant.Given = false
 
 -- one of these variables is replaced by a value that the file sets
 abbrev pub has_set : List Followed → Bool

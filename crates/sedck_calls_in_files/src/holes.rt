@@ -145,9 +145,10 @@ pub(crate) fn overwriting_warnings(
     ensures findings { IfOk result (λ findings. All (IsFindingIn file.now) findings.items) }
 {
     let mut findings = Vec::new(alloc);
-    if let Some(one) = overwritten {
-        findings.push(overwriting_warning(alloc, file, places, one)?)?;
-    }
+    let Some(one) = overwritten else {
+        return Ok(findings);
+    };
+    findings.push(overwriting_warning(alloc, file, places, one)?)?;
     Ok(findings)
 }
 

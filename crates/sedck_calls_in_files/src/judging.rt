@@ -151,8 +151,8 @@ fn is_set(value: KnownValue) -> bool
     ensures { result ≡ is_set_value value }
 {
     match value {
+        KnownValue::Line(_) | KnownValue::Made(_) | KnownValue::Empty => true,
         KnownValue::Given => false,
-        _ => true,
     }
 }
 
