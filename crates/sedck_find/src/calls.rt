@@ -14,7 +14,7 @@ use crate::units::bytes_of;
 use crate::values::{has_placeholder, line_starts, written_value};
 use crate::words::{CallWord, Filler};
 use sedck_hosts::{Assignment, Kind, host_of, reads_dollar_quotes};
-use sedck_origin::{Hole, Result, Text, Unit, Way};
+use sedck_origin::{Hole, Result, Text, Traced, Unit, Way};
 use sedck_shell::{Dialect, Form, ShellWord, Site};
 use std::alloc::Global;
 use std::collections::BTreeMap;
@@ -204,23 +204,25 @@ fn found_call(
     }
     let mut named = Vec::new(names.alloc);
     let (words, are_known) = words_of(filler, held, part, &mut named)?;
+    let around = Around {
+        file: names.file,
+        dialect: names.form.dialect,
+        name: quoted(name.start, name_end(name)),
+        runner: part.runner,
+        here,
+        named: &named,
+        has_no_match: names.settings.has_no_match,
+        macros: &names.macros,
+    };
     let script = match changed_by(names, name, others, part)? {
         Some(unknown) => FoundScript::Unknown(unknown),
         None if !are_known => FoundScript::Unknown(Unknown::Words),
-        None => script_of(
-            names.alloc,
-            &words,
-            around(names, name, part.runner, here, &named),
-        )?,
+        None => script_of(names.alloc, &words, around)?,
     };
     let overwritten = overwritten_by(filler, held, part.runner, &script, &words)?;
-    let mut traced = Vec::new(names.alloc);
-    for word in words {
-        traced.push(word.traced)?;
-    }
     Ok(Some(FoundCall {
         start: name.start,
-        words: traced,
+        words: traced_words(names.alloc, words)?,
         script,
         followed: std::mem::replace(&mut filler.followed, Vec::new(names.alloc)),
         overwritten,
@@ -228,25 +230,18 @@ fn found_call(
     }))
 }
 
-/// What is known of a call by this name beside its words.
-fn around<'a>(
-    names: &'a Names<'_>,
-    name: &ShellWord,
-    runner: Runner,
-    here: Option<&'a CallWord>,
-    named: &'a [OpenHole],
-) -> Around<'a> {
-    let end = name.start.saturating_add(name.units.len().max(1));
-    Around {
-        file: names.file,
-        dialect: names.form.dialect,
-        name: quoted(name.start, end),
-        runner,
-        here,
-        named,
-        has_no_match: names.settings.has_no_match,
-        macros: &names.macros,
+/// The offset in the file behind the name of a call.
+fn name_end(name: &ShellWord) -> usize {
+    name.start.saturating_add(name.units.len().max(1))
+}
+
+/// The words with nothing but their bytes and origins.
+fn traced_words(alloc: Global, words: Vec<CallWord>) -> Result<Vec<Traced>> {
+    let mut traced = Vec::new(alloc);
+    for word in words {
+        traced.push(word.traced)?;
     }
+    Ok(traced)
 }
 
 /// Why what the file sets elsewhere may change the call, if it may: what runs by its name, or which of its words are words.
