@@ -8,10 +8,12 @@ The ledger `planted.sums` has for each crate a checksum of its code, definitions
 refused. Tried are those of the crates that are behind, whose sum is another one now; with `--all` those of all crates, or those of the
 crates that are named. With `--behind` nothing is tried: the crates that are behind are printed, and the status is 1 if there are any.
 
-What a crate needs is proved first. Then as many crates are tried at a time as there are processors, each in a tree of its own. The
+What the crates need is proved first, but for what the gate has kept on this machine. Then as many crates are tried at a time as there
+are processors, each in a tree of its own, where the planted edits stand as those of the gate. `rt` keeps which of them it has tried. The
 status is 0 only where each edit is refused, by more than a name that a proof has and the edit took away.
 """
 import hashlib
+import os
 import re
 import shlex
 import shutil
@@ -67,18 +69,22 @@ def entered(name, known):
     LEDGER.write_text("".join("%s  %s\n" % (sums[other], other) for other in sorted(sums)))
 
 
-def tried(rt, name, room):
-    """Tries a crate's planted edits in a tree of its own: what `rt` printed, and whether each was refused."""
+def in_tree(rt, names, room, edits_of=()):
+    """What `rt` prints, and its status, of these crates in a tree with them and all that they need: with the planted edits of some."""
     needs = prove.libraries()
-    below = [other for other in prove.ordered(needs, [name]) if other != name]
-    prove.fill(room, name, below)
-    shutil.copytree(TOP / "crates" / name / "planted", room / "crates" / name / "must-fail")
+    prove.fill(room, names[-1], [name for name in prove.ordered(needs, names) if name != names[-1]])
+    for name in edits_of:
+        shutil.copytree(TOP / "crates" / name / "planted", room / "crates" / name / "must-fail")
     try:
-        status, printed = prove.called(shlex.split(rt) + ["must-fail", name], room)
+        return prove.called(shlex.split(rt) + ["ci"] + names, room)
     finally:
         shutil.rmtree(room, ignore_errors=True)
-    refused = REFUSED.findall(printed)
-    return printed, not status and sorted(refused) == sorted(edit.stem for edit in planted(name))
+
+
+def tried(rt, name, room):
+    """Tries a crate's planted edits: what `rt` printed, and whether each was refused."""
+    status, printed = in_tree(rt, [name], room, [name])
+    return printed, not status and sorted(REFUSED.findall(printed)) == sorted(edit.stem for edit in planted(name))
 
 
 def try_all(rt, names):
@@ -86,10 +92,15 @@ def try_all(rt, names):
     needs, failed = prove.libraries(), []
     below = [name for name in prove.ordered(needs, names) if any(name in needs[other] for other in prove.ordered(needs, names))]
     with prove.trees("planted-") as folder:
-        if not prove.Proving(rt, below, folder).run():
-            return False
+        if below:
+            os.environ["RT_JOBS"] = str(prove.lanes())
+            status, printed = in_tree(rt, below, folder / "below")
+            if status:
+                print(printed, end="", flush=True)
+                return False
         # The sums are taken before, so that what is changed meanwhile counts as not tried.
         sums = {name: sum_of(name) for name in names}
+        os.environ["RT_JOBS"] = "1"
         largest = sorted(names, key=lambda name: -len(planted(name)) * prove.work_of(name))
         with ThreadPoolExecutor(prove.lanes()) as pool:
             running = {pool.submit(tried, rt, name, folder / name): name for name in largest}
