@@ -4,8 +4,8 @@
 RT ?= rt
 PREFIX ?= /usr/local
 
-.PHONY: all build sedck demo try test docs examples rows explain-tests refusals streams tools-tests calls-tests wrapper-tests bench planted seds matchers \
-	states changes measures probe install dist clean
+.PHONY: all build sedck demo try page try-page test docs examples rows explain-tests refusals streams tools-tests calls-tests wrapper-tests page-tests bench \
+	planted seds matchers states changes measures probe install dist clean
 
 # One target after the other, also under `make -j`: proofs want all processors and much memory, and tests have limits of time.
 .NOTPARALLEL:
@@ -35,13 +35,22 @@ demo:
 try:
 	@python3 tools/try.py "$(RT)" $(SCRIPTS)
 
+# One HTML file with both programs in WebAssembly; this also needs wasm-opt (package binaryen).
+page: build
+	@echo "Making build/page/sedck.html from the proved programs (ten processor minutes after a change of a crate) ..."
+	@python3 tools/page.py "$(RT)"
+
+try-page:
+	@echo "Making build/page/sedck.html without proofs (ten processor minutes after a change of a crate) ..."
+	@python3 tools/page.py "$(RT)" --unproved
+
 # The gate proves everything and builds the programs; the tests are then those that stand alone, with `build` and the programs of tests as
 # they are, so that nothing is proved or built again. A C compiler that is missing is missed before the gate.
 test: build/refuse.so
 	@echo "Running the gate: every proof from nothing, wrong bodies, the tests and the programs (90 to 200 processor minutes) ..."
 	@python3 tools/gate.py "$(RT)"
 	@$(COPY)
-	@$(MAKE) --no-print-directory -o build -o probe docs rows explain-tests refusals streams tools-tests calls-tests wrapper-tests
+	@$(MAKE) --no-print-directory -o build -o probe docs rows explain-tests refusals streams tools-tests calls-tests wrapper-tests page-tests
 	@python3 tools/planted.py "$(RT)" --behind || true
 	@cat build/gate-cost
 
@@ -89,6 +98,11 @@ wrapper-tests: build
 	@echo "Testing the sed that has its calls judged, and the formatter ..."
 	python3 tests/wrapper.py build/sedck-explain
 	python3 tests/formatter.py build/sedck-explain
+
+# Tests the page that is there, and makes none: without it, or without a tool, a line says what is skipped.
+page-tests:
+	@echo "Testing the page that make page has made, if there is one ..."
+	python3 tests/page.py
 
 bench: build
 	@echo "Measuring build/sedck and build/sedck-explain (bench/run.py prints the tables of docs/BENCH.md) ..."

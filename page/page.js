@@ -241,7 +241,7 @@ function showVerdict(verdict) {
   }
   const [kind, head, text] = REPLIES[report.answer];
   const isYes = report.answer === "accepted";
-  setVerdict(kind, head, text, isYes ? make("p", { class: "note" }, "The small module has checked the certificate, and accepted it.") : null);
+  setVerdict(kind, head, text, isYes ? make("p", { class: "aside" }, "The small module has checked the certificate, and accepted it.") : null);
   const parts = [...report.findings.map(findingBox), loopListing(report)];
   if (isYes) parts.push(...limitsOf(report), ...filesOf(report), ...certificateOf(verdict));
   byId("report").replaceChildren(...parts.filter((part) => part !== null), make("div", { id: "rest" }));
@@ -253,16 +253,16 @@ function findingBox(finding) {
   const box = make("div", { class: "finding " + finding.level },
     make("p", {}, make("span", { class: "level" }, finding.level), " ",
       finding.position ? placeButton(finding.position, finding.end) : null, finding.position ? " " : null,
-      finding.message, " ", make("code", {}, "[" + finding.code + "]")));
+      ...withCode(finding.message), " ", make("code", {}, "[" + finding.code + "]")));
   if (finding.position) box.append(lineWithMark(finding));
   if (finding.steps.length > 0) box.append(make("p", {}, "Step by step:"), make("ol", {}, ...finding.steps.map(stepItem)));
   if (finding.hint) box.append(make("p", {}, make("strong", {}, "What to write instead: "), ...withCode(finding.hint)));
   if (finding.fix) box.append(fixButton(finding.fix));
-  if (finding.page) box.append(make("p", { class: "note" }, "The page docs/" + finding.page + " explains it."));
+  if (finding.page) box.append(make("p", { class: "aside" }, "The page docs/" + finding.page + " explains it."));
   return box;
 }
 
-/** A hint with what stands between grave accents as code. */
+/** Words with what stands between grave accents as code. */
 function withCode(words) {
   return words.split("`").map((part, at) => at % 2 === 1 ? make("code", {}, part) : part);
 }
@@ -276,7 +276,7 @@ function lineWithMark(finding) {
 }
 
 function stepItem(step) {
-  return make("li", {}, step.position ? placeButton(step.position) : make("span", { class: "mono" }, "end"), " ", step.message);
+  return make("li", {}, step.position ? placeButton(step.position) : make("span", { class: "mono" }, "end"), " ", ...withCode(step.message));
 }
 
 function fixButton(fix) {
@@ -302,23 +302,32 @@ function loopListing(report) {
   while (start < judged.length) {
     let end = judged.indexOf(10, start);
     if (end < 0) end = judged.length;
-    items.push(listedLine(number, start, end, marks, report.commands));
+    items.push(listedLine(number, start, end, marks));
     start = end + 1;
     number += 1;
   }
   return make("section", { "aria-labelledby": "loop-title" }, make("h3", { id: "loop-title" }, "The loop in the script"),
-    make("p", { class: "note" }, "Each mark has the numbers of the steps above."), make("ol", { class: "listing", tabindex: "0", "aria-label": "The script with the loop marked" }, ...items));
+    make("p", { class: "aside" }, "Each mark has the numbers of the steps above."), make("ol", { class: "listing", tabindex: "0", "aria-label": "The script with the loop marked" }, ...items));
 }
 
-function listedLine(number, start, end, marks, commands) {
+/** How many characters the command has whose verb begins this text: with its label, or what `s` and `y` have between their delimiters. */
+function commandLength(text) {
+  if (/^[:bt]/.test(text)) return text.match(/^.[ \t]*[^;}\s]*/)[0].length;
+  const parts = /^[sy]([^\\\n])/.exec(text);
+  if (!parts) return 1;
+  let at = 2;
+  for (let left = 2; left > 0 && at < text.length; at += 1) {
+    if (text[at] === "\\") at += 1;
+    else if (text[at] === parts[1]) left -= 1;
+  }
+  return at + text.slice(at).match(/^[^;}\s]*/)[0].length;
+}
+
+function listedLine(number, start, end, marks) {
   const code = make("code", {}), inLine = [...marks.keys()].filter((offset) => start <= offset && offset < end).sort((a, b) => a - b);
-  const starts = commands.map((position) => position.offset);
   let at = start;
   for (const offset of inLine) {
-    const next = Math.min(end, ...starts.filter((other) => other > offset));
-    // A mark ends before what separates its command from the next one.
-    const length = Math.max(1, textBetween(offset, next).match(/^[:{bt]?[^;}\n]*/)[0].trimEnd().length);
-    const last = offset + encoder.encode(textBetween(offset, next).slice(0, length)).length;
+    const text = textBetween(offset, end), last = offset + encoder.encode(text.slice(0, commandLength(text))).length;
     code.append(textBetween(at, offset), make("mark", {}, textBetween(offset, last), make("sup", {}, marks.get(offset).join(","))));
     at = last;
   }
@@ -340,7 +349,7 @@ function limitsOf(report) {
   const rows = [["Steps", report.bound ? boundWords(report.bound, "in steps") : "No limit is known by bytes and lines"]];
   rows.push(["Steps, by lines alone", report.bound_by_lines ? boundWords(report.bound_by_lines, "in steps") : "No limit by lines alone: some loop reads no line"]);
   rows.push(["Pattern space and hold space", report.space_bound ? boundWords(report.space_bound, "for each, in bytes") : "No limit is known: a command may make a space longer"]);
-  return [make("h3", {}, "Limits"), make("p", { class: "note" }, "Bytes and lines are those of the input. Its newlines aren't counted as bytes."),
+  return [make("h3", {}, "Limits"), make("p", { class: "aside" }, "Bytes and lines are those of the input. Its newlines aren't counted as bytes."),
     make("div", { class: "scroll" }, make("table", {}, make("tbody", {}, ...rows.map(([head, text]) => make("tr", {}, make("th", { scope: "row" }, head), make("td", {}, text))))))];
 }
 
@@ -372,7 +381,7 @@ function plainOf(rest) {
   const isSame = rest.plain === decoder.decode(judged);
   return [head, make("p", {}, "GNU sed, BusyBox, toybox and ssed were seen to read this spelling alike. It is the same program."), make("pre", { tabindex: "0", id: "plain" }, rest.plain),
     make("div", { class: "row" },
-      isSame ? make("span", { class: "note" }, "The script is in this spelling.") : make("button", { type: "button", onclick: () => putText(0, byId("script").value.length, rest.plain) }, "Use this spelling"),
+      isSame ? make("span", { class: "aside" }, "The script is in this spelling.") : make("button", { type: "button", onclick: () => putText(0, byId("script").value.length, rest.plain) }, "Use this spelling"),
       saveLink(encoder.encode(rest.plain), "script.sed", "Save this spelling"))];
 }
 
@@ -424,7 +433,9 @@ function graphOf(text) {
   const parts = [make("h3", {}, "Flow graph"), legend(edges)];
   if (boxes.length <= MOST_DRAWN) parts.push(make("div", { class: "scroll", tabindex: "0", role: "group", "aria-label": "The flow graph, which the list of steps below has in words" }, drawing(boxes, edges)));
   else parts.push(make("p", {}, "The graph isn't drawn: it has more than " + MOST_DRAWN + " commands."));
-  parts.push(make("details", {}, make("summary", {}, "The steps of the graph in words"), edgeTable(boxes, edges)),
+  // The table may have thousands of rows, so it is made when it is asked for.
+  const details = make("details", { ontoggle: () => details.children.length > 1 || details.append(edgeTable(boxes, edges)) }, make("summary", {}, "The steps of the graph in words"));
+  parts.push(details,
     make("div", { class: "row" }, saveLink(encoder.encode(text), "script.dot", "Save the graph for Graphviz")));
   return parts;
 }
@@ -527,7 +538,7 @@ function sayWhatThisIs() {
   made.append(make("strong", {}, facts.proved ? "Made from proved programs. " : "Not proved. "),
     facts.proved ? "Both modules come from the LLVM code of programs that Rattle has proved: " + facts.versions + "."
       : "Both modules come from a trial build without proofs: " + facts.versions + ". Take this page for a try-out alone.");
-  byId("trust").append(make("p", { class: "note" }, "Check sums (SHA-256): ", ...facts.sums.flatMap(([name, sum]) => [name + " ", make("code", {}, sum), " "])));
+  byId("trust").append(make("p", { class: "aside" }, "Check sums (SHA-256): ", ...facts.sums.flatMap(([name, sum]) => [name + " ", make("code", {}, sum), " "])));
 }
 
 async function begin() {
