@@ -30,7 +30,7 @@ import page  # noqa: E402
 
 PAGE = page.OUT / "sedck.html"
 NAMES = {"explain": "sedck-explain", "checker": "sedck"}
-ROWS, DRAWN, CHANGED = 100, 100, 8
+ROWS, DRAWN, CHANGED = 120, 100, 8
 REPORTS = [("explain", ["--format", form, "script.sed"]) for form in ("json", "text", "dot", "sed", "html")] + [
     ("checker", [word, "script.sed"]) for word in ("rank", "files", "graph")]
 CHECK = ("checker", ["check", "script.sed", "script.cert"])
@@ -126,19 +126,19 @@ def job_of(report, files):
     return {"program": program, "words": [NAMES[program], *words], "files": {name: encoded(data) for name, data in files.items()}}
 
 
+def scripts_in(value):
+    """The scripts of rows that are given as they are."""
+    if isinstance(value, dict) and isinstance(value.get("script"), str):
+        yield value["script"]
+    for one in value.values() if isinstance(value, dict) else value if isinstance(value, list) else []:
+        yield from scripts_in(one)
+
+
 def row_scripts(count):
-    """Scripts of the rows, drawn from all that are given as they are."""
-    found = set()
-
-    def look(value):
-        if isinstance(value, dict):
-            found.update(one for one in [value.get("script")] if isinstance(one, str))
-        for one in value.values() if isinstance(value, dict) else value if isinstance(value, list) else []:
-            look(one)
-
-    for path in sorted((TOP / "tests" / "rows").glob("*.json")):
-        look(json.loads(path.read_text()))
-    return [text.encode() for text in random.Random(1).sample(sorted(found), count)]
+    """Scripts of the rows, nearly half of them those of loops."""
+    rows = {path.stem: set(scripts_in(json.loads(path.read_text()))) for path in sorted((TOP / "tests" / "rows").glob("*.json"))}
+    loops, others, draw = sorted(rows["loops"]), sorted(set().union(*rows.values()) - rows["loops"]), random.Random(1)
+    return [text.encode() for text in draw.sample(loops, count // 2 - 10) + draw.sample(others, count // 2 + 10)]
 
 
 def changed(certificate, others, draw):
@@ -174,7 +174,7 @@ def hold_answers(built, pool):
     rank = REPORTS.index(("checker", ["rank", "script.sed"]))
     ranked = [(script, base64.b64decode(one["out"])) for script, one in zip(scripts, due[rank::len(REPORTS)]) if one["status"] == 0]
     statuses = [one["status"] for one in due[::len(REPORTS)]]
-    for status, least in ((0, 60), (1, 15), (2, 30)):
+    for status, least in ((0, 60), (1, 40), (2, 20)):
         holds("at least %d scripts with status %d, of %d" % (least, status, len(scripts)), statuses.count(status) >= least)
     draw, others = random.Random(2), [certificate for _, certificate in ranked]
     checks = [job_of(CHECK, {"script.sed": script, "script.cert": text}) for script, certificate in ranked
@@ -336,6 +336,30 @@ def hold_disagreement(built, tab):
             holds("no yes without a checked certificate", put(tab, script).startswith("No answer. The two modules don't agree."))
 
 
+def fails(call, *words):
+    try:
+        call(*words)
+    except page.Fault:
+        return True
+    return False
+
+
+def hold_build():
+    """What the build does to code, modules and texts; this needs no page."""
+    code = 'target datalayout = "e"\ntarget triple = "x"\ndefine i32 @main() #0 {\nattributes #0 = { nounwind "target-cpu"="x86-64-v2" }\n'
+    same("code with another target", page.retargeted(code, 'target datalayout = "w"'),
+         'target datalayout = "w"\ntarget triple = "wasm64-unknown-unknown"\ndefine i32 @program() #0 {\nattributes #0 = { nounwind  }\n')
+    for what in ('  call void asm sideeffect "nop", ""()\n', "declare void @llvm.x86.sse2.pause()\n", 'target triple = "y"\n'):
+        holds("code with %r is refused" % what, fails(page.retargeted, code + what, 'target datalayout = "w"'))
+    holds("code without `main` is refused", fails(page.retargeted, code.replace("@main", "@other"), 'target datalayout = "w"'))
+    head, table, elements, last = b"\0asm\1\0\0\0", b"\4\5\1\x70\5\1\1", b"\x09\1\0", b"\x0a\x81\1" + b"\0" * 129
+    same("a module without its table", page.without_table(head + table + last), head + last)
+    same("sections", sections(head + table + last), [4, 10])
+    holds("a table that is used is refused", fails(page.without_table, head + table + elements + last))
+    holds("a text that ends its element is refused", fails(page.in_script, "a</SCRIPT b") and fails(page.in_script, "<!--") and page.in_script("</p>") == "</p>")
+    holds("a value in an element", "<" not in page.as_text({"a": "</script>"}) and json.loads(page.as_text({"a": "</script>"})) == {"a": "</script>"})
+
+
 def hold_browser(built, path):
     with browser.Browser(path) as tab:
         for width, scheme in ((1000, "light"), (360, "dark"), (360, "light"), (1000, "dark")):
@@ -350,15 +374,16 @@ def hold_browser(built, path):
 
 
 def main():
+    hold_build()
     if not PAGE.exists():
         skipped("the page", "build/page/sedck.html isn't there (`make page` or `make try-page`%s)" % (
             "" if shutil.which("wasm-opt") else "; wasm-opt isn't there either"))
-        return 0
+        return 1 if faults else 0
     with tempfile.TemporaryDirectory(prefix="sedck-page-") as folder, ThreadPoolExecutor(2) as pool:
         built = Built(folder)
         if not built.is_fresh():
             skipped("the page", "build/page/sedck.html was made from other sources (`make page` or `make try-page`)")
-            return 0
+            return 1 if faults else 0
         built.hold_modules()
         if shutil.which("node"):
             hold_answers(built, pool)
