@@ -40,9 +40,10 @@ page: build
 	@echo "Making build/page/sedck.html from the proved programs (ten processor minutes after a change of a crate) ..."
 	@python3 tools/page.py "$(RT)"
 
-try-page:
+# The same without proofs; with PROVED=sedck the small module, whose yes counts, is that of the proved checker.
+try-page: $(if $(PROVED),sedck)
 	@echo "Making build/page/sedck.html without proofs (ten processor minutes after a change of a crate) ..."
-	@python3 tools/page.py "$(RT)" --unproved
+	@python3 tools/page.py "$(RT)" --unproved $(if $(PROVED),,sedck) sedck_explain
 
 # The gate proves everything and builds the programs; the tests are then those that stand alone, with `build` and the programs of tests as
 # they are, so that nothing is proved or built again. A C compiler that is missing is missed before the gate.

@@ -203,22 +203,26 @@ function showUnknown(why) {
   byId("report").replaceChildren();
 }
 
-/** Whether both modules say the same: of an accepted script also the lists of files, by their lengths. */
-function agree(report, verdict) {
-  const isYes = verdict.rankStatus === 0 && verdict.checkStatus === 0 && verdict.checked.startsWith("accepted\n");
-  const isSame = report.status === verdict.reportStatus && report.status === verdict.rankStatus;
-  if (report.answer !== "accepted") return isSame && !isYes && verdict.rankStatus !== 0;
-  return isSame && isYes && listLength(verdict.checked, "read") === report.reads.length && listLength(verdict.checked, "write") === report.writes.length;
+/** The lists of files in the report of `check`, each name as the large module shows it. */
+function checkedLists(bytes) {
+  const lines = Array.from(bytes, (byte) => String.fromCharCode(byte)).join("").split("\n");
+  const special = { "\\": "\\\\", "\"": "\\\"" };
+  const shown = (name) => name.replace(/[^ !#-\[\]-_a-~]/g, (letter) => special[letter] || "\\x" + letter.charCodeAt(0).toString(16).padStart(2, "0"));
+  let at = lines[1].startsWith("bound ") ? 2 : 1;
+  return ["read", "write"].map((word) => {
+    const start = at + 1;
+    at = start + Number(lines[at].slice(word.length + 1));
+    return lines.slice(start, at).map(shown);
+  });
 }
 
-/** The length of a list in the report of `check`: its line comes before any name of the list. */
-function listLength(checked, list) {
-  const lines = checked.split("\n");
-  let at = lines[1] && lines[1].startsWith("bound ") ? 2 : 1;
-  const reads = Number(lines[at].slice("read ".length));
-  if (list === "read") return reads;
-  at += reads + 1;
-  return Number(lines[at].slice("write ".length));
+/** Whether both modules say the same, of an accepted script also which files it reads and writes. */
+function agree(report, verdict) {
+  const isSame = report.status === verdict.reportStatus && report.status === verdict.rankStatus;
+  const isYes = verdict.rankStatus === 0 && verdict.checkStatus === 0 && decoder.decode(verdict.checked).startsWith("accepted\n");
+  if (report.answer !== "accepted") return isSame && !isYes && verdict.rankStatus !== 0;
+  const lists = (files) => JSON.stringify(files);
+  return isSame && isYes && lists(checkedLists(verdict.checked)) === lists([report.reads, report.writes].map((files) => files.map((file) => file.name)));
 }
 
 function parsed(verdict) {
@@ -370,7 +374,7 @@ function saveLink(bytes, name, words) {
 function certificateOf(verdict) {
   return [make("h3", {}, "Certificate"), make("p", {}, "With it anyone can check the answer, without a search: ", make("code", {}, "sedck check script.sed script.cert")),
     make("div", { class: "row" }, saveLink(verdict.certificate, "script.cert", "Save the certificate"), saveLink(judged, "script.sed", "Save the script")),
-    make("details", {}, make("summary", {}, "What the small module said"), make("pre", { tabindex: "0", id: "checked" }, verdict.checked)),
+    make("details", {}, make("summary", {}, "What the small module said"), make("pre", { tabindex: "0", id: "checked" }, decoder.decode(verdict.checked))),
     make("details", {}, make("summary", {}, "The certificate"), make("pre", { tabindex: "0", id: "certificate" }, decoder.decode(verdict.certificate)))];
 }
 
@@ -533,11 +537,13 @@ function fillExamples() {
 }
 
 function sayWhatThisIs() {
-  const made = byId("made");
-  made.className = facts.proved ? "" : "unproved";
-  made.append(make("strong", {}, facts.proved ? "Made from proved programs. " : "Not proved. "),
-    facts.proved ? "Both modules come from the LLVM code of programs that Rattle has proved: " + facts.versions + "."
-      : "Both modules come from a trial build without proofs: " + facts.versions + ". Take this page for a try-out alone.");
+  const made = byId("made"), { checker, explain } = facts.proved;
+  made.className = checker && explain ? "" : "unproved";
+  made.append(make("strong", {}, checker && explain ? "Made from proved programs. " : checker ? "Not proved in whole. " : "Not proved. "),
+    checker && explain ? "Both modules come from the LLVM code of programs that Rattle has proved: "
+      : checker ? "Not proved is the large module, from a trial build: words, fixes, limits and spelling. The small one, whose yes counts, comes from the proved program: "
+      : "The small module comes from a trial build without proofs" + (explain ? ": " : ", and so does the large one: "), facts.versions,
+    checker ? "." : ". Take this page for a try-out alone.");
   byId("trust").append(make("p", { class: "aside" }, "Check sums (SHA-256): ", ...facts.sums.flatMap(([name, sum]) => [name + " ", make("code", {}, sum), " "])));
 }
 

@@ -16,7 +16,7 @@ function verdictOn(script) {
   const answer = { report: asText(report.out), reportStatus: report.status, said: asText(report.err) + asText(rank.err), rankStatus: rank.status };
   if (rank.status !== 0) return answer;
   const check = runModule(programs.checker, ["sedck", "check", NAME, CERTIFICATE], [[NAME, script], [CERTIFICATE, rank.out]]);
-  return { ...answer, certificate: rank.out, checkStatus: check.status, checked: asText(check.out) };
+  return { ...answer, certificate: rank.out, checkStatus: check.status, checked: check.out };
 }
 
 /** The graph, and for an accepted script its plain spelling. */

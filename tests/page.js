@@ -16,7 +16,7 @@ async function done(job) {
   if (job.script !== undefined) {
     heard.length = 0;
     await context.onmessage({ data: { number: 1, script: bytes(job.script) } });
-    return { heard: heard.map((data) => ({ ...data, verdict: data.verdict && { ...data.verdict, certificate: undefined } })) };
+    return { heard: heard.map((data) => ({ ...data, verdict: data.verdict && { ...data.verdict, certificate: undefined, checked: undefined } })) };
   }
   const files = Object.entries(job.files).map(([name, text]) => [name, bytes(text)]);
   const { status, out, err } = context.runModule(vm.runInContext("programs", context)[job.program], job.words, files);

@@ -72,8 +72,7 @@ class Built:
     def __init__(self, folder):
         self.text = PAGE.read_text()
         self.facts = json.loads(block(self.text, "facts"))
-        natives = TOP / "build" if self.facts["proved"] else page.OUT / "native"
-        self.natives = {program: natives / name for program, name in NAMES.items()}
+        self.natives = {program: (TOP / "build" if self.facts["proved"][program] else page.OUT / "native") / name for program, name in NAMES.items()}
         self.folder, self.files = Path(folder), []
         for name, data in [("worker-source", block(self.text, "worker-source").encode())] + [
                 (program, gzip.decompress(base64.b64decode(block(self.text, program + "-module")))) for program in NAMES]:
@@ -247,7 +246,9 @@ def hold_look(built, tab, width, scheme):
     corner, rows, height = pixels(picture)
     same("corner of the picture, " + what, corner, {"light": (255, 255, 255), "dark": (13, 17, 23)}[scheme])
     holds("a picture with more than 100 different rows, " + what, rows > 100 and height > 1000)
-    same("what the page says of its proof", tab.value("byId('made').innerText.startsWith('Not proved')"), not built.facts["proved"])
+    said = tab.value("byId('made').innerText")
+    same("what the page says of its proofs", ("Not proved" in said, "Both modules come from the LLVM code of programs that Rattle has proved" in said),
+         (not all(built.facts["proved"].values()), all(built.facts["proved"].values())))
 
 
 def hold_parts(built, tab):
@@ -295,6 +296,9 @@ def hold_hostile(tab):
         same("elements after %r" % script, (tab.value(count), tab.value("document.title.startsWith('sedck')")), (before, True))
     put(tab, MARKUP)
     holds("the name of a file as it is", "<b>name</b>" in tab.value("byId('report').innerText"))
+    for name, shown in (("\\a\"b`c'd", "\\\\a\\\"b\\x60c'd"), ("\u00e9 \t~^_{}[]@", "\\xc3\\xa9 \\x09~^_{}[]@")):
+        holds("both modules name %r alike" % name, put(tab, "w %s\nr z%s\n" % (name, name)).startswith("Accepted."))
+        same("the name %r" % name, tab.value("[...document.querySelectorAll('#report li > code')].map((one) => one.innerText).join()"), "z%s,%s" % (shown, shown))
 
 
 def hold_keys(tab):
@@ -326,9 +330,10 @@ def hold_cancel(tab):
 def hold_disagreement(built, tab):
     """Where the small module doesn't take the certificate, nothing is accepted, whatever the large one says."""
     old = "[CERTIFICATE, rank.out]"
-    for change in ("rank.out.slice(1)", "rank.out.map((byte) => byte === 50 ? 48 : byte)"):
-        text = built.text.replace(old, "[CERTIFICATE, %s]" % change)
-        same("places of the certificate", built.text.count(old), 1)
+    for old, change in ((old, "[CERTIFICATE, rank.out.slice(1)]"), (old, "[CERTIFICATE, rank.out.map((byte) => byte === 50 ? 48 : byte)]"),
+                        ("checked: check.out", "checked: new TextEncoder().encode('accepted\\nread 1\\nx\\nwrite 0\\n')")):
+        text = built.text.replace(old, change)
+        same("places of %s" % old, built.text.count(old), 1)
         (built.folder / "changed.html").write_text(text)
         tab.open(built.folder / "changed.html")
         tab.until(SETTLED)
