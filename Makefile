@@ -37,12 +37,12 @@ try:
 
 # One HTML file with both programs in WebAssembly; this also needs wasm-opt (package binaryen).
 page: build
-	@echo "Making build/page/sedck.html from the proved programs (ten processor minutes after a change of a crate) ..."
+	@echo "Making build/page/sedck.html from the proved programs (five processor minutes after a change of a crate) ..."
 	@python3 tools/page.py "$(RT)"
 
 # The same without proofs; with PROVED=sedck the small module, whose yes counts, is that of the proved checker.
 try-page: $(if $(PROVED),sedck)
-	@echo "Making build/page/sedck.html without proofs (ten processor minutes after a change of a crate) ..."
+	@echo "Making build/page/sedck.html without proofs (five processor minutes after a change of a crate) ..."
 	@python3 tools/page.py "$(RT)" --unproved $(if $(PROVED),,sedck) sedck_explain
 
 # The gate proves everything and builds the programs; the tests are then those that stand alone, with `build` and the programs of tests as
