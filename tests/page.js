@@ -19,8 +19,12 @@ async function done(job) {
     return { heard: heard.map((data) => ({ ...data, verdict: data.verdict && { ...data.verdict, certificate: undefined, checked: undefined } })) };
   }
   const files = Object.entries(job.files).map(([name, text]) => [name, bytes(text)]);
-  const { status, out, err } = context.runModule(vm.runInContext("programs", context)[job.program], job.words, files);
-  return { status, out: Buffer.from(out).toString("base64"), err: Buffer.from(err).toString("base64") };
+  try {
+    const { status, out, err } = context.runModule(vm.runInContext("programs", context)[job.program], job.words, files);
+    return { status, out: Buffer.from(out).toString("base64"), err: Buffer.from(err).toString("base64") };
+  } catch (error) {
+    return { stopped: String(error) };
+  }
 }
 
 async function main() {

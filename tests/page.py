@@ -29,6 +29,7 @@ sys.path.insert(0, str(TOP / "tools"))
 import page  # noqa: E402
 
 PAGE = page.OUT / "sedck.html"
+MEMORY = 5
 NAMES = {"explain": "sedck-explain", "checker": "sedck"}
 ROWS, DRAWN, CHANGED = 120, 100, 8
 REPORTS = [("explain", ["--format", form, "script.sed"]) for form in ("json", "text", "dot", "sed", "html")] + [
@@ -93,10 +94,10 @@ class Built:
             holds("the sum of %s.wasm" % name, [name + ".wasm", hashlib.sha256(data).hexdigest()] in self.facts["sums"])
             holds("%s.wasm imports nothing" % name, 2 not in sections(data) and 10 in sections(data))
 
-    def in_node(self, jobs):
-        """What the worker's functions answer to each job."""
+    def in_node(self, jobs, files=None):
+        """What the worker's functions answer to each job, by the modules of the page or by those in other files."""
         lines = "".join(json.dumps(job) + "\n" for job in jobs)
-        done = subprocess.run(["node", TOP / "tests" / "page.js", *self.files], input=lines, capture_output=True, encoding="utf-8", check=False)
+        done = subprocess.run(["node", TOP / "tests" / "page.js", *(files or self.files)], input=lines, capture_output=True, encoding="utf-8", check=False)
         found = [json.loads(line) for line in done.stdout.splitlines()]
         same("answers of Node (%s)" % done.stderr[-300:], len(found), len(jobs))
         return found
@@ -186,6 +187,42 @@ def hold_answers(built, pool):
         hold_heard(script, answer["heard"], status)
     print("page: %d scripts (%d accepted), %d reports and %d certificates (%d accepted) as the programs have them" % (
         len(scripts), statuses.count(0), len(jobs), len(checks), verdicts.count(0)))
+
+
+def coded(number):
+    """A number in LEB128."""
+    return bytes([number]) if number < 128 else bytes([number & 127 | 128]) + coded(number >> 7)
+
+
+def with_memory(module, more):
+    """The module with a memory that grows by so many pages at most."""
+    at = 8
+    while module[at] != MEMORY:
+        size, start = page.read_number(module, at + 1)
+        at = start + size
+    size, start = page.read_number(module, at + 1)
+    least = page.read_number(module, start + 2)[0]
+    limits = b"\1\1" + coded(least) + coded(least + more)
+    return module[:at + 1] + coded(len(limits)) + limits + module[start + size:]
+
+
+def hold_memory(built):
+    """Where memory runs out a module ends with status 4 and no report, or the host gives up; else it answers as ever."""
+    script = {"script.sed": b"s/a/b/\n" * 3000}
+    jobs = [job_of(report, script) for report in (("checker", ["rank", "script.sed"]), ("explain", ["--format", "json", "script.sed"]), ("explain", ["--format", "sed", "script.sed"]))]
+    due, kinds = [built.native(job) for job in jobs], set()
+    for more in [*range(0, 24, 3), *range(24, 240, 24)]:
+        files = built.files[:1]
+        for program in NAMES:
+            (built.folder / "small").mkdir(exist_ok=True)
+            (built.folder / "small" / program).write_bytes(with_memory((built.folder / program).read_bytes(), more))
+            files.append(str(built.folder / "small" / program))
+        for job, found, wanted in zip(jobs, built.in_node(jobs, files), due):
+            kind = "same" if found == wanted else "stopped" if "stopped" in found else found["status"]
+            kinds.add((job["program"], kind))
+            holds("%s with %d pages more: %r" % (" ".join(job["words"]), more, str(found)[:200]), kind == "same" or kind == 4 and found["out"] == "" or (
+                kind == "stopped" and "memory is full" in found["stopped"]))
+    same("what came of little memory", {kind for kind in kinds if kind[1] != "stopped"}, {(program, kind) for program in NAMES for kind in ("same", 4)})
 
 
 def hold_heard(script, heard, status):
@@ -392,6 +429,7 @@ def main():
         built.hold_modules()
         if shutil.which("node"):
             hold_answers(built, pool)
+            hold_memory(built)
         else:
             skipped("the modules", "node isn't there")
         if browser.found():
