@@ -115,7 +115,8 @@ function heard(data) {
     if (waiting) send(waiting);
     return;
   }
-  if (data.number !== asked) return;
+  // What stops before any script has no number.
+  if (data.number !== undefined && data.number !== asked) return;
   if (data.stopped !== undefined) {
     settle();
     showUnknown("The module stopped: " + data.stopped + ".");

@@ -402,6 +402,16 @@ def hold_build():
     holds("a value in an element", "<" not in page.as_text({"a": "</script>"}) and json.loads(page.as_text({"a": "</script>"})) == {"a": "</script>"})
 
 
+def hold_spoiled(built, tab):
+    """A page whose module is none, or isn't packed, says so."""
+    for name in ("explain", "checker"):
+        for packed in (gzip.compress(b"\0asm"), b"no gzip"):
+            (built.folder / "changed.html").write_text(built.text.replace(block(built.text, name + "-module"), encoded(packed)))
+            tab.open(built.folder / "changed.html")
+            tab.until(VERDICT + ".startsWith('No answer.')")
+            holds("no report of a spoiled module", tab.value("byId('report').children.length") == 0)
+
+
 def hold_browser(built, path):
     with browser.Browser(path) as tab:
         for width, scheme in ((1000, "light"), (360, "dark"), (360, "light"), (1000, "dark")):
@@ -412,6 +422,7 @@ def hold_browser(built, path):
         hold_keys(tab)
         hold_cancel(tab)
         hold_disagreement(built, tab)
+        hold_spoiled(built, tab)
     print("page: opened from a file in %s, light and dark, 360 and 1,000 wide" % path)
 
 
