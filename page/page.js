@@ -204,26 +204,29 @@ function showUnknown(why) {
   byId("report").replaceChildren();
 }
 
-/** The lists of files in the report of `check`, each name as the large module shows it. */
-function checkedLists(bytes) {
+/** The line of the bound in the report of `check`, if it has one, and the lists of files, each name as the large module shows it. */
+function checkedReport(bytes) {
   const lines = Array.from(bytes, (byte) => String.fromCharCode(byte)).join("").split("\n");
   const special = { "\\": "\\\\", "\"": "\\\"" };
   const shown = (name) => name.replace(/[^ !#-\[\]-_a-~]/g, (letter) => special[letter] || "\\x" + letter.charCodeAt(0).toString(16).padStart(2, "0"));
-  let at = lines[1].startsWith("bound ") ? 2 : 1;
-  return ["read", "write"].map((word) => {
+  const bound = lines[1].startsWith("bound ") ? lines[1] : null;
+  let at = bound ? 2 : 1;
+  const [reads, writes] = ["read", "write"].map((word) => {
     const start = at + 1;
     at = start + Number(lines[at].slice(word.length + 1));
     return lines.slice(start, at).map(shown);
   });
+  return { bound, reads, writes };
 }
 
-/** Whether both modules say the same, of an accepted script also which files it reads and writes. */
+/** Whether both modules say the same, of an accepted script also its bound and which files it reads and writes. */
 function agree(report, verdict) {
   const isSame = report.status === verdict.reportStatus && report.status === verdict.rankStatus;
   const isYes = verdict.rankStatus === 0 && verdict.checkStatus === 0 && decoder.decode(verdict.checked).startsWith("accepted\n");
   if (report.answer !== "accepted") return isSame && !isYes && verdict.rankStatus !== 0;
-  const lists = (files) => JSON.stringify(files);
-  return isSame && isYes && lists(checkedLists(verdict.checked)) === lists([report.reads, report.writes].map((files) => files.map((file) => file.name)));
+  const names = (files) => files.map((file) => file.name), { bound } = report;
+  const due = { bound: bound && ["bound", bound.per_byte, bound.per_line, bound.fixed].join(" "), reads: names(report.reads), writes: names(report.writes) };
+  return isSame && isYes && JSON.stringify(checkedReport(verdict.checked)) === JSON.stringify(due);
 }
 
 function parsed(verdict) {

@@ -368,7 +368,10 @@ def hold_disagreement(built, tab):
     """Where the small module doesn't take the certificate, nothing is accepted, whatever the large one says."""
     old = "[CERTIFICATE, rank.out]"
     for old, change in ((old, "[CERTIFICATE, rank.out.slice(1)]"), (old, "[CERTIFICATE, rank.out.map((byte) => byte === 50 ? 48 : byte)]"),
-                        ("checked: check.out", "checked: new TextEncoder().encode('accepted\\nread 1\\nx\\nwrite 0\\n')")):
+                        ("checked: check.out", "checked: new TextEncoder().encode('accepted\\nbound 3 12 3\\nread 1\\nx\\nwrite 0\\n')"),
+                        ("checked: check.out", "checked: new TextEncoder().encode('accepted\\nread 0\\nwrite 0\\n')"),
+                        ("checked: check.out", "checked: new TextEncoder().encode('accepted\\nbound 3 12 4\\nread 0\\nwrite 0\\n')"),
+                        ("checkStatus: check.status", "checkStatus: 1")):
         text = built.text.replace(old, change)
         same("places of %s" % old, built.text.count(old), 1)
         (built.folder / "changed.html").write_text(text)
