@@ -248,8 +248,8 @@ function showVerdict(verdict) {
     return;
   }
   const [kind, head, text] = REPLIES[report.answer];
-  const isYes = report.answer === "accepted";
-  setVerdict(kind, head, text, isYes ? make("p", { class: "aside" }, "The small module has checked the certificate, and accepted it.") : null);
+  const isYes = report.answer === "accepted", hasWarning = report.findings.some((finding) => finding.level === "warning");
+  setVerdict(kind, head, text + (isYes && hasWarning ? " Read the warnings first: it may not hold for your sed." : ""), isYes ? make("p", { class: "aside" }, "The small module has checked the certificate, and accepted it.") : null);
   const parts = [...report.findings.map(findingBox), loopListing(report)];
   if (isYes) parts.push(...limitsOf(report), ...filesOf(report), ...certificateOf(verdict));
   byId("report").replaceChildren(...parts.filter((part) => part !== null), make("div", { id: "rest" }));

@@ -291,6 +291,8 @@ def hold_look(built, tab, width, scheme):
 def hold_parts(built, tab):
     """What is shown of an accepted script, of a loop and of a script with a fix; and what the buttons do."""
     holds("accepted", put(tab, "s/a/b/w out\nr in\n").startswith("Accepted."))
+    holds("a warning is said with the verdict", "Read the warnings" not in tab.value(VERDICT) and "Read the warnings" in put(tab, "s/x\u00e9*/x/\n"))
+    put(tab, "s/a/b/w out\nr in\n")
     shown = tab.value("byId('report').innerText")
     holds("files, limits, certificate, spelling and graph", all(re.search(words, shown, re.I) for words in (
         r"Reads:\s+in at 2:1", r"Writes:\s+out at 1:1", r"At most 2 × lines|At most \d+ × lines", "Save the certificate", "Plain spelling", "Flow graph")))
