@@ -1,0 +1,63 @@
+# Completions of sedck, sedck-explain, sedck-fmt and sedck-sed for bash. tests/completions.py compares their words with what the programs say.
+
+# Completes with these words, or with files where there are none.
+_sedck_reply() {
+    local word=${COMP_WORDS[COMP_CWORD]}
+    if [ $# -gt 0 ]; then
+        mapfile -t COMPREPLY < <(compgen -W "$*" -- "$word")
+    else
+        mapfile -t COMPREPLY < <(compgen -f -- "$word")
+        compopt -o filenames 2> /dev/null
+    fi
+}
+
+_sedck() {
+    case $COMP_CWORD in
+        1) _sedck_reply check files graph rank upgrade ;;
+        *) _sedck_reply ;;
+    esac
+}
+
+# The value of --deny is a list: what stands before the last comma stays.
+_sedck_denied() {
+    local word=${COMP_WORDS[COMP_CWORD]} front=''
+    case $word in *,*) front=${word%,*}, ;; esac
+    mapfile -t COMPREPLY < <(compgen -P "$front" -W 'reads writes warnings unbounded growing slow references' -- "${word##*,}")
+    compopt -o nospace 2> /dev/null
+}
+
+_sedck_explain() {
+    local at
+    for ((at = 1; at < COMP_CWORD; at++)); do
+        [ "${COMP_WORDS[at]}" != -- ] || { _sedck_reply; return; }
+    done
+    case ${COMP_WORDS[COMP_CWORD - 1]} in
+        --format) _sedck_reply text gcc json sarif html dot sed ;;
+        --level) _sedck_reply error warning note ;;
+        --deny) _sedck_denied ;;
+        --locale) _sedck_reply C POSIX C.UTF-8 ;;
+        --as) _sedck_reply sh make docker yaml spec m4 ;;
+        --assume | --at | --stdin-filename) COMPREPLY=() ;;
+        *)
+            case ${COMP_WORDS[COMP_CWORD]} in
+                -*) _sedck_reply --format --level --no-comments --cert --deny --locale --stdin-filename --sed --calls --as --assume --at --help --version -- ;;
+                *) _sedck_reply ;;
+            esac ;;
+    esac
+}
+
+_sedck_fmt() {
+    case $COMP_CWORD in
+        1) _sedck_reply --check --diff --write --help ;;
+        *) _sedck_reply ;;
+    esac
+}
+
+_sedck_sed() {
+    [ "$COMP_CWORD" -ne 1 ] || _sedck_reply --dir --help
+}
+
+complete -F _sedck sedck
+complete -F _sedck_explain sedck-explain
+complete -F _sedck_fmt sedck-fmt
+complete -F _sedck_sed sedck-sed

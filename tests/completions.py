@@ -1,0 +1,117 @@
+#!/usr/bin/env python3
+"""Compares the words of the completions with what the programs say: python3 tests/completions.py SEDCK SEDCK-EXPLAIN
+
+The subcommands are those of the line that sedck prints for invalid arguments, the options and their values those of --help. Each shell that
+the machine has is asked for its completions; bash answers also what comes after a word, and which values an option has. A shell that is
+missing is named. The status is 0 only where no shell has a word too many or too few.
+"""
+import os
+import re
+import shutil
+import subprocess
+import sys
+from pathlib import Path
+
+TOP = Path(__file__).resolve().parent.parent
+FOLDER = TOP / "completions"
+wrong = []
+
+
+def expect(seen, due, what):
+    if seen != due:
+        wrong.append(what)
+        print("completions: %s: %s are there, and %s are due" % (what, sorted(seen), sorted(due)))
+
+
+def said(words):
+    done = subprocess.run(words, stdin=subprocess.DEVNULL, stdout=subprocess.PIPE, stderr=subprocess.STDOUT, encoding="utf-8")
+    return done.stdout
+
+
+def words_of_programs(sedck, explain):
+    """The words of each program, and the values of each option of sedck-explain that lists some."""
+    usage, text = said([sedck]), said([explain, "--help"])
+    rows = re.findall(r"^ +(?:-\w, )?(--[\w-]+)(?: <[^>]*>)? +(.*)$", text, re.M)
+    values = {option: set(re.findall(r"\w+", found[1])) for option, line in rows for found in [re.search(r"\[possible values: ([^\]]*)\]", line)] if found}
+    words = {"sedck": set(re.findall(r"\b([a-z]+)(?= (?:SCRIPT|CERT))", usage)), "sedck-explain": {option for option, _ in rows},
+             "sedck-fmt": set(re.findall(r"--[a-z]+", said([TOP / "wrapper" / "sedck-fmt", "--help"]).splitlines()[0])),
+             "sedck-sed": set(re.findall(r"--[a-z]+", said([TOP / "wrapper" / "sedck-sed", "--help"]).splitlines()[0]))}
+    return words, values
+
+
+def from_bash(line):
+    """What bash completes at the end of this line."""
+    words = line.split(" ")
+    text = 'source "$0"; COMP_WORDS=("$@"); COMP_CWORD=$(($# - 1)); function=$(complete -p "$1" | sed "s/.*-F \\([^ ]*\\) .*/\\1/"); "$function"; printf "%s\\n" "${COMPREPLY[@]}"'
+    done = subprocess.run(["bash", "-c", text, str(FOLDER / "sedck.bash"), *words], cwd=FOLDER, stdin=subprocess.DEVNULL, stdout=subprocess.PIPE,
+                          stderr=subprocess.DEVNULL, encoding="utf-8")
+    return set(done.stdout.split())
+
+
+def check_bash(words, values):
+    expect(from_bash("sedck "), words["sedck"], "bash: sedck")
+    expect(from_bash("sedck-explain -"), words["sedck-explain"] | {"--"}, "bash: sedck-explain")
+    expect(from_bash("sedck-fmt "), words["sedck-fmt"], "bash: sedck-fmt")
+    expect(from_bash("sedck-sed "), words["sedck-sed"], "bash: sedck-sed")
+    for option, due in values.items():
+        expect(from_bash("sedck-explain %s " % option), due, "bash: the values of " + option)
+    expect(from_bash("sedck-explain --deny reads,w"), {"reads,writes", "reads,warnings"}, "bash: a second value of --deny")
+    expect(from_bash("sedck check sedck.b"), {"sedck.bash"}, "bash: a file of sedck check")
+    expect(from_bash("sedck-explain -- sedck.b"), {"sedck.bash"}, "bash: a file behind --")
+    expect(from_bash("sedck-explain sedck.b"), {"sedck.bash"}, "bash: a script")
+    expect(from_bash("sedck-sed --dir "), set(), "bash: nothing follows --dir")
+
+
+def check_zsh(words, values):
+    """The words of the file for zsh, which must be one that zsh can read."""
+    text = (FOLDER / "_sedck").read_text()
+    parts = dict(re.findall(r"^    (sedck[\w-]*)\)\n(.*?);;$", text, re.M | re.S))
+    expect(set(parts), set(words), "zsh: the programs")
+    expect(set(re.match(r"#compdef (.*)", text)[1].split()), set(words), "zsh: the programs of the first line")
+    expect(set(re.findall(r"[( ]([a-z]+)\\:", parts["sedck"])), words["sedck"], "zsh: sedck")
+    for name in ("sedck-explain", "sedck-fmt", "sedck-sed"):
+        expect(set(re.findall(r"(--[\w-]+)[\[}]", parts[name])), words[name], "zsh: " + name)
+    for option, due in values.items():
+        listed = re.search(re.escape("'" + option + "[") + r"[^\]]*\]:\w+:(?:\(([^)]*)\)|_values -s , what ([^']*))", parts["sedck-explain"])
+        expect(set((listed[1] or listed[2]).split()), due, "zsh: the values of " + option)
+    if shutil.which("zsh"):
+        expect(said(["zsh", "-n", str(FOLDER / "_sedck")]), "", "zsh: the file")
+    else:
+        print("completions: the file isn't read by zsh, since this machine lacks zsh")
+
+
+def check_fish(words, values):
+    if shutil.which("fish"):
+        def asked(line):
+            text = "".join("source %s\n" % (FOLDER / (name + ".fish")) for name in words) + "complete -C '%s'\n" % line
+            done = subprocess.run(["fish", "--no-config", "-c", text], stdin=subprocess.DEVNULL, stdout=subprocess.PIPE, encoding="utf-8",
+                                  cwd=FOLDER, env={**os.environ, "HOME": str(FOLDER)})
+            return {row.split("\t")[0] for row in done.stdout.splitlines()}
+
+        expect(asked("sedck "), words["sedck"], "fish: sedck")
+        for name in ("sedck-explain", "sedck-fmt", "sedck-sed"):
+            expect({word for word in asked(name + " --") if word.startswith("--")}, words[name], "fish: " + name)
+        for option, due in values.items():
+            expect(asked("sedck-explain %s " % option) , due, "fish: the values of " + option)
+    else:
+        print("completions: the files for fish are not tried, since this machine lacks fish")
+
+
+def main():
+    words, values = words_of_programs(*map(os.path.abspath, sys.argv[1:3]))
+    if not all(words.values()) or set(values) != {"--format", "--level", "--deny", "--as"}:
+        print("completions: the programs say no words that can be read: %s %s" % (words, values))
+        return 1
+    if shutil.which("bash"):
+        check_bash(words, values)
+    else:
+        print("completions: the file for bash is not tried, since this machine lacks bash")
+    check_zsh(words, values)
+    check_fish(words, values)
+    if not wrong:
+        print("completions: the words of the shells are those of the programs, %d options and subcommands" % sum(map(len, words.values())))
+    return 1 if wrong else 0
+
+
+if __name__ == "__main__":
+    sys.exit(main())
