@@ -243,7 +243,7 @@ def contracts(crate):
         scope = {"words": {}, "modules": {}}
         uses(text, scope)
         impl, impl_end, trait = None, 0, None
-        for match in re.finditer(r"^(\s*)(pub (?:const )?fn (\w+)|fn (\w+)|impl\b([^{]*)\{|pub (struct|enum) (\w+)|ghost (\w+) = \{)", text, re.M):
+        for match in re.finditer(r"^(\s*)(pub (?:const )?(?:extern \S+ )?fn (\w+)|fn (\w+)|impl\b([^{]*)\{|pub (struct|enum) (\w+)|ghost (\w+) = \{)", text, re.M):
             if match.start() >= impl_end:
                 impl = trait = None
             if match.group(5) is not None:
@@ -373,7 +373,7 @@ commands.Locations plain.Plain
 commands.ReadItems commands.Labels commands.Blocks
 commands.Faults expressions.Faults cert.Faults
 commands.FaultWords expressions.FaultWords cert.FaultText cli.Lines
-flow.Words engines.Reports engines.Engines cli.Statuses cli.Causes engines.Faults cert.Streams engines.Inputs engines.Opened
+flow.Words engines.Reports engines.Engines cli.Statuses cli.Causes c.Answers engines.Faults cert.Streams engines.Inputs engines.Opened
 explanation.Answers explanation.Status explanation.Denial explanation.Explanations explanation.Errors errors.Errors formats.Plain explain_cli.Explained explain_cli.Spelled explain_cli.Statuses calls_in_files.Lines explain_cli.CallStatus explain_cli.Readings explain_cli.Requests explain_cli.Answers report.Positions report.Shown report.Codes report.Levels report.Files report.Reported advice.Slow advice.References advice.Locale advice.Ignored advice.Added report.Html report.Ascii
 explanation.Called calls_in_files.Judged calls_in_files.Placed calls_in_files.Scanned origin.Traced origin.Texts call.Words call.Options call.Calls call.Origins call.Scripts
 formats.Names
@@ -402,7 +402,7 @@ PARTS = [
          ("sedck_expressions", "ReFault*", None), ("sedck_commands", "ScriptFault*", None), ("sedck_cert", "CertFault*", None)]),
         ("Where commands are", [("sedck_script", "locate", ("count", "locations", "order"))]),
         ("The plain spelling", [("sedck_plain", "*", None)]),
-        ("Reports and statuses", [("sedck_engines", "*", None), ("sedck_cli", "*", None), ("sedck_cert", "write_cert", None)]),
+        ("Reports and statuses", [("sedck_engines", "*", None), ("sedck_cli", "*", None), ("sedck_c", "*", None), ("sedck_cert", "write_cert", None)]),
         ("What is explained", [("sedck_explanation", "*", None), ("sedck_report", "*", None), ("sedck_errors", "*", None), ("sedck_advice", "*", None),
          ("sedck_explain_cli", "*", None), ("sedck_formats", "*", None), ("sedck_calls_in_files", "*", None)]),
         ("The model, decided", [("sedck_model", "*", None)]),
