@@ -4,8 +4,8 @@
 RT ?= rt
 PREFIX ?= /usr/local
 
-.PHONY: all build sedck demo try page try-page test docs examples rows explain-tests refusals streams tools-tests calls-tests wrapper-tests page-tests bench \
-	planted seds matchers states changes measures probe install dist clean
+.PHONY: all build sedck lib demo try page try-page test docs examples rows explain-tests refusals streams tools-tests calls-tests wrapper-tests \
+	page-tests library-tests integration-tests archive-tests bench planted seds matchers states changes measures probe install dist clean
 
 # One target after the other, also under `make -j`: proofs want all processors and much memory, and tests have limits of time.
 .NOTPARALLEL:
@@ -26,6 +26,12 @@ sedck:
 	@echo "Proving and building sedck (a first build proves everything that it needs: 25 to 60 processor minutes) ..."
 	@python3 tools/prove.py "$(RT)" sedck
 	@echo "The program is build/sedck."
+
+# The library for C, with the functions for memory that it needs. `make dist` packs it with its header.
+lib:
+	@echo "Proving and building libsedck.a (a first build proves everything that it needs: 25 to 60 processor minutes) ..."
+	@CC="$(CC)" python3 tools/library.py "$(RT)"
+	@echo "The library is build/libsedck.a, its header library/sedck.h."
 
 # `rt try` runs the programs without a proof, and leaves nothing behind.
 demo:
@@ -51,7 +57,9 @@ test: build/refuse.so
 	@echo "Running the gate: every proof from nothing, wrong bodies, the tests and the programs (90 to 200 processor minutes) ..."
 	@python3 tools/gate.py "$(RT)"
 	@$(COPY)
-	@$(MAKE) --no-print-directory -o build -o probe docs rows explain-tests refusals streams tools-tests calls-tests wrapper-tests page-tests
+	@CC="$(CC)" python3 tools/library.py "$(RT)" --of-gate
+	@$(MAKE) --no-print-directory -o build -o probe -o lib docs rows explain-tests refusals streams tools-tests calls-tests wrapper-tests \
+		page-tests library-tests integration-tests archive-tests
 	@python3 tools/planted.py "$(RT)" --behind || true
 	@cat build/gate-cost
 
@@ -105,6 +113,20 @@ page-tests:
 	@echo "Testing the page that make page has made, if there is one ..."
 	python3 tests/page.py
 
+library-tests: lib build build/refuse.so
+	@echo "Judging by the library, from C and from Python, and refusing each request for memory in turn ..."
+	python3 tests/library.py build/libsedck.a build/sedck build/refuse.so
+
+integration-tests: build
+	@echo "Testing the language server, the completions, the macro of Autoconf, the action and the lines for editors ..."
+	python3 tests/language_server.py build/sedck-explain
+	python3 tests/completions.py build/sedck build/sedck-explain
+	python3 tests/integrations.py build/sedck-explain
+
+archive-tests: build lib
+	@echo "Packing an archive, and installing from it and by make install ..."
+	python3 tests/archive.py
+
 bench: build
 	@echo "Measuring build/sedck and build/sedck-explain (bench/run.py prints the tables of docs/BENCH.md) ..."
 	python3 bench/run.py build/sedck
@@ -141,25 +163,13 @@ changes: probe
 probe:
 	cd crates/sedck_probe && $(RT) run -- --places ../../examples/end-mark.sed > /dev/null
 
-install: build
-	@echo "Installing sedck, sedck-explain, sedck-fmt, sedck-sed, their manual pages and the pages on loops, faults and calls under $(PREFIX) ..."
-	install -d $(DESTDIR)$(PREFIX)/bin $(DESTDIR)$(PREFIX)/libexec/sedck $(DESTDIR)$(PREFIX)/share/man/man1 $(DESTDIR)$(PREFIX)/share/man/man5 $(DESTDIR)$(PREFIX)/share/doc/sedck
-	install -m 755 build/sedck $(DESTDIR)$(PREFIX)/bin/sedck
-	install -m 755 build/sedck-explain $(DESTDIR)$(PREFIX)/bin/sedck-explain
-	install -m 755 wrapper/sedck-fmt $(DESTDIR)$(PREFIX)/bin/sedck-fmt
-	install -m 755 wrapper/sedck-sed $(DESTDIR)$(PREFIX)/bin/sedck-sed
-	install -m 755 wrapper/sed $(DESTDIR)$(PREFIX)/libexec/sedck/sed
-	install -m 644 man/sedck.1 $(DESTDIR)$(PREFIX)/share/man/man1/sedck.1
-	install -m 644 man/sedck-explain.1 $(DESTDIR)$(PREFIX)/share/man/man1/sedck-explain.1
-	install -m 644 man/sedck-fmt.1 $(DESTDIR)$(PREFIX)/share/man/man1/sedck-fmt.1
-	install -m 644 man/sedck-sed.1 $(DESTDIR)$(PREFIX)/share/man/man1/sedck-sed.1
-	install -m 644 man/sedck.5 $(DESTDIR)$(PREFIX)/share/man/man5/sedck.5
-	install -m 644 docs/MENDING.md $(DESTDIR)$(PREFIX)/share/doc/sedck/MENDING.md
-	install -m 644 docs/FAULTS.md $(DESTDIR)$(PREFIX)/share/doc/sedck/FAULTS.md
-	install -m 644 docs/CALLS.md $(DESTDIR)$(PREFIX)/share/doc/sedck/CALLS.md
+# Copies what build has, and proves nothing: what is missing is named.
+install:
+	@echo "Installing what build has under $(PREFIX): programs, library, completions, manual pages and the pages that reports name ..."
+	@python3 tools/dist.py --install "$(PREFIX)" "$(DESTDIR)"
 
-dist: build
-	@echo "Packing the programs, their manual pages and five pages of the documents, with their check sums ..."
+dist: build lib
+	@echo "Packing the programs, the library, their pages and all that is installed, with their check sums ..."
 	@python3 tools/dist.py "$(RT)"
 
 clean:

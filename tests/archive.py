@@ -1,0 +1,209 @@
+#!/usr/bin/env python3
+"""Packs what build/ has, and tries the archive as somebody who has nothing else: python3 tests/archive.py
+
+The archive is made in a copy of the repository whose ledger of wrong bodies is up to date. It is unpacked in an empty folder, its sums and
+its list of materials are compared with its files, and it is installed below a PREFIX and a DESTDIR, with nothing of Rattle on the path. From
+there README's examples, the library with its header by pkg-config, the manual pages and the pages that reports name are tried. The status is 0
+only where all is as it is due.
+"""
+import hashlib
+import json
+import os
+import re
+import shutil
+import subprocess
+import sys
+import tarfile
+import tempfile
+import time
+from pathlib import Path
+
+TOP = Path(__file__).resolve().parent.parent
+MADE = ("sedck", "sedck-explain", "libsedck.a")
+SECONDS = 60
+wrong = []
+
+
+def expect(holds, what):
+    if not holds:
+        wrong.append(what)
+        print("archive: " + what)
+
+
+def run(words, folder, **environment):
+    done = subprocess.run(words, cwd=folder, stdin=subprocess.DEVNULL, stdout=subprocess.PIPE, stderr=subprocess.STDOUT, encoding="utf-8",
+                          env={**os.environ, **environment})
+    return done.returncode, done.stdout
+
+
+def copied(folder):
+    """A copy of the repository, with what is made, in which no wrong body is behind."""
+    ignored = shutil.ignore_patterns("out", "__pycache__", "build", ".git", "must-fail")
+    shutil.copytree(TOP, folder, ignore=ignored)
+    (folder / "build").mkdir()
+    for name in MADE:
+        if (TOP / "build" / name).exists():
+            shutil.copy(TOP / "build" / name, folder / "build" / name)
+    if (TOP / "build" / "page").is_dir():
+        shutil.copytree(TOP / "build" / "page", folder / "build" / "page")
+    enter = "import sys; sys.path.insert(0, 'tools'); import planted; [planted.entered(name, planted.sum_of(name)) for name in planted.crates()]"
+    subprocess.run([sys.executable, "-c", enter], cwd=folder, check=True)
+    (folder / "rt").write_text("#!/bin/sh\necho 'rattle-kit-0 logic 0'\n")
+    (folder / "rt").chmod(0o755)
+
+
+def unpacked(copy, folder):
+    """The folder of the archive."""
+    status, said = run([sys.executable, "tools/dist.py", "./rt"], copy)
+    expect(status == 0, "dist.py ends with %d: %s" % (status, said))
+    with tarfile.open(next((copy / "build").glob("*.tar.gz"))) as archive:
+        archive.extractall(folder)
+    return next(folder.iterdir())
+
+
+def check_lists(whole):
+    """Each file has its sum, and stands in the list of materials with both sums; the list names each library of the toolchain."""
+    status, said = run(["sha256sum", "-c", "--quiet", "SHA256SUMS"], whole)
+    expect(status == 0, "SHA256SUMS: %s" % said)
+    files = {str(path.relative_to(whole)): path.read_bytes() for path in whole.rglob("*") if path.is_file()}
+    listed = json.loads(files["sbom.spdx.json"])
+    due = {"./" + name: (hashlib.sha1(text).hexdigest(), hashlib.sha256(text).hexdigest()) for name, text in files.items()
+           if name not in ("SHA256SUMS", "sbom.spdx.json")}
+    seen = {one["fileName"]: tuple(sum["checksumValue"] for sum in one["checksums"]) for one in listed["files"]}
+    expect(seen == due, "the list of materials has other files or sums: %s" % sorted(set(seen.items()) ^ set(due.items()))[:3])
+    code = hashlib.sha1("".join(sorted(sums[0] for sums in due.values())).encode()).hexdigest()
+    own = [one["packageVerificationCode"]["packageVerificationCodeValue"] for one in listed["packages"] if one["filesAnalyzed"]]
+    expect(own == [code], "the list of materials has the code %s" % own)
+    rows = dict(re.findall(r"^(\w+)[^:#\n]*:(.*)$", (TOP / "crates.txt").read_text(), re.M))
+    libraries = {"rattle-" + name for names in rows.values() for name in names.split() if name not in rows} | {"rattle-std", "rattle", "glibc", "sedck"}
+    expect({one["name"] for one in listed["packages"]} == libraries, "the list of materials names %s" % sorted(one["name"] for one in listed["packages"]))
+    numbers = {one["SPDXID"] for one in listed["packages"] + listed["files"]} | {"SPDXRef-DOCUMENT"}
+    expect(len(numbers) == len(listed["packages"]) + len(listed["files"]) + 1, "two materials have one number")
+    expect({one[end] for one in listed["relationships"] for end in ("spdxElementId", "relatedSpdxElement")} == numbers, "a material is related to none")
+
+
+def check_installing(whole, folder):
+    """install.sh puts each file below DESTDIR and PREFIX, refuses a file that was changed, and wants a path from the root."""
+    status, said = run(["sh", str(whole / "install.sh")], folder, PREFIX="usr", DESTDIR=str(folder / "none"))
+    expect(status == 3 and not (folder / "none").exists(), "a relative PREFIX gives %d: %s" % (status, said))
+    page = whole / "share/doc/sedck/SECURITY.md"
+    text = page.read_bytes()
+    page.write_bytes(text + b"x")
+    status, said = run(["sh", str(whole / "install.sh")], folder, PREFIX="/usr", DESTDIR=str(folder / "none"))
+    expect(status == 1 and not (folder / "none").exists(), "a changed file gives %d: %s" % (status, said))
+    page.write_bytes(text)
+    to = folder / "a root"
+    for _ in range(2):
+        status, said = run(["sh", str(whole / "install.sh")], folder, PREFIX="/opt/own sedck", DESTDIR=str(to))
+        expect(status == 0, "install.sh ends with %d: %s" % (status, said))
+    seen = {str(path.relative_to(to / "opt/own sedck")) for path in to.rglob("*") if path.is_file()}
+    due = {str(path.relative_to(whole)) for part in ("bin", "include", "lib", "libexec", "share") for path in (whole / part).rglob("*") if path.is_file()}
+    expect(seen == due and len(due) > 40, "install.sh installs other files: %s" % sorted(seen ^ due))
+    modes = {path.name for path in to.rglob("*") if path.is_file() and path.stat().st_mode & 0o777 == 0o755}
+    expect(modes == {"sedck", "sedck-explain", "sedck-fmt", "sedck-sed", "sedck-lsp", "sed"}, "the programs are %s" % modes)
+    expect((to / "opt/own sedck/lib/pkgconfig/sedck.pc").read_text().startswith("prefix=/opt/own sedck\n"), "sedck.pc has another prefix")
+
+
+def check_readme(place, folder):
+    """What README shows is printed by what is installed."""
+    (folder / "build").mkdir(parents=True)
+    for name in ("sedck", "sedck-explain"):
+        (folder / "build" / name).symlink_to(place / "bin" / name)
+    (folder / "examples").symlink_to(place / "share/doc/sedck/examples")
+    path = "%s:/usr/bin:/bin" % (place / "bin")
+    shown = 0
+    for block in re.findall(r"^```console\n(.*?)^```", (place / "share/doc/sedck/README.md").read_text(), re.M | re.S):
+        commands = re.findall(r"^\$ (.*)$", block, re.M)
+        printed = "".join("$ %s\n%s" % (command, run(["sh", "-c", command], folder, PATH=path)[1]) for command in commands)
+        expect(printed == block, "README shows %s, and this is printed: %s" % (block, printed))
+        shown += len(commands)
+    expect(shown >= 3, "README shows %d commands" % shown)
+    status, said = run(["sh", "-c", "sedck-fmt --check examples/mail-body.sed; PATH=$(sedck-sed --dir):$PATH SEDCK_MODE=refuse sed p < /dev/null && echo ran"],
+                       folder, PATH=path)
+    expect(said.endswith("ran\n"), "sedck-fmt and the sed of sedck-sed give %d: %s" % (status, said))
+
+
+def check_pages(place):
+    """Each page that a report names is there, each manual page is one that can be shown, and each completion is where shells look."""
+    named = set(re.findall(r"\b[A-Z]+\.md\b", "".join(path.read_text() for path in (TOP / "crates").glob("sedck_*/src/**/*.rt"))))
+    expect(len(named) >= 7, "the reports name %s" % sorted(named))
+    for page in sorted(named):
+        expect((place / "share/doc/sedck/docs" / page).is_file(), "%s, which a report names, isn't there" % page)
+    pages = {path.name for path in (TOP / "man").glob("sedck*.[1-8]")}
+    expect({path.name for path in (place / "share/man").rglob("*.*")} == pages, "the manual pages aren't all there")
+    if shutil.which("man"):
+        status, said = run(["man", "-M", str(place / "share/man"), "sedck-explain"], place, MANPAGER="cat")
+        expect(status == 0 and "say where and why a sed script" in " ".join(said.split()), "man shows %s" % said[:200])
+    else:
+        print("archive: no manual page is shown, since this machine lacks man")
+    for name in ("sedck", "sedck-explain", "sedck-fmt", "sedck-sed"):
+        for path in ("bash-completion/completions/" + name, "fish/vendor_completions.d/%s.fish" % name):
+            expect((place / "share" / path).is_file(), "share/%s isn't there" % path)
+
+
+def check_library(place, folder):
+    """The example is compiled by what pkg-config says, and judges a script."""
+    compiler = os.environ.get("CC") or "cc"
+    if not shutil.which("pkg-config") or not shutil.which(compiler.split()[0]):
+        print("archive: the library is not used, since this machine lacks pkg-config or a C compiler")
+        return
+    config = {"PKG_CONFIG_PATH": str(place / "lib/pkgconfig")}
+    words = run(["pkg-config", "--cflags", "--libs", "sedck"], folder, **config)[1].split()
+    version = run(["pkg-config", "--modversion", "sedck"], folder, **config)[1].strip()
+    expect(version == re.search(r"^## (\d+\.\d+\.\d+)$", (TOP / "CHANGELOG.md").read_text(), re.M)[1], "pkg-config says the version %s" % version)
+    status, said = run([*compiler.split(), str(place / "share/doc/sedck/library/example.c"), "-o", "example", *words], folder)
+    expect(status == 0, "the example isn't compiled: %s" % said)
+    status, said = run(["./example", str(place / "share/doc/sedck/examples/mail-body.sed")], folder)
+    expect((status, said) == (0, "accepted\nbound 3 12 3\nread 0\nwrite 0\n"), "the example gives %d: %s" % (status, said))
+
+
+def check_make_install(copy, folder):
+    """`make install` installs the same, proves nothing, and says what is missing and what makes it."""
+    (folder / "tools").mkdir(parents=True)
+    for name in ("rt", "proves"):
+        (folder / "tools" / name).write_text("#!/bin/sh\necho proving > '%s/proved'\nexit 1\n" % folder)
+        (folder / "tools" / name).chmod(0o755)
+    path = {"PATH": "%s:%s" % (folder / "tools", os.environ["PATH"])}
+    status, said = run(["make", "install", "PREFIX=/usr", "DESTDIR=%s" % (folder / "all")], copy, **path)
+    lacks = {name for name in MADE if not (copy / "build" / name).exists()}
+    expect(status == 0 and (folder / "all/usr/bin/sedck").exists(), "make install ends with %d: %s" % (status, said))
+    expect(("make lib" in said) == ("libsedck.a" in lacks) and (folder / "all/usr/lib/libsedck.a").exists() != ("libsedck.a" in lacks), "make install says %s" % said)
+    (copy / "build/sedck-explain").rename(folder / "sedck-explain")
+    status, said = run(["make", "install", "PREFIX=/usr", "DESTDIR=%s" % (folder / "one")], copy, **path)
+    programs = {path.name for path in (folder / "one/usr/bin").iterdir()}
+    expect(status == 0 and programs == {"sedck"} and "make build" in said, "make install of the checker alone ends with %d: %s: %s" % (status, programs, said))
+    (copy / "build/sedck").rename(folder / "sedck")
+    status, said = run(["make", "install", "PREFIX=/usr", "DESTDIR=%s" % (folder / "nothing")], copy, **path)
+    expect(status != 0 and "make build" in said and not (folder / "nothing").exists(), "make install of nothing ends with %d: %s" % (status, said))
+    expect(not (folder / "proved").exists(), "make install began to prove")
+    for name in ("sedck", "sedck-explain"):
+        (folder / name).rename(copy / "build" / name)
+
+
+def main():
+    lacks = [name for name in MADE if not (TOP / "build" / name).exists()]
+    if lacks:
+        print("archive: build/ lacks %s; `make build lib` makes it" % ", ".join(lacks))
+        return 1
+    with tempfile.TemporaryDirectory(prefix="sedck-archive-") as name:
+        folder = Path(name)
+        copied(folder / "copy")
+        (folder / "empty").mkdir()
+        whole = unpacked(folder / "copy", folder / "empty")
+        begun = time.monotonic()
+        check_lists(whole)
+        check_installing(whole, folder)
+        prefix = folder / "prefix"
+        run(["sh", str(whole / "install.sh")], folder, PREFIX=str(prefix))
+        check_readme(prefix, folder / "work")
+        expect(time.monotonic() - begun < SECONDS, "the first answers took more than %d seconds" % SECONDS)
+        check_pages(prefix)
+        check_library(prefix, folder / "work")
+        check_make_install(folder / "copy", folder / "made")
+    if not wrong:
+        print("archive: it has what it lists, installs below a prefix, and answers as README shows")
+    return 1 if wrong else 0
+
+
+if __name__ == "__main__":
+    sys.exit(main())
