@@ -15,7 +15,7 @@ TOP = Path(__file__).resolve().parent.parent
 sys.path.insert(0, str(TOP / "tools"))
 import edits
 
-PAGES = [TOP / "README.md", TOP / "CONTRIBUTING.md", TOP / "CHANGELOG.md", TOP / "examples" / "README.md"] + sorted((TOP / "docs").glob("*.md"))
+PAGES = [TOP / "README.md", TOP / "CONTRIBUTING.md", TOP / "CHANGELOG.md", TOP / "SECURITY.md", TOP / "examples" / "README.md"] + sorted((TOP / "docs").glob("*.md"))
 MANUAL = sorted((TOP / "man").glob("sedck*.[1-8]"))
 
 
