@@ -8,6 +8,7 @@ use Rattle.sedck_script.specs.Faults.{IsOfText, IsPlaced}
 use Rattle.sedck_commands.specs.declared.fault.ScriptFault.{ScriptFault}
 use Rattle.sedck_plain.specs.declared.plain.Fault.{Fault}
 use Rattle.sedck_plain.specs.declared.plain.Fault.TheVariants as fault
+use Rattle.sedck_plain.specs.WrittenLists.{HaveSameLists}
 use Rattle.sedck_plain.specs.Plain.{SpellSame, IsOutOfMemory, IsRefused, IsNoRefusal, ReportsFault}
 use Rattle.sedck_plain.specs.Private.Refusals.{is_memory, fault_of}
 
@@ -15,32 +16,11 @@ use Rattle.sedck_plain.specs.Private.Refusals.{is_memory, fault_of}
 pub of_text : (why : ScriptFault) → is_memory why ≡ false → IsOfText why
 of_text why other e = false≢true (sym other ∙ ap is_memory e)
 
--- a text that is read as a script spells this one exactly where they are the same
-pub read_same : (text : List ℕ) (p q : Program) (b : Bool) → Spells text q → ((r : Program) → Spells text r → r ≡ q) → ((b ≡ true) ↔ (q ≡ p))
-    → (b ≡ true) ↔ Spells text p
-read_same text p q b spelled only same = (
-  (λ h. subst (Spells text) (same.0 h) spelled),
-  (λ s. same.1 (sym (only p s))),
-)
-
--- a text that isn't read spells none
-pub unread_none : (text : List ℕ) (p : Program) (why : ScriptFault) (b : Bool) → (IsOfText why → (q : Program) → Spells text q → ⊥) → b ≡ false → is_memory why ≡ false
-    → (b ≡ true) ↔ Spells text p
-unread_none text p why b refused fails other = (
-  (λ h. absurd (false≢true (sym fails ∙ h))),
-  (λ s. absurd (refused (of_text why other) p s)),
-)
-
-pub unread_all : {E : Type 0} (text : List ℕ) (p : Program) (why : ScriptFault) (r : Result Bool E) → (IsOfText why → (q : Program) → Spells text q → ⊥)
-    → IfOk r (λ b. (b ≡ false) × (is_memory why ≡ false)) → IfOk r (λ b. (b ≡ true) ↔ Spells text p)
-unread_all text p why (Ok b) refused is = unread_none text p why b refused is.0 is.1
-unread_all text p why (Err e) refused is = tt
-
--- a text that spells a script spells the same as what the script was read from
+-- a text that spells a script with its lists spells the same as what the script was read from
 pub same_all : (script : List ℕ) (p : Program) (r : Result (Vec ℕ Global) Fault) → Spells script p → ((q : Program) → Spells script q → q ≡ p)
-    → IfOk r (λ text. Spells text.items p) → IfOk r (λ text. SpellSame script text.items)
-same_all script p (Ok text) spelled only same = record { program = p; spelled = spelled; only = only; same = same }
-same_all script p (Err why) spelled only same = tt
+    → IfOk r (λ text. Spells text.items p) → IfOk r (λ text. HaveSameLists script text.items) → IfOk r (λ text. SpellSame script text.items)
+same_all script p (Ok text) spelled only same lists = record { program = p; spelled = spelled; only = only; same = same; lists = lists }
+same_all script p (Err why) spelled only same lists = tt
 
 -- a script that isn't read is refused exactly where it spells none, unless memory ran out
 refused_by : (A : Type 0) (text : List ℕ) (why : ScriptFault) (b : Bool) → is_memory why ≡ b → (IsOfText why → (q : Program) → Spells text q → ⊥)

@@ -3,15 +3,17 @@ use Rattle.std.specs.Prelude.{◌≡◌, ℕ, List, Result, Err}
 use Rattle.sedck_script.specs.Program.{Program}
 use Rattle.sedck_script.specs.Spelling.{Spells}
 use Rattle.sedck_script.specs.Faults.{IsPlaced}
+use Rattle.sedck_plain.specs.WrittenLists.{HaveSameLists}
 use Rattle.sedck_plain.specs.declared.plain.Fault.{Fault}
 use Rattle.sedck_plain.specs.declared.plain.Fault.TheVariants as fault
 
--- the bytes of the script spell just one program, and those of the text spell that very program
+-- the bytes of the script spell just one program, and those of the text spell that very program, with the bracket lists of the script
 pub record SpellSame (script text : List ℕ) : Type 0 where
   pub program : Program
   pub spelled : Spells script program
   pub only : (q : Program) → Spells script q → q ≡ program
   pub same : Spells text program
+  pub lists : HaveSameLists script text
 
 abbrev pub IsOutOfMemory : {A : Type 0} → Result A Fault → Type 0
 IsOutOfMemory (Err fault.OutOfMemory) = Unit {0}

@@ -2,3 +2,4 @@
 pub mod SameTrees
 pub mod SameScripts
 pub mod Refusals
+pub mod Cutting

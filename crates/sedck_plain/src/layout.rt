@@ -25,11 +25,12 @@ struct Page {
     is_parted: bool,
 }
 
-/// The script of this text as it is to be checked, and where each command is.
+/// The script of this text, whose commands have these bracket lists, as it is to be checked, and where each command is.
 pub(crate) fn laid_out(
     alloc: Global,
     text: &[u8],
     located: &Located,
+    lists: &[Vec<u8>],
     comments: Comments,
 ) -> Result<(Vec<u8>, Vec<Location>), AllocError> {
     let mut page = Page {
@@ -41,13 +42,13 @@ pub(crate) fn laid_out(
     let commands = located.script.commands();
     let mut locations = Vec::new(alloc);
     let mut begin = page.begin(located.script.quiet())?;
-    for (command, location) in commands.iter().zip(&located.locations) {
+    for ((command, location), own) in commands.iter().zip(&located.locations).zip(lists) {
         page.add_between(text.get(begin..location.start).unwrap_or(&[]))?;
         let behind = text.get(location.end..).unwrap_or(&[]);
         begin = location.end.saturating_add(page.add_own_comment(behind)?);
         page.part()?;
         page.indent()?;
-        let mut lists = Lists::of(alloc, text, *location)?;
+        let mut lists = Lists::new(alloc, own);
         let start = page.out.len();
         let verb = push_command(&mut lists, &mut page.out, commands, command)?;
         let end = page.out.len();

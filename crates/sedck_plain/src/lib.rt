@@ -1,10 +1,10 @@
 //! Scripts in their plain spelling: one text for each program, but for its bracket lists.
 //!
-//! - `plain_text` answers a text that spells the very program that a script spells. It is printed, read again by
+//! - `plain_text` answers a text that spells the very program that a script spells, with its bracket lists. It is printed, read again by
 //!   `sedck_script`, and compared: the printer isn't trusted. `plain_of` does the same for a script that was read before, also with its
 //!   comments.
-//! - `same_program` says whether two scripts are the same program, and `spells` whether a text spells a script.
-//! - `Fault` is why there is no plain text.
+//! - `same_program` says whether two scripts are the same program.
+//! - `Fault` is why there is no plain text. `Position` is of the definition of written lists.
 //!
 //! In a plain text each command has a line of its own, and blocks are indented by two blanks. Where the
 //! grammar lets a part be written in several ways, it is written in the one that all seds read alike. Bracket lists stay as the
@@ -21,7 +21,9 @@ mod same;
 mod same_commands;
 mod same_trees;
 mod substitutions;
+mod written;
 
 pub use layout::Comments;
-pub use plain::{Fault, plain_of, plain_text, spells};
+pub use plain::{Fault, plain_of, plain_text};
 pub use same::same_program;
+pub use written::Position;

@@ -1,18 +1,20 @@
 //! The plain text of a script, which is given out only where it was read as the same program.
 
-ghost use Rattle.std.specs.Prelude.{◌≡◌, ◌↔◌, true, false, IfOk, IfErr};
+ghost use Rattle.std.specs.Prelude.{◌≡◌, ◌↔◌, map, IfOk, IfErr, OnOk};
 ghost use Rattle.sedck_script.specs.Program.{Program};
 ghost use Rattle.sedck_script.specs.Spelling.{Spells};
 ghost use Rattle.sedck_plain.specs.Plain.{SpellSame, IsOutOfMemory, IsRefused, IsNoRefusal, ReportsFault};
+ghost use Rattle.sedck_plain.specs.WrittenLists.{HaveSameLists};
+ghost use Rattle.sedck_plain.specs.Private.Cutting.{AreLocations, HasLists, bytes_of};
 ghost use Rattle.sedck_plain.specs.Private.Refusals.{is_memory, fault_of};
 
 use crate::layout::{Comments, laid_out};
-use crate::lists::{Commands, first_change};
 use crate::same::same_program;
 use crate::same_commands::first_difference;
+use crate::written::{first_change, script_lists};
 use sedck_commands::TEXT_LIMIT;
-use sedck_script::{Location, Script, ScriptFault, locate, parse};
-use std::alloc::{AllocError, Global};
+use sedck_script::{Located, Location, Script, ScriptFault, locate, parse};
+use std::alloc::Global;
 
 /// Why there is no plain text.
 #[derive(Clone, Copy, Debug, Drop)]
@@ -29,9 +31,9 @@ pub enum Fault {
 
 /// A script in its plain spelling, without comments: a text that spells the very program that the script spells.
 ///
-/// That the text is plain, and the same for each spelling of a program, isn't proved: it is printed, and what was printed is
-/// read and compared. Each bracket list is written as the script has it, since a set of bytes doesn't say what its list is in
-/// other locales; that isn't proved either.
+/// Each bracket list is written as the script has it, since a set of bytes doesn't say what its list is in other locales. That the text is
+/// plain, and the same for each spelling of a program with its lists, isn't proved: it is printed, and what was printed is read and
+/// compared.
 pub fn plain_text(alloc: Global, script: &[u8]) -> Result<Vec<u8>, Fault>
     ensures same { IfOk result (λ text. SpellSame script.now text.items) }
     ensures refused { (¬ IsOutOfMemory result) → (IsRefused result ↔ ((p : Program) → ¬ Spells script.now p)) }
@@ -63,8 +65,8 @@ fn refusal(fault: ScriptFault) -> Fault
     }
 }
 
-/// The same for a program that was read from this script, perhaps with the script's comments: a text that spells it. There is none where
-/// the script spells another one.
+/// The same for a program that was read from this script, perhaps with the script's comments: a text that spells it, with the bracket lists
+/// of the script. There is none where the script spells another one.
 pub fn plain_of(
     alloc: Global,
     script: &[u8],
@@ -72,56 +74,74 @@ pub fn plain_of(
     comments: Comments,
 ) -> Result<Vec<u8>, Fault>
     ensures spelled { IfOk result (λ text. Spells text.items program.now) }
+    ensures lists { IfOk result (λ text. HaveSameLists script.now text.items) }
     ensures fault { IfErr result IsNoRefusal }
 {
-    let (text, locations) = printed(alloc, script, comments)?;
-    match spells(alloc, &text, program) {
-        Ok(true) => Ok(text),
-        Ok(false) => Err(Fault::NoSpelling(misread(alloc, &text, &locations, program))),
-        Err(_) => Err(Fault::OutOfMemory),
-    }
-}
-
-/// The script as it is printed, and where each command is: with the bracket lists of the script, one by one.
-fn printed(
-    alloc: Global,
-    script: &[u8],
-    comments: Comments,
-) -> Result<(Vec<u8>, Vec<Location>), Fault>
-    ensures { IfErr result IsNoRefusal }
-{
-    let located = match locate(alloc, script) {
-        Ok(located) => located,
-        Err(ScriptFault::OutOfMemory) => return Err(Fault::OutOfMemory),
-        Err(_) => return Err(Fault::NoSpelling(0)),
-    };
-    let Ok((text, locations)) = laid_out(alloc, script, &located, comments) else {
+    let located = located(alloc, script)?;
+    let lists = lists_of(alloc, script, &located.locations)?;
+    let Ok((text, locations)) = laid_out(alloc, script, &located, &lists, comments) else {
         return Err(Fault::OutOfMemory);
     };
     if text.len() > TEXT_LIMIT {
         return Err(Fault::TooLong);
     }
-    let commands = Commands {
-        text: script,
-        locations: &located.locations,
-    };
-    let others = Commands {
-        text: &text,
-        locations: &locations,
-    };
-    match first_change(alloc, commands, others) {
-        Ok(None) => {}
-        Ok(Some(place)) => return Err(Fault::NoSpelling(place)),
-        Err(_) => return Err(Fault::OutOfMemory),
-    }
-    Ok((text, locations))
+    compare(alloc, &text, &locations, program, &lists)?;
+    Ok(text)
 }
 
-/// The place of the command of this text that is read otherwise than it was.
-fn misread(alloc: Global, text: &[u8], locations: &[Location], program: &Script) -> usize {
-    match parse(alloc, text) {
-        Ok(other) => first_difference(program.commands(), other.commands()),
-        Err(fault) => place_at(locations, fault.place().unwrap_or(0)),
+/// The script of the text, which spells one, and where its commands are.
+fn located<'a>(alloc: Global, text: &'a [u8]) -> Result<Located<'a>, Fault>
+    ensures located { IfOk result (λ located. AreLocations text.now located.locations.items) }
+    ensures fault { IfErr result IsNoRefusal }
+{
+    match locate(alloc, text) {
+        Ok(located) => Ok(located),
+        Err(ScriptFault::OutOfMemory) => Err(Fault::OutOfMemory),
+        Err(_) => Err(Fault::NoSpelling(0)),
+    }
+}
+
+/// The bracket lists of the text's commands, which are at these locations.
+fn lists_of(alloc: Global, text: &[u8], locations: &[Location]) -> Result<Vec<Vec<u8>>, Fault>
+    requires { AreLocations text.now locations.now }
+    ensures lists { IfOk result (λ lists. HasLists text.now (map bytes_of lists.items)) }
+    ensures fault { IfErr result IsNoRefusal }
+{
+    match script_lists(alloc, text, locations) {
+        Ok(Some(lists)) => Ok(lists),
+        Ok(None) => Err(Fault::NoSpelling(0)),
+        Err(_) => Err(Fault::OutOfMemory),
+    }
+}
+
+/// Whether what was printed, with its commands at these locations, spells the program with these lists: if not, which command doesn't.
+fn compare(
+    alloc: Global,
+    text: &[u8],
+    locations: &[Location],
+    program: &Script,
+    lists: &[Vec<u8>],
+) -> Result<(), Fault>
+    ensures spelled { OnOk result (Spells text.now program.now) }
+    ensures lists { OnOk result (HasLists text.now (map bytes_of lists.now)) }
+    ensures fault { IfErr result IsNoRefusal }
+{
+    let other = match locate(alloc, text) {
+        Ok(other) => other,
+        Err(ScriptFault::OutOfMemory) => return Err(Fault::OutOfMemory),
+        Err(fault) => {
+            let place = place_at(locations, fault.place().unwrap_or(0));
+            return Err(Fault::NoSpelling(place));
+        }
+    };
+    if !same_program(&other.script, program) {
+        let place = first_difference(program.commands(), other.script.commands());
+        return Err(Fault::NoSpelling(place));
+    }
+    let others = lists_of(alloc, text, &other.locations)?;
+    match first_change(lists, &others) {
+        Some(place) => Err(Fault::NoSpelling(place)),
+        None => Ok(()),
     }
 }
 
@@ -132,25 +152,4 @@ fn place_at(locations: &[Location], offset: usize) -> usize {
         .take_while(|location| location.start <= offset)
         .count();
     begun.saturating_sub(1)
-}
-
-/// Whether the text spells this script.
-pub fn spells(alloc: Global, text: &[u8], program: &Script) -> Result<bool, AllocError>
-    ensures { IfOk result (λ same. (same ≡ true) ↔ Spells text.now program.now) }
-{
-    match parse(alloc, text) {
-        Ok(other) => Ok(same_program(&other, program)),
-        Err(fault) => unread(fault),
-    }
-}
-
-/// No text that isn't read spells a script, unless memory ran out.
-fn unread(fault: ScriptFault) -> Result<bool, AllocError>
-    ensures { IfOk result (λ same. (same ≡ false) × (is_memory fault ≡ false)) }
-{
-    if is_out_of_memory(fault) {
-        Err(AllocError)
-    } else {
-        Ok(false)
-    }
 }

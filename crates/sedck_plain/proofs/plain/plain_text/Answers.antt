@@ -3,7 +3,7 @@ use Rattle.sedck_plain.proofs.PlainLemmas.{same_all, refused_none, reported_none
 use Rattle.sedck_plain.proofs.plain.plain_text.Goals as goal
 
 pub returns-in-Ok-clause-same : goal.returns-in-Ok-clause-same
-returns-in-Ok-clause-same c = same_all _ _ _ c.in-Ok.ensures.spelled c.in-Ok.ensures.only c.plain_of.ensures.spelled
+returns-in-Ok-clause-same c = same_all _ _ _ c.in-Ok.ensures.spelled c.in-Ok.ensures.only c.plain_of.ensures.spelled c.plain_of.ensures.lists
 
 pub returns-in-Ok-clause-refused : goal.returns-in-Ok-clause-refused
 returns-in-Ok-clause-refused c = refused_never _ _ _ c.in-Ok.ensures.spelled c.plain_of.ensures.fault
