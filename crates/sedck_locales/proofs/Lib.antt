@@ -1,0 +1,4 @@
+pub mod ListWalk
+pub mod WrittenTrees
+pub mod PosixMatches
+pub mod ListLines
